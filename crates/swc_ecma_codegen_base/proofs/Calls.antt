@@ -1,0 +1,127 @@
+-- Calls of a writer, as steps of an emission.
+use Rattle.std.proofs.Common.{◌≡◌, ◌-◌, ◌+◌, true, false, cond, [], ◌∷◌, List, ℕ, Result, Ok, Err, OnOk, OnErr, None, refl, sym, ◌∙◌, ap, subst, Bool}
+use Rattle.std.specs.Str.{chars}
+use Rattle.swc_ecma_codegen_tree.specs.declared.errors.Error.{Error}
+use Rattle.swc_ecma_codegen_tree.specs.declared.errors.Error.TheVariants.{Failed}
+use Rattle.swc_ecma_codegen_util.specs.declared.config.Config.{Config}
+use Rattle.swc_ecma_codegen_ast.specs.Reads.{Kind}
+use Rattle.swc_ecma_codegen_ast.specs.GapRules as rules
+use Rattle.swc_ecma_codegen_ast.specs.GapRules.{fuses}
+use Rattle.swc_ecma_codegen_text_writer.specs.Sheet.{Item, Semi, Space, Keyword, Operator, Param, Property, Line, Lit, Comment, StrLit, Str, Symbol, Punct, Position, Commit, Deeper, Shallower, Sheet, effect, appended, started, indented, written, ended, Writes, Refuses, earlier, stopped}
+use Rattle.swc_ecma_codegen_base.specs.declared.LowerEmitter.{LowerEmitter}
+use Rattle.swc_ecma_codegen_base.specs.declared.guard.Last.{Last}
+use Rattle.swc_ecma_codegen_base.specs.declared.guard.Last.TheVariants as last
+use Rattle.swc_ecma_codegen_base.specs.Last.{last_at}
+use Rattle.swc_ecma_codegen_base.specs.View.{env_of, state_of}
+use Rattle.swc_ecma_codegen_base.specs.Run.{Plan, Part, State, Step, Guard, Token, Plain, IsRefused, Follows, Emits, put, step, text_of, after_token, after_plain}
+use Rattle.swc_ecma_codegen_base.proofs.Emitting.{emits_step, emits_refused}
+
+-- ---- what no call changes
+
+started_keeps : (s : Sheet) → (started s).keeps_invalid ≡ s.keeps_invalid
+unfolding started indented
+started_keeps s = elim s.at_line_start as (λ b. (cond b (record (indented s.indentation s) { at_line_start = false }) s).keeps_invalid ≡ s.keeps_invalid) [ true ↦ refl | false ↦ refl ]
+
+written_keeps : (t : List ℕ) (s : Sheet) → (written t s).keeps_invalid ≡ s.keeps_invalid
+unfolding written appended
+written_keeps [] s = refl
+written_keeps (c ∷ cs) s = started_keeps s
+
+pub effect_keeps : (x : Item) (s : Sheet) → (effect x s).keeps_invalid ≡ s.keeps_invalid
+unfolding effect ended appended
+effect_keeps (Semi span) s = written_keeps _ s
+effect_keeps Space s = written_keeps _ s
+effect_keeps (Keyword span t) s = written_keeps t s
+effect_keeps (Operator span t) s = written_keeps t s
+effect_keeps (Param t) s = written_keeps t s
+effect_keeps (Property t) s = written_keeps t s
+effect_keeps Line s = elim s.at_line_start as (λ b. (cond b s (record (appended s.line_end s) { at_line_start = true })).keeps_invalid ≡ s.keeps_invalid) [ true ↦ refl | false ↦ refl ]
+effect_keeps (Lit span t) s = written_keeps t s
+effect_keeps (Comment t) s = written_keeps t s
+effect_keeps (StrLit span t) s = written_keeps t s
+effect_keeps (Str t) s = written_keeps t s
+effect_keeps (Symbol span t) s = written_keeps t s
+effect_keeps (Punct span t) s = written_keeps t s
+effect_keeps (Position pos) s = refl
+effect_keeps Commit s = refl
+effect_keeps Deeper s = refl
+effect_keeps Shallower s = refl
+
+refuses_keeps : {x : Item} {e : Error} (old new : Sheet) → Refuses x e old new → new.keeps_invalid ≡ old.keeps_invalid
+refuses_keeps old new (earlier h k eq) = ap (λ (s : Sheet). s.keeps_invalid) eq
+refuses_keeps old new (stopped h k s) = ap (λ (z : Sheet). z.keeps_invalid) s.same
+
+-- a call that changes the indentation
+unfoldable pub is_level : Item → Bool
+is_level Deeper = false
+is_level Shallower = false
+is_level x = true
+
+started_level : (s : Sheet) → (started s).indentation ≡ s.indentation
+unfolding started indented
+started_level s = elim s.at_line_start as (λ b. (cond b (record (indented s.indentation s) { at_line_start = false }) s).indentation ≡ s.indentation) [ true ↦ refl | false ↦ refl ]
+
+written_level : (t : List ℕ) (s : Sheet) → (written t s).indentation ≡ s.indentation
+unfolding written appended
+written_level [] s = refl
+written_level (c ∷ cs) s = started_level s
+
+effect_level : (x : Item) (s : Sheet) → is_level x ≡ true → (effect x s).indentation ≡ s.indentation
+unfolding effect ended appended is_level
+effect_level (Semi span) s h = written_level _ s
+effect_level Space s h = written_level _ s
+effect_level (Keyword span t) s h = written_level t s
+effect_level (Operator span t) s h = written_level t s
+effect_level (Param t) s h = written_level t s
+effect_level (Property t) s h = written_level t s
+effect_level Line s h = elim s.at_line_start as (λ b. (cond b s (record (appended s.line_end s) { at_line_start = true })).indentation ≡ s.indentation) [ true ↦ refl | false ↦ refl ]
+effect_level (Lit span t) s h = written_level t s
+effect_level (Comment t) s h = written_level t s
+effect_level (StrLit span t) s h = written_level t s
+effect_level (Str t) s h = written_level t s
+effect_level (Symbol span t) s h = written_level t s
+effect_level (Punct span t) s h = written_level t s
+effect_level (Position pos) s h = refl
+effect_level Commit s h = refl
+effect_level Deeper s h = absurd (cc)
+effect_level Shallower s h = absurd (cc)
+
+-- a call that answers `Ok` leaves the indentation as it is
+pub level : (x : Item) (old new : Sheet) (answer r : Result (Unit {0}) Error) → Writes x old new answer → r ≡ answer → is_level x ≡ true → OnOk r (new.indentation ≡ old.indentation)
+unfolding Writes
+level x old new (Ok u) r h eq l = let P : Result (Unit {0}) Error → Type 0 = λ z. OnOk z (new.indentation ≡ old.indentation) in subst P (sym eq) (ap (λ (s : Sheet). s.indentation) h.1 ∙ effect_level x old l)
+level x old new (Err e) r h eq l = let P : Result (Unit {0}) Error → Type 0 = λ z. OnOk z (new.indentation ≡ old.indentation) in subst P (sym eq) tt
+
+-- ---- calls as steps
+
+-- the step of a token, or of a call that writes none, by one call and what is noted of it
+step_called : (x : Step) (item : Item) (config : Config) (e f : LowerEmitter) (old new : Sheet) (l : Last) (answer r : Result (Unit {0}) Error)
+    → ((s : State) → put x s ≡ record s { sheet = effect item s.sheet; last = (put x s).last })
+    → ((s : State) (err : Error) (z : Sheet) → Refuses item err s.sheet z → IsRefused x err s z)
+    → e.failed ≡ false → Writes item old new answer → OnOk answer (f ≡ record e { last = l }) → OnErr answer (f ≡ record e { failed = true }) → r ≡ answer
+    → last_at l ≡ (put x (state_of config old e)).last
+    → Emits (step x) (state_of config old e) (state_of config new f) r
+unfolding Writes
+step_called x item config e f old new l (Ok u) r made refused fresh w ok err eq last =
+    let P : Result (Unit {0}) Error → Type 0 = λ z. Emits (step x) (state_of config old e) (state_of config new f) z in
+    let there : State = state_of config old e in
+    let q : state_of config new f ≡ put x there =
+    ap (λ (z : LowerEmitter). state_of config new z) ok
+    ∙ (λ i. record { env = record { config = config; keeps_invalid = (ap (λ (s : Sheet). s.keeps_invalid) w.1 ∙ effect_keeps item old) i }; sheet = w.1 i; last = last i; failed = e.failed })
+    ∙ sym (made there) in
+    subst P (sym eq) (emits_step x there (state_of config new f) fresh q)
+step_called x item config e f old new l (Err er) r made refused fresh w ok err eq last =
+    let P : Result (Unit {0}) Error → Type 0 = λ z. Emits (step x) (state_of config old e) (state_of config new f) z in
+    let there : State = state_of config old e in
+    let q : state_of config new f ≡ record there { sheet = new; failed = true } =
+    ap (λ (z : LowerEmitter). state_of config new z) err
+    ∙ (λ i. record { env = record { config = config; keeps_invalid = refuses_keeps old new w i }; sheet = new; last = last_at e.last; failed = true }) in
+    subst P (sym eq) (emits_refused x er there (state_of config new f) fresh q (refused there er new w))
+
+-- a token, by one call
+pub called : (kind : Kind) (item : Item) (config : Config) (e f : LowerEmitter) (old new : Sheet) (l : Last) (answer r : Result (Unit {0}) Error)
+    → e.failed ≡ false → Writes item old new answer → OnOk answer (f ≡ record e { last = l }) → OnErr answer (f ≡ record e { failed = true }) → r ≡ answer
+    → last_at l ≡ after_token kind (text_of item) (last_at e.last)
+    → Emits (step (Token kind item)) (state_of config old e) (state_of config new f) r
+unfolding put IsRefused
+called kind item config e f old new l answer r = step_called (Token kind item) item config e f old new l answer r (λ s. refl) (λ s err z h. h)

@@ -1,0 +1,73 @@
+-- Steps that are made, and steps that are refused.
+use Rattle.std.proofs.Common.{◌≡◌, ◌⊎◌, true, false, cond, [], ◌∷◌, List, ℕ, Result, Ok, Err, None, refl, sym, ◌∙◌, ap, subst}
+use Rattle.std.specs.Str.{chars}
+use Rattle.swc_ecma_codegen_tree.specs.declared.errors.Error.{Error}
+use Rattle.swc_ecma_codegen_tree.specs.declared.errors.Error.TheVariants.{Failed}
+use Rattle.swc_ecma_codegen_ast.specs.GapRules.{fuses, Apart}
+use Rattle.swc_ecma_codegen_text_writer.specs.Sheet.{Item, Space, Sheet, effect, Writes, Refuses}
+use Rattle.swc_ecma_codegen_base.specs.Run.{Env, Plan, Part, State, Step, Guard, Token, Plain, Steps, next, IsRefused, Halts, earlier, stopped, reached, Follows, Emits, run, steps_of, refusal_of, put, step, refuse, nothing, when_minified, no_part}
+
+-- an earlier refusal is not forgotten
+pub put_failed : (x : Step) (s : State) → (put x s).failed ≡ s.failed
+unfolding put
+put_failed (Guard t) s = elim (fuses s.last (chars t)) as (λ b. (cond b (record s { sheet = effect Space s.sheet; last = Apart }) s).failed ≡ s.failed) [ true ↦ refl | false ↦ refl ]
+put_failed (Token kind x) s = refl
+put_failed (Plain x) s = refl
+put_failed x s = refl
+
+pub put_env : (x : Step) (s : State) → (put x s).env ≡ s.env
+unfolding put
+put_env (Guard t) s = elim (fuses s.last (chars t)) as (λ b. (cond b (record s { sheet = effect Space s.sheet; last = Apart }) s).env ≡ s.env) [ true ↦ refl | false ↦ refl ]
+put_env (Token kind x) s = refl
+put_env (Plain x) s = refl
+put_env x s = refl
+
+halts_later : (x : Step) {xs : Steps} {e : Error} {a b : State} → a.failed ≡ false → Halts xs e (put x a) b → Halts (next x xs) e a b
+unfolding run steps_of refusal_of
+halts_later x {a = a} f (earlier h k eq) = absurd (let z : true ≡ false = sym h ∙ put_failed x a ∙ f in cc)
+halts_later x f (stopped h) = stopped (record { front = x ∷ h.front; step = h.step; rest = h.rest; split = ap (λ zs. x ∷ zs) h.split; fresh = f; marked = h.marked; refuses = h.refuses })
+halts_later x f (reached h r m) = reached f r m
+
+-- a step that is made, and then the rest
+follows_step : (x : Step) (rest : Plan) (a c : State) (r : Result (Unit {0}) Error) → a.failed ≡ false → Follows rest (put x a) c r → Follows (step x rest) a c r
+unfolding Follows step run steps_of refusal_of
+follows_step x rest a c (Ok u) f h = let P : Env → Type 0 = λ v. (refusal_of (rest v) ≡ None) × (c ≡ run (steps_of (rest v)) (put x a)) in subst P (put_env x a) h
+follows_step x rest a c (Err e) f h = let P : Env → Type 0 = λ v. Halts (rest v) e (put x a) c in halts_later x f (subst P (put_env x a) h)
+
+-- a step that is made
+pub emits_step : (x : Step) (a b : State) → a.failed ≡ false → b ≡ put x a → (rest : Plan) (c : State) (r : Result (Unit {0}) Error) → Follows rest b c r → Follows (step x rest) a c r
+emits_step x a b f eq rest c r h = follows_step x rest a c r f (let P : State → Type 0 = λ s. Follows rest s c r in subst P eq h)
+
+-- a plan of an emitter that was refused before
+pub emits_failed : (p : Plan) (a : State) → a.failed ≡ true → Follows p a a (Err Failed)
+unfolding Follows
+emits_failed p a h = earlier h refl refl
+
+-- a step that is refused
+pub emits_refused : (x : Step) (e : Error) (a b : State) → a.failed ≡ false → b ≡ record a { sheet = b.sheet; failed = true } → IsRefused x e a b.sheet → (rest : Plan) → Follows (step x rest) a b (Err e)
+unfolding Follows step run steps_of
+emits_refused x e a b f eq h rest = stopped (record { front = []; step = x; rest = steps_of (rest a.env); split = refl; fresh = f; marked = eq; refuses = h })
+
+-- a node that can't be printed
+pub emits_refusal : (e : Error) (a b : State) → a.failed ≡ false → b ≡ record a { failed = true } → (rest : Plan) → Follows (refuse e rest) a b (Err e)
+unfolding Follows refuse refusal_of steps_of run
+emits_refusal e a b h eq rest = reached h refl eq
+
+-- nothing is left
+pub emits_nothing : (a : State) → Follows nothing a a (Ok tt)
+unfolding Follows nothing run steps_of refusal_of
+emits_nothing a = (refl, refl)
+
+-- what a plan follows depends only on its steps
+pub follows_same : (p q : Plan) (a c : State) (r : Result (Unit {0}) Error) → p a.env ≡ q a.env → Follows q a c r → Follows p a c r
+unfolding Follows
+follows_same p q a c (Ok u) e h = let P : Steps → Type 0 = λ xs. (refusal_of xs ≡ None) × (c ≡ run (steps_of xs) a) in subst P (sym e) h
+follows_same p q a c (Err x) e h = let P : Steps → Type 0 = λ xs. Halts xs x a c in subst P (sym e) h
+
+pub minified_same : (part other : Part) (rest : Plan) (env : Env) → env.config.minify ≡ true → when_minified part other rest env ≡ part rest env
+unfolding when_minified
+minified_same part other rest env h = ap (λ m. cond m (part rest env) (other rest env)) h
+
+pub pretty_same : (part other : Part) (rest : Plan) (env : Env) → env.config.minify ≡ false → when_minified part other rest env ≡ other rest env
+unfolding when_minified
+pretty_same part other rest env h = ap (λ m. cond m (part rest env) (other rest env)) h

@@ -1,0 +1,4 @@
+pub mod Run
+pub mod Words
+pub mod Last
+pub mod View

@@ -1,0 +1,217 @@
+-- What an emission does: its steps, where each leads, and how it stops.
+use Rattle.std.specs.Prelude.{◌≡◌, ◌⊎◌, ℕ, ◌-◌, ◌^◌, Bool, true, false, not, ◌||◌, if◌then◌else◌, List, [], ◌∷◌, ◌++◌, codes, ◌==◌, Option, Some, None, Result, Ok, Err}
+use Rattle.std.specs.Str.{chars}
+use Rattle.swc_ecma_codegen_tree.specs.declared.errors.Error.{Error}
+use Rattle.swc_ecma_codegen_tree.specs.declared.errors.Error.TheVariants.{Writer, OutOfMemory, UnsupportedNode, BadShape, NameOutOfTarget, PositionTooLarge, Failed}
+use Rattle.swc_ecma_codegen_util.specs.declared.config.Config.{Config}
+use Rattle.swc_ecma_codegen_ast.specs.Reads.{Kind, IsWord, IsName, IsPunct, IsNumber, IsStr, IsClose, IsRegex, IsText, IsPrivate, IsQuoted, IsTagName, IsHashbang, IsTemplate, IsTemplateRest}
+use Rattle.swc_ecma_codegen_ast.specs.Tokens as token
+use Rattle.swc_ecma_codegen_ast.specs.GapRules.{Last, Apart, fuses, last_after}
+use Rattle.swc_ecma_codegen_text_writer.specs.Sheet.{Item, Semi, Space, Keyword, Operator, Param, Property, Line, Lit, Comment, StrLit, Str, Symbol, Punct, Position, Commit, Deeper, Shallower, Sheet, effect, Refuses}
+use Rattle.swc_ecma_codegen_text_writer.specs.Told.{Rises, IsFront}
+
+-- a step of an emission
+pub data Step : Type 0 where
+  -- here a blank goes where the last token and this text would fuse
+  Guard : (text : List ℕ) → Step
+  -- a call that writes a token of a kind
+  Token : (kind : Kind) → (item : Item) → Step
+  -- a call that writes no token
+  Plain : (item : Item) → Step
+  -- the text of a name is made anew, in memory
+  Remake : (name : List ℕ) → Step
+
+-- the text that a call hands over
+unfoldable pub text_of : Item → List ℕ
+text_of (Semi span) = codes ";"
+text_of Space = codes " "
+text_of (Keyword span t) = t
+text_of (Operator span t) = t
+text_of (Param t) = t
+text_of (Property t) = t
+text_of Line = []
+text_of (Lit span t) = t
+text_of (Comment t) = t
+text_of (StrLit span t) = t
+text_of (Str t) = t
+text_of (Symbol span t) = t
+text_of (Punct span t) = t
+text_of (Position pos) = []
+text_of Commit = []
+text_of Deeper = []
+text_of Shallower = []
+
+-- a token of a kind, spelled so
+unfoldable pub token_of : Kind → List ℕ → token.Token
+token_of IsWord t = token.Word t
+token_of IsName t = token.Name t
+token_of IsPunct t = token.Punct t
+token_of IsNumber t = token.Number t
+token_of IsStr t = token.Str t
+token_of IsClose t = token.Close
+token_of IsRegex t = token.Regex t
+token_of IsText t = token.Text t
+token_of IsPrivate t = token.Private t
+token_of IsQuoted t = token.Quoted t
+token_of IsTagName t = token.TagName t
+token_of IsHashbang t = token.Hashbang t
+token_of (IsTemplate opens) t = token.Template opens t
+token_of (IsTemplateRest opens) t = token.TemplateRest opens t
+
+-- the characters of a token's text; a punctuator is ASCII, so its bytes are its characters
+unfoldable pub spelling : Kind → List ℕ → List ℕ
+spelling IsPunct t = t
+spelling kind t = chars t
+
+-- the last token after one of a kind, spelled so
+unfoldable pub after_token : Kind → List ℕ → Last → Last
+after_token kind t last = last_after last (token_of kind (spelling kind t)) (spelling kind t)
+
+-- a blank and a line end part the last token from the next one
+unfoldable pub after_plain : Item → Last → Last
+after_plain Space last = Apart
+after_plain Line last = Apart
+after_plain x last = last
+
+-- what an emission goes by, whatever it has written
+pub record Env : Type 0 where
+  pub config : Config
+  -- the writer keeps U+0000 after a backslash in a name
+  pub keeps_invalid : Bool
+
+-- where an emission stands
+pub record State : Type 0 where
+  pub env : Env
+  pub sheet : Sheet
+  pub last : Last
+  pub failed : Bool
+
+-- a step that is made
+unfoldable pub put : Step → State → State
+put (Guard t) s = if fuses s.last (chars t) then record s { sheet = effect Space s.sheet; last = Apart } else s
+put (Token kind x) s = record s { sheet = effect x s.sheet; last = after_token kind (text_of x) s.last }
+put (Plain x) s = record s { sheet = effect x s.sheet; last = after_plain x s.last }
+put (Remake name) s = s
+
+-- steps that are made, in order
+unfoldable pub run : List Step → State → State
+run [] s = s
+run (x ∷ xs) s = run xs (put x s)
+
+-- a name with a backslash
+unfoldable pub has_backslash : List ℕ → Bool
+has_backslash [] = false
+has_backslash (c ∷ cs) = (c == 92) || has_backslash cs
+
+-- a step is refused: its call of the writer is, or memory for a name with a backslash
+unfoldable pub IsRefused : Step → Error → State → Sheet → Type 0
+IsRefused (Guard t) e a new = (fuses a.last (chars t) ≡ true) × Refuses Space e a.sheet new
+IsRefused (Token kind x) e a new = Refuses x e a.sheet new
+IsRefused (Plain x) e a new = Refuses x e a.sheet new
+IsRefused (Remake name) e a new = (e ≡ OutOfMemory) × (has_backslash name ≡ true) × (new ≡ a.sheet)
+
+-- The steps that a tree asks for: they come to an end, or to a node that can't be printed.
+pub data Steps : Type 0 where
+  done : Steps
+  refused : Error → Steps
+  next : Step → Steps → Steps
+
+-- the steps, up to the end or to the node that can't be printed
+unfoldable pub steps_of : Steps → List Step
+steps_of done = []
+steps_of (refused e) = []
+steps_of (next x xs) = x ∷ steps_of xs
+
+-- why they go no further than that, if for a reason
+unfoldable pub refusal_of : Steps → Option Error
+refusal_of done = None
+refusal_of (refused e) = Some e
+refusal_of (next x xs) = refusal_of xs
+
+-- one of these steps is refused, and those before it are made
+pub record Stops (xs : List Step) (e : Error) (a b : State) : Type 0 where
+  pub front : List Step
+  pub step : Step
+  pub rest : List Step
+  pub split : xs ≡ front ++ (step ∷ rest)
+  pub fresh : a.failed ≡ false
+  pub marked : b ≡ record (run front a) { sheet = b.sheet; failed = true }
+  pub refuses : IsRefused step e (run front a) b.sheet
+
+-- Nothing is done, since an earlier call was refused; or one of the steps is refused, and those before it are made;
+-- or all steps before a node that can't be printed are made, and no other.
+pub data Halts (xs : Steps) (e : Error) (a b : State) : Type 0 where
+  earlier : a.failed ≡ true → e ≡ Failed → b ≡ a → Halts xs e a b
+  stopped : Stops (steps_of xs) e a b → Halts xs e a b
+  reached : a.failed ≡ false → refusal_of xs ≡ Some e → b ≡ record (run (steps_of xs) a) { failed = true } → Halts xs e a b
+
+-- What is to be done.
+abbrev pub Plan : Type 0
+Plan = Env → Steps
+
+-- A part of a plan, before what comes next.
+abbrev pub Part : Type 0
+Part = Plan → Plan
+
+unfoldable pub nothing : Plan
+nothing env = done
+
+-- All steps of a plan are made, and it comes to no node that can't be printed; or it halts.
+unfoldable pub Follows : Plan → State → State → Result (Unit {0}) Error → Type 0
+Follows p a b (Ok _) = (refusal_of (p a.env) ≡ None) × (b ≡ run (steps_of (p a.env)) a)
+Follows p a b (Err e) = Halts (p a.env) e a b
+
+-- A part of a plan is done: what goes on after it goes on from b. Where it is refused, all that goes on so is.
+abbrev pub Emits : Part → State → State → Result (Unit {0}) Error → Type 0
+Emits part a b (Ok _) = (rest : Plan) (c : State) (r : Result (Unit {0}) Error) → Follows rest b c r → Follows (part rest) a c r
+Emits part a b (Err e) = (rest : Plan) → Follows (part rest) a b (Err e)
+
+-- What goes on after a rest, now, goes on after the whole, from the start: a loop has come so far.
+abbrev pub Continues : Part → State → Part → State → Type 0
+Continues remaining now whole start = (rest : Plan) (c : State) (r : Result (Unit {0}) Error) → Follows (remaining rest) now c r → Follows (whole rest) start c r
+
+-- one step
+unfoldable pub step : Step → Part
+step x rest env = next x (rest env)
+
+-- a node that can't be printed, whatever comes after it
+unfoldable pub refuse : Error → Part
+refuse e rest env = refused e
+
+-- one part, where the settings are to minify, else another
+unfoldable pub when_minified : Part → Part → Part
+when_minified part other rest env = if env.config.minify then part rest env else other rest env
+
+-- nothing
+unfoldable pub no_part : Part
+no_part rest = rest
+
+-- the name of a step is made anew, in memory
+unfoldable pub takes_memory : List Step → Bool
+takes_memory [] = false
+takes_memory (Remake name ∷ xs) = has_backslash name || takes_memory xs
+takes_memory (Guard t ∷ xs) = takes_memory xs
+takes_memory (Token kind x ∷ xs) = takes_memory xs
+takes_memory (Plain x ∷ xs) = takes_memory xs
+
+-- The indentation would pass its limit at one of the steps.
+pub record PassesLimit (xs : List Step) (a : State) : Type 0 where
+  pub front : List Step
+  pub rest : List Step
+  pub split : xs ≡ front ++ (Plain Deeper ∷ rest)
+  pub at_limit : (run front a).sheet.indentation ≡ 2 ^ 32 - 1
+
+-- The steps come to a node that can't be printed, and all before it are made.
+pub record IsReached (xs : Steps) (e : Error) (a b : State) : Type 0 where
+  pub refusal : refusal_of xs ≡ Some e
+  pub made : b ≡ record (run (steps_of xs) a) { failed = true }
+
+-- An emission is refused only for the cause that its error names.
+unfoldable pub HasCause : Steps → Error → State → State → Type 0
+HasCause xs (Writer w) a b = Rises a.sheet.faults b.sheet.faults
+HasCause xs OutOfMemory a b = (a.sheet.takes_memory ≡ true) ⊎ (takes_memory (steps_of xs) ≡ true)
+HasCause xs PositionTooLarge a b = PassesLimit (steps_of xs) a
+HasCause xs Failed a b = (a.failed ≡ true) ⊎ (a.sheet.refused ≡ true)
+HasCause xs UnsupportedNode a b = IsReached xs UnsupportedNode a b
+HasCause xs BadShape a b = IsReached xs BadShape a b
+HasCause xs NameOutOfTarget a b = IsReached xs NameOutOfTarget a b
