@@ -125,3 +125,45 @@ pub called : (kind : Kind) (item : Item) (config : Config) (e f : LowerEmitter) 
     → Emits (step (Token kind item)) (state_of config old e) (state_of config new f) r
 unfolding put IsRefused
 called kind item config e f old new l answer r = step_called (Token kind item) item config e f old new l answer r (λ s. refl) (λ s err z h. h)
+
+-- a call that writes no token
+pub called_plain : (item : Item) (config : Config) (e f : LowerEmitter) (old new : Sheet) (l : Last) (answer r : Result (Unit {0}) Error)
+    → e.failed ≡ false → Writes item old new answer → OnOk answer (f ≡ record e { last = l }) → OnErr answer (f ≡ record e { failed = true }) → r ≡ answer
+    → last_at l ≡ after_plain item (last_at e.last)
+    → Emits (step (Plain item)) (state_of config old e) (state_of config new f) r
+unfolding put IsRefused
+called_plain item config e f old new l answer r = step_called (Plain item) item config e f old new l answer r (λ s. refl) (λ s err z h. h)
+
+guarded_put : (t : List ℕ) (s : State) → fuses s.last (chars t) ≡ true → put (Guard t) s ≡ record s { sheet = effect Space s.sheet; last = rules.Apart }
+unfolding put
+guarded_put t s h = ap (λ b. cond b (record s { sheet = effect Space s.sheet; last = rules.Apart }) s) h
+
+passed_put : (t : List ℕ) (s : State) → fuses s.last (chars t) ≡ false → put (Guard t) s ≡ s
+unfolding put
+passed_put t s h = ap (λ b. cond b (record s { sheet = effect Space s.sheet; last = rules.Apart }) s) h
+
+-- the last token and a text don't fuse, and nothing is done
+pub passed : (t : List ℕ) (a : State) → a.failed ≡ false → fuses a.last (chars t) ≡ false → Emits (step (Guard t)) a a (Ok tt)
+passed t a fresh h = emits_step (Guard t) a a fresh (sym (passed_put t a h))
+
+-- they fuse, and a blank is written
+pub guarded : (t : List ℕ) (config : Config) (e f : LowerEmitter) (old new : Sheet) (answer r : Result (Unit {0}) Error)
+    → e.failed ≡ false → Writes Space old new answer → OnOk answer (f ≡ record e { last = last.Apart }) → OnErr answer (f ≡ record e { failed = true }) → r ≡ answer
+    → fuses (last_at e.last) (chars t) ≡ true
+    → Emits (step (Guard t)) (state_of config old e) (state_of config new f) r
+unfolding Writes IsRefused last_at
+guarded t config e f old new (Ok u) r fresh w ok err eq h =
+    let P : Result (Unit {0}) Error → Type 0 = λ z. Emits (step (Guard t)) (state_of config old e) (state_of config new f) z in
+    let there : State = state_of config old e in
+    let q : state_of config new f ≡ put (Guard t) there =
+    ap (λ (z : LowerEmitter). state_of config new z) ok
+    ∙ (λ i. record { env = record { config = config; keeps_invalid = (ap (λ (s : Sheet). s.keeps_invalid) w.1 ∙ effect_keeps Space old) i }; sheet = w.1 i; last = rules.Apart; failed = e.failed })
+    ∙ sym (guarded_put t there h) in
+    subst P (sym eq) (emits_step (Guard t) there (state_of config new f) fresh q)
+guarded t config e f old new (Err er) r fresh w ok err eq h =
+    let P : Result (Unit {0}) Error → Type 0 = λ z. Emits (step (Guard t)) (state_of config old e) (state_of config new f) z in
+    let there : State = state_of config old e in
+    let q : state_of config new f ≡ record there { sheet = new; failed = true } =
+    ap (λ (z : LowerEmitter). state_of config new z) err
+    ∙ (λ i. record { env = record { config = config; keeps_invalid = refuses_keeps old new w i }; sheet = new; last = last_at e.last; failed = true }) in
+    subst P (sym eq) (emits_refused (Guard t) er there (state_of config new f) fresh q (h, w))

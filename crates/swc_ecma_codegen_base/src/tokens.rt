@@ -1,6 +1,6 @@
 //! One call of the writer, and the blank that is due before it.
 
-ghost use Rattle.std.specs.Prelude.{◌≡◌, Some, None, OnOk, OnErr, Option, codes, false};
+ghost use Rattle.std.specs.Prelude.{◌≡◌, Some, None, OnOk, OnErr, Option, codes, true, false};
 ghost use Rattle.swc_ecma_codegen_tree.specs.Spans.{dummy_span};
 ghost use Rattle.swc_ecma_codegen_text_writer.specs.Sheet.{Semi, Space, Keyword, Operator, Line, Symbol, Punct, Position, Commit};
 ghost use Rattle.swc_ecma_codegen_ast.specs.Reads.{IsWord, IsName, IsPunct};
@@ -34,7 +34,7 @@ impl LowerEmitter {
     }
 
     /// Writes a blank where the last token and `text` would fuse.
-    #[tactic(auto, using(crate::proofs::Emitting::emits_failed, crate::proofs::Calls::level))]
+    #[tactic(auto, using(crate::proofs::Emitting::emits_failed, crate::proofs::Calls::guarded, crate::proofs::Calls::passed, crate::proofs::Calls::level))]
     pub(crate) fn guard<W: WriteJs>(&mut self, cfg: &Config, wr: &mut W, text: &str) -> Result
         ensures items { Emits (step (Guard text.now)) (state_of cfg.now (W.sheet wr.old) self.old) (state_of cfg.now (W.sheet wr.new) self.new) result }
         ensures level { OnOk result ((W.sheet wr.new).indentation ≡ (W.sheet wr.old).indentation) }
