@@ -13,8 +13,8 @@ use Rattle.swc_ecma_codegen_base.specs.declared.guard.Last.{Last}
 use Rattle.swc_ecma_codegen_base.specs.declared.guard.Last.TheVariants as last
 use Rattle.swc_ecma_codegen_base.specs.Last.{last_at}
 use Rattle.swc_ecma_codegen_base.specs.View.{env_of, state_of}
-use Rattle.swc_ecma_codegen_base.specs.Run.{Plan, Part, State, Step, Guard, Token, Plain, IsRefused, Follows, Emits, put, step, text_of, after_token, after_plain}
-use Rattle.swc_ecma_codegen_base.proofs.Emitting.{emits_step, emits_refused}
+use Rattle.swc_ecma_codegen_base.specs.Run.{Plan, Part, when_minified, no_part, State, Step, Guard, Token, Plain, IsRefused, Follows, Emits, put, step, text_of, after_token, after_plain}
+use Rattle.swc_ecma_codegen_base.proofs.Emitting.{emits_step, emits_refused, follows_same, minified_same, pretty_same}
 
 -- ---- what no call changes
 
@@ -167,3 +167,13 @@ guarded t config e f old new (Err er) r fresh w ok err eq h =
     ap (λ (z : LowerEmitter). state_of config new z) err
     ∙ (λ i. record { env = record { config = config; keeps_invalid = refuses_keeps old new w i }; sheet = new; last = last_at e.last; failed = true }) in
     subst P (sym eq) (emits_refused (Guard t) er there (state_of config new f) fresh q (h, w))
+
+-- ---- what is done unless minified
+
+pub skipped : (part : Part) (a : State) → a.env.config.minify ≡ true → Emits (when_minified no_part part) a a (Ok tt)
+unfolding no_part
+skipped part a h rest c r k = follows_same (when_minified no_part part rest) rest a c r (minified_same no_part part rest a.env h) k
+
+pub not_skipped : (part : Part) (a b : State) (r : Result (Unit {0}) Error) → a.env.config.minify ≡ false → Emits part a b r → Emits (when_minified no_part part) a b r
+not_skipped part a b (Ok u) h k = λ rest c r f. follows_same (when_minified no_part part rest) (part rest) a c r (pretty_same no_part part rest a.env h) (k rest c r f)
+not_skipped part a b (Err e) h k = λ rest. follows_same (when_minified no_part part rest) (part rest) a b (Err e) (pretty_same no_part part rest a.env h) (k rest)

@@ -8,7 +8,8 @@ use Rattle.swc_ecma_codegen_ast.specs.Reads.{Kind, IsWord, IsName, IsPunct, IsNu
 use Rattle.swc_ecma_codegen_ast.specs.Tokens as token
 use Rattle.swc_ecma_codegen_ast.specs.GapRules.{Last, Apart, fuses, last_after}
 use Rattle.swc_ecma_codegen_text_writer.specs.Sheet.{Item, Semi, Space, Keyword, Operator, Param, Property, Line, Lit, Comment, StrLit, Str, Symbol, Punct, Position, Commit, Deeper, Shallower, Sheet, effect, Refuses}
-use Rattle.swc_ecma_codegen_text_writer.specs.Told.{Rises, IsFront}
+use Rattle.swc_ecma_codegen_text_writer.specs.Told.{Rises}
+use Rattle.swc_ecma_codegen_literals.specs.ValidNames.{has_byte}
 
 -- a step of an emission
 pub data Step : Type 0 where
@@ -99,9 +100,8 @@ run [] s = s
 run (x ∷ xs) s = run xs (put x s)
 
 -- a name with a backslash
-unfoldable pub has_backslash : List ℕ → Bool
-has_backslash [] = false
-has_backslash (c ∷ cs) = (c == 92) || has_backslash cs
+abbrev pub has_backslash : List ℕ → Bool
+has_backslash name = has_byte 92 name
 
 -- a step is refused: its call of the writer is, or memory for a name with a backslash
 unfoldable pub IsRefused : Step → Error → State → Sheet → Type 0
