@@ -1,1 +1,3 @@
 pub mod Sheets
+pub mod Text
+mod Walks
