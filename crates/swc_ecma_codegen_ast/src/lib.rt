@@ -3,6 +3,7 @@
 #![tactic(auto)]
 
 pub mod comments;
+pub mod kinds;
 pub mod mapper;
 
 pub use swc_ecma_codegen_tree::{
