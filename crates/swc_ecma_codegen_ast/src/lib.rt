@@ -5,6 +5,7 @@
 pub mod comments;
 pub mod kinds;
 pub mod mapper;
+pub mod reading_laws;
 
 pub use swc_ecma_codegen_tree::{
     AnyNode, AssignOp, BinExpr, BinaryOp, BytePos, ComputedPropName, CondExpr, DUMMY_SP, EmptyStmt,
