@@ -3,30 +3,30 @@ use Rattle.std.specs.Prelude.{ℕ, ◌-◌, ◌==◌, Bool, true, false, if◌th
 use Rattle.swc_ecma_codegen_tree.specs.declared.positions.BytePos.{BytePos}
 use Rattle.swc_ecma_codegen_tree.specs.declared.positions.Span.{Span}
 use Rattle.swc_ecma_codegen_tree.specs.Spans.{dummy_span}
-use Rattle.swc_ecma_codegen_ast.specs.Reads.{IsWord, IsName, IsPunct}
+use Rattle.swc_ecma_codegen_ast.specs.declared.kinds.Kind.TheVariants.{Word, Name, Punctuator}
 use Rattle.swc_ecma_codegen_text_writer.specs.Sheet.{Semi, Space, Keyword, Operator, Line, Symbol, Punct, Position, Commit}
 use Rattle.swc_ecma_codegen_literals.specs.ValidNames.{turned}
 use Rattle.swc_ecma_codegen_base.specs.Run.{Part, step, Guard, Token, Plain, Remake, when_minified, no_part}
 
 -- a keyword
 unfoldable pub keyword : Option Span → List ℕ → Part
-keyword span t rest = step (Guard t) (step (Token IsWord (Keyword span t)) rest)
+keyword span t rest = step (Guard t) (step (Token Word (Keyword span t)) rest)
 
 -- an operator that is a punctuator
 unfoldable pub operator : List ℕ → Part
-operator t rest = step (Guard t) (step (Token IsPunct (Operator None t)) rest)
+operator t rest = step (Guard t) (step (Token Punctuator (Operator None t)) rest)
 
 -- an operator that is a word
 unfoldable pub word_operator : List ℕ → Part
-word_operator t rest = step (Guard t) (step (Token IsWord (Operator None t)) rest)
+word_operator t rest = step (Guard t) (step (Token Word (Operator None t)) rest)
 
 -- a punctuator
 unfoldable pub punct : List ℕ → Part
-punct t rest = step (Guard t) (step (Token IsPunct (Punct None t)) rest)
+punct t rest = step (Guard t) (step (Token Punctuator (Punct None t)) rest)
 
 -- a semicolon that may be left out where it isn't needed
 unfoldable pub semi : Part
-semi rest = step (Guard (codes ";")) (step (Token IsPunct (Semi None)) rest)
+semi rest = step (Guard (codes ";")) (step (Token Punctuator (Semi None)) rest)
 
 -- a blank
 unfoldable pub space : Part
@@ -75,7 +75,7 @@ trailing_comments prefix_space pos rest = rest
 
 -- A name by a text: its position is recorded, with the blank that is due before it.
 unfoldable pub symbol : Span → List ℕ → Part
-symbol span t rest = step (Guard t) (start_of span (step (Guard t) (step (Token IsName (Symbol dummy_span t)) rest)))
+symbol span t rest = step (Guard t) (start_of span (step (Guard t) (step (Token Name (Symbol dummy_span t)) rest)))
 
 -- A name in which U+0000 after a backslash is left out.
 unfoldable pub valid_symbol : Span → List ℕ → Part

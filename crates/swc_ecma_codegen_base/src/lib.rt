@@ -22,12 +22,12 @@ pub struct LowerEmitter {
 impl LowerEmitter {
     /// One that has written nothing.
     pub fn new(alloc: Global) -> LowerEmitter
-        ensures last { result.last ≡ Last.Apart }
+        ensures last { result.last ≡ Last.Start }
         ensures failed { result.failed ≡ false }
     {
         LowerEmitter {
             alloc,
-            last: Last::Apart,
+            last: Last::Start,
             failed: false,
         }
     }

@@ -3,7 +3,7 @@
 ghost use Rattle.std.specs.Prelude.{◌≡◌, Some, None, OnOk, OnErr, Option, codes, true, false};
 ghost use Rattle.swc_ecma_codegen_tree.specs.Spans.{dummy_span};
 ghost use Rattle.swc_ecma_codegen_text_writer.specs.Sheet.{Semi, Space, Keyword, Operator, Line, Symbol, Punct, Position, Commit};
-ghost use Rattle.swc_ecma_codegen_ast.specs.Reads.{IsWord, IsName, IsPunct};
+ghost use Rattle.swc_ecma_codegen_ast.specs.declared.kinds.Kind.TheVariants.{Word, Name, Punctuator};
 ghost use Rattle.swc_ecma_codegen_base.specs.Run.{Emits, step, Guard, Token, Plain, refuse};
 ghost use Rattle.swc_ecma_codegen_base.specs.Words.{keyword, operator, word_operator, punct, semi, space, formatting_space, formatting_line, line_end, commit_pending_semi, position, position_before};
 ghost use Rattle.swc_ecma_codegen_base.specs.View.{state_of};
@@ -73,18 +73,18 @@ impl LowerEmitter {
         text: &'static str,
     ) -> Result
         requires { self.old.failed ≡ false }
-        ensures items { Emits (step (Token IsWord (Keyword span text.now))) (state_of cfg.now (W.sheet wr.old) self.old) (state_of cfg.now (W.sheet wr.new) self.new) result }
+        ensures items { Emits (step (Token Word (Keyword span text.now))) (state_of cfg.now (W.sheet wr.old) self.old) (state_of cfg.now (W.sheet wr.new) self.new) result }
         ensures level { OnOk result ((W.sheet wr.new).indentation ≡ (W.sheet wr.old).indentation) }
     {
         let _ = cfg;
         let answer = wr.write_keyword(span, text);
-        self.settle(answer, Last::Word)
+        self.settle(answer, Last::WordEnd)
     }
 
     /// The call of an operator that is a punctuator.
     fn put_operator<W: WriteJs>(&mut self, cfg: &Config, wr: &mut W, text: &'static str) -> Result
         requires { self.old.failed ≡ false }
-        ensures items { Emits (step (Token IsPunct (Operator None text.now))) (state_of cfg.now (W.sheet wr.old) self.old) (state_of cfg.now (W.sheet wr.new) self.new) result }
+        ensures items { Emits (step (Token Punctuator (Operator None text.now))) (state_of cfg.now (W.sheet wr.old) self.old) (state_of cfg.now (W.sheet wr.new) self.new) result }
         ensures level { OnOk result ((W.sheet wr.new).indentation ≡ (W.sheet wr.old).indentation) }
     {
         let _ = cfg;
@@ -101,18 +101,18 @@ impl LowerEmitter {
         text: &'static str,
     ) -> Result
         requires { self.old.failed ≡ false }
-        ensures items { Emits (step (Token IsWord (Operator None text.now))) (state_of cfg.now (W.sheet wr.old) self.old) (state_of cfg.now (W.sheet wr.new) self.new) result }
+        ensures items { Emits (step (Token Word (Operator None text.now))) (state_of cfg.now (W.sheet wr.old) self.old) (state_of cfg.now (W.sheet wr.new) self.new) result }
         ensures level { OnOk result ((W.sheet wr.new).indentation ≡ (W.sheet wr.old).indentation) }
     {
         let _ = cfg;
         let answer = wr.write_operator(None, text);
-        self.settle(answer, Last::Word)
+        self.settle(answer, Last::WordEnd)
     }
 
     /// The call of a punctuator.
     fn put_punct<W: WriteJs>(&mut self, cfg: &Config, wr: &mut W, text: &'static str) -> Result
         requires { self.old.failed ≡ false }
-        ensures items { Emits (step (Token IsPunct (Punct None text.now))) (state_of cfg.now (W.sheet wr.old) self.old) (state_of cfg.now (W.sheet wr.new) self.new) result }
+        ensures items { Emits (step (Token Punctuator (Punct None text.now))) (state_of cfg.now (W.sheet wr.old) self.old) (state_of cfg.now (W.sheet wr.new) self.new) result }
         ensures level { OnOk result ((W.sheet wr.new).indentation ≡ (W.sheet wr.old).indentation) }
     {
         let _ = cfg;
@@ -124,7 +124,7 @@ impl LowerEmitter {
     /// The call of a semicolon.
     fn put_semi<W: WriteJs>(&mut self, cfg: &Config, wr: &mut W) -> Result
         requires { self.old.failed ≡ false }
-        ensures items { Emits (step (Token IsPunct (Semi None))) (state_of cfg.now (W.sheet wr.old) self.old) (state_of cfg.now (W.sheet wr.new) self.new) result }
+        ensures items { Emits (step (Token Punctuator (Semi None))) (state_of cfg.now (W.sheet wr.old) self.old) (state_of cfg.now (W.sheet wr.new) self.new) result }
         ensures level { OnOk result ((W.sheet wr.new).indentation ≡ (W.sheet wr.old).indentation) }
     {
         let _ = cfg;
@@ -136,12 +136,12 @@ impl LowerEmitter {
     /// The call of a name.
     pub(crate) fn put_symbol<W: WriteJs>(&mut self, cfg: &Config, wr: &mut W, text: &str) -> Result
         requires { self.old.failed ≡ false }
-        ensures items { Emits (step (Token IsName (Symbol dummy_span text.now))) (state_of cfg.now (W.sheet wr.old) self.old) (state_of cfg.now (W.sheet wr.new) self.new) result }
+        ensures items { Emits (step (Token Name (Symbol dummy_span text.now))) (state_of cfg.now (W.sheet wr.old) self.old) (state_of cfg.now (W.sheet wr.new) self.new) result }
         ensures level { OnOk result ((W.sheet wr.new).indentation ≡ (W.sheet wr.old).indentation) }
     {
         let _ = cfg;
         let answer = wr.write_symbol(DUMMY_SP, text);
-        self.settle(answer, Last::Word)
+        self.settle(answer, Last::WordEnd)
     }
 
     /// Writes a keyword.
