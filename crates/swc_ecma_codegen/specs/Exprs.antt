@@ -1,5 +1,5 @@
 -- What is written of each expression. A word is generic in what a link holds, X. It takes what is known of that:
--- `place` says where it stands, `asks` what it answers, `items` what is written of it, where its parent puts it.
+-- `asks` says what it answers, `items` what is written of it, where its parent puts it.
 use Rattle.std.specs.Prelude.{ℕ, ◌-◌, ◌==◌, Bool, true, false, if◌then◌else◌, List, codes, Option, Some, None, string_bytes}
 use Rattle.swc_ecma_codegen_tree.specs.declared.positions.BytePos.{BytePos}
 use Rattle.swc_ecma_codegen_tree.specs.declared.positions.Span.{Span}
@@ -149,5 +149,9 @@ is_inner n place = false
 unfoldable pub expr_closed : Bool → Span → Part
 expr_closed inner span rest = if inner then rest else trailing_comments true span.hi rest
 
-unfoldable pub expr : {X : Type 0} → (X → Span) → (X → Answers) → (X → Place → Part) → Expr X → Place → Part
-expr place_of asks items n place rest = expr_parts asks items n place (expr_closed (is_inner n place) (expr_span place_of n) rest)
+-- where what a link holds stands
+abbrev pub place_of : {X : Type 0} → (X → Answers) → X → Span
+place_of asks x = (asks x).place
+
+unfoldable pub expr : {X : Type 0} → (X → Answers) → (X → Place → Part) → Expr X → Place → Part
+expr asks items n place rest = expr_parts asks items n place (expr_closed (is_inner n place) (expr_span (place_of asks) n) rest)

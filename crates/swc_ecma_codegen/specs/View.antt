@@ -1,6 +1,6 @@
 -- Where an emitter stands.
 use Rattle.swc_ecma_codegen_text_writer.specs.Sheet.{Sheet}
-use Rattle.swc_ecma_codegen.specs.declared.Emitter.{Emitter}
+use Rattle.swc_ecma_codegen.specs.declared.emitter.Emitter.{Emitter}
 use Rattle.swc_ecma_codegen_base.specs.View as base
 use Rattle.swc_ecma_codegen_base.specs.Run.{State}
 

@@ -2,20 +2,39 @@
 
 ghost use Rattle.std.specs.Prelude.{◌≡◌, Some, None, OnOk, codes};
 ghost use Rattle.swc_ecma_codegen_base.specs.Run.{Emits};
-ghost use Rattle.swc_ecma_codegen.specs.Exprs.{ident, ident_name, this, unary_op, unary_gap, unary, update_parts, update, binary_op, before_op, after_op, bin_trailing, bin_opened, bin, computed_prop_name, member_prop, member, choice, seq, paren, expr_parts, is_inner, expr_closed, expr};
+ghost use Rattle.swc_ecma_codegen.specs.Exprs.{ident, ident_name, this, unary_op, unary_gap, unary, update_parts, update, binary_op, before_op, after_op, bin_trailing, bin_opened, bin, computed_prop_name, member_prop, member, choice, seq, paren, expr_parts, is_inner, expr_closed, place_of, expr};
+ghost use Rattle.swc_ecma_codegen_tree.specs.Spans.{expr_span};
 ghost use Rattle.swc_ecma_codegen_util.specs.Starts.{is_word_op as is_word_unary};
 ghost use Rattle.swc_ecma_codegen.specs.View.{state_of};
 
 use crate::emitter::Emitter;
-use crate::nodes::{Asked, EmitAt, Held, Place};
+use crate::nodes::{AskEnds, AskKind, AskPlace, AskSpace, AskStarts, Asked, EmitAt, Held, Place};
 use crate::operands::{is_word_op, operand_space, space_after};
 use swc_ecma_codegen_ast::comments::Comments;
 use swc_ecma_codegen_ast::mapper::SourceMapper;
 use swc_ecma_codegen_text_writer::WriteJs;
 use swc_ecma_codegen_tree::{
-    BinExpr, BinaryOp, ComputedPropName, CondExpr, Expr, Ident, IdentName, MemberExpr, MemberProp, ParenExpr, Result,
-    SeqExpr, Span, Spanned, ThisExpr, UnaryExpr, UnaryOp, UpdateExpr,
+    BinExpr, BinaryOp, ComputedPropName, CondExpr, Expr, Ident, IdentName, MemberExpr, MemberProp,
+    ParenExpr, Result, SeqExpr, Span, ThisExpr, UnaryExpr, UnaryOp, UpdateExpr,
 };
+
+/// Where an expression stands.
+#[tactic(auto, unfolding(swc_ecma_codegen_tree::specs::Spans::expr_span))]
+fn place_of<N: AskPlace>(node: &Expr<N>) -> Span
+    ensures { result ≡ expr_span (place_of N.answers) node.now }
+{
+    match node {
+        Expr::This(node) => node.span,
+        Expr::Unary(node) => node.span,
+        Expr::Update(node) => node.span,
+        Expr::Bin(node) => node.span,
+        Expr::Member(node) => node.held().place(),
+        Expr::Cond(node) => node.span,
+        Expr::Seq(node) => node.span,
+        Expr::Ident(node) => node.span,
+        Expr::Paren(node) => node.span,
+    }
+}
 
 /// Whether it is an inner left operand, as `a + b` in `a + b + c`: its comments are left where they are.
 #[tactic(auto, unfolding(crate::specs::Exprs::is_inner))]
@@ -29,10 +48,14 @@ fn is_inner<N>(node: &Expr<N>, place: Place) -> bool
 }
 
 impl<N: Held> EmitAt for Expr<N> {
-    ghost items = { expr N.place N.answers N.items };
+    ghost items = { expr N.answers N.items };
 
     #[tactic(auto, unfolding(crate::specs::Exprs::expr, crate::specs::Exprs::expr_parts))]
-    fn emit_at<W: WriteJs, S: SourceMapper, C: Comments>(&self, e: &mut Emitter<'_, W, S, C>, place: Place) -> Result {
+    fn emit_at<W: WriteJs, S: SourceMapper, C: Comments>(
+        &self,
+        e: &mut Emitter<'_, W, S, C>,
+        place: Place,
+    ) -> Result {
         match self {
             Expr::This(node) => node.emit_at(e, place)?,
             Expr::Unary(node) => node.emit_at(e, place)?,
@@ -44,7 +67,7 @@ impl<N: Held> EmitAt for Expr<N> {
             Expr::Ident(node) => node.emit_at(e, place)?,
             Expr::Paren(node) => node.emit_at(e, place)?,
         }
-        e.expr_closed(is_inner(self, place), self.span())?;
+        e.expr_closed(is_inner(self, place), place_of(self))?;
         Ok(())
     }
 }
@@ -53,7 +76,11 @@ impl<N: Held> EmitAt for MemberExpr<N> {
     ghost items = { λ n _. member N.items n };
 
     #[tactic(auto, unfolding(crate::specs::Exprs::member))]
-    fn emit_at<W: WriteJs, S: SourceMapper, C: Comments>(&self, e: &mut Emitter<'_, W, S, C>, place: Place) -> Result {
+    fn emit_at<W: WriteJs, S: SourceMapper, C: Comments>(
+        &self,
+        e: &mut Emitter<'_, W, S, C>,
+        place: Place,
+    ) -> Result {
         e.opened(self.span)?;
         self.obj.held().emit_at(e, Place::Plain)?;
         e.member_prop(&self.prop)?;
@@ -66,7 +93,11 @@ impl<N: Held> EmitAt for BinExpr<N> {
     ghost items = { bin N.answers N.items };
 
     #[tactic(auto, unfolding(crate::specs::Exprs::bin))]
-    fn emit_at<W: WriteJs, S: SourceMapper, C: Comments>(&self, e: &mut Emitter<'_, W, S, C>, place: Place) -> Result {
+    fn emit_at<W: WriteJs, S: SourceMapper, C: Comments>(
+        &self,
+        e: &mut Emitter<'_, W, S, C>,
+        place: Place,
+    ) -> Result {
         e.bin_opened(place, self.span)?;
         self.left.held().emit_at(e, Place::LeftOperand)?;
         e.bin_trailing(self)?;
@@ -78,7 +109,11 @@ impl<N: Held> EmitAt for SeqExpr<N> {
     ghost items = { λ n _. seq N.items n };
 
     #[tactic(auto, unfolding(crate::specs::Exprs::seq))]
-    fn emit_at<W: WriteJs, S: SourceMapper, C: Comments>(&self, e: &mut Emitter<'_, W, S, C>, place: Place) -> Result {
+    fn emit_at<W: WriteJs, S: SourceMapper, C: Comments>(
+        &self,
+        e: &mut Emitter<'_, W, S, C>,
+        place: Place,
+    ) -> Result {
         e.opened(self.span)?;
         e.exprs(&self.exprs)?;
         Ok(())
@@ -89,7 +124,11 @@ impl<N: Held> EmitAt for ComputedPropName<N> {
     ghost items = { λ n _. computed_prop_name N.items n };
 
     #[tactic(auto, unfolding(crate::specs::Exprs::computed_prop_name))]
-    fn emit_at<W: WriteJs, S: SourceMapper, C: Comments>(&self, e: &mut Emitter<'_, W, S, C>, place: Place) -> Result {
+    fn emit_at<W: WriteJs, S: SourceMapper, C: Comments>(
+        &self,
+        e: &mut Emitter<'_, W, S, C>,
+        place: Place,
+    ) -> Result {
         e.start_of(self.span)?;
         e.punct("[")?;
         self.expr.held().emit_at(e, Place::Plain)?;
@@ -103,7 +142,11 @@ impl<N: Held> EmitAt for CondExpr<N> {
     ghost items = { λ n _. choice N.items n };
 
     #[tactic(auto, unfolding(crate::specs::Exprs::choice))]
-    fn emit_at<W: WriteJs, S: SourceMapper, C: Comments>(&self, e: &mut Emitter<'_, W, S, C>, place: Place) -> Result {
+    fn emit_at<W: WriteJs, S: SourceMapper, C: Comments>(
+        &self,
+        e: &mut Emitter<'_, W, S, C>,
+        place: Place,
+    ) -> Result {
         e.opened(self.span)?;
         self.test.held().emit_at(e, Place::Plain)?;
         e.formatting_space()?;
@@ -122,7 +165,11 @@ impl EmitAt for ThisExpr {
     ghost items = { λ n _. this n };
 
     #[tactic(auto, unfolding(crate::specs::Exprs::this))]
-    fn emit_at<W: WriteJs, S: SourceMapper, C: Comments>(&self, e: &mut Emitter<'_, W, S, C>, place: Place) -> Result {
+    fn emit_at<W: WriteJs, S: SourceMapper, C: Comments>(
+        &self,
+        e: &mut Emitter<'_, W, S, C>,
+        place: Place,
+    ) -> Result {
         e.leading_comments(self.span.lo)?;
         e.keyword(Some(self.span), "this")?;
         Ok(())
@@ -133,7 +180,11 @@ impl<N: Held> EmitAt for UnaryExpr<N> {
     ghost items = { λ n _. unary N.answers N.items n };
 
     #[tactic(auto, unfolding(crate::specs::Exprs::unary))]
-    fn emit_at<W: WriteJs, S: SourceMapper, C: Comments>(&self, e: &mut Emitter<'_, W, S, C>, place: Place) -> Result {
+    fn emit_at<W: WriteJs, S: SourceMapper, C: Comments>(
+        &self,
+        e: &mut Emitter<'_, W, S, C>,
+        place: Place,
+    ) -> Result {
         e.opened(self.span)?;
         e.unary_op(self.op)?;
         e.unary_gap(self.op, self.arg.held())?;
@@ -146,7 +197,11 @@ impl<N: Held> EmitAt for UpdateExpr<N> {
     ghost items = { λ n _. update N.items n };
 
     #[tactic(auto, unfolding(crate::specs::Exprs::update, crate::specs::Exprs::update_parts))]
-    fn emit_at<W: WriteJs, S: SourceMapper, C: Comments>(&self, e: &mut Emitter<'_, W, S, C>, place: Place) -> Result {
+    fn emit_at<W: WriteJs, S: SourceMapper, C: Comments>(
+        &self,
+        e: &mut Emitter<'_, W, S, C>,
+        place: Place,
+    ) -> Result {
         e.opened(self.span)?;
         if self.prefix {
             e.operator(self.op.as_str())?;
@@ -163,7 +218,11 @@ impl<N: Held> EmitAt for ParenExpr<N> {
     ghost items = { λ n _. paren N.items n };
 
     #[tactic(auto, unfolding(crate::specs::Exprs::paren))]
-    fn emit_at<W: WriteJs, S: SourceMapper, C: Comments>(&self, e: &mut Emitter<'_, W, S, C>, place: Place) -> Result {
+    fn emit_at<W: WriteJs, S: SourceMapper, C: Comments>(
+        &self,
+        e: &mut Emitter<'_, W, S, C>,
+        place: Place,
+    ) -> Result {
         e.commit_pending_semi()?;
         e.opened(self.span)?;
         e.punct("(")?;
@@ -178,7 +237,11 @@ impl EmitAt for Ident {
     ghost items = { λ n _. ident n };
 
     #[tactic(auto, unfolding(crate::specs::Exprs::ident))]
-    fn emit_at<W: WriteJs, S: SourceMapper, C: Comments>(&self, e: &mut Emitter<'_, W, S, C>, place: Place) -> Result {
+    fn emit_at<W: WriteJs, S: SourceMapper, C: Comments>(
+        &self,
+        e: &mut Emitter<'_, W, S, C>,
+        place: Place,
+    ) -> Result {
         e.name(self.span, &self.sym, self.optional)?;
         Ok(())
     }
@@ -188,7 +251,11 @@ impl EmitAt for IdentName {
     ghost items = { λ n _. ident_name n };
 
     #[tactic(auto, unfolding(crate::specs::Exprs::ident_name))]
-    fn emit_at<W: WriteJs, S: SourceMapper, C: Comments>(&self, e: &mut Emitter<'_, W, S, C>, place: Place) -> Result {
+    fn emit_at<W: WriteJs, S: SourceMapper, C: Comments>(
+        &self,
+        e: &mut Emitter<'_, W, S, C>,
+        place: Place,
+    ) -> Result {
         e.name(self.span, &self.sym, false)?;
         Ok(())
     }

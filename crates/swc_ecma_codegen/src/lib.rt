@@ -14,6 +14,5 @@ pub use crate::emitter::Emitter;
 pub use swc_ecma_codegen_ast as ast;
 pub use swc_ecma_codegen_ast::{Error, Result};
 pub use swc_ecma_codegen_text_writer as text_writer;
-pub use swc_ecma_codegen_util::config;
 pub use swc_ecma_codegen_util::config::Config;
-pub use swc_ecma_codegen_util::util;
+pub use swc_ecma_codegen_util::{config, util};

@@ -66,7 +66,7 @@ impl<N: Operand> Operand for Expr<N> {
 impl Operand for AnyNode {
     ghost kind = { any_kind };
 
-    #[tactic(auto, using(crate::proofs::Kinds::any_kind_expr, crate::proofs::Kinds::any_kind_stmt, crate::proofs::Kinds::any_kind_member_expr))]
+    #[tactic(auto, using(crate::proofs::KindLaws::any_kind_expr, crate::proofs::KindLaws::any_kind_stmt, crate::proofs::KindLaws::any_kind_member_expr))]
     fn operand_kind(&self) -> OperandKind {
         match self {
             AnyNode::Expr(node) => node.operand_kind(),
@@ -148,7 +148,8 @@ fn is_decrement(kind: OperandKind) -> bool
     ensures { result ≡ is_decrement kind }
 {
     match kind {
-        OperandKind::Prefix(UpdateOp::MinusMinus) | OperandKind::Postfix(UpdateOp::MinusMinus) => true,
+        OperandKind::Prefix(UpdateOp::MinusMinus) | OperandKind::Postfix(UpdateOp::MinusMinus) =>
+            true,
         _ => false,
     }
 }
@@ -182,7 +183,7 @@ impl<N: SpaceBefore> SpaceBefore for Expr<N> {
 impl SpaceBefore for AnyNode {
     ghost space = { any_space };
 
-    #[tactic(auto, using(crate::proofs::Spaces::any_space_expr, crate::proofs::Spaces::any_space_stmt, crate::proofs::Spaces::any_space_member_expr))]
+    #[tactic(auto, using(crate::proofs::SpaceLaws::any_space_expr, crate::proofs::SpaceLaws::any_space_stmt, crate::proofs::SpaceLaws::any_space_member_expr))]
     fn require_space_before(&self, op: BinaryOp) -> bool {
         match self {
             AnyNode::Expr(node) => node.require_space_before(op),

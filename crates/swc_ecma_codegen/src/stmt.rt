@@ -11,13 +11,19 @@ use crate::nodes::{EmitAt, Held, Place};
 use swc_ecma_codegen_ast::comments::Comments;
 use swc_ecma_codegen_ast::mapper::SourceMapper;
 use swc_ecma_codegen_text_writer::WriteJs;
-use swc_ecma_codegen_tree::{EmptyStmt, ExprStmt, Program, Result, Script, Span, Spanned, Stmt, StmtBox};
+use swc_ecma_codegen_tree::{
+    EmptyStmt, ExprStmt, Program, Result, Script, Span, Spanned, Stmt, StmtBox,
+};
 
 impl<N: Held> EmitAt for Stmt<N> {
     ghost items = { λ n _. stmt N.items n };
 
     #[tactic(auto, unfolding(crate::specs::Stmts::stmt, crate::specs::Stmts::stmt_parts))]
-    fn emit_at<W: WriteJs, S: SourceMapper, C: Comments>(&self, e: &mut Emitter<'_, W, S, C>, place: Place) -> Result {
+    fn emit_at<W: WriteJs, S: SourceMapper, C: Comments>(
+        &self,
+        e: &mut Emitter<'_, W, S, C>,
+        place: Place,
+    ) -> Result {
         match self {
             Stmt::Empty(node) => node.emit_at(e, Place::Plain)?,
             Stmt::Expr(node) => node.emit_at(e, Place::Plain)?,
@@ -32,7 +38,11 @@ impl<N: Held> EmitAt for ExprStmt<N> {
     ghost items = { λ n _. expr_stmt N.items n };
 
     #[tactic(auto, unfolding(crate::specs::Stmts::expr_stmt))]
-    fn emit_at<W: WriteJs, S: SourceMapper, C: Comments>(&self, e: &mut Emitter<'_, W, S, C>, place: Place) -> Result {
+    fn emit_at<W: WriteJs, S: SourceMapper, C: Comments>(
+        &self,
+        e: &mut Emitter<'_, W, S, C>,
+        place: Place,
+    ) -> Result {
         e.leading_comments(self.span.lo)?;
         self.expr.held().emit_at(e, Place::Plain)?;
         e.semi()?;
@@ -44,7 +54,11 @@ impl EmitAt for EmptyStmt {
     ghost items = { λ n _. empty_stmt n };
 
     #[tactic(auto, unfolding(crate::specs::Stmts::empty_stmt))]
-    fn emit_at<W: WriteJs, S: SourceMapper, C: Comments>(&self, e: &mut Emitter<'_, W, S, C>, place: Place) -> Result {
+    fn emit_at<W: WriteJs, S: SourceMapper, C: Comments>(
+        &self,
+        e: &mut Emitter<'_, W, S, C>,
+        place: Place,
+    ) -> Result {
         e.leading_comments(self.span.lo)?;
         e.punct(";")?;
         Ok(())
@@ -55,7 +69,11 @@ impl<N: Held> EmitAt for Script<N> {
     ghost items = { λ n _. script N.items n };
 
     #[tactic(auto, unfolding(crate::specs::Programs::script))]
-    fn emit_at<W: WriteJs, S: SourceMapper, C: Comments>(&self, e: &mut Emitter<'_, W, S, C>, place: Place) -> Result {
+    fn emit_at<W: WriteJs, S: SourceMapper, C: Comments>(
+        &self,
+        e: &mut Emitter<'_, W, S, C>,
+        place: Place,
+    ) -> Result {
         e.leading_comments(self.span.lo)?;
         e.start_if_empty(&self.body, self.span)?;
         e.stmts(&self.body)?;
@@ -65,14 +83,26 @@ impl<N: Held> EmitAt for Script<N> {
     }
 }
 
+/// The script that a program is.
+fn script_of<N>(node: &Program<N>) -> &Script<N>
+    ensures { node.now ≡ Program.Script result.now }
+{
+    match node {
+        Program::Script(script) => script,
+    }
+}
+
 impl<N: Held> EmitAt for Program<N> {
     ghost items = { λ n _. program N.items n };
 
     #[tactic(auto, unfolding(crate::specs::Programs::program))]
-    fn emit_at<W: WriteJs, S: SourceMapper, C: Comments>(&self, e: &mut Emitter<'_, W, S, C>, place: Place) -> Result {
-        match self {
-            Program::Script(node) => node.emit_at(e, Place::Plain),
-        }
+    fn emit_at<W: WriteJs, S: SourceMapper, C: Comments>(
+        &self,
+        e: &mut Emitter<'_, W, S, C>,
+        place: Place,
+    ) -> Result {
+        script_of(self).emit_at(e, Place::Plain)?;
+        Ok(())
     }
 }
 

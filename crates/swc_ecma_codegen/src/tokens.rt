@@ -130,7 +130,8 @@ impl<W: WriteJs, S, C: Comments> Emitter<'_, W, S, C> {
         ensures items { Emits (leading_comments pos) (state_of W.sheet self.old) (state_of W.sheet self.new) result }
         ensures level { OnOk result ((W.sheet self.new.wr).indentation ≡ (W.sheet self.old.wr).indentation) }
     {
-        self.lower.leading_comments(&self.cfg, &self.comments, &mut self.wr, pos)
+        self.lower
+            .leading_comments(&self.cfg, &self.comments, &mut self.wr, pos)
     }
 
     /// Writes the comments that stand after a position.
@@ -138,7 +139,8 @@ impl<W: WriteJs, S, C: Comments> Emitter<'_, W, S, C> {
         ensures items { Emits (trailing_comments prefix_space pos) (state_of W.sheet self.old) (state_of W.sheet self.new) result }
         ensures level { OnOk result ((W.sheet self.new.wr).indentation ≡ (W.sheet self.old.wr).indentation) }
     {
-        self.lower.trailing_comments(&self.cfg, &self.comments, &mut self.wr, pos, prefix_space)
+        self.lower
+            .trailing_comments(&self.cfg, &self.comments, &mut self.wr, pos, prefix_space)
     }
 
     /// Writes a name with its comments.
