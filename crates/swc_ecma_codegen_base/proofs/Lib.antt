@@ -1,2 +1,3 @@
 pub mod Emitting
 pub mod Calls
+pub mod Fusing
