@@ -11,6 +11,9 @@ ghost use Rattle.swc_ecma_codegen_base.specs.Last.{last_at};
 
 use unicode_ident::is_xid_continue;
 
+#[cfg(test)]
+mod tests;
+
 /// The last token, as far as what follows may fuse with it.
 #[derive(Debug, Clone, Copy)]
 pub enum Last {
