@@ -2,3 +2,4 @@ pub mod Emitting
 pub mod Calls
 pub mod Spelled
 pub mod Fronts
+pub mod Fusing
