@@ -5,7 +5,8 @@ ghost use Rattle.std.specs.Prelude.{◌≡◌, ◌<◌};
 ghost use Rattle.swc_ecma_codegen_text_writer.specs.Sheet.{Sheet, Writes, Semi, Space, Keyword, Operator, Param, Property, Line, Lit, Comment, StrLit, Str, Symbol, Punct, Position, Commit, Deeper, Shallower};
 
 mod basic_impl;
-mod forwarded;
+mod boxed;
+mod lent;
 mod logs;
 mod outlet;
 #[cfg(test)]
