@@ -117,7 +117,7 @@ impl<'a, W: WriteJs, S: SourceMapper, C: Comments> Emitter<'a, W, S, C> {
 impl<W, S, C: Drop> Emitter<'_, W, S, C> {
     /// The writer.
     pub(crate) fn into_writer(self) -> W
-        ensures { result ≡ self.wr }
+        ensures { result ≡ self.entry.wr }
     {
         let Emitter {
             cfg: _,
