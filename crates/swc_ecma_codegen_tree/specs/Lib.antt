@@ -1,3 +1,4 @@
 pub mod Held
 pub mod Operators
+pub mod Readers
 pub mod Spans
