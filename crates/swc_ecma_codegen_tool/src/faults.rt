@@ -1,0 +1,75 @@
+//! Why a run prints nothing.
+
+ghost use Rattle.std.specs.Prelude.{◌≡◌, ◌≢◌};
+
+use swc_ecma_codegen_tree::{Error, ReadError};
+
+/// Why a run prints nothing.
+#[derive(Debug, Clone, Copy, PartialEq, Eq)]
+pub enum Fault {
+    Usage,
+    CannotRead,
+    BadTree,
+    Writer,
+    Memory,
+    UnsupportedNode,
+    BadShape,
+    NameOutOfTarget,
+    PositionTooLarge,
+    Failed,
+}
+
+impl Fault {
+    /// The fault of a tree that isn't read.
+    pub fn of_reading(error: ReadError) -> Fault
+        ensures { result ≢ Fault.Usage }
+    {
+        match error {
+            ReadError::CannotRead => Fault::CannotRead,
+            ReadError::BadTree => Fault::BadTree,
+            ReadError::OutOfMemory => Fault::Memory,
+        }
+    }
+
+    /// The fault of a refused emission.
+    pub fn of_emission(error: &Error) -> Fault
+        ensures { result ≢ Fault.Usage }
+    {
+        match error {
+            Error::Writer(_) => Fault::Writer,
+            Error::OutOfMemory => Fault::Memory,
+            Error::UnsupportedNode => Fault::UnsupportedNode,
+            Error::BadShape => Fault::BadShape,
+            Error::NameOutOfTarget => Fault::NameOutOfTarget,
+            Error::PositionTooLarge => Fault::PositionTooLarge,
+            Error::Failed => Fault::Failed,
+        }
+    }
+
+    /// The line that tells of it.
+    pub fn line(self) -> &'static str {
+        match self {
+            Fault::Usage => "usage: ecmagen [options]\n",
+            Fault::CannotRead => "cannot read\n",
+            Fault::BadTree => "bad tree\n",
+            Fault::Writer => "refused: writer\n",
+            Fault::Memory => "refused: memory\n",
+            Fault::UnsupportedNode => "refused: unsupported node\n",
+            Fault::BadShape => "refused: bad shape\n",
+            Fault::NameOutOfTarget => "refused: name out of target\n",
+            Fault::PositionTooLarge => "refused: position too large\n",
+            Fault::Failed => "refused: failed\n",
+        }
+    }
+
+    /// The status that the program ends with.
+    pub fn status(self) -> u8
+        ensures usage { self ≡ Fault.Usage → result ≡ 2 }
+        ensures others { self ≢ Fault.Usage → result ≡ 1 }
+    {
+        match self {
+            Fault::Usage => 2,
+            _ => 1,
+        }
+    }
+}

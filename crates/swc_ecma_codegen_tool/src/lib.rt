@@ -1,0 +1,88 @@
+//! The program, as a function over its words and its streams.
+#![tactic(auto)]
+
+ghost use Rattle.std.specs.Prelude.{◌≡◌, ◌≢◌, [], Err, OnOk, OnErr, IfOk, string_bytes};
+ghost use Rattle.swc_ecma_codegen_tool.specs.Prints.{IsProgramText, AddsProgram};
+
+mod faults;
+
+use crate::faults::Fault;
+use std::alloc::Global;
+use std::io::{ErrorKind, Read, Write};
+use swc_ecma_codegen::to_code;
+use swc_ecma_codegen_json::program_from_slice;
+use swc_ecma_codegen_tree::discard;
+
+/// A run of the program: `words` are those after its name, of which there may be none yet. Standard input is one
+/// program as JSON, and its text goes to `out`, whole, after it was made in memory. The answer is the status.
+///
+/// On a fault `err` gets one line, and `out` nothing, save what it took before a fault of its own. The status is 2 for
+/// wrong words, else 1: `cannot read` for a failed read and for bytes that aren't UTF-8, `bad tree` for what is no
+/// program's JSON, and `refused: ` and a reason for an emission that is refused, for want of memory, and for a fault of
+/// `out` (`refused: writer`). A fault of `err` changes no status.
+pub fn run<R: Read, O: Write, E: Write>(
+    alloc: Global,
+    words: &[String],
+    input: &mut R,
+    out: &mut O,
+    err: &mut E,
+) -> u8
+    // The text of some program goes out.
+    ensures printed { result ≡ 0 → AddsProgram (O.contents out.old) (O.contents out.new) }
+    ensures usage { words.now ≢ [] → result ≡ 2 }
+    ensures no_usage { words.now ≡ [] → result ≢ 2 }
+{
+    match print(alloc, words, input, out) {
+        Ok(()) => 0,
+        Err(fault) => {
+            let _ = err.write_all(fault.line().as_bytes());
+            fault.status()
+        }
+    }
+}
+
+/// Prints the program that `input` holds.
+fn print<R: Read, O: Write>(
+    alloc: Global,
+    words: &[String],
+    input: &mut R,
+    out: &mut O,
+) -> Result<(), Fault>
+    ensures printed { OnOk result (AddsProgram (O.contents out.old) (O.contents out.new)) }
+    ensures usage { words.now ≢ [] → result ≡ Err Fault.Usage }
+    ensures no_usage { words.now ≡ [] → result ≢ Err Fault.Usage }
+{
+    if !words.is_empty() {
+        return Err(Fault::Usage);
+    }
+    let text = program_text(alloc, input)?;
+    match out.write_all(text.as_bytes()) {
+        Ok(()) => Ok(()),
+        Err(_) => Err(Fault::Writer),
+    }
+}
+
+/// The text of the program that `input` holds.
+fn program_text<R: Read>(alloc: Global, input: &mut R) -> Result<String, Fault>
+    ensures text { IfOk result (λ text. IsProgramText (string_bytes text)) }
+    ensures no_usage { result ≢ Err Fault.Usage }
+{
+    let mut bytes = Vec::new(alloc);
+    if let Err(error) = input.read_to_end(&mut bytes) {
+        return Err(if error.kind() == ErrorKind::OutOfMemory {
+            Fault::Memory
+        } else {
+            Fault::CannotRead
+        });
+    }
+    let program = match program_from_slice(alloc, &bytes) {
+        Ok(program) => program,
+        Err(error) => return Err(Fault::of_reading(error)),
+    };
+    let text = to_code(alloc, &program);
+    discard(program);
+    match text {
+        Ok(text) => Ok(text),
+        Err(error) => Err(Fault::of_emission(&error)),
+    }
+}
