@@ -78,6 +78,7 @@ fn makes_node(alloc: Global, steps: &[Step], text: &str) -> Result<bool, Error> 
 }
 
 const A: Step = Step::Name("a");
+
 const B: Step = Step::Name("b");
 
 #[test]
@@ -101,14 +102,16 @@ fn prints_through(alloc: Global, tree: &Program) -> Result<bool, Error> {
     let text = "a.b;\n";
     let script = script_of(tree);
     let empty = Box::new(alloc, EmptyStmt { span: DUMMY_SP })?;
-    Ok(prints(alloc, tree, text)?
-        && prints(alloc, script, text)?
-        && prints(alloc, &script, text)?
-        && prints(alloc, &script.body.first(), text)?
-        && prints(alloc, &statement_of(tree), text)?
-        && prints(alloc, &expr_of(tree), "a.b")?
-        && prints(alloc, &None::<Ident>, "")?
-        && prints(alloc, &empty, ";")?)
+    Ok(
+        prints(alloc, tree, text)?
+            && prints(alloc, script, text)?
+            && prints(alloc, &script, text)?
+            && prints(alloc, &script.body.first(), text)?
+            && prints(alloc, &statement_of(tree), text)?
+            && prints(alloc, &expr_of(tree), "a.b")?
+            && prints(alloc, &None::<Ident>, "")?
+            && prints(alloc, &empty, ";")?,
+    )
 }
 
 /// Whether the parts of a member have these texts, by themselves and as seen through their links.
@@ -116,9 +119,11 @@ fn prints_member(alloc: Global, tree: &Program) -> Result<bool, Error> {
     match expr_of(tree) {
         Some(Expr::Member(link)) => match link.get() {
             Some(node) => {
-                Ok(prints(alloc, node, "a.b")?
-                    && prints(alloc, &node.obj, "a")?
-                    && prints_prop(alloc, node, "b")?)
+                Ok(
+                    prints(alloc, node, "a.b")?
+                        && prints(alloc, &node.obj, "a")?
+                        && prints_prop(alloc, node, "b")?,
+                )
             }
             None => Ok(false),
         },

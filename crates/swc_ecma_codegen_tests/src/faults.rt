@@ -11,9 +11,7 @@ use swc_ecma_codegen::{Emitter, Node};
 use swc_ecma_codegen_ast::comments::CommentMaps;
 use swc_ecma_codegen_ast::mapper::NoSource;
 use swc_ecma_codegen_text_writer::JsWriter;
-use swc_ecma_codegen_tree::{
-    BinaryOp, Error, Ident, Program, Result as Answer, UnaryOp, discard,
-};
+use swc_ecma_codegen_tree::{BinaryOp, Error, Ident, Program, Result as Answer, UnaryOp, discard};
 
 /// Takes one byte a call, up to a number of bytes, and then fails, or answers 0 where it has no fault.
 #[derive(Drop)]
@@ -68,6 +66,7 @@ impl Write for InterruptedOnce {
 }
 
 /// What an emission answered, what the next one did, and one of nothing after them.
+#[derive(Drop)]
 struct Answers {
     first: Answer,
     second: Answer,

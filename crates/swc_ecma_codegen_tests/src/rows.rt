@@ -69,25 +69,45 @@ fn unary_operators(rt: HostRuntime) -> Result<(), Fail> {
 }
 
 const A: Step = Step::Name("a");
+
 const B: Step = Step::Name("b");
+
 const C: Step = Step::Name("c");
+
 const D: Step = Step::Name("d");
+
 const X: Step = Step::Name("x");
+
 const Y: Step = Step::Name("y");
+
 const MINUS: Step = Step::Unary(UnaryOp::Minus);
+
 const PLUS: Step = Step::Unary(UnaryOp::Plus);
+
 const BANG: Step = Step::Unary(UnaryOp::Bang);
+
 const TYPE_OF: Step = Step::Unary(UnaryOp::TypeOf);
+
 const INCREMENT: Step = Step::Prefix(UpdateOp::PlusPlus);
+
 const INCREMENTED: Step = Step::Postfix(UpdateOp::PlusPlus);
+
 const DECREMENT: Step = Step::Prefix(UpdateOp::MinusMinus);
+
 const DECREMENTED: Step = Step::Postfix(UpdateOp::MinusMinus);
+
 const ADD: Step = Step::Bin(BinaryOp::Add);
+
 const SUB: Step = Step::Bin(BinaryOp::Sub);
+
 const MUL: Step = Step::Bin(BinaryOp::Mul);
+
 const IN: Step = Step::Bin(BinaryOp::In);
+
 const LESS: Step = Step::Bin(BinaryOp::Lt);
+
 const GREATER: Step = Step::Bin(BinaryOp::Gt);
+
 const AND: Step = Step::Bin(BinaryOp::LogicalAnd);
 
 /// Whether the steps make this text by `to_code`, and this one without blanks.

@@ -3,8 +3,7 @@
 ghost use Rattle.std.specs.Prelude.{◌≡◌, false};
 
 use std::alloc::Global;
-use swc_ecma_codegen::to_code;
-use swc_ecma_codegen::{Config, Emitter};
+use swc_ecma_codegen::{Config, Emitter, to_code};
 use swc_ecma_codegen_ast::comments::CommentMaps;
 use swc_ecma_codegen_ast::mapper::NoSource;
 use swc_ecma_codegen_text_writer::JsWriter;
@@ -94,10 +93,7 @@ fn sequence(alloc: Global, made: &mut Vec<Expr>) -> Result<Expr, Error> {
 fn member(alloc: Global, prop: MemberProp, made: &mut Vec<Expr>) -> Result<Expr, Error> {
     let obj = operand(alloc, made)?;
     let span = DUMMY_SP;
-    Ok(Expr::Member(MemberExprBox::new(
-        alloc,
-        MemberExpr { span, obj, prop },
-    )?))
+    Ok(Expr::Member(MemberExprBox::new(alloc, MemberExpr { span, obj, prop })?))
 }
 
 fn property(alloc: Global, sym: &str) -> Result<MemberProp, Error> {
