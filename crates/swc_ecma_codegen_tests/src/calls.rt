@@ -1,0 +1,205 @@
+//! Each public call once.
+
+ghost use Rattle.std.specs.Prelude.{◌≡◌, false};
+
+use crate::trees::{Step, bytes_of, program, settings};
+use std::alloc::Global;
+use std::test::Fail;
+use swc_ecma_codegen::operands::{Operand, OperandKind, SpaceBefore};
+use swc_ecma_codegen::util::{EndsWithAlphaNum, StartsWithAlphaNum};
+use swc_ecma_codegen::{Emitter, Node, to_code};
+use swc_ecma_codegen_ast::comments::CommentMaps;
+use swc_ecma_codegen_ast::mapper::NoSource;
+use swc_ecma_codegen_text_writer::JsWriter;
+use swc_ecma_codegen_tree::{
+    AssignOp, BinaryOp, BytePos, DUMMY_SP, EmptyStmt, Error, Expr, Ident, MemberExpr, MemberProp,
+    Program, Script, Spanned, Stmt, UnaryOp, UpdateOp, discard,
+};
+
+/// Whether a node has this text by `to_code`.
+fn prints<N: Node>(alloc: Global, node: &N, text: &str) -> Result<bool, Error> {
+    Ok(to_code(alloc, node)?.as_str() == text)
+}
+
+/// Whether the part of a member after its object has this text.
+fn prints_prop(alloc: Global, node: &MemberExpr, text: &str) -> Result<bool, Error> {
+    match &node.prop {
+        MemberProp::Ident(name) => prints(alloc, name, text),
+        MemberProp::Computed(name) => prints(alloc, name, text),
+    }
+}
+
+/// Whether the node in an expression has this text.
+fn prints_node(alloc: Global, expr: &Expr, text: &str) -> Result<bool, Error> {
+    match expr {
+        Expr::This(node) => prints(alloc, node, text),
+        Expr::Unary(node) => prints(alloc, node, text),
+        Expr::Update(node) => prints(alloc, node, text),
+        Expr::Bin(node) => prints(alloc, node, text),
+        Expr::Member(node) => prints(alloc, node, text),
+        Expr::Cond(node) => prints(alloc, node, text),
+        Expr::Seq(node) => prints(alloc, node, text),
+        Expr::Ident(node) => prints(alloc, node, text),
+        Expr::Paren(node) => prints(alloc, node, text),
+    }
+}
+
+fn script_of(tree: &Program) -> &Script {
+    match tree {
+        Program::Script(script) => script,
+    }
+}
+
+/// The first statement.
+fn statement_of(tree: &Program) -> Option<&Stmt> {
+    match script_of(tree).body.first() {
+        Some(link) => link.get(),
+        None => None,
+    }
+}
+
+/// The expression of the first statement.
+fn expr_of(tree: &Program) -> Option<&Expr> {
+    match statement_of(tree) {
+        Some(Stmt::Expr(node)) => node.expr.get(),
+        _ => None,
+    }
+}
+
+/// Whether the node that the steps make has this text.
+fn makes_node(alloc: Global, steps: &[Step], text: &str) -> Result<bool, Error> {
+    let tree = program(alloc, steps)?;
+    let answer = match expr_of(&tree) {
+        Some(expr) => prints_node(alloc, expr, text),
+        None => Ok(false),
+    };
+    discard(tree);
+    answer
+}
+
+const A: Step = Step::Name("a");
+
+const B: Step = Step::Name("b");
+
+#[test]
+fn each_type_of_expression(rt: HostRuntime) -> Result<(), Fail> {
+    let alloc = rt.alloc();
+    assert!(rt; makes_node(alloc, &[Step::This], "this")?);
+    assert!(rt; makes_node(alloc, &[A, Step::Unary(UnaryOp::Void)], "void a")?);
+    assert!(rt; makes_node(alloc, &[A, Step::Prefix(UpdateOp::PlusPlus)], "++a")?);
+    assert!(rt; makes_node(alloc, &[A, B, Step::Bin(BinaryOp::Mul)], "a * b")?);
+    assert!(rt; makes_node(alloc, &[A, Step::Member("b")], "a.b")?);
+    assert!(rt; makes_node(alloc, &[A, B, Step::Index], "a[b]")?);
+    assert!(rt; makes_node(alloc, &[A, B, A, Step::Cond], "a ? b : a")?);
+    assert!(rt; makes_node(alloc, &[A, B, Step::Seq], "a, b")?);
+    assert!(rt; makes_node(alloc, &[A], "a")?);
+    assert!(rt; makes_node(alloc, &[A, Step::Paren], "(a)")?);
+    Ok(())
+}
+
+/// Whether links, references, boxes and options have the text of what they hold.
+fn prints_through(alloc: Global, tree: &Program) -> Result<bool, Error> {
+    let text = "a.b;\n";
+    let script = script_of(tree);
+    let empty = Box::new(alloc, EmptyStmt { span: DUMMY_SP })?;
+    Ok(
+        prints(alloc, tree, text)?
+            && prints(alloc, script, text)?
+            && prints(alloc, &script, text)?
+            && prints(alloc, &script.body.first(), text)?
+            && prints(alloc, &statement_of(tree), text)?
+            && prints(alloc, &expr_of(tree), "a.b")?
+            && prints(alloc, &None::<Ident>, "")?
+            && prints(alloc, &empty, ";")?,
+    )
+}
+
+/// Whether the parts of a member have these texts, by themselves and as seen through their links.
+fn prints_member(alloc: Global, tree: &Program) -> Result<bool, Error> {
+    match expr_of(tree) {
+        Some(Expr::Member(link)) => match link.get() {
+            Some(node) => {
+                Ok(
+                    prints(alloc, node, "a.b")?
+                        && prints(alloc, &node.obj, "a")?
+                        && prints_prop(alloc, node, "b")?,
+                )
+            }
+            None => Ok(false),
+        },
+        _ => Ok(false),
+    }
+}
+
+#[test]
+fn each_way_to_a_node(rt: HostRuntime) -> Result<(), Fail> {
+    let alloc = rt.alloc();
+    let tree = program(alloc, &[A, Step::Member("b")])?;
+    assert!(rt; prints_through(alloc, &tree)?);
+    assert!(rt; prints_member(alloc, &tree)?);
+    let bytes = bytes_of(alloc, &tree, false, "\r\n")?;
+    assert_eq!(rt; bytes.as_slice(), b"a.b;\r\n".as_slice());
+    discard(tree);
+    Ok(())
+}
+
+/// The bytes of a script, and of nothing after it.
+fn script_bytes(alloc: Global, script: &Script) -> Result<Vec<u8>, Error> {
+    let mut wr = JsWriter::new(alloc, &NoSource, "\n", Vec::new(alloc), None);
+    let mut emitter = Emitter::new(
+        alloc,
+        settings(true),
+        &NoSource,
+        None::<CommentMaps>,
+        &mut wr,
+    );
+    emitter.emit_script(script)?;
+    None::<Ident>.emit_with(&mut emitter)?;
+    Ok(wr.into_inner())
+}
+
+/// What an expression tells those above it: `--a`.
+fn tells(expr: &Expr) -> bool {
+    expr.operand_kind() == OperandKind::Prefix(UpdateOp::MinusMinus)
+        && expr.require_space_before(BinaryOp::Sub)
+        && !expr.require_space_before(BinaryOp::Add)
+        && !expr.starts_with_alpha_num()
+        && expr.ends_with_alpha_num()
+}
+
+#[test]
+fn scripts_and_questions(rt: HostRuntime) -> Result<(), Fail> {
+    let alloc = rt.alloc();
+    let tree = program(alloc, &[A, Step::Prefix(UpdateOp::MinusMinus)])?;
+    let bytes = script_bytes(alloc, script_of(&tree))?;
+    assert_eq!(rt; bytes.as_slice(), b"--a;".as_slice());
+    assert!(rt; expr_of(&tree).is_some_and(|expr| tells(expr)));
+    assert!(rt; tree.span().is_dummy() && tree.span_lo().is_dummy() && !BytePos(1).is_dummy());
+    discard(tree);
+    Ok(())
+}
+
+#[test]
+fn assignment_operators(rt: HostRuntime) {
+    let rows = [
+        (AssignOp::Assign, "="),
+        (AssignOp::AddAssign, "+="),
+        (AssignOp::SubAssign, "-="),
+        (AssignOp::MulAssign, "*="),
+        (AssignOp::DivAssign, "/="),
+        (AssignOp::ModAssign, "%="),
+        (AssignOp::LShiftAssign, "<<="),
+        (AssignOp::RShiftAssign, ">>="),
+        (AssignOp::ZeroFillRShiftAssign, ">>>="),
+        (AssignOp::BitOrAssign, "|="),
+        (AssignOp::BitXorAssign, "^="),
+        (AssignOp::BitAndAssign, "&="),
+        (AssignOp::ExpAssign, "**="),
+        (AssignOp::AndAssign, "&&="),
+        (AssignOp::OrAssign, "||="),
+        (AssignOp::NullishAssign, "??="),
+    ];
+    for (op, text) in rows {
+        assert_eq!(rt; op.as_str(), text);
+    }
+}

@@ -1,0 +1,164 @@
+//! Emissions over writers that fail.
+
+ghost use Rattle.std.specs.Prelude.{◌≡◌, false, Some};
+
+use crate::trees::{Step, program, settings};
+use std::alloc::Global;
+use std::io;
+use std::io::{ErrorKind, Write};
+use std::test::Fail;
+use swc_ecma_codegen::{Emitter, Node};
+use swc_ecma_codegen_ast::comments::CommentMaps;
+use swc_ecma_codegen_ast::mapper::NoSource;
+use swc_ecma_codegen_text_writer::JsWriter;
+use swc_ecma_codegen_tree::{BinaryOp, Error, Ident, Program, Result as Answer, UnaryOp, discard};
+
+/// Takes one byte a call, up to a number of bytes, and then fails, or answers 0 where it has no fault.
+#[derive(Drop)]
+struct Dribble {
+    taken: Vec<u8>,
+    room: usize,
+    fault: Option<ErrorKind>,
+}
+
+impl Write for Dribble {
+    ghost contents = { λ w. Some w.taken.items };
+
+    fn write(&mut self, buf: &[u8]) -> io::Result<usize> {
+        if self.taken.len() >= self.room {
+            return match self.fault {
+                Some(kind) => Err(io::Error::from(kind)),
+                None => Ok(0),
+            };
+        }
+        match buf.first() {
+            Some(byte) => {
+                self.taken.push(*byte)?;
+                Ok(1)
+            }
+            None => Ok(0),
+        }
+    }
+
+    fn flush(&mut self) -> io::Result<()> {
+        Ok(())
+    }
+}
+
+/// Takes all but its second call, which is interrupted.
+#[derive(Drop)]
+struct InterruptedOnce {
+    calls: u64,
+}
+
+impl Write for InterruptedOnce {
+    fn write(&mut self, buf: &[u8]) -> io::Result<usize> {
+        self.calls = self.calls.saturating_add(1);
+        if self.calls == 2 {
+            return Err(io::Error::from(ErrorKind::Interrupted));
+        }
+        Ok(buf.len())
+    }
+
+    fn flush(&mut self) -> io::Result<()> {
+        Ok(())
+    }
+}
+
+/// What an emission answered, what the next one did, and one of nothing after them.
+#[derive(Drop)]
+struct Answers {
+    first: Answer,
+    second: Answer,
+    nothing: Answer,
+}
+
+/// The answers of three emissions to one writer, the last of nothing.
+fn emit_thrice<W: Write + Drop>(alloc: Global, tree: &Program, under: W) -> (Answers, W) {
+    let mut wr = JsWriter::new(alloc, &NoSource, "\n", under, None);
+    let mut emitter = Emitter::new(
+        alloc,
+        settings(false),
+        &NoSource,
+        None::<CommentMaps>,
+        &mut wr,
+    );
+    let first = emitter.emit_program(tree);
+    let second = emitter.emit_program(tree);
+    let nothing = None::<Ident>.emit_with(&mut emitter);
+    let answers = Answers {
+        first,
+        second,
+        nothing,
+    };
+    (answers, wr.into_inner())
+}
+
+/// The tree of `a - -b * c`.
+const DIFFERENCE: [Step; 6] = [
+    Step::Name("a"),
+    Step::Name("b"),
+    Step::Unary(UnaryOp::Minus),
+    Step::Name("c"),
+    Step::Bin(BinaryOp::Mul),
+    Step::Bin(BinaryOp::Sub),
+];
+
+fn kind_of(answer: &Answer) -> Option<ErrorKind> {
+    match answer {
+        Err(Error::Writer(error)) => Some(error.kind()),
+        _ => None,
+    }
+}
+
+fn is_failed(answer: &Answer) -> bool {
+    matches!(answer, Err(Error::Failed))
+}
+
+#[test]
+fn fails_after_each_byte(rt: HostRuntime) -> Result<(), Fail> {
+    let alloc = rt.alloc();
+    let tree = program(alloc, &DIFFERENCE)?;
+    let faults = [
+        (Some(ErrorKind::Interrupted), ErrorKind::Interrupted),
+        (Some(ErrorKind::Other), ErrorKind::Other),
+        (None, ErrorKind::WriteZero),
+    ];
+    let text = "a - -b * c;\n";
+    for (fault, kind) in faults {
+        for room in 0..12 {
+            let taken = Vec::new(alloc);
+            let under = Dribble { taken, room, fault };
+            let (answers, under) = emit_thrice(alloc, &tree, under);
+            assert_eq!(rt; kind_of(&answers.first), Some(kind));
+            assert!(rt; is_failed(&answers.second) && is_failed(&answers.nothing));
+            assert_eq!(rt; under.taken.len(), room);
+            assert!(rt; text.as_bytes().starts_with(under.taken.as_slice()));
+        }
+    }
+    discard(tree);
+    Ok(())
+}
+
+#[test]
+fn one_byte_a_call_and_interrupted_once(rt: HostRuntime) -> Result<(), Fail> {
+    let alloc = rt.alloc();
+    let tree = program(alloc, &DIFFERENCE)?;
+    let under = Dribble {
+        taken: Vec::new(alloc),
+        room: 100,
+        fault: None,
+    };
+    let (answers, under) = emit_thrice(alloc, &tree, under);
+    assert!(rt; answers.first.is_ok() && answers.second.is_ok() && answers.nothing.is_ok());
+    assert_eq!(rt;
+        under.taken.as_slice(),
+        b"a - -b * c;\na - -b * c;\n".as_slice()
+    );
+    let (answers, under) = emit_thrice(alloc, &tree, InterruptedOnce { calls: 0 });
+    assert_eq!(rt; kind_of(&answers.first), Some(ErrorKind::Interrupted));
+    assert!(rt; is_failed(&answers.second) && is_failed(&answers.nothing));
+    assert_eq!(rt; under.calls, 2);
+    discard(tree);
+    Ok(())
+}

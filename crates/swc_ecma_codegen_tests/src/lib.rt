@@ -1,0 +1,11 @@
+//! Tests that go through several crates: trees that are printed, and what was printed compared.
+#![tactic(auto)]
+
+#[cfg(test)]
+mod calls;
+#[cfg(test)]
+mod faults;
+#[cfg(test)]
+mod rows;
+#[cfg(test)]
+mod trees;
