@@ -1,84 +1,43 @@
 -- What a text reads as.
-use Rattle.std.specs.Prelude.{◌≡◌, ℕ, Bool, true, not, List, [], ◌∷◌, ◌++◌, ◌&&◌, codes}
-use Rattle.swc_ecma_codegen_ast.specs.Chars.{is_blank, is_line_end, begins, is_one_line}
-use Rattle.swc_ecma_codegen_ast.specs.Tokens.{Child, goal, Token, Word, Name, Punct, Number, Str, Close, Regex, Text, Private, Template, TemplateRest, Quoted, IsLongest, TagName, Hashbang}
+use Rattle.std.specs.Prelude.{◌≡◌, ℕ, Bool, true, false, List, [], ◌∷◌, ◌++◌, ◌||◌}
+use Rattle.swc_ecma_codegen_ast.specs.declared.kinds.Kind.{Kind}
+use Rattle.swc_ecma_codegen_ast.specs.declared.kinds.Kind.TheVariants.{JsxText, JsxOpen, Hashbang}
+use Rattle.swc_ecma_codegen_ast.specs.Tokens.{Token}
+use Rattle.swc_ecma_codegen_ast.specs.LongestMatch.{IsLongest}
+use Rattle.swc_ecma_codegen_ast.specs.Trivia.{Remark, Trivia}
 
-pub data Comment : Type 0 where
-  Block : (text : List ℕ) → Comment
-  Line : (text : List ℕ) → Comment
+-- text between tags, and the `{` or `<` that begins another child or a closing tag
+unfoldable pub is_child : Kind → Bool
+is_child JsxText = true
+is_child JsxOpen = true
+is_child kind = false
 
--- what may stand between tokens: a blank or a line end, or a closed comment
-pub data Piece : Type 0 where
-  Blank : (char : ℕ) → Piece
-  BlockOf : (text : List ℕ) → Piece
-  LineOf : (text : List ℕ) → (end : ℕ) → Piece
+unfoldable pub is_hashbang_kind : Kind → Bool
+is_hashbang_kind Hashbang = true
+is_hashbang_kind kind = false
 
--- no `*/` in a text
-unfoldable pub is_open : List ℕ → Bool
-is_open [] = true
-is_open (c ∷ cs) = not (begins (codes "*/") (c ∷ cs)) && is_open cs
+-- no trivia stand before it
+unfoldable pub is_close_by : Kind → Bool
+is_close_by kind = is_child kind || is_hashbang_kind kind
 
-unfoldable pub is_piece : Piece → Bool
-is_piece (Blank c) = is_blank c
-is_piece (BlockOf t) = is_open t
-is_piece (LineOf t c) = is_one_line t && is_line_end c
+-- The rest of a text is trivia and longest tokens in turn, in the order of the list, and trivia at the end. A child of
+-- JSX has no trivia before it. `first`: nothing was read yet, so that a hashbang may stand here.
+unfoldable pub ReadsOn : Bool → List ℕ → List Token → List Remark → Type 0
+ReadsOn first text [] remarks = Trivia text remarks
+ReadsOn first text (x ∷ xs) remarks =
+    (gap own rest : List ℕ) × (before later : List Remark)
+    × (text ≡ gap ++ (own ++ rest))
+    × Trivia gap before
+    × (is_close_by x.kind ≡ true → gap ≡ [])
+    × (is_hashbang_kind x.kind ≡ true → first ≡ true)
+    × IsLongest x own rest
+    × ReadsOn false rest xs later
+    × (remarks ≡ before ++ later)
 
-unfoldable pub piece_text : Piece → List ℕ
-piece_text (Blank c) = c ∷ []
-piece_text (BlockOf t) = codes "/*" ++ (t ++ codes "*/")
-piece_text (LineOf t c) = codes "//" ++ (t ++ c ∷ [])
+-- a whole text, as tokens and the comments between
+unfoldable pub Reads : List ℕ → List Token → List Remark → Type 0
+Reads text tokens remarks = ReadsOn true text tokens remarks
 
-unfoldable pub all_pieces : List Piece → Bool
-all_pieces [] = true
-all_pieces (p ∷ ps) = is_piece p && all_pieces ps
-
-unfoldable pub pieces_text : List Piece → List ℕ
-pieces_text [] = []
-pieces_text (p ∷ ps) = piece_text p ++ pieces_text ps
-
-unfoldable pub comments_of : List Piece → List Comment
-comments_of [] = []
-comments_of (Blank c ∷ ps) = comments_of ps
-comments_of (BlockOf t ∷ ps) = Block t ∷ comments_of ps
-comments_of (LineOf t c ∷ ps) = Line t ∷ comments_of ps
-
--- a run of these, with its comments
-pub record Trivia (text : List ℕ) (comments : List Comment) : Type 0 where
-  pub pieces : List Piece
-  pub each : all_pieces pieces ≡ true
-  pub is_text : text ≡ pieces_text pieces
-  pub are_comments : comments ≡ comments_of pieces
-
--- a text is trivia and longest tokens in turn, in the order of the list, and trivia at the end; no trivia stand before text between tags
-unfoldable pub Reads : List ℕ → List Token → List Comment → Type 0
-Reads text [] comments = Trivia text comments
-Reads text (x ∷ xs) comments =
-    (gap own rest : List ℕ) × (first later : List Comment) × (text ≡ gap ++ (own ++ rest)) × Trivia gap first × (goal x ≡ Child → gap ≡ []) × IsLongest x own rest × Reads rest xs later × (comments ≡ first ++ later)
-
--- what kind of token it is, whatever its value
-pub data Kind : Type 0 where
-  IsWord IsName IsPunct IsNumber IsStr IsClose IsRegex IsText IsPrivate IsQuoted IsTagName IsHashbang : Kind
-  IsTemplate IsTemplateRest : (opens : Bool) → Kind
-
-unfoldable pub kind : Token → Kind
-kind (Word w) = IsWord
-kind (Name n) = IsName
-kind (Punct p) = IsPunct
-kind (Number v) = IsNumber
-kind (Str u) = IsStr
-kind Close = IsClose
-kind (Regex s) = IsRegex
-kind (Text s) = IsText
-kind (Private n) = IsPrivate
-kind (Template o s) = IsTemplate o
-kind (TemplateRest o s) = IsTemplateRest o
-kind (Quoted s) = IsQuoted
-kind (TagName s) = IsTagName
-kind (Hashbang s) = IsHashbang
-
--- two lists of tokens have the same kinds
-unfoldable pub Alike : List Token → List Token → Type 0
-Alike [] [] = Unit {0}
-Alike [] (y ∷ ys) = ⊥
-Alike (x ∷ xs) [] = ⊥
-Alike (x ∷ xs) (y ∷ ys) = (kind x ≡ kind y) × Alike xs ys
+unfoldable pub kinds_of : List Token → List Kind
+kinds_of [] = []
+kinds_of (x ∷ xs) = x.kind ∷ kinds_of xs

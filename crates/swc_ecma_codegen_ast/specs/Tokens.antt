@@ -1,123 +1,118 @@
--- Tokens, how each is spelled, and the longest match.
-use Rattle.std.specs.Prelude.{◌≡◌, ℕ, Bool, true, false, List, [], ◌∷◌, ◌++◌, ◌||◌, ◌&&◌, not, ◌==◌, codes}
-use Rattle.swc_ecma_codegen_ast.specs.Chars.{is_name, is_same, is_among, is_part, is_empty, begins, begins_digit}
-use Rattle.swc_ecma_codegen_ast.specs.Shapes.{is_string, string_value, is_regex, is_number, is_private, is_template, is_template_rest, is_quoted, is_tag_name, is_hashbang}
+-- Tokens: a kind and a value, the goal under which a kind is read, and how each is spelled.
+use Rattle.std.specs.Prelude.{◌≡◌, ℕ, Bool, true, List}
+use Rattle.swc_ecma_codegen_ast.specs.declared.kinds.Kind.{Kind}
+use Rattle.swc_ecma_codegen_ast.specs.declared.kinds.Kind.TheVariants.{Word, Name, PrivateName, Punctuator, Number, BigInt, Str, Regex, Template, TemplateRest, Close, JsxName, JsxString, JsxText, JsxOpen, Hashbang}
+use Rattle.swc_ecma_codegen_ast.specs.Names.{is_word, is_name, name_value, is_private_name, private_name_value}
+use Rattle.swc_ecma_codegen_ast.specs.Punctuators.{is_punctuator}
+use Rattle.swc_ecma_codegen_ast.specs.Numbers.{is_number, number_value, is_big_integer, radix_of, big_digits}
+use Rattle.swc_ecma_codegen_ast.specs.Strings.{is_string, string_value}
+use Rattle.swc_ecma_codegen_ast.specs.RegularExpressions.{is_regex}
+use Rattle.swc_ecma_codegen_ast.specs.Templates.{is_template, is_template_rest, template_value}
+use Rattle.swc_ecma_codegen_ast.specs.Jsx.{is_jsx_name, is_jsx_string, is_jsx_text, is_jsx_open}
+use Rattle.swc_ecma_codegen_ast.specs.Hashbangs.{is_hashbang}
+use Rattle.swc_ecma_codegen_ast.specs.Texts.{is_same}
+use Rattle.std.specs.Prelude.{codes}
 
--- what may be read at a place
+-- Goal symbols of the lexical grammar: which tokens may be read at a place. ECMA-262, section 12.
 pub data Goal : Type 0 where
-  Ordinary Closing RegularExpression Child TemplateTail Attribute Tag FirstLine : Goal
-
--- a kind and a value
-pub data Token : Type 0 where
-  Word : (spelling : List ℕ) → Token
-  Name : (name : List ℕ) → Token
-  Punct : (spelling : List ℕ) → Token
-  Number : (spelling : List ℕ) → Token
-  Str : (units : List ℕ) → Token
-  Close : Token
-  Regex : (spelling : List ℕ) → Token
-  Text : (spelling : List ℕ) → Token
-  Private : (name : List ℕ) → Token
-  Template : (opens : Bool) → (spelling : List ℕ) → Token
-  TemplateRest : (opens : Bool) → (spelling : List ℕ) → Token
-  Quoted : (spelling : List ℕ) → Token
-  TagName : (spelling : List ℕ) → Token
-  Hashbang : (spelling : List ℕ) → Token
+  -- InputElementDiv
+  Ordinary : Goal
+  -- InputElementRegExp, where a regular expression stands
+  RegularExpression : Goal
+  -- InputElementTemplateTail
+  TemplateTail : Goal
+  -- InputElementHashbangOrRegExp, where a hashbang stands
+  FirstLine : Goal
+  -- the `>` that closes a list of types, a type assertion or a tag
+  Closing : Goal
+  -- a name in a tag, the string of an attribute, and the text between tags
+  InTag : Goal
+  Attribute : Goal
+  Child : Goal
 
 -- the goal under which a kind of token is read
-unfoldable pub goal : Token → Goal
-goal (Word w) = Ordinary
-goal (Name n) = Ordinary
-goal (Punct p) = Ordinary
-goal (Number v) = Ordinary
-goal (Str u) = Ordinary
+unfoldable pub goal : Kind → Goal
+goal Word = Ordinary
+goal Name = Ordinary
+goal PrivateName = Ordinary
+goal Punctuator = Ordinary
+goal Number = Ordinary
+goal BigInt = Ordinary
+goal Str = Ordinary
+goal Regex = RegularExpression
+goal (Template part) = Ordinary
+goal (TemplateRest part) = TemplateTail
 goal Close = Closing
-goal (Regex s) = RegularExpression
-goal (Text s) = Child
-goal (Private n) = Ordinary
-goal (Template o s) = Ordinary
-goal (TemplateRest o s) = TemplateTail
-goal (Quoted s) = Attribute
-goal (TagName s) = Tag
-goal (Hashbang s) = FirstLine
+goal JsxName = InTag
+goal JsxString = Attribute
+goal JsxText = Child
+goal JsxOpen = Ordinary
+goal Hashbang = FirstLine
 
-unfoldable pub punctuators : List (List ℕ)
-punctuators =
-    codes "{" ∷ codes "}" ∷ codes "(" ∷ codes ")" ∷ codes "[" ∷ codes "]" ∷ codes "." ∷ codes "..." ∷ codes ";" ∷ codes "," ∷
-    codes "<" ∷ codes ">" ∷ codes "<=" ∷ codes ">=" ∷ codes "==" ∷ codes "!=" ∷ codes "===" ∷ codes "!==" ∷
-    codes "+" ∷ codes "-" ∷ codes "*" ∷ codes "%" ∷ codes "**" ∷ codes "++" ∷ codes "--" ∷ codes "<<" ∷ codes ">>" ∷ codes ">>>" ∷
-    codes "&" ∷ codes "|" ∷ codes "^" ∷ codes "!" ∷ codes "~" ∷ codes "&&" ∷ codes "||" ∷ codes "??" ∷ codes "?" ∷ codes ":" ∷
-    codes "=" ∷ codes "+=" ∷ codes "-=" ∷ codes "*=" ∷ codes "%=" ∷ codes "**=" ∷ codes "<<=" ∷ codes ">>=" ∷ codes ">>>=" ∷
-    codes "&=" ∷ codes "|=" ∷ codes "^=" ∷ codes "&&=" ∷ codes "||=" ∷ codes "??=" ∷ codes "=>" ∷ codes "/" ∷ codes "/=" ∷
-    codes "?." ∷ codes "@" ∷ []
-
-unfoldable pub openers : List (List ℕ)
-openers = codes "//" ∷ codes "/*" ∷ codes "<!--" ∷ codes "-->" ∷ []
-
--- text between tags: neither `{`, `<`, `>` nor `}`
-unfoldable pub is_bare : ℕ → Bool
-is_bare c = not (((c == 123) || (c == 125)) || ((c == 60) || (c == 62)))
-
-unfoldable pub all_bare : List ℕ → Bool
-all_bare [] = true
-all_bare (c ∷ cs) = is_bare c && all_bare cs
-
--- a text has the shape of tokens of a kind
-unfoldable pub has_shape : Token → List ℕ → Bool
-has_shape (Word w) text = is_name text
-has_shape (Name n) text = is_name text
-has_shape (Punct p) text = is_among text punctuators
-has_shape (Number v) text = is_number text
-has_shape (Str u) text = is_string text
+-- a text has the shape of the tokens of a kind
+unfoldable pub has_shape : Kind → List ℕ → Bool
+has_shape Word text = is_word text
+has_shape Name text = is_name text
+has_shape PrivateName text = is_private_name text
+has_shape Punctuator text = is_punctuator text
+has_shape Number text = is_number text
+has_shape BigInt text = is_big_integer text
+has_shape Str text = is_string text
+has_shape Regex text = is_regex text
+has_shape (Template part) text = is_template part text
+has_shape (TemplateRest part) text = is_template_rest part text
 has_shape Close text = is_same text (codes ">")
-has_shape (Regex s) text = is_regex text
-has_shape (Text s) text = not (is_empty text) && all_bare text
-has_shape (Private n) text = is_private text
-has_shape (Template o s) text = is_template o text
-has_shape (TemplateRest o s) text = is_template_rest o text
-has_shape (Quoted s) text = is_quoted text
-has_shape (TagName s) text = is_tag_name text
-has_shape (Hashbang s) text = is_hashbang text
+has_shape JsxName text = is_jsx_name text
+has_shape JsxString text = is_jsx_string text
+has_shape JsxText text = is_jsx_text text
+has_shape JsxOpen text = is_jsx_open text
+has_shape Hashbang text = is_hashbang text
 
--- a text of that shape has a value
-unfoldable pub HasValue : Token → List ℕ → Type 0
-HasValue (Word w) text = text ≡ w
-HasValue (Name n) text = text ≡ n
-HasValue (Punct p) text = text ≡ p
-HasValue (Number v) text = text ≡ v
-HasValue (Str u) text = string_value text ≡ u
-HasValue Close text = Unit {0}
-HasValue (Regex s) text = text ≡ s
-HasValue (Text s) text = text ≡ s
-HasValue (Private n) text = text ≡ 35 ∷ n
-HasValue (Template o s) text = text ≡ s
-HasValue (TemplateRest o s) text = text ≡ s
-HasValue (Quoted s) text = text ≡ s
-HasValue (TagName s) text = text ≡ s
-HasValue (Hashbang s) text = text ≡ s
+-- what a token stands for: characters, the units of a string, or the radix and the digits of a big integer
+pub data Value : Type 0 where
+  Characters : (text : List ℕ) → Value
+  Units : (units : List ℕ) → Value
+  Digits : (radix : ℕ) → (digits : List ℕ) → Value
+
+-- what a text of that shape stands for
+unfoldable pub value_of : Kind → List ℕ → Value
+value_of Word text = Characters text
+value_of Name text = Characters (name_value text)
+value_of PrivateName text = Characters (private_name_value text)
+value_of Punctuator text = Characters text
+value_of Number text = Characters (number_value text)
+value_of BigInt text = Digits (radix_of text) (big_digits text)
+value_of Str text = Units (string_value text)
+value_of Regex text = Characters text
+value_of (Template part) text = Characters (template_value part text)
+value_of (TemplateRest part) text = Characters (template_value part text)
+value_of Close text = Characters text
+value_of JsxName text = Characters text
+value_of JsxString text = Characters text
+value_of JsxText text = Characters text
+value_of JsxOpen text = Characters text
+value_of Hashbang text = Characters text
+
+-- a kind and a value
+pub record Token : Type 0 where
+  pub kind : Kind
+  pub value : Value
+
+-- a word by its spelling, a name by its characters, a punctuator by its spelling
+unfoldable pub word : List ℕ → Token
+word spelling = record { kind = Word; value = Characters spelling }
+
+unfoldable pub name : List ℕ → Token
+name characters = record { kind = Name; value = Characters characters }
+
+unfoldable pub punctuator : List ℕ → Token
+punctuator spelling = record { kind = Punctuator; value = Characters spelling }
+
+-- the token of a kind that a text stands for
+unfoldable pub token_of : Kind → List ℕ → Token
+token_of kind text = record { kind = kind; value = value_of kind text }
 
 -- a text spells a token
 pub record Spells (token : Token) (text : List ℕ) : Type 0 where
-  pub shape : has_shape token text ≡ true
-  pub value : HasValue token text
-
--- A front of a text spells a token, where `rest` follows it: `?.` before a digit spells none.
-pub record Stands (token : Token) (front rest : List ℕ) : Type 0 where
-  pub spells : Spells token front
-  pub no_digit : front ≡ codes "?." → begins_digit rest ≡ false
-
-unfoldable pub is_number_token : Token → Bool
-is_number_token (Number v) = true
-is_number_token x = false
-
--- a text goes on with a name or a number
-unfoldable pub goes_on : List ℕ → Bool
-goes_on [] = false
-goes_on (c ∷ cs) = is_part c || (c == 92)
-
--- No longer front is a token of this goal, no comment opens here (but in text between tags), and a number is not followed by a name.
-pub record IsLongest (token : Token) (text rest : List ℕ) : Type 0 where
-  pub stands : Stands token text rest
-  pub longest : (other : Token) (more left : List ℕ) → goal other ≡ goal token → rest ≡ more ++ left → Stands other (text ++ more) left → more ≡ []
-  pub no_comment : (goal token ≡ Child → ⊥) → (opener : List ℕ) → is_among opener openers ≡ true → begins opener (text ++ rest) ≡ false
-  pub number_ends : is_number_token token ≡ true → goes_on rest ≡ false
+  pub shape : has_shape token.kind text ≡ true
+  pub value : value_of token.kind text ≡ token.value

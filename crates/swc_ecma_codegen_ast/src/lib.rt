@@ -3,7 +3,9 @@
 #![tactic(auto)]
 
 pub mod comments;
+pub mod kinds;
 pub mod mapper;
+pub mod reading_laws;
 
 pub use swc_ecma_codegen_tree::{
     AnyNode, AssignOp, BinExpr, BinaryOp, BytePos, ComputedPropName, CondExpr, DUMMY_SP, EmptyStmt,

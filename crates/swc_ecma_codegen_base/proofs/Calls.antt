@@ -4,7 +4,7 @@ use Rattle.std.specs.Str.{chars}
 use Rattle.swc_ecma_codegen_tree.specs.declared.errors.Error.{Error}
 use Rattle.swc_ecma_codegen_tree.specs.declared.errors.Error.TheVariants.{Failed}
 use Rattle.swc_ecma_codegen_util.specs.declared.config.Config.{Config}
-use Rattle.swc_ecma_codegen_ast.specs.Reads.{Kind}
+use Rattle.swc_ecma_codegen_ast.specs.declared.kinds.Kind.{Kind}
 use Rattle.swc_ecma_codegen_ast.specs.GapRules as rules
 use Rattle.swc_ecma_codegen_ast.specs.GapRules.{fuses}
 use Rattle.swc_ecma_codegen_text_writer.specs.Sheet.{Item, Semi, Space, Keyword, Operator, Param, Property, Line, Lit, Comment, StrLit, Str, Symbol, Punct, Position, Commit, Deeper, Shallower, Sheet, effect, appended, started, indented, written, ended, Writes, Refuses, earlier, stopped}
@@ -13,8 +13,8 @@ use Rattle.swc_ecma_codegen_base.specs.declared.guard.Last.{Last}
 use Rattle.swc_ecma_codegen_base.specs.declared.guard.Last.TheVariants as last
 use Rattle.swc_ecma_codegen_base.specs.Last.{last_at}
 use Rattle.swc_ecma_codegen_base.specs.View.{env_of, state_of}
-use Rattle.swc_ecma_codegen_base.specs.Run.{Plan, Part, State, Step, Guard, Token, Plain, IsRefused, Follows, Emits, put, step, text_of, after_token, after_plain}
-use Rattle.swc_ecma_codegen_base.proofs.Emitting.{emits_step, emits_refused}
+use Rattle.swc_ecma_codegen_base.specs.Run.{Plan, Part, when_minified, no_part, State, Step, Guard, Token, Plain, IsRefused, Follows, Emits, put, step, text_of, after_token, after_plain}
+use Rattle.swc_ecma_codegen_base.proofs.Emitting.{emits_step, emits_refused, follows_same, minified_same, pretty_same}
 
 -- ---- what no call changes
 
@@ -125,3 +125,55 @@ pub called : (kind : Kind) (item : Item) (config : Config) (e f : LowerEmitter) 
     → Emits (step (Token kind item)) (state_of config old e) (state_of config new f) r
 unfolding put IsRefused
 called kind item config e f old new l answer r = step_called (Token kind item) item config e f old new l answer r (λ s. refl) (λ s err z h. h)
+
+-- a call that writes no token
+pub called_plain : (item : Item) (config : Config) (e f : LowerEmitter) (old new : Sheet) (l : Last) (answer r : Result (Unit {0}) Error)
+    → e.failed ≡ false → Writes item old new answer → OnOk answer (f ≡ record e { last = l }) → OnErr answer (f ≡ record e { failed = true }) → r ≡ answer
+    → last_at l ≡ after_plain item (last_at e.last)
+    → Emits (step (Plain item)) (state_of config old e) (state_of config new f) r
+unfolding put IsRefused
+called_plain item config e f old new l answer r = step_called (Plain item) item config e f old new l answer r (λ s. refl) (λ s err z h. h)
+
+guarded_put : (t : List ℕ) (s : State) → fuses s.last (chars t) ≡ true → put (Guard t) s ≡ record s { sheet = effect Space s.sheet; last = rules.Apart }
+unfolding put
+guarded_put t s h = ap (λ b. cond b (record s { sheet = effect Space s.sheet; last = rules.Apart }) s) h
+
+passed_put : (t : List ℕ) (s : State) → fuses s.last (chars t) ≡ false → put (Guard t) s ≡ s
+unfolding put
+passed_put t s h = ap (λ b. cond b (record s { sheet = effect Space s.sheet; last = rules.Apart }) s) h
+
+-- the last token and a text don't fuse, and nothing is done
+pub passed : (t : List ℕ) (a : State) → a.failed ≡ false → fuses a.last (chars t) ≡ false → Emits (step (Guard t)) a a (Ok tt)
+passed t a fresh h = emits_step (Guard t) a a fresh (sym (passed_put t a h))
+
+-- they fuse, and a blank is written
+pub guarded : (t : List ℕ) (config : Config) (e f : LowerEmitter) (old new : Sheet) (answer r : Result (Unit {0}) Error)
+    → e.failed ≡ false → Writes Space old new answer → OnOk answer (f ≡ record e { last = last.Apart }) → OnErr answer (f ≡ record e { failed = true }) → r ≡ answer
+    → fuses (last_at e.last) (chars t) ≡ true
+    → Emits (step (Guard t)) (state_of config old e) (state_of config new f) r
+unfolding Writes IsRefused last_at
+guarded t config e f old new (Ok u) r fresh w ok err eq h =
+    let P : Result (Unit {0}) Error → Type 0 = λ z. Emits (step (Guard t)) (state_of config old e) (state_of config new f) z in
+    let there : State = state_of config old e in
+    let q : state_of config new f ≡ put (Guard t) there =
+    ap (λ (z : LowerEmitter). state_of config new z) ok
+    ∙ (λ i. record { env = record { config = config; keeps_invalid = (ap (λ (s : Sheet). s.keeps_invalid) w.1 ∙ effect_keeps Space old) i }; sheet = w.1 i; last = rules.Apart; failed = e.failed })
+    ∙ sym (guarded_put t there h) in
+    subst P (sym eq) (emits_step (Guard t) there (state_of config new f) fresh q)
+guarded t config e f old new (Err er) r fresh w ok err eq h =
+    let P : Result (Unit {0}) Error → Type 0 = λ z. Emits (step (Guard t)) (state_of config old e) (state_of config new f) z in
+    let there : State = state_of config old e in
+    let q : state_of config new f ≡ record there { sheet = new; failed = true } =
+    ap (λ (z : LowerEmitter). state_of config new z) err
+    ∙ (λ i. record { env = record { config = config; keeps_invalid = refuses_keeps old new w i }; sheet = new; last = last_at e.last; failed = true }) in
+    subst P (sym eq) (emits_refused (Guard t) er there (state_of config new f) fresh q (h, w))
+
+-- ---- what is done unless minified
+
+pub skipped : (part : Part) (a : State) → a.env.config.minify ≡ true → Emits (when_minified no_part part) a a (Ok tt)
+unfolding no_part
+skipped part a h rest c r k = follows_same (when_minified no_part part rest) rest a c r (minified_same no_part part rest a.env h) k
+
+pub not_skipped : (part : Part) (a b : State) (r : Result (Unit {0}) Error) → a.env.config.minify ≡ false → Emits part a b r → Emits (when_minified no_part part) a b r
+not_skipped part a b (Ok u) h k = λ rest c r f. follows_same (when_minified no_part part rest) (part rest) a c r (pretty_same no_part part rest a.env h) (k rest c r f)
+not_skipped part a b (Err e) h k = λ rest. follows_same (when_minified no_part part rest) (part rest) a b (Err e) (pretty_same no_part part rest a.env h) (k rest)

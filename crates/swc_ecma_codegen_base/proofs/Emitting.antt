@@ -29,7 +29,7 @@ halts_later x f (stopped h) = stopped (record { front = x ∷ h.front; step = h.
 halts_later x f (reached h r m) = reached f r m
 
 -- a step that is made, and then the rest
-follows_step : (x : Step) (rest : Plan) (a c : State) (r : Result (Unit {0}) Error) → a.failed ≡ false → Follows rest (put x a) c r → Follows (step x rest) a c r
+pub follows_step : (x : Step) (rest : Plan) (a c : State) (r : Result (Unit {0}) Error) → a.failed ≡ false → Follows rest (put x a) c r → Follows (step x rest) a c r
 unfolding Follows step run steps_of refusal_of
 follows_step x rest a c (Ok u) f h = let P : Env → Type 0 = λ v. (refusal_of (rest v) ≡ None) × (c ≡ run (steps_of (rest v)) (put x a)) in subst P (put_env x a) h
 follows_step x rest a c (Err e) f h = let P : Env → Type 0 = λ v. Halts (rest v) e (put x a) c in halts_later x f (subst P (put_env x a) h)

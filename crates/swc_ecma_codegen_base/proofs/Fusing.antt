@@ -4,8 +4,9 @@ use Rattle.std.specs.Cmp.{both_ways}
 use Rattle.std.specs.List.{list_any}
 use Rattle.std.specs.Str.{bytes_eq}
 use Rattle.std.proofs.lemmas.Bool.{or_cases, or_parts, and_parts, eqb-true, eq-eqb, ne_eqb, leb-false, false_from_ne_true}
-use Rattle.swc_ecma_codegen_ast.specs.Chars.{is_same, begins, begins_digit, some_begins, is_digit}
-use Rattle.swc_ecma_codegen_ast.specs.Tokens.{punctuators}
+use Rattle.swc_ecma_codegen_ast.specs.Chars.{begins_digit, is_digit}
+use Rattle.swc_ecma_codegen_ast.specs.Texts.{is_same, begins, some_begins}
+use Rattle.swc_ecma_codegen_ast.specs.Punctuators.{punctuators}
 use Rattle.swc_ecma_codegen_ast.specs.GapRules.{grows, is_choice, mark_fuses}
 
 pub and-true : (b : Bool) → (b && true) ≡ b

@@ -1,3 +1,4 @@
 pub mod Emitting
 pub mod Calls
+pub mod Spelled
 pub mod Fusing

@@ -4,11 +4,12 @@ use Rattle.std.specs.Str.{chars}
 use Rattle.swc_ecma_codegen_tree.specs.declared.errors.Error.{Error}
 use Rattle.swc_ecma_codegen_tree.specs.declared.errors.Error.TheVariants.{Writer, OutOfMemory, UnsupportedNode, BadShape, NameOutOfTarget, PositionTooLarge, Failed}
 use Rattle.swc_ecma_codegen_util.specs.declared.config.Config.{Config}
-use Rattle.swc_ecma_codegen_ast.specs.Reads.{Kind, IsWord, IsName, IsPunct, IsNumber, IsStr, IsClose, IsRegex, IsText, IsPrivate, IsQuoted, IsTagName, IsHashbang, IsTemplate, IsTemplateRest}
-use Rattle.swc_ecma_codegen_ast.specs.Tokens as token
+use Rattle.swc_ecma_codegen_ast.specs.declared.kinds.Kind.{Kind}
+use Rattle.swc_ecma_codegen_ast.specs.declared.kinds.Kind.TheVariants.{Punctuator}
 use Rattle.swc_ecma_codegen_ast.specs.GapRules.{Last, Apart, fuses, last_after}
 use Rattle.swc_ecma_codegen_text_writer.specs.Sheet.{Item, Semi, Space, Keyword, Operator, Param, Property, Line, Lit, Comment, StrLit, Str, Symbol, Punct, Position, Commit, Deeper, Shallower, Sheet, effect, Refuses}
-use Rattle.swc_ecma_codegen_text_writer.specs.Told.{Rises, IsFront}
+use Rattle.swc_ecma_codegen_text_writer.specs.Told.{Rises}
+use Rattle.swc_ecma_codegen_literals.specs.ValidNames.{has_byte}
 
 -- a step of an emission
 pub data Step : Type 0 where
@@ -41,31 +42,14 @@ text_of Commit = []
 text_of Deeper = []
 text_of Shallower = []
 
--- a token of a kind, spelled so
-unfoldable pub token_of : Kind → List ℕ → token.Token
-token_of IsWord t = token.Word t
-token_of IsName t = token.Name t
-token_of IsPunct t = token.Punct t
-token_of IsNumber t = token.Number t
-token_of IsStr t = token.Str t
-token_of IsClose t = token.Close
-token_of IsRegex t = token.Regex t
-token_of IsText t = token.Text t
-token_of IsPrivate t = token.Private t
-token_of IsQuoted t = token.Quoted t
-token_of IsTagName t = token.TagName t
-token_of IsHashbang t = token.Hashbang t
-token_of (IsTemplate opens) t = token.Template opens t
-token_of (IsTemplateRest opens) t = token.TemplateRest opens t
-
 -- the characters of a token's text; a punctuator is ASCII, so its bytes are its characters
 unfoldable pub spelling : Kind → List ℕ → List ℕ
-spelling IsPunct t = t
+spelling Punctuator t = t
 spelling kind t = chars t
 
 -- the last token after one of a kind, spelled so
 unfoldable pub after_token : Kind → List ℕ → Last → Last
-after_token kind t last = last_after last (token_of kind (spelling kind t)) (spelling kind t)
+after_token kind t last = last_after last kind (spelling kind t)
 
 -- a blank and a line end part the last token from the next one
 unfoldable pub after_plain : Item → Last → Last
@@ -99,9 +83,8 @@ run [] s = s
 run (x ∷ xs) s = run xs (put x s)
 
 -- a name with a backslash
-unfoldable pub has_backslash : List ℕ → Bool
-has_backslash [] = false
-has_backslash (c ∷ cs) = (c == 92) || has_backslash cs
+abbrev pub has_backslash : List ℕ → Bool
+has_backslash name = has_byte 92 name
 
 -- a step is refused: its call of the writer is, or memory for a name with a backslash
 unfoldable pub IsRefused : Step → Error → State → Sheet → Type 0

@@ -3,29 +3,30 @@ use Rattle.std.specs.Prelude.{ℕ, ◌-◌, ◌==◌, Bool, true, false, if◌th
 use Rattle.swc_ecma_codegen_tree.specs.declared.positions.BytePos.{BytePos}
 use Rattle.swc_ecma_codegen_tree.specs.declared.positions.Span.{Span}
 use Rattle.swc_ecma_codegen_tree.specs.Spans.{dummy_span}
-use Rattle.swc_ecma_codegen_ast.specs.Reads.{IsWord, IsName, IsPunct}
+use Rattle.swc_ecma_codegen_ast.specs.declared.kinds.Kind.TheVariants.{Word, Name, Punctuator}
 use Rattle.swc_ecma_codegen_text_writer.specs.Sheet.{Semi, Space, Keyword, Operator, Line, Symbol, Punct, Position, Commit}
+use Rattle.swc_ecma_codegen_literals.specs.ValidNames.{turned}
 use Rattle.swc_ecma_codegen_base.specs.Run.{Part, step, Guard, Token, Plain, Remake, when_minified, no_part}
 
 -- a keyword
 unfoldable pub keyword : Option Span → List ℕ → Part
-keyword span t rest = step (Guard t) (step (Token IsWord (Keyword span t)) rest)
+keyword span t rest = step (Guard t) (step (Token Word (Keyword span t)) rest)
 
 -- an operator that is a punctuator
 unfoldable pub operator : List ℕ → Part
-operator t rest = step (Guard t) (step (Token IsPunct (Operator None t)) rest)
+operator t rest = step (Guard t) (step (Token Punctuator (Operator None t)) rest)
 
 -- an operator that is a word
 unfoldable pub word_operator : List ℕ → Part
-word_operator t rest = step (Guard t) (step (Token IsWord (Operator None t)) rest)
+word_operator t rest = step (Guard t) (step (Token Word (Operator None t)) rest)
 
 -- a punctuator
 unfoldable pub punct : List ℕ → Part
-punct t rest = step (Guard t) (step (Token IsPunct (Punct None t)) rest)
+punct t rest = step (Guard t) (step (Token Punctuator (Punct None t)) rest)
 
 -- a semicolon that may be left out where it isn't needed
 unfoldable pub semi : Part
-semi rest = step (Guard (codes ";")) (step (Token IsPunct (Semi None)) rest)
+semi rest = step (Guard (codes ";")) (step (Token Punctuator (Semi None)) rest)
 
 -- a blank
 unfoldable pub space : Part
@@ -35,9 +36,13 @@ space rest = step (Plain Space) rest
 unfoldable pub formatting_space : Part
 formatting_space = when_minified no_part space
 
--- the line ends, unless minified
+-- the line ends, unless at a line's start
+unfoldable pub line_end : Part
+line_end rest = step (Plain Line) rest
+
+-- the same, unless minified
 unfoldable pub formatting_line : Part
-formatting_line = when_minified no_part (step (Plain Line))
+formatting_line = when_minified no_part line_end
 
 -- a semicolon that is held back is written
 unfoldable pub commit_pending_semi : Part
@@ -67,3 +72,23 @@ leading_comments pos rest = rest
 
 unfoldable pub trailing_comments : Bool → BytePos → Part
 trailing_comments prefix_space pos rest = rest
+
+-- A name by a text: its position is recorded, with the blank that is due before it.
+unfoldable pub symbol : Span → List ℕ → Part
+symbol span t rest = step (Guard t) (start_of span (step (Guard t) (step (Token Name (Symbol dummy_span t)) rest)))
+
+-- A name in which U+0000 after a backslash is left out.
+unfoldable pub valid_symbol : Span → List ℕ → Part
+valid_symbol span name rest = step (Remake name) (symbol span (turned name) rest)
+
+-- the text of a name, as the writer takes names
+unfoldable pub name_text : Span → List ℕ → Part
+name_text span name rest env = if env.keeps_invalid then symbol span name rest env else valid_symbol span name rest env
+
+-- `?` after an optional name
+unfoldable pub question : Bool → Part
+question optional rest = if optional then punct (codes "?") rest else rest
+
+-- a name with its comments
+unfoldable pub name : Span → List ℕ → Bool → Part
+name span sym optional rest = leading_comments span.lo (commit_pending_semi (name_text span sym (question optional rest)))

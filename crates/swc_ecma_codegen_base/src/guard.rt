@@ -3,9 +3,10 @@
 
 ghost use Rattle.std.specs.Prelude.{◌≡◌, ◌∷◌, [], codes, MatchOption};
 ghost use Rattle.std.specs.Str.{chars};
-ghost use Rattle.swc_ecma_codegen_ast.specs.Chars.{is_part, begins, begins_digit, is_among};
+ghost use Rattle.swc_ecma_codegen_ast.specs.Chars.{is_part, begins_digit};
+ghost use Rattle.swc_ecma_codegen_ast.specs.Texts.{begins};
 ghost use Rattle.swc_ecma_codegen_ast.specs.GapRules.{fuses, grows, mark_fuses};
-ghost use Rattle.swc_ecma_codegen_ast.specs.Reads.{IsPunct};
+ghost use Rattle.swc_ecma_codegen_ast.specs.declared.kinds.Kind.TheVariants.{Punctuator};
 ghost use Rattle.swc_ecma_codegen_base.specs.Run.{after_token};
 ghost use Rattle.swc_ecma_codegen_base.specs.Last.{last_at};
 
@@ -17,10 +18,12 @@ mod tests;
 /// The last token, as far as what follows may fuse with it.
 #[derive(Debug, Clone, Copy)]
 pub enum Last {
-    /// Something stands behind it, or nothing was written.
+    /// Nothing was written.
+    Start,
+    /// A blank, a line end or a comment was.
     Apart,
     /// A name or a keyword.
-    Word,
+    WordEnd,
     /// A punctuator, with its spelling.
     Mark(&'static str),
     /// `!` right after `<`.
@@ -30,7 +33,7 @@ pub enum Last {
 impl Last {
     /// The last token after a punctuator that nothing parts from this one.
     pub(crate) fn then_punct(self, text: &'static str) -> Last
-        ensures { last_at result ≡ after_token IsPunct text.now (last_at self) }
+        ensures { last_at result ≡ after_token Punctuator text.now (last_at self) }
     {
         match self {
             Last::Mark(last) if last == "<" && text == "!" => Last::LessBang,
@@ -46,8 +49,8 @@ impl Last {
             return false;
         };
         match self {
-            Last::Apart => false,
-            Last::Word => first == '\\' || is_part(first),
+            Last::Start | Last::Apart => false,
+            Last::WordEnd => first == '\\' || is_part(first),
             Last::Mark(mark) => mark_fuses(mark, first, rest),
             Last::LessBang => mark_fuses("!", first, rest) || first == '-' && begins_dash(rest),
         }

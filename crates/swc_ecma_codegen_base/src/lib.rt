@@ -1,7 +1,11 @@
 //! The lower emitter: it writes tokens, and what stands between them, and never calls a node's function.
 #![tactic(auto)]
 
+ghost use Rattle.std.specs.Prelude.{◌≡◌, false};
+
+mod comments;
 mod guard;
+mod names;
 mod tokens;
 
 pub use crate::guard::Last;
@@ -13,4 +17,25 @@ pub struct LowerEmitter {
     alloc: Global,
     last: Last,
     failed: bool,
+}
+
+impl LowerEmitter {
+    /// One that has written nothing.
+    pub fn new(alloc: Global) -> LowerEmitter
+        ensures last { result.last ≡ Last.Start }
+        ensures failed { result.failed ≡ false }
+    {
+        LowerEmitter {
+            alloc,
+            last: Last::Start,
+            failed: false,
+        }
+    }
+
+    /// Whether a call was refused.
+    pub fn is_failed(&self) -> bool
+        ensures { result ≡ self.now.failed }
+    {
+        self.failed
+    }
 }

@@ -1,17 +1,17 @@
 //! One call of the writer, and the blank that is due before it.
 
-ghost use Rattle.std.specs.Prelude.{◌≡◌, Some, None, OnOk, OnErr, Option, codes, false};
+ghost use Rattle.std.specs.Prelude.{◌≡◌, Some, None, OnOk, OnErr, Option, codes, true, false};
 ghost use Rattle.swc_ecma_codegen_tree.specs.Spans.{dummy_span};
 ghost use Rattle.swc_ecma_codegen_text_writer.specs.Sheet.{Semi, Space, Keyword, Operator, Line, Symbol, Punct, Position, Commit};
-ghost use Rattle.swc_ecma_codegen_ast.specs.Reads.{IsWord, IsName, IsPunct};
+ghost use Rattle.swc_ecma_codegen_ast.specs.declared.kinds.Kind.TheVariants.{Word, Name, Punctuator};
 ghost use Rattle.swc_ecma_codegen_base.specs.Run.{Emits, step, Guard, Token, Plain, refuse};
-ghost use Rattle.swc_ecma_codegen_base.specs.Words.{keyword, operator, word_operator, punct, semi, space, formatting_space, formatting_line, commit_pending_semi, position, position_before};
+ghost use Rattle.swc_ecma_codegen_base.specs.Words.{keyword, operator, word_operator, punct, semi, space, formatting_space, formatting_line, line_end, commit_pending_semi, position, position_before};
 ghost use Rattle.swc_ecma_codegen_base.specs.View.{state_of};
 
 use crate::LowerEmitter;
 use crate::guard::Last;
 use swc_ecma_codegen_text_writer::WriteJs;
-use swc_ecma_codegen_tree::{BytePos, Error, Result, Span};
+use swc_ecma_codegen_tree::{BytePos, DUMMY_SP, Error, Result, Span};
 use swc_ecma_codegen_util::config::Config;
 
 impl LowerEmitter {
@@ -33,8 +33,22 @@ impl LowerEmitter {
         }
     }
 
+    /// Comes to a node that can't be printed: nothing more is written.
+    #[tactic(auto, using(crate::proofs::Emitting::emits_refusal, crate::proofs::Emitting::emits_failed))]
+    pub fn refuse<W: WriteJs>(&mut self, cfg: &Config, wr: &W, error: Error) -> Result
+        ensures items { Emits (refuse error) (state_of cfg.now (W.sheet wr.now) self.old) (state_of cfg.now (W.sheet wr.now) self.new) result }
+    {
+        let _ = cfg;
+        let _ = wr;
+        if self.failed {
+            return Err(Error::Failed);
+        }
+        self.failed = true;
+        Err(error)
+    }
+
     /// Writes a blank where the last token and `text` would fuse.
-    #[tactic(auto, using(crate::proofs::Emitting::emits_failed, crate::proofs::Calls::level))]
+    #[tactic(auto, using(crate::proofs::Emitting::emits_failed, crate::proofs::Calls::guarded, crate::proofs::Calls::passed, crate::proofs::Calls::level))]
     pub(crate) fn guard<W: WriteJs>(&mut self, cfg: &Config, wr: &mut W, text: &str) -> Result
         ensures items { Emits (step (Guard text.now)) (state_of cfg.now (W.sheet wr.old) self.old) (state_of cfg.now (W.sheet wr.new) self.new) result }
         ensures level { OnOk result ((W.sheet wr.new).indentation ≡ (W.sheet wr.old).indentation) }
@@ -50,7 +64,7 @@ impl LowerEmitter {
         self.settle(answer, Last::Apart)
     }
 
-    #[tactic(auto, using(crate::proofs::Calls::called, crate::proofs::Calls::level))]
+    /// The call of a keyword.
     fn put_keyword<W: WriteJs>(
         &mut self,
         cfg: &Config,
@@ -59,11 +73,75 @@ impl LowerEmitter {
         text: &'static str,
     ) -> Result
         requires { self.old.failed ≡ false }
-        ensures items { Emits (step (Token IsWord (Keyword span text.now))) (state_of cfg.now (W.sheet wr.old) self.old) (state_of cfg.now (W.sheet wr.new) self.new) result }
+        ensures items { Emits (step (Token Word (Keyword span text.now))) (state_of cfg.now (W.sheet wr.old) self.old) (state_of cfg.now (W.sheet wr.new) self.new) result }
         ensures level { OnOk result ((W.sheet wr.new).indentation ≡ (W.sheet wr.old).indentation) }
     {
+        let _ = cfg;
         let answer = wr.write_keyword(span, text);
-        self.settle(answer, Last::Word)
+        self.settle(answer, Last::WordEnd)
+    }
+
+    /// The call of an operator that is a punctuator.
+    fn put_operator<W: WriteJs>(&mut self, cfg: &Config, wr: &mut W, text: &'static str) -> Result
+        requires { self.old.failed ≡ false }
+        ensures items { Emits (step (Token Punctuator (Operator None text.now))) (state_of cfg.now (W.sheet wr.old) self.old) (state_of cfg.now (W.sheet wr.new) self.new) result }
+        ensures level { OnOk result ((W.sheet wr.new).indentation ≡ (W.sheet wr.old).indentation) }
+    {
+        let _ = cfg;
+        let last = self.last.then_punct(text);
+        let answer = wr.write_operator(None, text);
+        self.settle(answer, last)
+    }
+
+    /// The call of an operator that is a word.
+    fn put_word_operator<W: WriteJs>(
+        &mut self,
+        cfg: &Config,
+        wr: &mut W,
+        text: &'static str,
+    ) -> Result
+        requires { self.old.failed ≡ false }
+        ensures items { Emits (step (Token Word (Operator None text.now))) (state_of cfg.now (W.sheet wr.old) self.old) (state_of cfg.now (W.sheet wr.new) self.new) result }
+        ensures level { OnOk result ((W.sheet wr.new).indentation ≡ (W.sheet wr.old).indentation) }
+    {
+        let _ = cfg;
+        let answer = wr.write_operator(None, text);
+        self.settle(answer, Last::WordEnd)
+    }
+
+    /// The call of a punctuator.
+    fn put_punct<W: WriteJs>(&mut self, cfg: &Config, wr: &mut W, text: &'static str) -> Result
+        requires { self.old.failed ≡ false }
+        ensures items { Emits (step (Token Punctuator (Punct None text.now))) (state_of cfg.now (W.sheet wr.old) self.old) (state_of cfg.now (W.sheet wr.new) self.new) result }
+        ensures level { OnOk result ((W.sheet wr.new).indentation ≡ (W.sheet wr.old).indentation) }
+    {
+        let _ = cfg;
+        let last = self.last.then_punct(text);
+        let answer = wr.write_punct(None, text);
+        self.settle(answer, last)
+    }
+
+    /// The call of a semicolon.
+    fn put_semi<W: WriteJs>(&mut self, cfg: &Config, wr: &mut W) -> Result
+        requires { self.old.failed ≡ false }
+        ensures items { Emits (step (Token Punctuator (Semi None))) (state_of cfg.now (W.sheet wr.old) self.old) (state_of cfg.now (W.sheet wr.new) self.new) result }
+        ensures level { OnOk result ((W.sheet wr.new).indentation ≡ (W.sheet wr.old).indentation) }
+    {
+        let _ = cfg;
+        let last = self.last.then_punct(";");
+        let answer = wr.write_semi(None);
+        self.settle(answer, last)
+    }
+
+    /// The call of a name.
+    pub(crate) fn put_symbol<W: WriteJs>(&mut self, cfg: &Config, wr: &mut W, text: &str) -> Result
+        requires { self.old.failed ≡ false }
+        ensures items { Emits (step (Token Name (Symbol dummy_span text.now))) (state_of cfg.now (W.sheet wr.old) self.old) (state_of cfg.now (W.sheet wr.new) self.new) result }
+        ensures level { OnOk result ((W.sheet wr.new).indentation ≡ (W.sheet wr.old).indentation) }
+    {
+        let _ = cfg;
+        let answer = wr.write_symbol(DUMMY_SP, text);
+        self.settle(answer, Last::WordEnd)
     }
 
     /// Writes a keyword.
@@ -81,5 +159,156 @@ impl LowerEmitter {
         self.guard(cfg, wr, text)?;
         self.put_keyword(cfg, wr, span, text)?;
         Ok(())
+    }
+
+    /// Writes an operator that is a punctuator.
+    #[tactic(auto, unfolding(crate::specs::Words::operator))]
+    pub fn operator<W: WriteJs>(&mut self, cfg: &Config, wr: &mut W, text: &'static str) -> Result
+        ensures items { Emits (operator text.now) (state_of cfg.now (W.sheet wr.old) self.old) (state_of cfg.now (W.sheet wr.new) self.new) result }
+        ensures level { OnOk result ((W.sheet wr.new).indentation ≡ (W.sheet wr.old).indentation) }
+    {
+        self.guard(cfg, wr, text)?;
+        self.put_operator(cfg, wr, text)?;
+        Ok(())
+    }
+
+    /// Writes an operator that is a word, as `in`.
+    #[tactic(auto, unfolding(crate::specs::Words::word_operator))]
+    pub fn word_operator<W: WriteJs>(
+        &mut self,
+        cfg: &Config,
+        wr: &mut W,
+        text: &'static str,
+    ) -> Result
+        ensures items { Emits (word_operator text.now) (state_of cfg.now (W.sheet wr.old) self.old) (state_of cfg.now (W.sheet wr.new) self.new) result }
+        ensures level { OnOk result ((W.sheet wr.new).indentation ≡ (W.sheet wr.old).indentation) }
+    {
+        self.guard(cfg, wr, text)?;
+        self.put_word_operator(cfg, wr, text)?;
+        Ok(())
+    }
+
+    /// Writes a punctuator.
+    #[tactic(auto, unfolding(crate::specs::Words::punct))]
+    pub fn punct<W: WriteJs>(&mut self, cfg: &Config, wr: &mut W, text: &'static str) -> Result
+        ensures items { Emits (punct text.now) (state_of cfg.now (W.sheet wr.old) self.old) (state_of cfg.now (W.sheet wr.new) self.new) result }
+        ensures level { OnOk result ((W.sheet wr.new).indentation ≡ (W.sheet wr.old).indentation) }
+    {
+        self.guard(cfg, wr, text)?;
+        self.put_punct(cfg, wr, text)?;
+        Ok(())
+    }
+
+    /// Writes a semicolon that may be left out where it isn't needed.
+    #[tactic(auto, unfolding(crate::specs::Words::semi))]
+    pub fn semi<W: WriteJs>(&mut self, cfg: &Config, wr: &mut W) -> Result
+        ensures items { Emits (semi) (state_of cfg.now (W.sheet wr.old) self.old) (state_of cfg.now (W.sheet wr.new) self.new) result }
+        ensures level { OnOk result ((W.sheet wr.new).indentation ≡ (W.sheet wr.old).indentation) }
+    {
+        self.guard(cfg, wr, ";")?;
+        self.put_semi(cfg, wr)?;
+        Ok(())
+    }
+
+    /// Writes a blank.
+    pub fn space<W: WriteJs>(&mut self, cfg: &Config, wr: &mut W) -> Result
+        ensures items { Emits (space) (state_of cfg.now (W.sheet wr.old) self.old) (state_of cfg.now (W.sheet wr.new) self.new) result }
+        ensures level { OnOk result ((W.sheet wr.new).indentation ≡ (W.sheet wr.old).indentation) }
+    {
+        let _ = cfg;
+        if self.failed {
+            return Err(Error::Failed);
+        }
+        let answer = wr.write_space();
+        self.settle(answer, Last::Apart)
+    }
+
+    /// Ends the line, unless at a line's start.
+    pub fn line<W: WriteJs>(&mut self, cfg: &Config, wr: &mut W) -> Result
+        ensures items { Emits (line_end) (state_of cfg.now (W.sheet wr.old) self.old) (state_of cfg.now (W.sheet wr.new) self.new) result }
+        ensures level { OnOk result ((W.sheet wr.new).indentation ≡ (W.sheet wr.old).indentation) }
+    {
+        let _ = cfg;
+        if self.failed {
+            return Err(Error::Failed);
+        }
+        let answer = wr.write_line();
+        self.settle(answer, Last::Apart)
+    }
+
+    /// Writes a semicolon that is held back.
+    pub fn commit_pending_semi<W: WriteJs>(&mut self, cfg: &Config, wr: &mut W) -> Result
+        ensures items { Emits (commit_pending_semi) (state_of cfg.now (W.sheet wr.old) self.old) (state_of cfg.now (W.sheet wr.new) self.new) result }
+        ensures level { OnOk result ((W.sheet wr.new).indentation ≡ (W.sheet wr.old).indentation) }
+    {
+        let _ = cfg;
+        if self.failed {
+            return Err(Error::Failed);
+        }
+        let last = self.last;
+        let answer = wr.commit_pending_semi();
+        self.settle(answer, last)
+    }
+
+    /// Records a position.
+    fn record<W: WriteJs>(&mut self, cfg: &Config, wr: &mut W, pos: BytePos) -> Result
+        ensures items { Emits (step (Plain (Position pos))) (state_of cfg.now (W.sheet wr.old) self.old) (state_of cfg.now (W.sheet wr.new) self.new) result }
+        ensures level { OnOk result ((W.sheet wr.new).indentation ≡ (W.sheet wr.old).indentation) }
+    {
+        let _ = cfg;
+        if self.failed {
+            return Err(Error::Failed);
+        }
+        let last = self.last;
+        let answer = wr.add_srcmap(pos);
+        self.settle(answer, last)
+    }
+
+    /// Writes a blank, unless the settings are to minify.
+    #[tactic(auto, unfolding(crate::specs::Words::formatting_space), using(crate::proofs::Calls::skipped, crate::proofs::Calls::not_skipped))]
+    pub fn formatting_space<W: WriteJs>(&mut self, cfg: &Config, wr: &mut W) -> Result
+        ensures items { Emits formatting_space (state_of cfg.now (W.sheet wr.old) self.old) (state_of cfg.now (W.sheet wr.new) self.new) result }
+        ensures level { OnOk result ((W.sheet wr.new).indentation ≡ (W.sheet wr.old).indentation) }
+    {
+        if cfg.minify {
+            return Ok(());
+        }
+        self.space(cfg, wr)
+    }
+
+    /// Ends the line, unless the settings are to minify.
+    #[tactic(auto, unfolding(crate::specs::Words::formatting_line), using(crate::proofs::Calls::skipped, crate::proofs::Calls::not_skipped))]
+    pub fn formatting_line<W: WriteJs>(&mut self, cfg: &Config, wr: &mut W) -> Result
+        ensures items { Emits formatting_line (state_of cfg.now (W.sheet wr.old) self.old) (state_of cfg.now (W.sheet wr.new) self.new) result }
+        ensures level { OnOk result ((W.sheet wr.new).indentation ≡ (W.sheet wr.old).indentation) }
+    {
+        if cfg.minify {
+            return Ok(());
+        }
+        self.line(cfg, wr)
+    }
+
+    /// Records a position, unless it is none.
+    #[tactic(auto, unfolding(crate::specs::Words::position))]
+    pub fn position<W: WriteJs>(&mut self, cfg: &Config, wr: &mut W, pos: BytePos) -> Result
+        ensures items { Emits (position pos) (state_of cfg.now (W.sheet wr.old) self.old) (state_of cfg.now (W.sheet wr.new) self.new) result }
+        ensures level { OnOk result ((W.sheet wr.new).indentation ≡ (W.sheet wr.old).indentation) }
+    {
+        if pos.0 == 0 {
+            return Ok(());
+        }
+        self.record(cfg, wr, pos)
+    }
+
+    /// Records the position before one, unless that one is none.
+    #[tactic(auto, unfolding(crate::specs::Words::position_before))]
+    pub fn position_before<W: WriteJs>(&mut self, cfg: &Config, wr: &mut W, pos: BytePos) -> Result
+        ensures items { Emits (position_before pos) (state_of cfg.now (W.sheet wr.old) self.old) (state_of cfg.now (W.sheet wr.new) self.new) result }
+        ensures level { OnOk result ((W.sheet wr.new).indentation ≡ (W.sheet wr.old).indentation) }
+    {
+        if pos.0 == 0 {
+            return Ok(());
+        }
+        self.record(cfg, wr, BytePos(pos.0 - 1))
     }
 }

@@ -1,0 +1,4 @@
+pub mod Sheets
+mod Steps
+pub mod Text
+mod Walks

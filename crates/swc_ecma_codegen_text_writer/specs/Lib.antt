@@ -1,2 +1,4 @@
+pub mod Sent
 pub mod Sheet
 pub mod Told
+pub mod View

@@ -4,6 +4,11 @@
 ghost use Rattle.std.specs.Prelude.{◌≡◌, ◌<◌};
 ghost use Rattle.swc_ecma_codegen_text_writer.specs.Sheet.{Sheet, Writes, Semi, Space, Keyword, Operator, Param, Property, Line, Lit, Comment, StrLit, Str, Symbol, Punct, Position, Commit, Deeper, Shallower};
 
+mod basic_impl;
+mod logs;
+mod outlet;
+
+pub use crate::basic_impl::JsWriter;
 use swc_ecma_codegen_tree::{BytePos, Result, Span};
 
 /// A writer of tokens. Its value is a sheet, and each call has one effect on it, or is refused.

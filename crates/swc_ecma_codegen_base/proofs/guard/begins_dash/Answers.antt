@@ -1,5 +1,5 @@
 use Rattle.std.proofs.Common.{◌==◌, codes, sym, ap, ◌∙◌}
-use Rattle.swc_ecma_codegen_ast.specs.Chars.{begins}
+use Rattle.swc_ecma_codegen_ast.specs.Texts.{begins}
 use Rattle.swc_ecma_codegen_base.proofs.Fusing.{and-true, eq_swap}
 use Rattle.swc_ecma_codegen_base.proofs.guard.begins_dash.Goals as goal
 

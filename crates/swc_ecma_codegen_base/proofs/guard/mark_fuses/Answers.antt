@@ -1,8 +1,9 @@
 use Rattle.std.proofs.Common.{◌≡◌, ◌⊎◌, inl, inr, ◌||◌, true, false, not, ℕ, List, codes, refl, ap, ◌∙◌, sym, arith}
 use Rattle.std.specs.Str.{chars}
 use Rattle.std.proofs.lemmas.Slice.Eq.{bytes_eq-Decides}
-use Rattle.swc_ecma_codegen_ast.specs.Chars.{is_same, begins, some_begins, begins_digit, is_digit}
-use Rattle.swc_ecma_codegen_ast.specs.Tokens.{punctuators}
+use Rattle.swc_ecma_codegen_ast.specs.Chars.{begins_digit, is_digit}
+use Rattle.swc_ecma_codegen_ast.specs.Texts.{is_same, begins, some_begins}
+use Rattle.swc_ecma_codegen_ast.specs.Punctuators.{punctuators}
 use Rattle.swc_ecma_codegen_ast.specs.GapRules.{grows, is_choice, mark_fuses}
 use Rattle.swc_ecma_codegen_base.proofs.Fusing.{same_bytes, fuses_digit, fuses_plain}
 use Rattle.swc_ecma_codegen_base.proofs.guard.mark_fuses.Goals as goal

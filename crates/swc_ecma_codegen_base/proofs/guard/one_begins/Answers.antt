@@ -1,5 +1,5 @@
 use Rattle.std.proofs.Common.{codes, refl, ◌∙◌, sym}
-use Rattle.swc_ecma_codegen_ast.specs.Tokens.{punctuators}
+use Rattle.swc_ecma_codegen_ast.specs.Punctuators.{punctuators}
 use Rattle.swc_ecma_codegen_base.proofs.Fusing.{is_in, all_pass, all_in, alike, firsts, contained, grows_one}
 use Rattle.swc_ecma_codegen_base.proofs.guard.one_begins.Goals as goal
 

@@ -1,7 +1,7 @@
 use Rattle.std.proofs.Common.{◌≡◌, true, false, [], ◌∷◌, ℕ, refl, ap, ◌∙◌, sym, arith}
 use Rattle.std.proofs.lemmas.Bool.{ne_eqb}
 use Rattle.swc_ecma_codegen_ast.specs.GapRules.{grows}
-use Rattle.swc_ecma_codegen_ast.specs.Tokens.{punctuators}
+use Rattle.swc_ecma_codegen_ast.specs.Punctuators.{punctuators}
 use Rattle.swc_ecma_codegen_base.proofs.Fusing.{is_in, all_pass, all_in, alike, after, firsts, long, passes, in_arm, none_of, in_only, in_first, in_second, grows_three, grows_three_none, grows_second_none}
 use Rattle.swc_ecma_codegen_base.proofs.guard.three_begin.Goals as goal
 

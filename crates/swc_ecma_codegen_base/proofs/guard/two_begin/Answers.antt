@@ -1,6 +1,6 @@
 use Rattle.std.proofs.Common.{◌≡◌, ◌==◌, ◌&&◌, Bool, true, false, [], ◌∷◌, ℕ, refl, ap, ◌∙◌, sym, arith}
 use Rattle.swc_ecma_codegen_ast.specs.GapRules.{grows}
-use Rattle.swc_ecma_codegen_ast.specs.Tokens.{punctuators}
+use Rattle.swc_ecma_codegen_ast.specs.Punctuators.{punctuators}
 use Rattle.swc_ecma_codegen_base.proofs.Fusing.{is_in, all_pass, all_in, alike, after, firsts, long, passes, in_arm, none_of, in_neither, contained, and-true, and-false, in_only, in_first, in_second, grows_two, grows_two_none}
 use Rattle.swc_ecma_codegen_base.proofs.guard.two_begin.Goals as goal
 use Rattle.swc_ecma_codegen_base.proofs.guard.two_begin.Goals.{then-second-eq61-2, else-second-eq61-2}

@@ -1,0 +1,24 @@
+-- What is done where a setting says so.
+use Rattle.std.proofs.Common.{◌≡◌, true, false, cond, Result, Ok, Err, refl, ap}
+use Rattle.swc_ecma_codegen_tree.specs.declared.errors.Error.{Error}
+use Rattle.swc_ecma_codegen_base.specs.Run.{Env, Plan, State, Emits}
+use Rattle.swc_ecma_codegen_base.specs.Words.{commit_pending_semi}
+use Rattle.swc_ecma_codegen_base.proofs.Emitting.{follows_same}
+use Rattle.swc_ecma_codegen.specs.Programs.{last_semi}
+
+kept_same : (rest : Plan) (env : Env) → env.config.omit_last_semi ≡ true → last_semi rest env ≡ rest env
+unfolding last_semi
+kept_same rest env h = ap (λ b. cond b (rest env) (commit_pending_semi rest env)) h
+
+committed_same : (rest : Plan) (env : Env) → env.config.omit_last_semi ≡ false → last_semi rest env ≡ commit_pending_semi rest env
+unfolding last_semi
+committed_same rest env h = ap (λ b. cond b (rest env) (commit_pending_semi rest env)) h
+
+-- the last semicolon is left out
+pub kept_back : (a : State) → a.env.config.omit_last_semi ≡ true → Emits last_semi a a (Ok tt)
+kept_back a h rest c r k = follows_same (last_semi rest) rest a c r (kept_same rest a.env h) k
+
+-- it is written
+pub committed : (a b : State) (r : Result (Unit {0}) Error) → a.env.config.omit_last_semi ≡ false → Emits commit_pending_semi a b r → Emits last_semi a b r
+committed a b (Ok u) h k = λ rest c r f. follows_same (last_semi rest) (commit_pending_semi rest) a c r (committed_same rest a.env h) (k rest c r f)
+committed a b (Err e) h k = λ rest. follows_same (last_semi rest) (commit_pending_semi rest) a b (Err e) (committed_same rest a.env h) (k rest)

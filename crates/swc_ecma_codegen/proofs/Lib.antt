@@ -1,0 +1,5 @@
+pub mod KindLaws
+pub mod SpaceLaws
+pub mod Laws
+pub mod Steps
+pub mod Asked

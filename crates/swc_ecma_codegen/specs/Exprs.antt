@@ -1,0 +1,157 @@
+-- What is written of each expression. A word is generic in what a link holds, X. It takes what is known of that:
+-- `asks` says what it answers, `items` what is written of it, where its parent puts it.
+use Rattle.std.specs.Prelude.{ℕ, ◌-◌, ◌==◌, Bool, true, false, if◌then◌else◌, List, codes, Option, Some, None, string_bytes}
+use Rattle.swc_ecma_codegen_tree.specs.declared.positions.BytePos.{BytePos}
+use Rattle.swc_ecma_codegen_tree.specs.declared.positions.Span.{Span}
+use Rattle.swc_ecma_codegen_tree.specs.declared.idents.Ident.{Ident}
+use Rattle.swc_ecma_codegen_tree.specs.declared.idents.IdentName.{IdentName}
+use Rattle.swc_ecma_codegen_tree.specs.declared.operators.UnaryOp.{UnaryOp}
+use Rattle.swc_ecma_codegen_tree.specs.declared.operators.BinaryOp.{BinaryOp}
+use Rattle.swc_ecma_codegen_tree.specs.declared.links.ExprBox.{ExprBox}
+use Rattle.swc_ecma_codegen_tree.specs.declared.exprs.ThisExpr as this_expr
+use Rattle.swc_ecma_codegen_tree.specs.declared.exprs.UnaryExpr.{UnaryExpr}
+use Rattle.swc_ecma_codegen_tree.specs.declared.exprs.UpdateExpr.{UpdateExpr}
+use Rattle.swc_ecma_codegen_tree.specs.declared.exprs.BinExpr.{BinExpr}
+use Rattle.swc_ecma_codegen_tree.specs.declared.exprs.MemberExpr.{MemberExpr}
+use Rattle.swc_ecma_codegen_tree.specs.declared.exprs.MemberProp.{MemberProp}
+use Rattle.swc_ecma_codegen_tree.specs.declared.exprs.MemberProp.TheVariants as member_props
+use Rattle.swc_ecma_codegen_tree.specs.declared.exprs.ComputedPropName.{ComputedPropName}
+use Rattle.swc_ecma_codegen_tree.specs.declared.exprs.CondExpr.{CondExpr}
+use Rattle.swc_ecma_codegen_tree.specs.declared.exprs.SeqExpr.{SeqExpr}
+use Rattle.swc_ecma_codegen_tree.specs.declared.exprs.ParenExpr.{ParenExpr}
+use Rattle.swc_ecma_codegen_tree.specs.declared.exprs.Expr.{Expr}
+use Rattle.swc_ecma_codegen_tree.specs.declared.exprs.Expr.TheVariants as exprs
+use Rattle.swc_ecma_codegen_tree.specs.Operators.{unary_text, binary_text, update_text}
+use Rattle.swc_ecma_codegen_tree.specs.Spans.{expr_span}
+use Rattle.swc_ecma_codegen_util.specs.Starts as starts
+use Rattle.swc_ecma_codegen_base.specs.Run.{Part}
+use Rattle.swc_ecma_codegen_base.specs.Words.{keyword, operator, word_operator, punct, space, formatting_space, commit_pending_semi, start_of, end_of, last_of, leading_comments, trailing_comments, name}
+use Rattle.swc_ecma_codegen.specs.declared.nodes.Place.{Place}
+use Rattle.swc_ecma_codegen.specs.declared.nodes.Place.TheVariants.{Plain, LeftOperand}
+use Rattle.swc_ecma_codegen.specs.Answers.{Answers}
+use Rattle.swc_ecma_codegen.specs.Operands.{is_word_op, space_after, operand_space}
+use Rattle.swc_ecma_codegen.specs.Lists.{listed}
+
+-- one blank where it is needed, else what the settings want
+unfoldable pub blank : Bool → Part
+blank needed rest = if needed then space rest else formatting_space rest
+
+-- one blank where it is needed
+unfoldable pub space_if : Bool → Part
+space_if needed rest = if needed then space rest else rest
+
+-- the comments before a node, and its start
+unfoldable pub opened : Span → Part
+opened span rest = leading_comments span.lo (start_of span rest)
+
+unfoldable pub ident : Ident → Part
+ident n rest = name n.span (string_bytes n.sym) n.optional rest
+
+unfoldable pub ident_name : IdentName → Part
+ident_name n rest = name n.span (string_bytes n.sym) false rest
+
+unfoldable pub this : this_expr.ThisExpr → Part
+this n rest = leading_comments n.span.lo (keyword (Some n.span) (codes "this") rest)
+
+-- `typeof`, `void` and `delete` are words
+unfoldable pub unary_op : UnaryOp → Part
+unary_op op rest = if starts.is_word_op op then keyword None (unary_text op) rest else punct (unary_text op) rest
+
+-- `typeof a`, `typeof(a)`, `- -a`, `-a`
+unfoldable pub unary_gap : UnaryOp → Answers → Part
+unary_gap op arg rest = if starts.is_word_op op then blank arg.starts rest else space_if (operand_space op arg.kind) rest
+
+unfoldable pub unary : {X : Type 0} → (X → Answers) → (X → Place → Part) → UnaryExpr X → Part
+unary asks items n rest = opened n.span (unary_op n.op (unary_gap n.op (asks n.arg.node.value) (items n.arg.node.value Plain rest)))
+
+-- `++a`, `a++`
+unfoldable pub update_parts : {X : Type 0} → (X → Place → Part) → UpdateExpr X → Part
+update_parts items n rest = if n.prefix then operator (update_text n.op) (items n.arg.node.value Plain rest) else items n.arg.node.value Plain (operator (update_text n.op) rest)
+
+unfoldable pub update : {X : Type 0} → (X → Place → Part) → UpdateExpr X → Part
+update items n rest = opened n.span (update_parts items n rest)
+
+-- `in` and `instanceof` are words
+unfoldable pub binary_op : BinaryOp → Part
+binary_op op rest = if is_word_op op then word_operator (binary_text op) rest else operator (binary_text op) rest
+
+-- a blank is due before an operator
+unfoldable pub before_op : BinaryOp → Answers → Bool
+before_op op left = if is_word_op op then left.ends else space_after left.kind op
+
+-- a blank is due after an operator
+unfoldable pub after_op : BinaryOp → Answers → Bool
+after_op op right = if is_word_op op then right.starts else right.space op
+
+-- the operator and the right operand
+unfoldable pub bin_trailing : {X : Type 0} → (X → Answers) → (X → Place → Part) → BinExpr X → Part
+bin_trailing asks items n rest =
+    blank (before_op n.op (asks n.left.node.value))
+    (binary_op n.op (blank (after_op n.op (asks n.right.node.value)) (items n.right.node.value Plain rest)))
+
+-- an inner left operand has no comments before it, and its start isn't recorded
+unfoldable pub bin_opened : Place → Span → Part
+bin_opened Plain span rest = opened span rest
+bin_opened LeftOperand span rest = rest
+
+unfoldable pub bin : {X : Type 0} → (X → Answers) → (X → Place → Part) → BinExpr X → Place → Part
+bin asks items n place rest = bin_opened place n.span (items n.left.node.value LeftOperand (bin_trailing asks items n rest))
+
+-- the comments at the position before one
+unfoldable pub comments_before : BytePos → Part
+comments_before pos rest = if pos.0 == 0 then rest else leading_comments (record { 0 = pos.0 - 1 }) rest
+
+unfoldable pub computed_prop_name : {X : Type 0} → (X → Place → Part) → ComputedPropName X → Part
+computed_prop_name items n rest = start_of n.span (punct (codes "[") (items n.expr.node.value Plain (punct (codes "]") (end_of n.span rest))))
+
+-- `.b`, `[b]`
+unfoldable pub member_prop : {X : Type 0} → (X → Place → Part) → MemberProp X → Part
+member_prop items (member_props.Ident n) rest = comments_before n.span.lo (punct (codes ".") (ident_name n rest))
+member_prop items (member_props.Computed n) rest = computed_prop_name items n rest
+
+unfoldable pub member : {X : Type 0} → (X → Place → Part) → MemberExpr X → Part
+member items n rest = opened n.span (items n.obj.node.value Plain (member_prop items n.prop (end_of n.span rest)))
+
+unfoldable pub choice : {X : Type 0} → (X → Place → Part) → CondExpr X → Part
+choice items n rest =
+    opened n.span
+    (items n.test.node.value Plain (formatting_space (punct (codes "?") (formatting_space
+    (items n.cons.node.value Plain (formatting_space (punct (codes ":") (formatting_space (items n.alt.node.value Plain rest)))))))))
+
+-- what a link holds
+abbrev pub held : {X : Type 0} → (X → Place → Part) → ExprBox X → Part
+held items n = items n.node.value Plain
+
+unfoldable pub seq : {X : Type 0} → (X → Place → Part) → SeqExpr X → Part
+seq items n rest = opened n.span (listed (held items) true n.exprs.items rest)
+
+unfoldable pub paren : {X : Type 0} → (X → Place → Part) → ParenExpr X → Part
+paren items n rest = commit_pending_semi (opened n.span (punct (codes "(") (items n.expr.node.value Plain (last_of n.span (punct (codes ")") rest)))))
+
+-- an expression by its variant
+unfoldable pub expr_parts : {X : Type 0} → (X → Answers) → (X → Place → Part) → Expr X → Place → Part
+expr_parts asks items (exprs.This n) place rest = this n rest
+expr_parts asks items (exprs.Unary n) place rest = unary asks items n rest
+expr_parts asks items (exprs.Update n) place rest = update items n rest
+expr_parts asks items (exprs.Bin n) place rest = bin asks items n place rest
+expr_parts asks items (exprs.Member n) place rest = items n.node.value Plain rest
+expr_parts asks items (exprs.Cond n) place rest = choice items n rest
+expr_parts asks items (exprs.Seq n) place rest = seq items n rest
+expr_parts asks items (exprs.Ident n) place rest = ident n rest
+expr_parts asks items (exprs.Paren n) place rest = paren items n rest
+
+-- an inner left operand: its comments are left where they are
+unfoldable pub is_inner : {X : Type 0} → Expr X → Place → Bool
+is_inner (exprs.Bin n) LeftOperand = true
+is_inner n place = false
+
+-- the comments after an expression
+unfoldable pub expr_closed : Bool → Span → Part
+expr_closed inner span rest = if inner then rest else trailing_comments true span.hi rest
+
+-- where what a link holds stands
+abbrev pub place_of : {X : Type 0} → (X → Answers) → X → Span
+place_of asks x = (asks x).place
+
+unfoldable pub expr : {X : Type 0} → (X → Answers) → (X → Place → Part) → Expr X → Place → Part
+expr asks items n place rest = expr_parts asks items n place (expr_closed (is_inner n place) (expr_span (place_of asks) n) rest)

@@ -1,0 +1,23 @@
+-- Lists of nodes.
+use Rattle.std.specs.Prelude.{Bool, false, true, if◌then◌else◌, List, [], ◌∷◌, Option, Some, None, codes}
+use Rattle.swc_ecma_codegen_base.specs.Run.{Part}
+use Rattle.swc_ecma_codegen_base.specs.Words.{punct, formatting_space}
+
+-- a comma and a blank, except before the first
+unfoldable pub comma : Bool → Part
+comma first rest = if first then rest else punct (codes ",") (formatting_space rest)
+
+-- the nodes, with commas between
+unfoldable pub listed : {A : Type 0} → (A → Part) → Bool → List A → Part
+listed each first [] rest = rest
+listed each first (x ∷ xs) rest = comma first (each x (listed each false xs rest))
+
+-- the nodes, one after another
+unfoldable pub in_order : {A : Type 0} → (A → Part) → List A → Part
+in_order each [] rest = rest
+in_order each (x ∷ xs) rest = each x (in_order each xs rest)
+
+-- what is there
+unfoldable pub if_some : {A : Type 0} → (A → Part) → Option A → Part
+if_some each None rest = rest
+if_some each (Some x) rest = each x rest

@@ -1,0 +1,33 @@
+-- What is written of a whole program.
+use Rattle.std.specs.Prelude.{Bool, true, if◌then◌else◌, List, [], ◌∷◌}
+use Rattle.swc_ecma_codegen_tree.specs.declared.positions.Span.{Span}
+use Rattle.swc_ecma_codegen_tree.specs.declared.links.StmtBox.{StmtBox}
+use Rattle.swc_ecma_codegen_tree.specs.declared.programs.Script.{Script}
+use Rattle.swc_ecma_codegen_tree.specs.declared.programs.Program.{Program}
+use Rattle.swc_ecma_codegen_tree.specs.declared.programs.Program.TheVariants as programs
+use Rattle.swc_ecma_codegen_base.specs.Run.{Part}
+use Rattle.swc_ecma_codegen_base.specs.Words.{commit_pending_semi, start_of, leading_comments, trailing_comments}
+use Rattle.swc_ecma_codegen.specs.declared.nodes.Place.{Place}
+use Rattle.swc_ecma_codegen.specs.declared.nodes.Place.TheVariants.{Plain}
+use Rattle.swc_ecma_codegen.specs.Lists.{in_order}
+
+-- what a link holds
+abbrev pub held : {X : Type 0} → (X → Place → Part) → StmtBox X → Part
+held items n = items n.node.value Plain
+
+-- the start of a program without statements is recorded
+unfoldable pub start_if_empty : {A : Type 0} → List A → Span → Part
+start_if_empty [] span rest = start_of span rest
+start_if_empty (x ∷ xs) span rest = rest
+
+-- a semicolon that is held back at the end is written, unless the settings leave it out
+unfoldable pub last_semi : Part
+last_semi rest env = if env.config.omit_last_semi then rest env else commit_pending_semi rest env
+
+unfoldable pub script : {X : Type 0} → (X → Place → Part) → Script X → Part
+script items n rest =
+    leading_comments n.span.lo
+    (start_if_empty n.body.items n.span (in_order (held items) n.body.items (trailing_comments true n.span.hi (last_semi rest))))
+
+unfoldable pub program : {X : Type 0} → (X → Place → Part) → Program X → Part
+program items (programs.Script n) rest = script items n rest

@@ -1,0 +1,19 @@
+-- What is written of a whole tree.
+use Rattle.swc_ecma_codegen_tree.specs.declared.links.AnyNode.{AnyNode, AnyNode-F}
+use Rattle.swc_ecma_codegen_tree.specs.declared.links.AnyNode.TheOpen as nodes
+use Rattle.swc_ecma_codegen_tree.specs.declared.links.AnyNode.TheFolds.{para-AnyNode}
+use Rattle.swc_ecma_codegen_base.specs.Run.{Part}
+use Rattle.swc_ecma_codegen.specs.declared.nodes.Place.{Place}
+use Rattle.swc_ecma_codegen.specs.Answers.{Answers, any_answers}
+use Rattle.swc_ecma_codegen.specs.Exprs.{expr, member}
+use Rattle.swc_ecma_codegen.specs.Stmts.{stmt}
+
+-- one node, from what is known of what its links hold
+unfoldable pub node_items : {X : Type 0} → (X → Answers) → (X → Place → Part) → AnyNode-F X → Place → Part
+node_items asks items (nodes.Expr n) place = expr asks items n place
+node_items asks items (nodes.Stmt n) place = stmt items n
+node_items asks items (nodes.MemberExpr n) place = member items n
+
+-- a whole node
+unfoldable pub any_items : AnyNode → Place → Part
+any_items = para-AnyNode (Place → Part) (node_items (λ p. any_answers p.0) (λ p. p.1))

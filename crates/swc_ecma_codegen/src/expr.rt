@@ -1,0 +1,391 @@
+//! Expressions.
+
+ghost use Rattle.std.specs.Prelude.{◌≡◌, Some, None, OnOk, codes};
+ghost use Rattle.swc_ecma_codegen_base.specs.Run.{Emits};
+ghost use Rattle.swc_ecma_codegen.specs.Exprs.{ident, ident_name, this, unary_op, unary_gap, unary, update_parts, update, binary_op, before_op, after_op, bin_trailing, bin_opened, bin, computed_prop_name, member_prop, member, choice, seq, paren, expr_parts, is_inner, expr_closed, place_of, expr};
+ghost use Rattle.swc_ecma_codegen_tree.specs.Spans.{expr_span};
+ghost use Rattle.swc_ecma_codegen_util.specs.Starts.{is_word_op as is_word_unary};
+ghost use Rattle.swc_ecma_codegen.specs.View.{state_of};
+
+use crate::emitter::Emitter;
+use crate::nodes::{AskEnds, AskKind, AskPlace, AskSpace, AskStarts, Asked, EmitAt, Held, Place};
+use crate::operands::{is_word_op, operand_space, space_after};
+use swc_ecma_codegen_ast::comments::Comments;
+use swc_ecma_codegen_ast::mapper::SourceMapper;
+use swc_ecma_codegen_text_writer::WriteJs;
+use swc_ecma_codegen_tree::{
+    BinExpr, BinaryOp, ComputedPropName, CondExpr, Expr, Ident, IdentName, MemberExpr, MemberProp,
+    ParenExpr, Result, SeqExpr, Span, ThisExpr, UnaryExpr, UnaryOp, UpdateExpr,
+};
+
+/// Where an expression stands.
+#[tactic(auto, unfolding(swc_ecma_codegen_tree::specs::Spans::expr_span))]
+fn place_of<N: AskPlace>(node: &Expr<N>) -> Span
+    ensures { result ≡ expr_span (place_of N.answers) node.now }
+{
+    match node {
+        Expr::This(node) => node.span,
+        Expr::Unary(node) => node.span,
+        Expr::Update(node) => node.span,
+        Expr::Bin(node) => node.span,
+        Expr::Member(node) => node.held().place(),
+        Expr::Cond(node) => node.span,
+        Expr::Seq(node) => node.span,
+        Expr::Ident(node) => node.span,
+        Expr::Paren(node) => node.span,
+    }
+}
+
+/// Whether it is an inner left operand, as `a + b` in `a + b + c`: its comments are left where they are.
+#[tactic(auto, unfolding(crate::specs::Exprs::is_inner))]
+fn is_inner<N>(node: &Expr<N>, place: Place) -> bool
+    ensures { result ≡ is_inner node.now place }
+{
+    match (node, place) {
+        (Expr::Bin(_), Place::LeftOperand) => true,
+        _ => false,
+    }
+}
+
+impl<N: Held> EmitAt for Expr<N> {
+    ghost items = { expr N.answers N.items };
+
+    #[tactic(auto, unfolding(crate::specs::Exprs::expr, crate::specs::Exprs::expr_parts))]
+    fn emit_at<W: WriteJs, S: SourceMapper, C: Comments>(
+        &self,
+        e: &mut Emitter<'_, W, S, C>,
+        place: Place,
+    ) -> Result {
+        match self {
+            Expr::This(node) => node.emit_at(e, place)?,
+            Expr::Unary(node) => node.emit_at(e, place)?,
+            Expr::Update(node) => node.emit_at(e, place)?,
+            Expr::Bin(node) => node.emit_at(e, place)?,
+            Expr::Member(node) => node.held().emit_at(e, Place::Plain)?,
+            Expr::Cond(node) => node.emit_at(e, place)?,
+            Expr::Seq(node) => node.emit_at(e, place)?,
+            Expr::Ident(node) => node.emit_at(e, place)?,
+            Expr::Paren(node) => node.emit_at(e, place)?,
+        }
+        e.expr_closed(is_inner(self, place), place_of(self))?;
+        Ok(())
+    }
+}
+
+impl<N: Held> EmitAt for MemberExpr<N> {
+    ghost items = { λ n _. member N.items n };
+
+    #[tactic(auto, unfolding(crate::specs::Exprs::member))]
+    fn emit_at<W: WriteJs, S: SourceMapper, C: Comments>(
+        &self,
+        e: &mut Emitter<'_, W, S, C>,
+        place: Place,
+    ) -> Result {
+        e.opened(self.span)?;
+        self.obj.held().emit_at(e, Place::Plain)?;
+        e.member_prop(&self.prop)?;
+        e.end_of(self.span)?;
+        Ok(())
+    }
+}
+
+impl<N: Held> EmitAt for BinExpr<N> {
+    ghost items = { bin N.answers N.items };
+
+    #[tactic(auto, unfolding(crate::specs::Exprs::bin))]
+    fn emit_at<W: WriteJs, S: SourceMapper, C: Comments>(
+        &self,
+        e: &mut Emitter<'_, W, S, C>,
+        place: Place,
+    ) -> Result {
+        e.bin_opened(place, self.span)?;
+        self.left.held().emit_at(e, Place::LeftOperand)?;
+        e.bin_trailing(self)?;
+        Ok(())
+    }
+}
+
+impl<N: Held> EmitAt for SeqExpr<N> {
+    ghost items = { λ n _. seq N.items n };
+
+    #[tactic(auto, unfolding(crate::specs::Exprs::seq))]
+    fn emit_at<W: WriteJs, S: SourceMapper, C: Comments>(
+        &self,
+        e: &mut Emitter<'_, W, S, C>,
+        place: Place,
+    ) -> Result {
+        e.opened(self.span)?;
+        e.exprs(&self.exprs)?;
+        Ok(())
+    }
+}
+
+impl<N: Held> EmitAt for ComputedPropName<N> {
+    ghost items = { λ n _. computed_prop_name N.items n };
+
+    #[tactic(auto, unfolding(crate::specs::Exprs::computed_prop_name))]
+    fn emit_at<W: WriteJs, S: SourceMapper, C: Comments>(
+        &self,
+        e: &mut Emitter<'_, W, S, C>,
+        place: Place,
+    ) -> Result {
+        e.start_of(self.span)?;
+        e.punct("[")?;
+        self.expr.held().emit_at(e, Place::Plain)?;
+        e.punct("]")?;
+        e.end_of(self.span)?;
+        Ok(())
+    }
+}
+
+impl<N: Held> EmitAt for CondExpr<N> {
+    ghost items = { λ n _. choice N.items n };
+
+    #[tactic(auto, unfolding(crate::specs::Exprs::choice))]
+    fn emit_at<W: WriteJs, S: SourceMapper, C: Comments>(
+        &self,
+        e: &mut Emitter<'_, W, S, C>,
+        place: Place,
+    ) -> Result {
+        e.opened(self.span)?;
+        self.test.held().emit_at(e, Place::Plain)?;
+        e.formatting_space()?;
+        e.punct("?")?;
+        e.formatting_space()?;
+        self.cons.held().emit_at(e, Place::Plain)?;
+        e.formatting_space()?;
+        e.punct(":")?;
+        e.formatting_space()?;
+        self.alt.held().emit_at(e, Place::Plain)?;
+        Ok(())
+    }
+}
+
+impl EmitAt for ThisExpr {
+    ghost items = { λ n _. this n };
+
+    #[tactic(auto, unfolding(crate::specs::Exprs::this))]
+    fn emit_at<W: WriteJs, S: SourceMapper, C: Comments>(
+        &self,
+        e: &mut Emitter<'_, W, S, C>,
+        place: Place,
+    ) -> Result {
+        e.leading_comments(self.span.lo)?;
+        e.keyword(Some(self.span), "this")?;
+        Ok(())
+    }
+}
+
+impl<N: Held> EmitAt for UnaryExpr<N> {
+    ghost items = { λ n _. unary N.answers N.items n };
+
+    #[tactic(auto, unfolding(crate::specs::Exprs::unary))]
+    fn emit_at<W: WriteJs, S: SourceMapper, C: Comments>(
+        &self,
+        e: &mut Emitter<'_, W, S, C>,
+        place: Place,
+    ) -> Result {
+        e.opened(self.span)?;
+        e.unary_op(self.op)?;
+        e.unary_gap(self.op, self.arg.held())?;
+        self.arg.held().emit_at(e, Place::Plain)?;
+        Ok(())
+    }
+}
+
+impl<N: Held> EmitAt for UpdateExpr<N> {
+    ghost items = { λ n _. update N.items n };
+
+    #[tactic(auto, unfolding(crate::specs::Exprs::update, crate::specs::Exprs::update_parts))]
+    fn emit_at<W: WriteJs, S: SourceMapper, C: Comments>(
+        &self,
+        e: &mut Emitter<'_, W, S, C>,
+        place: Place,
+    ) -> Result {
+        e.opened(self.span)?;
+        if self.prefix {
+            e.operator(self.op.as_str())?;
+            self.arg.held().emit_at(e, Place::Plain)?;
+        } else {
+            self.arg.held().emit_at(e, Place::Plain)?;
+            e.operator(self.op.as_str())?;
+        }
+        Ok(())
+    }
+}
+
+impl<N: Held> EmitAt for ParenExpr<N> {
+    ghost items = { λ n _. paren N.items n };
+
+    #[tactic(auto, unfolding(crate::specs::Exprs::paren))]
+    fn emit_at<W: WriteJs, S: SourceMapper, C: Comments>(
+        &self,
+        e: &mut Emitter<'_, W, S, C>,
+        place: Place,
+    ) -> Result {
+        e.commit_pending_semi()?;
+        e.opened(self.span)?;
+        e.punct("(")?;
+        self.expr.held().emit_at(e, Place::Plain)?;
+        e.last_of(self.span)?;
+        e.punct(")")?;
+        Ok(())
+    }
+}
+
+impl EmitAt for Ident {
+    ghost items = { λ n _. ident n };
+
+    #[tactic(auto, unfolding(crate::specs::Exprs::ident))]
+    fn emit_at<W: WriteJs, S: SourceMapper, C: Comments>(
+        &self,
+        e: &mut Emitter<'_, W, S, C>,
+        place: Place,
+    ) -> Result {
+        e.name(self.span, &self.sym, self.optional)?;
+        Ok(())
+    }
+}
+
+impl EmitAt for IdentName {
+    ghost items = { λ n _. ident_name n };
+
+    #[tactic(auto, unfolding(crate::specs::Exprs::ident_name))]
+    fn emit_at<W: WriteJs, S: SourceMapper, C: Comments>(
+        &self,
+        e: &mut Emitter<'_, W, S, C>,
+        place: Place,
+    ) -> Result {
+        e.name(self.span, &self.sym, false)?;
+        Ok(())
+    }
+}
+
+impl<W: WriteJs, S: SourceMapper, C: Comments> Emitter<'_, W, S, C> {
+    /// Writes the comments after an expression.
+    #[tactic(auto, unfolding(crate::specs::Exprs::expr_closed))]
+    fn expr_closed(&mut self, inner: bool, span: Span) -> Result
+        ensures items { Emits (expr_closed inner span) (state_of W.sheet self.old) (state_of W.sheet self.new) result }
+        ensures level { OnOk result ((W.sheet self.new.wr).indentation ≡ (W.sheet self.old.wr).indentation) }
+    {
+        if inner {
+            return Ok(());
+        }
+        self.trailing_comments(span.hi, true)
+    }
+
+    /// Writes `.b` or `[b]`.
+    #[tactic(auto, unfolding(crate::specs::Exprs::member_prop))]
+    fn member_prop<N: Held>(&mut self, prop: &MemberProp<N>) -> Result
+        ensures items { Emits (member_prop N.items prop.now) (state_of W.sheet self.old) (state_of W.sheet self.new) result }
+        ensures level { OnOk result ((W.sheet self.new.wr).indentation ≡ (W.sheet self.old.wr).indentation) }
+    {
+        match prop {
+            MemberProp::Ident(name) => {
+                self.comments_before(name.span.lo)?;
+                self.punct(".")?;
+                name.emit_at(self, Place::Plain)
+            }
+            MemberProp::Computed(name) => name.emit_at(self, Place::Plain),
+        }
+    }
+
+    /// Writes the comments before a binary expression and its start, unless it is an inner left operand.
+    #[tactic(auto, unfolding(crate::specs::Exprs::bin_opened))]
+    fn bin_opened(&mut self, place: Place, span: Span) -> Result
+        ensures items { Emits (bin_opened place span) (state_of W.sheet self.old) (state_of W.sheet self.new) result }
+        ensures level { OnOk result ((W.sheet self.new.wr).indentation ≡ (W.sheet self.old.wr).indentation) }
+    {
+        match place {
+            Place::Plain => self.opened(span),
+            Place::LeftOperand => Ok(()),
+        }
+    }
+
+    /// Writes a binary operator.
+    #[tactic(auto, unfolding(crate::specs::Exprs::binary_op))]
+    fn binary_op(&mut self, op: BinaryOp) -> Result
+        ensures items { Emits (binary_op op) (state_of W.sheet self.old) (state_of W.sheet self.new) result }
+        ensures level { OnOk result ((W.sheet self.new.wr).indentation ≡ (W.sheet self.old.wr).indentation) }
+    {
+        if is_word_op(op) {
+            self.word_operator(op.as_str())
+        } else {
+            self.operator(op.as_str())
+        }
+    }
+
+    /// Writes the operator and the right operand. swc's `emit_bin_expr_trailing`.
+    #[tactic(auto, unfolding(crate::specs::Exprs::bin_trailing))]
+    fn bin_trailing<N: Held>(&mut self, node: &BinExpr<N>) -> Result
+        ensures items { Emits (bin_trailing N.answers N.items node.now) (state_of W.sheet self.old) (state_of W.sheet self.new) result }
+        ensures level { OnOk result ((W.sheet self.new.wr).indentation ≡ (W.sheet self.old.wr).indentation) }
+    {
+        self.blank(before_op(node.op, node.left.held()))?;
+        self.binary_op(node.op)?;
+        self.blank(after_op(node.op, node.right.held()))?;
+        node.right.held().emit_at(self, Place::Plain)?;
+        Ok(())
+    }
+
+    /// Writes a unary operator.
+    #[tactic(auto, unfolding(crate::specs::Exprs::unary_op))]
+    fn unary_op(&mut self, op: UnaryOp) -> Result
+        ensures items { Emits (unary_op op) (state_of W.sheet self.old) (state_of W.sheet self.new) result }
+        ensures level { OnOk result ((W.sheet self.new.wr).indentation ≡ (W.sheet self.old.wr).indentation) }
+    {
+        if is_word_unary(op) {
+            self.keyword(None, op.as_str())
+        } else {
+            self.punct(op.as_str())
+        }
+    }
+
+    /// Writes what stands between a unary operator and its operand.
+    #[tactic(auto, unfolding(crate::specs::Exprs::unary_gap))]
+    fn unary_gap<N: Asked>(&mut self, op: UnaryOp, arg: &N) -> Result
+        ensures items { Emits (unary_gap op (N.answers arg.now)) (state_of W.sheet self.old) (state_of W.sheet self.new) result }
+        ensures level { OnOk result ((W.sheet self.new.wr).indentation ≡ (W.sheet self.old.wr).indentation) }
+    {
+        if is_word_unary(op) {
+            self.blank(arg.starts())
+        } else {
+            self.space_if(operand_space(op, arg.kind()))
+        }
+    }
+}
+
+/// Whether a unary operator is a word.
+#[tactic(auto, unfolding(swc_ecma_codegen_util::specs::Starts::is_word_op))]
+fn is_word_unary(op: UnaryOp) -> bool
+    ensures { result ≡ is_word_unary op }
+{
+    match op {
+        UnaryOp::TypeOf | UnaryOp::Void | UnaryOp::Delete => true,
+        UnaryOp::Minus | UnaryOp::Plus | UnaryOp::Bang | UnaryOp::Tilde => false,
+    }
+}
+
+/// Whether a blank is due between an operand and an operator.
+#[tactic(auto, unfolding(crate::specs::Exprs::before_op))]
+fn before_op<N: Asked>(op: BinaryOp, left: &N) -> bool
+    ensures { result ≡ before_op op (N.answers left.now) }
+{
+    if is_word_op(op) {
+        left.ends()
+    } else {
+        space_after(left.kind(), op)
+    }
+}
+
+/// Whether a blank is due between an operator and an operand.
+#[tactic(auto, unfolding(crate::specs::Exprs::after_op))]
+fn after_op<N: Asked>(op: BinaryOp, right: &N) -> bool
+    ensures { result ≡ after_op op (N.answers right.now) }
+{
+    if is_word_op(op) {
+        right.starts()
+    } else {
+        right.space_before(op)
+    }
+}

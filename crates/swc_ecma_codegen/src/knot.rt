@@ -1,0 +1,77 @@
+//! The whole tree. Only these functions go from what a link holds to the function for its sort, so only these see that
+//! the tree refers to itself, and only these use the laws of the fold.
+
+ghost use Rattle.std.specs.Prelude.{◌≡◌};
+ghost use Rattle.swc_ecma_codegen.specs.Answers.{any_answers};
+ghost use Rattle.swc_ecma_codegen.specs.Tree.{any_items};
+
+use crate::emitter::Emitter;
+use crate::nodes::{
+    AskEnds, AskKind, AskPlace, AskSpace, AskStarts, Asked, EmitAt, Held, Known, Place,
+};
+use crate::operands::{Operand, OperandKind, SpaceBefore};
+use swc_ecma_codegen_ast::comments::Comments;
+use swc_ecma_codegen_ast::mapper::SourceMapper;
+use swc_ecma_codegen_text_writer::WriteJs;
+use swc_ecma_codegen_tree::{AnyNode, BinaryOp, Result, Span, Spanned};
+use swc_ecma_codegen_util::util::{EndsWithAlphaNum, StartsWithAlphaNum};
+
+impl Known for AnyNode {
+    ghost answers = { any_answers };
+}
+
+impl AskPlace for AnyNode {
+    #[tactic(auto, unfolding(crate::specs::Answers::any_answers))]
+    fn place(&self) -> Span {
+        self.span()
+    }
+}
+
+impl AskStarts for AnyNode {
+    #[tactic(auto, unfolding(crate::specs::Answers::any_answers))]
+    fn starts(&self) -> bool {
+        self.starts_with_alpha_num()
+    }
+}
+
+impl AskEnds for AnyNode {
+    #[tactic(auto, unfolding(crate::specs::Answers::any_answers))]
+    fn ends(&self) -> bool {
+        self.ends_with_alpha_num()
+    }
+}
+
+impl AskKind for AnyNode {
+    #[tactic(auto, unfolding(crate::specs::Answers::any_answers))]
+    fn kind(&self) -> OperandKind {
+        self.operand_kind()
+    }
+}
+
+impl AskSpace for AnyNode {
+    #[tactic(auto, unfolding(crate::specs::Answers::any_answers))]
+    fn space_before(&self, op: BinaryOp) -> bool {
+        self.require_space_before(op)
+    }
+}
+
+impl Asked for AnyNode {}
+
+impl EmitAt for AnyNode {
+    ghost items = { any_items };
+
+    #[tactic(auto, using(crate::proofs::Laws::any_items_expr, crate::proofs::Laws::any_items_stmt, crate::proofs::Laws::any_items_member_expr))]
+    fn emit_at<W: WriteJs, S: SourceMapper, C: Comments>(
+        &self,
+        e: &mut Emitter<'_, W, S, C>,
+        place: Place,
+    ) -> Result {
+        match self {
+            AnyNode::Expr(node) => node.emit_at(e, place),
+            AnyNode::Stmt(node) => node.emit_at(e, place),
+            AnyNode::MemberExpr(node) => node.emit_at(e, place),
+        }
+    }
+}
+
+impl Held for AnyNode {}

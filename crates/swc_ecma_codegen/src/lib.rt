@@ -1,0 +1,18 @@
+//! Prints trees of ECMAScript as text. A port of `swc_ecma_codegen`.
+#![tactic(auto)]
+
+mod emitter;
+mod expr;
+mod knot;
+mod lists;
+pub mod nodes;
+pub mod operands;
+mod stmt;
+mod tokens;
+
+pub use crate::emitter::Emitter;
+pub use swc_ecma_codegen_ast as ast;
+pub use swc_ecma_codegen_ast::{Error, Result};
+pub use swc_ecma_codegen_text_writer as text_writer;
+pub use swc_ecma_codegen_util::config::Config;
+pub use swc_ecma_codegen_util::{config, util};

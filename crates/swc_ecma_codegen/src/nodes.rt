@@ -1,0 +1,78 @@
+//! What a node is to those above it.
+
+ghost use Rattle.std.specs.Prelude.{◌≡◌, OnOk};
+ghost use Rattle.swc_ecma_codegen_base.specs.Run.{Part, Emits};
+ghost use Rattle.swc_ecma_codegen.specs.declared.nodes.Place.{Place as At};
+ghost use Rattle.swc_ecma_codegen.specs.Answers.{Answers};
+ghost use Rattle.swc_ecma_codegen.specs.View.{state_of};
+
+use crate::emitter::Emitter;
+use crate::operands::OperandKind;
+use swc_ecma_codegen_ast::comments::Comments;
+use swc_ecma_codegen_ast::mapper::SourceMapper;
+use swc_ecma_codegen_text_writer::WriteJs;
+use swc_ecma_codegen_tree::{BinaryOp, Result, Span};
+
+/// Where a node stands in the one above it.
+#[derive(Debug, Clone, Copy, PartialEq, Eq)]
+pub enum Place {
+    /// Anywhere else.
+    Plain,
+    /// The left operand of a binary operator: `a + b` in `a + b + c`.
+    LeftOperand,
+}
+
+/// What a node tells those above it.
+pub trait Known {
+    ghost answers: { Self → Answers };
+}
+
+/// Where it stands.
+pub trait AskPlace: Known {
+    fn place(&self) -> Span
+        ensures { result ≡ (Self.answers self.now).place };
+}
+
+/// Whether its text begins with a character of a name.
+pub trait AskStarts: Known {
+    fn starts(&self) -> bool
+        ensures { result ≡ (Self.answers self.now).starts };
+}
+
+/// Whether its text ends with a character of a name.
+pub trait AskEnds: Known {
+    fn ends(&self) -> bool
+        ensures { result ≡ (Self.answers self.now).ends };
+}
+
+/// Its operator.
+pub trait AskKind: Known {
+    fn kind(&self) -> OperandKind
+        ensures { result ≡ (Self.answers self.now).kind };
+}
+
+/// Whether a blank is due between an operator and it.
+pub trait AskSpace: Known {
+    fn space_before(&self, op: BinaryOp) -> bool
+        ensures { result ≡ (Self.answers self.now).space op };
+}
+
+/// The questions that those above it ask.
+pub trait Asked: AskPlace + AskStarts + AskEnds + AskKind + AskSpace {}
+
+/// What can be printed, where the one above puts it.
+pub trait EmitAt {
+    ghost items: { Self → At → Part };
+
+    /// Prints it.
+    fn emit_at<W: WriteJs, S: SourceMapper, C: Comments>(
+        &self,
+        e: &mut Emitter<'_, W, S, C>,
+        place: Place,
+    ) -> Result
+        ensures items { Emits (items self.now place) (state_of W.sheet e.old) (state_of W.sheet e.new) result }
+        ensures level { OnOk result ((W.sheet e.new.wr).indentation ≡ (W.sheet e.old.wr).indentation) };
+}
+
+/// All that a link may hold.
+pub trait Held: EmitAt + Asked {}

@@ -1,0 +1,213 @@
+//! Calls of the lower emitter.
+
+ghost use Rattle.std.specs.Prelude.{◌≡◌, Option, Some, None, OnOk, codes};
+ghost use Rattle.swc_ecma_codegen_base.specs.Run.{Emits};
+ghost use Rattle.swc_ecma_codegen_base.specs.Words.{keyword, operator, word_operator, punct, semi, space, formatting_space, formatting_line, commit_pending_semi, position, position_before, start_of, end_of, last_of, leading_comments, trailing_comments, name};
+ghost use Rattle.swc_ecma_codegen.specs.Exprs.{blank, space_if, opened, comments_before};
+ghost use Rattle.swc_ecma_codegen.specs.Programs.{last_semi};
+ghost use Rattle.swc_ecma_codegen.specs.View.{state_of};
+
+use crate::emitter::Emitter;
+use swc_ecma_codegen_ast::comments::Comments;
+use swc_ecma_codegen_text_writer::WriteJs;
+use swc_ecma_codegen_tree::{BytePos, Result, Span};
+
+impl<W: WriteJs, S, C: Comments> Emitter<'_, W, S, C> {
+    /// Writes a keyword.
+    pub(crate) fn keyword(&mut self, span: Option<Span>, text: &'static str) -> Result
+        ensures items { Emits (keyword span text.now) (state_of W.sheet self.old) (state_of W.sheet self.new) result }
+        ensures level { OnOk result ((W.sheet self.new.wr).indentation ≡ (W.sheet self.old.wr).indentation) }
+    {
+        self.lower.keyword(&self.cfg, &mut self.wr, span, text)
+    }
+
+    /// Writes an operator that is a punctuator.
+    pub(crate) fn operator(&mut self, text: &'static str) -> Result
+        ensures items { Emits (operator text.now) (state_of W.sheet self.old) (state_of W.sheet self.new) result }
+        ensures level { OnOk result ((W.sheet self.new.wr).indentation ≡ (W.sheet self.old.wr).indentation) }
+    {
+        self.lower.operator(&self.cfg, &mut self.wr, text)
+    }
+
+    /// Writes an operator that is a word.
+    pub(crate) fn word_operator(&mut self, text: &'static str) -> Result
+        ensures items { Emits (word_operator text.now) (state_of W.sheet self.old) (state_of W.sheet self.new) result }
+        ensures level { OnOk result ((W.sheet self.new.wr).indentation ≡ (W.sheet self.old.wr).indentation) }
+    {
+        self.lower.word_operator(&self.cfg, &mut self.wr, text)
+    }
+
+    /// Writes a punctuator.
+    pub(crate) fn punct(&mut self, text: &'static str) -> Result
+        ensures items { Emits (punct text.now) (state_of W.sheet self.old) (state_of W.sheet self.new) result }
+        ensures level { OnOk result ((W.sheet self.new.wr).indentation ≡ (W.sheet self.old.wr).indentation) }
+    {
+        self.lower.punct(&self.cfg, &mut self.wr, text)
+    }
+
+    /// Writes a semicolon that may be left out where it isn't needed.
+    pub(crate) fn semi(&mut self) -> Result
+        ensures items { Emits (semi) (state_of W.sheet self.old) (state_of W.sheet self.new) result }
+        ensures level { OnOk result ((W.sheet self.new.wr).indentation ≡ (W.sheet self.old.wr).indentation) }
+    {
+        self.lower.semi(&self.cfg, &mut self.wr)
+    }
+
+    /// Writes a blank.
+    pub(crate) fn space(&mut self) -> Result
+        ensures items { Emits (space) (state_of W.sheet self.old) (state_of W.sheet self.new) result }
+        ensures level { OnOk result ((W.sheet self.new.wr).indentation ≡ (W.sheet self.old.wr).indentation) }
+    {
+        self.lower.space(&self.cfg, &mut self.wr)
+    }
+
+    /// Writes a blank, unless the settings are to minify.
+    pub(crate) fn formatting_space(&mut self) -> Result
+        ensures items { Emits (formatting_space) (state_of W.sheet self.old) (state_of W.sheet self.new) result }
+        ensures level { OnOk result ((W.sheet self.new.wr).indentation ≡ (W.sheet self.old.wr).indentation) }
+    {
+        self.lower.formatting_space(&self.cfg, &mut self.wr)
+    }
+
+    /// Ends the line, unless the settings are to minify.
+    pub(crate) fn formatting_line(&mut self) -> Result
+        ensures items { Emits (formatting_line) (state_of W.sheet self.old) (state_of W.sheet self.new) result }
+        ensures level { OnOk result ((W.sheet self.new.wr).indentation ≡ (W.sheet self.old.wr).indentation) }
+    {
+        self.lower.formatting_line(&self.cfg, &mut self.wr)
+    }
+
+    /// Writes a semicolon that is held back.
+    pub(crate) fn commit_pending_semi(&mut self) -> Result
+        ensures items { Emits (commit_pending_semi) (state_of W.sheet self.old) (state_of W.sheet self.new) result }
+        ensures level { OnOk result ((W.sheet self.new.wr).indentation ≡ (W.sheet self.old.wr).indentation) }
+    {
+        self.lower.commit_pending_semi(&self.cfg, &mut self.wr)
+    }
+
+    /// Records a position, unless it is none.
+    pub(crate) fn position(&mut self, pos: BytePos) -> Result
+        ensures items { Emits (position pos) (state_of W.sheet self.old) (state_of W.sheet self.new) result }
+        ensures level { OnOk result ((W.sheet self.new.wr).indentation ≡ (W.sheet self.old.wr).indentation) }
+    {
+        self.lower.position(&self.cfg, &mut self.wr, pos)
+    }
+
+    /// Records the position before one, unless that one is none.
+    pub(crate) fn position_before(&mut self, pos: BytePos) -> Result
+        ensures items { Emits (position_before pos) (state_of W.sheet self.old) (state_of W.sheet self.new) result }
+        ensures level { OnOk result ((W.sheet self.new.wr).indentation ≡ (W.sheet self.old.wr).indentation) }
+    {
+        self.lower.position_before(&self.cfg, &mut self.wr, pos)
+    }
+
+    /// Records where a node begins.
+    pub(crate) fn start_of(&mut self, span: Span) -> Result
+        ensures items { Emits (start_of span) (state_of W.sheet self.old) (state_of W.sheet self.new) result }
+        ensures level { OnOk result ((W.sheet self.new.wr).indentation ≡ (W.sheet self.old.wr).indentation) }
+    {
+        self.position(span.lo)
+    }
+
+    /// Records where a node ends.
+    pub(crate) fn end_of(&mut self, span: Span) -> Result
+        ensures items { Emits (end_of span) (state_of W.sheet self.old) (state_of W.sheet self.new) result }
+        ensures level { OnOk result ((W.sheet self.new.wr).indentation ≡ (W.sheet self.old.wr).indentation) }
+    {
+        self.position(span.hi)
+    }
+
+    /// Records where a node's last character stands.
+    pub(crate) fn last_of(&mut self, span: Span) -> Result
+        ensures items { Emits (last_of span) (state_of W.sheet self.old) (state_of W.sheet self.new) result }
+        ensures level { OnOk result ((W.sheet self.new.wr).indentation ≡ (W.sheet self.old.wr).indentation) }
+    {
+        self.position_before(span.hi)
+    }
+
+    /// Writes the comments that stand before a position.
+    pub(crate) fn leading_comments(&mut self, pos: BytePos) -> Result
+        ensures items { Emits (leading_comments pos) (state_of W.sheet self.old) (state_of W.sheet self.new) result }
+        ensures level { OnOk result ((W.sheet self.new.wr).indentation ≡ (W.sheet self.old.wr).indentation) }
+    {
+        self.lower
+            .leading_comments(&self.cfg, &self.comments, &mut self.wr, pos)
+    }
+
+    /// Writes the comments that stand after a position.
+    pub(crate) fn trailing_comments(&mut self, pos: BytePos, prefix_space: bool) -> Result
+        ensures items { Emits (trailing_comments prefix_space pos) (state_of W.sheet self.old) (state_of W.sheet self.new) result }
+        ensures level { OnOk result ((W.sheet self.new.wr).indentation ≡ (W.sheet self.old.wr).indentation) }
+    {
+        self.lower
+            .trailing_comments(&self.cfg, &self.comments, &mut self.wr, pos, prefix_space)
+    }
+
+    /// Writes a name with its comments.
+    pub(crate) fn name(&mut self, span: Span, sym: &str, optional: bool) -> Result
+        ensures items { Emits (name span sym.now optional) (state_of W.sheet self.old) (state_of W.sheet self.new) result }
+        ensures level { OnOk result ((W.sheet self.new.wr).indentation ≡ (W.sheet self.old.wr).indentation) }
+    {
+        self.lower.name(&self.cfg, &self.comments, &mut self.wr, span, sym, optional)
+    }
+
+    /// Writes a blank where one is needed, else what the settings want.
+    #[tactic(auto, unfolding(crate::specs::Exprs::blank))]
+    pub(crate) fn blank(&mut self, needed: bool) -> Result
+        ensures items { Emits (blank needed) (state_of W.sheet self.old) (state_of W.sheet self.new) result }
+        ensures level { OnOk result ((W.sheet self.new.wr).indentation ≡ (W.sheet self.old.wr).indentation) }
+    {
+        if needed {
+            self.space()
+        } else {
+            self.formatting_space()
+        }
+    }
+
+    /// Writes a blank where one is needed.
+    #[tactic(auto, unfolding(crate::specs::Exprs::space_if))]
+    pub(crate) fn space_if(&mut self, needed: bool) -> Result
+        ensures items { Emits (space_if needed) (state_of W.sheet self.old) (state_of W.sheet self.new) result }
+        ensures level { OnOk result ((W.sheet self.new.wr).indentation ≡ (W.sheet self.old.wr).indentation) }
+    {
+        if needed {
+            self.space()?;
+        }
+        Ok(())
+    }
+
+    /// Writes the comments before a node, and records its start.
+    #[tactic(auto, unfolding(crate::specs::Exprs::opened))]
+    pub(crate) fn opened(&mut self, span: Span) -> Result
+        ensures items { Emits (opened span) (state_of W.sheet self.old) (state_of W.sheet self.new) result }
+        ensures level { OnOk result ((W.sheet self.new.wr).indentation ≡ (W.sheet self.old.wr).indentation) }
+    {
+        self.leading_comments(span.lo)?;
+        self.start_of(span)?;
+        Ok(())
+    }
+
+    /// Writes the comments at the position before one.
+    #[tactic(auto, unfolding(crate::specs::Exprs::comments_before))]
+    pub(crate) fn comments_before(&mut self, pos: BytePos) -> Result
+        ensures items { Emits (comments_before pos) (state_of W.sheet self.old) (state_of W.sheet self.new) result }
+        ensures level { OnOk result ((W.sheet self.new.wr).indentation ≡ (W.sheet self.old.wr).indentation) }
+    {
+        if pos.0 == 0 {
+            return Ok(());
+        }
+        self.leading_comments(BytePos(pos.0 - 1))
+    }
+
+    /// Writes a semicolon that is held back at the end, unless the settings leave it out.
+    #[tactic(auto, unfolding(crate::specs::Programs::last_semi), using(crate::proofs::Asked::kept_back, crate::proofs::Asked::committed))]
+    pub(crate) fn last_semi(&mut self) -> Result
+        ensures items { Emits (last_semi) (state_of W.sheet self.old) (state_of W.sheet self.new) result }
+        ensures level { OnOk result ((W.sheet self.new.wr).indentation ≡ (W.sheet self.old.wr).indentation) }
+    {
+        if self.cfg.omit_last_semi {
+            return Ok(());
+        }
+        self.commit_pending_semi()
+    }
+}

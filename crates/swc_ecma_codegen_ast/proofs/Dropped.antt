@@ -1,0 +1,264 @@
+-- A semicolon that is left out before `}`, `;` or the end brings no two tokens together.
+use Rattle.std.proofs.Common.{Bool, List, [], ap, codes, cond, false, inl, inr, not, refl, subst, sym, true, ℕ, ◌&&◌, ◌++◌, ◌==◌, ◌||◌, ◌∙◌, ◌∷◌, ◌≡◌}
+use Rattle.std.proofs.lemmas.Bool.{and_left, and_parts, and_right, cond-false, eqb-true, false_from_ne_true, not-true, or_cases, or_from, true≢false}
+use Rattle.swc_ecma_codegen_ast.proofs.Heads.{some_text}
+use Rattle.swc_ecma_codegen_ast.proofs.Reading.{reads}
+use Rattle.swc_ecma_codegen_ast.proofs.Tables.{each, each_begins}
+use Rattle.swc_ecma_codegen_ast.specs.Chars.{is_digit, is_letter, is_line_end, is_part}
+use Rattle.swc_ecma_codegen_ast.specs.GapRules.{Apart, IntegerEnd, Last, LessBang, LineEnd, Mark, MayBegin, Start, TagNameEnd, TextEnd, Whole, WordEnd, allows, ends_line, ends_text, fuses, grows, holds_child, last_after, last_after_gap, mark_after, mark_fuses}
+use Rattle.swc_ecma_codegen_ast.specs.Numbers.{takes_dot}
+use Rattle.swc_ecma_codegen_ast.specs.Parts.{Gap, IsEnding, NoneFuse, Own, Part, Reduced, remarks_in, text_of, tokens_of}
+use Rattle.swc_ecma_codegen_ast.specs.Punctuators.{punctuators}
+use Rattle.swc_ecma_codegen_ast.specs.Reads.{Reads}
+use Rattle.swc_ecma_codegen_ast.specs.Texts.{begins, is_same}
+use Rattle.swc_ecma_codegen_ast.specs.Tokens.{has_shape}
+use Rattle.swc_ecma_codegen_ast.specs.Trivia.{Piece}
+use Rattle.swc_ecma_codegen_ast.specs.declared.kinds.Kind.{Kind}
+use Rattle.swc_ecma_codegen_ast.specs.declared.kinds.Kind.TheVariants.{BigInt, Close, Hashbang, JsxName, JsxOpen, JsxString, JsxText, Name, Number, PrivateName, Punctuator, Regex, Str, Template, TemplateRest, Word}
+
+-- `}` and `;` go on with no punctuator
+unfoldable tail_quiet : List ℕ → Bool
+tail_quiet [] = true
+tail_quiet (c ∷ cs) = not ((c == 125) || (c == 59)) && tail_quiet cs
+
+unfoldable is_quiet : List ℕ → Bool
+is_quiet [] = true
+is_quiet (c ∷ cs) = tail_quiet cs
+
+quiet_marks : each is_quiet punctuators ≡ true
+unfolding each is_quiet tail_quiet punctuators
+quiet_marks = refl
+
+tail_next : (m : List ℕ) (c : ℕ) (p : List ℕ) → begins (m ++ c ∷ []) p ≡ true → tail_quiet p ≡ true → ((c == 125) || (c == 59)) ≡ false
+unfolding begins tail_quiet
+tail_next [] c [] h q = absurd (true≢false (sym h))
+tail_next [] c (d ∷ ds) h q = subst (λ z. ((z == 125) || (z == 59)) ≡ false) (sym (eqb-true c d (and_parts (c == d) true h).0)) (not-true _ (and_parts (not ((d == 125) || (d == 59))) (tail_quiet ds) q).0)
+tail_next (x ∷ m) c [] h q = absurd (true≢false (sym h))
+tail_next (x ∷ m) c (d ∷ ds) h q = tail_next m c ds (and_parts (x == d) (begins (m ++ c ∷ []) ds) h).1 (and_parts (not ((d == 125) || (d == 59))) (tail_quiet ds) q).1
+
+quiet_next : (a : ℕ) (m : List ℕ) (c : ℕ) (p : List ℕ) → begins (a ∷ (m ++ c ∷ [])) p ≡ true → is_quiet p ≡ true → ((c == 125) || (c == 59)) ≡ false
+unfolding begins is_quiet
+quiet_next a m c [] h q = absurd (true≢false (sym h))
+quiet_next a m c (d ∷ ds) h q = tail_next m c ds (and_parts (a == d) (begins (m ++ c ∷ []) ds) h).1 q
+
+no_growth : (a : ℕ) (m : List ℕ) (c : ℕ) → ((c == 125) || (c == 59)) ≡ true → grows (a ∷ m) c ≡ false
+unfolding grows
+no_growth a m c h = false_from_ne_true _ (λ g. let f = each_begins is_quiet (a ∷ (m ++ c ∷ [])) punctuators quiet_marks g in true≢false (sym h ∙ quiet_next a m c f.0 f.2 f.1))
+
+-- what no ending passes
+ending_ne : (P : ℕ → Bool) (c : ℕ) → ((c == 125) || (c == 59)) ≡ true → P 125 ≡ false → P 59 ≡ false → P c ≡ false
+ending_ne P c h a b = elim (or_cases (c == 125) (c == 59) h) [ inl x ↦ subst (λ z. P z ≡ false) (sym (eqb-true c 125 x)) a | inr x ↦ subst (λ z. P z ≡ false) (sym (eqb-true c 59 x)) b ]
+
+mark_quiet : (a : ℕ) (m : List ℕ) (c : ℕ) (n : List ℕ) → ((c == 125) || (c == 59)) ≡ true → mark_fuses (a ∷ m) c n ≡ false
+unfolding mark_fuses is_digit
+mark_quiet a m c n h =
+    or_from _ _ (and_left (grows (a ∷ m) c) _ (no_growth a m c h))
+    (or_from _ _ (and_right (is_same (a ∷ m) (codes ".") || is_same (a ∷ m) (codes "?.")) (is_digit c) (ending_ne is_digit c h refl refl))
+    (or_from _ _ (and_right (is_same (a ∷ m) (codes "--")) (c == 62) (ending_ne (λ c. c == 62) c h refl refl))
+    (and_right (is_same (a ∷ m) (codes "/")) ((c == 47) || (c == 42)) (ending_ne (λ c. (c == 47) || (c == 42)) c h refl refl))))
+
+-- a punctuator that was written last is some text
+unfoldable IsReal : Last → Type 0
+IsReal (Mark m) = m ≡ [] → ⊥
+IsReal Start = Unit {0}
+IsReal Apart = Unit {0}
+IsReal WordEnd = Unit {0}
+IsReal IntegerEnd = Unit {0}
+IsReal LessBang = Unit {0}
+IsReal Whole = Unit {0}
+IsReal TextEnd = Unit {0}
+IsReal TagNameEnd = Unit {0}
+IsReal LineEnd = Unit {0}
+
+quiet : (k : Last) (c : ℕ) (n : List ℕ) → IsReal k → ((c == 125) || (c == 59)) ≡ true → fuses k (c ∷ n) ≡ false
+unfolding fuses IsReal begins is_part is_letter is_digit
+quiet Start c n r h = refl
+quiet Apart c n r h = refl
+quiet WordEnd c n r h = ending_ne (λ c. is_part c || (c == 92)) c h refl refl
+quiet IntegerEnd c n r h = ending_ne (λ c. (is_part c || (c == 92)) || (c == 46)) c h refl refl
+quiet (Mark []) c n r h = absurd (r refl)
+quiet (Mark (a ∷ m)) c n r h = mark_quiet a m c n h
+quiet LessBang c n r h = or_from _ _ (mark_quiet 33 [] c n h) (ending_ne (λ c. begins (codes "--") (c ∷ n)) c h refl refl)
+quiet Whole c n r h = refl
+quiet TextEnd c n r h = refl
+quiet TagNameEnd c n r h = ending_ne (λ c. is_part c || (c == 92)) c h refl refl
+quiet LineEnd c n r h = refl
+
+-- where a semicolon may follow, an ending may
+ending_allowed : (k : Last) (c : ℕ) (n : List ℕ) → allows k (codes ";") ≡ true → ((c == 125) || (c == 59)) ≡ true → allows k (c ∷ n) ≡ true
+unfolding allows ends_text ends_line begins is_line_end
+ending_allowed Start c n a h = refl
+ending_allowed Apart c n a h = refl
+ending_allowed WordEnd c n a h = refl
+ending_allowed IntegerEnd c n a h = refl
+ending_allowed (Mark m) c n a h = refl
+ending_allowed LessBang c n a h = refl
+ending_allowed Whole c n a h = refl
+ending_allowed TextEnd c n a h = absurd (true≢false (sym a))
+ending_allowed TagNameEnd c n a h = ap not (ending_ne (λ c. begins (codes "-") (c ∷ n)) c h refl refl)
+ending_allowed LineEnd c n a h = absurd (true≢false (sym a))
+
+end_allowed : (k : Last) → allows k (codes ";") ≡ true → allows k [] ≡ true
+unfolding allows ends_text ends_line begins is_line_end
+end_allowed Start a = refl
+end_allowed Apart a = refl
+end_allowed WordEnd a = refl
+end_allowed IntegerEnd a = refl
+end_allowed (Mark m) a = refl
+end_allowed LessBang a = refl
+end_allowed Whole a = refl
+end_allowed TextEnd a = absurd (true≢false (sym a))
+end_allowed TagNameEnd a = refl
+end_allowed LineEnd a = absurd (true≢false (sym a))
+
+-- an ending is the same last token, whatever came before
+mark_ending : (k : Last) (c : ℕ) (n : List ℕ) → ((c == 125) || (c == 59)) ≡ true → mark_after k (c ∷ n) ≡ Mark (c ∷ n)
+unfolding mark_after is_same
+mark_ending Start c n h = refl
+mark_ending Apart c n h = refl
+mark_ending WordEnd c n h = refl
+mark_ending IntegerEnd c n h = refl
+mark_ending LessBang c n h = refl
+mark_ending Whole c n h = refl
+mark_ending TextEnd c n h = refl
+mark_ending TagNameEnd c n h = refl
+mark_ending LineEnd c n h = refl
+mark_ending (Mark m) c n h = cond-false (is_same m (codes "<") && ((c == 33) && is_same n [])) LessBang (Mark (c ∷ n)) (and_right (is_same m (codes "<")) _ (and_left (c == 33) (is_same n []) (ending_ne (λ c. c == 33) c h refl refl)))
+
+last_ending : (k l : Last) (y : Kind) (c : ℕ) (n : List ℕ) → ((c == 125) || (c == 59)) ≡ true → last_after l y (c ∷ n) ≡ last_after k y (c ∷ n)
+unfolding last_after
+last_ending k l Punctuator c n h = mark_ending l c n h ∙ sym (mark_ending k c n h)
+last_ending k l JsxOpen c n h = mark_ending l c n h ∙ sym (mark_ending k c n h)
+last_ending k l Word c n h = refl
+last_ending k l Name c n h = refl
+last_ending k l PrivateName c n h = refl
+last_ending k l Number c n h = refl
+last_ending k l BigInt c n h = refl
+last_ending k l Str c n h = refl
+last_ending k l Regex c n h = refl
+last_ending k l (Template o) c n h = refl
+last_ending k l (TemplateRest o) c n h = refl
+last_ending k l Close c n h = refl
+last_ending k l JsxName c n h = refl
+last_ending k l JsxString c n h = refl
+last_ending k l JsxText c n h = refl
+last_ending k l Hashbang c n h = refl
+
+-- the last token after a token is real
+real_case : (b : Bool) (c : ℕ) (n : List ℕ) → IsReal (cond b LessBang (Mark (c ∷ n)))
+unfolding IsReal
+real_case true c n = tt
+real_case false c n = λ e. cc
+
+real_some : (c : ℕ) (n : List ℕ) → IsReal (Mark (c ∷ n))
+unfolding IsReal
+real_some c n = λ e. cc
+
+real_mark : (k : Last) (c : ℕ) (n : List ℕ) → IsReal (mark_after k (c ∷ n))
+unfolding mark_after
+real_mark Start c n = real_some c n
+real_mark Apart c n = real_some c n
+real_mark WordEnd c n = real_some c n
+real_mark IntegerEnd c n = real_some c n
+real_mark LessBang c n = real_some c n
+real_mark Whole c n = real_some c n
+real_mark TextEnd c n = real_some c n
+real_mark TagNameEnd c n = real_some c n
+real_mark LineEnd c n = real_some c n
+real_mark (Mark m) c n = real_case (is_same m (codes "<") && is_same (c ∷ n) (codes "!")) c n
+
+real_number : (b : Bool) → IsReal (cond b IntegerEnd WordEnd)
+unfolding IsReal
+real_number true = tt
+real_number false = tt
+
+real_own : (k : Last) (x : Kind) (t : List ℕ) → has_shape x t ≡ true → IsReal (last_after k x t)
+unfolding last_after IsReal
+real_own k Punctuator [] h = absurd (some_text Punctuator h)
+real_own k Punctuator (c ∷ n) h = real_mark k c n
+real_own k JsxOpen [] h = absurd (some_text JsxOpen h)
+real_own k JsxOpen (c ∷ n) h = real_mark k c n
+real_own k Number t h = real_number (takes_dot t)
+real_own k BigInt t h = real_number (takes_dot t)
+real_own k Word t h = tt
+real_own k Name t h = tt
+real_own k PrivateName t h = tt
+real_own k Str t h = tt
+real_own k Regex t h = tt
+real_own k (Template o) t h = tt
+real_own k (TemplateRest o) t h = tt
+real_own k Close t h = tt
+real_own k JsxName t h = tt
+real_own k JsxString t h = tt
+real_own k JsxText t h = tt
+real_own k Hashbang t h = tt
+
+real_gap : (k : Last) (ps : List Piece) → IsReal k → IsReal (last_after_gap k ps)
+unfolding last_after_gap IsReal
+real_gap k [] r = r
+real_gap k (p ∷ ps) r = tt
+
+semi_holds_none : holds_child (Mark (codes ";")) ≡ false
+unfolding holds_child is_same
+semi_holds_none = refl
+
+semi_is_no_start : Mark (codes ";") ≡ Start → ⊥
+semi_is_no_start e = cc
+
+-- what may begin after a semicolon may begin anywhere
+begins_anywhere : (k : Last) (y : Kind) → MayBegin (Mark (codes ";")) y → MayBegin k y
+begins_anywhere k y b = record {
+  child = λ c. absurd (true≢false (sym (b.child c) ∙ semi_holds_none));
+  first = λ c. absurd (semi_is_no_start (b.first c));
+}
+
+ending_char : (c : ℕ) (n : List ℕ) → (begins (codes "}") (c ∷ n) || begins (codes ";") (c ∷ n)) ≡ true → ((c == 125) || (c == 59)) ≡ true
+unfolding begins
+ending_char c n h =
+    elim (or_cases ((125 == c) && true) ((59 == c) && true) h) [
+      | inl x ↦ subst (λ z. ((z == 125) || (z == 59)) ≡ true) (eqb-true 125 c (and_parts (125 == c) true x).0) refl
+      | inr x ↦ subst (λ z. ((z == 125) || (z == 59)) ≡ true) (eqb-true 59 c (and_parts (59 == c) true x).0) refl
+    ]
+
+drop_semi : (k : Last) (xs : List Part) → IsReal k → allows k (codes ";") ≡ true → NoneFuse (mark_after k (codes ";")) xs → IsEnding xs → NoneFuse k xs
+unfolding NoneFuse IsEnding
+drop_semi k [] r a h e = end_allowed k a
+drop_semi k (Gap ps ∷ xs) r a h e = absurd e
+drop_semi k (Own y [] ∷ xs) r a h e = absurd (some_text y h.0)
+drop_semi k (Own y (c ∷ n) ∷ xs) r a h e =
+    let i = ending_char c n e in (
+      h.0,
+      quiet k c n r i,
+      begins_anywhere k y (subst (λ z. MayBegin z y) (mark_ending k 59 [] refl) h.2),
+      ending_allowed k c n a i,
+      subst (λ z. NoneFuse z xs) (last_ending k (mark_after k (codes ";")) y c n i) h.4,
+    )
+
+semi_parts : (k : Last) (x : Kind) (t : List ℕ) (xs : List Part) → Own x t ≡ Own Punctuator (codes ";") → (allows k t ≡ true) → NoneFuse (last_after k x t) xs → (allows k (codes ";") ≡ true) × NoneFuse (mark_after k (codes ";")) xs
+unfolding last_after
+semi_parts k x t xs e a h =
+    let f : x ≡ Punctuator = cc e in
+    let g : t ≡ codes ";" = cc e in
+    (subst (λ z. allows k z ≡ true) g a, subst (λ z. NoneFuse (last_after k Punctuator z) xs) g (subst (λ z. NoneFuse (last_after k z t) xs) f h))
+
+reduced_fuses : (xs ys : List Part) (k : Last) → IsReal k → NoneFuse k xs → Reduced xs ys → NoneFuse k ys
+unfolding NoneFuse Reduced
+reduced_fuses [] ys k r h e = let P : List Part → Type 0 = λ z. NoneFuse k z in subst P (sym e) h
+reduced_fuses (Gap ps ∷ xs) ys k r h (inl e) =
+    let P : List Part → Type 0 = λ z. NoneFuse k z in
+    subst P (sym e.1) (h.0, h.1, h.2, reduced_fuses xs e.0 (last_after_gap k ps) (real_gap k ps r) h.3 e.2)
+reduced_fuses (Gap ps ∷ xs) ys k r h (inr e) = absurd (cc e.0)
+reduced_fuses (Own x t ∷ xs) ys k r h (inl e) =
+    let P : List Part → Type 0 = λ z. NoneFuse k z in
+    subst P (sym e.1) (h.0, h.1, h.2, h.3, reduced_fuses xs e.0 (last_after k x t) (real_own k x t h.0) h.4 e.2)
+reduced_fuses (Own x t ∷ xs) ys k r h (inr e) =
+    let p = semi_parts k x t xs e.0 h.3 h.4 in
+    reduced_fuses xs ys k r (drop_semi k xs r p.0 p.1 e.1) e.2
+
+start_is_real : IsReal Start
+unfolding IsReal
+start_is_real = tt
+
+-- what is left reads as the tokens that are left
+pub reads_reduced : (xs ys : List Part) → NoneFuse Start xs → Reduced xs ys → Reads (text_of ys) (tokens_of ys) (remarks_in ys)
+reads_reduced xs ys h e = reads ys (reduced_fuses xs ys Start start_is_real h e)

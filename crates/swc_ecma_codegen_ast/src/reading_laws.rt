@@ -1,0 +1,28 @@
+//! Laws of reading, each the contract of a function that does nothing.
+
+ghost use Rattle.std.specs.Prelude.{◌≡◌, ℕ, List};
+ghost use Rattle.swc_ecma_codegen_ast.specs.Tokens.{Token};
+ghost use Rattle.swc_ecma_codegen_ast.specs.Trivia.{Remark};
+ghost use Rattle.swc_ecma_codegen_ast.specs.Reads.{Reads, kinds_of};
+ghost use Rattle.swc_ecma_codegen_ast.specs.GapRules.{Start};
+ghost use Rattle.swc_ecma_codegen_ast.specs.Parts.{Part, text_of, tokens_of, remarks_in, AllSpelled, AtStart, NoneFuse, Reduced, spaced};
+
+/// What the second pass makes of tokens, their spellings and comments reads as these tokens, with the comments between,
+/// each once and in order: `a` `-` `-` `b` becomes `a- -b`, and that reads as these four.
+#[tactic(auto, using(crate::proofs::Spacing::reads_spaced))]
+pub fn spaced_tokens_read()
+    ensures { (xs : List Part) → AllSpelled AtStart xs → Reads (text_of (spaced Start xs)) (tokens_of xs) (remarks_in xs) }
+{}
+
+/// A text without some semicolons, each of which stood right before `}`, `;` or the end, reads as the tokens that are
+/// left.
+#[tactic(auto, using(crate::proofs::Dropped::reads_reduced))]
+pub fn reduced_tokens_read()
+    ensures { (xs ys : List Part) → NoneFuse Start xs → Reduced xs ys → Reads (text_of ys) (tokens_of ys) (remarks_in ys) }
+{}
+
+/// For given kinds of tokens a text reads as one list at most, with one list of comments.
+#[tactic(auto, using(crate::proofs::Unique::reads_once))]
+pub fn one_reading()
+    ensures { (xs ys : List Token) (text : List ℕ) (cs ds : List Remark) → Reads text xs cs → Reads text ys ds → kinds_of xs ≡ kinds_of ys → (xs ≡ ys) × (cs ≡ ds) }
+{}

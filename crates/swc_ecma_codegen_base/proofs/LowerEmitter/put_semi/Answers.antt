@@ -1,0 +1,17 @@
+use Rattle.std.proofs.Common.{refl, None, codes}
+use Rattle.swc_ecma_codegen_ast.specs.declared.kinds.Kind.TheVariants.{Punctuator}
+use Rattle.swc_ecma_codegen_ast.specs.GapRules.{last_after}
+use Rattle.swc_ecma_codegen_tree.specs.Spans.{dummy_span}
+use Rattle.swc_ecma_codegen_text_writer.specs.Sheet.{Semi}
+use Rattle.swc_ecma_codegen_base.specs.Last.{last_at}
+use Rattle.swc_ecma_codegen_base.specs.Run.{after_token, spelling, text_of}
+use Rattle.swc_ecma_codegen_base.proofs.Calls.{called, level, is_level}
+use Rattle.swc_ecma_codegen_base.proofs.LowerEmitter.put_semi.Goals as goal
+
+pub returns-clause-items : goal.returns-clause-items
+unfolding last_at after_token last_after text_of
+returns-clause-items g c = called Punctuator (Semi None) _ _ _ _ _ _ _ _ c.requires c.write_semi-answer.ensures c.settle.ensures.ok c.settle.ensures.err c.settle.ensures.same c.then_punct-last.ensures
+
+pub returns-clause-level : goal.returns-clause-level
+unfolding is_level
+returns-clause-level g c = level _ _ _ _ _ c.write_semi-answer.ensures c.settle.ensures.same refl

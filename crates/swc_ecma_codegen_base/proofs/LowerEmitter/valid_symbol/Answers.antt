@@ -1,0 +1,13 @@
+use Rattle.std.proofs.Common.{refl, ◌∙◌}
+use Rattle.swc_ecma_codegen_base.proofs.Emitting.{emits_failed}
+use Rattle.swc_ecma_codegen_base.proofs.Spelled.{remade, not_remade}
+use Rattle.swc_ecma_codegen_base.proofs.LowerEmitter.valid_symbol.Goals as goal
+
+pub returns-then-self-clause-items : goal.returns-then-self-clause-items
+returns-then-self-clause-items g c = λ rest. emits_failed _ _ c.if-self.true
+
+pub returns-in-Ok-clause-items : goal.returns-in-Ok-clause-items
+returns-in-Ok-clause-items g c = remade _ _ _ _ _ _ c.if-self.false (c.deref.ensures.value ∙ c.in-Ok.ensures.value) c.symbol.ensures.items
+
+pub returns-in-Err-clause-items : goal.returns-in-Err-clause-items
+returns-in-Err-clause-items g c = not_remade _ _ _ _ _ c.if-self.false c.in-Err.ensures.refused c.in-Err.ensures.no_backslash refl

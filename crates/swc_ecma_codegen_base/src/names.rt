@@ -1,0 +1,100 @@
+//! Names.
+
+ghost use Rattle.std.specs.Prelude.{◌≡◌, None, OnOk, IsNone, codes, false};
+ghost use Rattle.swc_ecma_codegen_tree.specs.Spans.{dummy_span};
+ghost use Rattle.swc_ecma_codegen_literals.specs.ValidNames.{turned};
+ghost use Rattle.swc_ecma_codegen_base.specs.Run.{Emits, step, Remake};
+ghost use Rattle.swc_ecma_codegen_base.specs.Words.{name, name_text, symbol, valid_symbol, question};
+ghost use Rattle.swc_ecma_codegen_base.specs.View.{state_of};
+
+use crate::LowerEmitter;
+use swc_ecma_codegen_ast::comments::Comments;
+use swc_ecma_codegen_literals::valid_name;
+use swc_ecma_codegen_text_writer::WriteJs;
+use swc_ecma_codegen_tree::{Error, Result, Span};
+use swc_ecma_codegen_util::config::Config;
+
+impl LowerEmitter {
+    /// Writes a name by a text, and records its position.
+    #[tactic(auto, unfolding(crate::specs::Words::symbol))]
+    fn symbol<W: WriteJs>(&mut self, cfg: &Config, wr: &mut W, span: Span, text: &str) -> Result
+        ensures items { Emits (symbol span text.now) (state_of cfg.now (W.sheet wr.old) self.old) (state_of cfg.now (W.sheet wr.new) self.new) result }
+        ensures level { OnOk result ((W.sheet wr.new).indentation ≡ (W.sheet wr.old).indentation) }
+    {
+        self.guard(cfg, wr, text)?;
+        self.position(cfg, wr, span.lo)?;
+        self.guard(cfg, wr, text)?;
+        self.put_symbol(cfg, wr, text)?;
+        Ok(())
+    }
+
+    /// Writes a name in which U+0000 after a backslash is left out.
+    #[tactic(auto, unfolding(crate::specs::Words::valid_symbol))]
+    fn valid_symbol<W: WriteJs>(
+        &mut self,
+        cfg: &Config,
+        wr: &mut W,
+        span: Span,
+        name: &str,
+    ) -> Result
+        ensures items { Emits (valid_symbol span name.now) (state_of cfg.now (W.sheet wr.old) self.old) (state_of cfg.now (W.sheet wr.new) self.new) result }
+        ensures level { OnOk result ((W.sheet wr.new).indentation ≡ (W.sheet wr.old).indentation) }
+    {
+        if self.failed {
+            return Err(Error::Failed);
+        }
+        match valid_name(self.alloc, name) {
+            Ok(text) => self.symbol(cfg, wr, span, &text),
+            Err(error) => {
+                self.failed = true;
+                Err(error)
+            }
+        }
+    }
+
+    /// Writes the text of a name, as the writer takes names.
+    #[tactic(auto, unfolding(crate::specs::Words::name_text))]
+    fn name_text<W: WriteJs>(&mut self, cfg: &Config, wr: &mut W, span: Span, sym: &str) -> Result
+        ensures items { Emits (name_text span sym.now) (state_of cfg.now (W.sheet wr.old) self.old) (state_of cfg.now (W.sheet wr.new) self.new) result }
+        ensures level { OnOk result ((W.sheet wr.new).indentation ≡ (W.sheet wr.old).indentation) }
+    {
+        if wr.can_ignore_invalid_unicodes() {
+            return self.symbol(cfg, wr, span, sym);
+        }
+        self.valid_symbol(cfg, wr, span, sym)
+    }
+
+    /// Writes `?` after an optional name.
+    #[tactic(auto, unfolding(crate::specs::Words::question))]
+    fn question<W: WriteJs>(&mut self, cfg: &Config, wr: &mut W, optional: bool) -> Result
+        ensures items { Emits (question optional) (state_of cfg.now (W.sheet wr.old) self.old) (state_of cfg.now (W.sheet wr.new) self.new) result }
+        ensures level { OnOk result ((W.sheet wr.new).indentation ≡ (W.sheet wr.old).indentation) }
+    {
+        if optional {
+            self.punct(cfg, wr, "?")?;
+        }
+        Ok(())
+    }
+
+    /// Writes a name with its comments, and `?` after an optional one. swc's `emit_ident_like`.
+    #[tactic(auto, unfolding(crate::specs::Words::name))]
+    pub fn name<W: WriteJs, C: Comments>(
+        &mut self,
+        cfg: &Config,
+        comments: &Option<C>,
+        wr: &mut W,
+        span: Span,
+        sym: &str,
+        optional: bool,
+    ) -> Result
+        requires { IsNone comments.now }
+        ensures items { Emits (name span sym.now optional) (state_of cfg.now (W.sheet wr.old) self.old) (state_of cfg.now (W.sheet wr.new) self.new) result }
+        ensures level { OnOk result ((W.sheet wr.new).indentation ≡ (W.sheet wr.old).indentation) }
+    {
+        self.leading_comments(cfg, comments, wr, span.lo)?;
+        self.commit_pending_semi(cfg, wr)?;
+        self.name_text(cfg, wr, span, sym)?;
+        self.question(cfg, wr, optional)?;
+        Ok(())
+    }
+}

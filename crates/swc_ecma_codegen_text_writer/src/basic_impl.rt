@@ -1,0 +1,307 @@
+//! The writer over an `io::Write`.
+
+use crate::WriteJs;
+use crate::outlet::Outlet;
+use std::alloc::Global;
+use std::io::Write;
+use swc_ecma_codegen_tree::{BytePos, Error, LineCol, Result, Span};
+
+const DEFAULT_INDENT: &str = "    ";
+
+/// Writes lines with their indentation: at a line's start a text that isn't empty has the indentation first.
+///
+/// It takes no memory. swc's `text_writer::basic_impl::JsWriter`.
+#[derive(Drop)]
+pub struct JsWriter<'a, W: Write> {
+    alloc: Global,
+    outlet: Outlet<W>,
+    new_line: &'a str,
+    indent_str: &'static str,
+    indent: u32,
+    line_start: bool,
+    failed: bool,
+}
+
+impl<'a, W: Write> JsWriter<'a, W> {
+    ghost use Rattle.std.specs.Prelude.{◌≡◌, ◌<◌, true, false, IsSome, None};
+    ghost use Rattle.std.specs.Str.{is_utf8};
+    ghost use Rattle.swc_ecma_codegen_text_writer.specs.Told.{told};
+    ghost use Rattle.swc_ecma_codegen_text_writer.specs.Sheet.{Writes, Deeper, Shallower, Line, appended, indented, started};
+    ghost use Rattle.swc_ecma_codegen_text_writer.specs.View.{sheet_of, new_sheet, Tells, Reaches, WritesText, WritesNothing};
+
+    /// A writer at a line's start, with no indentation, whose lines end with `new_line`. Positions aren't kept yet:
+    /// `srcmap` is `None`.
+    #[tactic(auto, unfolding(crate::specs::View::sheet_of))]
+    pub fn new<S>(
+        alloc: Global,
+        _: &S,
+        new_line: &'a str,
+        wr: W,
+        srcmap: Option<&'a mut Vec<(BytePos, LineCol)>>,
+    ) -> Self
+        requires { srcmap ≡ None }
+        ensures sheet { sheet_of result ≡ new_sheet (told (W.contents wr)) new_line.now }
+        ensures tells { IsSome (W.contents wr) → Tells result }
+    {
+        let _ = srcmap;
+        JsWriter {
+            alloc,
+            outlet: Outlet::new(wr),
+            new_line,
+            indent_str: DEFAULT_INDENT,
+            indent: 0,
+            line_start: true,
+            failed: false,
+        }
+    }
+
+    /// What one level of indentation writes: four blanks unless it is called.
+    #[tactic(auto, unfolding(crate::specs::View::sheet_of))]
+    pub fn set_indent_str(&mut self, indent_str: &'static str)
+        ensures sheet { sheet_of self.new ≡ record (sheet_of self.old) { indent_text = indent_str.now } }
+        ensures tells { Tells self.old → Tells self.new }
+    {
+        self.indent_str = indent_str;
+    }
+
+    /// The writer under it. Where it told its bytes when it was handed in, it tells the sheet's text.
+    #[tactic(auto, unfolding(crate::specs::View::sheet_of))]
+    pub fn into_inner(self) -> W
+        ensures text { Tells self.entry → W.contents result ≡ Some (sheet_of self.entry).text }
+        ensures whole { (sheet_of self.entry).whole ≡ is_utf8 (sheet_of self.entry).text }
+    {
+        let JsWriter {
+            alloc: _,
+            outlet,
+            new_line: _,
+            indent_str: _,
+            indent: _,
+            line_start: _,
+            failed: _,
+        } = self;
+        outlet.into_inner()
+    }
+
+    #[tactic(auto, unfolding(crate::specs::View::sheet_of))]
+    fn set_line_start(&mut self, line_start: bool)
+        ensures { sheet_of self.new ≡ record (sheet_of self.old) { at_line_start = line_start } }
+    {
+        self.line_start = line_start;
+    }
+
+    /// Sends a text out as it is.
+    fn send(&mut self, text: &str) -> Result
+        requires { (sheet_of self.old).refused ≡ false }
+        ensures { Reaches (appended text.now (sheet_of self.old)) (sheet_of self.old) (sheet_of self.new) result }
+    {
+        match self.outlet.write_text(text) {
+            Ok(()) => Ok(()),
+            Err(error) => {
+                self.failed = true;
+                Err(Error::Writer(error))
+            }
+        }
+    }
+
+    /// Sends the indentation of a line.
+    fn indent(&mut self) -> Result
+        requires { (sheet_of self.old).refused ≡ false }
+        ensures { Reaches (indented (sheet_of self.old).indentation (sheet_of self.old)) (sheet_of self.old) (sheet_of self.new) result }
+    {
+        let indent_str = self.indent_str;
+        for _ in 0..self.indent {
+            self.send(indent_str)?;
+        }
+        Ok(())
+    }
+
+    /// Sends the indentation, at a line's start.
+    fn start_line(&mut self) -> Result
+        requires { (sheet_of self.old).refused ≡ false }
+        ensures { Reaches (started (sheet_of self.old)) (sheet_of self.old) (sheet_of self.new) result }
+    {
+        if self.line_start {
+            self.indent()?;
+            self.set_line_start(false);
+        }
+        Ok(())
+    }
+
+    /// Writes a text that isn't empty.
+    fn put(&mut self, text: &str) -> Result
+        requires { (sheet_of self.old).refused ≡ false }
+        ensures { Reaches (appended text.now (started (sheet_of self.old))) (sheet_of self.old) (sheet_of self.new) result }
+    {
+        self.start_line()?;
+        self.send(text)
+    }
+
+    /// Writes a text, after the indentation at a line's start.
+    fn write(&mut self, text: &str) -> Result
+        ensures { WritesText text.now (sheet_of self.old) (sheet_of self.new) result }
+    {
+        if self.failed {
+            return Err(Error::Failed);
+        }
+        if text.is_empty() {
+            return Ok(());
+        }
+        self.put(text)
+    }
+
+    /// Writes the line's end, unless at a line's start.
+    fn end_line(&mut self) -> Result
+        ensures { Writes Line (sheet_of self.old) (sheet_of self.new) result }
+    {
+        if self.failed {
+            return Err(Error::Failed);
+        }
+        if !self.line_start {
+            self.send(self.new_line)?;
+            self.set_line_start(true);
+        }
+        Ok(())
+    }
+
+    /// One level more.
+    fn deepen(&mut self) -> Result
+        ensures { Writes Deeper (sheet_of self.old) (sheet_of self.new) result }
+    {
+        if self.failed {
+            return Err(Error::Failed);
+        }
+        let indent = self.indent;
+        if indent == u32::MAX {
+            self.failed = true;
+            return Err(Error::PositionTooLarge);
+        }
+        self.indent = indent + 1;
+        Ok(())
+    }
+
+    /// One level less.
+    #[tactic(auto, unfolding(crate::specs::View::sheet_of))]
+    fn shallow(&mut self) -> Result
+        requires { 0 < (sheet_of self.old).indentation }
+        ensures { Writes Shallower (sheet_of self.old) (sheet_of self.new) result }
+    {
+        if self.failed {
+            return Err(Error::Failed);
+        }
+        self.indent -= 1;
+        Ok(())
+    }
+
+    /// Does nothing, for a call that has nothing to do here.
+    fn nothing(&mut self) -> Result
+        ensures { WritesNothing (sheet_of self.old) (sheet_of self.new) result }
+    {
+        if self.failed {
+            return Err(Error::Failed);
+        }
+        Ok(())
+    }
+}
+
+impl<W: Write> WriteJs for JsWriter<'_, W> {
+    ghost use Rattle.swc_ecma_codegen_text_writer.specs.View.{sheet_of};
+
+    ghost sheet = { sheet_of };
+
+    fn increase_indent(&mut self) -> Result {
+        self.deepen()
+    }
+
+    fn decrease_indent(&mut self) -> Result {
+        self.shallow()
+    }
+
+    #[tactic(auto, unfolding(crate::specs::Sheet::effect))]
+    fn write_semi(&mut self, _span: Option<Span>) -> Result {
+        self.write(";")
+    }
+
+    #[tactic(auto, unfolding(crate::specs::Sheet::effect))]
+    fn write_space(&mut self) -> Result {
+        self.write(" ")
+    }
+
+    #[tactic(auto, unfolding(crate::specs::Sheet::effect))]
+    fn write_keyword(&mut self, _span: Option<Span>, s: &'static str) -> Result {
+        self.write(s)
+    }
+
+    #[tactic(auto, unfolding(crate::specs::Sheet::effect))]
+    fn write_operator(&mut self, _span: Option<Span>, s: &str) -> Result {
+        self.write(s)
+    }
+
+    #[tactic(auto, unfolding(crate::specs::Sheet::effect))]
+    fn write_param(&mut self, s: &str) -> Result {
+        self.write(s)
+    }
+
+    #[tactic(auto, unfolding(crate::specs::Sheet::effect))]
+    fn write_property(&mut self, s: &str) -> Result {
+        self.write(s)
+    }
+
+    fn write_line(&mut self) -> Result {
+        self.end_line()
+    }
+
+    #[tactic(auto, unfolding(crate::specs::Sheet::effect))]
+    fn write_lit(&mut self, _span: Span, s: &str) -> Result {
+        self.write(s)
+    }
+
+    #[tactic(auto, unfolding(crate::specs::Sheet::effect))]
+    fn write_comment(&mut self, s: &str) -> Result {
+        self.write(s)
+    }
+
+    #[tactic(auto, unfolding(crate::specs::Sheet::effect))]
+    fn write_str_lit(&mut self, _span: Span, s: &str) -> Result {
+        self.write(s)
+    }
+
+    #[tactic(auto, unfolding(crate::specs::Sheet::effect))]
+    fn write_str(&mut self, s: &str) -> Result {
+        self.write(s)
+    }
+
+    #[tactic(auto, unfolding(crate::specs::Sheet::effect))]
+    fn write_symbol(&mut self, _span: Span, s: &str) -> Result {
+        self.write(s)
+    }
+
+    #[tactic(auto, unfolding(crate::specs::Sheet::effect))]
+    fn write_punct(&mut self, _span: Option<Span>, s: &'static str) -> Result {
+        self.write(s)
+    }
+
+    #[tactic(auto, unfolding(crate::specs::View::sheet_of))]
+    fn care_about_srcmap(&self) -> bool {
+        false
+    }
+
+    #[tactic(auto, unfolding(crate::specs::Sheet::effect))]
+    fn add_srcmap(&mut self, _pos: BytePos) -> Result {
+        self.nothing()
+    }
+
+    #[tactic(auto, unfolding(crate::specs::Sheet::effect))]
+    fn commit_pending_semi(&mut self) -> Result {
+        self.nothing()
+    }
+
+    #[tactic(auto, unfolding(crate::specs::View::sheet_of))]
+    fn can_ignore_invalid_unicodes(&mut self) -> bool {
+        false
+    }
+
+    #[tactic(auto, unfolding(crate::specs::View::sheet_of))]
+    fn holds_semi(&self) -> bool {
+        false
+    }
+}

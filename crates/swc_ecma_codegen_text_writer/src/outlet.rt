@@ -1,0 +1,106 @@
+//! The bytes go out here: one call of `write` at a time, and each fault is counted.
+
+ghost use Rattle.std.specs.Prelude.{◌≡◌, ◌<◌, ◌≤◌, ◌++◌, length, take, IfOk, OnOk, OnErr, IsSome};
+ghost use Rattle.std.specs.Str.{is_utf8};
+ghost use Rattle.std.proofs.Props.{props};
+ghost use Rattle.swc_ecma_codegen_text_writer.specs.Told.{Rises, IsFront, TellsSince};
+
+use crate::logs::{Log, Taken};
+use std::io;
+use std::io::{ErrorKind, Write};
+use std::snapshot::Snapshot;
+
+/// A writer, and how many calls of its `write` failed. Proofs see further how it was handed in, and what went out since.
+#[derive(Drop)]
+pub struct Outlet<W: Write> {
+    inner: W,
+    faults: u64,
+    before: Snapshot<W>,
+    log: Log,
+    ghost tells: { TellsSince (W.contents before.value) log.bytes (W.contents inner) } by { Prim.hlevel props },
+}
+
+impl<W: Write> Outlet<W> {
+    ghost use Rattle.swc_ecma_codegen_text_writer.specs.Told.{told};
+    ghost use Rattle.swc_ecma_codegen_text_writer.specs.Sent.{sent};
+
+    pub fn new(inner: W) -> Outlet<W>
+        ensures before { result.before.value ≡ inner }
+        ensures sent { sent result ≡ told (W.contents inner) }
+        ensures faults { result.faults ≡ 0 }
+    {
+        let before = Snapshot::of(&inner);
+        Outlet {
+            inner,
+            faults: 0,
+            before,
+            log: Log::new(),
+        }
+    }
+
+    pub fn into_inner(self) -> W
+        ensures { IsSome (W.contents self.before.value) → W.contents result ≡ Some (sent self) }
+    {
+        let Outlet {
+            inner,
+            faults: _,
+            before: _,
+            log: _,
+        } = self;
+        inner
+    }
+
+    fn count_fault(&mut self)
+        ensures before { self.new.before ≡ self.old.before }
+        ensures log { self.new.log ≡ self.old.log }
+        ensures faults { Rises self.old.faults self.new.faults }
+    {
+        self.faults = self.faults.saturating_add(1);
+    }
+
+    /// Calls `write` once. A fault is counted, an interruption too, and so is an answer of 0.
+    fn write_once(&mut self, rest: &[u8]) -> io::Result<usize>
+        requires { 0 < length rest.now }
+        ensures taken { IfOk result (λ n. (0 < n) × (n ≤ length rest.now)) }
+        ensures before { self.new.before ≡ self.old.before }
+        ensures sent { IfOk result (λ n. sent self.new ≡ sent self.old ++ take n rest.now) }
+        ensures faults { OnOk result (self.new.faults ≡ self.old.faults) }
+        ensures nothing { OnErr result (sent self.new ≡ sent self.old) }
+        ensures counted { OnErr result (Rises self.old.faults self.new.faults) }
+    {
+        match self.inner.write(rest) {
+            Ok(0) => {
+                self.count_fault();
+                Err(io::Error::from(ErrorKind::WriteZero))
+            }
+            Ok(n) => {
+                let taken = Taken { bytes: &rest[..n] };
+                self.log = self.log.then(&taken);
+                Ok(n)
+            }
+            Err(error) => {
+                self.count_fault();
+                Err(error)
+            }
+        }
+    }
+
+    /// Writes a text.
+    pub fn write_text(&mut self, text: &str) -> io::Result<()>
+        ensures before { self.new.before ≡ self.old.before }
+        ensures sent { OnOk result (sent self.new ≡ sent self.old ++ text.now) }
+        ensures faults { OnOk result (self.new.faults ≡ self.old.faults) }
+        ensures grows { OnErr result (IsFront (sent self.old) (sent self.new)) }
+        ensures front { OnErr result (IsFront (sent self.new) (sent self.old ++ text.now)) }
+        ensures counted { OnErr result (Rises self.old.faults self.new.faults) }
+        // What was text stays text, and what wasn't doesn't become it.
+        ensures whole { OnOk result (is_utf8 (sent self.new) ≡ is_utf8 (sent self.old)) }
+    {
+        let mut rest = text.as_bytes();
+        while !rest.is_empty() {
+            let taken = self.write_once(rest)?;
+            rest = &rest[taken..];
+        }
+        Ok(())
+    }
+}
