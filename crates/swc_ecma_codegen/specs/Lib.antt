@@ -6,3 +6,4 @@ pub mod Exprs
 pub mod Stmts
 pub mod Programs
 pub mod Tree
+pub mod Texts

@@ -1,6 +1,7 @@
 -- Lists of nodes.
 use Rattle.std.specs.Prelude.{Bool, false, true, if◌then◌else◌, List, [], ◌∷◌, Option, Some, None, codes}
 use Rattle.swc_ecma_codegen_base.specs.Run.{Part}
+use Rattle.swc_ecma_codegen.specs.declared.nodes.Place.{Place}
 use Rattle.swc_ecma_codegen_base.specs.Words.{punct, formatting_space}
 
 -- a comma and a blank, except before the first
@@ -18,6 +19,6 @@ in_order each [] rest = rest
 in_order each (x ∷ xs) rest = each x (in_order each xs rest)
 
 -- what is there
-unfoldable pub if_some : {A : Type 0} → (A → Part) → Option A → Part
-if_some each None rest = rest
-if_some each (Some x) rest = each x rest
+unfoldable pub if_some_at : {A : Type 0} → (A → Place → Part) → Option A → Place → Part
+if_some_at items None place rest = rest
+if_some_at items (Some x) place rest = items x place rest

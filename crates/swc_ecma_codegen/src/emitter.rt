@@ -1,13 +1,22 @@
 //! The emitter.
 
-ghost use Rattle.std.specs.Prelude.{◌≡◌, false, IsTrue, is_none};
+ghost use Rattle.std.specs.Prelude.{◌≡◌, false, true, IsTrue, is_none, IfErr, OnErr, OnOk, Err, IsOk};
+ghost use Rattle.swc_ecma_codegen_text_writer.specs.Told.{IsFront};
+ghost use Rattle.swc_ecma_codegen_base.specs.Run.{Part, Emits, Follows, HasCause, IsUnhindered, nothing, printed, steps_in, start};
 
+use crate::nodes::{EmitAt, Place};
+use std::alloc::Global;
+use swc_ecma_codegen_ast::comments::Comments;
+use swc_ecma_codegen_ast::mapper::SourceMapper;
 use swc_ecma_codegen_base::LowerEmitter;
+use swc_ecma_codegen_text_writer::WriteJs;
+use swc_ecma_codegen_tree::{Error, Program, Result, Script};
 use swc_ecma_codegen_util::config::Config;
 
 /// Prints nodes to a writer. Once a call was refused, each further call that gives a `Result` answers `Failed`.
 ///
-/// `comments` is `None`, and the names are printed as they are (`ascii_only` is false), until both are supported.
+/// Until they are supported, `comments` is `None`, and names are printed as they are: `ascii_only` is false.
+#[derive(Drop)]
 pub struct Emitter<'a, W, S, C> {
     /// The settings.
     pub cfg: Config,
@@ -20,4 +29,103 @@ pub struct Emitter<'a, W, S, C> {
     pub(crate) lower: LowerEmitter,
     ghost names_as_they_are: { cfg.ascii_only ≡ false },
     ghost no_comments: { IsTrue (is_none comments) },
+}
+
+impl<'a, W: WriteJs, S: SourceMapper, C: Comments> Emitter<'a, W, S, C> {
+    ghost use Rattle.swc_ecma_codegen.specs.View.{state_of};
+    ghost use Rattle.swc_ecma_codegen.specs.Tree.{any_items};
+    ghost use Rattle.swc_ecma_codegen.specs.Programs.{program, script};
+    ghost use Rattle.swc_ecma_codegen.specs.declared.nodes.Place.TheVariants.{Plain};
+
+    /// An emitter that has written nothing. Takes no memory.
+    pub fn new(alloc: Global, cfg: Config, cm: &'a S, comments: Option<C>, wr: W) -> Self
+        requires ascii { cfg.ascii_only ≡ false }
+        requires comments { IsTrue (is_none comments) }
+        ensures state { state_of W.sheet result ≡ start cfg (W.sheet wr) }
+        ensures wr { result.wr ≡ wr }
+    {
+        Emitter {
+            cfg,
+            cm,
+            comments,
+            wr,
+            lower: LowerEmitter::new(alloc),
+        }
+    }
+
+    /// Prints a node, unless a call was refused before.
+    #[tactic(auto, using(swc_ecma_codegen_base::proofs::Emitting::emits_nothing, swc_ecma_codegen_base::proofs::Fronts::follows_failed, swc_ecma_codegen_base::proofs::Fronts::follows_front, swc_ecma_codegen_base::proofs::Fronts::follows_marked, swc_ecma_codegen_base::proofs::Fronts::follows_cause, swc_ecma_codegen_base::proofs::Fronts::follows_succeeds))]
+    pub(crate) fn emit<T: EmitAt>(&mut self, node: &T) -> Result
+        // The steps of the tree are made, and it comes to no node that can't be printed; or it halts.
+        ensures items { Follows (T.items node.now Plain nothing) (state_of W.sheet self.old) (state_of W.sheet self.new) result }
+        // What is out is a beginning of the text of these steps.
+        ensures front { IsFront (W.sheet self.new.wr).text (printed (T.items node.now Plain) (state_of W.sheet self.old)).sheet.text }
+        // It is refused only for the cause that the error names.
+        ensures cause { IfErr result (λ error. HasCause (steps_in (T.items node.now Plain) (state_of W.sheet self.old)) error (state_of W.sheet self.old) (state_of W.sheet self.new)) }
+        // Where nothing stands in its way, it is made.
+        ensures succeeds { IsUnhindered (steps_in (T.items node.now Plain) (state_of W.sheet self.old)) (state_of W.sheet self.old) (state_of W.sheet self.new) → IsOk result }
+        ensures marked { OnErr result ((state_of W.sheet self.new).failed ≡ true) }
+        ensures failed { (state_of W.sheet self.old).failed ≡ true → result ≡ Err Error.Failed }
+        // The indentation is what it was.
+        ensures level { OnOk result ((W.sheet self.new.wr).indentation ≡ (W.sheet self.old.wr).indentation) }
+    {
+        if self.lower.is_failed() {
+            return Err(Error::Failed);
+        }
+        node.emit_at(self, Place::Plain)?;
+        Ok(())
+    }
+
+    /// Prints a program. swc's `emit_program`.
+    pub fn emit_program(&mut self, node: &Program) -> Result
+        // The steps of the tree are made, and it comes to no node that can't be printed; or it halts.
+        ensures items { Follows (program any_items node.now nothing) (state_of W.sheet self.old) (state_of W.sheet self.new) result }
+        // What is out is a beginning of the text of these steps.
+        ensures front { IsFront (W.sheet self.new.wr).text (printed (program any_items node.now) (state_of W.sheet self.old)).sheet.text }
+        // It is refused only for the cause that the error names.
+        ensures cause { IfErr result (λ error. HasCause (steps_in (program any_items node.now) (state_of W.sheet self.old)) error (state_of W.sheet self.old) (state_of W.sheet self.new)) }
+        // Where nothing stands in its way, it is made.
+        ensures succeeds { IsUnhindered (steps_in (program any_items node.now) (state_of W.sheet self.old)) (state_of W.sheet self.old) (state_of W.sheet self.new) → IsOk result }
+        ensures marked { OnErr result ((state_of W.sheet self.new).failed ≡ true) }
+        ensures failed { (state_of W.sheet self.old).failed ≡ true → result ≡ Err Error.Failed }
+        // The indentation is what it was.
+        ensures level { OnOk result ((W.sheet self.new.wr).indentation ≡ (W.sheet self.old.wr).indentation) }
+    {
+        self.emit(node)
+    }
+
+    /// Prints a script: the text of each statement, and then a semicolon that is held back, unless the settings leave
+    /// it out. swc's `emit_script`.
+    pub fn emit_script(&mut self, node: &Script) -> Result
+        // The steps of the tree are made, and it comes to no node that can't be printed; or it halts.
+        ensures items { Follows (script any_items node.now nothing) (state_of W.sheet self.old) (state_of W.sheet self.new) result }
+        // What is out is a beginning of the text of these steps.
+        ensures front { IsFront (W.sheet self.new.wr).text (printed (script any_items node.now) (state_of W.sheet self.old)).sheet.text }
+        // It is refused only for the cause that the error names.
+        ensures cause { IfErr result (λ error. HasCause (steps_in (script any_items node.now) (state_of W.sheet self.old)) error (state_of W.sheet self.old) (state_of W.sheet self.new)) }
+        // Where nothing stands in its way, it is made.
+        ensures succeeds { IsUnhindered (steps_in (script any_items node.now) (state_of W.sheet self.old)) (state_of W.sheet self.old) (state_of W.sheet self.new) → IsOk result }
+        ensures marked { OnErr result ((state_of W.sheet self.new).failed ≡ true) }
+        ensures failed { (state_of W.sheet self.old).failed ≡ true → result ≡ Err Error.Failed }
+        // The indentation is what it was.
+        ensures level { OnOk result ((W.sheet self.new.wr).indentation ≡ (W.sheet self.old.wr).indentation) }
+    {
+        self.emit(node)
+    }
+}
+
+impl<W, S, C: Drop> Emitter<'_, W, S, C> {
+    /// The writer.
+    pub(crate) fn into_writer(self) -> W
+        ensures { result ≡ self.entry.wr }
+    {
+        let Emitter {
+            cfg: _,
+            cm: _,
+            comments: _,
+            wr,
+            lower: _,
+        } = self;
+        wr
+    }
 }

@@ -1,16 +1,20 @@
 //! Prints trees of ECMAScript as text. A port of `swc_ecma_codegen`.
 #![tactic(auto)]
 
+mod code;
 mod emitter;
 mod expr;
 mod knot;
 mod lists;
+mod node;
 pub mod nodes;
 pub mod operands;
 mod stmt;
 mod tokens;
 
+pub use crate::code::to_code;
 pub use crate::emitter::Emitter;
+pub use crate::node::Node;
 pub use swc_ecma_codegen_ast as ast;
 pub use swc_ecma_codegen_ast::{Error, Result};
 pub use swc_ecma_codegen_text_writer as text_writer;

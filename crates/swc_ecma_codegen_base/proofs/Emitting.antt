@@ -5,7 +5,8 @@ use Rattle.swc_ecma_codegen_tree.specs.declared.errors.Error.{Error}
 use Rattle.swc_ecma_codegen_tree.specs.declared.errors.Error.TheVariants.{Failed}
 use Rattle.swc_ecma_codegen_ast.specs.GapRules.{fuses, Apart}
 use Rattle.swc_ecma_codegen_text_writer.specs.Sheet.{Item, Space, Sheet, effect, Writes, Refuses}
-use Rattle.swc_ecma_codegen_base.specs.Run.{Env, Plan, Part, State, Step, Guard, Token, Plain, Steps, next, IsRefused, Halts, earlier, stopped, reached, Follows, Emits, run, steps_of, refusal_of, put, step, refuse, nothing, when_minified, no_part}
+use Rattle.swc_ecma_codegen_base.specs.declared.refusals.Refusal.{Refusal}
+use Rattle.swc_ecma_codegen_base.specs.Run.{Env, Plan, Part, State, Step, Guard, Token, Plain, Steps, next, IsRefused, Halts, earlier, stopped, reached, Follows, Emits, run, steps_of, error_of, refusal_of, put, step, refuse, nothing, when_minified, no_part}
 
 -- an earlier refusal is not forgotten
 pub put_failed : (x : Step) (s : State) → (put x s).failed ≡ s.failed
@@ -26,7 +27,7 @@ halts_later : (x : Step) {xs : Steps} {e : Error} {a b : State} → a.failed ≡
 unfolding run steps_of refusal_of
 halts_later x {a = a} f (earlier h k eq) = absurd (let z : true ≡ false = sym h ∙ put_failed x a ∙ f in cc)
 halts_later x f (stopped h) = stopped (record { front = x ∷ h.front; step = h.step; rest = h.rest; split = ap (λ zs. x ∷ zs) h.split; fresh = f; marked = h.marked; refuses = h.refuses })
-halts_later x f (reached h r m) = reached f r m
+halts_later x f (reached r h k eq m) = reached r f k eq m
 
 -- a step that is made, and then the rest
 pub follows_step : (x : Step) (rest : Plan) (a c : State) (r : Result (Unit {0}) Error) → a.failed ≡ false → Follows rest (put x a) c r → Follows (step x rest) a c r
@@ -49,9 +50,9 @@ unfolding Follows step run steps_of
 emits_refused x e a b f eq h rest = stopped (record { front = []; step = x; rest = steps_of (rest a.env); split = refl; fresh = f; marked = eq; refuses = h })
 
 -- a node that can't be printed
-pub emits_refusal : (e : Error) (a b : State) → a.failed ≡ false → b ≡ record a { failed = true } → (rest : Plan) → Follows (refuse e rest) a b (Err e)
+pub emits_refusal : (r : Refusal) (e : Error) (a b : State) → a.failed ≡ false → e ≡ error_of r → b ≡ record a { failed = true } → (rest : Plan) → Follows (refuse r rest) a b (Err e)
 unfolding Follows refuse refusal_of steps_of run
-emits_refusal e a b h eq rest = reached h refl eq
+emits_refusal r e a b h eq k rest = reached r h refl eq k
 
 -- nothing is left
 pub emits_nothing : (a : State) → Follows nothing a a (Ok tt)

@@ -1,15 +1,17 @@
 -- What an emission does: its steps, where each leads, and how it stops.
-use Rattle.std.specs.Prelude.{◌≡◌, ◌⊎◌, ℕ, ◌-◌, ◌^◌, Bool, true, false, not, ◌||◌, if◌then◌else◌, List, [], ◌∷◌, ◌++◌, codes, ◌==◌, Option, Some, None, Result, Ok, Err}
+use Rattle.std.specs.Prelude.{◌≡◌, ℕ, ◌<◌, ◌-◌, ◌^◌, Bool, true, false, ◌||◌, if◌then◌else◌, List, [], ◌∷◌, ◌++◌, codes, Option, Some, None, Result, Ok, Err}
 use Rattle.std.specs.Str.{chars}
 use Rattle.swc_ecma_codegen_tree.specs.declared.errors.Error.{Error}
 use Rattle.swc_ecma_codegen_tree.specs.declared.errors.Error.TheVariants.{Writer, OutOfMemory, UnsupportedNode, BadShape, NameOutOfTarget, PositionTooLarge, Failed}
 use Rattle.swc_ecma_codegen_util.specs.declared.config.Config.{Config}
 use Rattle.swc_ecma_codegen_ast.specs.declared.kinds.Kind.{Kind}
 use Rattle.swc_ecma_codegen_ast.specs.declared.kinds.Kind.TheVariants.{Punctuator}
-use Rattle.swc_ecma_codegen_ast.specs.GapRules.{Last, Apart, fuses, last_after}
+use Rattle.swc_ecma_codegen_ast.specs.GapRules.{Last, Start, Apart, fuses, last_after}
 use Rattle.swc_ecma_codegen_text_writer.specs.Sheet.{Item, Semi, Space, Keyword, Operator, Param, Property, Line, Lit, Comment, StrLit, Str, Symbol, Punct, Position, Commit, Deeper, Shallower, Sheet, effect, Refuses}
 use Rattle.swc_ecma_codegen_text_writer.specs.Told.{Rises}
 use Rattle.swc_ecma_codegen_literals.specs.ValidNames.{has_byte}
+use Rattle.swc_ecma_codegen_base.specs.declared.refusals.Refusal.{Refusal}
+use Rattle.swc_ecma_codegen_base.specs.declared.refusals.Refusal.TheVariants as refusals
 
 -- a step of an emission
 pub data Step : Type 0 where
@@ -93,10 +95,16 @@ IsRefused (Token kind x) e a new = Refuses x e a.sheet new
 IsRefused (Plain x) e a new = Refuses x e a.sheet new
 IsRefused (Remake name) e a new = (e ≡ OutOfMemory) × (has_backslash name ≡ true) × (new ≡ a.sheet)
 
+-- the error that a node that can't be printed is refused with
+unfoldable pub error_of : Refusal → Error
+error_of refusals.UnsupportedNode = UnsupportedNode
+error_of refusals.BadShape = BadShape
+error_of refusals.NameOutOfTarget = NameOutOfTarget
+
 -- The steps that a tree asks for: they come to an end, or to a node that can't be printed.
 pub data Steps : Type 0 where
   done : Steps
-  refused : Error → Steps
+  refused : Refusal → Steps
   next : Step → Steps → Steps
 
 -- the steps, up to the end or to the node that can't be printed
@@ -106,7 +114,7 @@ steps_of (refused e) = []
 steps_of (next x xs) = x ∷ steps_of xs
 
 -- why they go no further than that, if for a reason
-unfoldable pub refusal_of : Steps → Option Error
+unfoldable pub refusal_of : Steps → Option Refusal
 refusal_of done = None
 refusal_of (refused e) = Some e
 refusal_of (next x xs) = refusal_of xs
@@ -126,7 +134,7 @@ pub record Stops (xs : List Step) (e : Error) (a b : State) : Type 0 where
 pub data Halts (xs : Steps) (e : Error) (a b : State) : Type 0 where
   earlier : a.failed ≡ true → e ≡ Failed → b ≡ a → Halts xs e a b
   stopped : Stops (steps_of xs) e a b → Halts xs e a b
-  reached : a.failed ≡ false → refusal_of xs ≡ Some e → b ≡ record (run (steps_of xs) a) { failed = true } → Halts xs e a b
+  reached : (r : Refusal) → a.failed ≡ false → refusal_of xs ≡ Some r → e ≡ error_of r → b ≡ record (run (steps_of xs) a) { failed = true } → Halts xs e a b
 
 -- What is to be done.
 abbrev pub Plan : Type 0
@@ -158,8 +166,8 @@ unfoldable pub step : Step → Part
 step x rest env = next x (rest env)
 
 -- a node that can't be printed, whatever comes after it
-unfoldable pub refuse : Error → Part
-refuse e rest env = refused e
+unfoldable pub refuse : Refusal → Part
+refuse r rest env = refused r
 
 -- one part, where the settings are to minify, else another
 unfoldable pub when_minified : Part → Part → Part
@@ -169,32 +177,64 @@ when_minified part other rest env = if env.config.minify then part rest env else
 unfoldable pub no_part : Part
 no_part rest = rest
 
--- the name of a step is made anew, in memory
-unfoldable pub takes_memory : List Step → Bool
-takes_memory [] = false
-takes_memory (Remake name ∷ xs) = has_backslash name || takes_memory xs
-takes_memory (Guard t ∷ xs) = takes_memory xs
-takes_memory (Token kind x ∷ xs) = takes_memory xs
-takes_memory (Plain x ∷ xs) = takes_memory xs
+-- a name of these steps is made anew, in memory
+unfoldable pub remakes_name : List Step → Bool
+remakes_name [] = false
+remakes_name (Remake name ∷ xs) = has_backslash name || remakes_name xs
+remakes_name (Guard t ∷ xs) = remakes_name xs
+remakes_name (Token kind x ∷ xs) = remakes_name xs
+remakes_name (Plain x ∷ xs) = remakes_name xs
+
+-- a step that makes the indentation deeper
+unfoldable pub deepens : Step → Type 0
+deepens (Token kind x) = x ≡ Deeper
+deepens (Plain x) = x ≡ Deeper
+deepens (Guard t) = ⊥
+deepens (Remake name) = ⊥
 
 -- The indentation would pass its limit at one of the steps.
 pub record PassesLimit (xs : List Step) (a : State) : Type 0 where
   pub front : List Step
+  pub step : Step
   pub rest : List Step
-  pub split : xs ≡ front ++ (Plain Deeper ∷ rest)
+  pub split : xs ≡ front ++ (step ∷ rest)
+  pub is_deeper : deepens step
   pub at_limit : (run front a).sheet.indentation ≡ 2 ^ 32 - 1
 
 -- The steps come to a node that can't be printed, and all before it are made.
-pub record IsReached (xs : Steps) (e : Error) (a b : State) : Type 0 where
-  pub refusal : refusal_of xs ≡ Some e
+pub record IsReached (xs : Steps) (r : Refusal) (a b : State) : Type 0 where
+  pub refusal : refusal_of xs ≡ Some r
   pub made : b ≡ record (run (steps_of xs) a) { failed = true }
 
 -- An emission is refused only for the cause that its error names.
 unfoldable pub HasCause : Steps → Error → State → State → Type 0
 HasCause xs (Writer w) a b = Rises a.sheet.faults b.sheet.faults
-HasCause xs OutOfMemory a b = (a.sheet.takes_memory ≡ true) ⊎ (takes_memory (steps_of xs) ≡ true)
+HasCause xs OutOfMemory a b = (a.sheet.takes_memory || remakes_name (steps_of xs)) ≡ true
 HasCause xs PositionTooLarge a b = PassesLimit (steps_of xs) a
-HasCause xs Failed a b = (a.failed ≡ true) ⊎ (a.sheet.refused ≡ true)
-HasCause xs UnsupportedNode a b = IsReached xs UnsupportedNode a b
-HasCause xs BadShape a b = IsReached xs BadShape a b
-HasCause xs NameOutOfTarget a b = IsReached xs NameOutOfTarget a b
+HasCause xs Failed a b = (a.failed || a.sheet.refused) ≡ true
+HasCause xs UnsupportedNode a b = IsReached xs refusals.UnsupportedNode a b
+HasCause xs BadShape a b = IsReached xs refusals.BadShape a b
+HasCause xs NameOutOfTarget a b = IsReached xs refusals.NameOutOfTarget a b
+
+-- Nothing stands in the way of an emission: nothing was refused before, the writer counts no fault and its count isn't
+-- at its last value, neither it nor a name asks for memory, the indentation stays in its limit, and each node can be
+-- printed.
+pub record IsUnhindered (xs : Steps) (a b : State) : Type 0 where
+  pub fresh : (a.failed || a.sheet.refused) ≡ false
+  pub no_fault : b.sheet.faults ≡ a.sheet.faults
+  pub can_count : a.sheet.faults < 2 ^ 64 - 1
+  pub no_memory : (a.sheet.takes_memory || remakes_name (steps_of xs)) ≡ false
+  pub within : PassesLimit (steps_of xs) a → ⊥
+  pub printable : refusal_of xs ≡ None
+
+-- the steps of a part that nothing comes after
+abbrev pub steps_in : Part → State → Steps
+steps_in part a = part nothing a.env
+
+-- where these steps lead, up to the end or to the node that can't be printed
+abbrev pub printed : Part → State → State
+printed part a = run (steps_of (steps_in part a)) a
+
+-- where an emission over a sheet begins
+abbrev pub start : Config → Sheet → State
+start config sheet = record { env = record { config = config; keeps_invalid = sheet.keeps_invalid }; sheet = sheet; last = Start; failed = false }

@@ -6,9 +6,11 @@ ghost use Rattle.std.specs.Prelude.{◌≡◌, false};
 mod comments;
 mod guard;
 mod names;
+mod refusals;
 mod tokens;
 
 pub use crate::guard::Last;
+pub use crate::refusals::Refusal;
 use std::alloc::Global;
 
 /// What an emission keeps from one call to the next: the allocator, the last token, and whether a call was refused.

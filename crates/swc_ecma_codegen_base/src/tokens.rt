@@ -4,7 +4,7 @@ ghost use Rattle.std.specs.Prelude.{◌≡◌, Some, None, OnOk, OnErr, Option, 
 ghost use Rattle.swc_ecma_codegen_tree.specs.Spans.{dummy_span};
 ghost use Rattle.swc_ecma_codegen_text_writer.specs.Sheet.{Semi, Space, Keyword, Operator, Line, Symbol, Punct, Position, Commit};
 ghost use Rattle.swc_ecma_codegen_ast.specs.declared.kinds.Kind.TheVariants.{Word, Name, Punctuator};
-ghost use Rattle.swc_ecma_codegen_base.specs.Run.{Emits, step, Guard, Token, Plain, refuse};
+ghost use Rattle.swc_ecma_codegen_base.specs.Run.{Emits, step, Guard, Token, Plain};
 ghost use Rattle.swc_ecma_codegen_base.specs.Words.{keyword, operator, word_operator, punct, semi, space, formatting_space, formatting_line, line_end, commit_pending_semi, position, position_before};
 ghost use Rattle.swc_ecma_codegen_base.specs.View.{state_of};
 
@@ -31,20 +31,6 @@ impl LowerEmitter {
                 Err(error)
             }
         }
-    }
-
-    /// Comes to a node that can't be printed: nothing more is written.
-    #[tactic(auto, using(crate::proofs::Emitting::emits_refusal, crate::proofs::Emitting::emits_failed))]
-    pub fn refuse<W: WriteJs>(&mut self, cfg: &Config, wr: &W, error: Error) -> Result
-        ensures items { Emits (refuse error) (state_of cfg.now (W.sheet wr.now) self.old) (state_of cfg.now (W.sheet wr.now) self.new) result }
-    {
-        let _ = cfg;
-        let _ = wr;
-        if self.failed {
-            return Err(Error::Failed);
-        }
-        self.failed = true;
-        Err(error)
     }
 
     /// Writes a blank where the last token and `text` would fuse.

@@ -4,9 +4,9 @@ use Rattle.std.specs.List.{repeat}
 use Rattle.swc_ecma_codegen_tree.specs.declared.errors.Error.{Error}
 use Rattle.swc_ecma_codegen_tree.specs.declared.errors.Error.TheVariants.{Writer, OutOfMemory, UnsupportedNode, BadShape, NameOutOfTarget, PositionTooLarge, Failed}
 use Rattle.swc_ecma_codegen_text_writer.specs.Told.{IsFront}
-use Rattle.swc_ecma_codegen_text_writer.specs.Sheet.{Sheet, Item, Causes, Stopped, Refuses, earlier, stopped, Writes, appended, indented, started, written, ended, effect, Line, Deeper}
+use Rattle.swc_ecma_codegen_text_writer.specs.Sheet.{Sheet, Item, Causes, earlier, stopped, Writes, appended, indented, started, written, ended, effect, Line, Deeper}
 use Rattle.swc_ecma_codegen_text_writer.specs.View.{Counted, Halted, Reaches}
-use Rattle.swc_ecma_codegen_text_writer.proofs.Sheets.{front_refl, front_append, front_trans, started_grows, appended_grows}
+use Rattle.swc_ecma_codegen_text_writer.proofs.Sheets.{front_refl, front_append, front_trans, appended_grows}
 
 -- ---- copies
 

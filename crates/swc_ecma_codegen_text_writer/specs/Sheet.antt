@@ -1,7 +1,6 @@
 -- What a writer has written, and what each call does to that.
 use Rattle.std.specs.Prelude.{◌≡◌, ℕ, ◌+◌, ◌-◌, ◌^◌, Bool, true, false, List, [], ◌∷◌, ◌++◌, codes, if◌then◌else◌, Option, Result, Ok, Err}
 use Rattle.std.specs.List.{repeat}
-use Rattle.std.specs.Str.{is_utf8}
 use Rattle.swc_ecma_codegen_tree.specs.declared.errors.Error.{Error}
 use Rattle.swc_ecma_codegen_tree.specs.declared.errors.Error.TheVariants.{Writer, OutOfMemory, UnsupportedNode, BadShape, NameOutOfTarget, PositionTooLarge, Failed}
 use Rattle.swc_ecma_codegen_tree.specs.declared.positions.BytePos.{BytePos}

@@ -1,5 +1,5 @@
 -- The sheet of a `JsWriter`, and the ways to it.
-use Rattle.std.specs.Prelude.{◌≡◌, ℕ, Bool, true, false, List, codes, Result, Ok, Err, IsSome}
+use Rattle.std.specs.Prelude.{◌≡◌, ℕ, true, false, List, codes, Result, Ok, Err, IsSome}
 use Rattle.std.specs.Str.{is_utf8}
 use Rattle.std.specs.declared.io.traits.Write.{Ghosts}
 use Rattle.swc_ecma_codegen_tree.specs.declared.errors.Error.{Error}

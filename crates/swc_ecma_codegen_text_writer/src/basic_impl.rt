@@ -8,9 +8,15 @@ use swc_ecma_codegen_tree::{BytePos, Error, LineCol, Result, Span};
 
 const DEFAULT_INDENT: &str = "    ";
 
-/// Writes lines with their indentation: at a line's start a text that isn't empty has the indentation first.
+/// Writes lines with their indentation: at a line's start a text that isn't empty has the indentation first, and a
+/// line ends only where it has begun.
 ///
-/// It takes no memory. swc's `text_writer::basic_impl::JsWriter`.
+/// Over a `Vec`, with the line end `"\n"`, the calls `increase_indent`, `write_str("a")`, `write_line`, `write_line`,
+/// `write_str("")`, `write_str("b")` write `"    a\n    b"`.
+///
+/// No call takes memory, so none answers `OutOfMemory`. A call answers `Writer` where the writer under it failed, was
+/// interrupted, or took no byte of some (`ErrorKind::WriteZero`); `PositionTooLarge` where the indentation would pass
+/// 4294967295 levels; `Failed` where an earlier call was refused. swc's `text_writer::basic_impl::JsWriter`.
 #[derive(Drop)]
 pub struct JsWriter<'a, W: Write> {
     alloc: Global,
@@ -29,8 +35,8 @@ impl<'a, W: Write> JsWriter<'a, W> {
     ghost use Rattle.swc_ecma_codegen_text_writer.specs.Sheet.{Writes, Deeper, Shallower, Line, appended, indented, started};
     ghost use Rattle.swc_ecma_codegen_text_writer.specs.View.{sheet_of, new_sheet, Tells, Reaches, WritesText, WritesNothing};
 
-    /// A writer at a line's start, with no indentation, whose lines end with `new_line`. Positions aren't kept yet:
-    /// `srcmap` is `None`.
+    /// A writer at a line's start, with no indentation, whose lines end with `new_line`, as `"\n"` or `"\r\n"`.
+    /// Positions aren't kept yet: `srcmap` is `None`. It asks nothing of `wr`, which may be a file.
     #[tactic(auto, unfolding(crate::specs::View::sheet_of))]
     pub fn new<S>(
         alloc: Global,
@@ -64,7 +70,8 @@ impl<'a, W: Write> JsWriter<'a, W> {
         self.indent_str = indent_str;
     }
 
-    /// The writer under it. Where it told its bytes when it was handed in, it tells the sheet's text.
+    /// The writer under it. Where that told its bytes when it was handed in, it tells the sheet's text now: a `Vec`
+    /// holds it.
     #[tactic(auto, unfolding(crate::specs::View::sheet_of))]
     pub fn into_inner(self) -> W
         ensures text { Tells self.entry → W.contents result ≡ Some (sheet_of self.entry).text }

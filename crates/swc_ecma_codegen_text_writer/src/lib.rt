@@ -5,8 +5,12 @@ ghost use Rattle.std.specs.Prelude.{◌≡◌, ◌<◌};
 ghost use Rattle.swc_ecma_codegen_text_writer.specs.Sheet.{Sheet, Writes, Semi, Space, Keyword, Operator, Param, Property, Line, Lit, Comment, StrLit, Str, Symbol, Punct, Position, Commit, Deeper, Shallower};
 
 mod basic_impl;
+mod boxed;
+mod lent;
 mod logs;
 mod outlet;
+#[cfg(test)]
+mod tests;
 
 pub use crate::basic_impl::JsWriter;
 use swc_ecma_codegen_tree::{BytePos, Result, Span};

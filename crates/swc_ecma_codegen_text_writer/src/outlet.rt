@@ -58,7 +58,8 @@ impl<W: Write> Outlet<W> {
         self.faults = self.faults.saturating_add(1);
     }
 
-    /// Calls `write` once. A fault is counted, an interruption too, and so is an answer of 0.
+    /// Calls `write` once. A fault is counted, an interruption too, and so is an answer of 0, which is an error
+    /// `WriteZero` here. The count stays at `u64::MAX`.
     fn write_once(&mut self, rest: &[u8]) -> io::Result<usize>
         requires { 0 < length rest.now }
         ensures taken { IfOk result (λ n. (0 < n) × (n ≤ length rest.now)) }
@@ -85,7 +86,7 @@ impl<W: Write> Outlet<W> {
         }
     }
 
-    /// Writes a text.
+    /// Writes a text. After an error a beginning of it is out: of `"foo"` nothing, `f` or `fo`.
     pub fn write_text(&mut self, text: &str) -> io::Result<()>
         ensures before { self.new.before ≡ self.old.before }
         ensures sent { OnOk result (sent self.new ≡ sent self.old ++ text.now) }

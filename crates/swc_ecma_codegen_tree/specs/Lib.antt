@@ -1,4 +1,5 @@
 pub mod DecimalParts
 pub mod Held
 pub mod Operators
+pub mod Readers
 pub mod Spans

@@ -31,6 +31,17 @@ impl<N> ExprBox<N> {
     }
 }
 
+impl<N: Drop> ExprBox<N> {
+    /// A link that holds `node`, whatever it is. Where memory is refused, `node` is let go.
+    pub fn holding(alloc: Global, node: N) -> Result<ExprBox<N>, AllocError>
+        ensures { IfOk result (λ link. link.node.value ≡ node) }
+    {
+        Ok(ExprBox {
+            node: Box::new(alloc, node)?,
+        })
+    }
+}
+
 impl ExprBox<AnyNode> {
     /// A link to `expr`. Where memory is refused, `expr` is let go.
     pub fn new(alloc: Global, expr: Expr) -> Result<ExprBox, AllocError>
@@ -78,6 +89,17 @@ impl<N> StmtBox<N> {
     }
 }
 
+impl<N: Drop> StmtBox<N> {
+    /// A link that holds `node`, whatever it is. Where memory is refused, `node` is let go.
+    pub fn holding(alloc: Global, node: N) -> Result<StmtBox<N>, AllocError>
+        ensures { IfOk result (λ link. link.node.value ≡ node) }
+    {
+        Ok(StmtBox {
+            node: Box::new(alloc, node)?,
+        })
+    }
+}
+
 impl StmtBox<AnyNode> {
     /// A link to `stmt`. Where memory is refused, `stmt` is let go.
     pub fn new(alloc: Global, stmt: Stmt) -> Result<StmtBox, AllocError>
@@ -122,6 +144,17 @@ impl<N> MemberExprBox<N> {
         ensures { result.now ≡ self.now.node.value }
     {
         &self.node
+    }
+}
+
+impl<N: Drop> MemberExprBox<N> {
+    /// A link that holds `node`, whatever it is. Where memory is refused, `node` is let go.
+    pub fn holding(alloc: Global, node: N) -> Result<MemberExprBox<N>, AllocError>
+        ensures { IfOk result (λ link. link.node.value ≡ node) }
+    {
+        Ok(MemberExprBox {
+            node: Box::new(alloc, node)?,
+        })
     }
 }
 

@@ -1,0 +1,13 @@
+use Rattle.std.proofs.Common.{ap}
+use Rattle.swc_ecma_codegen_base.specs.Last.{last_at}
+use Rattle.swc_ecma_codegen.proofs.emitter.Emitter.new.Goals as goal
+
+pub returns-clause-state : goal.returns-clause-state
+unfolding last_at
+returns-clause-state g c = λ i.
+    record {
+      env = record { config = c.args.cfg; keeps_invalid = (g.W.WriteJs.sheet c.args.wr).keeps_invalid };
+      sheet = g.W.WriteJs.sheet c.args.wr;
+      last = last_at (c.new.ensures.last i);
+      failed = c.new.ensures.failed i;
+    }

@@ -1,0 +1,42 @@
+//! A text in memory.
+
+ghost use Rattle.std.specs.Prelude.{◌≡◌, ◌≢◌, [], IfOk, IfErr, string_bytes};
+ghost use Rattle.swc_ecma_codegen_base.specs.Run.{printed, start};
+ghost use Rattle.swc_ecma_codegen_util.specs.Defaults.{default_config};
+ghost use Rattle.swc_ecma_codegen.specs.Texts.{blank_sheet, text_of, IsOfWriter};
+
+use crate::emitter::Emitter;
+use crate::node::Node;
+use std::alloc::Global;
+use swc_ecma_codegen_ast::comments::CommentMaps;
+use swc_ecma_codegen_ast::mapper::NoSource;
+use swc_ecma_codegen_text_writer::{JsWriter, WriteJs};
+use swc_ecma_codegen_tree::Error;
+use swc_ecma_codegen_util::config::Config;
+
+/// Prints a node to a writer, with the settings of `Config::default()`, and gives the writer back.
+fn print_to<N: Node, W: WriteJs + Drop>(
+    alloc: Global,
+    node: &N,
+    wr: W,
+) -> std::result::Result<W, Error>
+    ensures sheet { IfOk result (λ w. W.sheet w ≡ (printed (N.part node.now) (start default_config (W.sheet wr))).sheet) }
+{
+    let mut emitter = Emitter::new(alloc, Config::default(), &NoSource, None::<CommentMaps>, wr);
+    node.emit_with(&mut emitter)?;
+    Ok(emitter.into_writer())
+}
+
+/// The text of a node, with the settings of `Config::default()`, lines that end with LF, and four blanks a level.
+/// `OutOfMemory` is want of memory for the text too. swc's `to_code`.
+pub fn to_code<N: Node>(alloc: Global, node: &N) -> std::result::Result<String, Error>
+    ensures text { IfOk result (λ text. string_bytes text ≡ text_of (N.part node.now)) }
+    ensures not_writer { IfErr result (λ error. IsOfWriter error → ⊥) }
+{
+    let writer = JsWriter::new(alloc, &NoSource, "\n", Vec::new(alloc), None);
+    match print_to(alloc, node, writer) {
+        Ok(writer) => Ok(String::from_utf8(writer.into_inner()).unwrap()),
+        Err(Error::Writer(_)) => Err(Error::OutOfMemory),
+        Err(error) => Err(error),
+    }
+}

@@ -1,0 +1,125 @@
+//! Whatever can be printed.
+
+ghost use Rattle.std.specs.Prelude.{◌≡◌, true, IfErr, OnErr, OnOk, Err, IsOk};
+ghost use Rattle.swc_ecma_codegen_text_writer.specs.Told.{IsFront};
+ghost use Rattle.swc_ecma_codegen_base.specs.Run.{Part, Follows, HasCause, IsUnhindered, nothing, printed, steps_in};
+ghost use Rattle.swc_ecma_codegen.specs.View.{state_of};
+ghost use Rattle.swc_ecma_codegen.specs.Lists.{if_some_at};
+ghost use Rattle.swc_ecma_codegen.specs.declared.nodes.Place.TheVariants.{Plain};
+
+use crate::emitter::Emitter;
+use crate::nodes::{EmitAt, Place};
+use swc_ecma_codegen_ast::comments::Comments;
+use swc_ecma_codegen_ast::mapper::SourceMapper;
+use swc_ecma_codegen_text_writer::WriteJs;
+use swc_ecma_codegen_tree::{Error, ExprBox, MemberExprBox, Result, Spanned, StmtBox};
+
+/// A node that can be printed: each type of node, a link, and a reference, a box or an option of these. swc's `Node`.
+pub trait Node: Spanned {
+    ghost part: { Self → Part };
+
+    /// Prints it. `None` prints nothing.
+    fn emit_with<W: WriteJs, S: SourceMapper, C: Comments>(
+        &self,
+        e: &mut Emitter<'_, W, S, C>,
+    ) -> Result
+        // The steps of the tree are made, and it comes to no node that can't be printed; or it halts.
+        ensures items { Follows (part self.now nothing) (state_of W.sheet e.old) (state_of W.sheet e.new) result }
+        // What is out is a beginning of the text of these steps.
+        ensures front { IsFront (W.sheet e.new.wr).text (printed (part self.now) (state_of W.sheet e.old)).sheet.text }
+        // It is refused only for the cause that the error names.
+        ensures cause { IfErr result (λ error. HasCause (steps_in (part self.now) (state_of W.sheet e.old)) error (state_of W.sheet e.old) (state_of W.sheet e.new)) }
+        // Where nothing stands in its way, it is made.
+        ensures succeeds { IsUnhindered (steps_in (part self.now) (state_of W.sheet e.old)) (state_of W.sheet e.old) (state_of W.sheet e.new) → IsOk result }
+        ensures marked { OnErr result ((state_of W.sheet e.new).failed ≡ true) }
+        ensures failed { (state_of W.sheet e.old).failed ≡ true → result ≡ Err Error.Failed }
+        // The indentation is what it was.
+        ensures level { OnOk result ((W.sheet e.new.wr).indentation ≡ (W.sheet e.old.wr).indentation) };
+}
+
+impl<T: EmitAt + Spanned> Node for T {
+    ghost part = { λ n. T.items n Plain };
+
+    fn emit_with<W: WriteJs, S: SourceMapper, C: Comments>(
+        &self,
+        e: &mut Emitter<'_, W, S, C>,
+    ) -> Result {
+        e.emit(self)
+    }
+}
+
+impl<T: EmitAt> EmitAt for &T {
+    ghost items = { λ n place. T.items n.now place };
+
+    fn emit_at<W: WriteJs, S: SourceMapper, C: Comments>(
+        &self,
+        e: &mut Emitter<'_, W, S, C>,
+        place: Place,
+    ) -> Result {
+        (**self).emit_at(e, place)
+    }
+}
+
+impl<T: EmitAt> EmitAt for Box<T> {
+    ghost items = { λ n place. T.items n.value place };
+
+    fn emit_at<W: WriteJs, S: SourceMapper, C: Comments>(
+        &self,
+        e: &mut Emitter<'_, W, S, C>,
+        place: Place,
+    ) -> Result {
+        (**self).emit_at(e, place)
+    }
+}
+
+impl<T: EmitAt> EmitAt for Option<T> {
+    ghost items = { if_some_at T.items };
+
+    #[tactic(auto, unfolding(crate::specs::Lists::if_some_at))]
+    fn emit_at<W: WriteJs, S: SourceMapper, C: Comments>(
+        &self,
+        e: &mut Emitter<'_, W, S, C>,
+        place: Place,
+    ) -> Result {
+        match self {
+            Some(node) => node.emit_at(e, place),
+            None => Ok(()),
+        }
+    }
+}
+
+impl<N: EmitAt> EmitAt for ExprBox<N> {
+    ghost items = { λ n place. N.items n.node.value place };
+
+    fn emit_at<W: WriteJs, S: SourceMapper, C: Comments>(
+        &self,
+        e: &mut Emitter<'_, W, S, C>,
+        place: Place,
+    ) -> Result {
+        self.held().emit_at(e, place)
+    }
+}
+
+impl<N: EmitAt> EmitAt for StmtBox<N> {
+    ghost items = { λ n place. N.items n.node.value place };
+
+    fn emit_at<W: WriteJs, S: SourceMapper, C: Comments>(
+        &self,
+        e: &mut Emitter<'_, W, S, C>,
+        place: Place,
+    ) -> Result {
+        self.held().emit_at(e, place)
+    }
+}
+
+impl<N: EmitAt> EmitAt for MemberExprBox<N> {
+    ghost items = { λ n place. N.items n.node.value place };
+
+    fn emit_at<W: WriteJs, S: SourceMapper, C: Comments>(
+        &self,
+        e: &mut Emitter<'_, W, S, C>,
+        place: Place,
+    ) -> Result {
+        self.held().emit_at(e, place)
+    }
+}

@@ -1,0 +1,107 @@
+//! Reading a tree from JSON: what ties the readers of the nodes together. The readers are generic in what links hold,
+//! and only here is it `AnyNode`, so that they need no proof that a whole tree may be dropped.
+
+ghost use Rattle.std.specs.Prelude.{◌≡◌};
+ghost use Rattle.swc_ecma_codegen_tree.specs.declared.readers.ReadError.TheVariants.{OutOfMemory};
+ghost use Rattle.swc_ecma_codegen_tree.specs.Readers.{ReadsBelow};
+
+use crate::exprs::{Expr, MemberExpr};
+use crate::links::AnyNode;
+use crate::programs::Program;
+use crate::stmts::Stmt;
+use serde_json::Value;
+use std::alloc::{AllocError, AllocFailed, Global};
+use thiserror::Error as ThisError;
+
+/// Why a tree isn't read.
+#[derive(Clone, Copy, Debug, PartialEq, Eq, ThisError)]
+pub enum ReadError {
+    /// The bytes aren't UTF-8.
+    #[error("cannot read")]
+    CannotRead,
+    /// The text is no JSON, nests deeper than 127, or hasn't the form of a tree.
+    #[error("bad tree")]
+    BadTree,
+    /// A growth was refused.
+    #[error("out of memory")]
+    OutOfMemory,
+}
+
+/// What is read, or why it isn't.
+pub type Read<T> = std::result::Result<T, ReadError>;
+
+impl From<AllocError> for ReadError {
+    ghost from_gives = { λ _ e. e ≡ OutOfMemory };
+
+    fn from(_error: AllocError) -> ReadError {
+        ReadError::OutOfMemory
+    }
+}
+
+impl<T: Drop> From<AllocFailed<T>> for ReadError {
+    ghost from_gives = { λ _ e. e ≡ OutOfMemory };
+
+    fn from(_error: AllocFailed<T>) -> ReadError {
+        ReadError::OutOfMemory
+    }
+}
+
+/// The sorts of links.
+#[derive(Debug, Clone, Copy, PartialEq, Eq)]
+pub enum Sort {
+    Expr,
+    Stmt,
+    MemberExpr,
+}
+
+/// Reads each sort of node, and a program. What a link holds is made by `make`, which may be asked for smaller values
+/// alone.
+pub trait ReadNodes {
+    /// An expression.
+    fn read_expr<N: Drop, F: Fn(Sort, &Value) -> Read<N>>(
+        alloc: Global,
+        json: &Value,
+        make: &F,
+    ) -> Read<Expr<N>>
+        requires { ReadsBelow (F.pre make.now) json.now };
+
+    /// A statement.
+    fn read_stmt<N: Drop, F: Fn(Sort, &Value) -> Read<N>>(
+        alloc: Global,
+        json: &Value,
+        make: &F,
+    ) -> Read<Stmt<N>>
+        requires { ReadsBelow (F.pre make.now) json.now };
+
+    /// A member expression.
+    fn read_member_expr<N: Drop, F: Fn(Sort, &Value) -> Read<N>>(
+        alloc: Global,
+        json: &Value,
+        make: &F,
+    ) -> Read<MemberExpr<N>>
+        requires { ReadsBelow (F.pre make.now) json.now };
+
+    /// A program.
+    fn read_program<N: Drop, F: Fn(Sort, &Value) -> Read<N>>(
+        alloc: Global,
+        json: &Value,
+        make: &F,
+    ) -> Read<Program<N>>
+        requires { ReadsBelow (F.pre make.now) json.now };
+}
+
+/// A node of a sort, and all below it.
+fn read_node<R: ReadNodes>(alloc: Global, sort: Sort, json: &Value) -> Read<AnyNode> {
+    let make = |sort: Sort, part: &Value| read_node::<R>(alloc, sort, part);
+    Ok(match sort {
+        Sort::Expr => AnyNode::Expr(R::read_expr(alloc, json, &make)?),
+        Sort::Stmt => AnyNode::Stmt(R::read_stmt(alloc, json, &make)?),
+        Sort::MemberExpr => AnyNode::MemberExpr(R::read_member_expr(alloc, json, &make)?),
+    })
+}
+
+/// Reads a program by the readers `R`.
+pub fn read_tree<R: ReadNodes>(alloc: Global, json: &Value) -> Read<Program> {
+    let make = |sort: Sort, part: &Value| read_node::<R>(alloc, sort, part);
+    R::read_program(alloc, json, &make)
+}
