@@ -4,7 +4,7 @@
 ghost use Rattle.std.specs.Prelude.{◌≡◌, ◌∷◌, [], codes, MatchOption};
 ghost use Rattle.std.specs.Str.{chars};
 ghost use Rattle.swc_ecma_codegen_ast.specs.Chars.{is_part, begins_digit};
-ghost use Rattle.swc_ecma_codegen_ast.specs.Texts.{begins, is_among};
+ghost use Rattle.swc_ecma_codegen_ast.specs.Texts.{begins};
 ghost use Rattle.swc_ecma_codegen_ast.specs.GapRules.{fuses, grows, mark_fuses};
 ghost use Rattle.swc_ecma_codegen_ast.specs.declared.kinds.Kind.TheVariants.{Punctuator};
 ghost use Rattle.swc_ecma_codegen_base.specs.Run.{after_token};
@@ -49,8 +49,7 @@ impl Last {
             return false;
         };
         match self {
-            Last::Start => false,
-            Last::Apart => false,
+            Last::Start | Last::Apart => false,
             Last::WordEnd => first == '\\' || is_part(first),
             Last::Mark(mark) => mark_fuses(mark, first, rest),
             Last::LessBang => mark_fuses("!", first, rest) || first == '-' && begins_dash(rest),

@@ -3,6 +3,7 @@ use super::*;
 #[test]
 fn a_blank_is_due_where_neighbours_fuse(rt: HostRuntime) {
     let cases = [
+        (Last::Start, "a", false),
         (Last::Apart, "a", false),
         (Last::WordEnd, "", false),
         (Last::WordEnd, "a", true),

@@ -1,4 +1,4 @@
-use Rattle.std.proofs.Common.{◌≡◌, ◌&&◌, ◌||◌, ◌==◌, true, false, ℕ, List, [], ◌∷◌, codes, ap, ◌∙◌, sym}
+use Rattle.std.proofs.Common.{◌≡◌, ◌⊎◌, inl, inr, ◌&&◌, ◌||◌, ◌==◌, true, false, ℕ, List, [], ◌∷◌, codes, ap, ◌∙◌, sym}
 use Rattle.std.proofs.lemmas.Bool.{eq-eqb, ne_eqb}
 use Rattle.std.specs.Str.{chars}
 use Rattle.swc_ecma_codegen_ast.specs.Chars.{is_part}
@@ -19,6 +19,11 @@ at_end k t e = ap (fuses k) e
 each : (l m : Last) (t : List ℕ) (c : ℕ) (n : List ℕ) → l ≡ m → t ≡ c ∷ n → fuses (last_at l) t ≡ fuses (last_at m) (c ∷ n)
 each l m t c n e f = ap (λ x. fuses (last_at x) t) e ∙ ap (fuses (last_at m)) f
 
+apart : (l : Last) (t : List ℕ) (c : ℕ) (n : List ℕ) → (l ≡ last.Start) ⊎ (l ≡ last.Apart) → t ≡ c ∷ n → fuses (last_at l) t ≡ false
+unfolding fuses last_at
+apart l t c n (inl e) f = each l last.Start t c n e f
+apart l t c n (inr e) f = each l last.Apart t c n e f
+
 after_bang : (c : ℕ) (n : List ℕ) → mark_fuses (codes "!") c n ≡ false → fuses rules.LessBang (c ∷ n) ≡ ((c == 45) && begins (codes "-") n)
 unfolding fuses begins
 after_bang c n h = (λ i. h i || (eq_swap 45 c i && begins (codes "-") n))
@@ -27,12 +32,7 @@ pub returns-in_default : goal.returns-in_default
 returns-in_default c = sym (at_end (last_at c.args.self) (chars c.args.next.now) c.in_default.ensures)
 
 pub returns-in-Start : goal.returns-in-Start
-unfolding fuses last_at
-returns-in-Start c = sym (each c.args.self last.Start _ c.in-Some.first (chars c.in-Some.rest.now) c.in-Start.is c.in-Some.ensures)
-
-pub returns-in-Apart : goal.returns-in-Apart
-unfolding fuses last_at
-returns-in-Apart c = sym (each c.args.self last.Apart _ c.in-Some.first (chars c.in-Some.rest.now) c.in-Apart.is c.in-Some.ensures)
+returns-in-Start c = sym (apart c.args.self (chars c.args.next.now) c.in-Some.first (chars c.in-Some.rest.now) c.in-Start.is c.in-Some.ensures)
 
 pub returns-then-first-eq92 : goal.returns-then-first-eq92
 unfolding fuses last_at
