@@ -17,4 +17,5 @@ pub mod Spacing
 pub mod StringShapes
 pub mod Tables
 pub mod TemplateShapes
+pub mod TreeLaws
 pub mod Unique
