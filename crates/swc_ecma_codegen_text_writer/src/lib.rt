@@ -1,0 +1,97 @@
+//! What an emitter asks of a writer, and the writers.
+#![tactic(auto)]
+
+ghost use Rattle.std.specs.Prelude.{◌≡◌, ◌<◌};
+ghost use Rattle.swc_ecma_codegen_text_writer.specs.Sheet.{Sheet, Writes, Semi, Space, Keyword, Operator, Param, Property, Line, Lit, Comment, StrLit, Str, Symbol, Punct, Position, Commit, Deeper, Shallower};
+
+use swc_ecma_codegen_tree::{BytePos, Result, Span};
+
+/// A writer of tokens. Its value is a sheet, and each call has one effect on it, or is refused.
+///
+/// After a refusal what is out is a beginning of what the call would have written, and every further call that gives
+/// a `Result` answers `Failed`, one of an empty text too. swc's `text_writer::WriteJs`.
+pub trait WriteJs {
+    ghost sheet: { Self → Sheet };
+
+    /// One level of indentation more, for lines that begin from now on.
+    fn increase_indent(&mut self) -> Result
+        ensures { Writes Deeper (sheet self.old) (sheet self.new) result };
+
+    /// One level of indentation less.
+    fn decrease_indent(&mut self) -> Result
+        requires { 0 < (sheet self.old).indentation }
+        ensures { Writes Shallower (sheet self.old) (sheet self.new) result };
+
+    /// Writes `;`, which a writer that holds semicolons may leave out where it isn't needed.
+    fn write_semi(&mut self, span: Option<Span>) -> Result
+        ensures { Writes (Semi span) (sheet self.old) (sheet self.new) result };
+
+    /// Writes a blank.
+    fn write_space(&mut self) -> Result
+        ensures { Writes Space (sheet self.old) (sheet self.new) result };
+
+    /// Writes a keyword.
+    fn write_keyword(&mut self, span: Option<Span>, s: &'static str) -> Result
+        ensures { Writes (Keyword span s.now) (sheet self.old) (sheet self.new) result };
+
+    /// Writes an operator.
+    fn write_operator(&mut self, span: Option<Span>, s: &str) -> Result
+        ensures { Writes (Operator span s.now) (sheet self.old) (sheet self.new) result };
+
+    /// Writes a parameter.
+    fn write_param(&mut self, s: &str) -> Result
+        ensures { Writes (Param s.now) (sheet self.old) (sheet self.new) result };
+
+    /// Writes a property.
+    fn write_property(&mut self, s: &str) -> Result
+        ensures { Writes (Property s.now) (sheet self.old) (sheet self.new) result };
+
+    /// Ends the line, unless at a line's start.
+    fn write_line(&mut self) -> Result
+        ensures { Writes Line (sheet self.old) (sheet self.new) result };
+
+    /// Writes a literal, or a part of one.
+    fn write_lit(&mut self, span: Span, s: &str) -> Result
+        ensures { Writes (Lit span s.now) (sheet self.old) (sheet self.new) result };
+
+    /// Writes a comment, or a part of one.
+    fn write_comment(&mut self, s: &str) -> Result
+        ensures { Writes (Comment s.now) (sheet self.old) (sheet self.new) result };
+
+    /// Writes a string.
+    fn write_str_lit(&mut self, span: Span, s: &str) -> Result
+        ensures { Writes (StrLit span s.now) (sheet self.old) (sheet self.new) result };
+
+    /// Writes a text as it is.
+    fn write_str(&mut self, s: &str) -> Result
+        ensures { Writes (Str s.now) (sheet self.old) (sheet self.new) result };
+
+    /// Writes a name.
+    fn write_symbol(&mut self, span: Span, s: &str) -> Result
+        ensures { Writes (Symbol span s.now) (sheet self.old) (sheet self.new) result };
+
+    /// Writes a punctuator.
+    fn write_punct(&mut self, span: Option<Span>, s: &'static str) -> Result
+        ensures { Writes (Punct span s.now) (sheet self.old) (sheet self.new) result };
+
+    /// Whether it keeps positions.
+    fn care_about_srcmap(&self) -> bool
+        ensures { result ≡ (sheet self.now).keeps_positions };
+
+    /// Records that what is written next stands at `pos` in its source text.
+    fn add_srcmap(&mut self, pos: BytePos) -> Result
+        ensures { Writes (Position pos) (sheet self.old) (sheet self.new) result };
+
+    /// Writes a semicolon that is held back.
+    fn commit_pending_semi(&mut self) -> Result
+        ensures { Writes Commit (sheet self.old) (sheet self.new) result };
+
+    /// Whether names keep U+0000 after a backslash.
+    fn can_ignore_invalid_unicodes(&mut self) -> bool
+        ensures answer { result ≡ (sheet self.old).keeps_invalid }
+        ensures same { sheet self.new ≡ sheet self.old };
+
+    /// Whether it holds semicolons back until it knows what follows.
+    fn holds_semi(&self) -> bool
+        ensures { result ≡ (sheet self.now).holds };
+}

@@ -1,0 +1,16 @@
+-- The settings that stand where none are given.
+use Rattle.std.specs.Prelude.{false}
+use Rattle.swc_ecma_codegen_tree.specs.declared.versions.EsVersion.TheVariants.{EsNext}
+use Rattle.swc_ecma_codegen_util.specs.declared.config.Config.{Config}
+
+-- the latest version, and all else false
+abbrev pub default_config : Config
+default_config =
+    record {
+      target = EsNext;
+      ascii_only = false;
+      minify = false;
+      omit_last_semi = false;
+      emit_assert_for_import_attributes = false;
+      inline_script = false;
+    }
