@@ -1,20 +1,23 @@
 -- The tokens of names, and which names are well-formed.
-use Rattle.std.specs.Prelude.{ℕ, Bool, List, [], ◌∷◌, ◌&&◌, ◌==◌, if◌then◌else◌, codes, string_bytes}
+use Rattle.std.specs.Prelude.{ℕ, Bool, false, List, [], ◌∷◌, ◌&&◌, ◌==◌, if◌then◌else◌, codes, string_bytes}
 use Rattle.std.specs.Str.{chars, is_utf8}
 use Rattle.swc_ecma_codegen_tree.specs.declared.idents.Ident.{Ident}
 use Rattle.swc_ecma_codegen_tree.specs.declared.idents.IdentName.{IdentName}
 use Rattle.swc_ecma_codegen_ast.specs.Names.{is_name, name_value}
 use Rattle.swc_ecma_codegen_ast.specs.Phrases.{Phrase, Nothing, ◌>◌, name, mark}
 
--- Backslash and U+0000 together stand for a backslash.
-unfoldable pub marks_off : List ℕ → List ℕ
-marks_off [] = []
-marks_off (c ∷ []) = c ∷ []
-marks_off (c ∷ d ∷ cs) = if (c == 92) && (d == 0) then c ∷ marks_off cs else (c ∷ marks_off (d ∷ cs))
+-- A text without each U+0000 that comes right after a backslash. `after` says that a backslash came last.
+unfoldable pub turned_after : Bool → List ℕ → List ℕ
+turned_after after [] = []
+turned_after after (c ∷ cs) = if after && (c == 0) then turned_after false cs else (c ∷ turned_after (c == 92) cs)
 
--- how a name is spelled, as characters of its UTF-8 bytes
+-- Backslash and U+0000 together stand for a backslash.
+abbrev pub turned : List ℕ → List ℕ
+turned bytes = turned_after false bytes
+
+-- how a name is spelled: the characters of its UTF-8 bytes
 unfoldable pub spelled_name : List ℕ → List ℕ
-spelled_name bytes = marks_off (chars bytes)
+spelled_name bytes = chars (turned bytes)
 
 unfoldable pub name_phrase : List ℕ → Phrase
 name_phrase bytes = name (name_value (spelled_name bytes))
@@ -29,4 +32,4 @@ ident_name n = name_phrase (string_bytes n.sym)
 
 -- a name is one name token
 unfoldable pub is_well_formed_name : List ℕ → Bool
-is_well_formed_name bytes = is_utf8 bytes && is_name (spelled_name bytes)
+is_well_formed_name bytes = is_utf8 (turned bytes) && is_name (spelled_name bytes)

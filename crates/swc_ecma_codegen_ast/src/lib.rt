@@ -2,10 +2,13 @@
 //! that its text is read by.
 #![tactic(auto)]
 
+pub mod characters;
 pub mod comments;
 pub mod kinds;
 pub mod mapper;
+pub mod numerals;
 pub mod reading_laws;
+pub mod shapes;
 
 pub use swc_ecma_codegen_tree::{
     AnyNode, AssignOp, BinExpr, BinaryOp, BytePos, ComputedPropName, CondExpr, DUMMY_SP, EmptyStmt,
