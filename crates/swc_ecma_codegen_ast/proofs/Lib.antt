@@ -12,6 +12,7 @@ pub mod NameShapes
 pub mod NumberShapes
 pub mod Reading
 pub mod RegexShapes
+pub mod Skips
 pub mod Sorts
 pub mod Spacing
 pub mod StringShapes

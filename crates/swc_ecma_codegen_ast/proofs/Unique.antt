@@ -118,7 +118,7 @@ unfolding is_blank
 slash_is_no_blank c h e = true≢false (sym h ∙ subst (λ z. is_blank z ≡ false) (sym e) refl)
 
 -- two pieces at one place are one
-same_piece : (p q : Piece) (u v : List ℕ) → is_piece p ≡ true → is_piece q ≡ true → piece_text p ++ u ≡ piece_text q ++ v → (p ≡ q) × (u ≡ v)
+pub same_piece : (p q : Piece) (u v : List ℕ) → is_piece p ≡ true → is_piece q ≡ true → piece_text p ++ u ≡ piece_text q ++ v → (p ≡ q) × (u ≡ v)
 unfolding is_piece piece_text is_blank
 same_piece (Blank c) (Blank d) u v h k e = (ap Blank (cc e), cc e)
 same_piece (Blank c) (BlockOf t) u v h k e = absurd (slash_is_no_blank c h (cc e))
@@ -141,7 +141,7 @@ same_piece (LineOf s c) (LineOf t d) u v h k e =
     (ap₂ LineOf r.0 r.1, r.2)
 
 -- where a piece begins is nothing solid
-not_solid : (p : Piece) (v u : List ℕ) → is_piece p ≡ true → u ≡ piece_text p ++ v → IsSolid u → ⊥
+pub not_solid : (p : Piece) (v u : List ℕ) → is_piece p ≡ true → u ≡ piece_text p ++ v → IsSolid u → ⊥
 unfolding is_piece piece_text begins begins_blank
 not_solid (Blank c) v u h e s = true≢false (sym h ∙ subst (λ z. begins_blank z ≡ false) e s.blank)
 not_solid (BlockOf t) v u h e s = true≢false (subst (λ z. begins (codes "/*") z ≡ false) e s.block)

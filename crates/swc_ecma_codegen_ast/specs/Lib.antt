@@ -11,8 +11,10 @@ pub mod Numbers
 pub mod Parts
 pub mod Phrases
 pub mod Punctuators
+pub mod Reading
 pub mod Reads
 pub mod RegularExpressions
+pub mod Skipping
 pub mod StmtPhrases
 pub mod Strings
 pub mod Templates

@@ -4,9 +4,13 @@
 
 pub mod characters;
 pub mod comments;
+pub mod gaps;
 pub mod kinds;
 pub mod mapper;
+
 pub mod numerals;
+pub mod punctuation;
+pub mod reader;
 pub mod reading_laws;
 pub mod shapes;
 

@@ -15,7 +15,7 @@ use crate::kinds::TemplatePart;
 
 /// Whether one text is another.
 #[tactic(auto, unfolding(crate::specs::Texts::is_same))]
-fn is_same(text: &[char], other: &[char]) -> bool
+pub fn is_same(text: &[char], other: &[char]) -> bool
     ensures { result ≡ texts.is_same text.now other.now }
 {
     match text {

@@ -1,0 +1,49 @@
+-- One step of reading.
+use Rattle.std.specs.Prelude.{◌≡◌, ℕ, Bool, true, false, not, List, [], ◌∷◌, ◌++◌, ◌&&◌, ◌||◌, codes, take, drop}
+use Rattle.swc_ecma_codegen_ast.specs.declared.kinds.Kind.{Kind}
+use Rattle.swc_ecma_codegen_ast.specs.declared.kinds.TemplatePart.{TemplatePart}
+use Rattle.swc_ecma_codegen_ast.specs.Chars.{begins_digit}
+use Rattle.swc_ecma_codegen_ast.specs.Texts.{is_same}
+use Rattle.swc_ecma_codegen_ast.specs.Tokens.{Token, Goal, Ordinary, RegularExpression, TemplateTail, FirstLine, Closing, InTag, Attribute, Child, has_shape, token_of, goal}
+use Rattle.swc_ecma_codegen_ast.specs.declared.kinds.Kind.TheVariants.{Word, Name, PrivateName, Punctuator, Number, BigInt, Str, Regex, Template, TemplateRest, Close, JsxName, JsxString, JsxText, JsxOpen, Hashbang}
+use Rattle.swc_ecma_codegen_ast.specs.LongestMatch.{IsLongest}
+use Rattle.swc_ecma_codegen_ast.specs.Trivia.{Remark, Trivia}
+use Rattle.swc_ecma_codegen_ast.specs.Reads.{is_close_by, is_hashbang_kind}
+
+unfoldable pub some_part : (TemplatePart → Bool) → Bool
+some_part holds =
+    (holds (record { tagged = false; opens = false }) || holds (record { tagged = false; opens = true }))
+    || (holds (record { tagged = true; opens = false }) || holds (record { tagged = true; opens = true }))
+
+-- a text is a token of a goal
+unfoldable pub some_shape : Goal → List ℕ → Bool
+some_shape Ordinary text =
+    has_shape Word text || (has_shape Name text || (has_shape PrivateName text || (has_shape Punctuator text || (has_shape Number text
+    || (has_shape BigInt text || (has_shape Str text || (has_shape JsxOpen text || some_part (λ part. has_shape (Template part) text))))))))
+some_shape RegularExpression text = has_shape Regex text
+some_shape TemplateTail text = some_part (λ part. has_shape (TemplateRest part) text)
+some_shape FirstLine text = has_shape Hashbang text
+some_shape Closing text = has_shape Close text
+some_shape InTag text = has_shape JsxName text
+some_shape Attribute text = has_shape JsxString text
+some_shape Child text = has_shape JsxText text
+
+-- the first n characters are a token of a goal, where the others follow
+unfoldable pub stands_at : Kind → List ℕ → ℕ → Bool
+stands_at kind text n = some_shape (goal kind) (take n text) && not (is_same (take n text) (codes "?.") && begins_digit (drop n text))
+
+-- a text is trivia, a longest token of a kind, and what is left
+pub record ReadsOne (first : Bool) (kind : Kind) (text own rest : List ℕ) : Type 0 where
+  pub gap : List ℕ
+  pub before : List Remark
+  pub is_text : text ≡ gap ++ (own ++ rest)
+  pub trivia : Trivia gap before
+  pub close_by : is_close_by kind ≡ true → gap ≡ []
+  pub at_start : is_hashbang_kind kind ≡ true → first ≡ true
+  pub is_longest : IsLongest (token_of kind own) own rest
+
+-- tokens of given kinds, as they are spelled
+unfoldable pub tokens_as : List Kind → List (List ℕ) → List Token
+tokens_as [] texts = []
+tokens_as (kind ∷ kinds) [] = []
+tokens_as (kind ∷ kinds) (text ∷ texts) = token_of kind text ∷ tokens_as kinds texts

@@ -1,0 +1,138 @@
+//! A plain, slow reader of texts: for given kinds of tokens it finds the tokens, or that there are none.
+
+ghost use Rattle.std.specs.Prelude.{◌≡◌, ◌<◌, ◌≤◌, ℕ, true, false, length};
+ghost use Rattle.swc_ecma_codegen_ast.specs.Chars as chars;
+ghost use Rattle.swc_ecma_codegen_ast.specs.Tokens as tokens;
+ghost use Rattle.swc_ecma_codegen_ast.specs.Reads as reads;
+ghost use Rattle.swc_ecma_codegen_ast.specs.LongestMatch as matches;
+ghost use Rattle.swc_ecma_codegen_ast.specs.Reading as reading;
+
+use crate::characters::{is_digit, is_part};
+use crate::kinds::{Kind, TemplatePart};
+use crate::numerals::{is_big_integer, is_number};
+use crate::punctuation::is_punctuator;
+use crate::shapes::{
+    begins, is_hashbang, is_jsx_name, is_jsx_open, is_jsx_string, is_jsx_text, is_name,
+    is_private_name, is_regex, is_same, is_string, is_template, is_template_rest, is_word,
+};
+
+/// Whether a text has the shape of the tokens of a kind.
+#[tactic(auto, unfolding(crate::specs::Tokens::has_shape))]
+pub fn has_shape(kind: Kind, text: &[char]) -> bool
+    ensures { result ≡ tokens.has_shape kind text.now }
+{
+    match kind {
+        Kind::Word => is_word(text),
+        Kind::Name => is_name(text),
+        Kind::PrivateName => is_private_name(text),
+        Kind::Punctuator => is_punctuator(text),
+        Kind::Number => is_number(text),
+        Kind::BigInt => is_big_integer(text),
+        Kind::Str => is_string(text),
+        Kind::Regex => is_regex(text),
+        Kind::Template(part) => is_template(part, text),
+        Kind::TemplateRest(part) => is_template_rest(part, text),
+        Kind::Close => is_same(text, &['>']),
+        Kind::JsxName => is_jsx_name(text),
+        Kind::JsxString => is_jsx_string(text),
+        Kind::JsxText => is_jsx_text(text),
+        Kind::JsxOpen => is_jsx_open(text),
+        Kind::Hashbang => is_hashbang(text),
+    }
+}
+
+#[tactic(auto, unfolding(crate::specs::Reading::some_part, crate::specs::Tokens::has_shape))]
+fn is_some_template(text: &[char]) -> bool
+    ensures { result ≡ reading.some_part (λ part. tokens.has_shape (Kind.Template part) text.now) }
+{
+    is_template(TemplatePart { tagged: false, opens: false }, text)
+        || is_template(TemplatePart { tagged: false, opens: true }, text)
+        || is_template(TemplatePart { tagged: true, opens: false }, text)
+        || is_template(TemplatePart { tagged: true, opens: true }, text)
+}
+
+#[tactic(auto, unfolding(crate::specs::Reading::some_part, crate::specs::Tokens::has_shape))]
+fn is_some_template_rest(text: &[char]) -> bool
+    ensures { result ≡ reading.some_part (λ part. tokens.has_shape (Kind.TemplateRest part) text.now) }
+{
+    is_template_rest(TemplatePart { tagged: false, opens: false }, text)
+        || is_template_rest(TemplatePart { tagged: false, opens: true }, text)
+        || is_template_rest(TemplatePart { tagged: true, opens: false }, text)
+        || is_template_rest(TemplatePart { tagged: true, opens: true }, text)
+}
+
+#[tactic(auto, unfolding(crate::specs::Reading::some_shape, crate::specs::Tokens::has_shape))]
+fn is_ordinary(text: &[char]) -> bool
+    ensures { result ≡ reading.some_shape tokens.Ordinary text.now }
+{
+    is_word(text)
+        || is_name(text)
+        || is_private_name(text)
+        || is_punctuator(text)
+        || is_number(text)
+        || is_big_integer(text)
+        || is_string(text)
+        || is_jsx_open(text)
+        || is_some_template(text)
+}
+
+/// Whether a text is a token of the goal under which a kind is read.
+#[tactic(auto, unfolding(crate::specs::Reading::some_shape, crate::specs::Tokens::goal, crate::specs::Tokens::has_shape))]
+fn is_of_goal(kind: Kind, text: &[char]) -> bool
+    ensures { result ≡ reading.some_shape (tokens.goal kind) text.now }
+{
+    match kind {
+        Kind::Regex => is_regex(text),
+        Kind::TemplateRest(_) => is_some_template_rest(text),
+        Kind::Close => is_same(text, &['>']),
+        Kind::JsxName => is_jsx_name(text),
+        Kind::JsxString => is_jsx_string(text),
+        Kind::JsxText => is_jsx_text(text),
+        Kind::Hashbang => is_hashbang(text),
+        Kind::Word
+        | Kind::Name
+        | Kind::PrivateName
+        | Kind::Punctuator
+        | Kind::Number
+        | Kind::BigInt
+        | Kind::Str
+        | Kind::Template(_)
+        | Kind::JsxOpen => is_ordinary(text),
+    }
+}
+
+#[tactic(auto, unfolding(crate::specs::Chars::begins_digit))]
+fn begins_digit(text: &[char]) -> bool
+    ensures { result ≡ chars.begins_digit text.now }
+{
+    match text {
+        [] => false,
+        [c, ..] => is_digit(*c),
+    }
+}
+
+/// Whether the first `n` characters are a token of the goal of `kind`, where the others follow.
+#[tactic(auto, unfolding(crate::specs::Reading::stands_at))]
+fn stands_at(kind: Kind, text: &[char], n: usize) -> bool
+    requires { n ≤ length text.now }
+    ensures { result ≡ reading.stands_at kind text.now n }
+{
+    let front = &text[..n];
+    is_of_goal(kind, front) && !(is_same(front, &['?', '.']) && begins_digit(&text[n..]))
+}
+
+/// How many characters the longest token of the goal of `kind` has, at the start of a text, or 0.
+fn longest(kind: Kind, text: &[char]) -> usize
+    ensures within { result ≤ length text.now }
+    ensures stands { 0 < result → reading.stands_at kind text.now result ≡ true }
+    ensures longest { (m : ℕ) → result < m → m ≤ length text.now → reading.stands_at kind text.now m ≡ false }
+{
+    let mut n = text.len();
+    while n > 0 {
+        if stands_at(kind, text, n) {
+            return n;
+        }
+        n -= 1;
+    }
+    0
+}
