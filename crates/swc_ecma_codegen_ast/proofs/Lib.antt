@@ -10,6 +10,8 @@ pub mod MarkMatch
 pub mod Marks
 pub mod NameShapes
 pub mod NumberShapes
+pub mod ReadAll
+pub mod ReadOne
 pub mod Reading
 pub mod RegexShapes
 pub mod Skips

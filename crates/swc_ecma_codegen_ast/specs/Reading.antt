@@ -1,14 +1,15 @@
 -- One step of reading.
-use Rattle.std.specs.Prelude.{◌≡◌, ℕ, Bool, true, false, not, List, [], ◌∷◌, ◌++◌, ◌&&◌, ◌||◌, codes, take, drop}
+use Rattle.std.specs.Prelude.{◌≡◌, ℕ, Bool, true, false, not, List, [], ◌∷◌, ◌++◌, ◌&&◌, ◌||◌, codes, take, drop, nat_lt}
 use Rattle.swc_ecma_codegen_ast.specs.declared.kinds.Kind.{Kind}
 use Rattle.swc_ecma_codegen_ast.specs.declared.kinds.TemplatePart.{TemplatePart}
 use Rattle.swc_ecma_codegen_ast.specs.Chars.{begins_digit}
-use Rattle.swc_ecma_codegen_ast.specs.Texts.{is_same}
+use Rattle.swc_ecma_codegen_ast.specs.Texts.{is_same, begins}
 use Rattle.swc_ecma_codegen_ast.specs.Tokens.{Token, Goal, Ordinary, RegularExpression, TemplateTail, FirstLine, Closing, InTag, Attribute, Child, has_shape, token_of, goal}
 use Rattle.swc_ecma_codegen_ast.specs.declared.kinds.Kind.TheVariants.{Word, Name, PrivateName, Punctuator, Number, BigInt, Str, Regex, Template, TemplateRest, Close, JsxName, JsxString, JsxText, JsxOpen, Hashbang}
-use Rattle.swc_ecma_codegen_ast.specs.LongestMatch.{IsLongest}
+use Rattle.swc_ecma_codegen_ast.specs.LongestMatch.{IsLongest, is_numeric_kind, goes_on}
 use Rattle.swc_ecma_codegen_ast.specs.Trivia.{Remark, Trivia}
 use Rattle.swc_ecma_codegen_ast.specs.Reads.{is_close_by, is_hashbang_kind}
+use Rattle.swc_ecma_codegen_ast.specs.Skipping.{NoPiece}
 
 unfoldable pub some_part : (TemplatePart → Bool) → Bool
 some_part holds =
@@ -47,3 +48,28 @@ unfoldable pub tokens_as : List Kind → List (List ℕ) → List Token
 tokens_as [] texts = []
 tokens_as (kind ∷ kinds) [] = []
 tokens_as (kind ∷ kinds) (text ∷ texts) = token_of kind text ∷ tokens_as kinds texts
+
+-- a comment opens here
+unfoldable pub opens_comment : List ℕ → Bool
+opens_comment text = (begins (codes "//") text || begins (codes "/*") text) || (begins (codes "<!--") text || begins (codes "-->") text)
+
+unfoldable pub is_jsx_text_kind : Kind → Bool
+is_jsx_text_kind JsxText = true
+is_jsx_text_kind kind = false
+
+-- The first n characters, which are as many as any token of the goal has, are a longest token of a kind.
+unfoldable pub fits : Bool → Kind → List ℕ → ℕ → Bool
+fits first kind text n =
+    (nat_lt 0 n && (first || not (is_hashbang_kind kind)))
+    && (has_shape kind (take n text)
+    && ((is_jsx_text_kind kind || not (opens_comment text))
+    && not (is_numeric_kind kind && goes_on (drop n text))))
+
+-- The trivia before a token of a kind end where `start` begins, and nowhere else.
+pub record Starts (kind : Kind) (text start : List ℕ) : Type 0 where
+  pub gap : List ℕ
+  pub before : List Remark
+  pub is_text : text ≡ gap ++ start
+  pub trivia : Trivia gap before
+  pub close_by : is_close_by kind ≡ true → gap ≡ []
+  pub only : (other u : List ℕ) (remarks : List Remark) → Trivia other remarks → (is_close_by kind ≡ true → other ≡ []) → (is_close_by kind ≡ false → NoPiece u) → text ≡ other ++ u → start ≡ u

@@ -43,3 +43,14 @@ fn after_piece(text: &[char]) -> Option<&[char]>
         _ => None,
     }
 }
+
+/// What stands after all the trivia at the start of a text.
+#[tactic(auto, using(crate::proofs::Skips::skips_none, crate::proofs::Skips::skips_more))]
+pub fn skip(text: &[char]) -> &[char]
+    ensures { skipping.Skips text.now result.now }
+{
+    match after_piece(text) {
+        None => text,
+        Some(rest) => skip(rest),
+    }
+}

@@ -8,6 +8,7 @@ ghost use Rattle.swc_ecma_codegen_ast.specs.LongestMatch as matches;
 ghost use Rattle.swc_ecma_codegen_ast.specs.Reading as reading;
 
 use crate::characters::{is_digit, is_part};
+use crate::gaps::skip;
 use crate::kinds::{Kind, TemplatePart};
 use crate::numerals::{is_big_integer, is_number};
 use crate::punctuation::is_punctuator;
@@ -135,4 +136,76 @@ fn longest(kind: Kind, text: &[char]) -> usize
         n -= 1;
     }
     0
+}
+
+#[tactic(auto, unfolding(crate::specs::Reading::opens_comment))]
+fn opens_comment(text: &[char]) -> bool
+    ensures { result ≡ reading.opens_comment text.now }
+{
+    begins(&['/', '/'], text)
+        || begins(&['/', '*'], text)
+        || begins(&['<', '!', '-', '-'], text)
+        || begins(&['-', '-', '>'], text)
+}
+
+#[tactic(auto, unfolding(crate::specs::LongestMatch::goes_on))]
+fn goes_on(text: &[char]) -> bool
+    ensures { result ≡ matches.goes_on text.now }
+{
+    match text {
+        [] => false,
+        [c, ..] => is_part(*c) || *c == '\\',
+    }
+}
+
+#[tactic(auto, unfolding(crate::specs::Reads::is_close_by, crate::specs::Reads::is_child, crate::specs::Reads::is_hashbang_kind))]
+fn is_close_by(kind: Kind) -> bool
+    ensures { result ≡ reads.is_close_by kind }
+{
+    match kind {
+        Kind::JsxText | Kind::JsxOpen | Kind::Hashbang => true,
+        _ => false,
+    }
+}
+
+#[tactic(auto, unfolding(crate::specs::Reads::is_hashbang_kind))]
+fn is_hashbang_kind(kind: Kind) -> bool
+    ensures { result ≡ reads.is_hashbang_kind kind }
+{
+    match kind {
+        Kind::Hashbang => true,
+        _ => false,
+    }
+}
+
+#[tactic(auto, unfolding(crate::specs::Reading::is_jsx_text_kind))]
+fn is_jsx_text_kind(kind: Kind) -> bool
+    ensures { result ≡ reading.is_jsx_text_kind kind }
+{
+    match kind {
+        Kind::JsxText => true,
+        _ => false,
+    }
+}
+
+#[tactic(auto, unfolding(crate::specs::LongestMatch::is_numeric_kind))]
+fn is_numeric_kind(kind: Kind) -> bool
+    ensures { result ≡ matches.is_numeric_kind kind }
+{
+    match kind {
+        Kind::Number | Kind::BigInt => true,
+        _ => false,
+    }
+}
+
+#[tactic(auto, unfolding(crate::specs::Reading::fits))]
+fn fits(first: bool, kind: Kind, text: &[char], n: usize) -> bool
+    requires { n ≤ length text.now }
+    ensures { result ≡ reading.fits first kind text.now n }
+{
+    0 < n
+        && (first || !is_hashbang_kind(kind))
+        && has_shape(kind, &text[..n])
+        && (is_jsx_text_kind(kind) || !opens_comment(text))
+        && !(is_numeric_kind(kind) && goes_on(&text[n..]))
 }
