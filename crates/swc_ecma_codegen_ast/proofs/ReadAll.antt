@@ -1,6 +1,9 @@
 -- What the plain reader finds, token by token.
-use Rattle.std.proofs.Common.{Bool, List, [], ap, append-nil, append_assoc, false, length, refl, subst, sym, true, ℕ, ◌++◌, ◌+◌, ◌∙◌, ◌∷◌, ◌≡◌}
-use Rattle.std.proofs.lemmas.List.{length-append}
+use Rattle.std.proofs.Common.{Bool, List, [], ap, append-nil, append_assoc, arith, false, length, refl, subst, suc, sym, take, true, ℕ, ◌++◌, ◌+◌, ◌<◌, ◌==◌, ◌∙◌, ◌∷◌, ◌≡◌, ◌≤◌}
+use Rattle.std.proofs.Math.ListN.{get_or}
+use Rattle.std.proofs.Math.Seq.{take-suc}
+use Rattle.std.proofs.lemmas.Bool.{eqb-true, true≢false}
+use Rattle.std.proofs.lemmas.List.{length-append, take_all}
 use Rattle.swc_ecma_codegen_ast.proofs.Reading.{reads}
 use Rattle.swc_ecma_codegen_ast.proofs.Skips.{skipped}
 use Rattle.swc_ecma_codegen_ast.proofs.Tables.{each}
@@ -128,3 +131,26 @@ no_end text kinds owns first rest left p s some xs remarks e r =
     let got = p.complete [] xs remarks r (e ∙ sym (append-nil kinds)) in
     let t : Trivia rest got.1 = subst (λ z. ReadsOn first rest z got.1) (no_kinds got.0 got.2) got.3 in
     some (skipped rest left rest [] got.1 s t (sym (append-nil rest)) no_piece_in_nothing)
+
+-- steps of a loop over the kinds
+one_more : (i : ℕ) → i + 1 ≡ suc i
+one_more i = omega arith
+
+pub take_one_more : {A : Type 0} (xs : List A) (i : ℕ) (d : A) → i < length xs → take (i + 1) xs ≡ take i xs ++ get_or xs i d ∷ []
+take_one_more xs i d h = ap (λ k. take k xs) (one_more i) ∙ take-suc xs i d h
+
+take_whole : {A : Type 0} (xs : List A) (i : ℕ) → length xs ≤ i → take i xs ≡ xs
+take_whole xs i h = take_all i xs h
+
+pub at_end : (text : List ℕ) (kinds : List Kind) (owns : List (List ℕ)) (first : Bool) (rest : List ℕ) (i : ℕ) → length kinds ≤ i → Progress text (take i kinds) owns first rest → Progress text kinds owns first rest
+at_end text kinds owns first rest i h p = subst (λ z. Progress text z owns first rest) (take_whole kinds i h) p
+
+some_length : (x : ℕ) (xs : List ℕ) → length (x ∷ xs) ≡ 0 → ⊥
+some_length x xs e = omega (arith, e)
+
+pub is_nothing : (xs : List ℕ) → (length xs == 0) ≡ true → xs ≡ []
+is_nothing [] h = refl
+is_nothing (x ∷ xs) h = absurd (some_length x xs (eqb-true (length (x ∷ xs)) 0 h))
+
+pub is_something : (xs : List ℕ) → (length xs == 0) ≡ false → xs ≡ [] → ⊥
+is_something xs h e = true≢false (subst (λ z. (length z == 0) ≡ false) e h)

@@ -1,8 +1,8 @@
 -- What the plain reader takes as the next token is the one token of its kind, and where it takes none there is none.
 use Rattle.std.proofs.Common.{Bool, List, [], ap, append_assoc, ap₂, arith, codes, drop, false, inl, inr, length, nat_lt, not, refl, subst, sym, take, true, ℕ, ◌&&◌, ◌++◌, ◌+◌, ◌-◌, ◌<◌, ◌||◌, ◌∙◌, ◌∷◌, ◌≡◌, ◌≤◌}
-use Rattle.std.proofs.Math.Seq.{drop-append-add, drop-append_seam, take-append-add, take-append_seam}
+use Rattle.std.proofs.Math.Seq.{drop-append-add, drop-append_seam, take-append-add, take-append_seam, take-length}
 use Rattle.std.proofs.lemmas.Bool.{and_from, and_parts, cases_lt, false_from_ne_true, lt-ltb, ltb-true, not-true, or_cases, or_from, or_left, or_parts, or_right, true≢false}
-use Rattle.std.proofs.lemmas.List.{length-append, length-take-le, take-append-drop}
+use Rattle.std.proofs.lemmas.List.{length-append, length-drop, length-take-le, take-append-drop}
 use Rattle.swc_ecma_codegen_ast.proofs.Heads.{some_text}
 use Rattle.swc_ecma_codegen_ast.proofs.Longest.{longest}
 use Rattle.swc_ecma_codegen_ast.proofs.MarkMatch.{no_digit}
@@ -343,3 +343,7 @@ starts_apart kind text start c s = record {
   close_by = λ e. absurd (true≢false (sym e ∙ c));
   only = λ other u remarks t n p e. skipped text start other u remarks s t e (p c);
 }
+
+-- all that is left
+pub rest_all : (n : ℕ) (t : List ℕ) → take (length t - n) (drop n t) ≡ drop n t
+rest_all n t = ap (λ k. take k (drop n t)) (sym (length-drop n t)) ∙ take-length (drop n t)

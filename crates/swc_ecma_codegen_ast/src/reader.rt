@@ -1,11 +1,16 @@
 //! A plain, slow reader of texts: for given kinds of tokens it finds the tokens, or that there are none.
 
-ghost use Rattle.std.specs.Prelude.{◌≡◌, ◌<◌, ◌≤◌, ℕ, true, false, length};
+ghost use Rattle.std.specs.Prelude.{◌≡◌, ◌<◌, ◌≤◌, ℕ, List, map, true, false, length, IfOk, IfSome, IfNone};
+ghost use Rattle.std.specs.Str.{chars as chars_of};
+ghost use Rattle.swc_ecma_codegen_ast.specs.Tokens.{Token};
+ghost use Rattle.swc_ecma_codegen_ast.specs.Trivia.{Remark};
 ghost use Rattle.swc_ecma_codegen_ast.specs.Chars as chars;
 ghost use Rattle.swc_ecma_codegen_ast.specs.Tokens as tokens;
 ghost use Rattle.swc_ecma_codegen_ast.specs.Reads as reads;
 ghost use Rattle.swc_ecma_codegen_ast.specs.LongestMatch as matches;
 ghost use Rattle.swc_ecma_codegen_ast.specs.Reading as reading;
+
+use std::alloc::{AllocError, Global};
 
 use crate::characters::{is_digit, is_part};
 use crate::gaps::skip;
@@ -208,4 +213,67 @@ fn fits(first: bool, kind: Kind, text: &[char], n: usize) -> bool
         && has_shape(kind, &text[..n])
         && (is_jsx_text_kind(kind) || !opens_comment(text))
         && !(is_numeric_kind(kind) && goes_on(&text[n..]))
+}
+
+/// Where the trivia before a token of a kind end.
+#[tactic(auto, using(crate::proofs::ReadOne::starts_close, crate::proofs::ReadOne::starts_apart))]
+fn start(kind: Kind, text: &[char]) -> &[char]
+    ensures { reading.Starts kind text.now result.now }
+{
+    if is_close_by(kind) {
+        text
+    } else {
+        skip(text)
+    }
+}
+
+/// The next token, where it is of this kind, and what is left.
+fn read_one(first: bool, kind: Kind, text: &[char]) -> Option<(&[char], &[char])>
+    ensures found { IfSome result (λ pair. reading.ReadsOne first kind text.now pair.0.now pair.1.now) }
+    ensures none { IfNone result ((own rest : List ℕ) → reading.ReadsOne first kind text.now own rest → ⊥) }
+{
+    let text = start(kind, text);
+    let n = longest(kind, text);
+    if fits(first, kind, text, n) {
+        Some((&text[..n], &text[n..]))
+    } else {
+        None
+    }
+}
+
+/// The tokens of a text, one of each of these kinds in turn, as they are spelled. `None`: the text reads as no list of
+/// tokens of these kinds. `AllocError`: a growth was refused.
+pub fn read_tokens<'a>(
+    alloc: Global,
+    text: &'a [char],
+    kinds: &[Kind],
+) -> Result<Option<Vec<&'a [char]>>, AllocError>
+    ensures found { IfOk result (λ found. IfSome found (λ own. (length own.items ≡ length kinds.now) × (remarks : List Remark) × reads.Reads text.now (reading.tokens_as kinds.now (map (λ text. text.now) own.items)) remarks)) }
+    ensures none { IfOk result (λ found. IfNone found ((xs : List Token) (remarks : List Remark) → reads.kinds_of xs ≡ kinds.now → reads.Reads text.now xs remarks → ⊥)) }
+{
+    let mut found = Vec::new(alloc);
+    let mut rest = text;
+    let mut first = true;
+    for kind in kinds {
+        match read_one(first, *kind, rest) {
+            None => return Ok(None),
+            Some((own, after)) => {
+                found.push(own)?;
+                rest = after;
+                first = false;
+            }
+        }
+    }
+    if skip(rest).is_empty() {
+        Ok(Some(found))
+    } else {
+        Ok(None)
+    }
+}
+
+/// The characters of a text. `AllocError`: a growth was refused.
+pub fn characters(alloc: Global, text: &str) -> Result<Vec<char>, AllocError>
+    ensures { IfOk result (λ found. found.items ≡ chars_of text.now) }
+{
+    text.chars().collect(alloc)
 }
