@@ -4,9 +4,7 @@ use Rattle.std.proofs.Math.ListN.{get_or}
 use Rattle.std.proofs.Math.Seq.{take-suc}
 use Rattle.std.proofs.lemmas.Bool.{eqb-true, true≢false}
 use Rattle.std.proofs.lemmas.List.{length-append, take_all}
-use Rattle.swc_ecma_codegen_ast.proofs.Reading.{reads}
 use Rattle.swc_ecma_codegen_ast.proofs.Skips.{skipped}
-use Rattle.swc_ecma_codegen_ast.proofs.Tables.{each}
 use Rattle.swc_ecma_codegen_ast.proofs.Unique.{gap_case, head_kind, piece_is_some, same_longest, solid, token_at}
 use Rattle.swc_ecma_codegen_ast.specs.LongestMatch.{IsLongest}
 use Rattle.swc_ecma_codegen_ast.specs.Parts.{before}
@@ -92,13 +90,13 @@ pub progress_more : (text : List ℕ) (done : List Kind) (owns : List (List ℕ)
 progress_more text done owns first rest kind own after p h = record {
   same = length-append owns (own ∷ []) ∙ ap (λ z. z + 1) p.same ∙ sym (length-append done (kind ∷ []));
   sound = λ xs remarks r.
-  let all = p.sound (token_of kind own ∷ xs) (h.before ++ remarks) (reads_first first kind rest own after xs remarks h r) in
-  (all.0, subst (λ z. ReadsOn true text z all.0) (sym (append_assoc (tokens_as done owns) (token_of kind own ∷ []) xs) ∙ ap (λ z. z ++ xs) (sym (tokens_more done owns kind own p.same))) all.1);
+      let all = p.sound (token_of kind own ∷ xs) (h.before ++ remarks) (reads_first first kind rest own after xs remarks h r) in
+      (all.0, subst (λ z. ReadsOn true text z all.0) (sym (append_assoc (tokens_as done owns) (token_of kind own ∷ []) xs) ∙ ap (λ z. z ++ xs) (sym (tokens_more done owns kind own p.same))) all.1);
   complete = λ ks xs remarks r e.
-  let got = p.complete (kind ∷ ks) xs remarks r (e ∙ append_assoc done (kind ∷ []) ks) in
-  let f = first_read first kind rest ks got.0 got.1 got.3 got.2 in
-  let same = one_only first kind rest f.own own f.rest after f.one h in
-  (f.ys, f.later, f.kinds, subst (λ z. ReadsOn false z f.ys f.later) same.1 f.reads);
+      let got = p.complete (kind ∷ ks) xs remarks r (e ∙ append_assoc done (kind ∷ []) ks) in
+      let f = first_read first kind rest ks got.0 got.1 got.3 got.2 in
+      let same = one_only first kind rest f.own own f.rest after f.one h in
+      (f.ys, f.later, f.kinds, subst (λ z. ReadsOn false z f.ys f.later) same.1 f.reads);
 }
 
 -- where no token of the next kind is, there is no reading

@@ -4,16 +4,13 @@ use Rattle.std.proofs.Math.Seq.{drop-append-add, drop-append_seam, take-append-a
 use Rattle.std.proofs.lemmas.Bool.{and_from, and_parts, cases_lt, false_from_ne_true, lt-ltb, ltb-true, not-true, or_cases, or_from, or_left, or_parts, or_right, true≢false}
 use Rattle.std.proofs.lemmas.List.{length-append, length-drop, length-take-le, take-append-drop}
 use Rattle.swc_ecma_codegen_ast.proofs.Heads.{some_text}
-use Rattle.swc_ecma_codegen_ast.proofs.Longest.{longest}
-use Rattle.swc_ecma_codegen_ast.proofs.MarkMatch.{no_digit}
 use Rattle.swc_ecma_codegen_ast.proofs.Marks.{opener_cases}
 use Rattle.swc_ecma_codegen_ast.proofs.Reading.{no_trivia}
 use Rattle.swc_ecma_codegen_ast.proofs.Skips.{skipped, solid_no_piece}
-use Rattle.swc_ecma_codegen_ast.proofs.Tables.{each, eq_of_same, same_refl}
+use Rattle.swc_ecma_codegen_ast.proofs.Tables.{eq_of_same, same_refl}
 use Rattle.swc_ecma_codegen_ast.proofs.Unique.{block_opener, line_opener, not_child, solid}
 use Rattle.swc_ecma_codegen_ast.specs.Chars.{begins_digit}
 use Rattle.swc_ecma_codegen_ast.specs.LongestMatch.{IsLongest, Stands, goes_on, is_numeric_kind, openers}
-use Rattle.swc_ecma_codegen_ast.specs.Parts.{before}
 use Rattle.swc_ecma_codegen_ast.specs.Reading.{ReadsOne, Starts, fits, is_jsx_text_kind, opens_comment, some_part, some_shape, stands_at}
 use Rattle.swc_ecma_codegen_ast.specs.Reads.{is_close_by, is_hashbang_kind}
 use Rattle.swc_ecma_codegen_ast.specs.Skipping.{Skips}
@@ -286,15 +283,15 @@ longer_there kind start own rest n e l w t h =
   where
     none : (kind : Kind) (start own rest : List ℕ) (n k : ℕ) → take n start ≡ own ++ take k rest → drop n start ≡ drop k rest → length own < n → not (is_same (take n start) (codes "?.") && begins_digit (drop n start)) ≡ true → start ≡ own ++ rest → n ≤ length start → IsLongest (token_of kind own) own rest → n ≡ length own + k → IsOfKind (goal kind) (take n start) → ⊥
     none kind start own rest n k a b l d e w h sum (of_kind x g s) =
-      let stands : Stands (token_of x (own ++ take k rest)) (own ++ take k rest) (drop k rest) = record {
-        spells = record { shape = subst (λ z. has_shape x z ≡ true) a s; value = refl };
-        no_digit = λ f. subst (λ z. begins_digit z ≡ false) b (choice_from (take n start) (drop n start) d (a ∙ f));
-      } in
-      let m : take k rest ≡ [] = h.longest (token_of x (own ++ take k rest)) (take k rest) (drop k rest) g (sym (take-append-drop k rest)) stands in
-      let all : length start ≡ length own + length rest = ap length e ∙ length-append own rest in
-      let within : k ≤ length rest = omega (arith, all, sum, w) in
-      let zero : k ≡ 0 = sym (length-take-le k rest within) ∙ ap length m in
-      omega (arith, zero, sum, l)
+        let stands : Stands (token_of x (own ++ take k rest)) (own ++ take k rest) (drop k rest) = record {
+          spells = record { shape = subst (λ z. has_shape x z ≡ true) a s; value = refl };
+          no_digit = λ f. subst (λ z. begins_digit z ≡ false) b (choice_from (take n start) (drop n start) d (a ∙ f));
+        } in
+        let m : take k rest ≡ [] = h.longest (token_of x (own ++ take k rest)) (take k rest) (drop k rest) g (sym (take-append-drop k rest)) stands in
+        let all : length start ≡ length own + length rest = ap length e ∙ length-append own rest in
+        let within : k ≤ length rest = omega (arith, all, sum, w) in
+        let zero : k ≡ 0 = sym (length-take-le k rest within) ∙ ap length m in
+        omega (arith, zero, sum, l)
 
 text_of_child : (kind : Kind) → is_close_by kind ≡ false → goal kind ≡ Child → ⊥
 text_of_child kind c g = not_child kind c g
@@ -310,14 +307,17 @@ read_one_complete first kind text start n s w here most own rest h =
     let above : n ≤ length own = elim (cases_lt (length own) n) [ inl y ↦ absurd (longer_there kind start own rest n e y w (here (omega (arith, y, some))) h.is_longest) | inr y ↦ y ] in
     let same : n ≡ length own = omega (arith, below, above) in
     let a : take n start ≡ own = ap₂ take same e ∙ take-append_seam own rest in
-    let b : drop n start ≡ rest = ap₂ drop same e ∙ drop-append_seam own rest in
-    (sym a, sym b, fitting_fits first kind start n (record {
-      some = subst (λ z. 0 < z) (sym same) some;
-      at_start = h.at_start;
-      shape = subst (λ z. has_shape kind z ≡ true) (sym a) h.is_longest.stands.spells.shape;
-      no_comment = λ g. none_opens start (λ o k. subst (λ z. begins o z ≡ false) (sym e) (h.is_longest.no_comment (no_text_goal kind g) o k));
-      ends = λ k. subst (λ z. goes_on z ≡ false) (sym b) (h.is_longest.number_ends k);
-    }))
+    let b : drop n start ≡ rest = ap₂ drop same e ∙ drop-append_seam own rest in (
+      sym a,
+      sym b,
+      fitting_fits first kind start n (record {
+        some = subst (λ z. 0 < z) (sym same) some;
+        at_start = h.at_start;
+        shape = subst (λ z. has_shape kind z ≡ true) (sym a) h.is_longest.stands.spells.shape;
+        no_comment = λ g. none_opens start (λ o k. subst (λ z. begins o z ≡ false) (sym e) (h.is_longest.no_comment (no_text_goal kind g) o k));
+        ends = λ k. subst (λ z. goes_on z ≡ false) (sym b) (h.is_longest.number_ends k);
+      }),
+    )
   where
     some_own : (t : List ℕ) → has_shape kind t ≡ true → 0 < length t
     some_own [] h = absurd (some_text kind h)

@@ -2,7 +2,6 @@
 use Rattle.std.proofs.Common.{Bool, List, None, Option, Some, [], ap, append_assoc, ap₂, arith, codes, false, if◌then◌else◌, length, not, refl, sym, true, ℕ, ◌&&◌, ◌++◌, ◌+◌, ◌<◌, ◌==◌, ◌∙◌, ◌∷◌, ◌≡◌}
 use Rattle.std.proofs.lemmas.Bool.{and_from, and_parts, and_right, cond-false, cond-true, eq-eqb, eqb-true, false_from_ne_true, not-true, true≢false}
 use Rattle.std.proofs.lemmas.List.{length-append}
-use Rattle.swc_ecma_codegen_ast.proofs.Tables.{each}
 use Rattle.swc_ecma_codegen_ast.proofs.Unique.{IsSolid, not_solid, same_piece}
 use Rattle.swc_ecma_codegen_ast.specs.Chars.{is_blank, is_line_end, is_one_line}
 use Rattle.swc_ecma_codegen_ast.specs.Skipping.{NoPiece, Skips, after_block, after_line, after_piece}
@@ -65,11 +64,15 @@ first_apart : (c : ℕ) (i v : List ℕ) → is_open (c ∷ i) ≡ true → (d :
 unfolding is_open begins
 first_apart c [] v h = (42, codes "/" ++ v, refl, and_right (c == 42) false refl)
 first_apart c (x ∷ i) v h =
-    let n = not-true _ (and_parts (not (begins (codes "*/") (c ∷ x ∷ i))) (is_open (x ∷ i)) h).0 in
-    (x, i ++ (codes "*/" ++ v), refl, false_from_ne_true _ (λ t.
-    let p = and_parts (c == 42) (x == 47) t in
-    let k : ((42 == c) && ((47 == x) && true)) ≡ true = and_from (42 == c) _ (eq-eqb 42 c (sym (eqb-true c 42 p.0))) (and_from (47 == x) true (eq-eqb 47 x (sym (eqb-true x 47 p.1))) refl) in
-    true≢false (sym k ∙ n)))
+    let n = not-true _ (and_parts (not (begins (codes "*/") (c ∷ x ∷ i))) (is_open (x ∷ i)) h).0 in (
+      x,
+      i ++ (codes "*/" ++ v),
+      refl,
+      false_from_ne_true _ (λ t.
+          let p = and_parts (c == 42) (x == 47) t in
+          let k : ((42 == c) && ((47 == x) && true)) ≡ true = and_from (42 == c) _ (eq-eqb 42 c (sym (eqb-true c 42 p.0))) (and_from (47 == x) true (eq-eqb 47 x (sym (eqb-true x 47 p.1))) refl) in
+          true≢false (sym k ∙ n)),
+    )
 
 step_block : (c d : ℕ) (cs : List ℕ) → ((c == 42) && (d == 47)) ≡ false → after_block (c ∷ d ∷ cs) ≡ after_block (d ∷ cs)
 unfolding after_block

@@ -1,5 +1,5 @@
 -- One step of reading.
-use Rattle.std.specs.Prelude.{◌≡◌, ℕ, Bool, true, false, not, List, [], ◌∷◌, ◌++◌, ◌&&◌, ◌||◌, codes, take, drop, nat_lt}
+use Rattle.std.specs.Prelude.{◌≡◌, ℕ, Bool, true, false, not, List, [], ◌∷◌, ◌++◌, ◌&&◌, ◌||◌, codes, take, drop, nat_lt, length}
 use Rattle.swc_ecma_codegen_ast.specs.declared.kinds.Kind.{Kind}
 use Rattle.swc_ecma_codegen_ast.specs.declared.kinds.TemplatePart.{TemplatePart}
 use Rattle.swc_ecma_codegen_ast.specs.Chars.{begins_digit}
@@ -8,7 +8,7 @@ use Rattle.swc_ecma_codegen_ast.specs.Tokens.{Token, Goal, Ordinary, RegularExpr
 use Rattle.swc_ecma_codegen_ast.specs.declared.kinds.Kind.TheVariants.{Word, Name, PrivateName, Punctuator, Number, BigInt, Str, Regex, Template, TemplateRest, Close, JsxName, JsxString, JsxText, JsxOpen, Hashbang}
 use Rattle.swc_ecma_codegen_ast.specs.LongestMatch.{IsLongest, is_numeric_kind, goes_on}
 use Rattle.swc_ecma_codegen_ast.specs.Trivia.{Remark, Trivia}
-use Rattle.swc_ecma_codegen_ast.specs.Reads.{is_close_by, is_hashbang_kind}
+use Rattle.swc_ecma_codegen_ast.specs.Reads.{Reads, kinds_of, is_close_by, is_hashbang_kind}
 use Rattle.swc_ecma_codegen_ast.specs.Skipping.{NoPiece}
 
 unfoldable pub some_part : (TemplatePart → Bool) → Bool
@@ -73,3 +73,11 @@ pub record Starts (kind : Kind) (text start : List ℕ) : Type 0 where
   pub trivia : Trivia gap before
   pub close_by : is_close_by kind ≡ true → gap ≡ []
   pub only : (other u : List ℕ) (remarks : List Remark) → Trivia other remarks → (is_close_by kind ≡ true → other ≡ []) → (is_close_by kind ≡ false → NoPiece u) → text ≡ other ++ u → start ≡ u
+
+-- A text reads as one token of each of these kinds, spelled so, with comments between.
+abbrev pub ReadsAs : List Kind → List (List ℕ) → List ℕ → Type 0
+ReadsAs kinds texts text = (length texts ≡ length kinds) × (remarks : List Remark) × Reads text (tokens_as kinds texts) remarks
+
+-- A text reads as no list of tokens of these kinds.
+abbrev pub ReadsAsNone : List Kind → List ℕ → Type 0
+ReadsAsNone kinds text = (tokens : List Token) (remarks : List Remark) → kinds_of tokens ≡ kinds → Reads text tokens remarks → ⊥

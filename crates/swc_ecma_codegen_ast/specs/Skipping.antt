@@ -1,7 +1,6 @@
 -- What stands after a piece of trivia.
-use Rattle.std.specs.Prelude.{◌≡◌, ℕ, Bool, true, false, List, [], ◌∷◌, ◌++◌, ◌&&◌, ◌==◌, Option, Some, None, if◌then◌else◌, codes}
+use Rattle.std.specs.Prelude.{◌≡◌, ℕ, true, List, [], ◌∷◌, ◌++◌, ◌&&◌, ◌==◌, Option, Some, None, if◌then◌else◌}
 use Rattle.swc_ecma_codegen_ast.specs.Chars.{is_blank, is_line_end}
-use Rattle.swc_ecma_codegen_ast.specs.Texts.{begins}
 use Rattle.swc_ecma_codegen_ast.specs.Trivia.{Piece, is_piece, piece_text, all_pieces, pieces_text}
 
 -- after the first `*/`

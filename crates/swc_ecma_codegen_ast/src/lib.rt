@@ -7,7 +7,6 @@ pub mod comments;
 pub mod gaps;
 pub mod kinds;
 pub mod mapper;
-
 pub mod numerals;
 pub mod punctuation;
 pub mod reader;
@@ -20,3 +19,6 @@ pub use swc_ecma_codegen_tree::{
     MemberExprBox, MemberProp, ParenExpr, Program, Result, Script, SeqExpr, Span, Spanned, Stmt,
     StmtBox, ThisExpr, UnaryExpr, UnaryOp, UpdateExpr, UpdateOp, discard,
 };
+
+#[cfg(test)]
+mod tests;

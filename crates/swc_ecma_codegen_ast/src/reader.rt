@@ -2,15 +2,11 @@
 
 ghost use Rattle.std.specs.Prelude.{◌≡◌, ◌<◌, ◌≤◌, ℕ, List, map, true, false, length, IfOk, IfSome, IfNone};
 ghost use Rattle.std.specs.Str.{chars as chars_of};
-ghost use Rattle.swc_ecma_codegen_ast.specs.Tokens.{Token};
-ghost use Rattle.swc_ecma_codegen_ast.specs.Trivia.{Remark};
 ghost use Rattle.swc_ecma_codegen_ast.specs.Chars as chars;
 ghost use Rattle.swc_ecma_codegen_ast.specs.Tokens as tokens;
 ghost use Rattle.swc_ecma_codegen_ast.specs.Reads as reads;
 ghost use Rattle.swc_ecma_codegen_ast.specs.LongestMatch as matches;
 ghost use Rattle.swc_ecma_codegen_ast.specs.Reading as reading;
-
-use std::alloc::{AllocError, Global};
 
 use crate::characters::{is_digit, is_part};
 use crate::gaps::skip;
@@ -21,6 +17,7 @@ use crate::shapes::{
     begins, is_hashbang, is_jsx_name, is_jsx_open, is_jsx_string, is_jsx_text, is_name,
     is_private_name, is_regex, is_same, is_string, is_template, is_template_rest, is_word,
 };
+use std::alloc::{AllocError, Global};
 
 /// Whether a text has the shape of the tokens of a kind.
 #[tactic(auto, unfolding(crate::specs::Tokens::has_shape))]
@@ -51,20 +48,62 @@ pub fn has_shape(kind: Kind, text: &[char]) -> bool
 fn is_some_template(text: &[char]) -> bool
     ensures { result ≡ reading.some_part (λ part. tokens.has_shape (Kind.Template part) text.now) }
 {
-    is_template(TemplatePart { tagged: false, opens: false }, text)
-        || is_template(TemplatePart { tagged: false, opens: true }, text)
-        || is_template(TemplatePart { tagged: true, opens: false }, text)
-        || is_template(TemplatePart { tagged: true, opens: true }, text)
+    is_template(
+        TemplatePart {
+            tagged: false,
+            opens: false,
+        },
+        text,
+    ) || is_template(
+        TemplatePart {
+            tagged: false,
+            opens: true,
+        },
+        text,
+    ) || is_template(
+        TemplatePart {
+            tagged: true,
+            opens: false,
+        },
+        text,
+    ) || is_template(
+        TemplatePart {
+            tagged: true,
+            opens: true,
+        },
+        text,
+    )
 }
 
 #[tactic(auto, unfolding(crate::specs::Reading::some_part, crate::specs::Tokens::has_shape))]
 fn is_some_template_rest(text: &[char]) -> bool
     ensures { result ≡ reading.some_part (λ part. tokens.has_shape (Kind.TemplateRest part) text.now) }
 {
-    is_template_rest(TemplatePart { tagged: false, opens: false }, text)
-        || is_template_rest(TemplatePart { tagged: false, opens: true }, text)
-        || is_template_rest(TemplatePart { tagged: true, opens: false }, text)
-        || is_template_rest(TemplatePart { tagged: true, opens: true }, text)
+    is_template_rest(
+        TemplatePart {
+            tagged: false,
+            opens: false,
+        },
+        text,
+    ) || is_template_rest(
+        TemplatePart {
+            tagged: false,
+            opens: true,
+        },
+        text,
+    ) || is_template_rest(
+        TemplatePart {
+            tagged: true,
+            opens: false,
+        },
+        text,
+    ) || is_template_rest(
+        TemplatePart {
+            tagged: true,
+            opens: true,
+        },
+        text,
+    )
 }
 
 #[tactic(auto, unfolding(crate::specs::Reading::some_shape, crate::specs::Tokens::has_shape))]
@@ -220,11 +259,7 @@ fn fits(first: bool, kind: Kind, text: &[char], n: usize) -> bool
 fn start(kind: Kind, text: &[char]) -> &[char]
     ensures { reading.Starts kind text.now result.now }
 {
-    if is_close_by(kind) {
-        text
-    } else {
-        skip(text)
-    }
+    if is_close_by(kind) { text } else { skip(text) }
 }
 
 /// The next token, where it is of this kind, and what is left.
@@ -248,8 +283,8 @@ pub fn read_tokens<'a>(
     text: &'a [char],
     kinds: &[Kind],
 ) -> Result<Option<Vec<&'a [char]>>, AllocError>
-    ensures found { IfOk result (λ found. IfSome found (λ own. (length own.items ≡ length kinds.now) × (remarks : List Remark) × reads.Reads text.now (reading.tokens_as kinds.now (map (λ text. text.now) own.items)) remarks)) }
-    ensures none { IfOk result (λ found. IfNone found ((xs : List Token) (remarks : List Remark) → reads.kinds_of xs ≡ kinds.now → reads.Reads text.now xs remarks → ⊥)) }
+    ensures found { IfOk result (λ found. IfSome found (λ own. reading.ReadsAs kinds.now (map (λ text. text.now) own.items) text.now)) }
+    ensures none { IfOk result (λ found. IfNone found (reading.ReadsAsNone kinds.now text.now)) }
 {
     let mut found = Vec::new(alloc);
     let mut rest = text;

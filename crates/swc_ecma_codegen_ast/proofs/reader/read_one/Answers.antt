@@ -1,4 +1,4 @@
-use Rattle.std.proofs.Common.{sym, subst, ◌∙◌, take, drop}
+use Rattle.std.proofs.Common.{sym, subst, ◌∙◌, take}
 use Rattle.std.proofs.lemmas.Bool.{true≢false}
 use Rattle.swc_ecma_codegen_ast.specs.Reading.{ReadsOne}
 use Rattle.swc_ecma_codegen_ast.proofs.ReadOne.{read_one_sound, read_one_complete, rest_all}

@@ -1,7 +1,5 @@
-use Rattle.std.proofs.Common.{sym, subst, ◌∙◌, take, drop, map, ap, ap₂, ◌≡◌, [], ◌∷◌, true, false, ◌+◌, ◌++◌, ◌<◌, ℕ, List, length, arith}
-use Rattle.std.proofs.lemmas.Bool.{true≢false}
-use Rattle.std.proofs.lemmas.List.{take-append-drop, drop_more, map-append, length-map}
-use Rattle.std.proofs.Math.Seq.{take-length}
+use Rattle.std.proofs.Common.{sym, subst, ◌∙◌, take, drop, map, ap, ◌≡◌, [], ◌∷◌, true, false, ◌+◌, ◌++◌, ℕ, List}
+use Rattle.std.proofs.lemmas.List.{take-append-drop, drop_more, map-append}
 use Rattle.swc_ecma_codegen_ast.specs.Skipping.{Skips}
 use Rattle.swc_ecma_codegen_ast.proofs.ReadAll.{Progress, take_one_more, at_end, is_nothing, is_something, nothing_yet, progress_more, no_next, reads_all, no_end}
 use Rattle.swc_ecma_codegen_ast.proofs.reader.read_tokens.Goals as goal
@@ -33,7 +31,7 @@ returns-then-is_empty-clause-found c =
     let whole : Progress c.args.text.now kinds owns c.loop-kind.first c.loop-kind.rest.now = at_end c.args.text.now kinds owns c.loop-kind.first c.loop-kind.rest.now c.loop-kind.kind-index c.loop-kind-test.false c.loop-kind.invariant in
     let nothing : c.skip.result.now ≡ [] = is_nothing c.skip.result.now (sym c.is_empty.ensures ∙ c.if-is_empty.true) in
     let read = reads_all c.args.text.now kinds owns c.loop-kind.first c.loop-kind.rest.now whole (subst (λ z. Skips c.loop-kind.rest.now z) nothing c.skip.ensures) in
-    (sym (length-map c.loop-kind.found.items (λ p. p.now)) ∙ whole.same, read.0, read.1)
+    (whole.same, read.0, read.1)
 
 pub returns-clause-none : goal.returns-clause-none
 returns-clause-none c = λ xs remarks e r.
