@@ -2,16 +2,16 @@
 //! that its text is read by.
 #![tactic(auto)]
 
-pub mod characters;
+mod characters;
 pub mod comments;
-pub mod gaps;
+mod gaps;
 pub mod kinds;
 pub mod mapper;
-pub mod numerals;
-pub mod punctuation;
+mod numerals;
+mod punctuation;
 pub mod reader;
 pub mod reading_laws;
-pub mod shapes;
+mod shapes;
 
 pub use swc_ecma_codegen_tree::{
     AnyNode, AssignOp, BinExpr, BinaryOp, BytePos, ComputedPropName, CondExpr, DUMMY_SP, EmptyStmt,

@@ -132,14 +132,21 @@ fn texts_without_a_reading(rt: HostRuntime) -> Result<(), AllocError> {
     Ok(())
 }
 
+fn is_empty<C: Comments>(comments: &mut C) -> bool {
+    let pos = BytePos(1);
+    !comments.has_leading(pos)
+        && !comments.has_trailing(pos)
+        && comments.get_leading(pos).is_none()
+        && comments.take_leading(pos).is_none()
+        && comments.take_trailing(pos).is_none()
+}
+
 #[test]
 fn nothing_is_known_without_source_and_comments(rt: HostRuntime) -> Result<(), AllocError> {
     let mut maps = CommentMaps::new(rt.alloc());
-    assert!(rt; !maps.has_leading(BytePos(1)) && !maps.has_trailing(BytePos(1)));
-    assert!(rt; maps.get_leading(BytePos(1)).is_none());
-    assert!(rt;
-        maps.take_leading(BytePos(1)).is_none() && maps.take_trailing(BytePos(1)).is_none()
-    );
+    assert!(rt; is_empty(&mut maps));
+    let mut lent = &mut maps;
+    assert!(rt; is_empty(&mut lent));
     assert!(rt; !NoSource.is_on_same_line(BytePos(1), BytePos(1)));
     match NoSource.span_to_snippet(rt.alloc(), DUMMY_SP) {
         Ok(snippet) => assert!(rt; snippet.is_none()),
