@@ -10,11 +10,15 @@ pub mod MarkMatch
 pub mod Marks
 pub mod NameShapes
 pub mod NumberShapes
+pub mod ReadAll
+pub mod ReadOne
 pub mod Reading
 pub mod RegexShapes
+pub mod Skips
 pub mod Sorts
 pub mod Spacing
 pub mod StringShapes
 pub mod Tables
 pub mod TemplateShapes
+pub mod TreeLaws
 pub mod Unique

@@ -118,7 +118,7 @@ unfolding is_blank
 slash_is_no_blank c h e = true≢false (sym h ∙ subst (λ z. is_blank z ≡ false) (sym e) refl)
 
 -- two pieces at one place are one
-same_piece : (p q : Piece) (u v : List ℕ) → is_piece p ≡ true → is_piece q ≡ true → piece_text p ++ u ≡ piece_text q ++ v → (p ≡ q) × (u ≡ v)
+pub same_piece : (p q : Piece) (u v : List ℕ) → is_piece p ≡ true → is_piece q ≡ true → piece_text p ++ u ≡ piece_text q ++ v → (p ≡ q) × (u ≡ v)
 unfolding is_piece piece_text is_blank
 same_piece (Blank c) (Blank d) u v h k e = (ap Blank (cc e), cc e)
 same_piece (Blank c) (BlockOf t) u v h k e = absurd (slash_is_no_blank c h (cc e))
@@ -141,7 +141,7 @@ same_piece (LineOf s c) (LineOf t d) u v h k e =
     (ap₂ LineOf r.0 r.1, r.2)
 
 -- where a piece begins is nothing solid
-not_solid : (p : Piece) (v u : List ℕ) → is_piece p ≡ true → u ≡ piece_text p ++ v → IsSolid u → ⊥
+pub not_solid : (p : Piece) (v u : List ℕ) → is_piece p ≡ true → u ≡ piece_text p ++ v → IsSolid u → ⊥
 unfolding is_piece piece_text begins begins_blank
 not_solid (Blank c) v u h e s = true≢false (sym h ∙ subst (λ z. begins_blank z ≡ false) e s.blank)
 not_solid (BlockOf t) v u h e s = true≢false (subst (λ z. begins (codes "/*") z ≡ false) e s.block)
@@ -166,7 +166,7 @@ same_trivia a b u v cs ds h k e s t =
     let r = same_run h.pieces k.pieces u v h.each k.each f s t in
     (h.are_remarks ∙ ap remarks_of r.0 ∙ sym k.are_remarks, r.1)
 
-token_at : (x y : Token) → x.kind ≡ y.kind → x.value ≡ y.value → x ≡ y
+pub token_at : (x y : Token) → x.kind ≡ y.kind → x.value ≡ y.value → x ≡ y
 token_at x y e v = ap₂ (λ k w. let made : Token = record { kind = k; value = w } in made) e v
 
 -- two tokens of one kind that a text spells are one
@@ -190,7 +190,7 @@ same_longest x y a b u v h k e same =
           (same_token x y b (subst (λ z. Spells x z) ab h.stands.spells) k.stands.spells same, ab, sym (r.2 ∙ ap (λ z. z ++ u) m))
     ]
 
-piece_is_some : (p : Piece) (t : List ℕ) → piece_text p ++ t ≡ [] → ⊥
+pub piece_is_some : (p : Piece) (t : List ℕ) → piece_text p ++ t ≡ [] → ⊥
 unfolding piece_text
 piece_is_some (Blank c) t e = cc
 piece_is_some (BlockOf s) t e = cc
@@ -205,7 +205,7 @@ no_remarks : (a : List ℕ) (cs : List Remark) → a ≡ [] → Trivia a cs → 
 no_remarks a cs e h = h.are_remarks ∙ none_of_nothing h.pieces (sym h.is_text ∙ e)
 
 -- what is not close by is no text between tags
-not_child : (x : Kind) → is_close_by x ≡ false → goal x ≡ Child → ⊥
+pub not_child : (x : Kind) → is_close_by x ≡ false → goal x ≡ Child → ⊥
 unfolding is_close_by is_child goal
 not_child JsxText n e = true≢false n
 not_child x n e = cc
@@ -219,7 +219,7 @@ gap_case x a b own1 own2 u v cs ds true c h j f g l m e =
     (no_remarks a cs p h ∙ sym (no_remarks b ds q j), sym (ap (λ z. z ++ (own1 ++ u)) p) ∙ e ∙ ap (λ z. z ++ (own2 ++ v)) q)
 gap_case x a b own1 own2 u v cs ds false c h j f g l m e = same_trivia a b (own1 ++ u) (own2 ++ v) cs ds h j e (l (not_child x c)) (m (not_child x c))
 
-head_kind : {x y : Kind} {xs ys : List Kind} → x ∷ xs ≡ y ∷ ys → (x ≡ y) × (xs ≡ ys)
+pub head_kind : {x y : Kind} {xs ys : List Kind} → x ∷ xs ≡ y ∷ ys → (x ≡ y) × (xs ≡ ys)
 head_kind e = (cc e, cc e)
 
 reads_on_once : (xs ys : List Token) (first : Bool) (text : List ℕ) (cs ds : List Remark) → ReadsOn first text xs cs → ReadsOn first text ys ds → kinds_of xs ≡ kinds_of ys → (xs ≡ ys) × (cs ≡ ds)

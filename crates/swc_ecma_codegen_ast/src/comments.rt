@@ -116,3 +116,27 @@ impl Comments for CommentMaps {
         take(&mut self.trailing, pos)
     }
 }
+
+impl<C: Comments> Comments for &mut C {
+    ghost maps = { λ c. C.maps c.now };
+
+    fn has_leading(&self, pos: BytePos) -> bool {
+        (**self).has_leading(pos)
+    }
+
+    fn has_trailing(&self, pos: BytePos) -> bool {
+        (**self).has_trailing(pos)
+    }
+
+    fn get_leading(&self, pos: BytePos) -> Option<&[Comment]> {
+        (**self).get_leading(pos)
+    }
+
+    fn take_leading(&mut self, pos: BytePos) -> Option<Vec<Comment>> {
+        (**self).take_leading(pos)
+    }
+
+    fn take_trailing(&mut self, pos: BytePos) -> Option<Vec<Comment>> {
+        (**self).take_trailing(pos)
+    }
+}

@@ -2,10 +2,16 @@
 //! that its text is read by.
 #![tactic(auto)]
 
+mod characters;
 pub mod comments;
+mod gaps;
 pub mod kinds;
 pub mod mapper;
+mod numerals;
+mod punctuation;
+pub mod reader;
 pub mod reading_laws;
+mod shapes;
 
 pub use swc_ecma_codegen_tree::{
     AnyNode, AssignOp, BinExpr, BinaryOp, BytePos, ComputedPropName, CondExpr, DUMMY_SP, EmptyStmt,
@@ -13,3 +19,6 @@ pub use swc_ecma_codegen_tree::{
     MemberExprBox, MemberProp, ParenExpr, Program, Result, Script, SeqExpr, Span, Spanned, Stmt,
     StmtBox, ThisExpr, UnaryExpr, UnaryOp, UpdateExpr, UpdateOp, discard,
 };
+
+#[cfg(test)]
+mod tests;

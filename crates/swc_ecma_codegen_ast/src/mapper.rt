@@ -46,7 +46,9 @@ impl SourceMapper for NoSource {
         &self,
         _alloc: Global,
         _span: Span,
-    ) -> std::result::Result<Option<String>, Error> {
+    ) -> std::result::Result<Option<String>, Error>
+        ensures { result ≡ Ok None }
+    {
         Ok(None)
     }
 }

@@ -1,0 +1,93 @@
+-- The token lists of expressions: one production a node. `f` says what the lists of what a link holds are.
+use Rattle.std.specs.Prelude.{if◌then◌else◌, codes}
+use Rattle.swc_ecma_codegen_tree.specs.Operators.{binary_text, unary_text, update_text}
+use Rattle.swc_ecma_codegen_tree.specs.declared.operators.BinaryOp.{BinaryOp}
+use Rattle.swc_ecma_codegen_tree.specs.declared.operators.BinaryOp.TheVariants as binary
+use Rattle.swc_ecma_codegen_tree.specs.declared.operators.UnaryOp.{UnaryOp}
+use Rattle.swc_ecma_codegen_tree.specs.declared.operators.UnaryOp.TheVariants as unary
+use Rattle.swc_ecma_codegen_tree.specs.declared.operators.UpdateOp.{UpdateOp}
+use Rattle.swc_ecma_codegen_tree.specs.declared.links.ExprBox.{ExprBox}
+use Rattle.swc_ecma_codegen_tree.specs.declared.exprs.Expr.{Expr}
+use Rattle.swc_ecma_codegen_tree.specs.declared.exprs.Expr.TheVariants as exprs
+use Rattle.swc_ecma_codegen_tree.specs.declared.exprs.ThisExpr.{ThisExpr}
+use Rattle.swc_ecma_codegen_tree.specs.declared.exprs.UnaryExpr.{UnaryExpr}
+use Rattle.swc_ecma_codegen_tree.specs.declared.exprs.UpdateExpr.{UpdateExpr}
+use Rattle.swc_ecma_codegen_tree.specs.declared.exprs.BinExpr.{BinExpr}
+use Rattle.swc_ecma_codegen_tree.specs.declared.exprs.MemberExpr.{MemberExpr}
+use Rattle.swc_ecma_codegen_tree.specs.declared.exprs.MemberProp.{MemberProp}
+use Rattle.swc_ecma_codegen_tree.specs.declared.exprs.MemberProp.TheVariants as member_props
+use Rattle.swc_ecma_codegen_tree.specs.declared.exprs.ComputedPropName.{ComputedPropName}
+use Rattle.swc_ecma_codegen_tree.specs.declared.exprs.CondExpr.{CondExpr}
+use Rattle.swc_ecma_codegen_tree.specs.declared.exprs.SeqExpr.{SeqExpr}
+use Rattle.swc_ecma_codegen_tree.specs.declared.exprs.ParenExpr.{ParenExpr}
+use Rattle.swc_ecma_codegen_ast.specs.Phrases.{Phrase, ◌>◌, word, mark, listed}
+use Rattle.swc_ecma_codegen_ast.specs.NamePhrases.{ident, ident_name}
+
+-- what a link holds
+abbrev pub expr_at : {X : Type 0} → (X → Phrase) → ExprBox X → Phrase
+expr_at f n = f n.node.value
+
+-- ECMA-262, section 13.2.1
+unfoldable pub this_expr : ThisExpr → Phrase
+this_expr n = word (codes "this")
+
+-- the operators: words and marks
+unfoldable pub unary_op : UnaryOp → Phrase
+unary_op unary.TypeOf = word (unary_text unary.TypeOf)
+unary_op unary.Void = word (unary_text unary.Void)
+unary_op unary.Delete = word (unary_text unary.Delete)
+unary_op op = mark (unary_text op)
+
+unfoldable pub update_op : UpdateOp → Phrase
+update_op op = mark (update_text op)
+
+unfoldable pub binary_op : BinaryOp → Phrase
+binary_op binary.In = word (binary_text binary.In)
+binary_op binary.InstanceOf = word (binary_text binary.InstanceOf)
+binary_op op = mark (binary_text op)
+
+-- section 13.5
+unfoldable pub unary_expr : {X : Type 0} → (X → Phrase) → UnaryExpr X → Phrase
+unary_expr f n = unary_op n.op > expr_at f n.arg
+
+-- section 13.4
+unfoldable pub update_expr : {X : Type 0} → (X → Phrase) → UpdateExpr X → Phrase
+update_expr f n = if n.prefix then update_op n.op > expr_at f n.arg else (expr_at f n.arg > update_op n.op)
+
+-- sections 13.6 to 13.13
+unfoldable pub bin_expr : {X : Type 0} → (X → Phrase) → BinExpr X → Phrase
+bin_expr f n = expr_at f n.left > binary_op n.op > expr_at f n.right
+
+-- section 13.3.2
+unfoldable pub computed_prop_name : {X : Type 0} → (X → Phrase) → ComputedPropName X → Phrase
+computed_prop_name f n = mark (codes "[") > expr_at f n.expr > mark (codes "]")
+
+unfoldable pub member_prop : {X : Type 0} → (X → Phrase) → MemberProp X → Phrase
+member_prop f (member_props.Ident n) = mark (codes ".") > ident_name n
+member_prop f (member_props.Computed n) = computed_prop_name f n
+
+unfoldable pub member_expr : {X : Type 0} → (X → Phrase) → MemberExpr X → Phrase
+member_expr f n = expr_at f n.obj > member_prop f n.prop
+
+-- section 13.14
+unfoldable pub cond_expr : {X : Type 0} → (X → Phrase) → CondExpr X → Phrase
+cond_expr f n = expr_at f n.test > mark (codes "?") > expr_at f n.cons > mark (codes ":") > expr_at f n.alt
+
+-- section 13.16
+unfoldable pub seq_expr : {X : Type 0} → (X → Phrase) → SeqExpr X → Phrase
+seq_expr f n = listed (codes ",") (expr_at f) n.exprs.items
+
+-- section 13.2.9
+unfoldable pub paren_expr : {X : Type 0} → (X → Phrase) → ParenExpr X → Phrase
+paren_expr f n = mark (codes "(") > expr_at f n.expr > mark (codes ")")
+
+unfoldable pub expr : {X : Type 0} → (X → Phrase) → Expr X → Phrase
+expr f (exprs.This n) = this_expr n
+expr f (exprs.Unary n) = unary_expr f n
+expr f (exprs.Update n) = update_expr f n
+expr f (exprs.Bin n) = bin_expr f n
+expr f (exprs.Member n) = f n.node.value
+expr f (exprs.Cond n) = cond_expr f n
+expr f (exprs.Seq n) = seq_expr f n
+expr f (exprs.Ident n) = ident n
+expr f (exprs.Paren n) = paren_expr f n

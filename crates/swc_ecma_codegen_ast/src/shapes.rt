@@ -1,0 +1,276 @@
+//! Which texts are tokens of each kind, as plain programs.
+
+ghost use Rattle.std.specs.Prelude.{◌≡◌};
+ghost use Rattle.swc_ecma_codegen_ast.specs.Chars as chars;
+ghost use Rattle.swc_ecma_codegen_ast.specs.Names as names;
+ghost use Rattle.swc_ecma_codegen_ast.specs.Texts as texts;
+ghost use Rattle.swc_ecma_codegen_ast.specs.Strings as strings;
+ghost use Rattle.swc_ecma_codegen_ast.specs.RegularExpressions as regexes;
+ghost use Rattle.swc_ecma_codegen_ast.specs.Templates as templates;
+ghost use Rattle.swc_ecma_codegen_ast.specs.Jsx as jsx;
+ghost use Rattle.swc_ecma_codegen_ast.specs.Hashbangs as hashbangs;
+
+use crate::characters::{is_line_end, is_part, is_quote, is_start};
+use crate::kinds::TemplatePart;
+
+/// Whether one text is another.
+#[tactic(auto, unfolding(crate::specs::Texts::is_same))]
+pub fn is_same(text: &[char], other: &[char]) -> bool
+    ensures { result ≡ texts.is_same text.now other.now }
+{
+    match text {
+        [] => other.is_empty(),
+        [c, rest @ ..] => match other {
+            [] => false,
+            [d, more @ ..] => *c == *d && is_same(rest, more),
+        },
+    }
+}
+
+/// Whether the second text begins with the first.
+#[tactic(auto, unfolding(crate::specs::Texts::begins))]
+pub fn begins(front: &[char], text: &[char]) -> bool
+    ensures { result ≡ texts.begins front.now text.now }
+{
+    match front {
+        [] => true,
+        [c, rest @ ..] => match text {
+            [] => false,
+            [d, more @ ..] => *c == *d && begins(rest, more),
+        },
+    }
+}
+
+#[tactic(auto, unfolding(crate::specs::Names::all_part))]
+fn all_part(text: &[char]) -> bool
+    ensures { result ≡ names.all_part text.now }
+{
+    match text {
+        [] => true,
+        [c, rest @ ..] => is_part(*c) && all_part(rest),
+    }
+}
+
+/// A word of the grammar. ECMA-262, section 12.7.2.
+#[tactic(auto, unfolding(crate::specs::Names::is_word))]
+pub fn is_word(text: &[char]) -> bool
+    ensures { result ≡ names.is_word text.now }
+{
+    match text {
+        [] => false,
+        [c, rest @ ..] => is_start(*c) && all_part(rest),
+    }
+}
+
+/// A name. Section 12.7.
+#[tactic(auto, unfolding(crate::specs::Names::is_name))]
+pub fn is_name(text: &[char]) -> bool
+    ensures { result ≡ names.is_name text.now }
+{
+    is_word(text)
+}
+
+/// A private name. Section 12.7.
+#[tactic(auto, unfolding(crate::specs::Names::is_private_name))]
+pub fn is_private_name(text: &[char]) -> bool
+    ensures { result ≡ names.is_private_name text.now }
+{
+    match text {
+        [] => false,
+        [c, rest @ ..] => *c == '#' && is_name(rest),
+    }
+}
+
+#[tactic(auto, unfolding(crate::specs::Strings::closes, crate::specs::Texts::is_empty))]
+fn closes(quote: char, escaped: bool, text: &[char]) -> bool
+    ensures { result ≡ strings.closes quote escaped text.now }
+{
+    match text {
+        [] => false,
+        [_, rest @ ..] if escaped => closes(quote, false, rest),
+        [c, rest @ ..] if *c == quote => rest.is_empty(),
+        [c, rest @ ..] => *c != '\n' && *c != '\r' && closes(quote, *c == '\\', rest),
+    }
+}
+
+/// A string. Section 12.9.4.
+#[tactic(auto, unfolding(crate::specs::Strings::is_string))]
+pub fn is_string(text: &[char]) -> bool
+    ensures { result ≡ strings.is_string text.now }
+{
+    match text {
+        [] => false,
+        [quote, rest @ ..] => is_quote(*quote) && closes(*quote, false, rest),
+    }
+}
+
+#[tactic(auto, unfolding(crate::specs::RegularExpressions::class_after))]
+fn class_after(inside: bool, c: char) -> bool
+    ensures { result ≡ regexes.class_after inside c }
+{
+    match c {
+        '[' => true,
+        ']' => false,
+        _ => inside,
+    }
+}
+
+#[tactic(auto, unfolding(crate::specs::RegularExpressions::ends_regex))]
+fn ends_regex(inside: bool, escaped: bool, text: &[char]) -> bool
+    ensures { result ≡ regexes.ends_regex inside escaped text.now }
+{
+    match text {
+        [] => false,
+        [c, rest @ ..] if escaped => !is_line_end(*c) && ends_regex(inside, false, rest),
+        [c, rest @ ..] if *c == '/' && !inside => all_part(rest),
+        [c, rest @ ..] => {
+            !is_line_end(*c) && ends_regex(class_after(inside, *c), *c == '\\', rest)
+        }
+    }
+}
+
+#[tactic(auto, unfolding(crate::specs::RegularExpressions::regex_body))]
+fn regex_body(text: &[char]) -> bool
+    ensures { result ≡ regexes.regex_body text.now }
+{
+    match text {
+        [] => false,
+        [c, ..] => *c != '*' && *c != '/' && ends_regex(false, false, text),
+    }
+}
+
+/// A regular expression. Section 12.9.5.
+#[tactic(auto, unfolding(crate::specs::RegularExpressions::is_regex))]
+pub fn is_regex(text: &[char]) -> bool
+    ensures { result ≡ regexes.is_regex text.now }
+{
+    match text {
+        [] => false,
+        [c, rest @ ..] => *c == '/' && regex_body(rest),
+    }
+}
+
+#[tactic(auto, unfolding(crate::specs::Templates::ends_template, crate::specs::Texts::is_empty, crate::specs::Texts::is_same, crate::specs::Texts::begins))]
+fn ends_template(opens: bool, escaped: bool, text: &[char]) -> bool
+    ensures { result ≡ templates.ends_template opens escaped text.now }
+{
+    match text {
+        [] => false,
+        [_, rest @ ..] if escaped => ends_template(opens, false, rest),
+        [c, rest @ ..] if *c == '`' => !opens && rest.is_empty(),
+        [c, rest @ ..] if *c == '$' && begins(&['{'], rest) => opens && is_same(rest, &['{']),
+        [c, rest @ ..] => ends_template(opens, *c == '\\', rest),
+    }
+}
+
+/// A template up to its first substitution or its end. Section 12.9.6.
+#[tactic(auto, unfolding(crate::specs::Templates::is_template))]
+pub fn is_template(part: TemplatePart, text: &[char]) -> bool
+    ensures { result ≡ templates.is_template part text.now }
+{
+    match text {
+        [] => false,
+        [c, rest @ ..] => *c == '`' && ends_template(part.opens, false, rest),
+    }
+}
+
+/// A template from a substitution on. Section 12.9.6.
+#[tactic(auto, unfolding(crate::specs::Templates::is_template_rest))]
+pub fn is_template_rest(part: TemplatePart, text: &[char]) -> bool
+    ensures { result ≡ templates.is_template_rest part text.now }
+{
+    match text {
+        [] => false,
+        [c, rest @ ..] => *c == '}' && ends_template(part.opens, false, rest),
+    }
+}
+
+#[tactic(auto, unfolding(crate::specs::Jsx::all_tag))]
+fn all_tag(text: &[char]) -> bool
+    ensures { result ≡ jsx.all_tag text.now }
+{
+    match text {
+        [] => true,
+        [c, rest @ ..] => (is_part(*c) || '-' == *c) && all_tag(rest),
+    }
+}
+
+/// A name in a tag. JSX specification, JSXIdentifier.
+#[tactic(auto, unfolding(crate::specs::Jsx::is_jsx_name))]
+pub fn is_jsx_name(text: &[char]) -> bool
+    ensures { result ≡ jsx.is_jsx_name text.now }
+{
+    match text {
+        [] => false,
+        [c, rest @ ..] => is_start(*c) && all_tag(rest),
+    }
+}
+
+#[tactic(auto, unfolding(crate::specs::Jsx::ends_jsx_string, crate::specs::Texts::is_empty))]
+fn ends_jsx_string(quote: char, text: &[char]) -> bool
+    ensures { result ≡ jsx.ends_jsx_string quote text.now }
+{
+    match text {
+        [] => false,
+        [c, rest @ ..] if *c == quote => rest.is_empty(),
+        [_, rest @ ..] => ends_jsx_string(quote, rest),
+    }
+}
+
+/// The string of an attribute. JSX specification, JSXString.
+#[tactic(auto, unfolding(crate::specs::Jsx::is_jsx_string))]
+pub fn is_jsx_string(text: &[char]) -> bool
+    ensures { result ≡ jsx.is_jsx_string text.now }
+{
+    match text {
+        [] => false,
+        [quote, rest @ ..] => is_quote(*quote) && ends_jsx_string(*quote, rest),
+    }
+}
+
+#[tactic(auto, unfolding(crate::specs::Jsx::all_bare, crate::specs::Jsx::is_bare))]
+fn all_bare(text: &[char]) -> bool
+    ensures { result ≡ jsx.all_bare text.now }
+{
+    match text {
+        [] => true,
+        [c, rest @ ..] => *c != '{' && *c != '}' && *c != '<' && *c != '>' && all_bare(rest),
+    }
+}
+
+/// Text between tags. JSX specification, JSXText.
+#[tactic(auto, unfolding(crate::specs::Jsx::is_jsx_text, crate::specs::Texts::is_empty))]
+pub fn is_jsx_text(text: &[char]) -> bool
+    ensures { result ≡ jsx.is_jsx_text text.now }
+{
+    !text.is_empty() && all_bare(text)
+}
+
+/// The `{` or `<` that begins a child of a JSX element, or its closing tag.
+#[tactic(auto, unfolding(crate::specs::Jsx::is_jsx_open, crate::specs::Texts::is_among))]
+pub fn is_jsx_open(text: &[char]) -> bool
+    ensures { result ≡ jsx.is_jsx_open text.now }
+{
+    is_same(text, &['{']) || is_same(text, &['<'])
+}
+
+#[tactic(auto, unfolding(crate::specs::Chars::is_one_line))]
+fn is_one_line(text: &[char]) -> bool
+    ensures { result ≡ chars.is_one_line text.now }
+{
+    match text {
+        [] => true,
+        [c, rest @ ..] => !is_line_end(*c) && is_one_line(rest),
+    }
+}
+
+/// A hashbang. Section 12.5.
+#[tactic(auto, unfolding(crate::specs::Hashbangs::is_hashbang))]
+pub fn is_hashbang(text: &[char]) -> bool
+    ensures { result ≡ hashbangs.is_hashbang text.now }
+{
+    match text {
+        [] => false,
+        [c, rest @ ..] => *c == '#' && begins(&['!'], rest) && is_one_line(rest),
+    }
+}
