@@ -1,9 +1,8 @@
 //! Prints a tree of ECMAScript: standard input is its JSON, standard output its text.
 #![tactic(auto)]
 
-use std::env;
-use std::io;
 use std::process::ExitCode;
+use std::{env, io};
 use swc_ecma_codegen_tool::run;
 
 fn main(rt: HostRuntime) -> io::Result<ExitCode> {

@@ -5,9 +5,9 @@ use Rattle.swc_ecma_codegen.proofs.code.print_to.Goals as goal
 pub returns : goal.returns
 unfolding Follows
 returns g c = record {
-    sheet =
+  sheet =
       ap g.W.WriteJs.sheet c.into_writer.ensures
       ∙ ap (λ (s : State). s.sheet)
-        (c.in_ok-emit_with.ensures.items.1
-        ∙ ap (printed (g.N.Node.part c.args.node.now)) (c.new-emitter.ensures.state ∙ ap (λ k. start k (g.W.WriteJs.sheet c.args.wr)) c.default.ensures));
-  }
+      (c.in_ok-emit_with.ensures.items.1
+      ∙ ap (printed (g.N.Node.part c.args.node.now)) (c.new-emitter.ensures.state ∙ ap (λ k. start k (g.W.WriteJs.sheet c.args.wr)) c.default.ensures));
+}
