@@ -17,16 +17,6 @@ pub fn field<'a>(json: &'a Value, name: &str) -> Read<&'a Value>
     }
 }
 
-/// The items of an array.
-pub fn items(json: &Value) -> Read<&Vec<Value>>
-    ensures { IfOk result (λ v. All (λ x. size-Value x < size-Value json.now) v.now.items) }
-{
-    match json {
-        Value::Array(items) => Ok(items),
-        _ => Err(ReadError::BadTree),
-    }
-}
-
 /// The name and the value of an object's only member: `Empty` and `{}` for `{"Empty":{}}`.
 pub fn member(json: &Value) -> Read<(&str, &Value)>
     ensures { IfOk result (λ m. size-Value m.1.now < size-Value json.now) }
@@ -40,33 +30,43 @@ pub fn member(json: &Value) -> Read<(&str, &Value)>
     }
 }
 
-/// What isn't `null`.
-pub fn present(json: &Value) -> Option<&Value>
-    ensures { IfSome result (λ v. v.now ≡ json.now) }
+/// The items of a member that is an array.
+pub fn items<'a>(json: &'a Value, name: &str) -> Read<&'a Vec<Value>>
+    ensures { IfOk result (λ v. All (λ x. size-Value x < size-Value json.now) v.now.items) }
 {
-    match json {
-        Value::Null => None,
-        _ => Some(json),
+    match field(json, name)? {
+        Value::Array(items) => Ok(items),
+        _ => Err(ReadError::BadTree),
     }
 }
 
-/// The name of a variant that holds nothing: `Add` for `"Add"`.
-pub fn word(json: &Value) -> Read<&str> {
-    json.as_str().ok_or(ReadError::BadTree)
+/// A member that may be `null`.
+pub fn optional<'a>(json: &'a Value, name: &str) -> Read<Option<&'a Value>>
+    ensures { IfOk result (λ o. IfSome o (λ v. size-Value v.now < size-Value json.now)) }
+{
+    match field(json, name)? {
+        Value::Null => Ok(None),
+        value => Ok(Some(value)),
+    }
 }
 
-/// A text.
-pub fn text(alloc: Global, json: &Value) -> Read<String> {
-    Ok(String::from_str(alloc, word(json)?)?)
+/// A member that is a text: `Add` for `op` of `{"op":"Add"}`.
+pub fn word<'a>(json: &'a Value, name: &str) -> Read<&'a str> {
+    field(json, name)?.as_str().ok_or(ReadError::BadTree)
 }
 
-/// `true` or `false`
-pub fn flag(_alloc: Global, json: &Value) -> Read<bool> {
-    json.as_bool().ok_or(ReadError::BadTree)
+/// A member that is a text, to keep.
+pub fn text(alloc: Global, json: &Value, name: &str) -> Read<String> {
+    Ok(String::from_str(alloc, word(json, name)?)?)
 }
 
-/// A number from 0 to 4294967295, written with neither a dot nor an exponent.
-pub fn number_u32(_alloc: Global, json: &Value) -> Read<u32> {
-    let number = json.as_u64().ok_or(ReadError::BadTree)?;
+/// A member that is `true` or `false`.
+pub fn flag(_alloc: Global, json: &Value, name: &str) -> Read<bool> {
+    field(json, name)?.as_bool().ok_or(ReadError::BadTree)
+}
+
+/// A member that is a number from 0 to 4294967295, written with neither a dot nor an exponent.
+pub fn number_u32(json: &Value, name: &str) -> Read<u32> {
+    let number = field(json, name)?.as_u64().ok_or(ReadError::BadTree)?;
     u32::try_from(number).map_err(|_| ReadError::BadTree)
 }

@@ -1,7 +1,7 @@
 //! Names.
 
-use crate::fields::{field, flag, text};
-use crate::macros::{name_of, part, read_leaf, read_struct};
+use crate::fields::{flag, text};
+use crate::macros::{name_of, read_field, read_leaf, read_struct};
 use crate::positions::span;
 use serde_json::Value;
 use std::alloc::Global;
@@ -11,6 +11,6 @@ pub fn read_ident(alloc: Global, json: &Value) -> Read<Ident> {
     read_leaf!(alloc, json => Ident { span: span, sym: text, optional: flag })
 }
 
-pub fn ident_name(alloc: Global, json: &Value) -> Read<IdentName> {
+pub fn read_ident_name(alloc: Global, json: &Value) -> Read<IdentName> {
     read_leaf!(alloc, json => IdentName { span: span, sym: text })
 }

@@ -1,35 +1,62 @@
-//! Links. What a link holds is made by `make`.
+//! Members that are links, or lists of them. What a link holds is made by `make`.
 
+ghost use Rattle.swc_ecma_codegen_tree.specs.Readers.{ReadsBelow};
+
+use crate::fields::{field, items};
 use serde_json::Value;
 use std::alloc::Global;
 use swc_ecma_codegen_tree::{ExprBox, MemberExprBox, Read, Sort, StmtBox};
 
-pub fn expr_box<N: Drop, F: Fn(Sort, &Value) -> Read<N>>(
+pub fn expr<N: Drop, F: Fn(Sort, &Value) -> Read<N>>(
     alloc: Global,
     json: &Value,
+    name: &str,
     make: &F,
 ) -> Read<ExprBox<N>>
-    requires { F.pre make.now Sort.Expr json }
+    requires { ReadsBelow (F.pre make.now) json.now }
 {
-    Ok(ExprBox::holding(alloc, make(Sort::Expr, json)?)?)
+    let node = make(Sort::Expr, field(json, name)?)?;
+    Ok(ExprBox::holding(alloc, node)?)
 }
 
-pub fn stmt_box<N: Drop, F: Fn(Sort, &Value) -> Read<N>>(
+pub fn exprs<N: Drop, F: Fn(Sort, &Value) -> Read<N>>(
     alloc: Global,
     json: &Value,
+    name: &str,
     make: &F,
-) -> Read<StmtBox<N>>
-    requires { F.pre make.now Sort.Stmt json }
+) -> Read<Vec<ExprBox<N>>>
+    requires { ReadsBelow (F.pre make.now) json.now }
 {
-    Ok(StmtBox::holding(alloc, make(Sort::Stmt, json)?)?)
+    let mut links = Vec::new(alloc);
+    for item in items(json, name)? {
+        links.push(ExprBox::holding(alloc, make(Sort::Expr, item)?)?)?;
+    }
+    Ok(links)
 }
 
-pub fn member_expr_box<N: Drop, F: Fn(Sort, &Value) -> Read<N>>(
+pub fn stmts<N: Drop, F: Fn(Sort, &Value) -> Read<N>>(
     alloc: Global,
     json: &Value,
+    name: &str,
+    make: &F,
+) -> Read<Vec<StmtBox<N>>>
+    requires { ReadsBelow (F.pre make.now) json.now }
+{
+    let mut links = Vec::new(alloc);
+    for item in items(json, name)? {
+        links.push(StmtBox::holding(alloc, make(Sort::Stmt, item)?)?)?;
+    }
+    Ok(links)
+}
+
+pub fn member_expr<N: Drop, F: Fn(Sort, &Value) -> Read<N>>(
+    alloc: Global,
+    json: &Value,
+    name: &str,
     make: &F,
 ) -> Read<MemberExprBox<N>>
-    requires { F.pre make.now Sort.MemberExpr json }
+    requires { ReadsBelow (F.pre make.now) json.now }
 {
-    Ok(MemberExprBox::holding(alloc, make(Sort::MemberExpr, json)?)?)
+    let node = make(Sort::MemberExpr, field(json, name)?)?;
+    Ok(MemberExprBox::holding(alloc, node)?)
 }

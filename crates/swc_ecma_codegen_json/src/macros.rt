@@ -1,6 +1,9 @@
-//! The bodies of the readers, from a line for each field or variant.
+//! The bodies of the readers.
+//!
+//! `read_bin_expr` is given the value of a binary expression, and `expr` an object and the name of the member that is
+//! an expression. A reader that comes to a link is also lent `make`, and has `node` before its name in these macros.
 
-/// The name of a field or variant in JSON: its own, or the one that is given.
+/// The name of a field or variant in JSON: its own, or the one that is given, as in `with_ = "with": ..`.
 macro_rules! name_of {
     ($own:ident) => {
         stringify!($own)
@@ -10,45 +13,42 @@ macro_rules! name_of {
     };
 }
 
-/// A part, by its reader. `node` stands before a reader that is lent `make`; `optional` and `list` before either.
-macro_rules! part {
-    ($alloc:ident, $make:ident, $json:expr, list $($how:ident)+) => {{
-        let mut parts = Vec::new($alloc);
-        for item in items($json)? {
-            parts.push(part!($alloc, $make, item, $($how)+))?;
-        }
-        parts
-    }};
-    ($alloc:ident, $make:ident, $json:expr, optional $($how:ident)+) => {
-        match present($json) {
-            Some(json) => Some(part!($alloc, $make, json, $($how)+)),
-            None => None,
-        }
+/// A member, by the reader that is given its name.
+macro_rules! read_field {
+    ($alloc:ident, $json:ident, $make:ident, $name:expr, node $read:ident) => {
+        self::$read($alloc, $json, $name, $make)?
     };
-    ($alloc:ident, $make:ident, $json:expr, node $read:ident) => {
-        self::$read($alloc, $json, $make)?
-    };
-    ($alloc:ident, $make:ident, $json:expr, $read:ident) => {
-        self::$read($alloc, $json)?
+    ($alloc:ident, $json:ident, $make:ident, $name:expr, $read:ident) => {
+        self::$read($alloc, $json, $name)?
     };
 }
 
-/// A struct, field by field. All are found before the first is read, so that few exits have to drop what was read.
-/// A field hides what has its name, so a reader is called as `self::name`, and no field is called `json`, `alloc` or
-/// `make`.
+/// A struct, field by field.
 macro_rules! read_struct {
-    ($alloc:ident, $json:ident, $make:ident => $name:ident { $($field:ident $(= $key:literal)?: $($how:ident)+),* $(,)? }) => {{
-        $(let $field = field($json, name_of!($field $($key)?))?;)*
+    ($alloc:ident, $json:ident, $make:ident => $name:ident { $($field:ident $(= $key:literal)?: $($how:ident)+),* $(,)? }) => {
         Ok($name {
-            $($field: part!($alloc, $make, $field, $($how)+)),*
+            $($field: read_field!($alloc, $json, $make, name_of!($field $($key)?), $($how)+)),*
         })
-    }};
+    };
 }
 
-/// A struct none of whose fields leads to a node.
+/// A struct that leads to no link.
 macro_rules! read_leaf {
     ($alloc:ident, $json:ident => $($rest:tt)+) => {
         read_struct!($alloc, $json, $alloc => $($rest)+)
+    };
+}
+
+/// What a variant holds, by the reader of its value, or, after `field`, by the reader that is given its name.
+macro_rules! read_variant {
+    ($alloc:ident, $json:ident, $held:ident, $make:ident, $name:expr, field $($how:ident)+) => {
+        read_field!($alloc, $json, $make, $name, $($how)+)
+    };
+    ($alloc:ident, $json:ident, $held:ident, $make:ident, $name:expr, node $read:ident) => {
+        self::$read($alloc, $held, $make)?
+    };
+    ($alloc:ident, $json:ident, $held:ident, $make:ident, $name:expr, $read:ident) => {
+        self::$read($alloc, $held)?
     };
 }
 
@@ -57,16 +57,18 @@ macro_rules! read_enum {
     ($alloc:ident, $json:ident, $make:ident => $name:ident { $($variant:ident $(= $key:literal)?: $($how:ident)+),* $(,)? }) => {{
         let (name, held) = member($json)?;
         match name {
-            $(name_of!($variant $($key)?) => Ok($name::$variant(part!($alloc, $make, held, $($how)+))),)*
+            $(name_of!($variant $($key)?) => Ok($name::$variant(
+                read_variant!($alloc, $json, held, $make, name_of!($variant $($key)?), $($how)+),
+            )),)*
             _ => Err(ReadError::BadTree),
         }
     }};
 }
 
-/// An enum none of whose variants holds anything.
+/// A member that is the name of a variant, of an enum whose variants hold nothing.
 macro_rules! read_word {
-    ($json:ident => $name:ident { $($variant:ident),* $(,)? }) => {
-        match word($json)? {
+    ($json:ident, $key:ident => $name:ident { $($variant:ident),* $(,)? }) => {
+        match word($json, $key)? {
             $(stringify!($variant) => Ok($name::$variant),)*
             _ => Err(ReadError::BadTree),
         }
@@ -74,8 +76,9 @@ macro_rules! read_word {
 }
 
 pub(crate) use name_of;
-pub(crate) use part;
 pub(crate) use read_enum;
+pub(crate) use read_field;
 pub(crate) use read_leaf;
 pub(crate) use read_struct;
+pub(crate) use read_variant;
 pub(crate) use read_word;

@@ -30,7 +30,7 @@ impl ReadNodes for Json {
         json: &Value,
         make: &F,
     ) -> Read<MemberExpr<N>> {
-        exprs::member_expr(alloc, json, make)
+        exprs::read_member_expr(alloc, json, make)
     }
 
     fn read_program<N: Drop, F: Fn(Sort, &Value) -> Read<N>>(

@@ -2,26 +2,13 @@
 
 ghost use Rattle.swc_ecma_codegen_tree.specs.Readers.{ReadsBelow};
 
-use crate::fields::{field, items, member, present};
-use crate::links::stmt_box;
-use crate::macros::{name_of, part, read_enum, read_struct};
+use crate::fields::{member, optional};
+use crate::links::stmts;
+use crate::macros::{name_of, read_enum, read_field, read_struct, read_variant};
 use crate::positions::span;
 use serde_json::Value;
 use std::alloc::Global;
 use swc_ecma_codegen_tree::{Program, Read, ReadError, Script, Sort};
-
-fn read_script<N: Drop, F: Fn(Sort, &Value) -> Read<N>>(
-    alloc: Global,
-    json: &Value,
-    make: &F,
-) -> Read<Script<N>>
-    requires { ReadsBelow (F.pre make.now) json.now }
-{
-    if present(field(json, "shebang")?).is_some() {
-        return Err(ReadError::BadTree);
-    }
-    read_struct!(alloc, json, make => Script { span: span, body: list node stmt_box })
-}
 
 pub fn read_program<N: Drop, F: Fn(Sort, &Value) -> Read<N>>(
     alloc: Global,
@@ -33,4 +20,23 @@ pub fn read_program<N: Drop, F: Fn(Sort, &Value) -> Read<N>>(
     read_enum!(alloc, json, make => Program {
         Script: node read_script,
     })
+}
+
+fn read_script<N: Drop, F: Fn(Sort, &Value) -> Read<N>>(
+    alloc: Global,
+    json: &Value,
+    make: &F,
+) -> Read<Script<N>>
+    requires { ReadsBelow (F.pre make.now) json.now }
+{
+    no_shebang(json)?;
+    read_struct!(alloc, json, make => Script { span: span, body: node stmts })
+}
+
+/// The tree has no place for a shebang yet.
+fn no_shebang(json: &Value) -> Read<()> {
+    match optional(json, "shebang")? {
+        Some(_) => Err(ReadError::BadTree),
+        None => Ok(()),
+    }
 }

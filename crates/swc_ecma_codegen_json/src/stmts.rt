@@ -2,27 +2,13 @@
 
 ghost use Rattle.swc_ecma_codegen_tree.specs.Readers.{ReadsBelow};
 
-use crate::fields::{field, member};
-use crate::links::expr_box;
-use crate::macros::{name_of, part, read_enum, read_leaf, read_struct};
+use crate::fields::member;
+use crate::links::expr;
+use crate::macros::{name_of, read_enum, read_field, read_leaf, read_struct, read_variant};
 use crate::positions::span;
 use serde_json::Value;
 use std::alloc::Global;
 use swc_ecma_codegen_tree::{EmptyStmt, ExprStmt, Read, ReadError, Sort, Stmt};
-
-fn empty_stmt(alloc: Global, json: &Value) -> Read<EmptyStmt> {
-    read_leaf!(alloc, json => EmptyStmt { span: span })
-}
-
-fn expr_stmt<N: Drop, F: Fn(Sort, &Value) -> Read<N>>(
-    alloc: Global,
-    json: &Value,
-    make: &F,
-) -> Read<ExprStmt<N>>
-    requires { ReadsBelow (F.pre make.now) json.now }
-{
-    read_struct!(alloc, json, make => ExprStmt { span: span, expr: node expr_box })
-}
 
 pub fn read_stmt<N: Drop, F: Fn(Sort, &Value) -> Read<N>>(
     alloc: Global,
@@ -32,6 +18,20 @@ pub fn read_stmt<N: Drop, F: Fn(Sort, &Value) -> Read<N>>(
     requires { ReadsBelow (F.pre make.now) json.now }
 {
     read_enum!(alloc, json, make => Stmt {
-        Empty: empty_stmt, Expr: node expr_stmt,
+        Empty: read_empty_stmt, Expr: node read_expr_stmt,
     })
+}
+
+fn read_empty_stmt(alloc: Global, json: &Value) -> Read<EmptyStmt> {
+    read_leaf!(alloc, json => EmptyStmt { span: span })
+}
+
+fn read_expr_stmt<N: Drop, F: Fn(Sort, &Value) -> Read<N>>(
+    alloc: Global,
+    json: &Value,
+    make: &F,
+) -> Read<ExprStmt<N>>
+    requires { ReadsBelow (F.pre make.now) json.now }
+{
+    read_struct!(alloc, json, make => ExprStmt { span: span, expr: node expr })
 }
