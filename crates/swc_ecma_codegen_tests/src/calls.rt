@@ -145,17 +145,11 @@ fn each_way_to_a_node(rt: HostRuntime) -> Result<(), Fail> {
 
 /// The bytes of a script, and of nothing after it.
 fn script_bytes(alloc: Global, script: &Script) -> Result<Vec<u8>, Error> {
-    let mut wr = JsWriter::new(alloc, &NoSource, "\n", Vec::new(alloc), None);
-    let mut emitter = Emitter::new(
-        alloc,
-        settings(true),
-        &NoSource,
-        None::<CommentMaps>,
-        &mut wr,
-    );
+    let wr = JsWriter::new(alloc, &NoSource, "\n", Vec::new(alloc), None);
+    let mut emitter = Emitter::new(alloc, settings(true), &NoSource, None::<CommentMaps>, wr);
     emitter.emit_script(script)?;
     None::<Ident>.emit_with(&mut emitter)?;
-    Ok(wr.into_inner())
+    Ok(emitter.wr.into_inner())
 }
 
 /// What an expression tells those above it: `--a`.

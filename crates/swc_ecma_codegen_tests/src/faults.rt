@@ -10,7 +10,7 @@ use std::test::Fail;
 use swc_ecma_codegen::{Emitter, Node};
 use swc_ecma_codegen_ast::comments::CommentMaps;
 use swc_ecma_codegen_ast::mapper::NoSource;
-use swc_ecma_codegen_text_writer::JsWriter;
+use swc_ecma_codegen_text_writer::{JsWriter, WriteJs};
 use swc_ecma_codegen_tree::{BinaryOp, Error, Ident, Program, Result as Answer, UnaryOp, discard};
 
 /// Takes one byte a call, up to a number of bytes, and then fails, or answers 0 where it has no fault.
@@ -74,15 +74,8 @@ struct Answers {
 }
 
 /// The answers of three emissions to one writer, the last of nothing.
-fn emit_thrice<W: Write + Drop>(alloc: Global, tree: &Program, under: W) -> (Answers, W) {
-    let mut wr = JsWriter::new(alloc, &NoSource, "\n", under, None);
-    let mut emitter = Emitter::new(
-        alloc,
-        settings(false),
-        &NoSource,
-        None::<CommentMaps>,
-        &mut wr,
-    );
+fn emit_thrice<W: WriteJs + Drop>(alloc: Global, tree: &Program, wr: W) -> (Answers, W) {
+    let mut emitter = Emitter::new(alloc, settings(false), &NoSource, None::<CommentMaps>, wr);
     let first = emitter.emit_program(tree);
     let second = emitter.emit_program(tree);
     let nothing = None::<Ident>.emit_with(&mut emitter);
@@ -91,7 +84,34 @@ fn emit_thrice<W: Write + Drop>(alloc: Global, tree: &Program, under: W) -> (Ans
         second,
         nothing,
     };
-    (answers, wr.into_inner())
+    (answers, emitter.wr)
+}
+
+/// The answers over a writer that takes one byte a call, and what it took.
+fn dribble(
+    alloc: Global,
+    tree: &Program,
+    room: usize,
+    fault: Option<ErrorKind>,
+) -> (Answers, Vec<u8>) {
+    let taken = Vec::new(alloc);
+    let under = Dribble { taken, room, fault };
+    let wr = JsWriter::new(alloc, &NoSource, "\n", under, None);
+    let (answers, wr) = emit_thrice(alloc, tree, wr);
+    let Dribble {
+        taken,
+        room: _,
+        fault: _,
+    } = wr.into_inner();
+    (answers, taken)
+}
+
+/// The answers over a writer whose second call is interrupted, and the number of its calls.
+fn interrupted(alloc: Global, tree: &Program) -> (Answers, u64) {
+    let under = InterruptedOnce { calls: 0 };
+    let wr = JsWriter::new(alloc, &NoSource, "\n", under, None);
+    let (answers, wr) = emit_thrice(alloc, tree, wr);
+    (answers, wr.into_inner().calls)
 }
 
 /// The tree of `a - -b * c`.
@@ -127,13 +147,11 @@ fn fails_after_each_byte(rt: HostRuntime) -> Result<(), Fail> {
     let text = "a - -b * c;\n";
     for (fault, kind) in faults {
         for room in 0..12 {
-            let taken = Vec::new(alloc);
-            let under = Dribble { taken, room, fault };
-            let (answers, under) = emit_thrice(alloc, &tree, under);
+            let (answers, taken) = dribble(alloc, &tree, room, fault);
             assert_eq!(rt; kind_of(&answers.first), Some(kind));
             assert!(rt; is_failed(&answers.second) && is_failed(&answers.nothing));
-            assert_eq!(rt; under.taken.len(), room);
-            assert!(rt; text.as_bytes().starts_with(under.taken.as_slice()));
+            assert_eq!(rt; taken.len(), room);
+            assert!(rt; text.as_bytes().starts_with(taken.as_slice()));
         }
     }
     discard(tree);
@@ -144,21 +162,13 @@ fn fails_after_each_byte(rt: HostRuntime) -> Result<(), Fail> {
 fn one_byte_a_call_and_interrupted_once(rt: HostRuntime) -> Result<(), Fail> {
     let alloc = rt.alloc();
     let tree = program(alloc, &DIFFERENCE)?;
-    let under = Dribble {
-        taken: Vec::new(alloc),
-        room: 100,
-        fault: None,
-    };
-    let (answers, under) = emit_thrice(alloc, &tree, under);
+    let (answers, taken) = dribble(alloc, &tree, 100, None);
     assert!(rt; answers.first.is_ok() && answers.second.is_ok() && answers.nothing.is_ok());
-    assert_eq!(rt;
-        under.taken.as_slice(),
-        b"a - -b * c;\na - -b * c;\n".as_slice()
-    );
-    let (answers, under) = emit_thrice(alloc, &tree, InterruptedOnce { calls: 0 });
+    assert_eq!(rt; taken.as_slice(), b"a - -b * c;\na - -b * c;\n".as_slice());
+    let (answers, calls) = interrupted(alloc, &tree);
     assert_eq!(rt; kind_of(&answers.first), Some(ErrorKind::Interrupted));
     assert!(rt; is_failed(&answers.second) && is_failed(&answers.nothing));
-    assert_eq!(rt; under.calls, 2);
+    assert_eq!(rt; calls, 2);
     discard(tree);
     Ok(())
 }

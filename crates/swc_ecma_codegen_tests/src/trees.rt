@@ -183,16 +183,10 @@ pub(crate) fn bytes_of(
     minify: bool,
     new_line: &'static str,
 ) -> Result<Vec<u8>, Error> {
-    let mut wr = JsWriter::new(alloc, &NoSource, new_line, Vec::new(alloc), None);
-    let mut emitter = Emitter::new(
-        alloc,
-        settings(minify),
-        &NoSource,
-        None::<CommentMaps>,
-        &mut wr,
-    );
+    let wr = JsWriter::new(alloc, &NoSource, new_line, Vec::new(alloc), None);
+    let mut emitter = Emitter::new(alloc, settings(minify), &NoSource, None::<CommentMaps>, wr);
     emitter.emit_program(program)?;
-    Ok(wr.into_inner())
+    Ok(emitter.wr.into_inner())
 }
 
 /// The text by `to_code`, and the bytes without blanks.
