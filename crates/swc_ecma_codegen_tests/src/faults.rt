@@ -1,6 +1,6 @@
 //! Emissions over writers that fail.
 
-ghost use Rattle.std.specs.Prelude.{◌≡◌, false, Some};
+ghost use Rattle.std.specs.Prelude.{Some};
 
 use crate::trees::{Step, program, settings};
 use std::alloc::Global;
