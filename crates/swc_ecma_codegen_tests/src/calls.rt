@@ -1,7 +1,5 @@
 //! Each public call once.
 
-ghost use Rattle.std.specs.Prelude.{◌≡◌, false};
-
 use crate::trees::{Step, bytes_of, program, settings};
 use std::alloc::Global;
 use std::test::Fail;

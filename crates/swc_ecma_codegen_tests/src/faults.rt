@@ -1,6 +1,6 @@
 //! Emissions over writers that fail.
 
-ghost use Rattle.std.specs.Prelude.{◌≡◌, false, Some};
+ghost use Rattle.std.specs.Prelude.{Some};
 
 use crate::trees::{Step, program, settings};
 use std::alloc::Global;
@@ -88,7 +88,7 @@ fn emit_thrice<W: WriteJs + Drop>(alloc: Global, tree: &Program, wr: W) -> (Answ
 }
 
 /// The answers over a writer that takes one byte a call, and what it took.
-fn dribble(
+fn in_single_bytes(
     alloc: Global,
     tree: &Program,
     room: usize,
@@ -147,7 +147,7 @@ fn fails_after_each_byte(rt: HostRuntime) -> Result<(), Fail> {
     let text = "a - -b * c;\n";
     for (fault, kind) in faults {
         for room in 0..12 {
-            let (answers, taken) = dribble(alloc, &tree, room, fault);
+            let (answers, taken) = in_single_bytes(alloc, &tree, room, fault);
             assert_eq!(rt; kind_of(&answers.first), Some(kind));
             assert!(rt; is_failed(&answers.second) && is_failed(&answers.nothing));
             assert_eq!(rt; taken.len(), room);
@@ -162,7 +162,7 @@ fn fails_after_each_byte(rt: HostRuntime) -> Result<(), Fail> {
 fn one_byte_a_call_and_interrupted_once(rt: HostRuntime) -> Result<(), Fail> {
     let alloc = rt.alloc();
     let tree = program(alloc, &DIFFERENCE)?;
-    let (answers, taken) = dribble(alloc, &tree, 100, None);
+    let (answers, taken) = in_single_bytes(alloc, &tree, 100, None);
     assert!(rt; answers.first.is_ok() && answers.second.is_ok() && answers.nothing.is_ok());
     assert_eq!(rt; taken.as_slice(), b"a - -b * c;\na - -b * c;\n".as_slice());
     let (answers, calls) = interrupted(alloc, &tree);
