@@ -86,3 +86,6 @@ fn program_text<R: Read>(alloc: Global, input: &mut R) -> Result<String, Fault>
         Err(error) => Err(Fault::of_emission(&error)),
     }
 }
+
+#[cfg(test)]
+mod tests;
