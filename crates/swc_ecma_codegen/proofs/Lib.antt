@@ -3,3 +3,4 @@ pub mod SpaceLaws
 pub mod Laws
 pub mod Steps
 pub mod Asked
+pub mod ExprParts
