@@ -4,3 +4,6 @@ pub mod Laws
 pub mod Steps
 pub mod Asked
 pub mod ExprParts
+pub mod ListParts
+pub mod TreeLaw
+pub mod TreeReads
