@@ -6,11 +6,11 @@ use Rattle.swc_ecma_codegen_base.specs.Words.{commit_pending_semi}
 use Rattle.swc_ecma_codegen_base.proofs.Emitting.{follows_same}
 use Rattle.swc_ecma_codegen.specs.Programs.{last_semi}
 
-kept_same : (rest : Plan) (env : Env) → env.config.omit_last_semi ≡ true → last_semi rest env ≡ rest env
+pub kept_same : (rest : Plan) (env : Env) → env.config.omit_last_semi ≡ true → last_semi rest env ≡ rest env
 unfolding last_semi
 kept_same rest env h = ap (λ b. cond b (rest env) (commit_pending_semi rest env)) h
 
-committed_same : (rest : Plan) (env : Env) → env.config.omit_last_semi ≡ false → last_semi rest env ≡ commit_pending_semi rest env
+pub committed_same : (rest : Plan) (env : Env) → env.config.omit_last_semi ≡ false → last_semi rest env ≡ commit_pending_semi rest env
 unfolding last_semi
 committed_same rest env h = ap (λ b. cond b (rest env) (commit_pending_semi rest env)) h
 

@@ -3,3 +3,7 @@ pub mod SpaceLaws
 pub mod Laws
 pub mod Steps
 pub mod Asked
+pub mod ExprParts
+pub mod ListParts
+pub mod TreeLaw
+pub mod TreeReads

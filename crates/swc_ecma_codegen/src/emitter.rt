@@ -36,6 +36,8 @@ impl<'a, W: WriteJs, S: SourceMapper, C: Comments> Emitter<'a, W, S, C> {
     ghost use Rattle.swc_ecma_codegen.specs.Tree.{any_items};
     ghost use Rattle.swc_ecma_codegen.specs.Programs.{program, script};
     ghost use Rattle.swc_ecma_codegen.specs.declared.nodes.Place.TheVariants.{Plain};
+    ghost use Rattle.swc_ecma_codegen_ast.specs.TreePhrases.{program_phrase, is_well_formed};
+    ghost use Rattle.swc_ecma_codegen_base.specs.Written.{IsNew, AddsReading};
 
     /// An emitter that has written nothing. Takes no memory.
     pub fn new(alloc: Global, cfg: Config, cm: &'a S, comments: Option<C>, wr: W) -> Self
@@ -77,9 +79,12 @@ impl<'a, W: WriteJs, S: SourceMapper, C: Comments> Emitter<'a, W, S, C> {
     }
 
     /// Prints a program. swc's `emit_program`.
+    #[tactic(auto, using(crate::proofs::TreeReads::program_reads))]
     pub fn emit_program(&mut self, node: &Program) -> Result
         // The steps of the tree are made, and it comes to no node that can't be printed; or it halts.
         ensures items { Follows (program any_items node.now nothing) (state_of W.sheet self.old) (state_of W.sheet self.new) result }
+        // What a new emitter adds to the text, of a well-formed tree, reads as one of the tree's token lists.
+        ensures reads { is_well_formed node.now ≡ true → IsNew (state_of W.sheet self.old) → OnOk result (AddsReading (program_phrase node.now) (W.sheet self.old.wr).text (W.sheet self.new.wr).text) }
         // What is out is a beginning of the text of these steps.
         ensures front { IsFront (W.sheet self.new.wr).text (printed (program any_items node.now) (state_of W.sheet self.old)).sheet.text }
         // It is refused only for the cause that the error names.
@@ -96,9 +101,12 @@ impl<'a, W: WriteJs, S: SourceMapper, C: Comments> Emitter<'a, W, S, C> {
 
     /// Prints a script: the text of each statement, and then a semicolon that is held back, unless the settings leave
     /// it out. swc's `emit_script`.
+    #[tactic(auto, using(crate::proofs::TreeReads::script_reads))]
     pub fn emit_script(&mut self, node: &Script) -> Result
         // The steps of the tree are made, and it comes to no node that can't be printed; or it halts.
         ensures items { Follows (script any_items node.now nothing) (state_of W.sheet self.old) (state_of W.sheet self.new) result }
+        // What a new emitter adds to the text, of a well-formed tree, reads as one of the tree's token lists.
+        ensures reads { is_well_formed (Program.Script node.now) ≡ true → IsNew (state_of W.sheet self.old) → OnOk result (AddsReading (program_phrase (Program.Script node.now)) (W.sheet self.old.wr).text (W.sheet self.new.wr).text) }
         // What is out is a beginning of the text of these steps.
         ensures front { IsFront (W.sheet self.new.wr).text (printed (script any_items node.now) (state_of W.sheet self.old)).sheet.text }
         // It is refused only for the cause that the error names.

@@ -9,6 +9,7 @@ mod lists;
 mod node;
 pub mod nodes;
 pub mod operands;
+pub mod reading_laws;
 mod stmt;
 mod tokens;
 

@@ -30,7 +30,7 @@ lent_same : (span : Span) (name : List ℕ) (rest : Plan) (env : Env) → env.ke
 unfolding name_text
 lent_same span name rest env h = ap (λ b. cond b (symbol span name rest env) (valid_symbol span name rest env)) h
 
-valid_same : (span : Span) (name : List ℕ) (rest : Plan) (env : Env) → env.keeps_invalid ≡ false → name_text span name rest env ≡ valid_symbol span name rest env
+pub valid_same : (span : Span) (name : List ℕ) (rest : Plan) (env : Env) → env.keeps_invalid ≡ false → name_text span name rest env ≡ valid_symbol span name rest env
 unfolding name_text
 valid_same span name rest env h = ap (λ b. cond b (symbol span name rest env) (valid_symbol span name rest env)) h
 

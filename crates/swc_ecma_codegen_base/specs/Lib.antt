@@ -2,3 +2,4 @@ pub mod Run
 pub mod Words
 pub mod Last
 pub mod View
+pub mod Written

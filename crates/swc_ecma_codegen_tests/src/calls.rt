@@ -4,6 +4,7 @@ use crate::trees::{Step, bytes_of, program, settings};
 use std::alloc::Global;
 use std::test::Fail;
 use swc_ecma_codegen::operands::{Operand, OperandKind, SpaceBefore};
+use swc_ecma_codegen::reading_laws::{emitted_expr_reads, emitted_stmt_reads, new_emitter_reads};
 use swc_ecma_codegen::util::{EndsWithAlphaNum, StartsWithAlphaNum};
 use swc_ecma_codegen::{Emitter, Node, to_code};
 use swc_ecma_codegen_ast::comments::CommentMaps;
@@ -150,6 +151,22 @@ fn script_bytes(alloc: Global, script: &Script) -> Result<Vec<u8>, Error> {
     Ok(emitter.wr.into_inner())
 }
 
+/// The bytes of a statement, and then of an expression, by the functions that say how they read.
+fn bytes_that_read(alloc: Global, stmt: &Stmt, expr: &Expr) -> Result<Vec<u8>, Error> {
+    new_emitter_reads();
+    let mut wr = JsWriter::new(alloc, &NoSource, "\n", Vec::new(alloc), None);
+    let mut emitter = Emitter::new(
+        alloc,
+        settings(true),
+        &NoSource,
+        None::<CommentMaps>,
+        &mut wr,
+    );
+    emitted_stmt_reads(stmt, &mut emitter)?;
+    emitted_expr_reads(expr, &mut emitter)?;
+    Ok(wr.into_inner())
+}
+
 /// What an expression tells those above it: `--a`.
 fn tells(expr: &Expr) -> bool {
     expr.operand_kind() == OperandKind::Prefix(UpdateOp::MinusMinus)
@@ -165,6 +182,10 @@ fn scripts_and_questions(rt: HostRuntime) -> Result<(), Fail> {
     let tree = program(alloc, &[A, Step::Prefix(UpdateOp::MinusMinus)])?;
     let bytes = script_bytes(alloc, script_of(&tree))?;
     assert_eq!(rt; bytes.as_slice(), b"--a;".as_slice());
+    if let (Some(stmt), Some(expr)) = (statement_of(&tree), expr_of(&tree)) {
+        let twice = bytes_that_read(alloc, stmt, expr)?;
+        assert_eq!(rt; twice.as_slice(), b"--a;--a".as_slice());
+    }
     assert!(rt; expr_of(&tree).is_some_and(|expr| tells(expr)));
     assert!(rt; tree.span().is_dummy() && tree.span_lo().is_dummy() && !BytePos(1).is_dummy());
     discard(tree);

@@ -1,0 +1,189 @@
+-- What each word writes is one of the token lists of a phrase.
+use Rattle.std.proofs.Common.{◌≡◌, ℕ, Bool, true, false, cond, List, [], ◌∷◌, ◌++◌, ◌&&◌, ◌==◌, codes, refl, sym, ap, ◌∙◌, subst, append-nil, Option, Some, None, Result, Ok, Err, OnOk}
+use Rattle.std.specs.Str.{chars, is_utf8}
+use Rattle.std.proofs.lemmas.Bool.{and_parts}
+use Rattle.swc_ecma_codegen_tree.specs.declared.errors.Error.{Error}
+use Rattle.swc_ecma_codegen_tree.specs.declared.positions.Span.{Span}
+use Rattle.swc_ecma_codegen_ast.specs.declared.kinds.Kind.TheVariants.{Word, Name, Punctuator}
+use Rattle.swc_ecma_codegen_ast.specs.Tokens as lexical
+use Rattle.swc_ecma_codegen_ast.specs.Tokens.{token_of, value_of}
+use Rattle.swc_ecma_codegen_ast.specs.Names.{is_word, is_name, name_value}
+use Rattle.swc_ecma_codegen_ast.specs.Punctuators.{is_punctuator, punctuators}
+use Rattle.swc_ecma_codegen_ast.specs.Texts.{is_same, is_among}
+use Rattle.swc_ecma_codegen_ast.specs.Reads.{Reads}
+use Rattle.swc_ecma_codegen_ast.specs.GapRules.{Start, allows}
+use Rattle.swc_ecma_codegen_ast.specs.Parts as parts
+use Rattle.swc_ecma_codegen_ast.specs.Parts.{NoneFuse, tokens_of, remarks_in}
+use Rattle.swc_ecma_codegen_ast.specs.Phrases.{Phrase, Nothing, One, Then, Generates, ◌>◌, mark}
+use Rattle.swc_ecma_codegen_ast.specs.Phrases as phrases
+use Rattle.swc_ecma_codegen_ast.specs.NamePhrases as names
+use Rattle.swc_ecma_codegen_ast.specs.NamePhrases.{name_phrase, is_well_formed_name}
+use Rattle.swc_ecma_codegen_ast.proofs.Reading.{reads}
+use Rattle.swc_ecma_codegen_literals.specs.ValidNames.{turned, turned_after}
+use Rattle.swc_ecma_codegen_base.specs.Run.{Env, Plan, Part, State, Step, Steps, done, next, steps_of, run, nothing, spelling, Follows}
+use Rattle.swc_ecma_codegen_base.specs.Words.{keyword, operator, word_operator, punct, semi, commit_pending_semi, leading_comments, name_text, question, name}
+use Rattle.swc_ecma_codegen_base.specs.Written.{AtRest, is_free, IsNew, AddsReading}
+use Rattle.swc_ecma_codegen_base.proofs.Written.{Lays, Spelled, spelled_word, spelled_name, spelled_mark}
+use Rattle.swc_ecma_codegen_base.proofs.Printed.{chain, Writes, writes_then, writes_same, writes_nothing, writes_keyword, writes_operator, writes_word_operator, writes_punct, writes_semi, writes_commit, writes_leading, writes_name_text}
+
+-- A part writes a token list of a phrase, whatever comes after it.
+pub record Prints (env : Env) (part : Part) (phrase : Phrase) : Type 0 where
+  pub tokens : List lexical.Token
+  pub generated : Generates phrase tokens
+  pub writes : Writes env part tokens
+
+-- one part after the other
+pub prints_then : (env : Env) (p q : Part) (f g : Phrase) → Prints env p f → Prints env q g → Prints env (λ rest. p (q rest)) (Then f g)
+unfolding Generates
+prints_then env p q f g h k = record {
+  tokens = h.tokens ++ k.tokens;
+  generated = (h.tokens, k.tokens, h.generated, k.generated, refl);
+  writes = writes_then env p q h.tokens k.tokens h.writes k.writes;
+}
+
+-- a part before or after one that writes no token
+pub prints_before : (env : Env) (q p : Part) (f : Phrase) → Writes env q [] → Prints env p f → Prints env (λ rest. q (p rest)) f
+prints_before env q p f k h = record { tokens = h.tokens; generated = h.generated; writes = writes_then env q p [] h.tokens k h.writes }
+
+pub prints_after : (env : Env) (p q : Part) (f : Phrase) → Prints env p f → Writes env q [] → Prints env (λ rest. p (q rest)) f
+prints_after env p q f h k = record {
+  tokens = h.tokens;
+  generated = h.generated;
+  writes = subst (λ z. Writes env (λ rest. p (q rest)) z) (append-nil h.tokens) (writes_then env p q h.tokens [] h.writes k);
+}
+
+pub prints_same : (env : Env) (p q : Part) (f : Phrase) → ((rest : Plan) → p rest env ≡ q rest env) → Prints env q f → Prints env p f
+prints_same env p q f e h = record { tokens = h.tokens; generated = h.generated; writes = writes_same env p q h.tokens e h.writes }
+
+pub prints_nothing : (env : Env) → Prints env (λ rest. rest) Nothing
+unfolding Generates
+prints_nothing env = record { tokens = []; generated = refl; writes = writes_nothing env }
+
+prints_one : (env : Env) (p : Part) (x : lexical.Token) → Writes env p (x ∷ []) → Prints env p (One x)
+unfolding Generates
+prints_one env p x h = record { tokens = x ∷ []; generated = refl; writes = h }
+
+-- ---- words and punctuators, which are ASCII
+
+-- a word, and a punctuator
+pub record IsWord (t : List ℕ) : Type 0 where
+  pub utf8 : is_utf8 t ≡ true
+  pub ascii : chars t ≡ t
+  pub shape : is_word t ≡ true
+
+pub record IsMark (t : List ℕ) : Type 0 where
+  pub utf8 : is_utf8 t ≡ true
+  pub ascii : chars t ≡ t
+  pub shape : is_punctuator t ≡ true
+
+word_spelled : (t : List ℕ) → IsWord t → Spelled Word t
+word_spelled t w = spelled_word t w.utf8 (ap is_word w.ascii ∙ w.shape)
+
+mark_spelled : (t : List ℕ) → IsMark t → Spelled Punctuator t
+mark_spelled t w = spelled_mark t w.utf8 w.ascii w.shape
+
+prints_word : (env : Env) (p : Part) (t : List ℕ) → IsWord t → Writes env p (token_of Word (spelling Word t) ∷ []) → Prints env p (phrases.word t)
+unfolding token_of value_of spelling lexical.word
+prints_word env p t w h = subst (λ z. Prints env p (phrases.word z)) w.ascii (prints_one env p _ h)
+
+prints_mark : (env : Env) (p : Part) (t : List ℕ) → Writes env p (token_of Punctuator (spelling Punctuator t) ∷ []) → Prints env p (mark t)
+unfolding token_of value_of spelling lexical.punctuator
+prints_mark env p t h = prints_one env p _ h
+
+pub prints_keyword : (env : Env) (span : Option Span) (t : List ℕ) → IsWord t → Prints env (keyword span t) (phrases.word t)
+prints_keyword env span t w = prints_word env (keyword span t) t w (writes_keyword env span t (word_spelled t w))
+
+pub prints_word_operator : (env : Env) (t : List ℕ) → IsWord t → Prints env (word_operator t) (phrases.word t)
+prints_word_operator env t w = prints_word env (word_operator t) t w (writes_word_operator env t (word_spelled t w))
+
+pub prints_operator : (env : Env) (t : List ℕ) → IsMark t → Prints env (operator t) (mark t)
+prints_operator env t w = prints_mark env (operator t) t (writes_operator env t (mark_spelled t w))
+
+pub prints_punct : (env : Env) (t : List ℕ) → IsMark t → Prints env (punct t) (mark t)
+prints_punct env t w = prints_mark env (punct t) t (writes_punct env t (mark_spelled t w))
+
+semi_is_mark : IsMark (codes ";")
+unfolding is_punctuator is_among is_same punctuators chars is_utf8 lib.Utf8.encode
+semi_is_mark = record { utf8 = refl; ascii = refl; shape = refl }
+
+question_is_mark : IsMark (codes "?")
+unfolding is_punctuator is_among is_same punctuators chars is_utf8 lib.Utf8.encode
+question_is_mark = record { utf8 = refl; ascii = refl; shape = refl }
+
+pub prints_semi : (env : Env) → Prints env semi (mark (codes ";"))
+prints_semi env = prints_mark env semi (codes ";") (writes_semi env (mark_spelled (codes ";") semi_is_mark))
+
+-- ---- names
+
+turned_same : (b : Bool) (s : List ℕ) → turned_after b s ≡ names.turned_after b s
+unfolding turned_after names.turned_after
+turned_same b [] = refl
+turned_same b (c ∷ cs) =
+    elim (b && (c == 0)) as (λ t. cond t (turned_after false cs) (c ∷ turned_after (c == 92) cs) ≡ cond t (names.turned_after false cs) (c ∷ names.turned_after (c == 92) cs))
+    [ true ↦ turned_same false cs | false ↦ ap (λ z. c ∷ z) (turned_same (c == 92) cs) ]
+
+name_spelled : (bytes : List ℕ) → is_well_formed_name bytes ≡ true → Spelled Name (names.turned bytes)
+unfolding is_well_formed_name names.spelled_name
+name_spelled bytes w = let p = and_parts (is_utf8 (names.turned bytes)) (is_name (chars (names.turned bytes))) w in spelled_name (names.turned bytes) p.0 p.1
+
+pub prints_name_text : (env : Env) (span : Span) (bytes : List ℕ) → env.keeps_invalid ≡ false → is_well_formed_name bytes ≡ true → Prints env (name_text span bytes) (name_phrase bytes)
+unfolding token_of value_of spelling lexical.name name_phrase names.spelled_name
+prints_name_text env span bytes e w =
+    let q = turned_same false bytes in
+    subst (λ z. Prints env (name_text span bytes) (phrases.name (name_value (chars z)))) q
+    (prints_one env (name_text span bytes) _ (writes_name_text env span bytes e (subst (λ z. Spelled Name z) (sym q) (name_spelled bytes w))))
+
+prints_question : (env : Env) (optional : Bool) → Prints env (question optional) (cond optional (mark (codes "?")) Nothing)
+unfolding question
+prints_question env true = prints_punct env (codes "?") question_is_mark
+prints_question env false = prints_nothing env
+
+-- a name, and `?` after an optional one
+pub prints_ident : (env : Env) (span : Span) (bytes : List ℕ) (optional : Bool) → env.keeps_invalid ≡ false → is_well_formed_name bytes ≡ true → Prints env (name span bytes optional) (name_phrase bytes > cond optional (mark (codes "?")) Nothing)
+unfolding name
+prints_ident env span bytes optional e w =
+    prints_before env (leading_comments span.lo) _ _ (writes_leading env span.lo)
+    (prints_before env commit_pending_semi _ _ (writes_commit env)
+    (prints_then env (name_text span bytes) (question optional) _ _ (prints_name_text env span bytes e w) (prints_question env optional)))
+
+pub prints_name : (env : Env) (span : Span) (bytes : List ℕ) → env.keeps_invalid ≡ false → is_well_formed_name bytes ≡ true → Prints env (name span bytes false) (name_phrase bytes)
+unfolding name question
+prints_name env span bytes e w =
+    prints_before env (leading_comments span.lo) _ _ (writes_leading env span.lo)
+    (prints_before env commit_pending_semi (name_text span bytes) _ (writes_commit env) (prints_name_text env span bytes e w))
+
+-- ---- what an emission adds reads
+
+steps_of_chain : (xs : List Step) → steps_of (chain xs done) ≡ xs
+unfolding steps_of chain
+steps_of_chain [] = refl
+steps_of_chain (x ∷ xs) = ap (λ z. x ∷ z) (steps_of_chain xs)
+
+new_at_rest : (a : State) → IsNew a → AtRest a
+unfolding is_free allows
+new_at_rest a n = record {
+  level = n.level;
+  line_end = n.line_end;
+  free = λ e. ap is_free n.nothing_written;
+  allowed = λ t. ap (λ k. allows k t) n.nothing_written;
+}
+
+laid_reads : (f : Phrase) (ts : List lexical.Token) (a b : State) → Generates f ts → a.last ≡ Start → Lays ts a b → AddsReading f a.sheet.text b.sheet.text
+unfolding NoneFuse
+laid_reads f ts a b g s l =
+    let apart = subst (λ z. NoneFuse z l.out) s (subst (λ z. NoneFuse a.last z) (append-nil l.out) (l.apart [] (l.rest.allowed []))) in
+    record {
+      added = l.bytes;
+      is_added = l.text;
+      tokens = ts;
+      is_list = g;
+      reads = subst (λ z. Reads (chars l.bytes) ts z) l.remarks (subst (λ z. Reads (chars l.bytes) z (remarks_in l.out)) l.tokens (subst (λ z. Reads z (tokens_of l.out) (remarks_in l.out)) (sym l.spells) (reads l.out apart)));
+    }
+
+pub printed_reads : (p : Part) (f : Phrase) (a b : State) (r : Result (Unit {0}) Error) → IsNew a → Prints a.env p f → Follows (p nothing) a b r → OnOk r (AddsReading f a.sheet.text b.sheet.text)
+unfolding Follows nothing
+printed_reads p f a b (Ok u) n h k =
+    let end : b ≡ run h.writes.steps a = k.1 ∙ ap (λ z. run (steps_of z) a) (h.writes.is_steps nothing) ∙ ap (λ z. run z a) (steps_of_chain h.writes.steps) in
+    let P : State → Type 0 = λ z. AddsReading f a.sheet.text z.sheet.text in
+    subst P (sym end) (laid_reads f h.tokens a (run h.writes.steps a) h.generated n.nothing_written (h.writes.lays a (new_at_rest a n)))
+printed_reads p f a b (Err e) n h k = tt

@@ -1,0 +1,168 @@
+-- What each word writes, whatever comes after it.
+use Rattle.std.proofs.Common.{◌≡◌, ℕ, Bool, true, false, cond, List, [], ◌∷◌, ◌++◌, ◌&&◌, ◌==◌, codes, refl, sym, ap, ◌∙◌, subst, append_assoc, append-nil, inl, inr, Option, Some, None}
+use Rattle.std.specs.Str.{chars, is_utf8}
+use Rattle.std.proofs.lemmas.Bool.{cases_Bool, and_parts}
+use Rattle.swc_ecma_codegen_tree.specs.declared.positions.BytePos.{BytePos}
+use Rattle.swc_ecma_codegen_tree.specs.declared.positions.Span.{Span}
+use Rattle.swc_ecma_codegen_tree.specs.Spans.{dummy_span}
+use Rattle.swc_ecma_codegen_ast.specs.declared.kinds.Kind.TheVariants.{Word, Name, Punctuator}
+use Rattle.swc_ecma_codegen_ast.specs.Tokens as lexical
+use Rattle.swc_ecma_codegen_ast.specs.Tokens.{token_of, value_of}
+use Rattle.swc_ecma_codegen_ast.specs.Names.{is_word, is_name, name_value}
+use Rattle.swc_ecma_codegen_ast.specs.Punctuators.{is_punctuator, punctuators}
+use Rattle.swc_ecma_codegen_ast.specs.Texts.{is_same, is_among}
+use Rattle.swc_ecma_codegen_ast.specs.Phrases.{Phrase, Nothing, One, Then, Generates, ◌>◌, mark}
+use Rattle.swc_ecma_codegen_ast.specs.Phrases as phrases
+use Rattle.swc_ecma_codegen_ast.specs.NamePhrases as names
+use Rattle.swc_ecma_codegen_ast.specs.NamePhrases.{name_phrase, is_well_formed_name}
+use Rattle.swc_ecma_codegen_text_writer.specs.Sheet.{Semi, Space, Keyword, Operator, Line, Symbol, Punct, Position, Commit, effect}
+use Rattle.swc_ecma_codegen_literals.specs.ValidNames.{turned, turned_after}
+use Rattle.swc_ecma_codegen_base.specs.Run.{Env, Plan, Part, State, Step, Guard, Token, Plain, Remake, Steps, next, put, run, step, spelling, text_of, after_token, after_plain, when_minified, no_part}
+use Rattle.swc_ecma_codegen_base.specs.Words.{keyword, operator, word_operator, punct, semi, space, formatting_space, line_end, formatting_line, commit_pending_semi, position, position_before, start_of, leading_comments, trailing_comments, symbol, valid_symbol, name_text, question, name}
+use Rattle.swc_ecma_codegen_base.specs.Written.{AtRest}
+use Rattle.swc_ecma_codegen_base.proofs.Emitting.{minified_same, pretty_same}
+use Rattle.swc_ecma_codegen_base.proofs.Fronts.{run_append}
+use Rattle.swc_ecma_codegen_base.proofs.Spelled.{valid_same}
+use Rattle.swc_ecma_codegen_base.proofs.Written.{Lays, lays_then, lays_nothing, lays_blank, lays_line, lays_guard, lays_token, Spelled, spelled_word, spelled_name, spelled_mark, own_put}
+
+-- some steps, and then more
+unfoldable pub chain : List Step → Steps → Steps
+chain [] rest = rest
+chain (x ∷ xs) rest = next x (chain xs rest)
+
+chain_append : (xs ys : List Step) (rest : Steps) → chain (xs ++ ys) rest ≡ chain xs (chain ys rest)
+unfolding chain
+chain_append [] ys rest = refl
+chain_append (x ∷ xs) ys rest = ap (λ z. next x z) (chain_append xs ys rest)
+
+-- A part is these steps, whatever comes after it, and they write these tokens.
+pub record Writes (env : Env) (part : Part) (ts : List lexical.Token) : Type 0 where
+  pub steps : List Step
+  pub is_steps : (rest : Plan) → part rest env ≡ chain steps (rest env)
+  pub lays : (s : State) → AtRest s → Lays ts s (run steps s)
+
+-- one part after the other
+pub writes_then : (env : Env) (p q : Part) (ts us : List lexical.Token) → Writes env p ts → Writes env q us → Writes env (λ rest. p (q rest)) (ts ++ us)
+writes_then env p q ts us h k = record {
+  steps = h.steps ++ k.steps;
+  is_steps = λ rest. h.is_steps (q rest) ∙ ap (λ z. chain h.steps z) (k.is_steps rest) ∙ sym (chain_append h.steps k.steps (rest env));
+  lays = λ s r.
+      let a = h.lays s r in
+      let P : State → Type 0 = λ z. Lays (ts ++ us) s z in
+      subst P (sym (run_append h.steps k.steps s)) (lays_then ts us s (run h.steps s) (run k.steps (run h.steps s)) a (k.lays (run h.steps s) a.rest));
+}
+
+-- a part that is written as another is
+pub writes_same : (env : Env) (p q : Part) (ts : List lexical.Token) → ((rest : Plan) → p rest env ≡ q rest env) → Writes env q ts → Writes env p ts
+writes_same env p q ts e h = record { steps = h.steps; is_steps = λ rest. e rest ∙ h.is_steps rest; lays = h.lays }
+
+pub writes_nothing : (env : Env) → Writes env (λ rest. rest) []
+unfolding chain run
+writes_nothing env = record { steps = []; is_steps = λ rest. refl; lays = λ s r. lays_nothing s r }
+
+-- one step
+writes_step : (env : Env) (x : Step) (ts : List lexical.Token) → ((s : State) → AtRest s → Lays ts s (put x s)) → Writes env (step x) ts
+unfolding step chain run
+writes_step env x ts h = record { steps = x ∷ []; is_steps = λ rest. refl; lays = h }
+
+-- two steps
+writes_two : (env : Env) (x y : Step) (ts : List lexical.Token) → ((s : State) → AtRest s → Lays ts s (put y (put x s))) → Writes env (λ rest. step x (step y rest)) ts
+unfolding step chain run
+writes_two env x y ts h = record { steps = x ∷ y ∷ []; is_steps = λ rest. refl; lays = h }
+
+-- one of two parts
+pub writes_if : (env : Env) (b : Bool) (p q : Part) (ts : List lexical.Token) → Writes env p ts → Writes env q ts → Writes env (λ rest. cond b (p rest) (q rest)) ts
+writes_if env true p q ts h k = h
+writes_if env false p q ts h k = k
+
+pub writes_minified : (env : Env) (p q : Part) (ts : List lexical.Token) → Writes env p ts → Writes env q ts → Writes env (when_minified p q) ts
+writes_minified env p q ts h k = elim (cases_Bool env.config.minify) [
+  | inl small ↦ writes_same env (when_minified p q) p ts (λ rest. minified_same p q rest env small) h
+  | inr wide ↦ writes_same env (when_minified p q) q ts (λ rest. pretty_same p q rest env wide) k
+]
+
+-- ---- tokens
+
+pub writes_keyword : (env : Env) (span : Option Span) (t : List ℕ) → Spelled Word t → Writes env (keyword span t) (token_of Word (spelling Word t) ∷ [])
+unfolding keyword put effect text_of after_token own_put
+writes_keyword env span t p = writes_two env (Guard t) (Token Word (Keyword span t)) _ (λ s r. lays_token Word t s p r)
+
+pub writes_operator : (env : Env) (t : List ℕ) → Spelled Punctuator t → Writes env (operator t) (token_of Punctuator (spelling Punctuator t) ∷ [])
+unfolding operator put effect text_of after_token own_put
+writes_operator env t p = writes_two env (Guard t) (Token Punctuator (Operator None t)) _ (λ s r. lays_token Punctuator t s p r)
+
+pub writes_word_operator : (env : Env) (t : List ℕ) → Spelled Word t → Writes env (word_operator t) (token_of Word (spelling Word t) ∷ [])
+unfolding word_operator put effect text_of after_token own_put
+writes_word_operator env t p = writes_two env (Guard t) (Token Word (Operator None t)) _ (λ s r. lays_token Word t s p r)
+
+pub writes_punct : (env : Env) (t : List ℕ) → Spelled Punctuator t → Writes env (punct t) (token_of Punctuator (spelling Punctuator t) ∷ [])
+unfolding punct put effect text_of after_token own_put
+writes_punct env t p = writes_two env (Guard t) (Token Punctuator (Punct None t)) _ (λ s r. lays_token Punctuator t s p r)
+
+pub writes_semi : (env : Env) → Spelled Punctuator (codes ";") → Writes env semi (token_of Punctuator (spelling Punctuator (codes ";")) ∷ [])
+unfolding semi put effect text_of after_token own_put
+writes_semi env p = writes_two env (Guard (codes ";")) (Token Punctuator (Semi None)) _ (λ s r. lays_token Punctuator (codes ";") s p r)
+
+-- ---- what stands between
+
+pub writes_space : (env : Env) → Writes env space []
+unfolding space put after_plain
+writes_space env = writes_step env (Plain Space) [] (λ s r. lays_blank s r)
+
+pub writes_formatting_space : (env : Env) → Writes env formatting_space []
+unfolding formatting_space no_part
+writes_formatting_space env = writes_minified env no_part space [] (writes_nothing env) (writes_space env)
+
+pub writes_line : (env : Env) → Writes env line_end []
+unfolding line_end put after_plain
+writes_line env = writes_step env (Plain Line) [] (λ s r. lays_line s r)
+
+pub writes_formatting_line : (env : Env) → Writes env formatting_line []
+unfolding formatting_line no_part
+writes_formatting_line env = writes_minified env no_part line_end [] (writes_nothing env) (writes_line env)
+
+pub writes_commit : (env : Env) → Writes env commit_pending_semi []
+unfolding commit_pending_semi put effect after_plain
+writes_commit env = writes_step env (Plain Commit) [] (λ s r. lays_nothing s r)
+
+recorded : (env : Env) (pos : BytePos) → Writes env (step (Plain (Position pos))) []
+unfolding put effect after_plain
+recorded env pos = writes_step env (Plain (Position pos)) [] (λ s r. lays_nothing s r)
+
+pub writes_position : (env : Env) (pos : BytePos) → Writes env (position pos) []
+unfolding position
+writes_position env pos = writes_if env (pos.0 == 0) (λ rest. rest) (step (Plain (Position pos))) [] (writes_nothing env) (recorded env pos)
+
+pub writes_position_before : (env : Env) (pos : BytePos) → Writes env (position_before pos) []
+unfolding position_before
+writes_position_before env pos = writes_if env (pos.0 == 0) (λ rest. rest) _ [] (writes_nothing env) (recorded env _)
+
+pub writes_leading : (env : Env) (pos : BytePos) → Writes env (leading_comments pos) []
+unfolding leading_comments
+writes_leading env pos = writes_nothing env
+
+pub writes_trailing : (env : Env) (b : Bool) (pos : BytePos) → Writes env (trailing_comments b pos) []
+unfolding trailing_comments
+writes_trailing env b pos = writes_nothing env
+
+-- ---- names
+
+writes_guard : (env : Env) (t : List ℕ) → Writes env (step (Guard t)) []
+writes_guard env t = writes_step env (Guard t) [] (λ s r. lays_guard t s r)
+
+name_token : (env : Env) (t : List ℕ) → Spelled Name t → Writes env (λ rest. step (Guard t) (step (Token Name (Symbol dummy_span t)) rest)) (token_of Name (spelling Name t) ∷ [])
+unfolding put effect text_of after_token own_put
+name_token env t p = writes_two env (Guard t) (Token Name (Symbol dummy_span t)) _ (λ s r. lays_token Name t s p r)
+
+-- the position of a name has the blank that is due before it
+pub writes_symbol : (env : Env) (span : Span) (t : List ℕ) → Spelled Name t → Writes env (symbol span t) (token_of Name (spelling Name t) ∷ [])
+unfolding symbol
+writes_symbol env span t p =
+    writes_then env (step (Guard t)) (λ rest. start_of span (step (Guard t) (step (Token Name (Symbol dummy_span t)) rest))) [] (token_of Name (spelling Name t) ∷ []) (writes_guard env t)
+    (writes_then env (position span.lo) (λ rest. step (Guard t) (step (Token Name (Symbol dummy_span t)) rest)) [] (token_of Name (spelling Name t) ∷ []) (writes_position env span.lo) (name_token env t p))
+
+pub writes_name_text : (env : Env) (span : Span) (bytes : List ℕ) → env.keeps_invalid ≡ false → Spelled Name (turned bytes) → Writes env (name_text span bytes) (token_of Name (spelling Name (turned bytes)) ∷ [])
+unfolding valid_symbol put
+writes_name_text env span bytes e p =
+    writes_same env (name_text span bytes) (valid_symbol span bytes) _ (λ rest. valid_same span bytes rest env e)
+    (writes_then env (step (Remake bytes)) (symbol span (turned bytes)) [] (token_of Name (spelling Name (turned bytes)) ∷ []) (writes_step env (Remake bytes) [] (λ s r. lays_nothing s r)) (writes_symbol env span (turned bytes) p))

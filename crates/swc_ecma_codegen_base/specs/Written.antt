@@ -1,0 +1,40 @@
+-- What a sheet is like, whose text can be read back.
+use Rattle.std.specs.Prelude.{◌≡◌, ◌⊎◌, ℕ, Bool, true, false, List, [], ◌∷◌, ◌++◌}
+use Rattle.std.specs.Str.{chars}
+use Rattle.swc_ecma_codegen_ast.specs.Tokens.{Token}
+use Rattle.swc_ecma_codegen_ast.specs.Reads.{Reads}
+use Rattle.swc_ecma_codegen_ast.specs.Phrases.{Phrase, Generates}
+use Rattle.swc_ecma_codegen_ast.specs.GapRules.{Last, Start, Apart, allows}
+use Rattle.swc_ecma_codegen_base.specs.Run.{State}
+
+-- LF, or CR and LF
+abbrev pub IsLineEnd : List ℕ → Type 0
+IsLineEnd t = (t ≡ 10 ∷ []) ⊎ (t ≡ 13 ∷ 10 ∷ [])
+
+-- no token stands before: nothing does, or a blank or a line end
+unfoldable pub is_free : Last → Bool
+is_free Start = true
+is_free Apart = true
+is_free last = false
+
+-- Between two steps of a text that can be read back: lines are not indented, and any token may come next.
+pub record AtRest (s : State) : Type 0 where
+  pub level : s.sheet.indentation ≡ 0
+  pub line_end : IsLineEnd s.sheet.line_end
+  pub free : s.sheet.at_line_start ≡ true → is_free s.last ≡ true
+  pub allowed : (t : List ℕ) → allows s.last t ≡ true
+
+-- An emission begins: no token was written, lines aren't indented, and U+0000 after a backslash is left out of names.
+pub record IsNew (s : State) : Type 0 where
+  pub nothing_written : s.last ≡ Start
+  pub level : s.sheet.indentation ≡ 0
+  pub line_end : IsLineEnd s.sheet.line_end
+  pub leaves_out : s.env.keeps_invalid ≡ false
+
+-- What a text is longer by reads as one of the token lists of a phrase, without comments.
+pub record AddsReading (phrase : Phrase) (old new : List ℕ) : Type 0 where
+  pub added : List ℕ
+  pub is_added : new ≡ old ++ added
+  pub tokens : List Token
+  pub is_list : Generates phrase tokens
+  pub reads : Reads (chars added) tokens []
