@@ -1,3 +1,4 @@
+pub mod DecimalParts
 pub mod Held
 pub mod Operators
 pub mod Spans

@@ -5,6 +5,7 @@
 //! and its name needs to be written nowhere: `Expr` is `Expr<AnyNode>`.
 #![tactic(auto)]
 
+mod decimals;
 mod errors;
 mod exprs;
 mod idents;
@@ -16,6 +17,7 @@ mod spans;
 mod stmts;
 mod versions;
 
+pub use crate::decimals::Decimal;
 pub use crate::errors::{Error, Result};
 pub use crate::exprs::{
     BinExpr, ComputedPropName, CondExpr, Expr, MemberExpr, MemberProp, ParenExpr, SeqExpr,
