@@ -1,0 +1,12 @@
+pub mod CharLaws
+pub mod Conditions
+pub mod HashbangShapes
+pub mod JsxShapes
+pub mod Lists
+pub mod Marks
+pub mod NameShapes
+pub mod NumberShapes
+pub mod RegexShapes
+pub mod StringShapes
+pub mod Tables
+pub mod TemplateShapes

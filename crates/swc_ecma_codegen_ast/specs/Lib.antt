@@ -1,0 +1,17 @@
+pub mod Chars
+pub mod CommentMaps
+pub mod GapRules
+pub mod Hashbangs
+pub mod Jsx
+pub mod LongestMatch
+pub mod Names
+pub mod Numbers
+pub mod Parts
+pub mod Punctuators
+pub mod Reads
+pub mod RegularExpressions
+pub mod Strings
+pub mod Templates
+pub mod Texts
+pub mod Tokens
+pub mod Trivia

@@ -1,0 +1,93 @@
+-- A text in parts, tokens and gaps, and the second pass over it.
+use Rattle.std.specs.Prelude.{◌⊎◌, ◌≡◌, ℕ, Bool, true, false, not, List, [], ◌∷◌, ◌++◌, ◌||◌, if◌then◌else◌, codes}
+use Rattle.swc_ecma_codegen_ast.specs.declared.kinds.Kind.{Kind}
+use Rattle.swc_ecma_codegen_ast.specs.declared.kinds.Kind.TheVariants.{Punctuator, Close, JsxName, JsxText, Hashbang}
+use Rattle.swc_ecma_codegen_ast.specs.Texts.{is_same, begins}
+use Rattle.swc_ecma_codegen_ast.specs.Tokens.{Token, token_of, has_shape}
+use Rattle.swc_ecma_codegen_ast.specs.Trivia.{Remark, Piece, Blank, all_pieces, pieces_text, remarks_of}
+use Rattle.swc_ecma_codegen_ast.specs.Reads.{is_child, is_hashbang_kind}
+use Rattle.swc_ecma_codegen_ast.specs.GapRules.{Last, Apart, fuses, allows, ends_text, ends_line, last_after, last_after_gap, MayBegin}
+
+-- a token of a kind as it is spelled, or what stands between
+pub data Part : Type 0 where
+  Gap : (pieces : List Piece) → Part
+  Own : (kind : Kind) → (text : List ℕ) → Part
+
+unfoldable pub text_of : List Part → List ℕ
+text_of [] = []
+text_of (Gap ps ∷ xs) = pieces_text ps ++ text_of xs
+text_of (Own x t ∷ xs) = t ++ text_of xs
+
+unfoldable pub tokens_of : List Part → List Token
+tokens_of [] = []
+tokens_of (Gap ps ∷ xs) = tokens_of xs
+tokens_of (Own x t ∷ xs) = token_of x t ∷ tokens_of xs
+
+unfoldable pub remarks_in : List Part → List Remark
+remarks_in [] = []
+remarks_in (Gap ps ∷ xs) = remarks_of ps ++ remarks_in xs
+remarks_in (Own x t ∷ xs) = remarks_in xs
+
+-- Each token has its shape, closed comments and blanks stand between, and no two become one.
+unfoldable pub NoneFuse : Last → List Part → Type 0
+NoneFuse k [] = allows k [] ≡ true
+NoneFuse k (Gap ps ∷ xs) = (all_pieces ps ≡ true) × (fuses k (pieces_text ps) ≡ false) × (allows k (pieces_text ps) ≡ true) × NoneFuse (last_after_gap k ps) xs
+NoneFuse k (Own x t ∷ xs) = (has_shape x t ≡ true) × (fuses k t ≡ false) × MayBegin k x × (allows k t ≡ true) × NoneFuse (last_after k x t) xs
+
+-- what stands before a place: nothing, the end of a tag or of a container, text between tags, a name in a tag, a hashbang
+pub data Before : Type 0 where
+  AtStart TagEnd InText InTagName InLine Elsewhere : Before
+
+unfoldable pub before : Kind → List ℕ → Before
+before Close t = TagEnd
+before Punctuator t = if is_same t (codes "}") then TagEnd else Elsewhere
+before JsxText t = InText
+before JsxName t = InTagName
+before Hashbang t = InLine
+before kind t = Elsewhere
+
+unfoldable pub before_gap : Before → List Piece → Before
+before_gap b [] = b
+before_gap b (p ∷ ps) = Elsewhere
+
+-- where a child of JSX may begin
+unfoldable pub is_between_tags : Before → Bool
+is_between_tags TagEnd = true
+is_between_tags InText = true
+is_between_tags b = false
+
+-- what must follow there
+unfoldable pub wants : Before → List ℕ → Bool
+wants InText t = ends_text t
+wants InTagName t = not (begins (codes "-") t)
+wants InLine t = ends_line t
+wants b t = true
+
+-- Each token has its shape, and closed comments and blanks stand between. A child of JSX stands right after the end of a
+-- tag or a container or after text, a hashbang first of all, and what must follow a token does.
+unfoldable pub AllSpelled : Before → List Part → Type 0
+AllSpelled b [] = wants b [] ≡ true
+AllSpelled b (Gap ps ∷ xs) = (all_pieces ps ≡ true) × (wants b (pieces_text ps) ≡ true) × AllSpelled (before_gap b ps) xs
+AllSpelled b (Own x t ∷ xs) =
+    (has_shape x t ≡ true)
+    × (is_child x ≡ true → is_between_tags b ≡ true)
+    × (is_hashbang_kind x ≡ true → b ≡ AtStart)
+    × (wants b t ≡ true)
+    × AllSpelled (before x t) xs
+
+-- The second pass: one blank exactly where a token or a comment would become one with what stands before it.
+unfoldable pub spaced : Last → List Part → List Part
+spaced k [] = []
+spaced k (Gap ps ∷ xs) = if fuses k (pieces_text ps) then Gap (Blank 32 ∷ []) ∷ Gap ps ∷ spaced (last_after_gap Apart ps) xs else (Gap ps ∷ spaced (last_after_gap k ps) xs)
+spaced k (Own x t ∷ xs) = if fuses k t then Gap (Blank 32 ∷ []) ∷ Own x t ∷ spaced (last_after Apart x t) xs else (Own x t ∷ spaced (last_after k x t) xs)
+
+-- an ending that a dropped semicolon may stand before: nothing more, or `;`, or a token that begins with `}`
+unfoldable pub IsEnding : List Part → Type 0
+IsEnding [] = Unit {0}
+IsEnding (Gap ps ∷ xs) = ⊥
+IsEnding (Own x t ∷ xs) = (begins (codes "}") t || begins (codes ";") t) ≡ true
+
+-- the same parts without some semicolons, each of which stood right before such an ending
+unfoldable pub Reduced : List Part → List Part → Type 0
+Reduced [] ys = ys ≡ []
+Reduced (x ∷ xs) ys = ((zs : List Part) × (ys ≡ x ∷ zs) × Reduced xs zs) ⊎ ((x ≡ Own Punctuator (codes ";")) × IsEnding xs × Reduced xs ys)

@@ -1,0 +1,118 @@
+//! The comments of a source text, by the positions that they stand before or after.
+
+ghost use Rattle.std.specs.Prelude.{◌≡◌, ℕ, is_some, option_map};
+ghost use Rattle.std.specs.Option.{option_copied};
+ghost use Rattle.swc_ecma_codegen_ast.specs.CommentMaps.{Maps, without_leading, without_trailing, without, lists_in};
+
+use std::alloc::Global;
+use std::collections::BTreeMap;
+use swc_ecma_codegen_tree::{BytePos, Span};
+
+/// How a comment is written.
+#[derive(Debug, Clone, Copy, PartialEq, Eq)]
+pub enum CommentKind {
+    /// `// a`
+    Line,
+    /// `/* a */`
+    Block,
+}
+
+/// A comment, without the characters that open and close it.
+#[derive(Debug, Drop)]
+pub struct Comment {
+    pub kind: CommentKind,
+    pub span: Span,
+    pub text: String,
+}
+
+/// Two finite maps from positions to lists of comments: those that stand before a position, and those after one.
+/// Taking gives the list and removes the entry, and nothing else changes.
+pub trait Comments {
+    ghost maps: { Self → Maps };
+
+    /// Whether comments stand before `pos`.
+    fn has_leading(&self, pos: BytePos) -> bool
+        ensures { result ≡ is_some ((maps self.now).leading pos.0) };
+
+    /// Whether comments stand after `pos`.
+    fn has_trailing(&self, pos: BytePos) -> bool
+        ensures { result ≡ is_some ((maps self.now).trailing pos.0) };
+
+    /// The comments before `pos`.
+    fn get_leading(&self, pos: BytePos) -> Option<&[Comment]>
+        ensures { option_copied result ≡ (maps self.now).leading pos.0 };
+
+    /// The comments before `pos`, taken out.
+    fn take_leading(&mut self, pos: BytePos) -> Option<Vec<Comment>>
+        ensures taken { option_map (λ list. list.items) result ≡ (maps self.old).leading pos.0 }
+        ensures removed { maps self.new ≡ without_leading pos.0 (maps self.old) };
+
+    /// The comments after `pos`, taken out.
+    fn take_trailing(&mut self, pos: BytePos) -> Option<Vec<Comment>>
+        ensures taken { option_map (λ list. list.items) result ≡ (maps self.old).trailing pos.0 }
+        ensures removed { maps self.new ≡ without_trailing pos.0 (maps self.old) };
+}
+
+/// Two ordered maps of comments, for `SingleThreadedComments` of `swc_common`.
+#[derive(Drop)]
+pub struct CommentMaps {
+    alloc: Global,
+    leading: BTreeMap<BytePos, Vec<Comment>>,
+    trailing: BTreeMap<BytePos, Vec<Comment>>,
+}
+
+impl CommentMaps {
+    /// No comments. Takes no memory.
+    #[tactic(auto, unfolding(crate::specs::CommentMaps::lists_in))]
+    pub fn new(alloc: Global) -> CommentMaps
+        ensures leading { (pos : ℕ) → (⟦<CommentMaps as Comments>⟧.maps result).leading pos ≡ None }
+        ensures trailing { (pos : ℕ) → (⟦<CommentMaps as Comments>⟧.maps result).trailing pos ≡ None }
+    {
+        CommentMaps {
+            alloc,
+            leading: BTreeMap::new(alloc),
+            trailing: BTreeMap::new(alloc),
+        }
+    }
+}
+
+/// The list at `pos`, taken out.
+#[tactic(auto, unfolding(crate::specs::CommentMaps::lists_in))]
+fn take(lists: &mut BTreeMap<BytePos, Vec<Comment>>, pos: BytePos) -> Option<Vec<Comment>>
+    ensures taken { option_map (λ list. list.items) result ≡ lists_in ⟦<BytePos as Ord>⟧.cmp lists.old pos.0 }
+    ensures removed { lists_in ⟦<BytePos as Ord>⟧.cmp lists.new ≡ without pos.0 (lists_in ⟦<BytePos as Ord>⟧.cmp lists.old) }
+{
+    lists.remove(&pos)
+}
+
+impl Comments for CommentMaps {
+    ghost maps = { λ m. record { leading = lists_in ⟦<BytePos as Ord>⟧.cmp m.leading; trailing = lists_in ⟦<BytePos as Ord>⟧.cmp m.trailing } };
+
+    #[tactic(auto, using(crate::proofs::Lists::is_some_mapped), unfolding(crate::specs::CommentMaps::lists_in))]
+    fn has_leading(&self, pos: BytePos) -> bool {
+        self.leading.contains_key(&pos)
+    }
+
+    #[tactic(auto, using(crate::proofs::Lists::is_some_mapped), unfolding(crate::specs::CommentMaps::lists_in))]
+    fn has_trailing(&self, pos: BytePos) -> bool {
+        self.trailing.contains_key(&pos)
+    }
+
+    #[tactic(auto, unfolding(crate::specs::CommentMaps::lists_in))]
+    fn get_leading(&self, pos: BytePos) -> Option<&[Comment]> {
+        match self.leading.get(&pos) {
+            Some(list) => Some(list),
+            None => None,
+        }
+    }
+
+    #[tactic(auto, unfolding(crate::specs::CommentMaps::without_leading))]
+    fn take_leading(&mut self, pos: BytePos) -> Option<Vec<Comment>> {
+        take(&mut self.leading, pos)
+    }
+
+    #[tactic(auto, unfolding(crate::specs::CommentMaps::without_trailing))]
+    fn take_trailing(&mut self, pos: BytePos) -> Option<Vec<Comment>> {
+        take(&mut self.trailing, pos)
+    }
+}

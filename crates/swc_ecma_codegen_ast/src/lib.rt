@@ -1,0 +1,14 @@
+//! What an emission of a tree rests on: the tree, the map of its source text, its comments, and the lexical grammar
+//! that its text is read by.
+#![tactic(auto)]
+
+pub mod comments;
+pub mod kinds;
+pub mod mapper;
+
+pub use swc_ecma_codegen_tree::{
+    AnyNode, AssignOp, BinExpr, BinaryOp, BytePos, ComputedPropName, CondExpr, DUMMY_SP, EmptyStmt,
+    Error, EsVersion, Expr, ExprBox, ExprStmt, Ident, IdentName, LineCol, MemberExpr,
+    MemberExprBox, MemberProp, ParenExpr, Program, Result, Script, SeqExpr, Span, Spanned, Stmt,
+    StmtBox, ThisExpr, UnaryExpr, UnaryOp, UpdateExpr, UpdateOp, discard,
+};

@@ -1,0 +1,52 @@
+//! What an emission asks of the source text that a tree was read from.
+
+ghost use Rattle.std.specs.Prelude.{◌≡◌, ℕ, Bool, false, List, Option, None, option_map, IfOk, IfErr};
+ghost use Rattle.std.specs.String.{string_bytes};
+ghost use Rattle.swc_ecma_codegen_tree.specs.declared.positions.BytePos.{BytePos as Pos};
+ghost use Rattle.swc_ecma_codegen_tree.specs.declared.positions.Span.{Span as Place};
+ghost use Rattle.swc_ecma_codegen_tree.specs.declared.errors.Error.TheVariants.{OutOfMemory};
+
+use std::alloc::Global;
+use swc_ecma_codegen_tree::{BytePos, Error, Span};
+
+/// A source text. Each answer depends on the mapper's value and the arguments alone. `SourceMapper` of `swc_common`.
+pub trait SourceMapper {
+    ghost same_line: { Self → Pos → Pos → Bool };
+
+    ghost snippet: { Self → Place → Option (List ℕ) };
+
+    /// Whether the two positions stand on one line.
+    fn is_on_same_line(&self, lo: BytePos, hi: BytePos) -> bool
+        ensures { result ≡ same_line self.now lo hi };
+
+    /// The source text of a span, where it is known. `Error::OutOfMemory`: a growth was refused.
+    fn span_to_snippet(
+        &self,
+        alloc: Global,
+        span: Span,
+    ) -> std::result::Result<Option<String>, Error>
+        ensures answer { IfOk result (λ text. option_map string_bytes text ≡ snippet self.now span) }
+        ensures refused { IfErr result (λ error. error ≡ OutOfMemory) };
+}
+
+/// No source text, as an empty `SourceMap` of swc: no two positions stand on one line, and no span has a text.
+#[derive(Debug, Clone, Copy)]
+pub struct NoSource;
+
+impl SourceMapper for NoSource {
+    ghost same_line = { λ _ _ _. false };
+
+    ghost snippet = { λ _ _. None };
+
+    fn is_on_same_line(&self, _lo: BytePos, _hi: BytePos) -> bool {
+        false
+    }
+
+    fn span_to_snippet(
+        &self,
+        _alloc: Global,
+        _span: Span,
+    ) -> std::result::Result<Option<String>, Error> {
+        Ok(None)
+    }
+}
