@@ -1,1 +1,4 @@
+pub mod DecimalTexts
 pub mod Nulls
+pub mod NumberLiterals
+pub mod Numerals

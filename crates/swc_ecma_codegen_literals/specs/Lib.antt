@@ -1,1 +1,3 @@
+pub mod NumberTexts
+pub mod NumberValues
 pub mod ValidNames

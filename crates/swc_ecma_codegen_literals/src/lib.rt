@@ -2,5 +2,7 @@
 #![tactic(auto)]
 
 mod names;
+mod numbers;
 
 pub use crate::names::valid_name;
+pub use crate::numbers::{minified_number, plain_number};
