@@ -121,7 +121,7 @@ decimal_writes n l =
     record { each = all_from_numeral (decimal n) h.0.1; some = h.0.0; value = h.1 }
 
 -- the digit values of a hexadecimal digit
-hex_from_value : (d : ℕ) → digit_value d < 16 → is_hex d ≡ true
+pub hex_from_value : (d : ℕ) → digit_value d < 16 → is_hex d ≡ true
 unfolding is_hex is_digit
 hex_from_value d h =
     elim (cases_lt d 48) [
