@@ -22,9 +22,9 @@ is_ascii_char c = nat_lt c 128
 pub glyph_hex : (upper : Bool) (d : ℕ) → d < 16 → is_hex (digit_glyph upper d) ≡ true
 unfolding is_hex is_digit
 glyph_hex upper d l = elim (cases_lt d 10) [
-    | inl s ↦ rw (lt-ltb d 10 s) (or_left (nat_le 48 (48 + d) && nat_le (48 + d) 57) _ (between (48 + d) 48 57 (omega arith) (omega arith)))
-    | inr b ↦ rw (le-ltb d 10 b) (case upper b)
-  ]
+  | inl s ↦ rw (lt-ltb d 10 s) (or_left (nat_le 48 (48 + d) && nat_le (48 + d) 57) _ (between (48 + d) 48 57 (omega arith) (omega arith)))
+  | inr b ↦ rw (le-ltb d 10 b) (case upper b)
+]
   where
     between : (c a b : ℕ) → a ≤ c → c ≤ b → (nat_le a c && nat_le c b) ≡ true
     between c a b l h = and_from (nat_le a c) (nat_le c b) (le-leb a c l) (le-leb c b h)
@@ -63,7 +63,7 @@ braced_escape_ascii c l =
     both_ascii (codes "\\u{") (digits 16 true c ++ codes "}") refl (both_ascii (digits 16 true c) (codes "}") (all_digits_ascii (digits 16 true c) h.0.1) refl)
 
 -- P of a choice by a test
-chosen : {X : Type 0} (P : X → Type 0) (b : Bool) (x y : X) → (b ≡ true → P x) → (b ≡ false → P y) → P (if b then x else y)
+pub chosen : {X : Type 0} (P : X → Type 0) (b : Bool) (x y : X) → (b ≡ true → P x) → (b ≡ false → P y) → P (if b then x else y)
 chosen P true x y h g = h refl
 chosen P false x y h g = g refl
 
@@ -72,19 +72,19 @@ unfolding code_escape
 code_escape_ascii v c l =
     let P : List ℕ → Type 0 = λ t. list_all is_ascii_char t ≡ true in
     chosen P (nat_lt c 256) _ _ (λ b. hex_escape_ascii c (ltb-true c 256 b)) (λ b.
-      chosen P (nat_lt c 65536) _ _ (λ b. unit_escape_ascii c (ltb-true c 65536 b)) (λ b.
-        chosen P (up_to_es5 v) _ _ (λ _. pair_escape_ascii c (ltb-false c 65536 b) l) (λ _. braced_escape_ascii c l)))
+    chosen P (nat_lt c 65536) _ _ (λ b. unit_escape_ascii c (ltb-true c 65536 b)) (λ b.
+    chosen P (up_to_es5 v) _ _ (λ _. pair_escape_ascii c (ltb-false c 65536 b) l) (λ _. braced_escape_ascii c l)))
 
 pub escape_text_ascii : (v : EsVersion) (c : ℕ) (next : List ℕ) → c < 1114112 → list_all is_ascii_char (escape_text v c next) ≡ true
 unfolding escape_text null_escape backslash_escape
 escape_text_ascii v c next l =
     let P : List ℕ → Type 0 = λ t. list_all is_ascii_char t ≡ true in
     chosen P (c == 0) _ _ (λ _. chosen P (below_es5 v || begins_digit next) (codes "\\x00") (codes "\\0") (λ _. refl) (λ _. refl)) (λ _.
-      chosen P (c == 8) _ _ (λ _. refl) (λ _.
-        chosen P (c == 10) _ _ (λ _. refl) (λ _.
-          chosen P (c == 11) _ _ (λ _. refl) (λ _.
-            chosen P (c == 12) _ _ (λ _. refl) (λ _.
-              chosen P (c == 13) _ _ (λ _. refl) (λ _.
-                chosen P (c == 92) _ _ (λ _. chosen P (nat_lt 0 (escape_length next)) (codes "\\") (codes "\\\\") (λ _. refl) (λ _. refl)) (λ _.
-                  chosen P (c == 34) _ _ (λ _. refl) (λ _.
-                    chosen P (c == 39) _ _ (λ _. refl) (λ _. code_escape_ascii v c l)))))))))
+    chosen P (c == 8) _ _ (λ _. refl) (λ _.
+    chosen P (c == 10) _ _ (λ _. refl) (λ _.
+    chosen P (c == 11) _ _ (λ _. refl) (λ _.
+    chosen P (c == 12) _ _ (λ _. refl) (λ _.
+    chosen P (c == 13) _ _ (λ _. refl) (λ _.
+    chosen P (c == 92) _ _ (λ _. chosen P (nat_lt 0 (escape_length next)) (codes "\\") (codes "\\\\") (λ _. refl) (λ _. refl)) (λ _.
+    chosen P (c == 34) _ _ (λ _. refl) (λ _.
+    chosen P (c == 39) _ _ (λ _. refl) (λ _. code_escape_ascii v c l)))))))))

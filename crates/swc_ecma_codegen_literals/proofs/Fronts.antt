@@ -25,17 +25,17 @@ unfolding begins_like
 like_encodes [] cs a = refl
 like_encodes (p ∷ ps) [] a = refl
 like_encodes (p ∷ ps) (c ∷ cs) a = elim (cases_lt c 128) [
-    | inl l ↦ rw (encode_ascii c l) (ap (λ x. p c && x) (like_encodes ps cs a.1))
-    | inr g ↦ sides g
-  ]
+  | inl l ↦ rw (encode_ascii c l) (ap (λ x. p c && x) (like_encodes ps cs a.1))
+  | inr g ↦ sides g
+]
   where
     sides : 128 ≤ c → begins_like (p ∷ ps) (c ∷ cs) ≡ begins_like (p ∷ ps) (encode_utf8 c ++ encodes cs)
     sides g =
-      let bs = encode_utf8 c ++ encodes cs in
-      let some : 0 < length bs = rw length-append (let m = (len_utf8_bounds c).0 in rw length-encode (omega (arith, m))) in
-      let high : p (slice_index bs 0) ≡ false = false_from_ne_true (p (slice_index bs 0)) (λ t. let l = a.0 (slice_index bs 0) t in let e = char_from_byte bs (encodes cs) c refl l some in omega (arith, e, l, g)) in
-      let low : p c ≡ false = false_from_ne_true (p c) (λ t. let l = a.0 c t in omega (arith, l, g)) in
-      front_fails p ps (c ∷ cs) (omega arith) low ∙ sym (front_fails p ps bs some high)
+        let bs = encode_utf8 c ++ encodes cs in
+        let some : 0 < length bs = rw length-append (let m = (len_utf8_bounds c).0 in rw length-encode (omega (arith, m))) in
+        let high : p (slice_index bs 0) ≡ false = false_from_ne_true (p (slice_index bs 0)) (λ t. let l = a.0 (slice_index bs 0) t in let e = char_from_byte bs (encodes cs) c refl l some in omega (arith, e, l, g)) in
+        let low : p c ≡ false = false_from_ne_true (p c) (λ t. let l = a.0 c t in omega (arith, l, g)) in
+        front_fails p ps (c ∷ cs) (omega arith) low ∙ sym (front_fails p ps bs some high)
 
 -- a text begins alike by its characters and by its bytes
 pub like_bytes : (ps : List (ℕ → Bool)) (bs : List ℕ) → AllAscii ps → IsUtf8 bs → begins_like ps (chars bs) ≡ begins_like ps bs
@@ -98,7 +98,7 @@ short_places (a ∷ b ∷ c ∷ []) l = absurd (omega (arith, l))
 short_places (a ∷ b ∷ c ∷ d ∷ []) l = absurd (omega (arith, l))
 short_places (a ∷ b ∷ c ∷ d ∷ e ∷ t) l = rw (and_true (is_hex e)) refl
 
-too_short : (ps : List (ℕ → Bool)) (t : List ℕ) → length t < length ps → begins_like ps t ≡ false
+pub too_short : (ps : List (ℕ → Bool)) (t : List ℕ) → length t < length ps → begins_like ps t ≡ false
 unfolding begins_like
 too_short [] t l = absurd (omega (arith, l))
 too_short (p ∷ ps) [] l = refl

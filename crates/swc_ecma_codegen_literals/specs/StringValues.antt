@@ -50,17 +50,17 @@ string_rest q sloppy Escaped (c ∷ cs) =
     else if c == 117 then string_rest q sloppy Unicode cs
     else if (c == 48) && not (begins_digit cs) then before (0 ∷ []) (string_rest q sloppy Between cs)
     else if is_octal c then (if not sloppy then None
-      else if begins_octal cs then string_rest q sloppy (Octal (if nat_le c 51 then 1 else 0) (c - 48)) cs
-      else before ((c - 48) ∷ []) (string_rest q sloppy Between cs))
+    else if begins_octal cs then string_rest q sloppy (Octal (if nat_le c 51 then 1 else 0) (c - 48)) cs
+    else before ((c - 48) ∷ []) (string_rest q sloppy Between cs))
     else if is_digit c then (if sloppy then before (c ∷ []) (string_rest q sloppy Between cs) else None)
     else if c == 13 then string_rest q sloppy (if begins (10 ∷ []) cs then Continued else Between) cs
     else if (c == 10) || ((c == 8232) || (c == 8233)) then string_rest q sloppy Between cs
     else before (utf16 (single_escape c)) (string_rest q sloppy Between cs)
 string_rest q sloppy (Due zero value) (c ∷ cs) = None
-string_rest q sloppy (Due (suc n) value) (c ∷ cs) =
-    if not (is_hex c) then None
-    else if n == 0 then before ((value * 16 + digit_value c) ∷ []) (string_rest q sloppy Between cs)
-    else string_rest q sloppy (Due n (value * 16 + digit_value c)) cs
+string_rest q sloppy (Due (suc zero) value) (c ∷ cs) =
+    if is_hex c then before ((value * 16 + digit_value c) ∷ []) (string_rest q sloppy Between cs) else None
+string_rest q sloppy (Due (suc (suc n)) value) (c ∷ cs) =
+    if is_hex c then string_rest q sloppy (Due (suc n) (value * 16 + digit_value c)) cs else None
 string_rest q sloppy Unicode (c ∷ cs) =
     if c == 123 then string_rest q sloppy (Braced false 0) cs
     else if is_hex c then string_rest q sloppy (Due 3 (digit_value c)) cs

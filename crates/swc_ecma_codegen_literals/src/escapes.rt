@@ -223,12 +223,20 @@ fn lower_digit(value: u32) -> char
     requires { value < 16 }
     ensures { result ≡ digit_glyph false value }
 {
-    if value < 10 { (b'0' + value as u8) as char } else { (b'a' - 10 + value as u8) as char }
+    if value < 10 {
+        (b'0' + value as u8) as char
+    } else {
+        (b'a' - 10 + value as u8) as char
+    }
 }
 
 fn upper_digit(value: u32) -> char
     requires { value < 16 }
     ensures { result ≡ digit_glyph true value }
 {
-    if value < 10 { (b'0' + value as u8) as char } else { (b'A' - 10 + value as u8) as char }
+    if value < 10 {
+        (b'0' + value as u8) as char
+    } else {
+        (b'A' - 10 + value as u8) as char
+    }
 }

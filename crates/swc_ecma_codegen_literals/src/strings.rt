@@ -1,11 +1,14 @@
 //! Strings.
 
-ghost use Rattle.std.specs.Prelude.{◌≡◌, ◌++◌, ◌∷◌, ℕ, true, false, List, OnOk, IfOk, IfErr, count_by, ◌==◌, ◌<◌, ◌≤◌, drop, length};
+ghost use Rattle.std.specs.Prelude.{◌≡◌, ◌++◌, ◌∷◌, ℕ, true, false, List, OnOk, IfOk, IfErr, Some, count_by, ◌==◌, ◌<◌, ◌≤◌, drop, length};
 ghost use Rattle.std.specs.List.{list_all};
 ghost use Rattle.std.specs.Str.{encode_utf8_all};
-ghost use Rattle.std.specs.Str.{chars, IsUtf8};
+ghost use Rattle.std.specs.Str.{chars, IsUtf8, IsAscii};
 ghost use Rattle.std.specs.String.{string_bytes};
 ghost use Rattle.swc_ecma_codegen_tree.specs.declared.errors.Error.TheVariants.{OutOfMemory};
+ghost use Rattle.swc_ecma_codegen_ast.specs.Strings.{is_string};
+ghost use Rattle.swc_ecma_codegen_literals.specs.CodeUnits.{units};
+ghost use Rattle.swc_ecma_codegen_literals.specs.StringValues.{string_value};
 ghost use Rattle.swc_ecma_codegen_literals.specs.StringTexts.{stands, spelled_all, first_escape, quote_of, quoted_text};
 
 use crate::escapes::{Style, push_escape, stands};
@@ -24,6 +27,9 @@ pub fn quoted_utf16(
     target: EsVersion,
 ) -> std::result::Result<String, Error>
     ensures exactly { IfOk result (λ literal. string_bytes literal ≡ encode_utf8_all (quoted_text ascii_only target (chars text.now))) }
+    ensures value { IfOk result (λ literal. string_value false (chars (string_bytes literal)) ≡ Some (units (chars text.now))) }
+    ensures token { IfOk result (λ literal. is_string (chars (string_bytes literal)) ≡ true) }
+    ensures ascii { ascii_only ≡ true → IfOk result (λ literal. IsAscii (string_bytes literal)) }
     ensures refused { IfErr result (λ error. error ≡ OutOfMemory) }
 {
     let quote = quote_of(text);
@@ -43,7 +49,11 @@ pub fn quoted_utf16(
 fn quote_of(text: &str) -> char
     ensures { result ≡ quote_of (chars text.now) }
 {
-    if count(text, '\'') < count(text, '"') { '\'' } else { '"' }
+    if count(text, '\'') < count(text, '"') {
+        '\''
+    } else {
+        '"'
+    }
 }
 
 fn count(text: &str, quote: char) -> usize
