@@ -1,1 +1,12 @@
+pub mod DecimalTexts
+pub mod EscapeTexts
+pub mod Fronts
 pub mod Nulls
+pub mod NumberLiterals
+pub mod Numerals
+pub mod QuotedTexts
+pub mod Runs
+pub mod SpelledTexts
+pub mod StringCloses
+pub mod StringReads
+pub mod StringUnits

@@ -1,1 +1,6 @@
+pub mod CodeUnits
+pub mod NumberTexts
+pub mod NumberValues
+pub mod StringTexts
+pub mod StringValues
 pub mod ValidNames

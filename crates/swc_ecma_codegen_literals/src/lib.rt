@@ -1,6 +1,11 @@
 //! The spellings of names, strings, templates and numbers.
 #![tactic(auto)]
 
+mod escapes;
 mod names;
+mod numbers;
+mod strings;
 
 pub use crate::names::valid_name;
+pub use crate::numbers::{minified_number, plain_number};
+pub use crate::strings::quoted_utf16;

@@ -1,0 +1,84 @@
+-- How a decimal number is spelled.
+use Rattle.std.specs.Prelude.{◌≡◌, ℕ, suc, ◌-◌, ◌*◌, ◌^◌, ℤ, pos, negsuc, Bool, true, false, not, ◌&&◌, nat_le, nat_lt, List, [], ◌++◌, length, replicate, take, drop, Option, Some, None, if◌then◌else◌, codes, decimal}
+use Rattle.std.specs.Option.{option_map}
+use Rattle.std.specs.Fmt.{digits}
+use Rattle.std.specs.String.{string_bytes}
+use Rattle.std.specs.declared.string.String.{String}
+use Rattle.std.specs.Str.Parse.{digits_value}
+use Rattle.swc_ecma_codegen_ast.specs.Numbers.{is_number}
+use Rattle.swc_ecma_codegen_literals.specs.NumberValues.{MathValue, times_ten, over_ten, SameValue, numeric_value}
+use Rattle.swc_ecma_codegen_tree.specs.declared.decimals.Decimal.{Decimal}
+
+-- `12` with the point before its last n digits: `1.2` for 1, `0.12` for 2, `0.0012` for 4
+unfoldable pub with_point : List ℕ → ℕ → List ℕ
+with_point ds n =
+    if nat_lt n (length ds) then take (length ds - n) ds ++ (codes "." ++ drop (length ds - n) ds)
+    else codes "0." ++ (replicate (n - length ds) 48 ++ ds)
+
+-- all digits, without an exponent: `12000`, `1.2`
+unfoldable pub plain_size : List ℕ → ℤ → List ℕ
+plain_size ds (pos n) = ds ++ replicate n 48
+plain_size ds (negsuc n) = with_point ds (suc n)
+
+-- three zeros or more at the end become an exponent: `12e3`
+unfoldable pub short_whole : List ℕ → ℕ → Option (List ℕ)
+short_whole ds n = if nat_le 3 n then Some (ds ++ (codes "e" ++ decimal n)) else None
+
+-- a fraction without the zero before its point, `.012`; after the point three zeros or more become an exponent, `12e-6`, but not of a negative number
+unfoldable pub short_fraction : Bool → List ℕ → ℕ → Option (List ℕ)
+short_fraction negative ds n =
+    if nat_lt n (length ds) then None
+    else if not negative && nat_le 3 (n - length ds) then Some (ds ++ (codes "e-" ++ decimal n))
+    else Some (codes "." ++ (replicate (n - length ds) 48 ++ ds))
+
+unfoldable pub short_size : Bool → List ℕ → ℤ → Option (List ℕ)
+short_size negative ds (pos n) = short_whole ds n
+short_size negative ds (negsuc n) = short_fraction negative ds (suc n)
+
+-- a whole number of at most 2 to the 63
+unfoldable pub whole_size : List ℕ → ℤ → Option ℕ
+whole_size ds (pos n) = let size = digits_value 10 ds * 10 ^ n in if nat_le size (2 ^ 63) then Some size else None
+whole_size ds (negsuc n) = None
+
+-- `0xff` for 255
+unfoldable pub hexadecimal_size : List ℕ → ℤ → Option (List ℕ)
+hexadecimal_size ds e = option_map (λ size. codes "0x" ++ digits 16 false size) (whole_size ds e)
+
+-- the shorter of two texts, and the second where they are alike
+unfoldable pub shorter_size : Option (List ℕ) → List ℕ → List ℕ
+shorter_size None other = other
+shorter_size (Some text) other = if nat_lt (length text) (length other) then text else other
+
+unfoldable pub minified_size : Bool → List ℕ → ℤ → List ℕ
+minified_size negative ds e = shorter_size (short_size negative ds e) (shorter_size (hexadecimal_size ds e) (plain_size ds e))
+
+unfoldable pub sign_text : Bool → List ℕ
+sign_text negative = if negative then codes "-" else []
+
+abbrev pub decimal_digits : Decimal → List ℕ
+decimal_digits number = string_bytes number.digits
+
+-- the sign, and then all digits
+unfoldable pub plain_text : Decimal → List ℕ
+plain_text number = sign_text number.negative ++ plain_size (decimal_digits number) number.exponent
+
+-- the sign, and then the shortest of these
+unfoldable pub minified_text : Decimal → List ℕ
+minified_text number = sign_text number.negative ++ minified_size number.negative (decimal_digits number) number.exponent
+
+-- the bytes of a text, where there is one
+abbrev pub option_text : {Z : Type 0} → Option (String Z) → Option (List ℕ)
+option_text None = None
+option_text (Some text) = Some (string_bytes text)
+
+-- what the digits of a decimal number, times ten to its exponent, are
+unfoldable pub size_value : List ℕ → ℤ → MathValue
+size_value ds (pos n) = times_ten (digits_value 10 ds) n
+size_value ds (negsuc n) = over_ten (digits_value 10 ds) (suc n)
+
+-- A text is the sign of a number, and then one numeric literal of its size.
+pub record SpellsDecimal (number : Decimal) (text : List ℕ) : Type 0 where
+  pub literal : List ℕ
+  pub signed : text ≡ sign_text number.negative ++ literal
+  pub shape : is_number literal ≡ true
+  pub value : SameValue (numeric_value literal) (size_value (decimal_digits number) number.exponent)

@@ -1,0 +1,272 @@
+//! Numbers.
+
+ghost use Rattle.std.specs.Prelude.{◌≡◌, ◌++◌, replicate, IfOk, IfErr, OnOk, option_map};
+ghost use Rattle.std.specs.String.{string_bytes};
+ghost use Rattle.std.specs.Str.{IsAscii};
+ghost use Rattle.swc_ecma_codegen_tree.specs.declared.errors.Error.TheVariants.{OutOfMemory};
+ghost use Rattle.swc_ecma_codegen_literals.specs.NumberTexts.{plain_text, minified_text, plain_size, with_point, short_size, short_fraction, hexadecimal_size, whole_size, shorter_size, sign_text, decimal_digits, option_text, SpellsDecimal};
+
+use std::alloc::{AllocError, Global};
+use swc_ecma_codegen_tree::{Decimal, Error};
+
+/// The shortest of the spellings of a number that a minifier writes: `1e3`, `.5`, `123e-6`, `0x38d7ea4c68001`.
+/// `Error::OutOfMemory` where there is no room for a text.
+///
+/// Source: `minify_number` of swc, but a number above 2 to the 63 in size has no hexadecimal spelling, and a negative
+/// one has the sign before its size.
+#[tactic(auto, unfolding(crate::specs::NumberTexts::minified_text, crate::specs::NumberTexts::minified_size, crate::specs::NumberTexts::plain_text))]
+pub fn minified_number(alloc: Global, number: &Decimal) -> std::result::Result<String, Error>
+    ensures exactly { IfOk result (λ text. string_bytes text ≡ minified_text number.now) }
+    ensures value { IfOk result (λ text. SpellsDecimal number.now (string_bytes text)) }
+    ensures ascii { IfOk result (λ text. IsAscii (string_bytes text)) }
+    ensures refused { IfErr result (λ error. error ≡ OutOfMemory) }
+{
+    let plain = plain_number(alloc, number)?;
+    let hexadecimal = hexadecimal_number(alloc, number)?;
+    let short = short_number(alloc, number)?;
+    Ok(shorter(short, shorter(hexadecimal, plain)))
+}
+
+/// All digits of a number, without an exponent: `1000`, `0.000123`, `-0`. `Error::OutOfMemory` where there is no room
+/// for the text.
+///
+/// Source: `Display` of Rust's `f64`, as swc writes numbers.
+#[tactic(auto, unfolding(crate::specs::NumberTexts::plain_text))]
+pub fn plain_number(alloc: Global, number: &Decimal) -> std::result::Result<String, Error>
+    ensures exactly { IfOk result (λ text. string_bytes text ≡ plain_text number.now) }
+    ensures value { IfOk result (λ text. SpellsDecimal number.now (string_bytes text)) }
+    ensures ascii { IfOk result (λ text. IsAscii (string_bytes text)) }
+    ensures refused { IfErr result (λ error. error ≡ OutOfMemory) }
+{
+    let mut text = String::new(alloc);
+    text.push_str(sign(number))?;
+    push_plain(&mut text, number)?;
+    Ok(text)
+}
+
+#[tactic(auto, unfolding(crate::specs::NumberTexts::sign_text))]
+fn sign(number: &Decimal) -> &'static str
+    ensures { result.now ≡ sign_text number.now.negative }
+{
+    if number.negative() { "-" } else { "" }
+}
+
+// The one text where there is one and it is shorter than the other.
+#[tactic(auto, unfolding(crate::specs::NumberTexts::shorter_size))]
+fn shorter(text: Option<String>, other: String) -> String
+    ensures { string_bytes result ≡ shorter_size (option_text text) (string_bytes other) }
+{
+    match text {
+        Some(text) => {
+            if text.len() < other.len() {
+                text
+            } else {
+                other
+            }
+        }
+        None => other,
+    }
+}
+
+fn push_zeros(text: &mut String, count: usize) -> Result<(), AllocError>
+    ensures { OnOk result (string_bytes text.new ≡ string_bytes text.old ++ replicate count 48) }
+{
+    for _ in 0..count {
+        text.push('0')?;
+    }
+    Ok(())
+}
+
+// `12` with the exponent 1 is `120`, with -1 `1.2` and with -3 `0.012`.
+#[tactic(auto, unfolding(crate::specs::NumberTexts::plain_size))]
+fn push_plain(text: &mut String, number: &Decimal) -> Result<(), AllocError>
+    ensures { OnOk result (string_bytes text.new ≡ string_bytes text.old ++ plain_size (decimal_digits number.now) number.now.exponent) }
+{
+    let digits = number.digits();
+    let places = number.exponent().unsigned_abs() as usize;
+    if number.exponent() >= 0 {
+        text.push_str(digits)?;
+        push_zeros(text, places)
+    } else {
+        push_fraction(text, digits, places)
+    }
+}
+
+// `12` with the point before its last digit is `1.2`, and before its last three `0.012`.
+#[tactic(auto, unfolding(crate::specs::NumberTexts::with_point))]
+fn push_fraction(text: &mut String, digits: &str, places: usize) -> Result<(), AllocError>
+    requires { IsAscii digits.now }
+    ensures { OnOk result (string_bytes text.new ≡ string_bytes text.old ++ with_point digits.now places) }
+{
+    if places < digits.len() {
+        let point = digits.len() - places;
+        text.push_str(&digits[..point])?;
+        text.push('.')?;
+        text.push_str(&digits[point..])
+    } else {
+        text.push_str("0.")?;
+        push_zeros(text, places - digits.len())?;
+        text.push_str(digits)
+    }
+}
+
+// `12e3`, `.012` and `12e-6` in place of `12000`, `0.012` and `0.000012`.
+#[tactic(auto, unfolding(crate::specs::NumberTexts::short_size, crate::specs::NumberTexts::short_whole))]
+fn short_number(alloc: Global, number: &Decimal) -> Result<Option<String>, AllocError>
+    ensures { IfOk result (λ text. option_text text ≡ option_map (λ size. sign_text number.now.negative ++ size) (short_size number.now.negative (decimal_digits number.now) number.now.exponent)) }
+{
+    let places = number.exponent().unsigned_abs() as usize;
+    if number.exponent() < 0 {
+        short_fraction_number(alloc, number, places)
+    } else if places < 3 {
+        Ok(None)
+    } else {
+        let sign = sign(number);
+        let digits = number.digits();
+        Ok(Some(format!(in alloc; "{sign}{digits}e{places}")?))
+    }
+}
+
+#[tactic(auto, unfolding(crate::specs::NumberTexts::short_fraction, crate::specs::NumberTexts::sign_text))]
+fn short_fraction_number(
+    alloc: Global,
+    number: &Decimal,
+    places: usize,
+) -> Result<Option<String>, AllocError>
+    ensures { IfOk result (λ text. option_text text ≡ option_map (λ size. sign_text number.now.negative ++ size) (short_fraction number.now.negative (decimal_digits number.now) places)) }
+{
+    let digits = number.digits();
+    if places < digits.len() {
+        return Ok(None);
+    }
+    let zeros = places - digits.len();
+    if zeros >= 3 && !number.negative() {
+        return Ok(Some(format!(in alloc; "{digits}e-{places}")?));
+    }
+    let mut text = String::new(alloc);
+    text.push_str(sign(number))?;
+    text.push('.')?;
+    push_zeros(&mut text, zeros)?;
+    text.push_str(digits)?;
+    Ok(Some(text))
+}
+
+// `0xff` for 255, and none where a number has a fraction or is above 2 to the 63 in size.
+#[tactic(auto, unfolding(crate::specs::NumberTexts::hexadecimal_size))]
+fn hexadecimal_number(alloc: Global, number: &Decimal) -> Result<Option<String>, AllocError>
+    ensures { IfOk result (λ text. option_text text ≡ option_map (λ size. sign_text number.now.negative ++ size) (hexadecimal_size (decimal_digits number.now) number.now.exponent)) }
+{
+    match whole_size(alloc, number)? {
+        Some(size) => {
+            let sign = sign(number);
+            Ok(Some(format!(in alloc; "{sign}0x{size:x}")?))
+        }
+        None => Ok(None),
+    }
+}
+
+// The size of a whole number of at most 2 to the 63.
+#[tactic(auto, unfolding(crate::specs::NumberTexts::whole_size))]
+fn whole_size(alloc: Global, number: &Decimal) -> Result<Option<u64>, AllocError>
+    ensures { IfOk result (λ size. size ≡ whole_size (decimal_digits number.now) number.now.exponent) }
+{
+    if number.exponent() < 0 {
+        return Ok(None);
+    }
+    let mut digits = String::new(alloc);
+    push_plain(&mut digits, number)?;
+    match digits.parse::<u64>() {
+        Ok(size) => {
+            if size <= 1 << 63 {
+                Ok(Some(size))
+            } else {
+                Ok(None)
+            }
+        }
+        Err(_) => Ok(None),
+    }
+}
+
+#[cfg(test)]
+mod tests {
+    use super::*;
+    use std::test::Fail;
+
+    fn decimal<R: std::process::Abort>(
+        rt: &R,
+        alloc: Global,
+        negative: bool,
+        digits: &str,
+        exponent: i32,
+    ) -> Result<Decimal, Fail> {
+        let digits = String::from_str(alloc, digits)?;
+        Ok(Decimal::new(negative, digits, exponent).expect(rt, "a decimal"))
+    }
+
+    #[test]
+    fn decimals_have_one_form(rt: HostRuntime) -> Result<(), Fail> {
+        let mut ones = String::new(rt.alloc());
+        for _ in 0..800 {
+            ones.push('1')?;
+        }
+        let rows = [
+            (ones.as_str(), 0, true),
+            ("1", 1101, false),
+            ("10", 0, false),
+            ("01", 0, false),
+            ("0", 1, false),
+            ("0", 0, true),
+            ("", 0, false),
+            ("1a", 0, false),
+            ("1", -1100, true),
+        ];
+        for (digits, exponent, is_one) in rows {
+            let found = Decimal::new(false, String::from_str(rt.alloc(), digits)?, exponent);
+            assert_eq!(rt; found.is_some(), is_one);
+        }
+        ones.push('1')?;
+        assert!(rt; Decimal::new(false, ones, 0).is_none());
+        Ok(())
+    }
+
+    #[test]
+    fn minified_numbers(rt: HostRuntime) -> Result<(), Fail> {
+        let rows = [
+            (false, "1", 3, "1e3"),
+            (false, "123", -6, "123e-6"),
+            (false, "1000000000000001", 0, "0x38d7ea4c68001"),
+            (false, "9223372036854775808", 0, "0x8000000000000000"),
+            (true, "1000000000000000001", 0, "-0xde0b6b3a7640001"),
+            (true, "123", -6, "-.000123"),
+            (true, "0", 0, "-0"),
+            (false, "1", 2, "100"),
+            (false, "1", 1100, "1e1100"),
+            (false, "1", -1100, "1e-1100"),
+            (false, "9223372036854775809", 0, "9223372036854775809"),
+            (true, "9223372036854775808", 0, "-0x8000000000000000"),
+        ];
+        for (negative, digits, exponent, text) in rows {
+            let number = decimal(&rt, rt.alloc(), negative, digits, exponent)?;
+            let found = minified_number(rt.alloc(), &number)?;
+            assert_eq!(rt; found.as_str(), text);
+        }
+        Ok(())
+    }
+
+    #[test]
+    fn plain_numbers(rt: HostRuntime) -> Result<(), Fail> {
+        let rows = [
+            (false, "123", -6, "0.000123"),
+            (false, "0", 0, "0"),
+            (true, "12", 3, "-12000"),
+            (true, "1234", -2, "-12.34"),
+            (true, "1234", -4, "-0.1234"),
+        ];
+        for (negative, digits, exponent, text) in rows {
+            let number = decimal(&rt, rt.alloc(), negative, digits, exponent)?;
+            let found = plain_number(rt.alloc(), &number)?;
+            assert_eq!(rt; found.as_str(), text);
+        }
+        Ok(())
+    }
+}
