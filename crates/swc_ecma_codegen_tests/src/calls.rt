@@ -154,17 +154,11 @@ fn script_bytes(alloc: Global, script: &Script) -> Result<Vec<u8>, Error> {
 /// The bytes of a statement, and then of an expression, by the functions that say how they read.
 fn bytes_that_read(alloc: Global, stmt: &Stmt, expr: &Expr) -> Result<Vec<u8>, Error> {
     new_emitter_reads();
-    let mut wr = JsWriter::new(alloc, &NoSource, "\n", Vec::new(alloc), None);
-    let mut emitter = Emitter::new(
-        alloc,
-        settings(true),
-        &NoSource,
-        None::<CommentMaps>,
-        &mut wr,
-    );
+    let wr = JsWriter::new(alloc, &NoSource, "\n", Vec::new(alloc), None);
+    let mut emitter = Emitter::new(alloc, settings(true), &NoSource, None::<CommentMaps>, wr);
     emitted_stmt_reads(stmt, &mut emitter)?;
     emitted_expr_reads(expr, &mut emitter)?;
-    Ok(wr.into_inner())
+    Ok(emitter.wr.into_inner())
 }
 
 /// What an expression tells those above it: `--a`.
