@@ -6,6 +6,10 @@ mod calls;
 #[cfg(test)]
 mod faults;
 #[cfg(test)]
+mod nestings;
+#[cfg(test)]
 mod rows;
+#[cfg(test)]
+mod sweep;
 #[cfg(test)]
 mod trees;
