@@ -7,6 +7,7 @@ pub mod comments;
 mod gaps;
 pub mod kinds;
 pub mod mapper;
+mod names;
 mod numerals;
 mod punctuation;
 pub mod reader;

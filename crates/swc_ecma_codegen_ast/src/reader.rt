@@ -11,11 +11,12 @@ ghost use Rattle.swc_ecma_codegen_ast.specs.Reading as reading;
 use crate::characters::{is_digit, is_part};
 use crate::gaps::skip;
 use crate::kinds::{Kind, TemplatePart};
+use crate::names::{is_name, is_private_name, is_word};
 use crate::numerals::{is_big_integer, is_number};
 use crate::punctuation::is_punctuator;
 use crate::shapes::{
-    begins, is_hashbang, is_jsx_name, is_jsx_open, is_jsx_string, is_jsx_text, is_name,
-    is_private_name, is_regex, is_same, is_string, is_template, is_template_rest, is_word,
+    begins, is_hashbang, is_jsx_name, is_jsx_open, is_jsx_string, is_jsx_text, is_regex, is_same,
+    is_string, is_template, is_template_rest,
 };
 use std::alloc::{AllocError, Global};
 

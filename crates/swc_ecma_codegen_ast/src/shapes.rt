@@ -2,7 +2,6 @@
 
 ghost use Rattle.std.specs.Prelude.{◌≡◌};
 ghost use Rattle.swc_ecma_codegen_ast.specs.Chars as chars;
-ghost use Rattle.swc_ecma_codegen_ast.specs.Names as names;
 ghost use Rattle.swc_ecma_codegen_ast.specs.Texts as texts;
 ghost use Rattle.swc_ecma_codegen_ast.specs.Strings as strings;
 ghost use Rattle.swc_ecma_codegen_ast.specs.RegularExpressions as regexes;
@@ -12,6 +11,7 @@ ghost use Rattle.swc_ecma_codegen_ast.specs.Hashbangs as hashbangs;
 
 use crate::characters::{is_line_end, is_part, is_quote, is_start};
 use crate::kinds::TemplatePart;
+use crate::names::all_part;
 
 /// Whether one text is another.
 #[tactic(auto, unfolding(crate::specs::Texts::is_same))]
@@ -38,46 +38,6 @@ pub fn begins(front: &[char], text: &[char]) -> bool
             [] => false,
             [d, more @ ..] => *c == *d && begins(rest, more),
         },
-    }
-}
-
-#[tactic(auto, unfolding(crate::specs::Names::all_part))]
-fn all_part(text: &[char]) -> bool
-    ensures { result ≡ names.all_part text.now }
-{
-    match text {
-        [] => true,
-        [c, rest @ ..] => is_part(*c) && all_part(rest),
-    }
-}
-
-/// A word of the grammar. ECMA-262, section 12.7.2.
-#[tactic(auto, unfolding(crate::specs::Names::is_word))]
-pub fn is_word(text: &[char]) -> bool
-    ensures { result ≡ names.is_word text.now }
-{
-    match text {
-        [] => false,
-        [c, rest @ ..] => is_start(*c) && all_part(rest),
-    }
-}
-
-/// A name. Section 12.7.
-#[tactic(auto, unfolding(crate::specs::Names::is_name))]
-pub fn is_name(text: &[char]) -> bool
-    ensures { result ≡ names.is_name text.now }
-{
-    is_word(text)
-}
-
-/// A private name. Section 12.7.
-#[tactic(auto, unfolding(crate::specs::Names::is_private_name))]
-pub fn is_private_name(text: &[char]) -> bool
-    ensures { result ≡ names.is_private_name text.now }
-{
-    match text {
-        [] => false,
-        [c, rest @ ..] => *c == '#' && is_name(rest),
     }
 }
 

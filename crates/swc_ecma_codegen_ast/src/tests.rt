@@ -74,6 +74,12 @@ fn texts_read_as_their_tokens(rt: HostRuntime) -> Result<(), AllocError> {
         ("a<! --b+c;", "npppnpnp", "a¦<¦!¦--¦b¦+¦c¦;¦"),
         ("+ +a*b;\n", "ppnpnp", "+¦+¦a¦*¦b¦;¦"),
         ("typeof\u{e9}in_", "n", "typeof\u{e9}in_¦"),
+        (
+            "\\u0061b\\u{63}.\\u{0000065}",
+            "npn",
+            "\\u0061b\\u{63}¦.¦\\u{0000065}¦",
+        ),
+        ("#\\u{1d4ab}x", "#", "#\\u{1d4ab}x¦"),
         ("this.$[\u{e9}]", "wpnpnp", "this¦.¦$¦[¦\u{e9}¦]¦"),
         ("a?.5:b", "np0pn", "a¦?¦.5¦:¦b¦"),
         ("a?.b", "npn", "a¦?.¦b¦"),
@@ -123,6 +129,14 @@ fn texts_without_a_reading(rt: HostRuntime) -> Result<(), AllocError> {
         ("a\n#!x", "n!"),
         ("<a> {b}", "pj>{np"),
         ("'a\nb'", "s"),
+        ("\\u006", "n"),
+        ("\\u{}", "n"),
+        ("\\u{110000}", "n"),
+        ("\\u{61", "n"),
+        ("\\u0030", "n"),
+        ("a\\x61", "n"),
+        ("\\ud83d\\ude00", "n"),
+        ("\\u0074his", "w"),
         ("/* a", "p"),
     ];
     for (text, letters) in rows {

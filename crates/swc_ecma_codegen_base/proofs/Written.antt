@@ -8,7 +8,7 @@ use Rattle.swc_ecma_codegen_ast.specs.declared.kinds.Kind.{Kind}
 use Rattle.swc_ecma_codegen_ast.specs.declared.kinds.Kind.TheVariants.{Word, Name, Punctuator}
 use Rattle.swc_ecma_codegen_ast.specs.Tokens as lexical
 use Rattle.swc_ecma_codegen_ast.specs.Tokens.{has_shape, token_of}
-use Rattle.swc_ecma_codegen_ast.specs.Names.{is_word, is_name}
+use Rattle.swc_ecma_codegen_ast.specs.Names.{is_word, is_name, name_rest}
 use Rattle.swc_ecma_codegen_ast.specs.Punctuators.{is_punctuator, punctuators}
 use Rattle.swc_ecma_codegen_ast.specs.Texts.{is_same, is_among}
 use Rattle.swc_ecma_codegen_ast.specs.Chars.{is_blank}
@@ -240,7 +240,7 @@ spelled_word t u h = record {
 }
 
 pub spelled_name : (t : List ℕ) → is_utf8 t ≡ true → is_name (chars t) ≡ true → Spelled Name t
-unfolding spelling has_shape is_child is_hashbang_kind last_after allows is_word is_name
+unfolding spelling has_shape is_child is_hashbang_kind last_after allows is_word is_name name_rest
 spelled_name t u h = record {
   utf8 = IsUtf8-from_is_utf8 t u;
   same = refl;
