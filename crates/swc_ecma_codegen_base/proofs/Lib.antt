@@ -6,3 +6,4 @@ pub mod Fusing
 pub mod Written
 pub mod Printed
 pub mod Phrased
+pub mod SoFar

@@ -12,15 +12,15 @@ use Rattle.swc_ecma_codegen_ast.specs.Names.{is_word, is_name}
 use Rattle.swc_ecma_codegen_ast.specs.Punctuators.{is_punctuator, punctuators}
 use Rattle.swc_ecma_codegen_ast.specs.Texts.{is_same, is_among}
 use Rattle.swc_ecma_codegen_ast.specs.Chars.{is_blank}
-use Rattle.swc_ecma_codegen_ast.specs.Trivia.{Blank, Piece, is_piece, piece_text, pieces_text, all_pieces, remarks_of}
+use Rattle.swc_ecma_codegen_ast.specs.Trivia.{Blank, is_piece, piece_text, pieces_text, all_pieces, remarks_of}
 use Rattle.swc_ecma_codegen_ast.specs.Reads.{is_child, is_hashbang_kind}
-use Rattle.swc_ecma_codegen_ast.specs.GapRules.{Last, Start, Apart, WordEnd, IntegerEnd, Mark, LessBang, Whole, TextEnd, TagNameEnd, LineEnd, fuses, allows, mark_after, last_after, last_after_gap, holds_child, MayBegin}
+use Rattle.swc_ecma_codegen_ast.specs.GapRules.{Last, Start, Apart, Mark, LessBang, fuses, allows, mark_after, last_after, last_after_gap, holds_child}
 use Rattle.swc_ecma_codegen_ast.specs.Parts as parts
 use Rattle.swc_ecma_codegen_ast.specs.Parts.{Gap, Own, tokens_of, remarks_in, NoneFuse}
 use Rattle.swc_ecma_codegen_ast.proofs.Reading.{blank_fuses}
 use Rattle.swc_ecma_codegen_text_writer.specs.Sheet.{Sheet, Space, Line, appended, indented, started, written, ended, effect}
-use Rattle.swc_ecma_codegen_text_writer.proofs.Sheets.{written_same, written_indentation, ended_same, ended_indentation}
-use Rattle.swc_ecma_codegen_base.specs.Run.{State, Step, Guard, Token, Plain, Remake, put, spelling}
+use Rattle.swc_ecma_codegen_text_writer.proofs.Sheets.{written_same, written_indentation}
+use Rattle.swc_ecma_codegen_base.specs.Run.{State, Guard, put, spelling}
 use Rattle.swc_ecma_codegen_base.specs.Written.{IsLineEnd, is_free, AtRest}
 
 -- From one state to another these tokens were written, and blanks between them: parts in which no two fuse, by bytes
@@ -36,19 +36,19 @@ pub record Lays (ts : List lexical.Token) (a b : State) : Type 0 where
   pub apart : (more : List parts.Part) → NoneFuse b.last more → NoneFuse a.last (out ++ more)
   pub rest : AtRest b
 
-text_append : (xs ys : List parts.Part) → parts.text_of (xs ++ ys) ≡ parts.text_of xs ++ parts.text_of ys
+pub text_append : (xs ys : List parts.Part) → parts.text_of (xs ++ ys) ≡ parts.text_of xs ++ parts.text_of ys
 unfolding parts.text_of
 text_append [] ys = refl
 text_append (Gap ps ∷ xs) ys = ap (λ z. pieces_text ps ++ z) (text_append xs ys) ∙ sym (append_assoc (pieces_text ps) (parts.text_of xs) (parts.text_of ys))
 text_append (Own x t ∷ xs) ys = ap (λ z. t ++ z) (text_append xs ys) ∙ sym (append_assoc t (parts.text_of xs) (parts.text_of ys))
 
-tokens_append : (xs ys : List parts.Part) → tokens_of (xs ++ ys) ≡ tokens_of xs ++ tokens_of ys
+pub tokens_append : (xs ys : List parts.Part) → tokens_of (xs ++ ys) ≡ tokens_of xs ++ tokens_of ys
 unfolding tokens_of
 tokens_append [] ys = refl
 tokens_append (Gap ps ∷ xs) ys = tokens_append xs ys
 tokens_append (Own x t ∷ xs) ys = ap (λ z. token_of x t ∷ z) (tokens_append xs ys)
 
-remarks_append : (xs ys : List parts.Part) → remarks_in (xs ++ ys) ≡ remarks_in xs ++ remarks_in ys
+pub remarks_append : (xs ys : List parts.Part) → remarks_in (xs ++ ys) ≡ remarks_in xs ++ remarks_in ys
 unfolding remarks_in
 remarks_append [] ys = refl
 remarks_append (Gap ps ∷ xs) ys = ap (λ z. remarks_of ps ++ z) (remarks_append xs ys) ∙ sym (append_assoc (remarks_of ps) (remarks_in xs) (remarks_in ys))

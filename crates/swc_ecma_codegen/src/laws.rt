@@ -1,20 +1,30 @@
+//! Laws for callers. Each is the contract of a function that does nothing, or no more than call what it speaks of, and
+//! takes no memory: a proof cites the function, and a program has no need to call it.
+//!
 //! What is printed of a well-formed tree reads back as the tree's tokens, by longest match: `a < !--b` isn't printed as
 //! the start of a comment, nor `a - -b` as a decrement.
 
-ghost use Rattle.std.specs.Prelude.{◌≡◌, ℕ, true, List, OnOk};
+ghost use Rattle.std.specs.Prelude.{◌≡◌, ℕ, true, List, ◌∷◌, OnOk};
 ghost use Rattle.swc_ecma_codegen_util.specs.declared.config.Config.{Config};
+ghost use Rattle.swc_ecma_codegen_ast.specs.Tokens.{Token};
+ghost use Rattle.swc_ecma_codegen_ast.specs.Phrases.{Generates};
 ghost use Rattle.swc_ecma_codegen_ast.specs.TreePhrases.{expr_phrase, stmt_phrase, is_well_formed_expr, is_well_formed_stmt};
 ghost use Rattle.swc_ecma_codegen_text_writer.specs.View.{new_sheet};
 ghost use Rattle.swc_ecma_codegen_base.specs.Run.{start};
 ghost use Rattle.swc_ecma_codegen_base.specs.Written.{IsLineEnd, IsNew, AddsReading};
+ghost use Rattle.swc_ecma_codegen.specs.FirstTokens.{joins_a_word};
 ghost use Rattle.swc_ecma_codegen.specs.View.{state_of};
 
 use crate::emitter::Emitter;
 use crate::node::Node;
 use swc_ecma_codegen_ast::comments::Comments;
 use swc_ecma_codegen_ast::mapper::SourceMapper;
+pub use swc_ecma_codegen_ast::reading_laws::{
+    one_reading, reduced_tokens_read, spaced_tokens_read,
+};
 use swc_ecma_codegen_text_writer::WriteJs;
 use swc_ecma_codegen_tree::{Expr, Result, Stmt};
+use swc_ecma_codegen_util::util::StartsWithAlphaNum;
 
 /// What `emit_with` of an expression adds to the text reads as one of the expression's token lists.
 #[tactic(auto, using(crate::proofs::TreeReads::expr_reads))]
@@ -43,3 +53,12 @@ pub fn emitted_stmt_reads<W: WriteJs, S: SourceMapper, C: Comments>(
 pub fn new_emitter_reads()
     ensures { (config : Config) (bytes line_end : List ℕ) → IsLineEnd line_end → IsNew (start config (new_sheet bytes line_end)) }
 {}
+
+/// Where an expression of a well-formed tree begins with a word, a name or a number, by the first token of a list that
+/// syntax gives it, `starts_with_alpha_num` is true: of `a + b`, `typeof a` and `this.a`, but not only of these.
+#[tactic(auto, using(crate::proofs::FirstTokens::first_told))]
+pub fn first_token_is_told(expr: &Expr) -> bool
+    ensures { (first : Token) (rest : List Token) → is_well_formed_expr expr.now ≡ true → Generates (expr_phrase expr.now) (first ∷ rest) → joins_a_word first.kind ≡ true → result ≡ true }
+{
+    expr.starts_with_alpha_num()
+}
