@@ -8,3 +8,4 @@ pub mod ListParts
 pub mod TreeLaw
 pub mod TreeReads
 pub mod FirstTokens
+pub mod Backslashes

@@ -4,14 +4,16 @@
 //! What is printed of a well-formed tree reads back as the tree's tokens, by longest match: `a < !--b` isn't printed as
 //! the start of a comment, nor `a - -b` as a decrement.
 
-ghost use Rattle.std.specs.Prelude.{◌≡◌, ℕ, true, List, ◌∷◌, OnOk};
+ghost use Rattle.std.specs.Prelude.{◌≡◌, ℕ, true, false, List, ◌∷◌, OnOk};
 ghost use Rattle.swc_ecma_codegen_util.specs.declared.config.Config.{Config};
 ghost use Rattle.swc_ecma_codegen_ast.specs.Tokens.{Token};
 ghost use Rattle.swc_ecma_codegen_ast.specs.Phrases.{Generates};
 ghost use Rattle.swc_ecma_codegen_ast.specs.TreePhrases.{expr_phrase, stmt_phrase, is_well_formed_expr, is_well_formed_stmt};
 ghost use Rattle.swc_ecma_codegen_text_writer.specs.View.{new_sheet};
-ghost use Rattle.swc_ecma_codegen_base.specs.Run.{start};
+ghost use Rattle.swc_ecma_codegen_base.specs.Run.{State, remakes_name, start, steps_in, steps_of};
 ghost use Rattle.swc_ecma_codegen_base.specs.Written.{IsLineEnd, IsNew, AddsReading};
+ghost use Rattle.swc_ecma_codegen.specs.Backslashes.{root_backslash};
+ghost use Rattle.swc_ecma_codegen.specs.Roots.{Root, root_items};
 ghost use Rattle.swc_ecma_codegen.specs.FirstTokens.{joins_a_word};
 ghost use Rattle.swc_ecma_codegen.specs.View.{state_of};
 
@@ -62,3 +64,10 @@ pub fn first_token_is_told(expr: &Expr) -> bool
 {
     expr.starts_with_alpha_num()
 }
+
+/// Among the steps of an emission of a tree in which no name holds a backslash no name is made anew: what the clauses
+/// `cause` and `succeeds` of `emit_with` ask of memory is met, over a writer that takes none.
+#[tactic(auto, using(crate::proofs::Backslashes::no_name_made))]
+pub fn plain_names_take_no_memory()
+    ensures { (root : Root) (s : State) → root_backslash root ≡ false → remakes_name (steps_of (steps_in (root_items root) s)) ≡ false }
+{}

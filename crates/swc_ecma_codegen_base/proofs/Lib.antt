@@ -7,3 +7,4 @@ pub mod Written
 pub mod Printed
 pub mod Phrased
 pub mod SoFar
+pub mod Unmade
