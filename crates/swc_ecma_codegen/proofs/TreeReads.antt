@@ -17,7 +17,7 @@ use Rattle.swc_ecma_codegen_ast.proofs.TreeLaws.{phrase_expr, phrase_stmt, is_we
 use Rattle.swc_ecma_codegen_util.specs.declared.config.Config.{Config}
 use Rattle.swc_ecma_codegen_text_writer.specs.View.{new_sheet}
 use Rattle.swc_ecma_codegen_base.specs.Run.{Env, Part, State, nothing, Follows, start}
-use Rattle.swc_ecma_codegen_base.specs.Written.{IsLineEnd, IsNew, AddsReading}
+use Rattle.swc_ecma_codegen_base.specs.Written.{IsLineEnd, IsNew, AddsReading, all_indent, is_indent}
 use Rattle.swc_ecma_codegen_base.proofs.Phrased.{Prints, printed_reads}
 use Rattle.swc_ecma_codegen.specs.declared.nodes.Place.{Place}
 use Rattle.swc_ecma_codegen.specs.declared.nodes.Place.TheVariants.{Plain}
@@ -77,4 +77,8 @@ pub root_reads : (n : Root) (p : Part) (a b : State) (r : Result (Unit {0}) Erro
 root_reads n p a b r same w s h = printed_reads p (root_phrase n) a b r s (subst (λ z. Prints a.env z (root_phrase n)) (sym same) (root_law a.env s.leaves_out n w)) h
 
 pub new_is_new : (config : Config) (bytes line_end : List ℕ) → IsLineEnd line_end → IsNew (start config (new_sheet bytes line_end))
-new_is_new config bytes line_end h = record { nothing_written = refl; level = refl; line_end = h; leaves_out = refl }
+unfolding all_indent is_indent
+new_is_new config bytes line_end h = record { nothing_written = refl; indent_text = refl; line_end = h; leaves_out = refl }
+
+pub indented_is_new : (config : Config) (bytes line_end indent : List ℕ) → IsLineEnd line_end → all_indent indent ≡ true → IsNew (start config (record (new_sheet bytes line_end) { indent_text = indent }))
+indented_is_new config bytes line_end indent h k = record { nothing_written = refl; indent_text = k; line_end = h; leaves_out = refl }

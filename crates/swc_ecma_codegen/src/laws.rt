@@ -11,7 +11,7 @@ ghost use Rattle.swc_ecma_codegen_ast.specs.Phrases.{Generates};
 ghost use Rattle.swc_ecma_codegen_ast.specs.TreePhrases.{expr_phrase, stmt_phrase, is_well_formed_expr, is_well_formed_stmt};
 ghost use Rattle.swc_ecma_codegen_text_writer.specs.View.{new_sheet};
 ghost use Rattle.swc_ecma_codegen_base.specs.Run.{State, remakes_name, start, steps_in, steps_of};
-ghost use Rattle.swc_ecma_codegen_base.specs.Written.{IsLineEnd, IsNew, AddsReading};
+ghost use Rattle.swc_ecma_codegen_base.specs.Written.{IsLineEnd, IsNew, AddsReading, all_indent};
 ghost use Rattle.swc_ecma_codegen.specs.Backslashes.{root_backslash};
 ghost use Rattle.swc_ecma_codegen.specs.Roots.{Root, root_items};
 ghost use Rattle.swc_ecma_codegen.specs.FirstTokens.{joins_a_word};
@@ -50,10 +50,11 @@ pub fn emitted_stmt_reads<W: WriteJs, S: SourceMapper, C: Comments>(
     stmt.emit_with(e)
 }
 
-/// A new emitter over a new `JsWriter`, whose lines end with LF or with CR and LF, is one that these laws speak of.
-#[tactic(auto, using(crate::proofs::TreeReads::new_is_new))]
+/// A new emitter over a new `JsWriter`, whose lines end with LF or with CR and LF, is one that these laws speak of; and
+/// after `set_indent_str` of blanks and tabs.
 pub fn new_emitter_reads()
-    ensures { (config : Config) (bytes line_end : List ℕ) → IsLineEnd line_end → IsNew (start config (new_sheet bytes line_end)) }
+    ensures new { (config : Config) (bytes line_end : List ℕ) → IsLineEnd line_end → IsNew (start config (new_sheet bytes line_end)) }
+    ensures indented { (config : Config) (bytes line_end indent : List ℕ) → IsLineEnd line_end → all_indent indent ≡ true → IsNew (start config (record (new_sheet bytes line_end) { indent_text = indent })) }
 {}
 
 /// Where an expression of a well-formed tree begins with a word, a name or a number, by the first token of a list that

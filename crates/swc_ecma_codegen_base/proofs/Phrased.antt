@@ -150,7 +150,7 @@ steps_of_chain (x ∷ xs) = ap (λ z. x ∷ z) (steps_of_chain xs)
 pub new_at_rest : (a : State) → IsNew a → AtRest a
 unfolding is_free allows
 new_at_rest a n = record {
-  level = n.level;
+  indent_text = n.indent_text;
   line_end = n.line_end;
   free = λ e. ap is_free n.nothing_written;
   allowed = λ t. ap (λ k. allows k t) n.nothing_written;

@@ -1,5 +1,5 @@
 -- What a sheet is like, whose text can be read back.
-use Rattle.std.specs.Prelude.{◌≡◌, ◌⊎◌, ℕ, Bool, true, false, if◌then◌else◌, List, [], ◌∷◌, ◌++◌, codes}
+use Rattle.std.specs.Prelude.{◌≡◌, ◌⊎◌, ℕ, Bool, true, false, if◌then◌else◌, List, [], ◌∷◌, ◌++◌, ◌==◌, ◌||◌, ◌&&◌, codes}
 use Rattle.std.specs.Str.{chars, is_utf8, IsUtf8}
 use Rattle.swc_ecma_codegen_ast.specs.Tokens.{Token, punctuator, name}
 use Rattle.swc_ecma_codegen_ast.specs.Names.{is_word, name_value}
@@ -15,23 +15,32 @@ use Rattle.swc_ecma_codegen_base.specs.Run.{State}
 abbrev pub IsLineEnd : List ℕ → Type 0
 IsLineEnd t = (t ≡ 10 ∷ []) ⊎ (t ≡ 13 ∷ 10 ∷ [])
 
+-- a text of blanks and tabs
+unfoldable pub is_indent : ℕ → Bool
+is_indent c = (c == 32) || (c == 9)
+
+unfoldable pub all_indent : List ℕ → Bool
+all_indent [] = true
+all_indent (c ∷ cs) = is_indent c && all_indent cs
+
 -- no token stands before: nothing does, or a blank or a line end
 unfoldable pub is_free : Last → Bool
 is_free Start = true
 is_free Apart = true
 is_free last = false
 
--- Between two steps of a text that can be read back: lines are not indented, and any token may come next.
+-- Between two steps of a text that can be read back: lines are indented by blanks or tabs, and any token may come next.
 pub record AtRest (s : State) : Type 0 where
-  pub level : s.sheet.indentation ≡ 0
+  pub indent_text : all_indent s.sheet.indent_text ≡ true
   pub line_end : IsLineEnd s.sheet.line_end
   pub free : s.sheet.at_line_start ≡ true → is_free s.last ≡ true
   pub allowed : (t : List ℕ) → allows s.last t ≡ true
 
--- An emission begins: no token was written, lines aren't indented, and U+0000 after a backslash is left out of names.
+-- An emission begins: no token was written, lines are indented by blanks or tabs, and U+0000 after a backslash is left out
+-- of names.
 pub record IsNew (s : State) : Type 0 where
   pub nothing_written : s.last ≡ Start
-  pub level : s.sheet.indentation ≡ 0
+  pub indent_text : all_indent s.sheet.indent_text ≡ true
   pub line_end : IsLineEnd s.sheet.line_end
   pub leaves_out : s.env.keeps_invalid ≡ false
 
