@@ -2,21 +2,22 @@
 use Rattle.std.proofs.Common.{◌≡◌, ℕ, Bool, true, false, cond, List, [], ◌∷◌, ◌++◌, codes, sym, ap, ◌∙◌, subst, append_assoc, append-nil, Option, Ok}
 use Rattle.std.specs.Str.{chars}
 use Rattle.std.proofs.lemmas.Str.{chars-nil, chars-append, IsUtf8-nil, IsUtf8-append}
+use Rattle.swc_ecma_codegen_tree.specs.declared.positions.BytePos.{BytePos}
 use Rattle.swc_ecma_codegen_tree.specs.declared.positions.Span.{Span}
 use Rattle.swc_ecma_codegen_ast.specs.Tokens as lexical
 use Rattle.swc_ecma_codegen_ast.specs.Tokens.{token_of, value_of}
 use Rattle.swc_ecma_codegen_ast.specs.Reads.{Reads}
 use Rattle.swc_ecma_codegen_ast.specs.Parts as parts
 use Rattle.swc_ecma_codegen_ast.specs.Parts.{NoneFuse, tokens_of, remarks_in}
-use Rattle.swc_ecma_codegen_ast.specs.Phrases.{Nothing, One, Generates, ◌>◌, mark}
+use Rattle.swc_ecma_codegen_ast.specs.Phrases.{Phrase, Nothing, One, Generates, ◌>◌, mark}
 use Rattle.swc_ecma_codegen_ast.specs.NamePhrases.{name_phrase, is_well_formed_name}
 use Rattle.swc_ecma_codegen_ast.proofs.Reading.{reads}
 use Rattle.swc_ecma_codegen_base.specs.Run.{Part, State, steps_of, run, nothing, Follows, Emits}
-use Rattle.swc_ecma_codegen_base.specs.Words.{keyword, operator, word_operator, punct, semi, name}
-use Rattle.swc_ecma_codegen_base.specs.Written.{IsNew, IsWord, IsMark, ReadsSoFar, name_tokens}
+use Rattle.swc_ecma_codegen_base.specs.Words.{keyword, operator, word_operator, punct, semi, name, space, formatting_space, line_end, formatting_line, commit_pending_semi, position, position_before, leading_comments, trailing_comments}
+use Rattle.swc_ecma_codegen_base.specs.Written.{IsNew, IsWord, IsMark, ReadsSoFar, AddsReading, name_tokens}
 use Rattle.swc_ecma_codegen_base.proofs.Emitting.{emits_nothing}
 use Rattle.swc_ecma_codegen_base.proofs.Written.{Lays, text_append, tokens_append, remarks_append}
-use Rattle.swc_ecma_codegen_base.proofs.Printed.{Writes}
+use Rattle.swc_ecma_codegen_base.proofs.Printed.{Writes, writes_space, writes_formatting_space, writes_line, writes_formatting_line, writes_commit, writes_position, writes_position_before, writes_leading, writes_trailing}
 use Rattle.swc_ecma_codegen_base.proofs.Phrased.{Prints, steps_of_chain, new_at_rest, prints_keyword, prints_operator, prints_word_operator, prints_punct, prints_semi, prints_ident}
 
 -- what was laid since
@@ -92,3 +93,45 @@ new_so_far s n = record {
   reads = λ more f. subst (λ z. Reads (z ++ parts.text_of more) (tokens_of more) (remarks_in more)) (sym chars-nil) (reads more (subst (λ k. NoneFuse k more) n.nothing_written f));
   rest = new_at_rest s n;
 }
+
+-- where nothing follows
+pub so_far_reads : (f : Phrase) (old : List ℕ) (tokens : List lexical.Token) (s : State) → Generates f tokens → ReadsSoFar old tokens s → AddsReading f old s.sheet.text
+unfolding NoneFuse parts.text_of tokens_of remarks_in
+so_far_reads f old tokens s g h = record {
+  added = h.added;
+  is_added = h.is_added;
+  tokens = tokens;
+  is_list = g;
+  reads = subst (λ z. Reads (chars h.added) z []) (append-nil tokens) (subst (λ z. Reads z (tokens ++ []) []) (append-nil (chars h.added)) (h.reads [] (h.rest.allowed [])));
+}
+
+-- a part that writes no token
+gap_so_far : (part : Part) (old : List ℕ) (tokens : List lexical.Token) (a b : State) → Writes a.env part [] → Emits part a b (Ok tt) → ReadsSoFar old tokens a → ReadsSoFar old tokens b
+gap_so_far part old tokens a b w e h = subst (λ z. ReadsSoFar old z b) (append-nil tokens) (emitted_so_far part old tokens [] a b w e h)
+
+pub space_so_far : (old : List ℕ) (tokens : List lexical.Token) (a b : State) → Emits space a b (Ok tt) → ReadsSoFar old tokens a → ReadsSoFar old tokens b
+space_so_far old tokens a b e h = gap_so_far space old tokens a b (writes_space a.env) e h
+
+pub formatting_space_so_far : (old : List ℕ) (tokens : List lexical.Token) (a b : State) → Emits formatting_space a b (Ok tt) → ReadsSoFar old tokens a → ReadsSoFar old tokens b
+formatting_space_so_far old tokens a b e h = gap_so_far formatting_space old tokens a b (writes_formatting_space a.env) e h
+
+pub line_so_far : (old : List ℕ) (tokens : List lexical.Token) (a b : State) → Emits line_end a b (Ok tt) → ReadsSoFar old tokens a → ReadsSoFar old tokens b
+line_so_far old tokens a b e h = gap_so_far line_end old tokens a b (writes_line a.env) e h
+
+pub formatting_line_so_far : (old : List ℕ) (tokens : List lexical.Token) (a b : State) → Emits formatting_line a b (Ok tt) → ReadsSoFar old tokens a → ReadsSoFar old tokens b
+formatting_line_so_far old tokens a b e h = gap_so_far formatting_line old tokens a b (writes_formatting_line a.env) e h
+
+pub commit_so_far : (old : List ℕ) (tokens : List lexical.Token) (a b : State) → Emits commit_pending_semi a b (Ok tt) → ReadsSoFar old tokens a → ReadsSoFar old tokens b
+commit_so_far old tokens a b e h = gap_so_far commit_pending_semi old tokens a b (writes_commit a.env) e h
+
+pub position_so_far : (pos : BytePos) (old : List ℕ) (tokens : List lexical.Token) (a b : State) → Emits (position pos) a b (Ok tt) → ReadsSoFar old tokens a → ReadsSoFar old tokens b
+position_so_far pos old tokens a b e h = gap_so_far (position pos) old tokens a b (writes_position a.env pos) e h
+
+pub position_before_so_far : (pos : BytePos) (old : List ℕ) (tokens : List lexical.Token) (a b : State) → Emits (position_before pos) a b (Ok tt) → ReadsSoFar old tokens a → ReadsSoFar old tokens b
+position_before_so_far pos old tokens a b e h = gap_so_far (position_before pos) old tokens a b (writes_position_before a.env pos) e h
+
+pub leading_so_far : (pos : BytePos) (old : List ℕ) (tokens : List lexical.Token) (a b : State) → Emits (leading_comments pos) a b (Ok tt) → ReadsSoFar old tokens a → ReadsSoFar old tokens b
+leading_so_far pos old tokens a b e h = gap_so_far (leading_comments pos) old tokens a b (writes_leading a.env pos) e h
+
+pub trailing_so_far : (prefix : Bool) (pos : BytePos) (old : List ℕ) (tokens : List lexical.Token) (a b : State) → Emits (trailing_comments prefix pos) a b (Ok tt) → ReadsSoFar old tokens a → ReadsSoFar old tokens b
+trailing_so_far prefix pos old tokens a b e h = gap_so_far (trailing_comments prefix pos) old tokens a b (writes_trailing a.env prefix pos) e h
