@@ -1,7 +1,6 @@
 -- What each word of an expression writes is one of the token lists of its production.
-use Rattle.std.proofs.Common.{◌≡◌, ℕ, Bool, true, false, cond, List, [], ◌∷◌, ◌==◌, ◌-◌, ◌&&◌, map, codes, refl, sym, ap, ◌∙◌, Some, None, string_bytes}
+use Rattle.std.proofs.Common.{◌≡◌, ℕ, Bool, true, false, cond, List, [], ◌==◌, ◌-◌, codes, refl, Some, None, string_bytes}
 use Rattle.std.specs.Str.{chars, is_utf8}
-use Rattle.std.proofs.lemmas.Bool.{and_parts}
 use Rattle.swc_ecma_codegen_tree.specs.declared.positions.BytePos.{BytePos}
 use Rattle.swc_ecma_codegen_tree.specs.declared.positions.Span.{Span}
 use Rattle.swc_ecma_codegen_tree.specs.declared.idents.Ident.{Ident}
@@ -28,14 +27,15 @@ use Rattle.swc_ecma_codegen_ast.specs.Chars.{is_start, is_part, is_letter, is_di
 use Rattle.swc_ecma_codegen_ast.specs.Names.{is_word, all_part}
 use Rattle.swc_ecma_codegen_ast.specs.Punctuators.{is_punctuator, punctuators}
 use Rattle.swc_ecma_codegen_ast.specs.Texts.{is_same, is_among}
-use Rattle.swc_ecma_codegen_ast.specs.Phrases.{Phrase, Nothing, Then, ◌>◌, mark, word}
+use Rattle.swc_ecma_codegen_ast.specs.Phrases.{Phrase, ◌>◌, mark}
 use Rattle.swc_ecma_codegen_ast.specs.NamePhrases as names
 use Rattle.swc_ecma_codegen_ast.specs.ExprPhrases as lists
 use Rattle.swc_ecma_codegen_ast.specs.WellFormedExprs.{well_ident, well_ident_name}
-use Rattle.swc_ecma_codegen_base.specs.Run.{Env, Plan, Part}
-use Rattle.swc_ecma_codegen_base.specs.Words.{keyword, operator, word_operator, punct, space, formatting_space, commit_pending_semi, position, position_before, start_of, end_of, last_of, leading_comments, trailing_comments, name}
+use Rattle.swc_ecma_codegen_base.specs.Run.{Env, Part}
+use Rattle.swc_ecma_codegen_base.specs.Words.{keyword, operator, punct, space, formatting_space, commit_pending_semi, position, position_before, leading_comments, trailing_comments}
 use Rattle.swc_ecma_codegen_base.proofs.Printed.{Writes, writes_then, writes_if, writes_nothing, writes_space, writes_formatting_space, writes_commit, writes_position, writes_position_before, writes_leading, writes_trailing}
-use Rattle.swc_ecma_codegen_base.proofs.Phrased.{Prints, IsWord, IsMark, prints_then, prints_before, prints_after, prints_nothing, prints_keyword, prints_word_operator, prints_operator, prints_punct, prints_ident, prints_name}
+use Rattle.swc_ecma_codegen_base.specs.Written.{IsWord, IsMark}
+use Rattle.swc_ecma_codegen_base.proofs.Phrased.{Prints, prints_then, prints_before, prints_after, prints_keyword, prints_word_operator, prints_operator, prints_punct, prints_ident, prints_name}
 use Rattle.swc_ecma_codegen.specs.declared.nodes.Place.{Place}
 use Rattle.swc_ecma_codegen.specs.declared.nodes.Place.TheVariants.{Plain, LeftOperand}
 use Rattle.swc_ecma_codegen.specs.Answers.{Answers}

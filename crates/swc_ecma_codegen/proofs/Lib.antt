@@ -1,9 +1,11 @@
 pub mod KindLaws
 pub mod SpaceLaws
-pub mod Laws
+pub mod Knots
 pub mod Steps
 pub mod Asked
 pub mod ExprParts
 pub mod ListParts
 pub mod TreeLaw
 pub mod TreeReads
+pub mod FirstTokens
+pub mod Backslashes

@@ -1,5 +1,5 @@
 -- What lists, statements and programs write is one of the token lists of their productions.
-use Rattle.std.proofs.Common.{◌≡◌, ℕ, Bool, true, false, cond, List, [], ◌∷◌, ◌&&◌, map, codes, refl, sym, ap, ◌∙◌, inl, inr}
+use Rattle.std.proofs.Common.{◌≡◌, Bool, true, false, List, [], ◌∷◌, ◌&&◌, map, codes, refl, inl, inr}
 use Rattle.std.specs.Str.{chars, is_utf8}
 use Rattle.std.proofs.lemmas.Bool.{and_parts, cases_Bool}
 use Rattle.swc_ecma_codegen_tree.specs.declared.positions.Span.{Span}
@@ -14,10 +14,11 @@ use Rattle.swc_ecma_codegen_ast.specs.Phrases as phrases
 use Rattle.swc_ecma_codegen_ast.specs.Phrases.{Phrase, Nothing, Then, ◌>◌, mark}
 use Rattle.swc_ecma_codegen_ast.specs.StmtPhrases as lists
 use Rattle.swc_ecma_codegen_ast.specs.WellFormedExprs.{all_well, is_some_list}
-use Rattle.swc_ecma_codegen_base.specs.Run.{Env, Plan, Part}
-use Rattle.swc_ecma_codegen_base.specs.Words.{punct, semi, formatting_space, formatting_line, commit_pending_semi, position, leading_comments, trailing_comments}
+use Rattle.swc_ecma_codegen_base.specs.Run.{Env, Part}
+use Rattle.swc_ecma_codegen_base.specs.Words.{punct, semi, formatting_space, formatting_line, commit_pending_semi, leading_comments, trailing_comments}
+use Rattle.swc_ecma_codegen_base.specs.Written.{IsMark}
 use Rattle.swc_ecma_codegen_base.proofs.Printed.{Writes, writes_then, writes_same, writes_nothing, writes_formatting_space, writes_formatting_line, writes_commit, writes_position, writes_leading, writes_trailing}
-use Rattle.swc_ecma_codegen_base.proofs.Phrased.{Prints, IsMark, prints_then, prints_before, prints_after, prints_nothing, prints_punct, prints_semi}
+use Rattle.swc_ecma_codegen_base.proofs.Phrased.{Prints, prints_then, prints_before, prints_after, prints_nothing, prints_punct, prints_semi}
 use Rattle.swc_ecma_codegen.specs.declared.nodes.Place.{Place}
 use Rattle.swc_ecma_codegen.specs.declared.nodes.Place.TheVariants.{Plain}
 use Rattle.swc_ecma_codegen.specs.Lists.{comma, listed, in_order}

@@ -7,10 +7,9 @@ use Rattle.swc_ecma_codegen_tree.specs.declared.exprs.Expr.{Expr}
 use Rattle.swc_ecma_codegen_tree.specs.declared.exprs.Expr.TheVariants as exprs
 use Rattle.swc_ecma_codegen_tree.specs.declared.exprs.MemberExpr.{MemberExpr}
 use Rattle.swc_ecma_codegen_tree.specs.declared.stmts.Stmt.{Stmt}
-use Rattle.swc_ecma_codegen_tree.specs.declared.stmts.Stmt.TheVariants as stmts
-use Rattle.swc_ecma_codegen_tree.specs.declared.links.AnyNode.TheFolds.{para-AnyNode, para-roll-AnyNode}
+use Rattle.swc_ecma_codegen_tree.specs.declared.links.AnyNode.TheFolds.{para-roll-AnyNode}
 use Rattle.swc_ecma_codegen_tree.specs.declared.operators.BinaryOp.{BinaryOp}
-use Rattle.swc_ecma_codegen.specs.Operands.{any_kind, expr_space, update_space, bang_space, node_space, any_space}
+use Rattle.swc_ecma_codegen.specs.Operands.{any_kind, expr_space, update_space, node_space, any_space}
 
 -- one layer of a node, with what its links hold and what is known of that
 known_of : AnyNode-F AnyNode → AnyNode-F (AnyNode × (BinaryOp → Bool))

@@ -1,5 +1,5 @@
 -- The next of a list.
-use Rattle.std.proofs.Common.{◌≡◌, ℕ, ◌+◌, ◌<◌, Bool, false, List, length, get_or, drop, refl, ◌∙◌, ap, drop-cons, add-one, arith}
+use Rattle.std.proofs.Common.{◌≡◌, ℕ, ◌+◌, ◌<◌, Bool, false, List, length, get_or, drop, refl, ◌∙◌, ap, drop-cons, add-one}
 use Rattle.swc_ecma_codegen_base.specs.Run.{Plan, Part}
 use Rattle.swc_ecma_codegen.specs.Lists.{comma, listed, in_order}
 

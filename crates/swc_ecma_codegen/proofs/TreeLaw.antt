@@ -1,8 +1,7 @@
 -- What is written of a well-formed tree is one of its token lists.
-use Rattle.std.proofs.Common.{◌≡◌, ℕ, Bool, true, false, List, [], ◌∷◌, ◌&&◌, map, codes, refl, sym, ◌∙◌, subst, Result, OnOk}
+use Rattle.std.proofs.Common.{◌≡◌, true, false, ◌&&◌, sym, ◌∙◌, subst}
 use Rattle.std.proofs.lemmas.Bool.{and_parts}
 use denote.Hole.Holds.{Such}
-use Rattle.swc_ecma_codegen_tree.specs.declared.errors.Error.{Error}
 use Rattle.swc_ecma_codegen_tree.specs.declared.positions.Span.{Span}
 use Rattle.swc_ecma_codegen_tree.specs.declared.links.AnyNode.{AnyNode, AnyNode-F, ind-AnyNode, map-AnyNode, roll-AnyNode}
 use Rattle.swc_ecma_codegen_tree.specs.declared.links.AnyNode.TheOpen as nodes
@@ -17,30 +16,24 @@ use Rattle.swc_ecma_codegen_tree.specs.declared.exprs.MemberProp.{MemberProp}
 use Rattle.swc_ecma_codegen_tree.specs.declared.exprs.MemberProp.TheVariants as member_props
 use Rattle.swc_ecma_codegen_tree.specs.declared.stmts.Stmt.{Stmt}
 use Rattle.swc_ecma_codegen_tree.specs.declared.stmts.Stmt.TheVariants as stmts
-use Rattle.swc_ecma_codegen_tree.specs.declared.programs.Program.{Program}
-use Rattle.swc_ecma_codegen_tree.specs.declared.programs.Program.TheVariants as program_variants
-use Rattle.swc_ecma_codegen_tree.specs.declared.programs.Script.{Script}
-use Rattle.swc_ecma_codegen_ast.specs.Phrases as phrases
 use Rattle.swc_ecma_codegen_ast.specs.Phrases.{Phrase}
 use Rattle.swc_ecma_codegen_ast.specs.ExprPhrases as expr_lists
 use Rattle.swc_ecma_codegen_ast.specs.StmtPhrases as stmt_lists
-use Rattle.swc_ecma_codegen_ast.specs.TreePhrases.{node_phrase, phrase, well_node, is_well, is_sort, expr_phrase, stmt_phrase, program_phrase, is_well_formed_expr, is_well_formed_stmt, is_well_formed}
-use Rattle.swc_ecma_codegen_ast.specs.WellFormedExprs.{Sort, ExprSort, StmtSort, MemberExprSort, all_well, is_some_list, well_expr_at, well_expr, well_unary_expr, well_update_expr, well_bin_expr, well_computed_prop_name, well_member_prop, well_member_expr, well_cond_expr, well_seq_expr, well_paren_expr, well_ident, well_ident_name}
-use Rattle.swc_ecma_codegen_ast.specs.WellFormedStmts.{well_stmt, well_expr_stmt, well_stmt_at, well_script, well_program}
+use Rattle.swc_ecma_codegen_ast.specs.TreePhrases.{node_phrase, phrase, well_node, is_well, is_sort}
+use Rattle.swc_ecma_codegen_ast.specs.WellFormedExprs.{Sort, ExprSort, StmtSort, MemberExprSort, well_expr_at, well_expr, well_unary_expr, well_update_expr, well_bin_expr, well_computed_prop_name, well_member_prop, well_member_expr, well_cond_expr, well_seq_expr, well_paren_expr, well_ident, well_ident_name}
+use Rattle.swc_ecma_codegen_ast.specs.WellFormedStmts.{well_stmt, well_expr_stmt}
 use Rattle.swc_ecma_codegen_ast.proofs.TreeLaws.{phrase_expr, phrase_stmt, phrase_member_expr, is_well_expr, is_well_stmt, is_well_member_expr}
-use Rattle.swc_ecma_codegen_base.specs.Run.{Env, Plan, Part, State, nothing, Follows}
-use Rattle.swc_ecma_codegen_base.specs.Written.{IsNew, AddsReading}
-use Rattle.swc_ecma_codegen_base.proofs.Phrased.{Prints, prints_before, prints_after, prints_same, printed_reads}
+use Rattle.swc_ecma_codegen_base.specs.Run.{Env, Part}
+use Rattle.swc_ecma_codegen_base.proofs.Phrased.{Prints, prints_before}
 use Rattle.swc_ecma_codegen.specs.declared.nodes.Place.{Place}
 use Rattle.swc_ecma_codegen.specs.declared.nodes.Place.TheVariants.{Plain, LeftOperand}
 use Rattle.swc_ecma_codegen.specs.Answers.{any_answers}
 use Rattle.swc_ecma_codegen.specs.Exprs as words
 use Rattle.swc_ecma_codegen.specs.Stmts as stmt_words
-use Rattle.swc_ecma_codegen.specs.Programs as programs
 use Rattle.swc_ecma_codegen.specs.Tree.{node_items, any_items}
-use Rattle.swc_ecma_codegen.proofs.Laws.{any_items_expr, any_items_stmt, any_items_member_expr}
+use Rattle.swc_ecma_codegen.proofs.Knots.{any_items_expr, any_items_stmt, any_items_member_expr}
 use Rattle.swc_ecma_codegen.proofs.ExprParts.{this_prints, ident_prints, unary_prints, update_prints, bin_prints, computed_prints, dot_prints, member_prints, cond_prints, paren_prints, closed_prints, writes_opened}
-use Rattle.swc_ecma_codegen.proofs.ListParts.{listed_prints, in_order_prints, empty_prints, expr_stmt_prints, stmt_prints, script_prints}
+use Rattle.swc_ecma_codegen.proofs.ListParts.{listed_prints, empty_prints, expr_stmt_prints, stmt_prints}
 
 abbrev Law : Env → AnyNode → Type 0
 Law env n = (place : Place) (sort : Sort) → is_well n sort ≡ true → Prints env (any_items n place) (phrase n)

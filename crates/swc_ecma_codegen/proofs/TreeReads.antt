@@ -1,5 +1,5 @@
 -- What an emission of a well-formed tree adds to a text reads as one of the tree's token lists.
-use Rattle.std.proofs.Common.{◌≡◌, ℕ, true, false, List, refl, ◌∙◌, subst, Result, OnOk}
+use Rattle.std.proofs.Common.{◌≡◌, ℕ, true, false, List, refl, sym, ◌∙◌, subst, Result, OnOk}
 use Rattle.swc_ecma_codegen_tree.specs.declared.errors.Error.{Error}
 use Rattle.swc_ecma_codegen_tree.specs.declared.links.AnyNode.{AnyNode}
 use Rattle.swc_ecma_codegen_tree.specs.declared.links.AnyNode.TheVariants as whole
@@ -17,7 +17,7 @@ use Rattle.swc_ecma_codegen_ast.proofs.TreeLaws.{phrase_expr, phrase_stmt, is_we
 use Rattle.swc_ecma_codegen_util.specs.declared.config.Config.{Config}
 use Rattle.swc_ecma_codegen_text_writer.specs.View.{new_sheet}
 use Rattle.swc_ecma_codegen_base.specs.Run.{Env, Part, State, nothing, Follows, start}
-use Rattle.swc_ecma_codegen_base.specs.Written.{IsLineEnd, IsNew, AddsReading}
+use Rattle.swc_ecma_codegen_base.specs.Written.{IsLineEnd, IsNew, AddsReading, all_indent, is_indent}
 use Rattle.swc_ecma_codegen_base.proofs.Phrased.{Prints, printed_reads}
 use Rattle.swc_ecma_codegen.specs.declared.nodes.Place.{Place}
 use Rattle.swc_ecma_codegen.specs.declared.nodes.Place.TheVariants.{Plain}
@@ -26,7 +26,8 @@ use Rattle.swc_ecma_codegen.specs.Exprs as words
 use Rattle.swc_ecma_codegen.specs.Stmts as stmt_words
 use Rattle.swc_ecma_codegen.specs.Programs as programs
 use Rattle.swc_ecma_codegen.specs.Tree.{any_items}
-use Rattle.swc_ecma_codegen.proofs.Laws.{any_items_expr, any_items_stmt}
+use Rattle.swc_ecma_codegen.specs.Roots.{Root, OfExpr, OfStmt, OfScript, OfProgram, OfLink, root_items, root_phrase, is_well_formed_root}
+use Rattle.swc_ecma_codegen.proofs.Knots.{any_items_expr, any_items_stmt}
 use Rattle.swc_ecma_codegen.proofs.ListParts.{in_order_prints, script_prints}
 use Rattle.swc_ecma_codegen.proofs.TreeLaw.{prints}
 
@@ -64,5 +65,20 @@ script_reads n a b r w s h = printed_reads (programs.script any_items n) (progra
 pub program_reads : (n : Program AnyNode) (a b : State) (r : Result (Unit {0}) Error) → is_well_formed n ≡ true → IsNew a → Follows (programs.program any_items n nothing) a b r → OnOk r (AddsReading (program_phrase n) a.sheet.text b.sheet.text)
 program_reads n a b r w s h = printed_reads (programs.program any_items n) (program_phrase n) a b r s (program_law a.env s.leaves_out n w) h
 
+root_law : (env : Env) → env.keeps_invalid ≡ false → (n : Root) → is_well_formed_root n ≡ true → Prints env (root_items n) (root_phrase n)
+root_law env e (OfExpr n) w = expr_law env e n Plain w
+root_law env e (OfStmt n) w = stmt_law env e n w
+root_law env e (OfScript n) w = script_law env e n w
+root_law env e (OfProgram n) w = program_law env e n w
+root_law env e (OfLink n sort) w = prints env e n Plain sort w
+
+-- whatever the root is, and whatever refers to it
+pub root_reads : (n : Root) (p : Part) (a b : State) (r : Result (Unit {0}) Error) → p ≡ root_items n → is_well_formed_root n ≡ true → IsNew a → Follows (p nothing) a b r → OnOk r (AddsReading (root_phrase n) a.sheet.text b.sheet.text)
+root_reads n p a b r same w s h = printed_reads p (root_phrase n) a b r s (subst (λ z. Prints a.env z (root_phrase n)) (sym same) (root_law a.env s.leaves_out n w)) h
+
 pub new_is_new : (config : Config) (bytes line_end : List ℕ) → IsLineEnd line_end → IsNew (start config (new_sheet bytes line_end))
-new_is_new config bytes line_end h = record { nothing_written = refl; level = refl; line_end = h; leaves_out = refl }
+unfolding all_indent is_indent
+new_is_new config bytes line_end h = record { nothing_written = refl; indent_text = refl; line_end = h; leaves_out = refl }
+
+pub indented_is_new : (config : Config) (bytes line_end indent : List ℕ) → IsLineEnd line_end → all_indent indent ≡ true → IsNew (start config (record (new_sheet bytes line_end) { indent_text = indent }))
+indented_is_new config bytes line_end indent h k = record { nothing_written = refl; indent_text = k; line_end = h; leaves_out = refl }

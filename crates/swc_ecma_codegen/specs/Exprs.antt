@@ -1,6 +1,6 @@
 -- What is written of each expression. A word is generic in what a link holds, X. It takes what is known of that:
 -- `asks` says what it answers, `items` what is written of it, where its parent puts it.
-use Rattle.std.specs.Prelude.{ℕ, ◌-◌, ◌==◌, Bool, true, false, if◌then◌else◌, List, codes, Option, Some, None, string_bytes}
+use Rattle.std.specs.Prelude.{◌-◌, ◌==◌, Bool, true, false, if◌then◌else◌, codes, Some, None, string_bytes}
 use Rattle.swc_ecma_codegen_tree.specs.declared.positions.BytePos.{BytePos}
 use Rattle.swc_ecma_codegen_tree.specs.declared.positions.Span.{Span}
 use Rattle.swc_ecma_codegen_tree.specs.declared.idents.Ident.{Ident}

@@ -7,3 +7,6 @@ pub mod Stmts
 pub mod Programs
 pub mod Tree
 pub mod Texts
+pub mod Roots
+pub mod FirstTokens
+pub mod Backslashes

@@ -12,7 +12,6 @@ use Rattle.swc_ecma_codegen_tree.specs.declared.operators.UpdateOp.{UpdateOp}
 use Rattle.swc_ecma_codegen_tree.specs.declared.operators.UpdateOp.TheVariants as update
 use Rattle.swc_ecma_codegen_tree.specs.declared.exprs.Expr.{Expr}
 use Rattle.swc_ecma_codegen_tree.specs.declared.exprs.Expr.TheVariants as exprs
-use Rattle.swc_ecma_codegen_tree.specs.declared.exprs.UnaryExpr.{UnaryExpr}
 use Rattle.swc_ecma_codegen_tree.specs.declared.exprs.UpdateExpr.{UpdateExpr}
 use Rattle.swc_ecma_codegen.specs.declared.operands.OperandKind.{OperandKind}
 use Rattle.swc_ecma_codegen.specs.declared.operands.OperandKind.TheVariants as kinds

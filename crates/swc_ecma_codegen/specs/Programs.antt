@@ -1,5 +1,5 @@
 -- What is written of a whole program.
-use Rattle.std.specs.Prelude.{Bool, true, if◌then◌else◌, List, [], ◌∷◌}
+use Rattle.std.specs.Prelude.{true, if◌then◌else◌, List, [], ◌∷◌}
 use Rattle.swc_ecma_codegen_tree.specs.declared.positions.Span.{Span}
 use Rattle.swc_ecma_codegen_tree.specs.declared.links.StmtBox.{StmtBox}
 use Rattle.swc_ecma_codegen_tree.specs.declared.programs.Script.{Script}

@@ -60,7 +60,7 @@ impl Asked for AnyNode {}
 impl EmitAt for AnyNode {
     ghost items = { any_items };
 
-    #[tactic(auto, using(crate::proofs::Laws::any_items_expr, crate::proofs::Laws::any_items_stmt, crate::proofs::Laws::any_items_member_expr))]
+    #[tactic(auto, using(crate::proofs::Knots::any_items_expr, crate::proofs::Knots::any_items_stmt, crate::proofs::Knots::any_items_member_expr))]
     fn emit_at<W: WriteJs, S: SourceMapper, C: Comments>(
         &self,
         e: &mut Emitter<'_, W, S, C>,

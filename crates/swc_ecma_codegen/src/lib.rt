@@ -5,11 +5,11 @@ mod code;
 mod emitter;
 mod expr;
 mod knot;
+pub mod laws;
 mod lists;
 mod node;
 pub mod nodes;
 pub mod operands;
-pub mod reading_laws;
 mod stmt;
 mod tokens;
 

@@ -1,9 +1,12 @@
 //! Whatever can be printed.
 
-ghost use Rattle.std.specs.Prelude.{◌≡◌, true, IfErr, OnErr, OnOk, Err, IsOk};
+ghost use Rattle.std.specs.Prelude.{◌≡◌, ◌≢◌, true, false, IfErr, OnErr, OnOk, Err, IsOk};
 ghost use Rattle.swc_ecma_codegen_text_writer.specs.Told.{IsFront};
 ghost use Rattle.swc_ecma_codegen_base.specs.Run.{Part, Follows, HasCause, IsUnhindered, nothing, printed, steps_in};
+ghost use Rattle.swc_ecma_codegen_base.specs.Written.{IsNew, AddsReading};
 ghost use Rattle.swc_ecma_codegen.specs.View.{state_of};
+ghost use Rattle.swc_ecma_codegen.specs.Roots.{Root, root_items, root_phrase, is_well_formed_root};
+ghost use Rattle.swc_ecma_codegen.specs.Backslashes.{root_backslash};
 ghost use Rattle.swc_ecma_codegen.specs.Lists.{if_some_at};
 ghost use Rattle.swc_ecma_codegen.specs.declared.nodes.Place.TheVariants.{Plain};
 
@@ -25,10 +28,14 @@ pub trait Node: Spanned {
     ) -> Result
         // The steps of the tree are made, and it comes to no node that can't be printed; or it halts.
         ensures items { Follows (part self.now nothing) (state_of W.sheet e.old) (state_of W.sheet e.new) result }
+        // What a new emitter adds to the text, of a well-formed tree, reads as one of the tree's token lists.
+        ensures reads { (root : Root) → part self.now ≡ root_items root → is_well_formed_root root ≡ true → IsNew (state_of W.sheet e.old) → OnOk result (AddsReading (root_phrase root) (W.sheet e.old.wr).text (W.sheet e.new.wr).text) }
         // What is out is a beginning of the text of these steps.
         ensures front { IsFront (W.sheet e.new.wr).text (printed (part self.now) (state_of W.sheet e.old)).sheet.text }
         // It is refused only for the cause that the error names.
         ensures cause { IfErr result (λ error. HasCause (steps_in (part self.now) (state_of W.sheet e.old)) error (state_of W.sheet e.old) (state_of W.sheet e.new)) }
+        // Where no name holds a backslash, and no call of the writer takes memory, none is wanting.
+        ensures no_memory { (root : Root) → part self.now ≡ root_items root → root_backslash root ≡ false → (W.sheet e.old.wr).takes_memory ≡ false → result ≢ Err Error.OutOfMemory }
         // Where nothing stands in its way, it is made.
         ensures succeeds { IsUnhindered (steps_in (part self.now) (state_of W.sheet e.old)) (state_of W.sheet e.old) (state_of W.sheet e.new) → IsOk result }
         ensures marked { OnErr result ((state_of W.sheet e.new).failed ≡ true) }
@@ -40,6 +47,7 @@ pub trait Node: Spanned {
 impl<T: EmitAt + Spanned> Node for T {
     ghost part = { λ n. T.items n Plain };
 
+    #[tactic(auto, using(crate::proofs::TreeReads::root_reads))]
     fn emit_with<W: WriteJs, S: SourceMapper, C: Comments>(
         &self,
         e: &mut Emitter<'_, W, S, C>,

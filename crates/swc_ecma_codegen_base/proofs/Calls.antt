@@ -1,8 +1,7 @@
 -- Calls of a writer, as steps of an emission.
-use Rattle.std.proofs.Common.{◌≡◌, ◌-◌, ◌+◌, true, false, cond, [], ◌∷◌, List, ℕ, Result, Ok, Err, OnOk, OnErr, None, refl, sym, ◌∙◌, ap, subst, Bool}
+use Rattle.std.proofs.Common.{◌≡◌, true, false, cond, [], ◌∷◌, List, ℕ, Result, Ok, Err, OnOk, OnErr, refl, sym, ◌∙◌, ap, subst, Bool}
 use Rattle.std.specs.Str.{chars}
 use Rattle.swc_ecma_codegen_tree.specs.declared.errors.Error.{Error}
-use Rattle.swc_ecma_codegen_tree.specs.declared.errors.Error.TheVariants.{Failed}
 use Rattle.swc_ecma_codegen_util.specs.declared.config.Config.{Config}
 use Rattle.swc_ecma_codegen_ast.specs.declared.kinds.Kind.{Kind}
 use Rattle.swc_ecma_codegen_ast.specs.GapRules as rules
@@ -12,8 +11,8 @@ use Rattle.swc_ecma_codegen_base.specs.declared.LowerEmitter.{LowerEmitter}
 use Rattle.swc_ecma_codegen_base.specs.declared.guard.Last.{Last}
 use Rattle.swc_ecma_codegen_base.specs.declared.guard.Last.TheVariants as last
 use Rattle.swc_ecma_codegen_base.specs.Last.{last_at}
-use Rattle.swc_ecma_codegen_base.specs.View.{env_of, state_of}
-use Rattle.swc_ecma_codegen_base.specs.Run.{Plan, Part, when_minified, no_part, State, Step, Guard, Token, Plain, IsRefused, Follows, Emits, put, step, text_of, after_token, after_plain}
+use Rattle.swc_ecma_codegen_base.specs.View.{state_of}
+use Rattle.swc_ecma_codegen_base.specs.Run.{Part, when_minified, no_part, State, Step, Guard, Token, Plain, IsRefused, Emits, put, step, text_of, after_token, after_plain}
 use Rattle.swc_ecma_codegen_base.proofs.Emitting.{emits_step, emits_refused, follows_same, minified_same, pretty_same}
 
 -- ---- what no call changes

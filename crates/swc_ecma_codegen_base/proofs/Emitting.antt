@@ -1,12 +1,12 @@
 -- Steps that are made, and steps that are refused.
-use Rattle.std.proofs.Common.{◌≡◌, ◌⊎◌, true, false, cond, [], ◌∷◌, List, ℕ, Result, Ok, Err, None, refl, sym, ◌∙◌, ap, subst}
+use Rattle.std.proofs.Common.{◌≡◌, true, false, cond, [], ◌∷◌, Result, Ok, Err, None, refl, sym, ◌∙◌, ap, subst}
 use Rattle.std.specs.Str.{chars}
 use Rattle.swc_ecma_codegen_tree.specs.declared.errors.Error.{Error}
 use Rattle.swc_ecma_codegen_tree.specs.declared.errors.Error.TheVariants.{Failed}
 use Rattle.swc_ecma_codegen_ast.specs.GapRules.{fuses, Apart}
-use Rattle.swc_ecma_codegen_text_writer.specs.Sheet.{Item, Space, Sheet, effect, Writes, Refuses}
+use Rattle.swc_ecma_codegen_text_writer.specs.Sheet.{Space, effect}
 use Rattle.swc_ecma_codegen_base.specs.declared.refusals.Refusal.{Refusal}
-use Rattle.swc_ecma_codegen_base.specs.Run.{Env, Plan, Part, State, Step, Guard, Token, Plain, Steps, next, IsRefused, Halts, earlier, stopped, reached, Follows, Emits, run, steps_of, error_of, refusal_of, put, step, refuse, nothing, when_minified, no_part}
+use Rattle.swc_ecma_codegen_base.specs.Run.{Env, Plan, Part, State, Step, Guard, Token, Plain, Steps, next, IsRefused, Halts, earlier, stopped, reached, Follows, run, steps_of, error_of, refusal_of, put, step, refuse, nothing, when_minified}
 
 -- an earlier refusal is not forgotten
 pub put_failed : (x : Step) (s : State) → (put x s).failed ≡ s.failed

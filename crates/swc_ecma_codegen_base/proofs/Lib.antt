@@ -3,6 +3,9 @@ pub mod Calls
 pub mod Spelled
 pub mod Fronts
 pub mod Fusing
+pub mod Indented
 pub mod Written
 pub mod Printed
 pub mod Phrased
+pub mod SoFar
+pub mod Unmade

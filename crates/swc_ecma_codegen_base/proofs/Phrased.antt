@@ -1,5 +1,5 @@
 -- What each word writes is one of the token lists of a phrase.
-use Rattle.std.proofs.Common.{◌≡◌, ℕ, Bool, true, false, cond, List, [], ◌∷◌, ◌++◌, ◌&&◌, ◌==◌, codes, refl, sym, ap, ◌∙◌, subst, append-nil, Option, Some, None, Result, Ok, Err, OnOk}
+use Rattle.std.proofs.Common.{◌≡◌, ℕ, Bool, true, false, cond, List, [], ◌∷◌, ◌++◌, ◌&&◌, ◌==◌, codes, refl, sym, ap, ◌∙◌, subst, append-nil, Option, Result, Ok, Err, OnOk}
 use Rattle.std.specs.Str.{chars, is_utf8}
 use Rattle.std.proofs.lemmas.Bool.{and_parts}
 use Rattle.swc_ecma_codegen_tree.specs.declared.errors.Error.{Error}
@@ -12,17 +12,16 @@ use Rattle.swc_ecma_codegen_ast.specs.Punctuators.{is_punctuator, punctuators}
 use Rattle.swc_ecma_codegen_ast.specs.Texts.{is_same, is_among}
 use Rattle.swc_ecma_codegen_ast.specs.Reads.{Reads}
 use Rattle.swc_ecma_codegen_ast.specs.GapRules.{Start, allows}
-use Rattle.swc_ecma_codegen_ast.specs.Parts as parts
 use Rattle.swc_ecma_codegen_ast.specs.Parts.{NoneFuse, tokens_of, remarks_in}
 use Rattle.swc_ecma_codegen_ast.specs.Phrases.{Phrase, Nothing, One, Then, Generates, ◌>◌, mark}
 use Rattle.swc_ecma_codegen_ast.specs.Phrases as phrases
 use Rattle.swc_ecma_codegen_ast.specs.NamePhrases as names
 use Rattle.swc_ecma_codegen_ast.specs.NamePhrases.{name_phrase, is_well_formed_name}
 use Rattle.swc_ecma_codegen_ast.proofs.Reading.{reads}
-use Rattle.swc_ecma_codegen_literals.specs.ValidNames.{turned, turned_after}
-use Rattle.swc_ecma_codegen_base.specs.Run.{Env, Plan, Part, State, Step, Steps, done, next, steps_of, run, nothing, spelling, Follows}
+use Rattle.swc_ecma_codegen_literals.specs.ValidNames.{turned_after}
+use Rattle.swc_ecma_codegen_base.specs.Run.{Env, Plan, Part, State, Step, done, steps_of, run, nothing, spelling, Follows}
 use Rattle.swc_ecma_codegen_base.specs.Words.{keyword, operator, word_operator, punct, semi, commit_pending_semi, leading_comments, name_text, question, name}
-use Rattle.swc_ecma_codegen_base.specs.Written.{AtRest, is_free, IsNew, AddsReading}
+use Rattle.swc_ecma_codegen_base.specs.Written.{AtRest, is_free, IsNew, AddsReading, IsWord, IsMark}
 use Rattle.swc_ecma_codegen_base.proofs.Written.{Lays, Spelled, spelled_word, spelled_name, spelled_mark}
 use Rattle.swc_ecma_codegen_base.proofs.Printed.{chain, Writes, writes_then, writes_same, writes_nothing, writes_keyword, writes_operator, writes_word_operator, writes_punct, writes_semi, writes_commit, writes_leading, writes_name_text}
 
@@ -64,17 +63,6 @@ unfolding Generates
 prints_one env p x h = record { tokens = x ∷ []; generated = refl; writes = h }
 
 -- ---- words and punctuators, which are ASCII
-
--- a word, and a punctuator
-pub record IsWord (t : List ℕ) : Type 0 where
-  pub utf8 : is_utf8 t ≡ true
-  pub ascii : chars t ≡ t
-  pub shape : is_word t ≡ true
-
-pub record IsMark (t : List ℕ) : Type 0 where
-  pub utf8 : is_utf8 t ≡ true
-  pub ascii : chars t ≡ t
-  pub shape : is_punctuator t ≡ true
 
 word_spelled : (t : List ℕ) → IsWord t → Spelled Word t
 word_spelled t w = spelled_word t w.utf8 (ap is_word w.ascii ∙ w.shape)
@@ -154,15 +142,15 @@ prints_name env span bytes e w =
 
 -- ---- what an emission adds reads
 
-steps_of_chain : (xs : List Step) → steps_of (chain xs done) ≡ xs
+pub steps_of_chain : (xs : List Step) → steps_of (chain xs done) ≡ xs
 unfolding steps_of chain
 steps_of_chain [] = refl
 steps_of_chain (x ∷ xs) = ap (λ z. x ∷ z) (steps_of_chain xs)
 
-new_at_rest : (a : State) → IsNew a → AtRest a
+pub new_at_rest : (a : State) → IsNew a → AtRest a
 unfolding is_free allows
 new_at_rest a n = record {
-  level = n.level;
+  indent_text = n.indent_text;
   line_end = n.line_end;
   free = λ e. ap is_free n.nothing_written;
   allowed = λ t. ap (λ k. allows k t) n.nothing_written;

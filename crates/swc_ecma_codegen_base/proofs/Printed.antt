@@ -1,29 +1,21 @@
 -- What each word writes, whatever comes after it.
-use Rattle.std.proofs.Common.{◌≡◌, ℕ, Bool, true, false, cond, List, [], ◌∷◌, ◌++◌, ◌&&◌, ◌==◌, codes, refl, sym, ap, ◌∙◌, subst, append_assoc, append-nil, inl, inr, Option, Some, None}
-use Rattle.std.specs.Str.{chars, is_utf8}
-use Rattle.std.proofs.lemmas.Bool.{cases_Bool, and_parts}
+use Rattle.std.proofs.Common.{◌≡◌, ℕ, Bool, true, false, cond, List, [], ◌∷◌, ◌++◌, ◌==◌, codes, refl, sym, ap, ◌∙◌, subst, inl, inr, Option, None}
+use Rattle.std.proofs.lemmas.Bool.{cases_Bool}
 use Rattle.swc_ecma_codegen_tree.specs.declared.positions.BytePos.{BytePos}
 use Rattle.swc_ecma_codegen_tree.specs.declared.positions.Span.{Span}
 use Rattle.swc_ecma_codegen_tree.specs.Spans.{dummy_span}
 use Rattle.swc_ecma_codegen_ast.specs.declared.kinds.Kind.TheVariants.{Word, Name, Punctuator}
 use Rattle.swc_ecma_codegen_ast.specs.Tokens as lexical
 use Rattle.swc_ecma_codegen_ast.specs.Tokens.{token_of, value_of}
-use Rattle.swc_ecma_codegen_ast.specs.Names.{is_word, is_name, name_value}
-use Rattle.swc_ecma_codegen_ast.specs.Punctuators.{is_punctuator, punctuators}
-use Rattle.swc_ecma_codegen_ast.specs.Texts.{is_same, is_among}
-use Rattle.swc_ecma_codegen_ast.specs.Phrases.{Phrase, Nothing, One, Then, Generates, ◌>◌, mark}
-use Rattle.swc_ecma_codegen_ast.specs.Phrases as phrases
-use Rattle.swc_ecma_codegen_ast.specs.NamePhrases as names
-use Rattle.swc_ecma_codegen_ast.specs.NamePhrases.{name_phrase, is_well_formed_name}
 use Rattle.swc_ecma_codegen_text_writer.specs.Sheet.{Semi, Space, Keyword, Operator, Line, Symbol, Punct, Position, Commit, effect}
-use Rattle.swc_ecma_codegen_literals.specs.ValidNames.{turned, turned_after}
+use Rattle.swc_ecma_codegen_literals.specs.ValidNames.{turned}
 use Rattle.swc_ecma_codegen_base.specs.Run.{Env, Plan, Part, State, Step, Guard, Token, Plain, Remake, Steps, next, put, run, step, spelling, text_of, after_token, after_plain, when_minified, no_part}
-use Rattle.swc_ecma_codegen_base.specs.Words.{keyword, operator, word_operator, punct, semi, space, formatting_space, line_end, formatting_line, commit_pending_semi, position, position_before, start_of, leading_comments, trailing_comments, symbol, valid_symbol, name_text, question, name}
+use Rattle.swc_ecma_codegen_base.specs.Words.{keyword, operator, word_operator, punct, semi, space, formatting_space, line_end, formatting_line, commit_pending_semi, position, position_before, start_of, leading_comments, trailing_comments, symbol, valid_symbol, name_text}
 use Rattle.swc_ecma_codegen_base.specs.Written.{AtRest}
 use Rattle.swc_ecma_codegen_base.proofs.Emitting.{minified_same, pretty_same}
 use Rattle.swc_ecma_codegen_base.proofs.Fronts.{run_append}
 use Rattle.swc_ecma_codegen_base.proofs.Spelled.{valid_same}
-use Rattle.swc_ecma_codegen_base.proofs.Written.{Lays, lays_then, lays_nothing, lays_blank, lays_line, lays_guard, lays_token, Spelled, spelled_word, spelled_name, spelled_mark, own_put}
+use Rattle.swc_ecma_codegen_base.proofs.Written.{Lays, lays_then, lays_nothing, lays_blank, lays_line, lays_guard, lays_token, Spelled, own_put}
 
 -- some steps, and then more
 unfoldable pub chain : List Step → Steps → Steps

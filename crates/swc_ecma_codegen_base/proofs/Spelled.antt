@@ -4,9 +4,9 @@ use Rattle.swc_ecma_codegen_tree.specs.declared.errors.Error.{Error}
 use Rattle.swc_ecma_codegen_tree.specs.declared.errors.Error.TheVariants.{OutOfMemory}
 use Rattle.swc_ecma_codegen_tree.specs.declared.positions.Span.{Span}
 use Rattle.swc_ecma_codegen_literals.specs.ValidNames.{turned, has_byte}
-use Rattle.swc_ecma_codegen_base.specs.Run.{Env, Plan, Part, State, Remake, Follows, Emits, put, step, IsRefused}
+use Rattle.swc_ecma_codegen_base.specs.Run.{Env, Plan, State, Remake, Follows, Emits, put, IsRefused}
 use Rattle.swc_ecma_codegen_base.specs.Words.{symbol, valid_symbol, name_text}
-use Rattle.swc_ecma_codegen_base.proofs.Emitting.{emits_step, emits_refused, follows_step, follows_same}
+use Rattle.swc_ecma_codegen_base.proofs.Emitting.{emits_refused, follows_step, follows_same}
 
 -- a name whose text is made anew
 pub remade : (span : Span) (name text : List ℕ) (a b : State) (r : Result (Unit {0}) Error) → a.failed ≡ false → text ≡ turned name → Emits (symbol span text) a b r → Emits (valid_symbol span name) a b r
@@ -26,7 +26,7 @@ pub not_remade : (span : Span) (name : List ℕ) (e : Error) (a b : State) → a
 unfolding valid_symbol IsRefused
 not_remade span name e a b fresh eq h marked rest = emits_refused (Remake name) e a b fresh (marked_with a b marked) (eq, backslash (has_byte 92 name) h, ap (λ (s : State). s.sheet) marked) (symbol span (turned name) rest)
 
-lent_same : (span : Span) (name : List ℕ) (rest : Plan) (env : Env) → env.keeps_invalid ≡ true → name_text span name rest env ≡ symbol span name rest env
+pub lent_same : (span : Span) (name : List ℕ) (rest : Plan) (env : Env) → env.keeps_invalid ≡ true → name_text span name rest env ≡ symbol span name rest env
 unfolding name_text
 lent_same span name rest env h = ap (λ b. cond b (symbol span name rest env) (valid_symbol span name rest env)) h
 

@@ -2,7 +2,7 @@
 use Rattle.std.proofs.Common.{◌≡◌, ℕ, Bool, true, false, cond, List, [], ◌∷◌, ◌++◌, codes, refl, sym, ap, ◌∙◌, subst, append_assoc, append-nil, inl, inr}
 use Rattle.std.specs.List.{repeat}
 use Rattle.std.specs.Str.{chars, is_utf8, IsUtf8}
-use Rattle.std.proofs.lemmas.Bool.{true≢false}
+use Rattle.std.proofs.lemmas.Bool.{and_parts, true≢false}
 use Rattle.std.proofs.lemmas.Str.{chars-nil, chars-append, IsUtf8-nil, IsUtf8-append, IsUtf8-from_is_utf8}
 use Rattle.swc_ecma_codegen_ast.specs.declared.kinds.Kind.{Kind}
 use Rattle.swc_ecma_codegen_ast.specs.declared.kinds.Kind.TheVariants.{Word, Name, Punctuator}
@@ -12,16 +12,17 @@ use Rattle.swc_ecma_codegen_ast.specs.Names.{is_word, is_name, name_rest}
 use Rattle.swc_ecma_codegen_ast.specs.Punctuators.{is_punctuator, punctuators}
 use Rattle.swc_ecma_codegen_ast.specs.Texts.{is_same, is_among}
 use Rattle.swc_ecma_codegen_ast.specs.Chars.{is_blank}
-use Rattle.swc_ecma_codegen_ast.specs.Trivia.{Blank, Piece, is_piece, piece_text, pieces_text, all_pieces, remarks_of}
+use Rattle.swc_ecma_codegen_ast.specs.Trivia.{Blank, is_piece, piece_text, pieces_text, all_pieces, remarks_of}
 use Rattle.swc_ecma_codegen_ast.specs.Reads.{is_child, is_hashbang_kind}
-use Rattle.swc_ecma_codegen_ast.specs.GapRules.{Last, Start, Apart, WordEnd, IntegerEnd, Mark, LessBang, Whole, TextEnd, TagNameEnd, LineEnd, fuses, allows, mark_after, last_after, last_after_gap, holds_child, MayBegin}
+use Rattle.swc_ecma_codegen_ast.specs.GapRules.{Last, Start, Apart, Mark, LessBang, fuses, allows, mark_after, last_after, last_after_gap, holds_child}
 use Rattle.swc_ecma_codegen_ast.specs.Parts as parts
 use Rattle.swc_ecma_codegen_ast.specs.Parts.{Gap, Own, tokens_of, remarks_in, NoneFuse}
 use Rattle.swc_ecma_codegen_ast.proofs.Reading.{blank_fuses}
 use Rattle.swc_ecma_codegen_text_writer.specs.Sheet.{Sheet, Space, Line, appended, indented, started, written, ended, effect}
-use Rattle.swc_ecma_codegen_text_writer.proofs.Sheets.{written_same, written_indentation, ended_same, ended_indentation}
-use Rattle.swc_ecma_codegen_base.specs.Run.{State, Step, Guard, Token, Plain, Remake, put, spelling}
-use Rattle.swc_ecma_codegen_base.specs.Written.{IsLineEnd, is_free, AtRest}
+use Rattle.swc_ecma_codegen_text_writer.proofs.Sheets.{written_same}
+use Rattle.swc_ecma_codegen_base.specs.Run.{State, Guard, put, spelling}
+use Rattle.swc_ecma_codegen_base.specs.Written.{IsLineEnd, is_indent, all_indent, is_free, AtRest}
+use Rattle.swc_ecma_codegen_base.proofs.Indented.{indent_append, indent_repeat, indent_utf8, indent_chars, blanks, blanks_text, indent_blank, blanks_pieces, blanks_remarks}
 
 -- From one state to another these tokens were written, and blanks between them: parts in which no two fuse, by bytes
 -- that stand for them.
@@ -36,19 +37,19 @@ pub record Lays (ts : List lexical.Token) (a b : State) : Type 0 where
   pub apart : (more : List parts.Part) → NoneFuse b.last more → NoneFuse a.last (out ++ more)
   pub rest : AtRest b
 
-text_append : (xs ys : List parts.Part) → parts.text_of (xs ++ ys) ≡ parts.text_of xs ++ parts.text_of ys
+pub text_append : (xs ys : List parts.Part) → parts.text_of (xs ++ ys) ≡ parts.text_of xs ++ parts.text_of ys
 unfolding parts.text_of
 text_append [] ys = refl
 text_append (Gap ps ∷ xs) ys = ap (λ z. pieces_text ps ++ z) (text_append xs ys) ∙ sym (append_assoc (pieces_text ps) (parts.text_of xs) (parts.text_of ys))
 text_append (Own x t ∷ xs) ys = ap (λ z. t ++ z) (text_append xs ys) ∙ sym (append_assoc t (parts.text_of xs) (parts.text_of ys))
 
-tokens_append : (xs ys : List parts.Part) → tokens_of (xs ++ ys) ≡ tokens_of xs ++ tokens_of ys
+pub tokens_append : (xs ys : List parts.Part) → tokens_of (xs ++ ys) ≡ tokens_of xs ++ tokens_of ys
 unfolding tokens_of
 tokens_append [] ys = refl
 tokens_append (Gap ps ∷ xs) ys = tokens_append xs ys
 tokens_append (Own x t ∷ xs) ys = ap (λ z. token_of x t ∷ z) (tokens_append xs ys)
 
-remarks_append : (xs ys : List parts.Part) → remarks_in (xs ++ ys) ≡ remarks_in xs ++ remarks_in ys
+pub remarks_append : (xs ys : List parts.Part) → remarks_in (xs ++ ys) ≡ remarks_in xs ++ remarks_in ys
 unfolding remarks_in
 remarks_append [] ys = refl
 remarks_append (Gap ps ∷ xs) ys = ap (λ z. remarks_of ps ++ z) (remarks_append xs ys) ∙ sym (append_assoc (remarks_of ps) (remarks_in xs) (remarks_in ys))
@@ -83,18 +84,28 @@ lays_nothing s r = record {
   rest = r;
 }
 
--- ---- texts without indentation
+-- ---- texts, and the indentation at a line's start
 
-started_text : (s : Sheet) → s.indentation ≡ 0 → (started s).text ≡ s.text
+-- what a text is preceded by
+abbrev front_of : Bool → Sheet → List ℕ
+front_of b s = cond b (repeat s.indentation s.indent_text) []
+
+abbrev front : Sheet → List ℕ
+front s = front_of s.at_line_start s
+
+front_indent : (s : Sheet) → all_indent s.indent_text ≡ true → all_indent (front s) ≡ true
+unfolding all_indent
+front_indent s h = elim s.at_line_start as (λ b. all_indent (front_of b s) ≡ true) [ true ↦ indent_repeat s.indentation s.indent_text h | false ↦ refl ]
+
+started_text : (s : Sheet) → (started s).text ≡ s.text ++ front s
 unfolding started indented
-started_text s e =
-    elim s.at_line_start as (λ b. (cond b (record (indented s.indentation s) { at_line_start = false }) s).text ≡ s.text)
-    [ true ↦ ap (λ n. s.text ++ repeat n s.indent_text) e ∙ append-nil s.text | false ↦ refl ]
+started_text s =
+    elim s.at_line_start as (λ b. (cond b (record (indented s.indentation s) { at_line_start = false }) s).text ≡ s.text ++ front_of b s)
+    [ true ↦ refl | false ↦ sym (append-nil s.text) ]
 
-written_text : (t : List ℕ) (s : Sheet) → s.indentation ≡ 0 → (written t s).text ≡ s.text ++ t
+written_text : (c : ℕ) (cs : List ℕ) (s : Sheet) → (written (c ∷ cs) s).text ≡ s.text ++ (front s ++ c ∷ cs)
 unfolding written appended
-written_text [] s e = sym (append-nil s.text)
-written_text (c ∷ cs) s e = ap (λ z. z ++ c ∷ cs) (started_text s e)
+written_text c cs s = ap (λ z. z ++ c ∷ cs) (started_text s) ∙ append_assoc s.text (front s) (c ∷ cs)
 
 started_in_line : (b : Bool) (s : Sheet) → s.at_line_start ≡ b → (cond b (record (indented s.indentation s) { at_line_start = false }) s).at_line_start ≡ false
 started_in_line true s e = refl
@@ -106,28 +117,13 @@ in_line c cs s = started_in_line s.at_line_start s refl
 
 at_text : (c : ℕ) (cs : List ℕ) (s : State) (k : Last) → ((t : List ℕ) → allows k t ≡ true) → AtRest s → AtRest (record s { sheet = written (c ∷ cs) s.sheet; last = k })
 at_text c cs s k h r = record {
-  level = written_indentation (c ∷ cs) s.sheet ∙ r.level;
+  indent_text = subst (λ z. all_indent z ≡ true) (sym (written_same (c ∷ cs) s.sheet).indent_text) r.indent_text;
   line_end = subst (λ z. IsLineEnd z) (sym (written_same (c ∷ cs) s.sheet).line_end) r.line_end;
   free = λ e. absurd (true≢false (sym e ∙ in_line c cs s.sheet));
   allowed = h;
 }
 
 -- ---- blanks and line ends
-
--- a blank
-pub lays_blank : (s : State) → AtRest s → Lays [] s (record s { sheet = effect Space s.sheet; last = Apart })
-unfolding effect parts.text_of tokens_of remarks_in NoneFuse last_after_gap pieces_text piece_text all_pieces is_piece is_blank remarks_of allows chars is_utf8 lib.Utf8.encode
-lays_blank s r = record {
-  out = Gap (Blank 32 ∷ []) ∷ [];
-  bytes = codes " ";
-  text = written_text (codes " ") s.sheet r.level;
-  utf8 = IsUtf8-from_is_utf8 (codes " ") refl;
-  spells = refl;
-  tokens = refl;
-  remarks = refl;
-  apart = λ more n. (refl, blank_fuses s.last 32 [] refl, r.allowed (32 ∷ []), n);
-  rest = at_text 32 [] s Apart (λ t. refl) r;
-}
 
 apart_alone : (t : List ℕ) → fuses Apart t ≡ false
 unfolding fuses
@@ -158,6 +154,48 @@ free_apart Start e xs h = first_of_all xs h
 free_apart Apart e xs h = h
 free_apart k e xs h = absurd (true≢false (sym e))
 
+nothing_fuses : (k : Last) → fuses k [] ≡ false
+unfolding fuses
+nothing_fuses k = refl
+
+-- indentation before what may stand first, and nothing before what stands in a line
+after_indent : (k : Last) (u : List ℕ) (xs : List parts.Part) → all_indent u ≡ true → is_free k ≡ true → ((t : List ℕ) → allows k t ≡ true) → NoneFuse Apart xs → NoneFuse k (Gap (blanks u) ∷ xs)
+unfolding NoneFuse blanks last_after_gap pieces_text piece_text all_indent all_pieces
+after_indent k [] xs h e a n = (refl, nothing_fuses k, a [], free_apart k e xs n)
+after_indent k (c ∷ cs) xs h e a n =
+    let p = and_parts (is_indent c) (all_indent cs) h in
+    (blanks_pieces (c ∷ cs) h, blank_fuses k c (pieces_text (blanks cs)) (indent_blank c p.0), a (c ∷ pieces_text (blanks cs)), n)
+
+in_a_line : (k : Last) (xs : List parts.Part) → ((t : List ℕ) → allows k t ≡ true) → NoneFuse k xs → NoneFuse k (Gap (blanks []) ∷ xs)
+unfolding NoneFuse blanks last_after_gap pieces_text all_pieces
+in_a_line k xs a n = (refl, nothing_fuses k, a [], n)
+
+blank_apart : (k : Last) (u : List ℕ) (xs : List parts.Part) → all_indent (u ++ codes " ") ≡ true → ((t : List ℕ) → allows k t ≡ true) → NoneFuse Apart xs → NoneFuse k (Gap (blanks (u ++ codes " ")) ∷ xs)
+unfolding NoneFuse blanks last_after_gap pieces_text piece_text all_indent
+blank_apart k [] xs h a n =
+    let p = and_parts (is_indent 32) (all_indent []) h in
+    (blanks_pieces (codes " ") h, blank_fuses k 32 [] (indent_blank 32 p.0), a (codes " "), n)
+blank_apart k (c ∷ cs) xs h a n =
+    let p = and_parts (is_indent c) (all_indent (cs ++ codes " ")) h in
+    (blanks_pieces (c ∷ (cs ++ codes " ")) h, blank_fuses k c (pieces_text (blanks (cs ++ codes " "))) (indent_blank c p.0), a (c ∷ pieces_text (blanks (cs ++ codes " "))), n)
+
+-- a blank
+pub lays_blank : (s : State) → AtRest s → Lays [] s (record s { sheet = effect Space s.sheet; last = Apart })
+unfolding effect parts.text_of tokens_of remarks_in NoneFuse all_indent is_indent allows
+lays_blank s r =
+    let h : all_indent (front s.sheet ++ codes " ") ≡ true = indent_append (front s.sheet) (codes " ") (front_indent s.sheet r.indent_text) refl in
+    record {
+      out = Gap (blanks (front s.sheet ++ codes " ")) ∷ [];
+      bytes = front s.sheet ++ codes " ";
+      text = written_text 32 [] s.sheet;
+      utf8 = indent_utf8 _ h;
+      spells = indent_chars _ h ∙ sym (blanks_text _) ∙ sym (append-nil (pieces_text (blanks (front s.sheet ++ codes " "))));
+      tokens = refl;
+      remarks = append-nil (remarks_of (blanks (front s.sheet ++ codes " "))) ∙ blanks_remarks _;
+      apart = λ more n. blank_apart s.last (front s.sheet) more h r.allowed n;
+      rest = at_text 32 [] s Apart (λ t. refl) r;
+    }
+
 line_put : Bool → State → State
 line_put b s = record s { sheet = cond b s.sheet (record (appended s.sheet.line_end s.sheet) { at_line_start = true }); last = Apart }
 
@@ -167,7 +205,7 @@ apart_open t = refl
 
 line_rest : (s : State) → AtRest s → AtRest (line_put false s)
 unfolding line_put appended is_free
-line_rest s r = record { level = r.level; line_end = r.line_end; free = λ e. refl; allowed = apart_open }
+line_rest s r = record { indent_text = r.indent_text; line_end = r.line_end; free = λ e. refl; allowed = apart_open }
 
 -- a line end by its bytes
 lays_end : (s : State) → AtRest s → IsLineEnd s.sheet.line_end → Lays [] s (line_put false s)
@@ -206,7 +244,7 @@ line_case true s e r = record {
   tokens = refl;
   remarks = refl;
   apart = λ more n. free_apart s.last (r.free e) more n;
-  rest = record { level = r.level; line_end = r.line_end; free = λ z. refl; allowed = apart_open };
+  rest = record { indent_text = r.indent_text; line_end = r.line_end; free = λ z. refl; allowed = apart_open };
 }
 line_case false s e r = lays_end s r r.line_end
 
@@ -281,20 +319,43 @@ spelled_mark t u e h = record {
 unfoldable pub own_put : Kind → List ℕ → State → State
 own_put kind t s = record s { sheet = written t s.sheet; last = last_after s.last kind (spelling kind t) }
 
+free_last : (k : Last) (kind : Kind) (t : List ℕ) → is_free k ≡ true → last_after k kind t ≡ last_after Apart kind t
+unfolding is_free
+free_last Start kind t e = sym (same_after kind t)
+free_last Apart kind t e = refl
+free_last k kind t e = absurd (true≢false (sym e))
+
+-- a token, which may stand after what is there
+own_fits : (kind : Kind) (t : List ℕ) (k : Last) (more : List parts.Part) → Spelled kind t → fuses k (chars t) ≡ false → ((u : List ℕ) → allows k u ≡ true) → NoneFuse (last_after k kind (spelling kind t)) more → NoneFuse k (Own kind (spelling kind t) ∷ more)
+unfolding NoneFuse
+own_fits kind t k more p f a n = (p.shape, ap (λ z. fuses k z) (sym p.same) ∙ f, record { child = λ e. absurd (p.no_child e); first = λ e. absurd (p.no_hashbang e) }, a (spelling kind t), n)
+
+own_apart : (b : Bool) (kind : Kind) (t : List ℕ) (s : State) (more : List parts.Part) → s.sheet.at_line_start ≡ b → Spelled kind t → fuses s.last (chars t) ≡ false → AtRest s → NoneFuse (last_after s.last kind (spelling kind t)) more → NoneFuse s.last (Gap (blanks (front_of b s.sheet)) ∷ Own kind (spelling kind t) ∷ more)
+own_apart true kind t s more e p f r n =
+    let u = repeat s.sheet.indentation s.sheet.indent_text in
+    after_indent s.last u (Own kind (spelling kind t) ∷ more) (indent_repeat s.sheet.indentation s.sheet.indent_text r.indent_text) (r.free e) r.allowed
+    (own_fits kind t Apart more p (apart_alone (chars t)) apart_open (subst (λ k. NoneFuse k more) (free_last s.last kind (spelling kind t) (r.free e)) n))
+own_apart false kind t s more e p f r n = in_a_line s.last (Own kind (spelling kind t) ∷ more) r.allowed (own_fits kind t s.last more p f r.allowed n)
+
 lays_own : (kind : Kind) (t : List ℕ) (s : State) → Spelled kind t → fuses s.last (chars t) ≡ false → AtRest s → Lays (token_of kind (spelling kind t) ∷ []) s (own_put kind t s)
-unfolding own_put parts.text_of tokens_of remarks_in NoneFuse
+unfolding own_put parts.text_of tokens_of remarks_in
 lays_own kind [] s p f r = absurd (p.some refl)
-lays_own kind (c ∷ cs) s p f r = record {
-  out = Own kind (spelling kind (c ∷ cs)) ∷ [];
-  bytes = c ∷ cs;
-  text = written_text (c ∷ cs) s.sheet r.level;
-  utf8 = p.utf8;
-  spells = p.same ∙ sym (append-nil (spelling kind (c ∷ cs)));
-  tokens = refl;
-  remarks = refl;
-  apart = λ more n. (p.shape, ap (λ z. fuses s.last z) (sym p.same) ∙ f, record { child = λ e. absurd (p.no_child e); first = λ e. absurd (p.no_hashbang e) }, r.allowed (spelling kind (c ∷ cs)), n);
-  rest = at_text c cs s (last_after s.last kind (spelling kind (c ∷ cs))) (p.allowed s.last) r;
-}
+lays_own kind (c ∷ cs) s p f r =
+    let h = front_indent s.sheet r.indent_text in
+    record {
+      out = Gap (blanks (front s.sheet)) ∷ Own kind (spelling kind (c ∷ cs)) ∷ [];
+      bytes = front s.sheet ++ c ∷ cs;
+      text = written_text c cs s.sheet;
+      utf8 = IsUtf8-append (front s.sheet) (c ∷ cs) (indent_utf8 _ h) p.utf8;
+      spells =
+          chars-append (front s.sheet) (c ∷ cs) (indent_utf8 _ h)
+          ∙ ap (λ z. z ++ chars (c ∷ cs)) (indent_chars _ h ∙ sym (blanks_text (front s.sheet)))
+          ∙ ap (λ z. pieces_text (blanks (front s.sheet)) ++ z) (p.same ∙ sym (append-nil (spelling kind (c ∷ cs))));
+      tokens = refl;
+      remarks = append-nil (remarks_of (blanks (front s.sheet))) ∙ blanks_remarks _;
+      apart = λ more n. own_apart s.sheet.at_line_start kind (c ∷ cs) s more refl p f r n;
+      rest = at_text c cs s (last_after s.last kind (spelling kind (c ∷ cs))) (p.allowed s.last) r;
+    }
 
 -- the blank that is due before a text
 guard_put : Bool → State → State

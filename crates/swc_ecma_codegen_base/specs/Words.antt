@@ -1,5 +1,5 @@
 -- The parts that plans are made of.
-use Rattle.std.specs.Prelude.{ℕ, ◌-◌, ◌==◌, Bool, true, false, if◌then◌else◌, List, codes, Option, Some, None}
+use Rattle.std.specs.Prelude.{ℕ, ◌-◌, ◌==◌, Bool, if◌then◌else◌, List, codes, Option, None}
 use Rattle.swc_ecma_codegen_tree.specs.declared.positions.BytePos.{BytePos}
 use Rattle.swc_ecma_codegen_tree.specs.declared.positions.Span.{Span}
 use Rattle.swc_ecma_codegen_tree.specs.Spans.{dummy_span}

@@ -1,15 +1,27 @@
 -- What a sheet is like, whose text can be read back.
-use Rattle.std.specs.Prelude.{◌≡◌, ◌⊎◌, ℕ, Bool, true, false, List, [], ◌∷◌, ◌++◌}
-use Rattle.std.specs.Str.{chars}
-use Rattle.swc_ecma_codegen_ast.specs.Tokens.{Token}
+use Rattle.std.specs.Prelude.{◌≡◌, ◌⊎◌, ℕ, Bool, true, false, if◌then◌else◌, List, [], ◌∷◌, ◌++◌, ◌==◌, ◌||◌, ◌&&◌, codes}
+use Rattle.std.specs.Str.{chars, is_utf8, IsUtf8}
+use Rattle.swc_ecma_codegen_ast.specs.Tokens.{Token, punctuator, name}
+use Rattle.swc_ecma_codegen_ast.specs.Names.{is_word, name_value}
+use Rattle.swc_ecma_codegen_ast.specs.NamePhrases.{spelled_name}
+use Rattle.swc_ecma_codegen_ast.specs.Punctuators.{is_punctuator}
 use Rattle.swc_ecma_codegen_ast.specs.Reads.{Reads}
 use Rattle.swc_ecma_codegen_ast.specs.Phrases.{Phrase, Generates}
 use Rattle.swc_ecma_codegen_ast.specs.GapRules.{Last, Start, Apart, allows}
+use Rattle.swc_ecma_codegen_ast.specs.Parts.{Part, text_of, tokens_of, remarks_in, NoneFuse}
 use Rattle.swc_ecma_codegen_base.specs.Run.{State}
 
 -- LF, or CR and LF
 abbrev pub IsLineEnd : List ℕ → Type 0
 IsLineEnd t = (t ≡ 10 ∷ []) ⊎ (t ≡ 13 ∷ 10 ∷ [])
+
+-- a text of blanks and tabs
+unfoldable pub is_indent : ℕ → Bool
+is_indent c = (c == 32) || (c == 9)
+
+unfoldable pub all_indent : List ℕ → Bool
+all_indent [] = true
+all_indent (c ∷ cs) = is_indent c && all_indent cs
 
 -- no token stands before: nothing does, or a blank or a line end
 unfoldable pub is_free : Last → Bool
@@ -17,17 +29,18 @@ is_free Start = true
 is_free Apart = true
 is_free last = false
 
--- Between two steps of a text that can be read back: lines are not indented, and any token may come next.
+-- Between two steps of a text that can be read back: lines are indented by blanks or tabs, and any token may come next.
 pub record AtRest (s : State) : Type 0 where
-  pub level : s.sheet.indentation ≡ 0
+  pub indent_text : all_indent s.sheet.indent_text ≡ true
   pub line_end : IsLineEnd s.sheet.line_end
   pub free : s.sheet.at_line_start ≡ true → is_free s.last ≡ true
   pub allowed : (t : List ℕ) → allows s.last t ≡ true
 
--- An emission begins: no token was written, lines aren't indented, and U+0000 after a backslash is left out of names.
+-- An emission begins: no token was written, lines are indented by blanks or tabs, and U+0000 after a backslash is left out
+-- of names.
 pub record IsNew (s : State) : Type 0 where
   pub nothing_written : s.last ≡ Start
-  pub level : s.sheet.indentation ≡ 0
+  pub indent_text : all_indent s.sheet.indent_text ≡ true
   pub line_end : IsLineEnd s.sheet.line_end
   pub leaves_out : s.env.keeps_invalid ≡ false
 
@@ -38,3 +51,27 @@ pub record AddsReading (phrase : Phrase) (old new : List ℕ) : Type 0 where
   pub tokens : List Token
   pub is_list : Generates phrase tokens
   pub reads : Reads (chars added) tokens []
+
+-- a text is a word of the grammar, or a punctuator: in ASCII
+pub record IsWord (t : List ℕ) : Type 0 where
+  pub utf8 : is_utf8 t ≡ true
+  pub ascii : chars t ≡ t
+  pub shape : is_word t ≡ true
+
+pub record IsMark (t : List ℕ) : Type 0 where
+  pub utf8 : is_utf8 t ≡ true
+  pub ascii : chars t ≡ t
+  pub shape : is_punctuator t ≡ true
+
+-- What was added to an old text reads as these tokens, whatever follows that doesn't fuse: `a<` goes on with ` !` and
+-- `--b`, and not with `!--b`.
+pub record ReadsSoFar (old : List ℕ) (tokens : List Token) (s : State) : Type 0 where
+  pub added : List ℕ
+  pub is_added : s.sheet.text ≡ old ++ added
+  pub utf8 : IsUtf8 added
+  pub reads : (more : List Part) → NoneFuse s.last more → Reads (chars added ++ text_of more) (tokens ++ tokens_of more) (remarks_in more)
+  pub rest : AtRest s
+
+-- the tokens of a name, with `?` after an optional one
+abbrev pub name_tokens : List ℕ → Bool → List Token
+name_tokens bytes optional = name (name_value (spelled_name bytes)) ∷ (if optional then punctuator (codes "?") ∷ [] else [])

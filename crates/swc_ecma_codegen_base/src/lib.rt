@@ -5,6 +5,7 @@ ghost use Rattle.std.specs.Prelude.{◌≡◌, false};
 
 mod comments;
 mod guard;
+pub mod laws;
 mod names;
 mod refusals;
 mod tokens;

@@ -1,10 +1,13 @@
 //! Names.
 
-ghost use Rattle.std.specs.Prelude.{◌≡◌, None, OnOk, IsNone, codes, false};
+ghost use Rattle.std.specs.Prelude.{◌≡◌, ℕ, None, OnOk, IsNone, List, ◌++◌, codes, false, true};
 ghost use Rattle.swc_ecma_codegen_tree.specs.Spans.{dummy_span};
 ghost use Rattle.swc_ecma_codegen_literals.specs.ValidNames.{turned};
 ghost use Rattle.swc_ecma_codegen_base.specs.Run.{Emits, step, Remake};
 ghost use Rattle.swc_ecma_codegen_base.specs.Words.{name, name_text, symbol, valid_symbol, question};
+ghost use Rattle.swc_ecma_codegen_ast.specs.Tokens.{Token};
+ghost use Rattle.swc_ecma_codegen_ast.specs.NamePhrases.{is_well_formed_name};
+ghost use Rattle.swc_ecma_codegen_base.specs.Written.{ReadsSoFar, name_tokens};
 ghost use Rattle.swc_ecma_codegen_base.specs.View.{state_of};
 
 use crate::LowerEmitter;
@@ -89,6 +92,8 @@ impl LowerEmitter {
     ) -> Result
         requires { IsNone comments.now }
         ensures items { Emits (name span sym.now optional) (state_of cfg.now (W.sheet wr.old) self.old) (state_of cfg.now (W.sheet wr.new) self.new) result }
+        // The text reads as the tokens so far and the name, whatever follows that doesn't fuse.
+        ensures reads { (text_before : List ℕ) (tokens : List Token) → is_well_formed_name sym.now ≡ true → (W.sheet wr.old).keeps_invalid ≡ false → ReadsSoFar text_before tokens (state_of cfg.now (W.sheet wr.old) self.old) → OnOk result (ReadsSoFar text_before (tokens ++ name_tokens sym.now optional) (state_of cfg.now (W.sheet wr.new) self.new)) }
         ensures level { OnOk result ((W.sheet wr.new).indentation ≡ (W.sheet wr.old).indentation) }
     {
         self.leading_comments(cfg, comments, wr, span.lo)?;

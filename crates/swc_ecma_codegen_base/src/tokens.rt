@@ -1,11 +1,13 @@
 //! One call of the writer, and the blank that is due before it.
 
-ghost use Rattle.std.specs.Prelude.{◌≡◌, Some, None, OnOk, OnErr, Option, codes, true, false};
+ghost use Rattle.std.specs.Prelude.{◌≡◌, ℕ, Some, None, OnOk, OnErr, Option, List, [], ◌∷◌, ◌++◌, codes, true, false};
 ghost use Rattle.swc_ecma_codegen_tree.specs.Spans.{dummy_span};
 ghost use Rattle.swc_ecma_codegen_text_writer.specs.Sheet.{Semi, Space, Keyword, Operator, Line, Symbol, Punct, Position, Commit};
 ghost use Rattle.swc_ecma_codegen_ast.specs.declared.kinds.Kind.TheVariants.{Word, Name, Punctuator};
+ghost use Rattle.swc_ecma_codegen_ast.specs.Tokens as lexical;
 ghost use Rattle.swc_ecma_codegen_base.specs.Run.{Emits, step, Guard, Token, Plain};
 ghost use Rattle.swc_ecma_codegen_base.specs.Words.{keyword, operator, word_operator, punct, semi, space, formatting_space, formatting_line, line_end, commit_pending_semi, position, position_before};
+ghost use Rattle.swc_ecma_codegen_base.specs.Written.{IsWord, IsMark, ReadsSoFar};
 ghost use Rattle.swc_ecma_codegen_base.specs.View.{state_of};
 
 use crate::LowerEmitter;
@@ -140,6 +142,8 @@ impl LowerEmitter {
         text: &'static str,
     ) -> Result
         ensures items { Emits (keyword span text.now) (state_of cfg.now (W.sheet wr.old) self.old) (state_of cfg.now (W.sheet wr.new) self.new) result }
+        // The text reads as the tokens so far and this one, whatever follows that doesn't fuse.
+        ensures reads { (text_before : List ℕ) (tokens : List lexical.Token) → IsWord text.now → ReadsSoFar text_before tokens (state_of cfg.now (W.sheet wr.old) self.old) → OnOk result (ReadsSoFar text_before (tokens ++ lexical.word text.now ∷ []) (state_of cfg.now (W.sheet wr.new) self.new)) }
         ensures level { OnOk result ((W.sheet wr.new).indentation ≡ (W.sheet wr.old).indentation) }
     {
         self.guard(cfg, wr, text)?;
@@ -151,6 +155,8 @@ impl LowerEmitter {
     #[tactic(auto, unfolding(crate::specs::Words::operator))]
     pub fn operator<W: WriteJs>(&mut self, cfg: &Config, wr: &mut W, text: &'static str) -> Result
         ensures items { Emits (operator text.now) (state_of cfg.now (W.sheet wr.old) self.old) (state_of cfg.now (W.sheet wr.new) self.new) result }
+        // The text reads as the tokens so far and this one, whatever follows that doesn't fuse.
+        ensures reads { (text_before : List ℕ) (tokens : List lexical.Token) → IsMark text.now → ReadsSoFar text_before tokens (state_of cfg.now (W.sheet wr.old) self.old) → OnOk result (ReadsSoFar text_before (tokens ++ lexical.punctuator text.now ∷ []) (state_of cfg.now (W.sheet wr.new) self.new)) }
         ensures level { OnOk result ((W.sheet wr.new).indentation ≡ (W.sheet wr.old).indentation) }
     {
         self.guard(cfg, wr, text)?;
@@ -167,6 +173,8 @@ impl LowerEmitter {
         text: &'static str,
     ) -> Result
         ensures items { Emits (word_operator text.now) (state_of cfg.now (W.sheet wr.old) self.old) (state_of cfg.now (W.sheet wr.new) self.new) result }
+        // The text reads as the tokens so far and this one, whatever follows that doesn't fuse.
+        ensures reads { (text_before : List ℕ) (tokens : List lexical.Token) → IsWord text.now → ReadsSoFar text_before tokens (state_of cfg.now (W.sheet wr.old) self.old) → OnOk result (ReadsSoFar text_before (tokens ++ lexical.word text.now ∷ []) (state_of cfg.now (W.sheet wr.new) self.new)) }
         ensures level { OnOk result ((W.sheet wr.new).indentation ≡ (W.sheet wr.old).indentation) }
     {
         self.guard(cfg, wr, text)?;
@@ -178,6 +186,8 @@ impl LowerEmitter {
     #[tactic(auto, unfolding(crate::specs::Words::punct))]
     pub fn punct<W: WriteJs>(&mut self, cfg: &Config, wr: &mut W, text: &'static str) -> Result
         ensures items { Emits (punct text.now) (state_of cfg.now (W.sheet wr.old) self.old) (state_of cfg.now (W.sheet wr.new) self.new) result }
+        // The text reads as the tokens so far and this one, whatever follows that doesn't fuse.
+        ensures reads { (text_before : List ℕ) (tokens : List lexical.Token) → IsMark text.now → ReadsSoFar text_before tokens (state_of cfg.now (W.sheet wr.old) self.old) → OnOk result (ReadsSoFar text_before (tokens ++ lexical.punctuator text.now ∷ []) (state_of cfg.now (W.sheet wr.new) self.new)) }
         ensures level { OnOk result ((W.sheet wr.new).indentation ≡ (W.sheet wr.old).indentation) }
     {
         self.guard(cfg, wr, text)?;
@@ -189,6 +199,8 @@ impl LowerEmitter {
     #[tactic(auto, unfolding(crate::specs::Words::semi))]
     pub fn semi<W: WriteJs>(&mut self, cfg: &Config, wr: &mut W) -> Result
         ensures items { Emits (semi) (state_of cfg.now (W.sheet wr.old) self.old) (state_of cfg.now (W.sheet wr.new) self.new) result }
+        // The text reads as the tokens so far and this one, whatever follows that doesn't fuse.
+        ensures reads { (text_before : List ℕ) (tokens : List lexical.Token) → ReadsSoFar text_before tokens (state_of cfg.now (W.sheet wr.old) self.old) → OnOk result (ReadsSoFar text_before (tokens ++ lexical.punctuator (codes ";") ∷ []) (state_of cfg.now (W.sheet wr.new) self.new)) }
         ensures level { OnOk result ((W.sheet wr.new).indentation ≡ (W.sheet wr.old).indentation) }
     {
         self.guard(cfg, wr, ";")?;

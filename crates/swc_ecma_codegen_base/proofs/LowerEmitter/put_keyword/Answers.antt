@@ -1,10 +1,9 @@
-use Rattle.std.proofs.Common.{refl, None, codes}
+use Rattle.std.proofs.Common.{refl}
 use Rattle.swc_ecma_codegen_ast.specs.declared.kinds.Kind.TheVariants.{Word}
 use Rattle.swc_ecma_codegen_ast.specs.GapRules.{last_after}
-use Rattle.swc_ecma_codegen_tree.specs.Spans.{dummy_span}
 use Rattle.swc_ecma_codegen_text_writer.specs.Sheet.{Keyword}
 use Rattle.swc_ecma_codegen_base.specs.Last.{last_at}
-use Rattle.swc_ecma_codegen_base.specs.Run.{after_token, spelling, text_of}
+use Rattle.swc_ecma_codegen_base.specs.Run.{after_token, text_of}
 use Rattle.swc_ecma_codegen_base.proofs.Calls.{called, level, is_level}
 use Rattle.swc_ecma_codegen_base.proofs.LowerEmitter.put_keyword.Goals as goal
 

@@ -1,4 +1,4 @@
-use Rattle.std.proofs.Common.{◌≡◌, true, drop}
+use Rattle.std.proofs.Common.{◌≡◌, drop}
 use Rattle.swc_ecma_codegen_base.specs.Run.{Continues}
 use Rattle.swc_ecma_codegen.specs.Lists.{in_order}
 use Rattle.swc_ecma_codegen.specs.Programs.{held}

@@ -1,0 +1,8 @@
+use Rattle.swc_ecma_codegen.proofs.TreeReads.{new_is_new, indented_is_new}
+use Rattle.swc_ecma_codegen.proofs.laws.new_emitter_reads.Goals as goal
+
+pub returns-clause-new : goal.returns-clause-new
+returns-clause-new c config bytes line_end h = new_is_new config bytes line_end h
+
+pub returns-clause-indented : goal.returns-clause-indented
+returns-clause-indented c config bytes line_end indent h k = indented_is_new config bytes line_end indent h k

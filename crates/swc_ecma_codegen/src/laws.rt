@@ -1,0 +1,74 @@
+//! Laws for callers. Each is the contract of a function that does nothing, or no more than call what it speaks of, and
+//! takes no memory: a proof cites the function, and a program has no need to call it.
+//!
+//! What is printed of a well-formed tree reads back as the tree's tokens, by longest match: `a < !--b` isn't printed as
+//! the start of a comment, nor `a - -b` as a decrement.
+
+ghost use Rattle.std.specs.Prelude.{◌≡◌, ℕ, true, false, List, ◌∷◌, OnOk};
+ghost use Rattle.swc_ecma_codegen_util.specs.declared.config.Config.{Config};
+ghost use Rattle.swc_ecma_codegen_ast.specs.Tokens.{Token};
+ghost use Rattle.swc_ecma_codegen_ast.specs.Phrases.{Generates};
+ghost use Rattle.swc_ecma_codegen_ast.specs.TreePhrases.{expr_phrase, stmt_phrase, is_well_formed_expr, is_well_formed_stmt};
+ghost use Rattle.swc_ecma_codegen_text_writer.specs.View.{new_sheet};
+ghost use Rattle.swc_ecma_codegen_base.specs.Run.{State, remakes_name, start, steps_in, steps_of};
+ghost use Rattle.swc_ecma_codegen_base.specs.Written.{IsLineEnd, IsNew, AddsReading, all_indent};
+ghost use Rattle.swc_ecma_codegen.specs.Backslashes.{root_backslash};
+ghost use Rattle.swc_ecma_codegen.specs.Roots.{Root, root_items};
+ghost use Rattle.swc_ecma_codegen.specs.FirstTokens.{joins_a_word};
+ghost use Rattle.swc_ecma_codegen.specs.View.{state_of};
+
+use crate::emitter::Emitter;
+use crate::node::Node;
+use swc_ecma_codegen_ast::comments::Comments;
+use swc_ecma_codegen_ast::mapper::SourceMapper;
+pub use swc_ecma_codegen_ast::reading_laws::{
+    one_reading, reduced_tokens_read, spaced_tokens_read,
+};
+use swc_ecma_codegen_text_writer::WriteJs;
+use swc_ecma_codegen_tree::{Expr, Result, Stmt};
+use swc_ecma_codegen_util::util::StartsWithAlphaNum;
+
+/// What `emit_with` of an expression adds to the text reads as one of the expression's token lists.
+#[tactic(auto, using(crate::proofs::TreeReads::expr_reads))]
+pub fn emitted_expr_reads<W: WriteJs, S: SourceMapper, C: Comments>(
+    expr: &Expr,
+    e: &mut Emitter<'_, W, S, C>,
+) -> Result
+    ensures reads { is_well_formed_expr expr.now ≡ true → IsNew (state_of W.sheet e.old) → OnOk result (AddsReading (expr_phrase expr.now) (W.sheet e.old.wr).text (W.sheet e.new.wr).text) }
+{
+    expr.emit_with(e)
+}
+
+/// What `emit_with` of a statement adds to the text reads as one of the statement's token lists.
+#[tactic(auto, using(crate::proofs::TreeReads::stmt_reads))]
+pub fn emitted_stmt_reads<W: WriteJs, S: SourceMapper, C: Comments>(
+    stmt: &Stmt,
+    e: &mut Emitter<'_, W, S, C>,
+) -> Result
+    ensures reads { is_well_formed_stmt stmt.now ≡ true → IsNew (state_of W.sheet e.old) → OnOk result (AddsReading (stmt_phrase stmt.now) (W.sheet e.old.wr).text (W.sheet e.new.wr).text) }
+{
+    stmt.emit_with(e)
+}
+
+/// A new emitter over a new `JsWriter`, whose lines end with LF or with CR and LF, is one that these laws speak of; and
+/// after `set_indent_str` of blanks and tabs.
+pub fn new_emitter_reads()
+    ensures new { (config : Config) (bytes line_end : List ℕ) → IsLineEnd line_end → IsNew (start config (new_sheet bytes line_end)) }
+    ensures indented { (config : Config) (bytes line_end indent : List ℕ) → IsLineEnd line_end → all_indent indent ≡ true → IsNew (start config (record (new_sheet bytes line_end) { indent_text = indent })) }
+{}
+
+/// Where an expression of a well-formed tree begins with a word, a name or a number, by the first token of a list that
+/// syntax gives it, `starts_with_alpha_num` is true: of `a + b`, `typeof a` and `this.a`, but not only of these.
+#[tactic(auto, using(crate::proofs::FirstTokens::first_told))]
+pub fn first_token_is_told(expr: &Expr) -> bool
+    ensures { (first : Token) (rest : List Token) → is_well_formed_expr expr.now ≡ true → Generates (expr_phrase expr.now) (first ∷ rest) → joins_a_word first.kind ≡ true → result ≡ true }
+{
+    expr.starts_with_alpha_num()
+}
+
+/// Among the steps of an emission of a tree in which no name holds a backslash no name is made anew: what the clauses
+/// `cause` and `succeeds` of `emit_with` ask of memory is met, over a writer that takes none.
+#[tactic(auto, using(crate::proofs::Backslashes::no_name_made))]
+pub fn plain_names_take_no_memory()
+    ensures { (root : Root) (s : State) → root_backslash root ≡ false → remakes_name (steps_of (steps_in (root_items root) s)) ≡ false }
+{}

@@ -1,0 +1,137 @@
+-- After a call the text reads as the tokens so far and those of the call, whatever follows that doesn't fuse.
+use Rattle.std.proofs.Common.{◌≡◌, ℕ, Bool, true, false, cond, List, [], ◌∷◌, ◌++◌, codes, sym, ap, ◌∙◌, subst, append_assoc, append-nil, Option, Ok}
+use Rattle.std.specs.Str.{chars}
+use Rattle.std.proofs.lemmas.Str.{chars-nil, chars-append, IsUtf8-nil, IsUtf8-append}
+use Rattle.swc_ecma_codegen_tree.specs.declared.positions.BytePos.{BytePos}
+use Rattle.swc_ecma_codegen_tree.specs.declared.positions.Span.{Span}
+use Rattle.swc_ecma_codegen_ast.specs.Tokens as lexical
+use Rattle.swc_ecma_codegen_ast.specs.Tokens.{token_of, value_of}
+use Rattle.swc_ecma_codegen_ast.specs.Reads.{Reads}
+use Rattle.swc_ecma_codegen_ast.specs.Parts as parts
+use Rattle.swc_ecma_codegen_ast.specs.Parts.{NoneFuse, tokens_of, remarks_in}
+use Rattle.swc_ecma_codegen_ast.specs.Phrases.{Phrase, Nothing, One, Generates, ◌>◌, mark}
+use Rattle.swc_ecma_codegen_ast.specs.NamePhrases.{name_phrase, is_well_formed_name}
+use Rattle.swc_ecma_codegen_ast.proofs.Reading.{reads}
+use Rattle.swc_ecma_codegen_base.specs.Run.{Part, State, steps_of, run, nothing, Follows, Emits}
+use Rattle.swc_ecma_codegen_base.specs.Words.{keyword, operator, word_operator, punct, semi, name, space, formatting_space, line_end, formatting_line, commit_pending_semi, position, position_before, leading_comments, trailing_comments}
+use Rattle.swc_ecma_codegen_base.specs.Written.{IsNew, IsWord, IsMark, ReadsSoFar, AddsReading, name_tokens}
+use Rattle.swc_ecma_codegen_base.proofs.Emitting.{emits_nothing}
+use Rattle.swc_ecma_codegen_base.proofs.Written.{Lays, text_append, tokens_append, remarks_append}
+use Rattle.swc_ecma_codegen_base.proofs.Printed.{Writes, writes_space, writes_formatting_space, writes_line, writes_formatting_line, writes_commit, writes_position, writes_position_before, writes_leading, writes_trailing}
+use Rattle.swc_ecma_codegen_base.proofs.Phrased.{Prints, steps_of_chain, new_at_rest, prints_keyword, prints_operator, prints_word_operator, prints_punct, prints_semi, prints_ident}
+
+-- what was laid since
+lays_so_far : (old : List ℕ) (tokens ts : List lexical.Token) (a b : State) → Lays ts a b → ReadsSoFar old tokens a → ReadsSoFar old (tokens ++ ts) b
+lays_so_far old tokens ts a b l h = record {
+  added = h.added ++ l.bytes;
+  is_added = l.text ∙ ap (λ z. z ++ l.bytes) h.is_added ∙ append_assoc old h.added l.bytes;
+  utf8 = IsUtf8-append h.added l.bytes h.utf8 l.utf8;
+  reads = λ more n.
+      let text : chars h.added ++ parts.text_of (l.out ++ more) ≡ chars (h.added ++ l.bytes) ++ parts.text_of more =
+      ap (λ z. chars h.added ++ z) (text_append l.out more)
+      ∙ sym (append_assoc (chars h.added) (parts.text_of l.out) (parts.text_of more))
+      ∙ ap (λ z. (chars h.added ++ z) ++ parts.text_of more) (sym l.spells)
+      ∙ ap (λ z. z ++ parts.text_of more) (sym (chars-append h.added l.bytes h.utf8)) in
+      let list : tokens ++ tokens_of (l.out ++ more) ≡ (tokens ++ ts) ++ tokens_of more =
+      ap (λ z. tokens ++ z) (tokens_append l.out more)
+      ∙ ap (λ z. tokens ++ (z ++ tokens_of more)) l.tokens
+      ∙ sym (append_assoc tokens ts (tokens_of more)) in
+      let none : remarks_in (l.out ++ more) ≡ remarks_in more = remarks_append l.out more ∙ ap (λ z. z ++ remarks_in more) l.remarks in
+      subst (λ z. Reads z ((tokens ++ ts) ++ tokens_of more) (remarks_in more)) text
+      (subst (λ z. Reads (chars h.added ++ parts.text_of (l.out ++ more)) z (remarks_in more)) list
+      (subst (λ z. Reads (chars h.added ++ parts.text_of (l.out ++ more)) (tokens ++ tokens_of (l.out ++ more)) z) none
+      (h.reads (l.out ++ more) (l.apart more n))));
+  rest = l.rest;
+}
+
+-- a part that writes tokens, and was made
+emitted_so_far : (part : Part) (old : List ℕ) (tokens ts : List lexical.Token) (a b : State) → Writes a.env part ts → Emits part a b (Ok tt) → ReadsSoFar old tokens a → ReadsSoFar old (tokens ++ ts) b
+unfolding Follows nothing
+emitted_so_far part old tokens ts a b w e h =
+    let k = e nothing b (Ok tt) (emits_nothing b) in
+    let end : b ≡ run w.steps a = k.1 ∙ ap (λ z. run (steps_of z) a) (w.is_steps nothing) ∙ ap (λ z. run z a) (steps_of_chain w.steps) in
+    let P : State → Type 0 = λ z. ReadsSoFar old (tokens ++ ts) z in
+    subst P (sym end) (lays_so_far old tokens ts a (run w.steps a) (w.lays a h.rest) h)
+
+-- a part that writes one token
+one_so_far : (part : Part) (x : lexical.Token) (old : List ℕ) (tokens : List lexical.Token) (a b : State) → Prints a.env part (One x) → Emits part a b (Ok tt) → ReadsSoFar old tokens a → ReadsSoFar old (tokens ++ x ∷ []) b
+unfolding Generates
+one_so_far part x old tokens a b p e h = subst (λ z. ReadsSoFar old (tokens ++ z) b) p.generated (emitted_so_far part old tokens p.tokens a b p.writes e h)
+
+pub keyword_so_far : (span : Option Span) (t old : List ℕ) (tokens : List lexical.Token) (a b : State) → IsWord t → Emits (keyword span t) a b (Ok tt) → ReadsSoFar old tokens a → ReadsSoFar old (tokens ++ lexical.word t ∷ []) b
+keyword_so_far span t old tokens a b w e h = one_so_far (keyword span t) (lexical.word t) old tokens a b (prints_keyword a.env span t w) e h
+
+pub word_operator_so_far : (t old : List ℕ) (tokens : List lexical.Token) (a b : State) → IsWord t → Emits (word_operator t) a b (Ok tt) → ReadsSoFar old tokens a → ReadsSoFar old (tokens ++ lexical.word t ∷ []) b
+word_operator_so_far t old tokens a b w e h = one_so_far (word_operator t) (lexical.word t) old tokens a b (prints_word_operator a.env t w) e h
+
+pub operator_so_far : (t old : List ℕ) (tokens : List lexical.Token) (a b : State) → IsMark t → Emits (operator t) a b (Ok tt) → ReadsSoFar old tokens a → ReadsSoFar old (tokens ++ lexical.punctuator t ∷ []) b
+operator_so_far t old tokens a b w e h = one_so_far (operator t) (lexical.punctuator t) old tokens a b (prints_operator a.env t w) e h
+
+pub punct_so_far : (t old : List ℕ) (tokens : List lexical.Token) (a b : State) → IsMark t → Emits (punct t) a b (Ok tt) → ReadsSoFar old tokens a → ReadsSoFar old (tokens ++ lexical.punctuator t ∷ []) b
+punct_so_far t old tokens a b w e h = one_so_far (punct t) (lexical.punctuator t) old tokens a b (prints_punct a.env t w) e h
+
+pub semi_so_far : (old : List ℕ) (tokens : List lexical.Token) (a b : State) → Emits semi a b (Ok tt) → ReadsSoFar old tokens a → ReadsSoFar old (tokens ++ lexical.punctuator (codes ";") ∷ []) b
+semi_so_far old tokens a b e h = one_so_far semi (lexical.punctuator (codes ";")) old tokens a b (prints_semi a.env) e h
+
+-- a name, and `?` after an optional one
+name_list : (bytes : List ℕ) (optional : Bool) (ts : List lexical.Token) → Generates (name_phrase bytes > cond optional (mark (codes "?")) Nothing) ts → ts ≡ name_tokens bytes optional
+unfolding Generates name_phrase
+name_list bytes true ts g = g.4 ∙ ap (λ z. z ++ g.1) g.2 ∙ ap (λ z. name_tokens bytes false ++ z) g.3
+name_list bytes false ts g = g.4 ∙ ap (λ z. z ++ g.1) g.2 ∙ ap (λ z. name_tokens bytes false ++ z) g.3
+
+pub name_so_far : (span : Span) (bytes : List ℕ) (optional : Bool) (old : List ℕ) (tokens : List lexical.Token) (a b : State) → a.env.keeps_invalid ≡ false → is_well_formed_name bytes ≡ true → Emits (name span bytes optional) a b (Ok tt) → ReadsSoFar old tokens a → ReadsSoFar old (tokens ++ name_tokens bytes optional) b
+name_so_far span bytes optional old tokens a b v w e h =
+    let p = prints_ident a.env span bytes optional v w in
+    subst (λ z. ReadsSoFar old (tokens ++ z) b) (name_list bytes optional p.tokens p.generated) (emitted_so_far (name span bytes optional) old tokens p.tokens a b p.writes e h)
+
+-- nothing was written yet
+pub new_so_far : (s : State) → IsNew s → ReadsSoFar s.sheet.text [] s
+new_so_far s n = record {
+  added = [];
+  is_added = sym (append-nil s.sheet.text);
+  utf8 = IsUtf8-nil;
+  reads = λ more f. subst (λ z. Reads (z ++ parts.text_of more) (tokens_of more) (remarks_in more)) (sym chars-nil) (reads more (subst (λ k. NoneFuse k more) n.nothing_written f));
+  rest = new_at_rest s n;
+}
+
+-- where nothing follows
+pub so_far_reads : (f : Phrase) (old : List ℕ) (tokens : List lexical.Token) (s : State) → Generates f tokens → ReadsSoFar old tokens s → AddsReading f old s.sheet.text
+unfolding NoneFuse parts.text_of tokens_of remarks_in
+so_far_reads f old tokens s g h = record {
+  added = h.added;
+  is_added = h.is_added;
+  tokens = tokens;
+  is_list = g;
+  reads = subst (λ z. Reads (chars h.added) z []) (append-nil tokens) (subst (λ z. Reads z (tokens ++ []) []) (append-nil (chars h.added)) (h.reads [] (h.rest.allowed [])));
+}
+
+-- a part that writes no token
+gap_so_far : (part : Part) (old : List ℕ) (tokens : List lexical.Token) (a b : State) → Writes a.env part [] → Emits part a b (Ok tt) → ReadsSoFar old tokens a → ReadsSoFar old tokens b
+gap_so_far part old tokens a b w e h = subst (λ z. ReadsSoFar old z b) (append-nil tokens) (emitted_so_far part old tokens [] a b w e h)
+
+pub space_so_far : (old : List ℕ) (tokens : List lexical.Token) (a b : State) → Emits space a b (Ok tt) → ReadsSoFar old tokens a → ReadsSoFar old tokens b
+space_so_far old tokens a b e h = gap_so_far space old tokens a b (writes_space a.env) e h
+
+pub formatting_space_so_far : (old : List ℕ) (tokens : List lexical.Token) (a b : State) → Emits formatting_space a b (Ok tt) → ReadsSoFar old tokens a → ReadsSoFar old tokens b
+formatting_space_so_far old tokens a b e h = gap_so_far formatting_space old tokens a b (writes_formatting_space a.env) e h
+
+pub line_so_far : (old : List ℕ) (tokens : List lexical.Token) (a b : State) → Emits line_end a b (Ok tt) → ReadsSoFar old tokens a → ReadsSoFar old tokens b
+line_so_far old tokens a b e h = gap_so_far line_end old tokens a b (writes_line a.env) e h
+
+pub formatting_line_so_far : (old : List ℕ) (tokens : List lexical.Token) (a b : State) → Emits formatting_line a b (Ok tt) → ReadsSoFar old tokens a → ReadsSoFar old tokens b
+formatting_line_so_far old tokens a b e h = gap_so_far formatting_line old tokens a b (writes_formatting_line a.env) e h
+
+pub commit_so_far : (old : List ℕ) (tokens : List lexical.Token) (a b : State) → Emits commit_pending_semi a b (Ok tt) → ReadsSoFar old tokens a → ReadsSoFar old tokens b
+commit_so_far old tokens a b e h = gap_so_far commit_pending_semi old tokens a b (writes_commit a.env) e h
+
+pub position_so_far : (pos : BytePos) (old : List ℕ) (tokens : List lexical.Token) (a b : State) → Emits (position pos) a b (Ok tt) → ReadsSoFar old tokens a → ReadsSoFar old tokens b
+position_so_far pos old tokens a b e h = gap_so_far (position pos) old tokens a b (writes_position a.env pos) e h
+
+pub position_before_so_far : (pos : BytePos) (old : List ℕ) (tokens : List lexical.Token) (a b : State) → Emits (position_before pos) a b (Ok tt) → ReadsSoFar old tokens a → ReadsSoFar old tokens b
+position_before_so_far pos old tokens a b e h = gap_so_far (position_before pos) old tokens a b (writes_position_before a.env pos) e h
+
+pub leading_so_far : (pos : BytePos) (old : List ℕ) (tokens : List lexical.Token) (a b : State) → Emits (leading_comments pos) a b (Ok tt) → ReadsSoFar old tokens a → ReadsSoFar old tokens b
+leading_so_far pos old tokens a b e h = gap_so_far (leading_comments pos) old tokens a b (writes_leading a.env pos) e h
+
+pub trailing_so_far : (prefix : Bool) (pos : BytePos) (old : List ℕ) (tokens : List lexical.Token) (a b : State) → Emits (trailing_comments prefix pos) a b (Ok tt) → ReadsSoFar old tokens a → ReadsSoFar old tokens b
+trailing_so_far prefix pos old tokens a b e h = gap_so_far (trailing_comments prefix pos) old tokens a b (writes_trailing a.env prefix pos) e h
