@@ -3,8 +3,8 @@
 use crate::trees::{Step, bytes_of, program, settings};
 use std::alloc::Global;
 use std::test::Fail;
-use swc_ecma_codegen::operands::{Operand, OperandKind, SpaceBefore};
 use swc_ecma_codegen::laws::{emitted_expr_reads, emitted_stmt_reads, new_emitter_reads};
+use swc_ecma_codegen::operands::{Operand, OperandKind, SpaceBefore};
 use swc_ecma_codegen::util::{EndsWithAlphaNum, StartsWithAlphaNum};
 use swc_ecma_codegen::{Emitter, Node, to_code};
 use swc_ecma_codegen_ast::comments::CommentMaps;

@@ -133,6 +133,15 @@ fn statements(rt: HostRuntime) -> Result<(), Fail> {
     assert!(rt; makes(alloc, &steps, "this.a[b];\n", "this.a[b];")?);
     let steps = [A, B, Step::Seq, Step::Paren, Step::Member("in")];
     assert!(rt; makes(alloc, &steps, "(a, b).in;\n", "(a,b).in;")?);
+    let escaped = Step::Name("\\u0061b\\u{63}");
+    assert!(rt;
+        makes(
+            alloc,
+            &[escaped, TYPE_OF],
+            "typeof \\u0061b\\u{63};\n",
+            "typeof \\u0061b\\u{63};"
+        )?
+    );
     let steps = [Step::Name("a\\\u{0}b")];
     assert!(rt; makes(alloc, &steps, "a\\b;\n", "a\\b;")?);
     Ok(())
