@@ -1,4 +1,5 @@
 pub mod CodeUnits
+pub mod InlineScripts
 pub mod NumberTexts
 pub mod NumberValues
 pub mod StringTexts

@@ -4,8 +4,10 @@
 mod escapes;
 mod names;
 mod numbers;
+mod scripts;
 mod strings;
 
 pub use crate::names::valid_name;
 pub use crate::numbers::{minified_number, plain_number};
+pub use crate::scripts::quoted_for_inline_script;
 pub use crate::strings::quoted_utf16;
