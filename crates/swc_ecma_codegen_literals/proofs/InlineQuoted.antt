@@ -29,7 +29,7 @@ use Rattle.swc_ecma_codegen_literals.proofs.InlineTexts.{marked_ascii, marked_sc
 use Rattle.swc_ecma_codegen_literals.proofs.InlineReads.{fine, all_fine, other_stands, marked_reads, marked_closes}
 
 -- what holds before an escape where it holds after it
-abbrev Kept : (List ℕ → Type 0) → Type 0
+abbrev pub Kept : (List ℕ → Type 0) → Type 0
 Kept P = (x : ℕ) (ps t : List ℕ) → fine x ≡ true → list_all inside ps ≡ true → P t → P (92 ∷ x ∷ (ps ++ t))
 
 glyph_inside : (upper : Bool) (d : ℕ) → d < 16 → inside (digit_glyph upper d) ≡ true
@@ -39,26 +39,26 @@ digits_inside : (ds : List ℕ) → AllDigits 16 ds → list_all inside ds ≡ t
 digits_inside [] h = refl
 digits_inside (d ∷ ds) h = and_from (inside d) (list_all inside ds) (hex_inside d (hex_from_value d h.0)) (digits_inside ds h.1)
 
-hex_kept : (P : List ℕ → Type 0) → Kept P → (c : ℕ) (t : List ℕ) → c < 256 → P t → P (hex_escape c ++ t)
+pub hex_kept : (P : List ℕ → Type 0) → Kept P → (c : ℕ) (t : List ℕ) → c < 256 → P t → P (hex_escape c ++ t)
 unfolding hex_escape
 hex_kept P k c t l h =
     k 120 (digit_glyph false (c / 16) ∷ digit_glyph false (c % 16) ∷ []) t refl
     (rw (glyph_inside false (c / 16) (omega arith), glyph_inside false (c % 16) (omega arith)) refl) h
 
-unit_kept : (P : List ℕ → Type 0) → Kept P → (c : ℕ) (t : List ℕ) → c < 65536 → P t → P (unit_escape c ++ t)
+pub unit_kept : (P : List ℕ → Type 0) → Kept P → (c : ℕ) (t : List ℕ) → c < 65536 → P t → P (unit_escape c ++ t)
 unfolding unit_escape
 unit_kept P k c t l h =
     k 117 (digit_glyph true (c / 4096) ∷ digit_glyph true (c / 256 % 16) ∷ digit_glyph true (c / 16 % 16) ∷ digit_glyph true (c % 16) ∷ []) t refl
     (rw (glyph_inside true (c / 4096) (omega arith), glyph_inside true (c / 256 % 16) (omega arith), glyph_inside true (c / 16 % 16) (omega arith), glyph_inside true (c % 16) (omega arith)) refl) h
 
-pair_kept : (P : List ℕ → Type 0) → Kept P → (c : ℕ) (t : List ℕ) → 65536 ≤ c → c < 1114112 → P t → P (pair_escape c ++ t)
+pub pair_kept : (P : List ℕ → Type 0) → Kept P → (c : ℕ) (t : List ℕ) → 65536 ≤ c → c < 1114112 → P t → P (pair_escape c ++ t)
 unfolding pair_escape
 pair_kept P k c t g l h =
     let high = 55296 + (c - 65536) / 1024 in
     let low = 56320 + (c - 65536) % 1024 in
     subst P (sym (append_assoc (unit_escape high) (unit_escape low) t)) (unit_kept P k high (unit_escape low ++ t) (omega arith) (unit_kept P k low t (omega arith) h))
 
-braced_kept : (P : List ℕ → Type 0) → Kept P → (c : ℕ) (t : List ℕ) → c < 1114112 → P t → P (braced_escape c ++ t)
+pub braced_kept : (P : List ℕ → Type 0) → Kept P → (c : ℕ) (t : List ℕ) → c < 1114112 → P t → P (braced_escape c ++ t)
 unfolding braced_escape
 braced_kept P k c t l h =
     let big : c < 16 ^ 64 = omega (arith, l) in

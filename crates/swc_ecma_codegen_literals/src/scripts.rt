@@ -149,6 +149,11 @@ mod tests {
             ("name", r#""name""#),
             ("</SCRIPT >", r#""<\/SCRIPT >""#),
             ("</script</script\t--->", "\"</script<\\/script\t---\\x3e\""),
+            ("--\\>", r#""--\\>""#),
+            ("</scriptx>", r#""</scriptx>""#),
+            ("--><!--", r#""--\x3e\x3c!--""#),
+            ("-\u{2028}->", r#""-\u2028->""#),
+            ("\\</script>", r#""\\<\/script>""#),
         ];
         for (text, literal) in rows {
             let found = quoted_for_inline_script(rt.alloc(), text, false, EsVersion::EsNext)?;
