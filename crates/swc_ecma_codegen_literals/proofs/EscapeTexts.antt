@@ -67,7 +67,7 @@ pub chosen : {X : Type 0} (P : X → Type 0) (b : Bool) (x y : X) → (b ≡ tru
 chosen P true x y h g = h refl
 chosen P false x y h g = g refl
 
-code_escape_ascii : (v : EsVersion) (c : ℕ) → c < 1114112 → list_all is_ascii_char (code_escape v c) ≡ true
+pub code_escape_ascii : (v : EsVersion) (c : ℕ) → c < 1114112 → list_all is_ascii_char (code_escape v c) ≡ true
 unfolding code_escape
 code_escape_ascii v c l =
     let P : List ℕ → Type 0 = λ t. list_all is_ascii_char t ≡ true in

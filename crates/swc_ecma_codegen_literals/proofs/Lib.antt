@@ -1,6 +1,13 @@
 pub mod DecimalTexts
 pub mod EscapeTexts
 pub mod Fronts
+pub mod InlineMarks
+pub mod InlineQuoted
+pub mod InlineReads
+pub mod InlineTexts
+pub mod NameReads
+pub mod NameStrings
+pub mod NameTexts
 pub mod Nulls
 pub mod NumberLiterals
 pub mod Numerals

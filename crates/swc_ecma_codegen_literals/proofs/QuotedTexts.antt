@@ -21,15 +21,15 @@ use Rattle.swc_ecma_codegen_literals.proofs.StringCloses.{escape_closes}
 use Rattle.swc_ecma_codegen_literals.proofs.StringUnits.{Bare, stands_bare, spelled_reads, spelled_digit, Skips, skips, scalars_rest}
 
 -- the backslash of a written surrogate escape stays alone
-lone : (q : ℕ) (a : Bool) (v : EsVersion) (cs : List ℕ) → IsQuote q → nat_lt 0 (escape_length cs) ≡ true → spelled q a v 92 cs ≡ 92 ∷ []
+pub lone : (q : ℕ) (a : Bool) (v : EsVersion) (cs : List ℕ) → IsQuote q → nat_lt 0 (escape_length cs) ≡ true → spelled q a v 92 cs ≡ 92 ∷ []
 unfolding spelled stands escape_text backslash_escape
 lone q a v cs h e = rw (not_quote q 92 h (omega arith), e) refl
 
 -- where no written surrogate escape begins
-abbrev Lone : ℕ → List ℕ → Bool
+abbrev pub Lone : ℕ → List ℕ → Bool
 Lone c cs = (c == 92) && nat_lt 0 (escape_length cs)
 
-not_lone : (c : ℕ) (cs : List ℕ) → Lone c cs ≡ false → (c == 92) ≡ true → nat_lt 0 (escape_length cs) ≡ false
+pub not_lone : (c : ℕ) (cs : List ℕ) → Lone c cs ≡ false → (c == 92) ≡ true → nat_lt 0 (escape_length cs) ≡ false
 not_lone c cs n e = sym (ap (λ b. b && nat_lt 0 (escape_length cs)) e) ∙ n
 
 plain_turn : (q : ℕ) (a : Bool) (v : EsVersion) (c : ℕ) (cs : List ℕ) → IsQuote q → c < 1114112 → Lone c cs ≡ false →
@@ -60,7 +60,7 @@ nothing_spelled : (q : ℕ) (a : Bool) (v : EsVersion) → Read q Between (spell
 unfolding spelled_all units_after
 nothing_spelled q a v = no_more q
 
-first_bound : (c : ℕ) (cs : List ℕ) → scalars (c ∷ cs) ≡ true → c < 1114112
+pub first_bound : (c : ℕ) (cs : List ℕ) → scalars (c ∷ cs) ≡ true → c < 1114112
 first_bound c cs s = scalar_bound c (and_parts (scalar c) (scalars cs) s).0
 
 shorter_le : (n : ℕ) (cs rest : List ℕ) → length rest < length cs → suc (length cs) ≤ suc n → length rest ≤ n
@@ -114,11 +114,11 @@ string_closes (suc n) q a v (c ∷ cs) l h s = elim (cases_Bool (Lone c cs)) [
   | inr x ↦ plain_closes q a v c cs (q ∷ []) h (first_bound c cs s) x ∙ string_closes n q a v cs (tail_le n cs l) h (scalars_rest c cs s)
 ]
 
-quote_is : (text : List ℕ) → IsQuote (quote_of text)
+pub quote_is : (text : List ℕ) → IsQuote (quote_of text)
 unfolding quote_of IsQuote
 quote_is text = chosen (λ q. (q ≡ 34) ⊎ (q ≡ 39)) (nat_lt (count_by (λ c. c == 39) text) (count_by (λ c. c == 34) text)) 39 34 (λ _. inr refl) (λ _. inl refl)
 
-quote_shape : (q : ℕ) → IsQuote q → is_quote q ≡ true
+pub quote_shape : (q : ℕ) → IsQuote q → is_quote q ≡ true
 unfolding is_quote IsQuote
 quote_shape q h = elim h [ inl e ↦ rw e refl | inr e ↦ rw e refl ]
 
@@ -161,7 +161,7 @@ all_ascii q v (c ∷ cs) s =
 quote_ascii : (q : ℕ) → IsQuote q → is_ascii_char q ≡ true
 quote_ascii q h = let l = quote_small q h in lt-ltb q 128 (omega arith)
 
-quoted_ascii : (v : EsVersion) (text : List ℕ) → scalars text ≡ true → list_all is_ascii_char (quoted_text true v text) ≡ true
+pub quoted_ascii : (v : EsVersion) (text : List ℕ) → scalars text ≡ true → list_all is_ascii_char (quoted_text true v text) ≡ true
 unfolding quoted_text
 quoted_ascii v text s =
     let q = quote_of text in
@@ -191,7 +191,7 @@ spelled_scalars q a v (c ∷ cs) s =
     (chosen (λ t. scalars t ≡ true) (stands q a v c) (c ∷ []) (escape_text v c cs) (λ _. and_from (scalar c) true p.0 refl) (λ _. ascii_scalars (escape_text v c cs) (escape_text_ascii v c cs (scalar_bound c p.0))))
     (spelled_scalars q a v cs p.1)
 
-quoted_scalars : (a : Bool) (v : EsVersion) (text : List ℕ) → scalars text ≡ true → scalars (quoted_text a v text) ≡ true
+pub quoted_scalars : (a : Bool) (v : EsVersion) (text : List ℕ) → scalars text ≡ true → scalars (quoted_text a v text) ≡ true
 unfolding quoted_text
 quoted_scalars a v text s =
     let q = quote_of text in

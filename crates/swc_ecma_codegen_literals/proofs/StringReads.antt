@@ -47,7 +47,7 @@ digit_upper c l h = rw (le-ltb c 48 (omega arith), le-ltb c 58 (omega arith), le
 pub digit_lower : (c : ℕ) → 97 ≤ c → c < 123 → digit_value c ≡ c - 87
 digit_lower c l h = rw (le-ltb c 48 (omega arith), le-ltb c 58 (omega arith), le-ltb c 65 (omega arith), le-ltb c 91 (omega arith), le-ltb c 97 l, lt-ltb c 123 h) refl
 
-glyph_value : (upper : Bool) (d : ℕ) → d < 16 → digit_value (digit_glyph upper d) ≡ d
+pub glyph_value : (upper : Bool) (d : ℕ) → d < 16 → digit_value (digit_glyph upper d) ≡ d
 glyph_value upper d l = elim (cases_lt d 10) [
   | inl s ↦ ap digit_value (cond-true (nat_lt d 10) (48 + d) (if upper then 55 + d else 87 + d) (lt-ltb d 10 s)) ∙ (digit_low (48 + d) (omega arith) (omega arith) ∙ omega arith)
   | inr b ↦ ap digit_value (cond-false (nat_lt d 10) (48 + d) (if upper then 55 + d else 87 + d) (le-ltb d 10 b)) ∙ letter upper b
@@ -166,7 +166,7 @@ pub utf16_small : (c : ℕ) → c < 65536 → utf16 c ≡ c ∷ []
 unfolding utf16
 utf16_small c l = rw (lt-ltb c 65536 l) refl
 
-code_escape_reads : (q : ℕ) (v : EsVersion) (c : ℕ) (t : List ℕ) → IsQuote q → c < 1114112 → Read q Between (code_escape v c ++ t) ≡ before (utf16 c) (Read q Between t)
+pub code_escape_reads : (q : ℕ) (v : EsVersion) (c : ℕ) (t : List ℕ) → IsQuote q → c < 1114112 → Read q Between (code_escape v c ++ t) ≡ before (utf16 c) (Read q Between t)
 unfolding code_escape
 code_escape_reads q v c t h l = elim (cases_lt c 256) [
   | inl a ↦ rw (lt-ltb c 256 a) (hex_escape_reads q c t h a ∙ ap (λ u. before u (Read q Between t)) (sym (utf16_small c (omega arith))))

@@ -118,7 +118,7 @@ hex_range c h =
       ]
     ]
 
-hex_value_small : (c : ℕ) → is_hex c ≡ true → digit_value c < 16
+pub hex_value_small : (c : ℕ) → is_hex c ≡ true → digit_value c < 16
 hex_value_small c h = by_range (hex_range c h)
   where
     by_range : HexRange c → digit_value c < 16

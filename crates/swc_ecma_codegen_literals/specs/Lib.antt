@@ -1,4 +1,7 @@
+pub mod AsciiNames
 pub mod CodeUnits
+pub mod InlineScripts
+pub mod NameValues
 pub mod NumberTexts
 pub mod NumberValues
 pub mod StringTexts

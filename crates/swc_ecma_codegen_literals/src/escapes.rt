@@ -171,7 +171,11 @@ fn is_hex(c: u8) -> bool
 
 // `\x1b`, `\u2028`, `\uD83D\uDE00` or `\u{1F600}`.
 #[tactic(auto, unfolding(crate::specs::StringTexts::code_escape, crate::specs::StringTexts::pair_escape))]
-fn push_code(literal: &mut String, code: u32, target: EsVersion) -> Result<(), AllocError>
+pub(crate) fn push_code(
+    literal: &mut String,
+    code: u32,
+    target: EsVersion,
+) -> Result<(), AllocError>
     requires { code < 1114112 }
     ensures { OnOk result (string_bytes literal.new ≡ string_bytes literal.old ++ code_escape target code) }
 {
@@ -219,7 +223,7 @@ pub(crate) fn push_braced_escape(literal: &mut String, code: u32) -> Result<(), 
     write!(literal, "\\u{{{code:X}}}")
 }
 
-fn lower_digit(value: u32) -> char
+pub(crate) fn lower_digit(value: u32) -> char
     requires { value < 16 }
     ensures { result ≡ digit_glyph false value }
 {

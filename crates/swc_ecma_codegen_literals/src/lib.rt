@@ -2,10 +2,14 @@
 #![tactic(auto)]
 
 mod escapes;
+mod idents;
 mod names;
 mod numbers;
+mod scripts;
 mod strings;
 
+pub use crate::idents::ascii_only_ident;
 pub use crate::names::valid_name;
 pub use crate::numbers::{minified_number, plain_number};
+pub use crate::scripts::quoted_for_inline_script;
 pub use crate::strings::quoted_utf16;

@@ -1,0 +1,196 @@
+//! Names in ASCII.
+
+ghost use Rattle.std.specs.Prelude.{◌≡◌, ◌++◌, ◌∷◌, [], ◌<◌, ◌&&◌, ℕ, nat_le, true, false, List, OnOk, IfOk, IfErr, Err, Some, IsErrAnd};
+ghost use Rattle.std.specs.List.{list_any};
+ghost use Rattle.std.specs.Str.{chars, IsAscii};
+ghost use Rattle.std.specs.String.{string_bytes};
+ghost use Rattle.swc_ecma_codegen_tree.specs.declared.errors.Error.TheVariants.{OutOfMemory, NameOutOfTarget};
+ghost use Rattle.swc_ecma_codegen_ast.specs.Names.{is_word};
+ghost use Rattle.swc_ecma_codegen_ast.specs.Strings.{is_string};
+ghost use Rattle.swc_ecma_codegen_literals.specs.CodeUnits.{all_utf16};
+ghost use Rattle.swc_ecma_codegen_literals.specs.StringTexts.{up_to_es5};
+ghost use Rattle.swc_ecma_codegen_literals.specs.StringValues.{string_value};
+ghost use Rattle.swc_ecma_codegen_literals.specs.NameValues.{name_characters, spells_name};
+ghost use Rattle.swc_ecma_codegen_literals.specs.AsciiNames.{lower_unit_escape, name_escape, name_escapes, wants_quotes, is_quoted_key, is_out_of_target, ascii_name};
+
+use crate::escapes::{is_up_to_es5, lower_digit, push_code};
+use std::alloc::{AllocError, Global};
+use swc_ecma_codegen_tree::{Error, EsVersion};
+
+/// A name in ASCII alone. What isn't ASCII is escaped: `\u00e9`, `\u0301`, `\u{1D4AB}`. A key of an object or a class
+/// may be quoted; it is, where a character has a shorter escape in a string, `"\xe9"`, or one there alone,
+/// `"\uD835\uDCAB"` up to ECMAScript 5. A name that holds escapes already keeps them. `Error::NameOutOfTarget` for a
+/// character above U+FFFF, not spelled by an escape, in a name that may not be quoted, up to ECMAScript 5;
+/// `Error::OutOfMemory` where there is no room for the text.
+///
+/// Source: `get_ascii_only_ident` of swc, but quotes stand only round the whole name, and backslashes stay.
+pub fn ascii_only_ident(
+    alloc: Global,
+    text: &str,
+    may_be_quoted: bool,
+    target: EsVersion,
+) -> std::result::Result<String, Error>
+    ensures exactly { IfOk result (λ name. string_bytes name ≡ ascii_name may_be_quoted target (chars text.now)) }
+    ensures name { is_quoted_key may_be_quoted target (chars text.now) ≡ false → IfOk result (λ name. name_characters (chars (string_bytes name)) ≡ name_characters (chars text.now)) }
+    ensures key { is_quoted_key may_be_quoted target (chars text.now) ≡ true → (cs : List ℕ) → name_characters (chars text.now) ≡ Some cs → is_word cs ≡ true → IfOk result (λ name. string_value false (chars (string_bytes name)) ≡ Some (all_utf16 cs)) }
+    ensures token { is_quoted_key may_be_quoted target (chars text.now) ≡ true → spells_name (chars text.now) ≡ true → IfOk result (λ name. is_string (chars (string_bytes name)) ≡ true) }
+    ensures ascii { IfOk result (λ name. IsAscii (string_bytes name)) }
+    ensures out_of_target { is_out_of_target may_be_quoted target (chars text.now) ≡ true → IsErrAnd result (λ error. error ≡ NameOutOfTarget) }
+    ensures refused { is_out_of_target may_be_quoted target (chars text.now) ≡ false → IfErr result (λ error. error ≡ OutOfMemory) }
+{
+    if text.is_ascii() {
+        return Ok(String::from_str(alloc, text)?);
+    }
+    if is_out_of_target(text, may_be_quoted, target) {
+        return Err(Error::NameOutOfTarget);
+    }
+    if is_better_quoted(text, may_be_quoted, target) {
+        return Ok(quoted_key(alloc, text, target)?);
+    }
+    Ok(escaped_name(alloc, text, may_be_quoted, target)?)
+}
+
+// `"a\xf3b"`
+fn quoted_key(alloc: Global, text: &str, target: EsVersion) -> Result<String, AllocError>
+    ensures { IfOk result (λ name. string_bytes name ≡ 34 ∷ (name_escapes true target (chars text.now) ++ 34 ∷ [])) }
+{
+    let mut name = String::with_capacity(alloc, text.len() + 8)?;
+    name.push('"')?;
+    push_escapes(&mut name, text, true, target)?;
+    name.push('"')?;
+    Ok(name)
+}
+
+// `a\u00f3b`
+fn escaped_name(
+    alloc: Global,
+    text: &str,
+    key: bool,
+    target: EsVersion,
+) -> Result<String, AllocError>
+    ensures { IfOk result (λ name. string_bytes name ≡ name_escapes key target (chars text.now)) }
+{
+    let mut name = String::with_capacity(alloc, text.len() + 8)?;
+    push_escapes(&mut name, text, key, target)?;
+    Ok(name)
+}
+
+// Some character has no escape in a name for this target.
+#[tactic(auto, unfolding(crate::specs::AsciiNames::is_out_of_target))]
+fn is_out_of_target(text: &str, key: bool, target: EsVersion) -> bool
+    ensures { result ≡ is_out_of_target key target (chars text.now) }
+{
+    !key && is_up_to_es5(target) && has_wide(text)
+}
+
+// A character above U+FFFF.
+fn has_wide(text: &str) -> bool
+    ensures { result ≡ list_any (nat_le 65536) (chars text.now) }
+{
+    text.chars().any(|c| c >= '\u{10000}')
+}
+
+// A key some character of which has a shorter escape in a string, or one there alone.
+fn is_better_quoted(text: &str, key: bool, target: EsVersion) -> bool
+    ensures { result ≡ (key && list_any (wants_quotes target) (chars text.now)) }
+{
+    key && wants_quotes(text, target)
+}
+
+fn wants_quotes(text: &str, target: EsVersion) -> bool
+    ensures { result ≡ list_any (wants_quotes target) (chars text.now) }
+{
+    text.chars().any(|c| asks_quotes(c, target))
+}
+
+#[tactic(auto, unfolding(crate::specs::AsciiNames::wants_quotes))]
+fn asks_quotes(c: char, target: EsVersion) -> bool
+    ensures { result ≡ wants_quotes target c }
+{
+    matches!(c, '\u{7F}'..='\u{FF}') || (c >= '\u{10000}' && is_up_to_es5(target))
+}
+
+fn push_escapes(
+    name: &mut String,
+    text: &str,
+    key: bool,
+    target: EsVersion,
+) -> Result<(), AllocError>
+    ensures { OnOk result (string_bytes name.new ≡ string_bytes name.old ++ name_escapes key target (chars text.now)) }
+{
+    for c in text.chars() {
+        push_character(name, c, key, target)?;
+    }
+    Ok(())
+}
+
+// `a`, `\u00e9` or `\xe9`, `\u0301`, `\u{1D4AB}` or `\uD835\uDCAB`.
+#[tactic(auto, unfolding(crate::specs::AsciiNames::name_escape))]
+fn push_character(
+    name: &mut String,
+    c: char,
+    key: bool,
+    target: EsVersion,
+) -> Result<(), AllocError>
+    ensures { OnOk result (string_bytes name.new ≡ string_bytes name.old ++ name_escape key target c) }
+{
+    if c < '\u{7F}' {
+        name.push(c)
+    } else if c < '\u{100}' && !key {
+        push_lower_unit_escape(name, c as u32)
+    } else {
+        push_code(name, c as u32, target)
+    }
+}
+
+// `\u00e9`
+#[tactic(auto, unfolding(crate::specs::AsciiNames::lower_unit_escape))]
+fn push_lower_unit_escape(name: &mut String, code: u32) -> Result<(), AllocError>
+    requires { code < 256 }
+    ensures { OnOk result (string_bytes name.new ≡ string_bytes name.old ++ lower_unit_escape code) }
+{
+    name.push_str("\\u00")?;
+    name.push(lower_digit(code / 16))?;
+    name.push(lower_digit(code % 16))
+}
+
+#[cfg(test)]
+mod tests {
+    use super::*;
+    use std::test::Fail;
+
+    #[test]
+    fn names_in_ascii(rt: HostRuntime) -> Result<(), Fail> {
+        let latest = EsVersion::EsNext;
+        let old = EsVersion::Es5;
+        let rows = [
+            ("aób", true, old, r#""a\xf3b""#),
+            ("aób", false, old, r"a\u00f3b"),
+            ("name", true, old, "name"),
+            ("a\u{301}", true, old, r"a\u0301"),
+            ("ó\\u0301", true, latest, r#""\xf3\u0301""#),
+            ("\u{1D4AB}", false, latest, r"\u{1D4AB}"),
+            ("\u{1D4AB}", true, latest, r"\u{1D4AB}"),
+            ("\u{1D4AB}a", true, EsVersion::Es3, r#""\uD835\uDCABa""#),
+            ("\u{100}é", false, latest, r"\u0100\u00e9"),
+            ("\u{100}é", true, latest, r#""\u0100\xe9""#),
+            ("a\u{7F}é", true, old, r#""a\x7f\xe9""#),
+            ("a\u{7F}", true, old, "a\u{7F}"),
+            ("\\u0061", true, old, "\\u0061"),
+        ];
+        for (text, may_be_quoted, target, name) in rows {
+            let found = ascii_only_ident(rt.alloc(), text, may_be_quoted, target)?;
+            assert_eq!(rt; found.as_str(), name);
+        }
+        Ok(())
+    }
+
+    #[test]
+    fn names_out_of_target(rt: HostRuntime) -> Result<(), Fail> {
+        for text in ["\u{1D4AB}", "ó\u{1D4AB}", "\\u{1D4AB}\u{1D4AB}"] {
+            let found = ascii_only_ident(rt.alloc(), text, false, EsVersion::Es5);
+            assert!(rt; matches!(&found, Err(Error::NameOutOfTarget)));
+        }
+        Ok(())
+    }
+}
