@@ -47,7 +47,7 @@ digit_upper c l h = rw (le-ltb c 48 (omega arith), le-ltb c 58 (omega arith), le
 pub digit_lower : (c : ℕ) → 97 ≤ c → c < 123 → digit_value c ≡ c - 87
 digit_lower c l h = rw (le-ltb c 48 (omega arith), le-ltb c 58 (omega arith), le-ltb c 65 (omega arith), le-ltb c 91 (omega arith), le-ltb c 97 l, lt-ltb c 123 h) refl
 
-glyph_value : (upper : Bool) (d : ℕ) → d < 16 → digit_value (digit_glyph upper d) ≡ d
+pub glyph_value : (upper : Bool) (d : ℕ) → d < 16 → digit_value (digit_glyph upper d) ≡ d
 glyph_value upper d l = elim (cases_lt d 10) [
   | inl s ↦ ap digit_value (cond-true (nat_lt d 10) (48 + d) (if upper then 55 + d else 87 + d) (lt-ltb d 10 s)) ∙ (digit_low (48 + d) (omega arith) (omega arith) ∙ omega arith)
   | inr b ↦ ap digit_value (cond-false (nat_lt d 10) (48 + d) (if upper then 55 + d else 87 + d) (le-ltb d 10 b)) ∙ letter upper b
@@ -64,7 +64,7 @@ pub no_brace : is_hex 123 ≡ false
 unfolding is_hex is_digit
 no_brace = refl
 
-or_no : (b : Bool) → (b || false) ≡ b
+pub or_no : (b : Bool) → (b || false) ≡ b
 or_no true = refl
 or_no false = refl
 

@@ -5,7 +5,9 @@ mod escapes;
 mod names;
 mod numbers;
 mod strings;
+mod templates;
 
 pub use crate::names::valid_name;
 pub use crate::numbers::{minified_number, plain_number};
 pub use crate::strings::quoted_utf16;
+pub use crate::templates::template_from_raw;
