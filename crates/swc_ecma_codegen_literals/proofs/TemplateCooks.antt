@@ -1,8 +1,8 @@
 -- The text that is printed for a template has the cooked value of the raw one.
-use Rattle.std.proofs.Common.{◌≡◌, ℕ, zero, suc, ◌+◌, ◌-◌, ◌*◌, ◌<◌, ◌≤◌, Bool, true, false, not, cond, ◌&&◌, ◌||◌, ◌==◌, List, [], ◌∷◌, ◌++◌, length, drop, nat_lt, nat_le, refl, sym, ap, ◌∙◌, subst, arith, inl, inr, if◌then◌else◌, codes, Option, Some, None, ◌⊎◌, length-drop}
+use Rattle.std.proofs.Common.{◌≡◌, ℕ, zero, suc, ◌+◌, ◌*◌, ◌<◌, ◌≤◌, Bool, true, false, ◌&&◌, ◌||◌, ◌==◌, List, [], ◌∷◌, ◌++◌, length, drop, nat_lt, nat_le, refl, sym, ap, ◌∙◌, subst, arith, inl, inr, if◌then◌else◌, codes, Option, Some, None, length-drop}
 use Rattle.std.specs.Char.{digit_value}
 use Rattle.std.proofs.lemmas.Bool.{cases_Bool, and_parts, ne_eqb, eq-eqb, eqb-true, false≢true}
-use lib.Utf8.{scalars, scalar}
+use lib.Utf8.{scalars}
 use Rattle.swc_ecma_codegen_ast.specs.Chars.{is_digit, begins_digit}
 use Rattle.swc_ecma_codegen_ast.specs.Numbers.{is_hex}
 use Rattle.swc_ecma_codegen_ast.specs.Texts.{begins}
@@ -16,8 +16,8 @@ use Rattle.swc_ecma_codegen_literals.specs.TemplateTexts.{first_piece, piece_mor
 use Rattle.swc_ecma_codegen_literals.proofs.EscapeTexts.{chosen}
 use Rattle.swc_ecma_codegen_literals.proofs.SpelledTexts.{scalar_bound}
 use Rattle.swc_ecma_codegen_literals.proofs.StringUnits.{HexRange, Number, Upper, Lower, hex_range, scalars_rest}
-use Rattle.swc_ecma_codegen_literals.proofs.TemplatePieces.{pieces_drop, Plain, plain_spelled, inner_plain, and_true}
-use Rattle.swc_ecma_codegen_literals.proofs.TemplateReads.{has, has_before, rest_has, when, unless, backslash, hex_cooks, bare_text_cooks, piece_cooks, Text, Escape, Meant, Reads, raw_reads}
+use Rattle.swc_ecma_codegen_literals.proofs.TemplatePieces.{pieces_drop, plain_spelled, inner_plain, and_true}
+use Rattle.swc_ecma_codegen_literals.proofs.TemplateReads.{has, rest_has, when, backslash, hex_cooks, bare_text_cooks, piece_cooks, Escape, Meant, raw_reads}
 use Rattle.swc_ecma_codegen_literals.proofs.TemplateChars.{Fine, first_fine}
 
 -- no `{` is written right after a bare `$`

@@ -1,26 +1,23 @@
 -- The pieces of a raw text as they are spelled.
-use Rattle.std.proofs.Common.{◌≡◌, ℕ, zero, suc, ◌+◌, ◌-◌, ◌*◌, ◌<◌, ◌≤◌, Bool, true, false, not, cond, ◌&&◌, ◌||◌, ◌==◌, List, [], ◌∷◌, ◌++◌, length, drop, nat_lt, nat_le, refl, sym, ap, ◌∙◌, subst, arith, inl, inr, if◌then◌else◌, codes, append_assoc, append-nil, ◌⊎◌, length-append}
+use Rattle.std.proofs.Common.{◌≡◌, ℕ, zero, suc, ◌+◌, ◌<◌, ◌≤◌, Bool, true, false, not, ◌&&◌, ◌||◌, ◌==◌, List, [], ◌∷◌, ◌++◌, length, drop, nat_lt, nat_le, refl, sym, ap, ◌∙◌, subst, arith, inl, inr, if◌then◌else◌, codes, append_assoc, ◌⊎◌, length-append}
 use Rattle.std.specs.Char.{digit_value, encode_utf8}
 use Rattle.std.specs.List.{list_all}
-use Rattle.std.specs.Str.{chars, IsUtf8, IsAscii, encode_utf8_all}
-use Rattle.std.proofs.lemmas.Bool.{cases_lt, cases_Bool, lt-ltb, le-ltb, le-leb, ltb-true, ltb-false, leb-true, and_from, and_parts, and_right, or_cases, or_parts, or_from, ne_eqb, eq-eqb, eqb-true, not-true, false≢true, false_from_ne_true}
-use Rattle.std.proofs.lemmas.Str.{encodes-append, encodes-chars, chars-append, encodes-IsAscii, chars-encodes, len_utf8_bounds, length-encode}
+use Rattle.std.specs.Str.{chars, IsUtf8, encode_utf8_all}
+use Rattle.std.proofs.lemmas.Bool.{cases_lt, lt-ltb, le-ltb, ltb-false, leb-true, and_parts, or_cases, or_parts, or_from, ne_eqb, eqb-true, not-true, false≢true, false_from_ne_true}
+use Rattle.std.proofs.lemmas.Str.{encodes-append, encodes-chars, chars-append, encodes-IsAscii, len_utf8_bounds, length-encode}
 use Rattle.std.proofs.lemmas.List.{nil_from_length}
-use Rattle.std.proofs.lemmas.List.Folds.{list_all-append}
-use lib.Utf8.{encodes, scalars, scalar, low_scalar}
+use lib.Utf8.{encodes}
 use Rattle.swc_ecma_codegen_ast.specs.Chars.{is_digit, begins_digit}
 use Rattle.swc_ecma_codegen_ast.specs.Numbers.{is_hex}
-use Rattle.swc_ecma_codegen_ast.specs.Texts.{begins}
 use Rattle.swc_ecma_codegen_literals.specs.StringTexts.{is_unseen, hex_escape, unit_escape, braced_escape}
 use Rattle.swc_ecma_codegen_literals.specs.declared.templates.Piece.{Piece}
 use Rattle.swc_ecma_codegen_literals.specs.declared.templates.Piece.TheVariants.{Bare, Kept, Hex, Gone}
-use Rattle.swc_ecma_codegen_literals.specs.TemplateTexts.{stays_hex, hex_more, hex_value_piece, hex_digits_piece, hex_piece, is_kept, escape_piece, first_piece, piece_more, pieces_after, pieces, bare_text, piece_text, dollar_after, spelled_pieces, template_text, stands_bare, spelled_bytes}
-use Rattle.swc_ecma_codegen_literals.proofs.EscapeTexts.{chosen, is_ascii_char, hex_escape_ascii, unit_escape_ascii, braced_escape_ascii}
+use Rattle.swc_ecma_codegen_literals.specs.TemplateTexts.{hex_more, hex_digits_piece, hex_piece, first_piece, piece_more, pieces_after, pieces, bare_text, piece_text, dollar_after, spelled_pieces, stands_bare, spelled_bytes}
+use Rattle.swc_ecma_codegen_literals.proofs.EscapeTexts.{chosen, hex_escape_ascii, unit_escape_ascii, braced_escape_ascii}
 use Rattle.swc_ecma_codegen_literals.proofs.Numerals as numerals
-use Rattle.swc_ecma_codegen_literals.proofs.QuotedTexts.{scalars_append, ascii_scalars}
 use Rattle.swc_ecma_codegen_literals.proofs.StringReads.{digit_low, digit_upper, digit_lower}
 use Rattle.swc_ecma_codegen_literals.proofs.StringUnits.{HexRange, Number, Upper, Lower, hex_range}
-use Rattle.swc_ecma_codegen_literals.proofs.SpelledTexts.{scalar_bound, ascii_from_all}
+use Rattle.swc_ecma_codegen_literals.proofs.SpelledTexts.{ascii_from_all}
 
 pub pieces_drop : (k : ℕ) (cs : List ℕ) → pieces_after k cs ≡ pieces_after 0 (drop k cs)
 unfolding pieces_after

@@ -1,16 +1,16 @@
 -- What the pieces of a template's text stand for: in its raw text, and as they are spelled.
-use Rattle.std.proofs.Common.{◌≡◌, ℕ, zero, suc, ◌+◌, ◌-◌, ◌*◌, ◌/◌, ◌%◌, ◌^◌, ◌<◌, ◌≤◌, Bool, true, false, not, cond, ◌&&◌, ◌||◌, ◌==◌, List, [], ◌∷◌, ◌++◌, length, drop, nat_lt, nat_le, refl, sym, ap, ◌∙◌, subst, arith, inl, inr, if◌then◌else◌, codes, Option, Some, None, is_some, append_assoc, append-nil, ◌⊎◌}
+use Rattle.std.proofs.Common.{◌≡◌, ℕ, suc, ◌+◌, ◌*◌, ◌/◌, ◌%◌, ◌^◌, ◌<◌, ◌≤◌, Bool, true, false, ◌&&◌, ◌||◌, ◌==◌, List, [], ◌∷◌, ◌++◌, length, drop, nat_lt, nat_le, refl, sym, ap, ◌∙◌, subst, arith, inl, inr, if◌then◌else◌, codes, Option, Some, None, is_some, append_assoc}
 use Rattle.std.specs.Char.{digit_value}
 use Rattle.std.specs.Fmt.{digit_glyph, digits}
 use Rattle.std.specs.Str.Parse.{digits_value, digits_value_after, AllDigits, IsNumeral}
 use Rattle.std.proofs.lemmas.Fmt.{digits_is_IsNumeral}
-use Rattle.std.proofs.lemmas.Bool.{cases_lt, cases_Bool, lt-ltb, le-ltb, le-leb, ltb-true, ltb-false, leb-true, and_from, and_parts, and_right, or_cases, or_parts, or_right, or_from, ne_eqb, eq-eqb, eqb-true, not-true, false≢true}
+use Rattle.std.proofs.lemmas.Bool.{cases_Bool, lt-ltb, le-leb, ltb-true, and_from, and_parts, or_cases, or_parts, or_right, ne_eqb, eqb-true, false≢true}
 use Rattle.swc_ecma_codegen_ast.specs.Chars.{is_digit, begins_digit}
 use Rattle.swc_ecma_codegen_ast.specs.Numbers.{is_hex}
 use Rattle.swc_ecma_codegen_ast.specs.Texts.{begins}
 use Rattle.swc_ecma_codegen_literals.specs.CodeUnits.{utf16}
 use Rattle.swc_ecma_codegen_literals.specs.StringTexts.{is_unseen, hex_escape, unit_escape, braced_escape}
-use Rattle.swc_ecma_codegen_literals.specs.StringValues.{Place, Between, Escaped, Due, Unicode, Braced, Octal, Continued, before, single_escape}
+use Rattle.swc_ecma_codegen_literals.specs.StringValues.{Between, Escaped, Due, Unicode, Braced, before, single_escape}
 use Rattle.swc_ecma_codegen_literals.specs.TemplateValues.{cooked_rest}
 use Rattle.swc_ecma_codegen_literals.specs.declared.templates.Piece.{Piece}
 use Rattle.swc_ecma_codegen_literals.specs.declared.templates.Piece.TheVariants.{Bare, Kept, Hex, Gone}
@@ -18,7 +18,7 @@ use Rattle.swc_ecma_codegen_literals.specs.TemplateTexts.{stays_hex, hex_more, h
 use Rattle.swc_ecma_codegen_literals.proofs.EscapeTexts.{chosen, glyph_hex}
 use Rattle.swc_ecma_codegen_literals.proofs.Numerals.{hex_from_value}
 use Rattle.swc_ecma_codegen_literals.proofs.StringReads.{glyph_value, hex_not, no_brace, or_no, utf16_small}
-use Rattle.swc_ecma_codegen_literals.proofs.TemplatePieces.{unseen_cases, unseen_small, hex_value_small}
+use Rattle.swc_ecma_codegen_literals.proofs.TemplatePieces.{unseen_small, hex_value_small}
 
 abbrev pub has : Option (List ℕ) → Bool
 has o = is_some o

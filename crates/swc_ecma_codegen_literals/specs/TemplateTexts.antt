@@ -1,5 +1,5 @@
 -- How the text of an untagged template is spelled, from its raw text. CR LF and CR count as LF.
-use Rattle.std.specs.Prelude.{ℕ, zero, suc, ◌+◌, ◌*◌, Bool, true, false, not, List, [], ◌∷◌, ◌++◌, ◌&&◌, ◌||◌, ◌==◌, nat_lt, nat_le, if◌then◌else◌, codes}
+use Rattle.std.specs.Prelude.{ℕ, zero, suc, ◌+◌, ◌*◌, Bool, false, not, List, [], ◌∷◌, ◌++◌, ◌&&◌, ◌||◌, ◌==◌, nat_lt, nat_le, if◌then◌else◌, codes}
 use Rattle.std.specs.Char.{digit_value}
 use Rattle.std.specs.Str.{chars, encode_utf8_all}
 use Rattle.swc_ecma_codegen_ast.specs.Chars.{begins_digit}

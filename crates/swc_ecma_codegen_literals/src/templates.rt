@@ -350,7 +350,11 @@ mod tests {
             (r"\${", false, r"\${"),
             (r"\x5cn", false, r"\x5cn"),
             ("\\0\\\u{2028}1", false, r"\x001"),
-            ("\u{1F60A}\u{2764}\u{FE0F}", true, r"\u{1F60A}\u{2764}\u{FE0F}"),
+            (
+                "\u{1F60A}\u{2764}\u{FE0F}",
+                true,
+                r"\u{1F60A}\u{2764}\u{FE0F}",
+            ),
         ];
         for (raw, ascii_only, text) in rows {
             let found = template_from_raw(rt.alloc(), raw, ascii_only)?;

@@ -1,4 +1,4 @@
-use Rattle.std.proofs.Common.{◌≡◌, sym, ◌∙◌, ap, ◌∷◌, List, ℕ, arith, length}
+use Rattle.std.proofs.Common.{◌≡◌, arith, length}
 use Rattle.swc_ecma_codegen_literals.proofs.TemplatePieces.{piece_turn, no_chars}
 use Rattle.swc_ecma_codegen_literals.proofs.templates.push_first_piece.Goals as goal
 

@@ -1,4 +1,4 @@
-use Rattle.std.proofs.Common.{◌≡◌, sym, ◌∙◌, ap, ◌∷◌, List, ℕ}
+use Rattle.std.proofs.Common.{sym, ◌∙◌, ap, ◌∷◌, List, ℕ}
 use Rattle.std.specs.Str.{chars}
 use Rattle.std.proofs.lemmas.Str.{chars_past_char}
 use Rattle.swc_ecma_codegen_literals.proofs.templates.split_char.Goals as goal

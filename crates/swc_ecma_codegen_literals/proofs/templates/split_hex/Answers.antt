@@ -1,4 +1,4 @@
-use Rattle.std.proofs.Common.{◌≡◌, sym, ◌∙◌, ap, ◌∷◌, List, ℕ, arith, ◌<◌, length}
+use Rattle.std.proofs.Common.{◌≡◌, ◌∙◌, ap, ◌∷◌, List, ℕ, arith, ◌<◌, length}
 use Rattle.std.specs.Str.{chars}
 use Rattle.swc_ecma_codegen_literals.proofs.TemplatePieces.{hex_front, hex_rest}
 use Rattle.swc_ecma_codegen_literals.proofs.templates.split_hex.Goals as goal
