@@ -36,11 +36,11 @@ glyph_hex upper d l = elim (cases_lt d 10) [
 glyph_ascii : (upper : Bool) (d : ℕ) → d < 16 → is_ascii_char (digit_glyph upper d) ≡ true
 glyph_ascii upper d l = lt-ltb (digit_glyph upper d) 128 (hex_ascii (digit_glyph upper d) (glyph_hex upper d l))
 
-hex_escape_ascii : (c : ℕ) → c < 256 → list_all is_ascii_char (hex_escape c) ≡ true
+pub hex_escape_ascii : (c : ℕ) → c < 256 → list_all is_ascii_char (hex_escape c) ≡ true
 unfolding hex_escape
 hex_escape_ascii c l = rw (glyph_ascii false (c / 16) (omega arith), glyph_ascii false (c % 16) (omega arith)) refl
 
-unit_escape_ascii : (c : ℕ) → c < 65536 → list_all is_ascii_char (unit_escape c) ≡ true
+pub unit_escape_ascii : (c : ℕ) → c < 65536 → list_all is_ascii_char (unit_escape c) ≡ true
 unfolding unit_escape
 unit_escape_ascii c l = rw (glyph_ascii true (c / 4096) (omega arith), glyph_ascii true (c / 256 % 16) (omega arith), glyph_ascii true (c / 16 % 16) (omega arith), glyph_ascii true (c % 16) (omega arith)) refl
 
@@ -55,7 +55,7 @@ all_digits_ascii : (ds : List ℕ) → AllDigits 16 ds → list_all is_ascii_cha
 all_digits_ascii [] h = refl
 all_digits_ascii (d ∷ ds) h = and_from (is_ascii_char d) (list_all is_ascii_char ds) (lt-ltb d 128 (hex_ascii d (hex_from_value d h.0))) (all_digits_ascii ds h.1)
 
-braced_escape_ascii : (c : ℕ) → c < 1114112 → list_all is_ascii_char (braced_escape c) ≡ true
+pub braced_escape_ascii : (c : ℕ) → c < 1114112 → list_all is_ascii_char (braced_escape c) ≡ true
 unfolding braced_escape
 braced_escape_ascii c l =
     let big : c < 16 ^ 64 = omega (arith, l) in

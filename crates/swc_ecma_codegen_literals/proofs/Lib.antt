@@ -17,3 +17,8 @@ pub mod SpelledTexts
 pub mod StringCloses
 pub mod StringReads
 pub mod StringUnits
+pub mod TemplateChars
+pub mod TemplateCooks
+pub mod TemplateParts
+pub mod TemplatePieces
+pub mod TemplateReads

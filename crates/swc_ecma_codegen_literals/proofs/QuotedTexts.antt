@@ -171,11 +171,11 @@ quoted_ascii v text s =
     and_from (list_all is_ascii_char (spelled_all (quote_of text) true v text)) (is_ascii_char (quote_of text) && true) (all_ascii (quote_of text) v text s) (and_from (is_ascii_char (quote_of text)) true h refl))
 
 -- a quoted text is made of characters
-scalars_append : (xs ys : List ℕ) → scalars xs ≡ true → scalars ys ≡ true → scalars (xs ++ ys) ≡ true
+pub scalars_append : (xs ys : List ℕ) → scalars xs ≡ true → scalars ys ≡ true → scalars (xs ++ ys) ≡ true
 scalars_append [] ys h g = g
 scalars_append (x ∷ xs) ys h g = let p = and_parts (scalar x) (scalars xs) h in and_from (scalar x) (scalars (xs ++ ys)) p.0 (scalars_append xs ys p.1 g)
 
-ascii_scalars : (t : List ℕ) → list_all is_ascii_char t ≡ true → scalars t ≡ true
+pub ascii_scalars : (t : List ℕ) → list_all is_ascii_char t ≡ true → scalars t ≡ true
 ascii_scalars [] h = refl
 ascii_scalars (c ∷ cs) h =
     let p = and_parts (is_ascii_char c) (list_all is_ascii_char cs) h in

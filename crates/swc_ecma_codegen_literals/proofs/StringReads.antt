@@ -64,7 +64,7 @@ pub no_brace : is_hex 123 ≡ false
 unfolding is_hex is_digit
 no_brace = refl
 
-or_no : (b : Bool) → (b || false) ≡ b
+pub or_no : (b : Bool) → (b || false) ≡ b
 or_no true = refl
 or_no false = refl
 

@@ -107,7 +107,7 @@ pub data HexRange (c : ℕ) : Type 0 where
   Upper : 65 ≤ c → c < 71 → HexRange c
   Lower : 97 ≤ c → c < 103 → HexRange c
 
-hex_range : (c : ℕ) → is_hex c ≡ true → HexRange c
+pub hex_range : (c : ℕ) → is_hex c ≡ true → HexRange c
 unfolding is_hex
 hex_range c h =
     elim (or_cases (is_digit c) ((nat_le 65 c && nat_le c 70) || (nat_le 97 c && nat_le c 102)) h) [

@@ -6,4 +6,6 @@ pub mod NumberTexts
 pub mod NumberValues
 pub mod StringTexts
 pub mod StringValues
+pub mod TemplateTexts
+pub mod TemplateValues
 pub mod ValidNames

@@ -54,7 +54,7 @@ fn is_below_es5(target: EsVersion) -> bool
 
 // U+2028 and U+2029, which end lines, and U+FEFF, which editors drop.
 #[tactic(auto, unfolding(crate::specs::StringTexts::is_unseen))]
-fn is_unseen(c: char) -> bool
+pub(crate) fn is_unseen(c: char) -> bool
     ensures { result ≡ is_unseen c }
 {
     c == '\u{2028}' || c == '\u{2029}' || c == '\u{FEFF}'
