@@ -1,4 +1,5 @@
 pub mod Chars
+pub mod CodeUnits
 pub mod CommentMaps
 pub mod ExprPhrases
 pub mod GapRules
@@ -7,6 +8,7 @@ pub mod Jsx
 pub mod LongestMatch
 pub mod NamePhrases
 pub mod Names
+pub mod NumberValues
 pub mod Numbers
 pub mod Parts
 pub mod Phrases
@@ -16,7 +18,9 @@ pub mod Reads
 pub mod RegularExpressions
 pub mod Skipping
 pub mod StmtPhrases
+pub mod StringValues
 pub mod Strings
+pub mod TemplateValues
 pub mod Templates
 pub mod Texts
 pub mod Tokens

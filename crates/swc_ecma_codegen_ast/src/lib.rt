@@ -13,6 +13,7 @@ mod punctuation;
 pub mod reader;
 pub mod reading_laws;
 mod shapes;
+pub mod units;
 
 pub use swc_ecma_codegen_tree::{
     AnyNode, AssignOp, BinExpr, BinaryOp, BytePos, ComputedPropName, CondExpr, DUMMY_SP, EmptyStmt,

@@ -4,6 +4,7 @@ use crate::comments::{CommentMaps, Comments};
 use crate::kinds::{Kind, TemplatePart};
 use crate::mapper::{NoSource, SourceMapper};
 use crate::reader::{characters, read_tokens};
+use crate::units::utf16;
 use crate::{BytePos, DUMMY_SP};
 use std::alloc::{AllocError, Global};
 
@@ -166,5 +167,23 @@ fn nothing_is_known_without_source_and_comments(rt: HostRuntime) -> Result<(), A
         Ok(snippet) => assert!(rt; snippet.is_none()),
         Err(_) => assert!(rt; false),
     }
+    Ok(())
+}
+
+#[test]
+fn code_units_of_a_character(rt: HostRuntime) -> Result<(), AllocError> {
+    assert_eq!(rt; utf16(rt.alloc(), 'a')?.as_slice(), [0x61].as_slice());
+    assert_eq!(rt;
+        utf16(rt.alloc(), '\u{ffff}')?.as_slice(),
+        [0xffff].as_slice()
+    );
+    assert_eq!(rt;
+        utf16(rt.alloc(), '\u{1f600}')?.as_slice(),
+        [0xd83d, 0xde00].as_slice()
+    );
+    assert_eq!(rt;
+        utf16(rt.alloc(), '\u{10ffff}')?.as_slice(),
+        [0xdbff, 0xdfff].as_slice()
+    );
     Ok(())
 }

@@ -8,7 +8,7 @@ use Rattle.std.proofs.lemmas.Str.{chars_past_char, char_from_byte, byte_from_cha
 use lib.Utf8.{encodes}
 use Rattle.swc_ecma_codegen_ast.specs.Chars.{is_digit, begins_digit}
 use Rattle.swc_ecma_codegen_ast.specs.Numbers.{is_hex, is_either}
-use Rattle.swc_ecma_codegen_literals.specs.CodeUnits.{begins_like, is_high_digit, short_escape, long_escape, escape_length}
+use Rattle.swc_ecma_codegen_ast.specs.CodeUnits.{begins_like, is_high_digit, short_escape, long_escape, escape_length}
 
 -- tests that ASCII characters alone pass
 abbrev AllAscii : List (ℕ → Bool) → Type 0

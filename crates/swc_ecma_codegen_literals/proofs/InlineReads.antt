@@ -6,8 +6,10 @@ use Rattle.swc_ecma_codegen_ast.specs.Chars.{is_digit, begins_digit}
 use Rattle.swc_ecma_codegen_ast.specs.Numbers.{is_hex, is_octal, is_either}
 use Rattle.swc_ecma_codegen_ast.specs.Strings.{closes}
 use Rattle.swc_ecma_codegen_ast.specs.Texts.{is_empty}
-use Rattle.swc_ecma_codegen_literals.specs.CodeUnits.{utf16, begins_like}
-use Rattle.swc_ecma_codegen_literals.specs.StringValues.{Place, Between, Escaped, Due, Unicode, Braced, Octal, Continued, before, single_escape, string_rest}
+use Rattle.swc_ecma_codegen_ast.specs.CodeUnits.{utf16, begins_like}
+use Rattle.swc_ecma_codegen_ast.specs.declared.units.Place.{Place}
+use Rattle.swc_ecma_codegen_ast.specs.declared.units.Place.TheVariants.{Between, Escaped, Due, Unicode, Braced, Octal, Continued}
+use Rattle.swc_ecma_codegen_ast.specs.StringValues.{before, single_escape, string_rest}
 use Rattle.swc_ecma_codegen_literals.specs.InlineScripts.{is_tag_end, script_end, dashes_after, mark_text, marked}
 use Rattle.swc_ecma_codegen_literals.proofs.StringReads.{IsQuote, Read, escapes, hex_not}
 use Rattle.swc_ecma_codegen_literals.proofs.StringCloses.{closes_escape}

@@ -10,7 +10,9 @@ use lib.Utf8.{scalars, scalar}
 use Rattle.swc_ecma_codegen_tree.specs.declared.versions.EsVersion.{EsVersion}
 use Rattle.swc_ecma_codegen_ast.specs.Chars.{is_digit}
 use Rattle.swc_ecma_codegen_ast.specs.Numbers.{is_hex}
-use Rattle.swc_ecma_codegen_literals.specs.StringValues.{Place, Between, Escaped, Due, Unicode, Braced, Octal, Continued, before}
+use Rattle.swc_ecma_codegen_ast.specs.declared.units.Place.{Place}
+use Rattle.swc_ecma_codegen_ast.specs.declared.units.Place.TheVariants.{Between, Escaped, Due, Unicode, Braced, Octal, Continued}
+use Rattle.swc_ecma_codegen_ast.specs.StringValues.{before}
 use Rattle.swc_ecma_codegen_literals.specs.StringTexts.{up_to_es5, code_escape, hex_escape, unit_escape, pair_escape, braced_escape}
 use Rattle.swc_ecma_codegen_literals.specs.NameValues.{name_rest}
 use Rattle.swc_ecma_codegen_literals.specs.AsciiNames.{lower_unit_escape, name_escape, name_escapes, wants_quotes}

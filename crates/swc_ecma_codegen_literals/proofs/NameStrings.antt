@@ -10,8 +10,10 @@ use Rattle.swc_ecma_codegen_ast.specs.Names.{all_part, is_word}
 use Rattle.swc_ecma_codegen_ast.specs.Numbers.{is_hex, is_either}
 use Rattle.swc_ecma_codegen_ast.specs.Strings.{closes, is_string}
 use Rattle.swc_ecma_codegen_ast.specs.Texts.{is_empty}
-use Rattle.swc_ecma_codegen_literals.specs.CodeUnits.{utf16, all_utf16}
-use Rattle.swc_ecma_codegen_literals.specs.StringValues.{Place, Between, Escaped, Due, Unicode, Braced, Octal, Continued, before, string_rest, string_value}
+use Rattle.swc_ecma_codegen_ast.specs.CodeUnits.{utf16, all_utf16}
+use Rattle.swc_ecma_codegen_ast.specs.declared.units.Place.{Place}
+use Rattle.swc_ecma_codegen_ast.specs.declared.units.Place.TheVariants.{Between, Escaped, Due, Unicode, Braced, Octal, Continued}
+use Rattle.swc_ecma_codegen_ast.specs.StringValues.{before, string_rest, string_value}
 use Rattle.swc_ecma_codegen_literals.specs.StringTexts.{code_escape}
 use Rattle.swc_ecma_codegen_literals.specs.NameValues.{name_rest, name_characters, are_word, spells_name}
 use Rattle.swc_ecma_codegen_literals.specs.AsciiNames.{lower_unit_escape, name_escape, name_escapes}

@@ -11,9 +11,10 @@ use lib.Utf8.{scalars, scalar}
 use Rattle.swc_ecma_codegen_tree.specs.declared.versions.EsVersion.{EsVersion}
 use Rattle.swc_ecma_codegen_ast.specs.Names.{is_word}
 use Rattle.swc_ecma_codegen_ast.specs.Strings.{is_string}
-use Rattle.swc_ecma_codegen_literals.specs.CodeUnits.{all_utf16}
+use Rattle.swc_ecma_codegen_ast.specs.CodeUnits.{all_utf16}
 use Rattle.swc_ecma_codegen_literals.specs.StringTexts.{up_to_es5}
-use Rattle.swc_ecma_codegen_literals.specs.StringValues.{Between, string_value}
+use Rattle.swc_ecma_codegen_ast.specs.declared.units.Place.TheVariants.{Between}
+use Rattle.swc_ecma_codegen_ast.specs.StringValues.{string_value}
 use Rattle.swc_ecma_codegen_literals.specs.NameValues.{name_characters, spells_name}
 use Rattle.swc_ecma_codegen_literals.specs.AsciiNames.{lower_unit_escape, name_escape, name_escapes, wants_quotes, is_ascii_text, is_quoted_key, is_out_of_target, ascii_name}
 use Rattle.swc_ecma_codegen_literals.proofs.EscapeTexts.{is_ascii_char, code_escape_ascii, glyph_hex}

@@ -11,8 +11,10 @@ use Rattle.swc_ecma_codegen_ast.specs.Chars.{is_quote}
 use Rattle.swc_ecma_codegen_ast.specs.Strings.{closes, is_string}
 use Rattle.swc_ecma_codegen_ast.specs.Numbers.{is_either}
 use Rattle.swc_ecma_codegen_ast.specs.Texts.{is_empty}
-use Rattle.swc_ecma_codegen_literals.specs.CodeUnits.{utf16, escape_length, escape_unit, units_after, units}
-use Rattle.swc_ecma_codegen_literals.specs.StringValues.{Place, Between, before, string_rest, string_value}
+use Rattle.swc_ecma_codegen_ast.specs.CodeUnits.{utf16, escape_length, escape_unit, units_after, units}
+use Rattle.swc_ecma_codegen_ast.specs.declared.units.Place.{Place}
+use Rattle.swc_ecma_codegen_ast.specs.declared.units.Place.TheVariants.{Between}
+use Rattle.swc_ecma_codegen_ast.specs.StringValues.{before, string_rest, string_value}
 use Rattle.swc_ecma_codegen_literals.specs.StringTexts.{up_to_es5, stands, escape_text, backslash_escape, spelled, spelled_all, quote_of, quoted_text}
 use Rattle.swc_ecma_codegen_literals.proofs.EscapeTexts.{chosen, is_ascii_char, escape_text_ascii}
 use Rattle.swc_ecma_codegen_literals.proofs.SpelledTexts.{scalar_bound, ascii_from_all}

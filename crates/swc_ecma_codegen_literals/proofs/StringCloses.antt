@@ -11,7 +11,7 @@ use Rattle.swc_ecma_codegen_ast.specs.Chars.{begins_digit, is_digit}
 use Rattle.swc_ecma_codegen_ast.specs.Numbers.{is_hex, is_either}
 use Rattle.swc_ecma_codegen_ast.specs.Strings.{closes}
 use Rattle.swc_ecma_codegen_ast.specs.Texts.{is_empty}
-use Rattle.swc_ecma_codegen_literals.specs.CodeUnits.{escape_length}
+use Rattle.swc_ecma_codegen_ast.specs.CodeUnits.{escape_length}
 use Rattle.swc_ecma_codegen_literals.specs.StringTexts.{up_to_es5, below_es5, escape_text, null_escape, backslash_escape, code_escape, hex_escape, unit_escape, pair_escape, braced_escape}
 use Rattle.swc_ecma_codegen_literals.proofs.Numerals.{hex_from_value}
 use Rattle.swc_ecma_codegen_literals.proofs.EscapeTexts.{glyph_hex, chosen}

@@ -12,8 +12,10 @@ use Rattle.swc_ecma_codegen_ast.specs.Chars.{is_digit, is_quote, begins_digit}
 use Rattle.swc_ecma_codegen_ast.specs.Numbers.{is_hex, is_octal, is_either}
 use Rattle.swc_ecma_codegen_ast.specs.Strings.{closes, is_string}
 use Rattle.swc_ecma_codegen_ast.specs.Texts.{is_empty, begins}
-use Rattle.swc_ecma_codegen_literals.specs.CodeUnits.{utf16, begins_like, is_high_digit, short_escape, long_escape, escape_length, escape_unit, units_after, units}
-use Rattle.swc_ecma_codegen_literals.specs.StringValues.{Place, Between, Escaped, Due, Unicode, Braced, Octal, Continued, before, single_escape, begins_octal, string_rest, string_value}
+use Rattle.swc_ecma_codegen_ast.specs.CodeUnits.{utf16, begins_like, is_high_digit, short_escape, long_escape, escape_length, escape_unit, units_after, units}
+use Rattle.swc_ecma_codegen_ast.specs.declared.units.Place.{Place}
+use Rattle.swc_ecma_codegen_ast.specs.declared.units.Place.TheVariants.{Between, Escaped, Due, Unicode, Braced, Octal, Continued}
+use Rattle.swc_ecma_codegen_ast.specs.StringValues.{before, single_escape, begins_octal, string_rest, string_value}
 use Rattle.swc_ecma_codegen_literals.specs.StringTexts.{up_to_es5, below_es5, is_unseen, stands, escape_text, null_escape, backslash_escape, code_escape, hex_escape, unit_escape, pair_escape, braced_escape, spelled, spelled_all}
 use Rattle.swc_ecma_codegen_literals.proofs.Numerals.{hex_from_value}
 use Rattle.swc_ecma_codegen_literals.proofs.EscapeTexts.{glyph_hex, chosen}

@@ -10,8 +10,10 @@ use Rattle.swc_ecma_codegen_tree.specs.declared.versions.EsVersion.{EsVersion}
 use Rattle.swc_ecma_codegen_ast.specs.Chars.{is_digit, is_quote, begins_digit}
 use Rattle.swc_ecma_codegen_ast.specs.Numbers.{is_hex, is_octal, is_either}
 use Rattle.swc_ecma_codegen_ast.specs.Texts.{is_empty}
-use Rattle.swc_ecma_codegen_literals.specs.CodeUnits.{utf16, begins_like, is_high_digit, short_escape, long_escape, escape_length, escape_unit, units_after, units}
-use Rattle.swc_ecma_codegen_literals.specs.StringValues.{Place, Between, Escaped, Due, Unicode, Braced, before, string_rest, string_value}
+use Rattle.swc_ecma_codegen_ast.specs.CodeUnits.{utf16, begins_like, is_high_digit, short_escape, long_escape, escape_length, escape_unit, units_after, units}
+use Rattle.swc_ecma_codegen_ast.specs.declared.units.Place.{Place}
+use Rattle.swc_ecma_codegen_ast.specs.declared.units.Place.TheVariants.{Between, Escaped, Due, Unicode, Braced}
+use Rattle.swc_ecma_codegen_ast.specs.StringValues.{before, string_rest, string_value}
 use Rattle.swc_ecma_codegen_literals.specs.StringTexts.{up_to_es5, below_es5, is_unseen, stands, escape_text, null_escape, backslash_escape, code_escape, hex_escape, unit_escape, pair_escape, braced_escape, spelled, spelled_all, quote_of, quoted_text}
 use Rattle.swc_ecma_codegen_literals.proofs.EscapeTexts.{chosen}
 use Rattle.swc_ecma_codegen_literals.proofs.SpelledTexts.{spelled_run, scalar_bound}

@@ -6,9 +6,11 @@ use Rattle.swc_ecma_codegen_ast.specs.Chars.{is_digit, begins_digit}
 use Rattle.swc_ecma_codegen_ast.specs.Numbers.{is_hex}
 use Rattle.swc_ecma_codegen_ast.specs.Templates.{ends_template, is_template, is_template_rest}
 use Rattle.swc_ecma_codegen_ast.specs.Texts.{begins, is_empty, is_same}
-use Rattle.swc_ecma_codegen_literals.specs.CodeUnits.{utf16}
-use Rattle.swc_ecma_codegen_literals.specs.StringValues.{Place, Between, Escaped, Due, Unicode, Braced, Octal, Continued, before, single_escape}
-use Rattle.swc_ecma_codegen_literals.specs.TemplateValues.{cooked_rest, cooked_value, part_end, IsInsidePart}
+use Rattle.swc_ecma_codegen_ast.specs.CodeUnits.{utf16}
+use Rattle.swc_ecma_codegen_ast.specs.declared.units.Place.{Place}
+use Rattle.swc_ecma_codegen_ast.specs.declared.units.Place.TheVariants.{Between, Escaped, Due, Unicode, Braced, Octal, Continued}
+use Rattle.swc_ecma_codegen_ast.specs.StringValues.{before, single_escape}
+use Rattle.swc_ecma_codegen_ast.specs.TemplateValues.{cooked_rest, cooked_value, part_end, IsInsidePart}
 use Rattle.swc_ecma_codegen_literals.proofs.TemplateReads.{has, rest_has, when, unless}
 use Rattle.swc_ecma_codegen_literals.proofs.TemplateCooks.{Inside, is_inner, inner_char}
 

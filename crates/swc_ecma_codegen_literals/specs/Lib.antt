@@ -1,11 +1,7 @@
 pub mod AsciiNames
-pub mod CodeUnits
 pub mod InlineScripts
 pub mod NameValues
 pub mod NumberTexts
-pub mod NumberValues
 pub mod StringTexts
-pub mod StringValues
 pub mod TemplateTexts
-pub mod TemplateValues
 pub mod ValidNames

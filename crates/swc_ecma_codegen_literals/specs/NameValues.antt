@@ -3,7 +3,9 @@ use Rattle.std.specs.Prelude.{ℕ, zero, suc, ◌+◌, ◌*◌, Bool, true, fals
 use Rattle.std.specs.Char.{digit_value}
 use Rattle.swc_ecma_codegen_ast.specs.Numbers.{is_hex}
 use Rattle.swc_ecma_codegen_ast.specs.Names.{is_word}
-use Rattle.swc_ecma_codegen_literals.specs.StringValues.{Place, Between, Escaped, Due, Unicode, Braced, Octal, Continued, before}
+use Rattle.swc_ecma_codegen_ast.specs.declared.units.Place.{Place}
+use Rattle.swc_ecma_codegen_ast.specs.declared.units.Place.TheVariants.{Between, Escaped, Due, Unicode, Braced, Octal, Continued}
+use Rattle.swc_ecma_codegen_ast.specs.StringValues.{before}
 
 -- The characters of the rest of a name, whose escapes are `\u0061` and `\u{61}` alone.
 unfoldable pub name_rest : Place → List ℕ → Option (List ℕ)

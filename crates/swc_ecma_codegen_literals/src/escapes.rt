@@ -6,7 +6,7 @@ ghost use Rattle.std.specs.Str.{chars};
 ghost use Rattle.std.specs.String.{string_bytes};
 ghost use Rattle.swc_ecma_codegen_ast.specs.Chars.{begins_digit};
 ghost use Rattle.swc_ecma_codegen_ast.specs.Numbers.{is_hex, is_either};
-ghost use Rattle.swc_ecma_codegen_literals.specs.CodeUnits.{escape_length, is_high_digit, begins_like, short_escape, long_escape};
+ghost use Rattle.swc_ecma_codegen_ast.specs.CodeUnits.{escape_length, is_high_digit, begins_like, short_escape, long_escape};
 ghost use Rattle.swc_ecma_codegen_literals.specs.StringTexts.{up_to_es5, below_es5, stands, is_unseen, escape_text, null_escape, backslash_escape, code_escape, hex_escape, unit_escape, braced_escape};
 
 use std::alloc::AllocError;
@@ -155,7 +155,7 @@ fn is_letter_d(c: u8) -> bool
     c == b'D' || c == b'd'
 }
 
-#[tactic(auto, unfolding(crate::specs::CodeUnits::is_high_digit))]
+#[tactic(auto, unfolding(swc_ecma_codegen_ast::specs::CodeUnits::is_high_digit))]
 fn is_high_digit(c: u8) -> bool
     ensures { result ≡ is_high_digit c }
 {

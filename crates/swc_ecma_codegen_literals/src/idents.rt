@@ -7,9 +7,9 @@ ghost use Rattle.std.specs.String.{string_bytes};
 ghost use Rattle.swc_ecma_codegen_tree.specs.declared.errors.Error.TheVariants.{OutOfMemory, NameOutOfTarget};
 ghost use Rattle.swc_ecma_codegen_ast.specs.Names.{is_word};
 ghost use Rattle.swc_ecma_codegen_ast.specs.Strings.{is_string};
-ghost use Rattle.swc_ecma_codegen_literals.specs.CodeUnits.{all_utf16};
+ghost use Rattle.swc_ecma_codegen_ast.specs.CodeUnits.{all_utf16};
 ghost use Rattle.swc_ecma_codegen_literals.specs.StringTexts.{up_to_es5};
-ghost use Rattle.swc_ecma_codegen_literals.specs.StringValues.{string_value};
+ghost use Rattle.swc_ecma_codegen_ast.specs.StringValues.{string_value};
 ghost use Rattle.swc_ecma_codegen_literals.specs.NameValues.{name_characters, spells_name};
 ghost use Rattle.swc_ecma_codegen_literals.specs.AsciiNames.{lower_unit_escape, name_escape, name_escapes, wants_quotes, is_quoted_key, is_out_of_target, ascii_name};
 

@@ -7,9 +7,9 @@ ghost use Rattle.std.specs.String.{string_bytes};
 ghost use Rattle.swc_ecma_codegen_tree.specs.declared.errors.Error.TheVariants.{OutOfMemory};
 ghost use Rattle.swc_ecma_codegen_ast.specs.Numbers.{is_either};
 ghost use Rattle.swc_ecma_codegen_ast.specs.Strings.{is_string};
-ghost use Rattle.swc_ecma_codegen_literals.specs.CodeUnits.{units, begins_like};
+ghost use Rattle.swc_ecma_codegen_ast.specs.CodeUnits.{units, begins_like};
 ghost use Rattle.swc_ecma_codegen_literals.specs.StringTexts.{quoted_text};
-ghost use Rattle.swc_ecma_codegen_literals.specs.StringValues.{string_value};
+ghost use Rattle.swc_ecma_codegen_ast.specs.StringValues.{string_value};
 ghost use Rattle.swc_ecma_codegen_literals.specs.InlineScripts.{is_tag_end, comment_start, script_end, dashes_after, inline_text, mark_text, marked, IsInlineSafe};
 
 use crate::strings::quoted_utf16;

@@ -7,8 +7,8 @@ ghost use Rattle.std.specs.Str.{chars, IsUtf8, IsAscii};
 ghost use Rattle.std.specs.String.{string_bytes};
 ghost use Rattle.swc_ecma_codegen_tree.specs.declared.errors.Error.TheVariants.{OutOfMemory};
 ghost use Rattle.swc_ecma_codegen_ast.specs.Strings.{is_string};
-ghost use Rattle.swc_ecma_codegen_literals.specs.CodeUnits.{units};
-ghost use Rattle.swc_ecma_codegen_literals.specs.StringValues.{string_value};
+ghost use Rattle.swc_ecma_codegen_ast.specs.CodeUnits.{units};
+ghost use Rattle.swc_ecma_codegen_ast.specs.StringValues.{string_value};
 ghost use Rattle.swc_ecma_codegen_literals.specs.StringTexts.{stands, spelled_all, first_escape, quote_of, quoted_text};
 
 use crate::escapes::{Style, push_escape, stands};

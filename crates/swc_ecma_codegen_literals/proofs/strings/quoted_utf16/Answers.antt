@@ -5,7 +5,7 @@ use Rattle.std.specs.Str.{IsAscii, chars, encode_utf8_all}
 use Rattle.std.specs.String.{string_bytes}
 use Rattle.swc_ecma_codegen_ast.specs.Strings.{is_string}
 use Rattle.swc_ecma_codegen_literals.specs.StringTexts.{quoted_text}
-use Rattle.swc_ecma_codegen_literals.specs.StringValues.{string_value}
+use Rattle.swc_ecma_codegen_ast.specs.StringValues.{string_value}
 use Rattle.swc_ecma_codegen_literals.proofs.SpelledTexts.{quoted}
 use Rattle.swc_ecma_codegen_literals.proofs.QuotedTexts.{quoted_value, quoted_is_string, literal_chars, literal_ascii}
 use Rattle.swc_ecma_codegen_literals.proofs.strings.quoted_utf16.Goals as goal

@@ -6,8 +6,10 @@ use Rattle.swc_ecma_codegen_ast.specs.Chars.{is_digit, begins_digit}
 use Rattle.swc_ecma_codegen_ast.specs.Numbers.{is_hex}
 use Rattle.swc_ecma_codegen_ast.specs.Templates.{is_template, is_template_rest}
 use Rattle.swc_ecma_codegen_ast.specs.Texts.{begins}
-use Rattle.swc_ecma_codegen_literals.specs.CodeUnits.{utf16}
-use Rattle.swc_ecma_codegen_literals.specs.StringValues.{Place, Between, Escaped, Due, Unicode, Braced, Octal, Continued, before, single_escape}
+use Rattle.swc_ecma_codegen_ast.specs.CodeUnits.{utf16}
+use Rattle.swc_ecma_codegen_ast.specs.declared.units.Place.{Place}
+use Rattle.swc_ecma_codegen_ast.specs.declared.units.Place.TheVariants.{Between, Escaped, Due, Unicode, Braced, Octal, Continued}
+use Rattle.swc_ecma_codegen_ast.specs.StringValues.{before, single_escape}
 
 -- The units of the rest of a template's text, where it has no malformed escape: no octal one, neither `\8` nor `\9`. CR LF
 -- and CR are LF. A bare back quote and a bare `${` aren't text.
