@@ -7,6 +7,8 @@ mod names;
 mod numbers;
 mod scripts;
 mod strings;
+#[cfg(test)]
+mod sweeps;
 
 pub use crate::idents::ascii_only_ident;
 pub use crate::names::valid_name;
