@@ -7,6 +7,8 @@ mod names;
 mod numbers;
 mod scripts;
 mod strings;
+#[cfg(test)]
+mod sweeps;
 mod templates;
 
 pub use crate::idents::ascii_only_ident;
