@@ -53,12 +53,6 @@ program_law : (env : Env) → env.keeps_invalid ≡ false → (n : Program AnyNo
 unfolding programs.program
 program_law env e (a_script n) w = script_law env e n w
 
-pub expr_reads : (n : Expr AnyNode) (a b : State) (r : Result (Unit {0}) Error) → is_well_formed_expr n ≡ true → IsNew a → Follows (words.expr any_answers any_items n Plain nothing) a b r → OnOk r (AddsReading (expr_phrase n) a.sheet.text b.sheet.text)
-expr_reads n a b r w s h = printed_reads (words.expr any_answers any_items n Plain) (expr_phrase n) a b r s (expr_law a.env s.leaves_out n Plain w) h
-
-pub stmt_reads : (n : Stmt AnyNode) (a b : State) (r : Result (Unit {0}) Error) → is_well_formed_stmt n ≡ true → IsNew a → Follows (stmt_words.stmt any_items n nothing) a b r → OnOk r (AddsReading (stmt_phrase n) a.sheet.text b.sheet.text)
-stmt_reads n a b r w s h = printed_reads (stmt_words.stmt any_items n) (stmt_phrase n) a b r s (stmt_law a.env s.leaves_out n w) h
-
 pub script_reads : (n : Script AnyNode) (a b : State) (r : Result (Unit {0}) Error) → is_well_formed (a_script n) ≡ true → IsNew a → Follows (programs.script any_items n nothing) a b r → OnOk r (AddsReading (program_phrase (a_script n)) a.sheet.text b.sheet.text)
 script_reads n a b r w s h = printed_reads (programs.script any_items n) (program_phrase (a_script n)) a b r s (script_law a.env s.leaves_out n w) h
 

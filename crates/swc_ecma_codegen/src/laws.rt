@@ -10,8 +10,14 @@ ghost use Rattle.swc_ecma_codegen_ast.specs.Tokens.{Token};
 ghost use Rattle.swc_ecma_codegen_ast.specs.Phrases.{Generates};
 ghost use Rattle.swc_ecma_codegen_ast.specs.TreePhrases.{expr_phrase, stmt_phrase, is_well_formed_expr, is_well_formed_stmt};
 ghost use Rattle.swc_ecma_codegen_text_writer.specs.View.{new_sheet};
-ghost use Rattle.swc_ecma_codegen_base.specs.Run.{State, remakes_name, start, steps_in, steps_of};
+ghost use Rattle.swc_ecma_codegen_base.specs.Run.{Follows, State, nothing, remakes_name, start, steps_in, steps_of};
 ghost use Rattle.swc_ecma_codegen_base.specs.Written.{IsLineEnd, IsNew, AddsReading, all_indent};
+ghost use Rattle.swc_ecma_codegen_util.specs.Starts.{expr_starts, any_starts};
+ghost use Rattle.swc_ecma_codegen.specs.declared.nodes.Place.TheVariants.{Plain};
+ghost use Rattle.swc_ecma_codegen.specs.Answers.{any_answers};
+ghost use Rattle.swc_ecma_codegen.specs.Exprs.{expr as expr_items};
+ghost use Rattle.swc_ecma_codegen.specs.Stmts.{stmt as stmt_items};
+ghost use Rattle.swc_ecma_codegen.specs.Tree.{any_items};
 ghost use Rattle.swc_ecma_codegen.specs.Backslashes.{root_backslash};
 ghost use Rattle.swc_ecma_codegen.specs.Roots.{Root, root_items};
 ghost use Rattle.swc_ecma_codegen.specs.FirstTokens.{joins_a_word};
@@ -29,22 +35,24 @@ use swc_ecma_codegen_tree::{Expr, Result, Stmt};
 use swc_ecma_codegen_util::util::StartsWithAlphaNum;
 
 /// What `emit_with` of an expression adds to the text reads as one of the expression's token lists.
-#[tactic(auto, using(crate::proofs::TreeReads::expr_reads))]
 pub fn emitted_expr_reads<W: WriteJs, S: SourceMapper, C: Comments>(
     expr: &Expr,
     e: &mut Emitter<'_, W, S, C>,
 ) -> Result
+    // It is what `emit_with` does.
+    ensures items { Follows (expr_items any_answers any_items expr.now Plain nothing) (state_of W.sheet e.old) (state_of W.sheet e.new) result }
     ensures reads { is_well_formed_expr expr.now ≡ true → IsNew (state_of W.sheet e.old) → OnOk result (AddsReading (expr_phrase expr.now) (W.sheet e.old.wr).text (W.sheet e.new.wr).text) }
 {
     expr.emit_with(e)
 }
 
 /// What `emit_with` of a statement adds to the text reads as one of the statement's token lists.
-#[tactic(auto, using(crate::proofs::TreeReads::stmt_reads))]
 pub fn emitted_stmt_reads<W: WriteJs, S: SourceMapper, C: Comments>(
     stmt: &Stmt,
     e: &mut Emitter<'_, W, S, C>,
 ) -> Result
+    // It is what `emit_with` does.
+    ensures items { Follows (stmt_items any_items stmt.now nothing) (state_of W.sheet e.old) (state_of W.sheet e.new) result }
     ensures reads { is_well_formed_stmt stmt.now ≡ true → IsNew (state_of W.sheet e.old) → OnOk result (AddsReading (stmt_phrase stmt.now) (W.sheet e.old.wr).text (W.sheet e.new.wr).text) }
 {
     stmt.emit_with(e)
@@ -61,7 +69,9 @@ pub fn new_emitter_reads()
 /// syntax gives it, `starts_with_alpha_num` is true: of `a + b`, `typeof a` and `this.a`, but not only of these.
 #[tactic(auto, using(crate::proofs::FirstTokens::first_told))]
 pub fn first_token_is_told(expr: &Expr) -> bool
-    ensures { (first : Token) (rest : List Token) → is_well_formed_expr expr.now ≡ true → Generates (expr_phrase expr.now) (first ∷ rest) → joins_a_word first.kind ≡ true → result ≡ true }
+    // It is what `starts_with_alpha_num` answers.
+    ensures answer { result ≡ expr_starts any_starts expr.now }
+    ensures told { (first : Token) (rest : List Token) → is_well_formed_expr expr.now ≡ true → Generates (expr_phrase expr.now) (first ∷ rest) → joins_a_word first.kind ≡ true → result ≡ true }
 {
     expr.starts_with_alpha_num()
 }
