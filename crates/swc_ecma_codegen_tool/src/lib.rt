@@ -88,4 +88,8 @@ fn program_text<R: Read>(alloc: Global, input: &mut R) -> Result<String, Fault>
 }
 
 #[cfg(test)]
+mod reading_tests;
+#[cfg(test)]
 mod tests;
+#[cfg(test)]
+mod tree_tests;
