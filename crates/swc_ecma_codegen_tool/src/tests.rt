@@ -1,6 +1,6 @@
 ghost use Rattle.std.specs.Prelude.{None};
 
-use crate::run;
+use crate::{refuse_words, run};
 use std::io;
 use std::io::{ErrorKind, Read, Write};
 use std::test::Fail;
@@ -196,10 +196,11 @@ fn words_and_streams(rt: HostRuntime) -> Result<(), Fail> {
         run(rt.alloc(), &[], &mut input, &mut Broken {}, &mut err),
         1
     );
+    assert_eq!(rt; refuse_words(&mut err), 1);
     assert!(rt; out.is_empty());
     assert_eq!(rt;
         err.as_slice(),
-        b"usage: ecmagen [options]\ncannot read\nrefused: writer\n".as_slice()
+        b"usage: ecmagen [options]\ncannot read\nrefused: writer\nrefused: memory\n".as_slice()
     );
     Ok(())
 }
