@@ -5,8 +5,10 @@
 //! it holds nothing, `"Add"`. Unknown members are ignored.
 #![tactic(auto)]
 
-ghost use Rattle.std.specs.Prelude.{IsErrOf};
+ghost use Rattle.std.specs.Prelude.{◌≡◌, ◌≢◌, ◌<◌, length, Some, None, IsSome, Err, IfOk, IsErrOf};
 ghost use Rattle.std.specs.Str.{IsUtf8};
+ghost use Rattle.serde_json.specs.Read.{read as read_text};
+ghost use Rattle.serde_json.specs.View.{view};
 
 mod exprs;
 mod fields;
@@ -28,10 +30,27 @@ use swc_ecma_codegen_tree::{Program, Read, ReadError, read_tree};
 /// nest deeper than 127 or have another form, `OutOfMemory` where a growth is refused.
 pub fn program_from_slice(alloc: Global, bytes: &[u8]) -> Read<Program>
     ensures not_utf8 { (IsUtf8 bytes.now → ⊥) → IsErrOf result ReadError.CannotRead }
+    ensures utf8 { IsUtf8 bytes.now → result ≢ Err ReadError.CannotRead }
+    // No program is read from what is no JSON, or nests deeper than 127.
+    ensures json { IfOk result (λ _. IsSome (read_text bytes.now)) }
 {
     let text = std::str::from_utf8(bytes).map_err(|_| ReadError::CannotRead)?;
+    let json = value_of(alloc, text)?;
+    match read_tree::<Json>(alloc, &json) {
+        Err(ReadError::CannotRead) => Err(ReadError::BadTree),
+        tree => tree,
+    }
+}
+
+/// The value that a text is, nested at most 127 deep.
+fn value_of(alloc: Global, text: &str) -> Read<Value>
+    ensures value { IfOk result (λ json. read_text text.now ≡ Some (view json)) }
+    ensures no_value { result ≡ Err ReadError.BadTree → read_text text.now ≡ None }
+    ensures memory { result ≡ Err ReadError.OutOfMemory → 0 < length text.now }
+    ensures readable { result ≢ Err ReadError.CannotRead }
+{
     match Value::from_str(alloc, text) {
-        Ok(json) => read_tree::<Json>(alloc, &json),
+        Ok(json) => Ok(json),
         Err(error) if error.is_memory() => Err(ReadError::OutOfMemory),
         Err(_) => Err(ReadError::BadTree),
     }

@@ -31,14 +31,30 @@ pub fn run<R: Read, O: Write, E: Write>(
     ensures printed { result ≡ 0 → AddsProgram (O.contents out.old) (O.contents out.new) }
     ensures usage { words.now ≢ [] → result ≡ 2 }
     ensures no_usage { words.now ≡ [] → result ≢ 2 }
+    // Wrong words leave the streams alone, and a text that went out whole leaves `err` alone.
+    ensures unread { words.now ≢ [] → (input.new ≡ input.old) × (out.new ≡ out.old) }
+    ensures silent { result ≡ 0 → err.new ≡ err.old }
 {
     match print(alloc, words, input, out) {
         Ok(()) => 0,
-        Err(fault) => {
-            let _ = err.write_all(fault.line().as_bytes());
-            fault.status()
-        }
+        Err(fault) => tell(fault, err),
     }
+}
+
+/// The answer where there is no memory for the words: `refused: memory` to `err`, and the status 1.
+pub fn refuse_words<E: Write>(err: &mut E) -> u8
+    ensures { result ≡ 1 }
+{
+    tell(Fault::Memory, err)
+}
+
+/// Tells of a fault, and gives the status.
+fn tell<E: Write>(fault: Fault, err: &mut E) -> u8
+    ensures usage { fault ≡ Fault.Usage → result ≡ 2 }
+    ensures others { fault ≢ Fault.Usage → result ≡ 1 }
+{
+    let _ = err.write_all(fault.line().as_bytes());
+    fault.status()
 }
 
 /// Prints the program that `input` holds.
@@ -51,6 +67,7 @@ fn print<R: Read, O: Write>(
     ensures printed { OnOk result (AddsProgram (O.contents out.old) (O.contents out.new)) }
     ensures usage { words.now ≢ [] → result ≡ Err Fault.Usage }
     ensures no_usage { words.now ≡ [] → result ≢ Err Fault.Usage }
+    ensures unread { words.now ≢ [] → (input.new ≡ input.old) × (out.new ≡ out.old) }
 {
     if !words.is_empty() {
         return Err(Fault::Usage);
@@ -88,4 +105,8 @@ fn program_text<R: Read>(alloc: Global, input: &mut R) -> Result<String, Fault>
 }
 
 #[cfg(test)]
+mod reading_tests;
+#[cfg(test)]
 mod tests;
+#[cfg(test)]
+mod tree_tests;

@@ -6,6 +6,7 @@
 #![tactic(auto)]
 
 mod decimals;
+mod discards;
 mod errors;
 mod exprs;
 mod idents;
@@ -19,6 +20,7 @@ mod stmts;
 mod versions;
 
 pub use crate::decimals::Decimal;
+pub use crate::discards::{discard, discard_expr, discard_member_expr, discard_stmt};
 pub use crate::errors::{Error, Result};
 pub use crate::exprs::{
     BinExpr, ComputedPropName, CondExpr, Expr, MemberExpr, MemberProp, ParenExpr, SeqExpr,
@@ -28,7 +30,7 @@ pub use crate::idents::{Ident, IdentName};
 pub use crate::links::{AnyNode, ExprBox, MemberExprBox, StmtBox};
 pub use crate::operators::{AssignOp, BinaryOp, UnaryOp, UpdateOp};
 pub use crate::positions::{BytePos, DUMMY_SP, LineCol, Span};
-pub use crate::programs::{Program, Script, discard};
+pub use crate::programs::{Program, Script};
 pub use crate::readers::{Read, ReadError, ReadNodes, Sort, read_tree};
 pub use crate::spans::Spanned;
 pub use crate::stmts::{EmptyStmt, ExprStmt, Stmt};
