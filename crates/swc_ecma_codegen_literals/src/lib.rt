@@ -5,6 +5,8 @@ mod escapes;
 mod names;
 mod numbers;
 mod strings;
+#[cfg(test)]
+mod template_tests;
 mod templates;
 
 pub use crate::names::valid_name;
