@@ -9,6 +9,8 @@ mod scripts;
 mod strings;
 #[cfg(test)]
 mod sweeps;
+#[cfg(test)]
+mod template_tests;
 mod templates;
 
 pub use crate::idents::ascii_only_ident;
