@@ -5,10 +5,13 @@
 //! it holds nothing, `"Add"`. Unknown members are ignored.
 #![tactic(auto)]
 
-ghost use Rattle.std.specs.Prelude.{◌≡◌, ◌≢◌, ◌<◌, length, Some, None, IsSome, Err, IfOk, IsErrOf};
+ghost use Rattle.std.specs.Prelude.{◌≡◌, ◌≢◌, ◌<◌, length, Some, None, Err, IfOk, IsErrOf};
 ghost use Rattle.std.specs.Str.{IsUtf8};
+ghost use Rattle.serde_json.specs.Data.{Data};
 ghost use Rattle.serde_json.specs.Read.{read as read_text};
 ghost use Rattle.serde_json.specs.View.{view};
+ghost use Rattle.swc_ecma_codegen_tree.specs.Forms.{HasForm};
+ghost use Rattle.swc_ecma_codegen_tree.specs.NodeForms.{program_form, any_form};
 
 mod exprs;
 mod fields;
@@ -31,8 +34,8 @@ use swc_ecma_codegen_tree::{Program, Read, ReadError, read_tree};
 pub fn program_from_slice(alloc: Global, bytes: &[u8]) -> Read<Program>
     ensures not_utf8 { (IsUtf8 bytes.now → ⊥) → IsErrOf result ReadError.CannotRead }
     ensures utf8 { IsUtf8 bytes.now → result ≢ Err ReadError.CannotRead }
-    // No program is read from what is no JSON, or nests deeper than 127.
-    ensures json { IfOk result (λ _. IsSome (read_text bytes.now)) }
+    // The bytes are JSON, nested at most 127 deep, of the form that the program has.
+    ensures means { IfOk result (λ program. (json : Data) × (read_text bytes.now ≡ Some json) × HasForm (program_form any_form program) json) }
 {
     let text = std::str::from_utf8(bytes).map_err(|_| ReadError::CannotRead)?;
     let json = value_of(alloc, text)?;

@@ -39,15 +39,12 @@ macro_rules! read_leaf {
     };
 }
 
-/// What a variant holds, by the reader of its value, or, after `field`, by the reader that is given its name.
+/// What a variant holds, by the reader of its value.
 macro_rules! read_variant {
-    ($alloc:ident, $json:ident, $held:ident, $make:ident, $name:expr, field $($how:ident)+) => {
-        read_field!($alloc, $json, $make, $name, $($how)+)
-    };
-    ($alloc:ident, $json:ident, $held:ident, $make:ident, $name:expr, node $read:ident) => {
+    ($alloc:ident, $held:ident, $make:ident, node $read:ident) => {
         self::$read($alloc, $held, $make)?
     };
-    ($alloc:ident, $json:ident, $held:ident, $make:ident, $name:expr, $read:ident) => {
+    ($alloc:ident, $held:ident, $make:ident, $read:ident) => {
         self::$read($alloc, $held)?
     };
 }
@@ -58,7 +55,7 @@ macro_rules! read_enum {
         let (name, held) = member($json)?;
         match name {
             $(name_of!($variant $($key)?) => Ok($name::$variant(
-                read_variant!($alloc, $json, held, $make, name_of!($variant $($key)?), $($how)+),
+                read_variant!($alloc, held, $make, $($how)+),
             )),)*
             _ => Err(ReadError::BadTree),
         }

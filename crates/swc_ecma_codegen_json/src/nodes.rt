@@ -3,13 +3,13 @@
 use crate::{exprs, programs, stmts};
 use serde_json::Value;
 use std::alloc::Global;
-use swc_ecma_codegen_tree::{Expr, MemberExpr, Program, Read, ReadNodes, Sort, Stmt};
+use swc_ecma_codegen_tree::{Expr, Formed, MemberExpr, Program, Read, ReadNodes, Sort, Stmt};
 
 /// The readers of this crate.
 pub struct Json {}
 
 impl ReadNodes for Json {
-    fn read_expr<N: Drop, F: Fn(Sort, &Value) -> Read<N>>(
+    fn read_expr<N: Formed + Drop, F: Fn(Sort, &Value) -> Read<N>>(
         alloc: Global,
         json: &Value,
         make: &F,
@@ -17,7 +17,7 @@ impl ReadNodes for Json {
         exprs::read_expr(alloc, json, make)
     }
 
-    fn read_stmt<N: Drop, F: Fn(Sort, &Value) -> Read<N>>(
+    fn read_stmt<N: Formed + Drop, F: Fn(Sort, &Value) -> Read<N>>(
         alloc: Global,
         json: &Value,
         make: &F,
@@ -25,7 +25,7 @@ impl ReadNodes for Json {
         stmts::read_stmt(alloc, json, make)
     }
 
-    fn read_member_expr<N: Drop, F: Fn(Sort, &Value) -> Read<N>>(
+    fn read_member_expr<N: Formed + Drop, F: Fn(Sort, &Value) -> Read<N>>(
         alloc: Global,
         json: &Value,
         make: &F,
@@ -33,7 +33,7 @@ impl ReadNodes for Json {
         exprs::read_member_expr(alloc, json, make)
     }
 
-    fn read_program<N: Drop, F: Fn(Sort, &Value) -> Read<N>>(
+    fn read_program<N: Formed + Drop, F: Fn(Sort, &Value) -> Read<N>>(
         alloc: Global,
         json: &Value,
         make: &F,

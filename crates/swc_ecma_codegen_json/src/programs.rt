@@ -1,6 +1,10 @@
 //! Programs.
 
-ghost use Rattle.swc_ecma_codegen_tree.specs.Readers.{ReadsBelow};
+ghost use Rattle.std.specs.Prelude.{IfOk};
+ghost use Rattle.serde_json.specs.View.{view};
+ghost use Rattle.swc_ecma_codegen_tree.specs.Forms.{HasForm};
+ghost use Rattle.swc_ecma_codegen_tree.specs.NodeForms.{program_form, script_form};
+ghost use Rattle.swc_ecma_codegen_tree.specs.Readers.{ReadsBelow, MakesNodes};
 
 use crate::fields::{member, optional};
 use crate::links::stmts;
@@ -8,26 +12,30 @@ use crate::macros::{name_of, read_enum, read_field, read_struct, read_variant};
 use crate::positions::span;
 use serde_json::Value;
 use std::alloc::Global;
-use swc_ecma_codegen_tree::{Program, Read, ReadError, Script, Sort};
+use swc_ecma_codegen_tree::{Formed, Program, Read, ReadError, Script, Sort};
 
-pub fn read_program<N: Drop, F: Fn(Sort, &Value) -> Read<N>>(
+pub fn read_program<N: Formed + Drop, F: Fn(Sort, &Value) -> Read<N>>(
     alloc: Global,
     json: &Value,
     make: &F,
 ) -> Read<Program<N>>
-    requires { ReadsBelow (F.pre make.now) json.now }
+    requires below { ReadsBelow (F.pre make.now) json.now }
+    requires nodes { MakesNodes N.form (F.post make.now) }
+    ensures { IfOk result (λ n. HasForm (program_form N.form n) (view json.now)) }
 {
     read_enum!(alloc, json, make => Program {
         Script: node read_script,
     })
 }
 
-fn read_script<N: Drop, F: Fn(Sort, &Value) -> Read<N>>(
+fn read_script<N: Formed + Drop, F: Fn(Sort, &Value) -> Read<N>>(
     alloc: Global,
     json: &Value,
     make: &F,
 ) -> Read<Script<N>>
-    requires { ReadsBelow (F.pre make.now) json.now }
+    requires below { ReadsBelow (F.pre make.now) json.now }
+    requires nodes { MakesNodes N.form (F.post make.now) }
+    ensures { IfOk result (λ n. HasForm (script_form N.form n) (view json.now)) }
 {
     no_shebang(json)?;
     read_struct!(alloc, json, make => Script { span: span, body: node stmts })

@@ -31,7 +31,7 @@ pub use crate::links::{AnyNode, ExprBox, MemberExprBox, StmtBox};
 pub use crate::operators::{AssignOp, BinaryOp, UnaryOp, UpdateOp};
 pub use crate::positions::{BytePos, DUMMY_SP, LineCol, Span};
 pub use crate::programs::{Program, Script};
-pub use crate::readers::{Read, ReadError, ReadNodes, Sort, read_tree};
+pub use crate::readers::{Formed, Read, ReadError, ReadNodes, Sort, read_tree};
 pub use crate::spans::Spanned;
 pub use crate::stmts::{EmptyStmt, ExprStmt, Stmt};
 pub use crate::versions::EsVersion;

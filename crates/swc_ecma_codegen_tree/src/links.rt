@@ -16,6 +16,11 @@ pub enum AnyNode {
     MemberExpr(MemberExpr<AnyNode>),
 }
 
+/// Lets a node go. In one place, so that not each function that meets a node of another sort drops all types of nodes.
+fn let_go(node: AnyNode) {
+    let _ = node;
+}
+
 /// A link to an expression, as `Box<Expr>` in swc.
 #[derive(Drop)]
 pub struct ExprBox<N = AnyNode> {
@@ -69,7 +74,10 @@ impl ExprBox<AnyNode> {
         let ExprBox { node } = self;
         match Box::into_inner(node) {
             AnyNode::Expr(expr) => Some(expr),
-            _ => None,
+            other => {
+                let_go(other);
+                None
+            }
         }
     }
 }
@@ -127,7 +135,10 @@ impl StmtBox<AnyNode> {
         let StmtBox { node } = self;
         match Box::into_inner(node) {
             AnyNode::Stmt(stmt) => Some(stmt),
-            _ => None,
+            other => {
+                let_go(other);
+                None
+            }
         }
     }
 }
@@ -185,7 +196,10 @@ impl MemberExprBox<AnyNode> {
         let MemberExprBox { node } = self;
         match Box::into_inner(node) {
             AnyNode::MemberExpr(member_expr) => Some(member_expr),
-            _ => None,
+            other => {
+                let_go(other);
+                None
+            }
         }
     }
 }

@@ -1,9 +1,13 @@
 //! Reading a tree from JSON: what ties the readers of the nodes together. The readers are generic in what links hold,
 //! and only here is it `AnyNode`, so that they need no proof that a whole tree may be dropped.
 
-ghost use Rattle.std.specs.Prelude.{◌≡◌};
+ghost use Rattle.std.specs.Prelude.{◌≡◌, IfOk};
+ghost use Rattle.serde_json.specs.View.{view};
 ghost use Rattle.swc_ecma_codegen_tree.specs.declared.readers.ReadError.TheVariants.{OutOfMemory};
-ghost use Rattle.swc_ecma_codegen_tree.specs.Readers.{ReadsBelow};
+ghost use Rattle.swc_ecma_codegen_tree.specs.Readers.{ReadsBelow, MakesNodes};
+ghost use Rattle.swc_ecma_codegen_tree.specs.declared.readers.Sort.{Sort as SortOf};
+ghost use Rattle.swc_ecma_codegen_tree.specs.Forms.{Form, HasForm};
+ghost use Rattle.swc_ecma_codegen_tree.specs.NodeForms.{expr_form, stmt_form, member_form, program_form, any_form};
 
 use crate::exprs::{Expr, MemberExpr};
 use crate::links::AnyNode;
@@ -54,45 +58,68 @@ pub enum Sort {
     MemberExpr,
 }
 
+/// What has a form in JSON.
+pub trait Formed {
+    /// The form that it has as a node of a sort.
+    ghost form: { Self → SortOf → Form };
+}
+
+impl Formed for AnyNode {
+    ghost form = { any_form };
+}
+
 /// Reads each sort of node, and a program. What a link holds is made by `make`, which may be asked for smaller values
 /// alone.
 pub trait ReadNodes {
     /// An expression.
-    fn read_expr<N: Drop, F: Fn(Sort, &Value) -> Read<N>>(
+    fn read_expr<N: Formed + Drop, F: Fn(Sort, &Value) -> Read<N>>(
         alloc: Global,
         json: &Value,
         make: &F,
     ) -> Read<Expr<N>>
-        requires { ReadsBelow (F.pre make.now) json.now };
+        requires below { ReadsBelow (F.pre make.now) json.now }
+        requires nodes { MakesNodes N.form (F.post make.now) }
+        ensures { IfOk result (λ n. HasForm (expr_form N.form n) (view json.now)) };
 
     /// A statement.
-    fn read_stmt<N: Drop, F: Fn(Sort, &Value) -> Read<N>>(
+    fn read_stmt<N: Formed + Drop, F: Fn(Sort, &Value) -> Read<N>>(
         alloc: Global,
         json: &Value,
         make: &F,
     ) -> Read<Stmt<N>>
-        requires { ReadsBelow (F.pre make.now) json.now };
+        requires below { ReadsBelow (F.pre make.now) json.now }
+        requires nodes { MakesNodes N.form (F.post make.now) }
+        ensures { IfOk result (λ n. HasForm (stmt_form N.form n) (view json.now)) };
 
     /// A member expression.
-    fn read_member_expr<N: Drop, F: Fn(Sort, &Value) -> Read<N>>(
+    fn read_member_expr<N: Formed + Drop, F: Fn(Sort, &Value) -> Read<N>>(
         alloc: Global,
         json: &Value,
         make: &F,
     ) -> Read<MemberExpr<N>>
-        requires { ReadsBelow (F.pre make.now) json.now };
+        requires below { ReadsBelow (F.pre make.now) json.now }
+        requires nodes { MakesNodes N.form (F.post make.now) }
+        ensures { IfOk result (λ n. HasForm (member_form N.form n) (view json.now)) };
 
     /// A program.
-    fn read_program<N: Drop, F: Fn(Sort, &Value) -> Read<N>>(
+    fn read_program<N: Formed + Drop, F: Fn(Sort, &Value) -> Read<N>>(
         alloc: Global,
         json: &Value,
         make: &F,
     ) -> Read<Program<N>>
-        requires { ReadsBelow (F.pre make.now) json.now };
+        requires below { ReadsBelow (F.pre make.now) json.now }
+        requires nodes { MakesNodes N.form (F.post make.now) }
+        ensures { IfOk result (λ n. HasForm (program_form N.form n) (view json.now)) };
 }
 
 /// A node of a sort, and all below it.
-fn read_node<R: ReadNodes>(alloc: Global, sort: Sort, json: &Value) -> Read<AnyNode> {
-    let make = |sort: Sort, part: &Value| read_node::<R>(alloc, sort, part);
+#[tactic(auto, using(crate::proofs::FormLaws::any_form_expr, crate::proofs::FormLaws::any_form_stmt, crate::proofs::FormLaws::any_form_member_expr))]
+fn read_node<R: ReadNodes>(alloc: Global, sort: Sort, json: &Value) -> Read<AnyNode>
+    ensures { IfOk result (λ n. HasForm (any_form n sort) (view json.now)) }
+{
+    let make = |sort: Sort, part: &Value| -> Read<AnyNode>
+        ensures { IfOk result (λ n. HasForm (any_form n sort) (view part.now)) }
+    { read_node::<R>(alloc, sort, part) };
     Ok(match sort {
         Sort::Expr => AnyNode::Expr(R::read_expr(alloc, json, &make)?),
         Sort::Stmt => AnyNode::Stmt(R::read_stmt(alloc, json, &make)?),
@@ -101,7 +128,9 @@ fn read_node<R: ReadNodes>(alloc: Global, sort: Sort, json: &Value) -> Read<AnyN
 }
 
 /// Reads a program by the readers `R`.
-pub fn read_tree<R: ReadNodes>(alloc: Global, json: &Value) -> Read<Program> {
+pub fn read_tree<R: ReadNodes>(alloc: Global, json: &Value) -> Read<Program>
+    ensures { IfOk result (λ program. HasForm (program_form any_form program) (view json.now)) }
+{
     let make = |sort: Sort, part: &Value| read_node::<R>(alloc, sort, part);
     R::read_program(alloc, json, &make)
 }
