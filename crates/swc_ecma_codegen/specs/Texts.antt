@@ -5,7 +5,7 @@ use Rattle.swc_ecma_codegen_tree.specs.declared.errors.Error.TheVariants.{Writer
 use Rattle.swc_ecma_codegen_util.specs.Defaults.{default_config}
 use Rattle.swc_ecma_codegen_text_writer.specs.Sheet.{Sheet}
 use Rattle.swc_ecma_codegen_text_writer.specs.View.{new_sheet}
-use Rattle.swc_ecma_codegen_base.specs.Run.{Part, printed, start}
+use Rattle.swc_ecma_codegen_base.specs.Run.{Part, State, HasCause, printed, start, steps_in}
 
 -- the sheet of a new writer over an empty vector, whose lines end with LF
 abbrev pub blank_sheet : Sheet
@@ -19,3 +19,7 @@ text_of part = (printed part (start default_config blank_sheet)).sheet.text
 abbrev pub IsOfWriter : Error → Type 0
 IsOfWriter (Writer e) = Unit {0}
 IsOfWriter e = ⊥
+
+-- an emission of a part from a state gives cause for an error
+abbrev pub GivesCause : Part → State → Error → Type 0
+GivesCause part a error = (b : State) × HasCause (steps_in part a) error a b

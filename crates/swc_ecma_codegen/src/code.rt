@@ -1,9 +1,10 @@
 //! A text in memory.
 
-ghost use Rattle.std.specs.Prelude.{◌≡◌, ◌≢◌, [], IfOk, IfErr, string_bytes};
+ghost use Rattle.std.specs.Prelude.{◌≡◌, ◌⊎◌, IfOk, IfErr, string_bytes};
+ghost use Rattle.swc_ecma_codegen_tree.specs.declared.errors.Error.TheVariants.{OutOfMemory};
 ghost use Rattle.swc_ecma_codegen_base.specs.Run.{printed, start};
 ghost use Rattle.swc_ecma_codegen_util.specs.Defaults.{default_config};
-ghost use Rattle.swc_ecma_codegen.specs.Texts.{blank_sheet, text_of, IsOfWriter};
+ghost use Rattle.swc_ecma_codegen.specs.Texts.{blank_sheet, text_of, GivesCause, IsOfWriter};
 
 use crate::emitter::Emitter;
 use crate::node::Node;
@@ -21,6 +22,7 @@ fn print_to<N: Node, W: WriteJs + Drop>(
     wr: W,
 ) -> std::result::Result<W, Error>
     ensures sheet { IfOk result (λ w. W.sheet w ≡ (printed (N.part node.now) (start default_config (W.sheet wr))).sheet) }
+    ensures cause { IfErr result (GivesCause (N.part node.now) (start default_config (W.sheet wr))) }
 {
     let mut emitter = Emitter::new(alloc, Config::default(), &NoSource, None::<CommentMaps>, wr);
     node.emit_with(&mut emitter)?;
@@ -31,6 +33,8 @@ fn print_to<N: Node, W: WriteJs + Drop>(
 /// `OutOfMemory` is want of memory for the text too. swc's `to_code`.
 pub fn to_code<N: Node>(alloc: Global, node: &N) -> std::result::Result<String, Error>
     ensures text { IfOk result (λ text. string_bytes text ≡ text_of (N.part node.now)) }
+    // It is refused for want of memory, or for the cause that the error names.
+    ensures cause { IfErr result (λ error. (error ≡ OutOfMemory) ⊎ GivesCause (N.part node.now) (start default_config blank_sheet) error) }
     ensures not_writer { IfErr result (λ error. IsOfWriter error → ⊥) }
 {
     let writer = JsWriter::new(alloc, &NoSource, "\n", Vec::new(alloc), None);

@@ -84,51 +84,32 @@ fn is_name_rest(first: bool, place: Place, text: &[char]) -> bool
     let [c, rest @ ..] = text else {
         return matches!(place, Place::Between) && !first;
     };
-    match place {
-        Place::Between if *c == '\\' => is_name_rest(first, Place::Escaped, rest),
-        Place::Between => fits(first, *c) && is_name_rest(false, Place::Between, rest),
-        Place::Escaped => *c == 'u' && is_name_rest(first, Place::Unicode, rest),
-        Place::Unicode if *c == '{' => is_name_rest(
-            first,
-            Place::Braced {
-                some: false,
-                value: 0,
-            },
-            rest,
-        ),
-        Place::Unicode => match hex_digit(*c) {
-            Some(digit) => is_name_rest(first, Place::One(digit), rest),
-            None => false,
-        },
-        Place::One(value) => match hex_digit(*c) {
-            Some(digit) => is_name_rest(first, Place::Two(value * 16 + digit), rest),
-            None => false,
-        },
-        Place::Two(value) => match hex_digit(*c) {
-            Some(digit) => is_name_rest(first, Place::Three(value * 16 + digit), rest),
-            None => false,
-        },
-        Place::Three(value) => match hex_digit(*c) {
-            Some(digit) => fits_code(first, value * 16 + digit)
-                && is_name_rest(false, Place::Between, rest),
-            None => false,
-        },
-        Place::Braced { some, value } => match hex_digit(*c) {
-            Some(digit) => {
-                value * 16 + digit <= 0x10FFFF
-                    && is_name_rest(
-                        first,
-                        Place::Braced {
-                            some: true,
-                            value: value * 16 + digit,
-                        },
-                        rest,
-                    )
-            }
-            None if *c == '}' && some => fits_code(first, value)
-                && is_name_rest(false, Place::Between, rest),
-            None => false,
-        },
+    match (place, hex_digit(*c)) {
+        (Place::Between, _) if *c == '\\' => is_name_rest(first, Place::Escaped, rest),
+        (Place::Between, _) => fits(first, *c) && is_name_rest(false, Place::Between, rest),
+        (Place::Escaped, _) => *c == 'u' && is_name_rest(first, Place::Unicode, rest),
+        (Place::Unicode, _) if *c == '{' => {
+            let (some, value) = (false, 0);
+            is_name_rest(first, Place::Braced { some, value }, rest)
+        }
+        (Place::Unicode, Some(digit)) => is_name_rest(first, Place::One(digit), rest),
+        (Place::One(value), Some(digit)) => {
+            is_name_rest(first, Place::Two(value * 16 + digit), rest)
+        }
+        (Place::Two(value), Some(digit)) => {
+            is_name_rest(first, Place::Three(value * 16 + digit), rest)
+        }
+        (Place::Three(value), Some(digit)) => {
+            fits_code(first, value * 16 + digit) && is_name_rest(false, Place::Between, rest)
+        }
+        (Place::Braced { some: _, value }, Some(digit)) => {
+            let (some, value) = (true, value * 16 + digit);
+            value <= 0x10FFFF && is_name_rest(first, Place::Braced { some, value }, rest)
+        }
+        (Place::Braced { some, value }, None) if *c == '}' && some => {
+            fits_code(first, value) && is_name_rest(false, Place::Between, rest)
+        }
+        (_, None) => false,
     }
 }
 

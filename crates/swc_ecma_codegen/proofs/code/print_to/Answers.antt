@@ -10,4 +10,5 @@ returns g c = record {
       ∙ ap (λ (s : State). s.sheet)
       (c.in_ok-emit_with.ensures.items.1
       ∙ ap (printed (g.N.Node.part c.args.node.now)) (c.new-emitter.ensures.state ∙ ap (λ k. start k (g.W.WriteJs.sheet c.args.wr)) c.default.ensures));
+  cause = tt;
 }
