@@ -9,6 +9,8 @@ pub mod Longest
 pub mod MarkMatch
 pub mod Marks
 pub mod NameShapes
+pub mod NumberForms
+pub mod NumberGrowth
 pub mod NumberShapes
 pub mod ReadAll
 pub mod ReadOne
@@ -17,8 +19,11 @@ pub mod RegexShapes
 pub mod Skips
 pub mod Sorts
 pub mod Spacing
+pub mod StrictStrings
 pub mod StringShapes
 pub mod Tables
 pub mod TemplateShapes
 pub mod TreeLaws
+pub mod TurnLaws
+pub mod UnitLaws
 pub mod Unique

@@ -1,9 +1,9 @@
 -- What may go on after a name or a word, and how they begin.
-use Rattle.std.proofs.Common.{Bool, List, [], ap, cond, false, inl, inr, nat_le, refl, subst, sym, true, ℕ, ◌&&◌, ◌*◌, ◌++◌, ◌+◌, ◌==◌, ◌||◌, ◌∙◌, ◌∷◌, ◌≡◌, ◌⊎◌}
-use Rattle.std.proofs.lemmas.Bool.{and_from, and_parts, cond-false, cond-true, eqb-true, false_from_ne_true, or_left, or_right, true≢false}
+use Rattle.std.proofs.Common.{Bool, List, [], false, inl, inr, nat_le, refl, subst, sym, true, ℕ, ◌&&◌, ◌*◌, ◌++◌, ◌+◌, ◌==◌, ◌||◌, ◌∙◌, ◌∷◌, ◌≡◌, ◌⊎◌}
+use Rattle.std.proofs.lemmas.Bool.{and_from, and_parts, cond-false, eqb-true, false_from_ne_true, or_left, or_right, true≢false}
 use Rattle.std.specs.Char.{digit_value}
 use Rattle.swc_ecma_codegen_ast.proofs.Conditions.{and_both, if_both, if_either}
-use Rattle.swc_ecma_codegen_ast.specs.Chars.{is_digit, is_letter, is_part, is_scalar, is_start}
+use Rattle.swc_ecma_codegen_ast.specs.Chars.{is_digit, is_letter, is_part, is_start}
 use Rattle.swc_ecma_codegen_ast.specs.Numbers.{is_hex}
 use Rattle.swc_ecma_codegen_ast.specs.declared.names.Place.{Place}
 use Rattle.swc_ecma_codegen_ast.specs.declared.names.Place.TheVariants.{Between, Braced, Escaped, One, Three, Two, Unicode}

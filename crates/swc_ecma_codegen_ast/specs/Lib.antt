@@ -4,9 +4,11 @@ pub mod CommentMaps
 pub mod ExprPhrases
 pub mod GapRules
 pub mod Hashbangs
+pub mod HeldNumbers
 pub mod Jsx
 pub mod LongestMatch
 pub mod NamePhrases
+pub mod NameTurns
 pub mod Names
 pub mod NumberValues
 pub mod Numbers
@@ -26,5 +28,8 @@ pub mod Texts
 pub mod Tokens
 pub mod TreePhrases
 pub mod Trivia
+pub mod Turns
+pub mod ValidNames
 pub mod WellFormedExprs
 pub mod WellFormedStmts
+pub mod WrittenUnits

@@ -1,19 +1,11 @@
 -- The tokens of names, and which names are well-formed.
-use Rattle.std.specs.Prelude.{ℕ, Bool, false, List, [], ◌∷◌, ◌&&◌, ◌==◌, if◌then◌else◌, codes, string_bytes}
+use Rattle.std.specs.Prelude.{ℕ, Bool, List, ◌&&◌, if◌then◌else◌, codes, string_bytes}
 use Rattle.std.specs.Str.{chars, is_utf8}
 use Rattle.swc_ecma_codegen_tree.specs.declared.idents.Ident.{Ident}
 use Rattle.swc_ecma_codegen_tree.specs.declared.idents.IdentName.{IdentName}
 use Rattle.swc_ecma_codegen_ast.specs.Names.{is_name, name_value}
 use Rattle.swc_ecma_codegen_ast.specs.Phrases.{Phrase, Nothing, ◌>◌, name, mark}
-
--- A text without each U+0000 that comes right after a backslash. `after` says that a backslash came last.
-unfoldable pub turned_after : Bool → List ℕ → List ℕ
-turned_after after [] = []
-turned_after after (c ∷ cs) = if after && (c == 0) then turned_after false cs else (c ∷ turned_after (c == 92) cs)
-
--- Backslash and U+0000 together stand for a backslash.
-abbrev pub turned : List ℕ → List ℕ
-turned bytes = turned_after false bytes
+use Rattle.swc_ecma_codegen_ast.specs.ValidNames.{turned}
 
 -- how a name is spelled: the characters of its UTF-8 bytes
 unfoldable pub spelled_name : List ℕ → List ℕ

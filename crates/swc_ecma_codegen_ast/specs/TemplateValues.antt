@@ -1,10 +1,8 @@
 -- What the text of a template stands for: "TV". ECMA-262, section 12.9.6.
-use Rattle.std.specs.Prelude.{ℕ, zero, suc, ◌+◌, ◌*◌, true, false, not, List, [], ◌∷◌, ◌++◌, ◌&&◌, ◌||◌, ◌==◌, ◌≡◌, nat_le, Option, Some, None, if◌then◌else◌, codes}
+use Rattle.std.specs.Prelude.{ℕ, zero, suc, ◌+◌, ◌*◌, true, false, not, List, [], ◌∷◌, ◌++◌, ◌&&◌, ◌||◌, ◌==◌, ◌≡◌, nat_le, Option, Some, None, if◌then◌else◌}
 use Rattle.std.specs.Char.{digit_value}
-use Rattle.swc_ecma_codegen_ast.specs.declared.kinds.TemplatePart.{TemplatePart}
 use Rattle.swc_ecma_codegen_ast.specs.Chars.{is_digit, begins_digit}
 use Rattle.swc_ecma_codegen_ast.specs.Numbers.{is_hex}
-use Rattle.swc_ecma_codegen_ast.specs.Templates.{is_template, is_template_rest}
 use Rattle.swc_ecma_codegen_ast.specs.Texts.{begins}
 use Rattle.swc_ecma_codegen_ast.specs.CodeUnits.{utf16}
 use Rattle.swc_ecma_codegen_ast.specs.declared.units.Place.{Place}
@@ -49,11 +47,3 @@ cooked_rest Continued (c ∷ cs) = cooked_rest Between cs
 -- the units of a template's text, where it has a cooked value
 abbrev pub cooked_value : List ℕ → Option (List ℕ)
 cooked_value text = cooked_rest Between text
-
--- how a part of a template ends: a back quote, or `${`
-unfoldable pub part_end : TemplatePart → List ℕ
-part_end part = if part.opens then codes "${" else codes "`"
-
--- a text is the inside of one part of a template, of every kind of part
-abbrev pub IsInsidePart : List ℕ → Type 0
-IsInsidePart text = (part : TemplatePart) → (is_template part (96 ∷ (text ++ part_end part)) ≡ true) × (is_template_rest part (125 ∷ (text ++ part_end part)) ≡ true)

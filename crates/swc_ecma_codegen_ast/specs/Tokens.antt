@@ -1,13 +1,16 @@
 -- Tokens: a kind and a value, the goal under which a kind is read, and how each is spelled.
-use Rattle.std.specs.Prelude.{◌≡◌, ℕ, Bool, true, List}
+use Rattle.std.specs.Prelude.{◌≡◌, ℕ, Bool, true, List, Option, if◌then◌else◌}
 use Rattle.swc_ecma_codegen_ast.specs.declared.kinds.Kind.{Kind}
 use Rattle.swc_ecma_codegen_ast.specs.declared.kinds.Kind.TheVariants.{Word, Name, PrivateName, Punctuator, Number, BigInt, Str, Regex, Template, TemplateRest, Close, JsxName, JsxString, JsxText, JsxOpen, Hashbang}
 use Rattle.swc_ecma_codegen_ast.specs.Names.{is_word, is_name, name_value, is_private_name, private_name_value}
 use Rattle.swc_ecma_codegen_ast.specs.Punctuators.{is_punctuator}
-use Rattle.swc_ecma_codegen_ast.specs.Numbers.{is_number, number_value, is_big_integer, radix_of, big_digits}
-use Rattle.swc_ecma_codegen_ast.specs.Strings.{is_string, string_value}
+use Rattle.swc_ecma_codegen_ast.specs.Numbers.{is_number, is_big_integer, radix_of, big_digits}
+use Rattle.swc_ecma_codegen_ast.specs.NumberValues.{DecimalFraction, numeric_value, exact_value}
+use Rattle.swc_ecma_codegen_ast.specs.Strings.{is_string}
+use Rattle.swc_ecma_codegen_ast.specs.StringValues.{string_value}
 use Rattle.swc_ecma_codegen_ast.specs.RegularExpressions.{is_regex}
-use Rattle.swc_ecma_codegen_ast.specs.Templates.{is_template, is_template_rest, template_value}
+use Rattle.swc_ecma_codegen_ast.specs.Templates.{is_template, is_template_rest, part_units}
+use Rattle.swc_ecma_codegen_ast.specs.declared.kinds.TemplatePart.{TemplatePart}
 use Rattle.swc_ecma_codegen_ast.specs.Jsx.{is_jsx_name, is_jsx_string, is_jsx_text, is_jsx_open}
 use Rattle.swc_ecma_codegen_ast.specs.Hashbangs.{is_hashbang}
 use Rattle.swc_ecma_codegen_ast.specs.Texts.{is_same}
@@ -68,11 +71,17 @@ has_shape JsxText text = is_jsx_text text
 has_shape JsxOpen text = is_jsx_open text
 has_shape Hashbang text = is_hashbang text
 
--- what a token stands for: characters, the units of a string, or the radix and the digits of a big integer
+-- What a token stands for: characters, the code units of a string or of a template's text (none where an escape is
+-- malformed), a number in its one form, or the radix and the digits of a big integer.
 pub data Value : Type 0 where
   Characters : (text : List ℕ) → Value
-  Units : (units : List ℕ) → Value
+  Units : (units : Option (List ℕ)) → Value
+  Exactly : (number : DecimalFraction) → Value
   Digits : (radix : ℕ) → (digits : List ℕ) → Value
+
+-- A part of a template with a tag stands for its spelling, since the tag sees it raw.
+unfoldable pub part_value : TemplatePart → List ℕ → Value
+part_value part text = if part.tagged then Characters text else Units (part_units part text)
 
 -- what a text of that shape stands for
 unfoldable pub value_of : Kind → List ℕ → Value
@@ -80,12 +89,12 @@ value_of Word text = Characters text
 value_of Name text = Characters (name_value text)
 value_of PrivateName text = Characters (private_name_value text)
 value_of Punctuator text = Characters text
-value_of Number text = Characters (number_value text)
+value_of Number text = Exactly (exact_value (numeric_value text))
 value_of BigInt text = Digits (radix_of text) (big_digits text)
-value_of Str text = Units (string_value text)
+value_of Str text = Units (string_value true text)
 value_of Regex text = Characters text
-value_of (Template part) text = Characters (template_value part text)
-value_of (TemplateRest part) text = Characters (template_value part text)
+value_of (Template part) text = part_value part text
+value_of (TemplateRest part) text = part_value part text
 value_of Close text = Characters text
 value_of JsxName text = Characters text
 value_of JsxString text = Characters text

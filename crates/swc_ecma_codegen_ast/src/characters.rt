@@ -66,3 +66,14 @@ pub fn is_quote(c: char) -> bool
 {
     c == '"' || c == '\''
 }
+
+/// Whether a text begins with a decimal digit.
+#[tactic(auto, unfolding(crate::specs::Chars::begins_digit))]
+pub(crate) fn begins_digit(text: &[char]) -> bool
+    ensures { result ≡ chars.begins_digit text.now }
+{
+    match text {
+        [] => false,
+        [c, ..] => is_digit(*c),
+    }
+}

@@ -1,8 +1,7 @@
 //! The trivia at the start of a text, as plain programs. ECMA-262, sections 12.2 to 12.4.
 
-ghost use Rattle.std.specs.Prelude.{◌≡◌, ◌++◌, ℕ, List, true};
+ghost use Rattle.std.specs.Prelude.{◌≡◌, ◌++◌};
 ghost use Rattle.std.specs.Option.{option_copied};
-ghost use Rattle.swc_ecma_codegen_ast.specs.Trivia.{Piece, all_pieces, pieces_text};
 ghost use Rattle.swc_ecma_codegen_ast.specs.Skipping as skipping;
 
 use crate::characters::{is_blank, is_line_end};

@@ -7,12 +7,16 @@ pub mod comments;
 mod gaps;
 pub mod kinds;
 pub mod mapper;
-mod names;
+pub mod names;
+pub mod number_values;
 mod numerals;
 mod punctuation;
 pub mod reader;
 pub mod reading_laws;
 mod shapes;
+pub mod string_values;
+pub mod template_values;
+mod turns;
 pub mod units;
 
 pub use swc_ecma_codegen_tree::{
@@ -22,5 +26,15 @@ pub use swc_ecma_codegen_tree::{
     StmtBox, ThisExpr, UnaryExpr, UnaryOp, UpdateExpr, UpdateOp, discard,
 };
 
+#[cfg(test)]
+mod name_tests;
+#[cfg(test)]
+mod number_tests;
+#[cfg(test)]
+mod shape_tests;
+#[cfg(test)]
+mod string_tests;
+#[cfg(test)]
+mod template_tests;
 #[cfg(test)]
 mod tests;

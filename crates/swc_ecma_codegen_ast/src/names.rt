@@ -1,16 +1,18 @@
 //! Names and words, as plain programs.
 
-ghost use Rattle.std.specs.Prelude.{◌≡◌, ◌<◌, ◌≤◌, ◌+◌, ◌*◌, ◌&&◌, true, false, IfSome, IfNone};
-ghost use Rattle.std.specs.Char.{digit_value};
+ghost use Rattle.std.specs.Prelude.{ℕ, List, ◌≡◌, ◌<◌, ◌≤◌, ◌+◌, ◌*◌, ◌++◌, ◌∷◌, [], ◌&&◌, true, false, IfSome, IfNone, IfOk, is_some};
 ghost use Rattle.swc_ecma_codegen_ast.specs.Chars as chars;
 ghost use Rattle.swc_ecma_codegen_ast.specs.Numbers as numbers;
 ghost use Rattle.swc_ecma_codegen_ast.specs.Names as names;
+ghost use Rattle.swc_ecma_codegen_ast.specs.NameTurns.{IsNameTurn, LeadsOn};
 
 use crate::characters::{is_part, is_start};
+use crate::numerals::hex_digit;
+use std::alloc::{AllocError, Global};
 
 /// Where the reading of a name stands.
 #[derive(Clone, Copy)]
-pub(crate) enum Place {
+pub enum Place {
     /// Between characters.
     Between,
     /// After a backslash.
@@ -25,6 +27,17 @@ pub(crate) enum Place {
     Three(u32),
     /// In `\u{..}`, with or without a digit so far.
     Braced { some: bool, value: u32 },
+}
+
+/// What one character of a name does.
+#[derive(Clone, Copy)]
+pub enum NameTurn {
+    /// No name goes on like this.
+    Unfit,
+    /// It is no character yet.
+    Goes(Place),
+    /// A character is complete.
+    Gives(char),
 }
 
 #[tactic(auto, unfolding(crate::specs::Names::all_part))]
@@ -55,28 +68,62 @@ fn fits(first: bool, c: char) -> bool
     if first { is_start(c) } else { is_part(c) }
 }
 
-/// Whether a name may have the character of this code here.
+/// The character of this code, where a name may have it here.
 #[tactic(auto, unfolding(crate::specs::Names::fits_code, crate::specs::Chars::is_scalar))]
-fn fits_code(first: bool, code: u32) -> bool
-    ensures { result ≡ names.fits_code first code }
+fn fitting(first: bool, code: u32) -> Option<char>
+    ensures some { IfSome result (λ c. (names.fits_code first code ≡ true) × (c ≡ code)) }
+    ensures none { IfNone result (names.fits_code first code ≡ false) }
 {
-    match char::from_u32(code) {
-        Some(c) => fits(first, c),
-        None => false,
+    char::from_u32(code).filter(|c| fits(first, *c))
+}
+
+/// What the last character of an escape does.
+#[tactic(auto)]
+fn given(c: Option<char>) -> NameTurn
+    ensures some { IfSome c (λ c. result ≡ NameTurn.Gives c) }
+    ensures none { IfNone c (result ≡ NameTurn.Unfit) }
+{
+    match c {
+        Some(c) => NameTurn::Gives(c),
+        None => NameTurn::Unfit,
     }
 }
 
-/// The value of a hexadecimal digit.
-#[tactic(auto, unfolding(crate::specs::Numbers::is_hex, crate::specs::Chars::is_digit))]
-fn hex_digit(c: char) -> Option<u32>
-    ensures digit { IfSome result (λ digit. (numbers.is_hex c ≡ true) × (digit ≡ digit_value c) × (digit < 16)) }
-    ensures none { IfNone result (numbers.is_hex c ≡ false) }
+/// What one character does.
+#[tactic(auto, unfolding(crate::specs::NameTurns::IsNameTurn, crate::specs::NameTurns::LeadsOn, crate::specs::Names::name_rest, crate::specs::Names::name_characters, crate::specs::Names::IsSmall))]
+fn turn(first: bool, place: Place, c: char) -> NameTurn
+    requires { names.IsSmall place }
+    ensures turn { (rest : List ℕ) → IsNameTurn first place c rest result }
+    ensures small { LeadsOn result }
 {
-    c.to_digit(16)
+    match (place, hex_digit(c)) {
+        (Place::Between, _) if c == '\\' => NameTurn::Goes(Place::Escaped),
+        (Place::Between, _) if fits(first, c) => NameTurn::Gives(c),
+        (Place::Escaped, _) if c == 'u' => NameTurn::Goes(Place::Unicode),
+        (Place::Between | Place::Escaped, _) => NameTurn::Unfit,
+        (Place::Unicode, _) if c == '{' => {
+            let (some, value) = (false, 0);
+            NameTurn::Goes(Place::Braced { some, value })
+        }
+        (Place::Unicode, Some(digit)) => NameTurn::Goes(Place::One(digit)),
+        (Place::One(value), Some(digit)) => NameTurn::Goes(Place::Two(value * 16 + digit)),
+        (Place::Two(value), Some(digit)) => NameTurn::Goes(Place::Three(value * 16 + digit)),
+        (Place::Three(value), Some(digit)) => given(fitting(first, value * 16 + digit)),
+        (Place::Braced { some: _, value }, Some(digit)) => {
+            let (some, value) = (true, value * 16 + digit);
+            if value <= 0x10FFFF {
+                NameTurn::Goes(Place::Braced { some, value })
+            } else {
+                NameTurn::Unfit
+            }
+        }
+        (Place::Braced { some, value }, None) if c == '}' && some => given(fitting(first, value)),
+        (_, None) => NameTurn::Unfit,
+    }
 }
 
 /// Whether the rest of a name is one.
-#[tactic(auto, unfolding(crate::specs::Names::name_rest, crate::specs::Names::IsSmall))]
+#[tactic(auto, unfolding(crate::specs::NameTurns::IsNameTurn, crate::specs::NameTurns::LeadsOn, crate::specs::Names::name_rest, crate::specs::Names::IsSmall))]
 fn is_name_rest(first: bool, place: Place, text: &[char]) -> bool
     requires { names.IsSmall place }
     ensures { result ≡ names.name_rest first place text.now }
@@ -84,32 +131,10 @@ fn is_name_rest(first: bool, place: Place, text: &[char]) -> bool
     let [c, rest @ ..] = text else {
         return matches!(place, Place::Between) && !first;
     };
-    match (place, hex_digit(*c)) {
-        (Place::Between, _) if *c == '\\' => is_name_rest(first, Place::Escaped, rest),
-        (Place::Between, _) => fits(first, *c) && is_name_rest(false, Place::Between, rest),
-        (Place::Escaped, _) => *c == 'u' && is_name_rest(first, Place::Unicode, rest),
-        (Place::Unicode, _) if *c == '{' => {
-            let (some, value) = (false, 0);
-            is_name_rest(first, Place::Braced { some, value }, rest)
-        }
-        (Place::Unicode, Some(digit)) => is_name_rest(first, Place::One(digit), rest),
-        (Place::One(value), Some(digit)) => {
-            is_name_rest(first, Place::Two(value * 16 + digit), rest)
-        }
-        (Place::Two(value), Some(digit)) => {
-            is_name_rest(first, Place::Three(value * 16 + digit), rest)
-        }
-        (Place::Three(value), Some(digit)) => {
-            fits_code(first, value * 16 + digit) && is_name_rest(false, Place::Between, rest)
-        }
-        (Place::Braced { some: _, value }, Some(digit)) => {
-            let (some, value) = (true, value * 16 + digit);
-            value <= 0x10FFFF && is_name_rest(first, Place::Braced { some, value }, rest)
-        }
-        (Place::Braced { some, value }, None) if *c == '}' && some => {
-            fits_code(first, value) && is_name_rest(false, Place::Between, rest)
-        }
-        (_, None) => false,
+    match turn(first, place, *c) {
+        NameTurn::Unfit => false,
+        NameTurn::Goes(next) => is_name_rest(first, next, rest),
+        NameTurn::Gives(_) => is_name_rest(false, Place::Between, rest),
     }
 }
 
@@ -119,6 +144,42 @@ pub fn is_name(text: &[char]) -> bool
     ensures { result ≡ names.is_name text.now }
 {
     is_name_rest(true, Place::Between, text)
+}
+
+/// Adds the characters of the rest of a name. `false`: the text isn't one.
+#[tactic(auto, unfolding(crate::specs::NameTurns::IsNameTurn, crate::specs::NameTurns::LeadsOn, crate::specs::Names::name_rest, crate::specs::Names::name_characters, crate::specs::Names::IsSmall))]
+fn push_rest(
+    found: &mut Vec<char>,
+    first: bool,
+    place: Place,
+    text: &[char],
+) -> Result<bool, AllocError>
+    requires { names.IsSmall place }
+    ensures name { IfOk result (λ is_rest. is_rest ≡ names.name_rest first place text.now) }
+    ensures found { IfOk result (λ is_rest. is_rest ≡ true → found.new.items ≡ found.old.items ++ names.name_characters place text.now) }
+{
+    let [c, rest @ ..] = text else {
+        return Ok(matches!(place, Place::Between) && !first);
+    };
+    match turn(first, place, *c) {
+        NameTurn::Unfit => Ok(false),
+        NameTurn::Goes(next) => push_rest(found, first, next, rest),
+        NameTurn::Gives(c) => {
+            found.push(c)?;
+            push_rest(found, false, Place::Between, rest)
+        }
+    }
+}
+
+/// The characters of a name, its escapes decoded. `None`: the text isn't a name. `AllocError`: a growth was refused.
+/// Section 12.7.1.2.
+#[tactic(auto, unfolding(crate::specs::Names::is_name, crate::specs::Names::name_value, crate::specs::Names::IsSmall))]
+pub fn name_value(alloc: Global, text: &[char]) -> Result<Option<Vec<char>>, AllocError>
+    ensures name { IfOk result (λ value. is_some value ≡ names.is_name text.now) }
+    ensures value { IfOk result (λ value. IfSome value (λ characters. characters.items ≡ names.name_value text.now)) }
+{
+    let mut found = Vec::new(alloc);
+    Ok(push_rest(&mut found, true, Place::Between, text)?.then_some(found))
 }
 
 /// A private name. Section 12.7.

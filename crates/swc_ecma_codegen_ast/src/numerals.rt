@@ -1,12 +1,13 @@
 //! Which texts are numeric literals, as plain programs. ECMA-262, sections 12.9.3 and B.1.1.
 
-ghost use Rattle.std.specs.Prelude.{◌≡◌};
+ghost use Rattle.std.specs.Prelude.{◌≡◌, ◌<◌, true, false, IfSome, IfNone};
+ghost use Rattle.std.specs.Char.{digit_value};
 ghost use Rattle.swc_ecma_codegen_ast.specs.Numbers as numbers;
 
 use crate::characters::is_digit;
 
 #[tactic(auto, unfolding(crate::specs::Numbers::is_octal))]
-fn is_octal(c: char) -> bool
+pub(crate) fn is_octal(c: char) -> bool
     ensures { result ≡ numbers.is_octal c }
 {
     '0' <= c && c <= '7'
@@ -19,6 +20,15 @@ fn is_hex(c: char) -> bool
     is_digit(c) || ('A' <= c && c <= 'F') || ('a' <= c && c <= 'f')
 }
 
+/// The value of a hexadecimal digit.
+#[tactic(auto, unfolding(crate::specs::Numbers::is_hex, crate::specs::Chars::is_digit))]
+pub(crate) fn hex_digit(c: char) -> Option<u32>
+    ensures digit { IfSome result (λ digit. (numbers.is_hex c ≡ true) × (digit ≡ digit_value c) × (digit < 16)) }
+    ensures none { IfNone result (numbers.is_hex c ≡ false) }
+{
+    c.to_digit(16)
+}
+
 #[tactic(auto, unfolding(crate::specs::Numbers::is_binary))]
 fn is_binary(c: char) -> bool
     ensures { result ≡ numbers.is_binary c }
@@ -27,7 +37,7 @@ fn is_binary(c: char) -> bool
 }
 
 #[tactic(auto, unfolding(crate::specs::Numbers::is_either))]
-fn is_either(a: char, b: char, c: char) -> bool
+pub(crate) fn is_either(a: char, b: char, c: char) -> bool
     ensures { result ≡ numbers.is_either a b c }
 {
     c == a || c == b

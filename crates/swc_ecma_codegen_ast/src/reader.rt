@@ -8,7 +8,7 @@ ghost use Rattle.swc_ecma_codegen_ast.specs.Reads as reads;
 ghost use Rattle.swc_ecma_codegen_ast.specs.LongestMatch as matches;
 ghost use Rattle.swc_ecma_codegen_ast.specs.Reading as reading;
 
-use crate::characters::{is_digit, is_part};
+use crate::characters::{begins_digit, is_part};
 use crate::gaps::skip;
 use crate::kinds::{Kind, TemplatePart};
 use crate::names::{is_name, is_private_name, is_word};
@@ -144,16 +144,6 @@ fn is_of_goal(kind: Kind, text: &[char]) -> bool
         | Kind::Str
         | Kind::Template(_)
         | Kind::JsxOpen => is_ordinary(text),
-    }
-}
-
-#[tactic(auto, unfolding(crate::specs::Chars::begins_digit))]
-fn begins_digit(text: &[char]) -> bool
-    ensures { result ≡ chars.begins_digit text.now }
-{
-    match text {
-        [] => false,
-        [c, ..] => is_digit(*c),
     }
 }
 

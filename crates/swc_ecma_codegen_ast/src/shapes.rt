@@ -12,6 +12,8 @@ ghost use Rattle.swc_ecma_codegen_ast.specs.Hashbangs as hashbangs;
 use crate::characters::{is_line_end, is_part, is_quote, is_start};
 use crate::kinds::TemplatePart;
 use crate::names::all_part;
+use crate::string_values::has_string_value;
+use crate::template_values::has_cooked_value;
 
 /// Whether one text is another.
 #[tactic(auto, unfolding(crate::specs::Texts::is_same))]
@@ -41,27 +43,12 @@ pub fn begins(front: &[char], text: &[char]) -> bool
     }
 }
 
-#[tactic(auto, unfolding(crate::specs::Strings::closes, crate::specs::Texts::is_empty))]
-fn closes(quote: char, escaped: bool, text: &[char]) -> bool
-    ensures { result ≡ strings.closes quote escaped text.now }
-{
-    match text {
-        [] => false,
-        [_, rest @ ..] if escaped => closes(quote, false, rest),
-        [c, rest @ ..] if *c == quote => rest.is_empty(),
-        [c, rest @ ..] => *c != '\n' && *c != '\r' && closes(quote, *c == '\\', rest),
-    }
-}
-
-/// A string. Section 12.9.4.
+/// A string. Sections 12.9.4 and B.1.2.
 #[tactic(auto, unfolding(crate::specs::Strings::is_string))]
 pub fn is_string(text: &[char]) -> bool
     ensures { result ≡ strings.is_string text.now }
 {
-    match text {
-        [] => false,
-        [quote, rest @ ..] => is_quote(*quote) && closes(*quote, false, rest),
-    }
+    has_string_value(true, text)
 }
 
 #[tactic(auto, unfolding(crate::specs::RegularExpressions::class_after))]
@@ -123,6 +110,23 @@ fn ends_template(opens: bool, escaped: bool, text: &[char]) -> bool
     }
 }
 
+/// What stands before the end, in the rest of a part of a template.
+#[tactic(auto, unfolding(crate::specs::Templates::before_end, crate::specs::Templates::part_end))]
+fn before_end(part: TemplatePart, rest: &[char]) -> &[char]
+    ensures { result.now ≡ templates.before_end part rest.now }
+{
+    let end = if part.opens { 2 } else { 1 };
+    rest.get(..rest.len().saturating_sub(end)).unwrap_or(rest)
+}
+
+#[tactic(auto, unfolding(crate::specs::Templates::goes_on_as))]
+fn goes_on_as(part: TemplatePart, rest: &[char]) -> bool
+    ensures { result ≡ templates.goes_on_as part rest.now }
+{
+    ends_template(part.opens, false, rest)
+        && (part.tagged || has_cooked_value(before_end(part, rest)))
+}
+
 /// A template up to its first substitution or its end. Section 12.9.6.
 #[tactic(auto, unfolding(crate::specs::Templates::is_template))]
 pub fn is_template(part: TemplatePart, text: &[char]) -> bool
@@ -130,7 +134,7 @@ pub fn is_template(part: TemplatePart, text: &[char]) -> bool
 {
     match text {
         [] => false,
-        [c, rest @ ..] => *c == '`' && ends_template(part.opens, false, rest),
+        [c, rest @ ..] => *c == '`' && goes_on_as(part, rest),
     }
 }
 
@@ -141,7 +145,7 @@ pub fn is_template_rest(part: TemplatePart, text: &[char]) -> bool
 {
     match text {
         [] => false,
-        [c, rest @ ..] => *c == '}' && ends_template(part.opens, false, rest),
+        [c, rest @ ..] => *c == '}' && goes_on_as(part, rest),
     }
 }
 

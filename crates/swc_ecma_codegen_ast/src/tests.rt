@@ -18,6 +18,10 @@ fn kind_of(letter: char) -> Kind {
         tagged: false,
         opens: true,
     };
+    let tagged = TemplatePart {
+        tagged: true,
+        opens: false,
+    };
     match letter {
         'w' => Kind::Word,
         'n' => Kind::Name,
@@ -27,6 +31,7 @@ fn kind_of(letter: char) -> Kind {
         's' => Kind::Str,
         'r' => Kind::Regex,
         't' => Kind::Template(whole),
+        'g' => Kind::Template(tagged),
         'o' => Kind::Template(opens),
         'c' => Kind::TemplateRest(whole),
         '>' => Kind::Close,
@@ -98,6 +103,9 @@ fn texts_read_as_their_tokens(rt: HostRuntime) -> Result<(), AllocError> {
         ),
         ("#a in'b'", "#ws", "#a¦in¦'b'¦"),
         ("`a${b}c`+`d`", "oncpt", "`a${¦b¦}c`¦+¦`d`¦"),
+        ("a`\\u`", "ng", "a¦`\\u`¦"),
+        ("'\\01'+\"\\u{1f600}\"", "sps", "'\\01'¦+¦\"\\u{1f600}\"¦"),
+        ("'a\\\r\nb'", "s", "'a\\\r\nb'¦"),
         (
             "<a-b c=\"d\"> // x {y}z</a-b>",
             "pjjpq>x{npx{pj>",
@@ -130,6 +138,10 @@ fn texts_without_a_reading(rt: HostRuntime) -> Result<(), AllocError> {
         ("a\n#!x", "n!"),
         ("<a> {b}", "pj>{np"),
         ("'a\nb'", "s"),
+        ("'\\x4'", "s"),
+        ("'\\u{110000}'", "s"),
+        ("`\\u`", "t"),
+        ("`\\01`", "t"),
         ("\\u006", "n"),
         ("\\u{}", "n"),
         ("\\u{110000}", "n"),

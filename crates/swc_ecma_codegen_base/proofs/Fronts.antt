@@ -10,7 +10,7 @@ use Rattle.swc_ecma_codegen_text_writer.proofs.Sheets.{front_refl, front_trans, 
 use Rattle.swc_ecma_codegen_base.specs.declared.refusals.Refusal.{Refusal}
 use Rattle.swc_ecma_codegen_base.specs.declared.refusals.Refusal.TheVariants as refusals
 use Rattle.swc_ecma_codegen_base.specs.Run as run
-use Rattle.swc_ecma_codegen_base.specs.Run.{State, Step, Guard, Token, Plain, Remake, put, run, IsRefused, Steps, steps_of, refusal_of, error_of, Stops, Halts, reached, Plan, nothing, Follows, remakes_name, has_backslash, deepens, PassesLimit, IsReached, HasCause, IsUnhindered}
+use Rattle.swc_ecma_codegen_base.specs.Run.{State, Step, Guard, Token, Plain, Remake, put, run, IsRefused, Steps, steps_of, refusal_of, error_of, Stops, Halts, reached, Plan, Follows, remakes_name, has_backslash, deepens, HasCause, IsUnhindered}
 
 -- ---- what steps do to a sheet
 

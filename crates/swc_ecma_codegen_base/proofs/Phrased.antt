@@ -7,7 +7,7 @@ use Rattle.swc_ecma_codegen_tree.specs.declared.positions.Span.{Span}
 use Rattle.swc_ecma_codegen_ast.specs.declared.kinds.Kind.TheVariants.{Word, Name, Punctuator}
 use Rattle.swc_ecma_codegen_ast.specs.Tokens as lexical
 use Rattle.swc_ecma_codegen_ast.specs.Tokens.{token_of, value_of}
-use Rattle.swc_ecma_codegen_ast.specs.Names.{is_word, is_name, name_value}
+use Rattle.swc_ecma_codegen_ast.specs.Names.{is_word, is_name}
 use Rattle.swc_ecma_codegen_ast.specs.Punctuators.{is_punctuator, punctuators}
 use Rattle.swc_ecma_codegen_ast.specs.Texts.{is_same, is_among}
 use Rattle.swc_ecma_codegen_ast.specs.Reads.{Reads}
@@ -17,8 +17,8 @@ use Rattle.swc_ecma_codegen_ast.specs.Phrases.{Phrase, Nothing, One, Then, Gener
 use Rattle.swc_ecma_codegen_ast.specs.Phrases as phrases
 use Rattle.swc_ecma_codegen_ast.specs.NamePhrases as names
 use Rattle.swc_ecma_codegen_ast.specs.NamePhrases.{name_phrase, is_well_formed_name}
+use Rattle.swc_ecma_codegen_ast.specs.ValidNames.{turned}
 use Rattle.swc_ecma_codegen_ast.proofs.Reading.{reads}
-use Rattle.swc_ecma_codegen_literals.specs.ValidNames.{turned_after}
 use Rattle.swc_ecma_codegen_base.specs.Run.{Env, Plan, Part, State, Step, done, steps_of, run, nothing, spelling, Follows}
 use Rattle.swc_ecma_codegen_base.specs.Words.{keyword, operator, word_operator, punct, semi, commit_pending_semi, leading_comments, name_text, question, name}
 use Rattle.swc_ecma_codegen_base.specs.Written.{AtRest, is_free, IsNew, AddsReading, IsWord, IsMark}
@@ -103,23 +103,13 @@ prints_semi env = prints_mark env semi (codes ";") (writes_semi env (mark_spelle
 
 -- ---- names
 
-turned_same : (b : Bool) (s : List ℕ) → turned_after b s ≡ names.turned_after b s
-unfolding turned_after names.turned_after
-turned_same b [] = refl
-turned_same b (c ∷ cs) =
-    elim (b && (c == 0)) as (λ t. cond t (turned_after false cs) (c ∷ turned_after (c == 92) cs) ≡ cond t (names.turned_after false cs) (c ∷ names.turned_after (c == 92) cs))
-    [ true ↦ turned_same false cs | false ↦ ap (λ z. c ∷ z) (turned_same (c == 92) cs) ]
-
-name_spelled : (bytes : List ℕ) → is_well_formed_name bytes ≡ true → Spelled Name (names.turned bytes)
+name_spelled : (bytes : List ℕ) → is_well_formed_name bytes ≡ true → Spelled Name (turned bytes)
 unfolding is_well_formed_name names.spelled_name
-name_spelled bytes w = let p = and_parts (is_utf8 (names.turned bytes)) (is_name (chars (names.turned bytes))) w in spelled_name (names.turned bytes) p.0 p.1
+name_spelled bytes w = let p = and_parts (is_utf8 (turned bytes)) (is_name (chars (turned bytes))) w in spelled_name (turned bytes) p.0 p.1
 
 pub prints_name_text : (env : Env) (span : Span) (bytes : List ℕ) → env.keeps_invalid ≡ false → is_well_formed_name bytes ≡ true → Prints env (name_text span bytes) (name_phrase bytes)
 unfolding token_of value_of spelling lexical.name name_phrase names.spelled_name
-prints_name_text env span bytes e w =
-    let q = turned_same false bytes in
-    subst (λ z. Prints env (name_text span bytes) (phrases.name (name_value (chars z)))) q
-    (prints_one env (name_text span bytes) _ (writes_name_text env span bytes e (subst (λ z. Spelled Name z) (sym q) (name_spelled bytes w))))
+prints_name_text env span bytes e w = prints_one env (name_text span bytes) _ (writes_name_text env span bytes e (name_spelled bytes w))
 
 prints_question : (env : Env) (optional : Bool) → Prints env (question optional) (cond optional (mark (codes "?")) Nothing)
 unfolding question

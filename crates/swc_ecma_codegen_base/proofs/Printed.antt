@@ -6,9 +6,9 @@ use Rattle.swc_ecma_codegen_tree.specs.declared.positions.Span.{Span}
 use Rattle.swc_ecma_codegen_tree.specs.Spans.{dummy_span}
 use Rattle.swc_ecma_codegen_ast.specs.declared.kinds.Kind.TheVariants.{Word, Name, Punctuator}
 use Rattle.swc_ecma_codegen_ast.specs.Tokens as lexical
-use Rattle.swc_ecma_codegen_ast.specs.Tokens.{token_of, value_of}
+use Rattle.swc_ecma_codegen_ast.specs.Tokens.{token_of}
 use Rattle.swc_ecma_codegen_text_writer.specs.Sheet.{Semi, Space, Keyword, Operator, Line, Symbol, Punct, Position, Commit, effect}
-use Rattle.swc_ecma_codegen_literals.specs.ValidNames.{turned}
+use Rattle.swc_ecma_codegen_ast.specs.ValidNames.{turned}
 use Rattle.swc_ecma_codegen_base.specs.Run.{Env, Plan, Part, State, Step, Guard, Token, Plain, Remake, Steps, next, put, run, step, spelling, text_of, after_token, after_plain, when_minified, no_part}
 use Rattle.swc_ecma_codegen_base.specs.Words.{keyword, operator, word_operator, punct, semi, space, formatting_space, line_end, formatting_line, commit_pending_semi, position, position_before, start_of, leading_comments, trailing_comments, symbol, valid_symbol, name_text}
 use Rattle.swc_ecma_codegen_base.specs.Written.{AtRest}

@@ -3,7 +3,8 @@ use Rattle.std.proofs.Common.{◌≡◌, true, false, cond, List, ℕ, Bool, Res
 use Rattle.swc_ecma_codegen_tree.specs.declared.errors.Error.{Error}
 use Rattle.swc_ecma_codegen_tree.specs.declared.errors.Error.TheVariants.{OutOfMemory}
 use Rattle.swc_ecma_codegen_tree.specs.declared.positions.Span.{Span}
-use Rattle.swc_ecma_codegen_literals.specs.ValidNames.{turned, has_byte}
+use Rattle.swc_ecma_codegen_ast.specs.ValidNames.{turned}
+use Rattle.swc_ecma_codegen_literals.specs.ValidNames.{has_byte}
 use Rattle.swc_ecma_codegen_base.specs.Run.{Env, Plan, State, Remake, Follows, Emits, put, IsRefused}
 use Rattle.swc_ecma_codegen_base.specs.Words.{symbol, valid_symbol, name_text}
 use Rattle.swc_ecma_codegen_base.proofs.Emitting.{emits_refused, follows_step, follows_same}

@@ -9,7 +9,7 @@ use Rattle.swc_ecma_codegen_tree.specs.Spans.{dummy_span}
 use Rattle.swc_ecma_codegen_ast.specs.declared.kinds.Kind.{Kind}
 use Rattle.swc_ecma_codegen_ast.specs.declared.kinds.Kind.TheVariants.{Name}
 use Rattle.swc_ecma_codegen_text_writer.specs.Sheet.{Item, Space, Line, Symbol, Position, Commit}
-use Rattle.swc_ecma_codegen_literals.specs.ValidNames.{turned}
+use Rattle.swc_ecma_codegen_ast.specs.ValidNames.{turned}
 use Rattle.swc_ecma_codegen_base.specs.Run.{Env, Plan, Part, State, Guard, Token, Plain, Remake, steps_of, step, nothing, Follows, HasCause, has_backslash, remakes_name, when_minified, no_part}
 use Rattle.swc_ecma_codegen_base.specs.Words.{keyword, operator, word_operator, punct, semi, space, formatting_space, line_end, formatting_line, commit_pending_semi, position, position_before, start_of, leading_comments, trailing_comments, symbol, valid_symbol, name_text, question, name}
 use Rattle.swc_ecma_codegen_base.proofs.Emitting.{minified_same, pretty_same}

@@ -1,9 +1,7 @@
 //! Names.
 
-ghost use Rattle.std.specs.Prelude.{◌≡◌, ℕ, None, OnOk, IsNone, List, ◌++◌, codes, false, true};
-ghost use Rattle.swc_ecma_codegen_tree.specs.Spans.{dummy_span};
-ghost use Rattle.swc_ecma_codegen_literals.specs.ValidNames.{turned};
-ghost use Rattle.swc_ecma_codegen_base.specs.Run.{Emits, step, Remake};
+ghost use Rattle.std.specs.Prelude.{◌≡◌, ℕ, OnOk, IsNone, List, ◌++◌, false, true};
+ghost use Rattle.swc_ecma_codegen_base.specs.Run.{Emits};
 ghost use Rattle.swc_ecma_codegen_base.specs.Words.{name, name_text, symbol, valid_symbol, question};
 ghost use Rattle.swc_ecma_codegen_ast.specs.Tokens.{Token};
 ghost use Rattle.swc_ecma_codegen_ast.specs.NamePhrases.{is_well_formed_name};

@@ -1,8 +1,8 @@
 //! One call of the writer, and the blank that is due before it.
 
-ghost use Rattle.std.specs.Prelude.{◌≡◌, ℕ, Some, None, OnOk, OnErr, Option, List, [], ◌∷◌, ◌++◌, codes, true, false};
+ghost use Rattle.std.specs.Prelude.{◌≡◌, ℕ, None, OnOk, OnErr, Option, List, [], ◌∷◌, ◌++◌, codes, true, false};
 ghost use Rattle.swc_ecma_codegen_tree.specs.Spans.{dummy_span};
-ghost use Rattle.swc_ecma_codegen_text_writer.specs.Sheet.{Semi, Space, Keyword, Operator, Line, Symbol, Punct, Position, Commit};
+ghost use Rattle.swc_ecma_codegen_text_writer.specs.Sheet.{Semi, Keyword, Operator, Symbol, Punct, Position};
 ghost use Rattle.swc_ecma_codegen_ast.specs.declared.kinds.Kind.TheVariants.{Word, Name, Punctuator};
 ghost use Rattle.swc_ecma_codegen_ast.specs.Tokens as lexical;
 ghost use Rattle.swc_ecma_codegen_base.specs.Run.{Emits, step, Guard, Token, Plain};
@@ -139,15 +139,15 @@ impl LowerEmitter {
         cfg: &Config,
         wr: &mut W,
         span: Option<Span>,
-        text: &'static str,
+        word: &'static str,
     ) -> Result
-        ensures items { Emits (keyword span text.now) (state_of cfg.now (W.sheet wr.old) self.old) (state_of cfg.now (W.sheet wr.new) self.new) result }
+        ensures items { Emits (keyword span word.now) (state_of cfg.now (W.sheet wr.old) self.old) (state_of cfg.now (W.sheet wr.new) self.new) result }
         // The text reads as the tokens so far and this one, whatever follows that doesn't fuse.
-        ensures reads { (text_before : List ℕ) (tokens : List lexical.Token) → IsWord text.now → ReadsSoFar text_before tokens (state_of cfg.now (W.sheet wr.old) self.old) → OnOk result (ReadsSoFar text_before (tokens ++ lexical.word text.now ∷ []) (state_of cfg.now (W.sheet wr.new) self.new)) }
+        ensures reads { (text_before : List ℕ) (tokens : List lexical.Token) → IsWord word.now → ReadsSoFar text_before tokens (state_of cfg.now (W.sheet wr.old) self.old) → OnOk result (ReadsSoFar text_before (tokens ++ lexical.word word.now ∷ []) (state_of cfg.now (W.sheet wr.new) self.new)) }
         ensures level { OnOk result ((W.sheet wr.new).indentation ≡ (W.sheet wr.old).indentation) }
     {
-        self.guard(cfg, wr, text)?;
-        self.put_keyword(cfg, wr, span, text)?;
+        self.guard(cfg, wr, word)?;
+        self.put_keyword(cfg, wr, span, word)?;
         Ok(())
     }
 

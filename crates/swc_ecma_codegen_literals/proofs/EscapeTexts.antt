@@ -1,10 +1,9 @@
 -- The escapes of characters are ASCII.
-use Rattle.std.proofs.Common.{◌≡◌, ℕ, zero, suc, ◌+◌, ◌-◌, ◌*◌, ◌/◌, ◌%◌, ◌^◌, ◌<◌, ◌≤◌, Bool, true, false, not, ◌&&◌, ◌||◌, ◌==◌, List, [], ◌∷◌, ◌++◌, length, slice_index, nat_lt, nat_le, refl, sym, ap, ◌∙◌, subst, arith, inl, inr, if◌then◌else◌, cond, codes}
-use Rattle.std.specs.Str.{chars, IsUtf8, IsAscii}
+use Rattle.std.proofs.Common.{◌≡◌, ℕ, ◌+◌, ◌-◌, ◌*◌, ◌/◌, ◌%◌, ◌^◌, ◌<◌, ◌≤◌, Bool, true, false, ◌&&◌, ◌||◌, ◌==◌, List, [], ◌∷◌, ◌++◌, nat_lt, nat_le, refl, ◌∙◌, arith, inl, inr, if◌then◌else◌, codes}
 use Rattle.std.specs.Fmt.{digit_glyph, digits}
 use Rattle.std.specs.List.{list_all}
 use Rattle.std.specs.Str.Parse.{AllDigits, IsNumeral, digits_value}
-use Rattle.std.proofs.lemmas.Bool.{cases_lt, cases_Bool, lt-ltb, le-ltb, and_from, and_parts, ltb-true, ltb-false, le-leb, or_left, or_right}
+use Rattle.std.proofs.lemmas.Bool.{cases_lt, lt-ltb, le-ltb, and_from, ltb-true, ltb-false, le-leb, or_left, or_right}
 use Rattle.std.proofs.lemmas.List.Folds.{list_all-append}
 use Rattle.std.proofs.lemmas.Fmt.{digits_is_IsNumeral}
 use Rattle.swc_ecma_codegen_tree.specs.declared.versions.EsVersion.{EsVersion}
@@ -13,7 +12,6 @@ use Rattle.swc_ecma_codegen_ast.specs.Chars.{begins_digit, is_digit}
 use Rattle.swc_ecma_codegen_ast.specs.CodeUnits.{escape_length}
 use Rattle.swc_ecma_codegen_literals.specs.StringTexts.{up_to_es5, below_es5, escape_text, null_escape, backslash_escape, code_escape, hex_escape, unit_escape, pair_escape, braced_escape}
 use Rattle.swc_ecma_codegen_literals.proofs.Numerals.{hex_from_value}
-use Rattle.swc_ecma_codegen_literals.proofs.NumberLiterals.{all_weaker, fine_ascii}
 use Rattle.swc_ecma_codegen_literals.proofs.Fronts.{hex_ascii}
 
 abbrev pub is_ascii_char : ℕ → Bool

@@ -1,10 +1,10 @@
 -- What a text begins with: by its characters and by its bytes.
-use Rattle.std.proofs.Common.{◌≡◌, ℕ, zero, suc, ◌+◌, ◌<◌, ◌≤◌, Bool, true, false, ◌&&◌, ◌||◌, ◌==◌, List, [], ◌∷◌, ◌++◌, length, slice_index, nat_lt, nat_le, refl, sym, ap, ◌∙◌, subst, arith, inl, inr, if◌then◌else◌, cond, get_or, length-append}
+use Rattle.std.proofs.Common.{◌≡◌, ℕ, ◌+◌, ◌<◌, ◌≤◌, Bool, true, false, ◌&&◌, ◌||◌, ◌==◌, List, [], ◌∷◌, ◌++◌, length, slice_index, nat_lt, nat_le, refl, sym, ap, ◌∙◌, arith, inl, inr, if◌then◌else◌, length-append}
 use Rattle.std.specs.Str.{chars, IsUtf8}
-use Rattle.std.specs.Char.{encode_utf8, is_ascii_digit}
+use Rattle.std.specs.Char.{encode_utf8}
 use Rattle.std.proofs.lemmas.List.{nil_from_length}
-use Rattle.std.proofs.lemmas.Bool.{cases_lt, false_from_ne_true, and_parts, ltb-true, leb-true, eqb-true, lt-ltb, or_cases, false≢true, cases_Bool, and_right}
-use Rattle.std.proofs.lemmas.Str.{chars_past_char, char_from_byte, byte_from_char, IsUtf8-past_char, encode_ascii, chars-nil, chars_from_encodes, len_utf8_bounds, length-encode}
+use Rattle.std.proofs.lemmas.Bool.{cases_lt, false_from_ne_true, and_parts, leb-true, eqb-true, or_cases, and_right}
+use Rattle.std.proofs.lemmas.Str.{char_from_byte, encode_ascii, chars_from_encodes, len_utf8_bounds, length-encode}
 use lib.Utf8.{encodes}
 use Rattle.swc_ecma_codegen_ast.specs.Chars.{is_digit, begins_digit}
 use Rattle.swc_ecma_codegen_ast.specs.Numbers.{is_hex, is_either}

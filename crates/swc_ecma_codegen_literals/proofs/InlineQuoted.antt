@@ -4,14 +4,16 @@ use Rattle.std.specs.Fmt.{digit_glyph, digits}
 use Rattle.std.specs.List.{list_all}
 use Rattle.std.specs.Str.{IsAscii, chars}
 use Rattle.std.specs.Str.Parse.{digits_value, AllDigits, IsNumeral}
-use Rattle.std.proofs.lemmas.Bool.{cases_Bool, and_from, and_parts, ne_eqb, eqb-true, not-true, or_cases, ltb-true, ltb-false, false≢true, cond-false}
+use Rattle.std.proofs.lemmas.Bool.{cases_Bool, and_from, le-leb, leb-true, not_from_false, and_parts, ne_eqb, eqb-true, not-true, or_cases, ltb-true, ltb-false, false≢true, cond-false}
 use Rattle.std.proofs.lemmas.Str.{chars-encodes, encodes-IsAscii}
 use Rattle.std.proofs.lemmas.List.Folds.{list_all-append}
 use Rattle.std.proofs.lemmas.Fmt.{digits_is_IsNumeral}
 use lib.Utf8.{scalars, encodes}
 use Rattle.swc_ecma_codegen_tree.specs.declared.versions.EsVersion.{EsVersion}
-use Rattle.swc_ecma_codegen_ast.specs.Chars.{begins_digit, is_quote}
+use Rattle.swc_ecma_codegen_ast.specs.Chars.{begins_digit, is_digit}
 use Rattle.swc_ecma_codegen_ast.specs.Strings.{is_string}
+use Rattle.swc_ecma_codegen_ast.specs.Numbers.{is_hex}
+use Rattle.swc_ecma_codegen_ast.proofs.StrictStrings.{valued_is_string}
 use Rattle.swc_ecma_codegen_ast.specs.CodeUnits.{begins_like, escape_length, short_escape, long_escape, four_digits, units}
 use Rattle.swc_ecma_codegen_ast.specs.declared.units.Place.TheVariants.{Between}
 use Rattle.swc_ecma_codegen_ast.specs.StringValues.{string_value}
@@ -22,12 +24,29 @@ use Rattle.swc_ecma_codegen_literals.proofs.Fronts.{either_escape}
 use Rattle.swc_ecma_codegen_literals.proofs.Numerals.{hex_from_value}
 use Rattle.swc_ecma_codegen_literals.proofs.SpelledTexts.{ascii_from_all}
 use Rattle.swc_ecma_codegen_literals.proofs.StringReads.{IsQuote, quote_small}
-use Rattle.swc_ecma_codegen_literals.proofs.StringCloses.{inside, hex_inside}
 use Rattle.swc_ecma_codegen_literals.proofs.StringUnits.{stands_bare, scalars_rest}
-use Rattle.swc_ecma_codegen_literals.proofs.QuotedTexts.{Lone, lone, not_lone, first_bound, quote_is, quote_shape, quoted_value, quoted_is_string, quoted_scalars, quoted_ascii}
+use Rattle.swc_ecma_codegen_literals.proofs.QuotedTexts.{Lone, lone, not_lone, first_bound, quote_is, quote_shape, quoted_value, quoted_scalars, quoted_ascii}
 use Rattle.swc_ecma_codegen_literals.proofs.InlineMarks.{at_once}
 use Rattle.swc_ecma_codegen_literals.proofs.InlineTexts.{marked_ascii, marked_scalars, marked_bytes, marked_safe}
-use Rattle.swc_ecma_codegen_literals.proofs.InlineReads.{fine, all_fine, other_stands, marked_reads, marked_closes}
+use Rattle.swc_ecma_codegen_literals.proofs.InlineReads.{fine, all_fine, other_stands, marked_reads}
+
+-- characters inside an escape: letters, digits, braces
+abbrev pub inside : ℕ → Bool
+inside c = nat_le 48 c && not (c == 92)
+
+pub hex_inside : (c : ℕ) → is_hex c ≡ true → inside c ≡ true
+unfolding is_hex is_digit
+hex_inside c h =
+    elim (or_cases (nat_le 48 c && nat_le c 57) ((nat_le 65 c && nat_le c 70) || (nat_le 97 c && nat_le c 102)) h) [
+      | inl d ↦ let p = and_parts (nat_le 48 c) (nat_le c 57) d in let l : c ≤ 57 = leb-true c 57 p.1 in at (leb-true 48 c p.0) (λ e. omega (arith, e, l))
+      | inr d ↦ elim (or_cases (nat_le 65 c && nat_le c 70) (nat_le 97 c && nat_le c 102) d) [
+        | inl u ↦ let p = and_parts (nat_le 65 c) (nat_le c 70) u in let g : 65 ≤ c = leb-true 65 c p.0 in let l : c ≤ 70 = leb-true c 70 p.1 in at (omega (arith, g)) (λ e. omega (arith, e, l))
+        | inr u ↦ let p = and_parts (nat_le 97 c) (nat_le c 102) u in let g : 97 ≤ c = leb-true 97 c p.0 in at (omega (arith, g)) (λ e. omega (arith, e, g))
+      ]
+    ]
+  where
+    at : 48 ≤ c → (c ≡ 92 → ⊥) → inside c ≡ true
+    at g n = and_from (nat_le 48 c) (not (c == 92)) (le-leb 48 c g) (not_from_false (c == 92) (ne_eqb c 92 n))
 
 -- what holds before an escape where it holds after it
 abbrev pub Kept : (List ℕ → Type 0) → Type 0
@@ -152,7 +171,7 @@ nothing_fine = refl
 body_fine : (q : ℕ) (a : Bool) (v : EsVersion) (text : List ℕ) → IsQuote q → scalars text ≡ true → Fine (spelled_all q a v text ++ q ∷ [])
 body_fine q a v text h s = spelled_fine q a v text (q ∷ []) h s (fine_stands q [] (quote_fine q h) nothing_fine)
 
--- so its value and its end stay
+-- so its value stays
 quote_stands : (q : ℕ) (cs : List ℕ) → IsQuote q → marked 0 (q ∷ cs) ≡ q ∷ marked 0 cs
 unfolding IsQuote
 quote_stands q cs h =
@@ -166,10 +185,6 @@ value_kept : (q : ℕ) (cs : List ℕ) → IsQuote q → Fine cs → string_valu
 unfolding string_value
 value_kept q cs h f = ap (string_value false) (quote_stands q cs h) ∙ rw (quote_shape q h) (marked_reads q cs h 0 Between tt f)
 
-token_kept : (q : ℕ) (cs : List ℕ) → IsQuote q → Fine cs → is_string (marked 0 (q ∷ cs)) ≡ is_string (q ∷ cs)
-unfolding is_string
-token_kept q cs h f = ap is_string (quote_stands q cs h) ∙ ap (λ b. is_quote q && b) (marked_closes q cs h 0 false f)
-
 marked_value : (a : Bool) (v : EsVersion) (text : List ℕ) → scalars text ≡ true → string_value false (marked 0 (quoted_text a v text)) ≡ Some (units text)
 unfolding quoted_text
 marked_value a v text s =
@@ -178,10 +193,7 @@ marked_value a v text s =
     value_kept (quote_of text) (spelled_all (quote_of text) a v text ++ quote_of text ∷ []) h (body_fine (quote_of text) a v text h s) ∙ quoted_value a v text s
 
 marked_token : (a : Bool) (v : EsVersion) (text : List ℕ) → scalars text ≡ true → is_string (marked 0 (quoted_text a v text)) ≡ true
-unfolding quoted_text
-marked_token a v text s =
-    let h = quote_is text in
-    token_kept (quote_of text) (spelled_all (quote_of text) a v text ++ quote_of text ∷ []) h (body_fine (quote_of text) a v text h s) ∙ quoted_is_string a v text s
+marked_token a v text s = valued_is_string (marked 0 (quoted_text a v text)) (units text) (marked_value a v text s)
 
 -- What is written for a literal: each clause of it.
 pub inline_exactly : (a : Bool) (v : EsVersion) (text literal result : List ℕ) → scalars text ≡ true → literal ≡ encodes (quoted_text a v text) → result ≡ marked 0 literal → result ≡ encodes (inline_text (quoted_text a v text))

@@ -4,7 +4,6 @@ use Rattle.std.specs.Char.{digit_value}
 use Rattle.std.proofs.lemmas.Bool.{cases_Bool, and_parts, or_from, or_parts, eqb-true, ne_eqb, not-true, false≢true}
 use Rattle.swc_ecma_codegen_ast.specs.Chars.{is_digit, begins_digit}
 use Rattle.swc_ecma_codegen_ast.specs.Numbers.{is_hex, is_octal, is_either}
-use Rattle.swc_ecma_codegen_ast.specs.Strings.{closes}
 use Rattle.swc_ecma_codegen_ast.specs.Texts.{is_empty}
 use Rattle.swc_ecma_codegen_ast.specs.CodeUnits.{utf16, begins_like}
 use Rattle.swc_ecma_codegen_ast.specs.declared.units.Place.{Place}
@@ -12,7 +11,6 @@ use Rattle.swc_ecma_codegen_ast.specs.declared.units.Place.TheVariants.{Between,
 use Rattle.swc_ecma_codegen_ast.specs.StringValues.{before, single_escape, string_rest}
 use Rattle.swc_ecma_codegen_literals.specs.InlineScripts.{is_tag_end, script_end, dashes_after, mark_text, marked}
 use Rattle.swc_ecma_codegen_literals.proofs.StringReads.{IsQuote, Read, escapes, hex_not}
-use Rattle.swc_ecma_codegen_literals.proofs.StringCloses.{closes_escape}
 use Rattle.swc_ecma_codegen_literals.proofs.InlineMarks.{Mark, Stands, Opens, Ends, Closes, view, marked_nil, marked_as}
 
 -- What an escape begins with after its backslash: no `<`, no `>`, no CR.
@@ -281,57 +279,3 @@ one_reads q d c cs Continued h r s b = absurd s
 pub marked_reads : (q : ℕ) (cs : List ℕ) → IsQuote q → (d : ℕ) (place : Place) → Simple place → all_fine (is_escaped place) cs ≡ true → Read q place (marked d cs) ≡ Read q place cs
 marked_reads q [] h d place s b = ap (λ t. Read q place t) (marked_nil d)
 marked_reads q (c ∷ cs) h d place s b = one_reads q d c cs place h (λ n p k f. marked_reads q cs h n p k f) s b
-
--- the same of the token's end
-escaped_closes : (q c : ℕ) (t : List ℕ) → closes q true (c ∷ t) ≡ closes q false t
-unfolding closes
-escaped_closes q c t = refl
-
-between_closes : (q c : ℕ) (x y : List ℕ) → is_empty x ≡ is_empty y → closes q (c == 92) x ≡ closes q (c == 92) y → closes q false (c ∷ x) ≡ closes q false (c ∷ y)
-unfolding closes
-between_closes q c x y e f = rw (e, f) refl
-
-angle_closes : (q a : ℕ) (t : List ℕ) → IsQuote q → 40 ≤ a → (a == 92) ≡ false → closes q false (a ∷ t) ≡ closes q false t
-unfolding closes
-angle_closes q a t h l n = rw (no_angle q a h l, ne_eqb a 10 (λ e. omega (arith, e, l)), ne_eqb a 13 (λ e. omega (arith, e, l)), n) refl
-
-backslash_closes : (q : ℕ) (t : List ℕ) → IsQuote q → closes q false (92 ∷ t) ≡ closes q true t
-unfolding closes
-backslash_closes q t h = rw (no_angle q 92 h (omega arith)) refl
-
-abbrev SameEnd : ℕ → List ℕ → Type 0
-SameEnd q cs = (d : ℕ) (e : Bool) → all_fine e cs ≡ true → closes q e (marked d cs) ≡ closes q e cs
-
-one_closes : (q d c : ℕ) (cs : List ℕ) → IsQuote q → SameEnd q cs → all_fine false (c ∷ cs) ≡ true → closes q false (marked d (c ∷ cs)) ≡ closes q false (c ∷ cs)
-one_closes q d c cs h r b = by_view (view d c cs)
-  where
-    mark : (a : ℕ) → 60 ≤ a → a < 92 → c ≡ a → closes q false (marked 0 cs) ≡ closes q false (c ∷ cs)
-    mark a l k i =
-        let n : (a == 92) ≡ false = ne_eqb a 92 (λ e. omega arith) in
-        r 0 false (fine_between c cs false (ap (λ x. x == 92) i ∙ n) b) ∙ (sym (angle_closes q a cs h (omega arith) n) ∙ ap (λ x. closes q false (x ∷ cs)) (sym i))
-
-    ended : begins_like script_end cs ≡ true → closes q false (60 ∷ 92 ∷ marked 0 cs) ≡ closes q false (marked 0 cs)
-    ended g =
-        let s = slash_stands cs g in
-        angle_closes q 60 (92 ∷ marked 0 cs) h (omega arith) refl ∙ (backslash_closes q (marked 0 cs) h ∙ (ap (λ t. closes q true t) s.2 ∙
-        (escaped_closes q 47 (marked 0 s.0) ∙ (sym (angle_closes q 47 (marked 0 s.0) h (omega arith) refl) ∙ ap (λ t. closes q false t) (sym s.2)))))
-
-    by_view : Mark d c cs → closes q false (marked d (c ∷ cs)) ≡ closes q false (c ∷ cs)
-    by_view (Stands m e o n l) =
-        ap (λ t. closes q false t) e ∙
-        between_closes q c (marked (dashes_after d c) cs) cs (same_empty (dashes_after d c) cs) (r (dashes_after d c) (c == 92) (fine_between c cs (c == 92) refl b))
-    by_view (Opens i g m e) = ap (λ t. closes q false t) e ∙ (closes_escape q 120 (51 ∷ 99 ∷ []) (marked 0 cs) h refl ∙ mark 60 (omega arith) (omega arith) i)
-    by_view (Ends i g m e) = ap (λ t. closes q false t) e ∙ (ended g ∙ mark 60 (omega arith) (omega arith) i)
-    by_view (Closes i g m e) = ap (λ t. closes q false t) e ∙ (closes_escape q 120 (51 ∷ 101 ∷ []) (marked 0 cs) h refl ∙ mark 62 (omega arith) (omega arith) i)
-
-one_escaped : (q d c : ℕ) (cs : List ℕ) → SameEnd q cs → all_fine true (c ∷ cs) ≡ true → closes q true (marked d (c ∷ cs)) ≡ closes q true (c ∷ cs)
-unfolding all_fine
-one_escaped q d c cs r b =
-    let p = and_parts (fine c) (all_fine false cs) b in
-    let f = fine_parts c p.0 in
-    ap (λ t. closes q true t) (other_stands d c cs f.0 f.1) ∙ (escaped_closes q c (marked (dashes_after d c) cs) ∙ (r (dashes_after d c) false p.1 ∙ sym (escaped_closes q c cs)))
-
-pub marked_closes : (q : ℕ) (cs : List ℕ) → IsQuote q → (d : ℕ) (e : Bool) → all_fine e cs ≡ true → closes q e (marked d cs) ≡ closes q e cs
-marked_closes q [] h d e b = ap (λ t. closes q e t) (marked_nil d)
-marked_closes q (c ∷ cs) h d true b = one_escaped q d c cs (λ n e f. marked_closes q cs h n e f) b
-marked_closes q (c ∷ cs) h d false b = one_closes q d c cs h (λ n e f. marked_closes q cs h n e f) b

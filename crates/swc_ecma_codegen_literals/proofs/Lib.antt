@@ -5,7 +5,10 @@ pub mod InlineMarks
 pub mod InlineQuoted
 pub mod InlineReads
 pub mod InlineTexts
+pub mod NameBridge
+pub mod NameDecoder
 pub mod NameReads
+pub mod NameRuns
 pub mod NameStrings
 pub mod NameTexts
 pub mod Nulls
@@ -14,7 +17,6 @@ pub mod Numerals
 pub mod QuotedTexts
 pub mod Runs
 pub mod SpelledTexts
-pub mod StringCloses
 pub mod StringReads
 pub mod StringUnits
 pub mod TemplateChars

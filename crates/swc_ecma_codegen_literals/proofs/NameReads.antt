@@ -14,7 +14,7 @@ use Rattle.swc_ecma_codegen_ast.specs.declared.units.Place.{Place}
 use Rattle.swc_ecma_codegen_ast.specs.declared.units.Place.TheVariants.{Between, Escaped, Due, Unicode, Braced, Octal, Continued}
 use Rattle.swc_ecma_codegen_ast.specs.StringValues.{before}
 use Rattle.swc_ecma_codegen_literals.specs.StringTexts.{up_to_es5, code_escape, hex_escape, unit_escape, pair_escape, braced_escape}
-use Rattle.swc_ecma_codegen_literals.specs.NameValues.{name_rest}
+use Rattle.swc_ecma_codegen_literals.proofs.NameDecoder.{name_rest}
 use Rattle.swc_ecma_codegen_literals.specs.AsciiNames.{lower_unit_escape, name_escape, name_escapes, wants_quotes}
 use Rattle.swc_ecma_codegen_literals.proofs.EscapeTexts.{glyph_hex, chosen}
 use Rattle.swc_ecma_codegen_literals.proofs.Numerals.{hex_from_value}

@@ -8,22 +8,18 @@ use Rattle.swc_ecma_codegen_tree.specs.declared.versions.EsVersion.{EsVersion}
 use Rattle.swc_ecma_codegen_ast.specs.Chars.{is_digit, is_letter, is_part, is_start, is_quote}
 use Rattle.swc_ecma_codegen_ast.specs.Names.{all_part, is_word}
 use Rattle.swc_ecma_codegen_ast.specs.Numbers.{is_hex, is_either}
-use Rattle.swc_ecma_codegen_ast.specs.Strings.{closes, is_string}
 use Rattle.swc_ecma_codegen_ast.specs.Texts.{is_empty}
 use Rattle.swc_ecma_codegen_ast.specs.CodeUnits.{utf16, all_utf16}
 use Rattle.swc_ecma_codegen_ast.specs.declared.units.Place.{Place}
 use Rattle.swc_ecma_codegen_ast.specs.declared.units.Place.TheVariants.{Between, Escaped, Due, Unicode, Braced, Octal, Continued}
 use Rattle.swc_ecma_codegen_ast.specs.StringValues.{before, string_rest, string_value}
 use Rattle.swc_ecma_codegen_literals.specs.StringTexts.{code_escape}
-use Rattle.swc_ecma_codegen_literals.specs.NameValues.{name_rest, name_characters, are_word, spells_name}
+use Rattle.swc_ecma_codegen_literals.proofs.NameDecoder.{name_rest, name_characters}
 use Rattle.swc_ecma_codegen_literals.specs.AsciiNames.{lower_unit_escape, name_escape, name_escapes}
 use Rattle.swc_ecma_codegen_literals.proofs.SpelledTexts.{scalar_bound}
 use Rattle.swc_ecma_codegen_literals.proofs.StringReads.{IsQuote, Read, escapes, unit_opens, braced_opens, utf16_small, code_escape_reads}
-use Rattle.swc_ecma_codegen_literals.proofs.StringCloses.{inside, closes_escape, hex_inside, closes_inside}
 use Rattle.swc_ecma_codegen_literals.proofs.StringUnits.{Bare, bare_reads, hex_value_small}
-use Rattle.swc_ecma_codegen_literals.proofs.InlineReads.{is_escaped}
-use Rattle.swc_ecma_codegen_literals.proofs.InlineQuoted.{hex_kept, unit_kept, pair_kept, braced_kept}
-use Rattle.swc_ecma_codegen_literals.proofs.NameReads.{escape_cases, lost_wide, is_between}
+use Rattle.swc_ecma_codegen_literals.proofs.NameReads.{lost_wide, is_between}
 
 -- a character that no quote, no backslash and no line end is
 abbrev clean : ℕ → Bool
@@ -33,9 +29,9 @@ double : IsQuote 34
 unfolding IsQuote
 double = inl refl
 
--- what a text in quotes reads as, and that it is one token
+-- what a text in quotes reads as
 abbrev Reading : Place → List ℕ → List ℕ → Type 0
-Reading place text cs = (Read 34 place text ≡ Some (all_utf16 cs)) × (closes 34 (is_escaped place) text ≡ true)
+Reading place text cs = Read 34 place text ≡ Some (all_utf16 cs)
 
 -- the places of a name, with values that four digits have
 abbrev Fits : Place → Type 0
@@ -86,10 +82,6 @@ units_before : (c : ℕ) (rest : Option (List ℕ)) (ds text : List ℕ) (b : Be
 unfolding before
 units_before c rest ds text b r = ap (λ o. before (utf16 c) o) r ∙ ap Some (sym b.units)
 
-bare_closes : (c : ℕ) (t : List ℕ) → Bare 34 c → closes 34 false (c ∷ t) ≡ closes 34 false t
-unfolding closes is_either
-bare_closes c t b = rw (b.no_quote, b.no_line_end, b.no_backslash) refl
-
 -- between characters
 name_between : (c : ℕ) (cs : List ℕ) → (c == 92) ≡ false → name_rest Between (c ∷ cs) ≡ before (c ∷ []) (name_rest Between cs)
 unfolding name_rest
@@ -99,20 +91,16 @@ name_opens : (cs : List ℕ) → name_rest Between (92 ∷ cs) ≡ name_rest Esc
 unfolding name_rest
 name_opens cs = refl
 
-opens_closes : (t : List ℕ) → closes 34 false (92 ∷ t) ≡ closes 34 true t
-unfolding closes
-opens_closes t = refl
-
 low_between : (c : ℕ) (cs text ds : List ℕ) → Rest cs text → name_rest Between (c ∷ cs) ≡ Some ds → list_all clean ds ≡ true → Reading Between (c ∷ text) ds
 low_between c cs text ds r h a = elim (cases_Bool (c == 92)) [
   | inl y ↦
       let e : c ≡ 92 = eqb-true c 92 y in
       let k = r Escaped ds tt (sym (ap (λ x. name_rest Between (x ∷ cs)) e ∙ name_opens cs) ∙ h) a in
-      (ap (λ x. Read 34 Between (x ∷ text)) e ∙ (escapes 34 text double ∙ k.0), ap (λ x. closes 34 false (x ∷ text)) e ∙ (opens_closes text ∙ k.1))
+      ap (λ x. Read 34 Between (x ∷ text)) e ∙ (escapes 34 text double ∙ k)
   | inr n ↦
       let b = before_some c (name_rest Between cs) ds (sym (name_between c cs n) ∙ h) a in
       let k = r Between b.more tt b.reads b.are_clean in
-      (bare_reads 34 c text (clean_bare c b.is_clean) ∙ units_before c (name_rest Between cs) ds text b k.0, bare_closes c text (clean_bare c b.is_clean) ∙ k.1)
+      bare_reads 34 c text (clean_bare c b.is_clean) ∙ units_before c (name_rest Between cs) ds text b k
 ]
 
 -- inside an escape
@@ -123,18 +111,11 @@ name_escaped c cs ds h = elim (cases_Bool (c == 117)) [
   | inr n ↦ absurd (none_some ds (rw n at h))
 ]
 
-escaped_closes : (c : ℕ) (t : List ℕ) → closes 34 true (c ∷ t) ≡ closes 34 false t
-unfolding closes
-escaped_closes c t = refl
-
 low_escaped : (c : ℕ) (cs text ds : List ℕ) → Rest cs text → name_rest Escaped (c ∷ cs) ≡ Some ds → list_all clean ds ≡ true → Reading Escaped (c ∷ text) ds
 low_escaped c cs text ds r h a =
     let p = name_escaped c cs ds h in
     let k = r Unicode ds tt p.1 a in
-    (ap (λ x. Read 34 Escaped (x ∷ text)) p.0 ∙ (unit_opens 34 text ∙ k.0), escaped_closes c text ∙ k.1)
-
-hex_closes : (c : ℕ) (t : List ℕ) → is_hex c ≡ true → closes 34 false (c ∷ t) ≡ closes 34 false t
-hex_closes c t h = closes_inside 34 c t double (hex_inside c h)
+    ap (λ x. Read 34 Escaped (x ∷ text)) p.0 ∙ (unit_opens 34 text ∙ k)
 
 -- a digit of an escape, or no name
 due_digit : (n v c : ℕ) (cs ds : List ℕ) → name_rest (Due n v) (c ∷ cs) ≡ Some ds → is_hex c ≡ true
@@ -162,7 +143,7 @@ read_last v c t h = rw h refl
 due_next : (n v c : ℕ) (cs text ds : List ℕ) → Rest cs text → Fits (Due (suc n) (v * 16 + digit_value c)) → is_hex c ≡ true → name_rest (Due (suc (suc n)) v) (c ∷ cs) ≡ Some ds → list_all clean ds ≡ true → Reading (Due (suc (suc n)) v) (c ∷ text) ds
 due_next n v c cs text ds r f x h a =
     let k = r (Due (suc n) (v * 16 + digit_value c)) ds f (sym (name_due n v c cs x) ∙ h) a in
-    (read_due n v c text x ∙ k.0, hex_closes c text x ∙ k.1)
+    read_due n v c text x ∙ k
 
 due_done : (v c : ℕ) (cs text ds : List ℕ) → Rest cs text → v < 4096 → is_hex c ≡ true → name_rest (Due 1 v) (c ∷ cs) ≡ Some ds → list_all clean ds ≡ true → Reading (Due 1 v) (c ∷ text) ds
 due_done v c cs text ds r l x h a =
@@ -170,7 +151,7 @@ due_done v c cs text ds r l x h a =
     let s = hex_value_small c x in
     let b = before_some (v * 16 + digit_value c) (name_rest Between cs) ds (sym (name_last v c cs x) ∙ h) a in
     let k = r Between b.more tt b.reads b.are_clean in
-    (read_last v c text x ∙ (ap (λ us. before us (Read 34 Between text)) (sym (utf16_small u (omega arith))) ∙ units_before u (name_rest Between cs) ds text b k.0), hex_closes c text x ∙ k.1)
+    read_last v c text x ∙ (ap (λ us. before us (Read 34 Between text)) (sym (utf16_small u (omega arith))) ∙ units_before u (name_rest Between cs) ds text b k)
 
 low_due : (n v c : ℕ) (cs text ds : List ℕ) → Rest cs text → Fits (Due n v) → name_rest (Due n v) (c ∷ cs) ≡ Some ds → list_all clean ds ≡ true → Reading (Due n v) (c ∷ text) ds
 low_due zero v c cs text ds r f h a = absurd f
@@ -206,12 +187,12 @@ low_unicode c cs text ds r h a = elim (cases_Bool (c == 123)) [
   | inl y ↦
       let e : c ≡ 123 = eqb-true c 123 y in
       let k = r (Braced false 0) ds tt (sym (ap (λ x. name_rest Unicode (x ∷ cs)) e ∙ name_braces cs) ∙ h) a in
-      (ap (λ x. Read 34 Unicode (x ∷ text)) e ∙ (braced_opens 34 text ∙ k.0), ap (λ x. closes 34 false (x ∷ text)) e ∙ (closes_inside 34 123 text double refl ∙ k.1))
+      ap (λ x. Read 34 Unicode (x ∷ text)) e ∙ (braced_opens 34 text ∙ k)
   | inr n ↦ elim (cases_Bool (is_hex c)) [
     | inl x ↦
         let s = hex_value_small c x in
         let k = r (Due 3 (digit_value c)) ds s (sym (name_unit c cs n x) ∙ h) a in
-        (read_unit c text n x ∙ k.0, hex_closes c text x ∙ k.1)
+        read_unit c text n x ∙ k
     | inr m ↦ absurd (none_some ds (sym (name_no_unit c cs n m) ∙ h))
   ]
 ]
@@ -240,13 +221,12 @@ low_braced : (s : Bool) (v c : ℕ) (cs text ds : List ℕ) → Rest cs text →
 low_braced s v c cs text ds r h a = elim (cases_Bool (is_hex c)) [
   | inl x ↦
       let k = r (Braced true (v * 16 + digit_value c)) ds tt (sym (name_digit s v c cs x) ∙ h) a in
-      (read_digit s v c text x ∙ k.0, hex_closes c text x ∙ k.1)
+      read_digit s v c text x ∙ k
   | inr n ↦ elim (cases_Bool ((c == 125) && (s && nat_le v 1114111))) [
     | inl y ↦
-        let e : c ≡ 125 = eqb-true c 125 (and_parts (c == 125) (s && nat_le v 1114111) y).0 in
         let b = before_some v (name_rest Between cs) ds (sym (name_brace s v c cs n y) ∙ h) a in
         let k = r Between b.more tt b.reads b.are_clean in
-        (read_brace s v c text n y ∙ units_before v (name_rest Between cs) ds text b k.0, ap (λ x. closes 34 false (x ∷ text)) e ∙ (closes_inside 34 125 text double refl ∙ k.1))
+        read_brace s v c text n y ∙ units_before v (name_rest Between cs) ds text b k
     | inr m ↦ absurd (none_some ds (sym (name_no_brace s v c cs n m) ∙ h))
   ]
 ]
@@ -269,21 +249,11 @@ wide_code v c g = rw (le-ltb c 127 g) (by_test (nat_lt c 256))
     by_test true = refl
     by_test false = refl
 
-ends_kept : (x : ℕ) (ps t : List ℕ) → list_all inside ps ≡ true → closes 34 false t ≡ true → closes 34 false (92 ∷ x ∷ (ps ++ t)) ≡ true
-ends_kept x ps t i h = closes_escape 34 x ps t double i ∙ h
-
-escape_ends : (v : EsVersion) (c : ℕ) (t : List ℕ) → 127 ≤ c → c < 1114112 → closes 34 false t ≡ true → closes 34 false (name_escape true v c ++ t) ≡ true
-escape_ends v c t g l h =
-    let P : List ℕ → Type 0 = λ x. closes 34 false x ≡ true in
-    escape_cases (λ x. P (x ++ t)) true v c g (λ _ k. absurd (false≢true (sym k)))
-    (λ s _. hex_kept P (λ x ps t _ i k. ends_kept x ps t i k) c t s h) (λ _ s. unit_kept P (λ x ps t _ i k. ends_kept x ps t i k) c t s h)
-    (λ w _. pair_kept P (λ x ps t _ i k. ends_kept x ps t i k) c t w l h) (λ _ _. braced_kept P (λ x ps t _ i k. ends_kept x ps t i k) c t l h)
-
 wide_between : (v : EsVersion) (c : ℕ) (cs text ds : List ℕ) → 127 ≤ c → c < 1114112 → Rest cs text → name_rest Between (c ∷ cs) ≡ Some ds → list_all clean ds ≡ true → Reading Between (name_escape true v c ++ text) ds
 wide_between v c cs text ds g l r h a =
     let b = before_some c (name_rest Between cs) ds (sym (name_between c cs (ne_eqb c 92 (λ e. omega arith))) ∙ h) a in
     let k = r Between b.more tt b.reads b.are_clean in
-    (ap (λ x. Read 34 Between (x ++ text)) (wide_code v c g) ∙ (code_escape_reads 34 v c text double l ∙ units_before c (name_rest Between cs) ds text b k.0), escape_ends v c text g l k.1)
+    ap (λ x. Read 34 Between (x ++ text)) (wide_code v c g) ∙ (code_escape_reads 34 v c text double l ∙ units_before c (name_rest Between cs) ds text b k)
 
 low_code : (v : EsVersion) (c : ℕ) → c < 127 → name_escape true v c ≡ c ∷ []
 unfolding name_escape
@@ -310,8 +280,8 @@ name_ends (Octal m v) ds h = absurd (none_some ds h)
 name_ends Continued ds h = absurd (none_some ds h)
 
 no_more : Reading Between (34 ∷ []) []
-unfolding string_rest closes is_empty all_utf16
-no_more = (refl, refl)
+unfolding string_rest is_empty all_utf16
+no_more = refl
 
 at_end : (place : Place) (ds : List ℕ) → name_rest place [] ≡ Some ds → Reading place (34 ∷ []) ds
 at_end place ds h =
@@ -355,23 +325,4 @@ word_clean (c ∷ cs) h = let p = and_parts (is_start c) (all_part cs) h in and_
 
 pub key_value : (v : EsVersion) (text ds : List ℕ) → scalars text ≡ true → name_characters text ≡ Some ds → is_word ds ≡ true → string_value false (34 ∷ (name_escapes true v text ++ 34 ∷ [])) ≡ Some (all_utf16 ds)
 unfolding string_value is_quote
-key_value v text ds s h w = (key_rest v text s Between ds tt h (word_clean ds w)).0
-
-key_closes : (v : EsVersion) (text ds : List ℕ) → scalars text ≡ true → name_characters text ≡ Some ds → is_word ds ≡ true → is_string (34 ∷ (name_escapes true v text ++ 34 ∷ [])) ≡ true
-unfolding is_string is_quote
-key_closes v text ds s h w = (key_rest v text s Between ds tt h (word_clean ds w)).1
-
-no_word : are_word None ≡ true → ⊥
-unfolding are_word
-no_word w = false≢true w
-
-some_word : (ds : List ℕ) → are_word (Some ds) ≡ true → is_word ds ≡ true
-unfolding are_word
-some_word ds w = w
-
-pub key_token : (v : EsVersion) (text : List ℕ) → scalars text ≡ true → spells_name text ≡ true → is_string (34 ∷ (name_escapes true v text ++ 34 ∷ [])) ≡ true
-key_token v text s h = by_value (name_characters text) refl h
-  where
-    by_value : (o : Option (List ℕ)) → name_characters text ≡ o → are_word o ≡ true → is_string (34 ∷ (name_escapes true v text ++ 34 ∷ [])) ≡ true
-    by_value None e w = absurd (no_word w)
-    by_value (Some ds) e w = key_closes v text ds s e (some_word ds w)
+key_value v text ds s h w = key_rest v text s Between ds tt h (word_clean ds w)

@@ -1,27 +1,28 @@
 -- A name in ASCII: its text, and each clause of it.
-use Rattle.std.proofs.Common.{◌≡◌, ℕ, suc, ◌+◌, ◌/◌, ◌%◌, ◌<◌, ◌≤◌, Bool, true, false, not, ◌&&◌, List, [], ◌∷◌, ◌++◌, nat_lt, nat_le, refl, sym, ap, ◌∙◌, subst, arith, inl, inr, Some, slice_index, length, drop, get_or, append_assoc, append-nil}
+use Rattle.std.proofs.Common.{◌≡◌, ℕ, suc, ◌/◌, ◌%◌, ◌<◌, Bool, true, false, not, ◌&&◌, List, [], ◌∷◌, ◌++◌, nat_lt, nat_le, refl, sym, ap, ◌∙◌, subst, arith, inl, inr, Some, slice_index}
 use Rattle.std.specs.Fmt.{digit_glyph}
 use Rattle.std.specs.List.{list_all, list_any}
 use Rattle.std.specs.Str.{IsAscii, IsNotAscii, IsUtf8, chars}
 use Rattle.std.proofs.lemmas.Bool.{cases_lt, cases_Bool, lt-ltb, le-ltb, ltb-true, and_from, and_parts, or_parts, or_from, lt-leb, not_from_false, false≢true, false_from_ne_true}
-use Rattle.std.proofs.lemmas.List.{at_drop_more, at_drop_all}
 use Rattle.std.proofs.lemmas.List.Folds.{list_all-append}
 use Rattle.std.proofs.lemmas.Str.{chars-IsAscii, encodes-IsAscii, encodes-chars, scalars-chars}
-use lib.Utf8.{scalars, scalar}
+use lib.Utf8.{low_scalar, scalar, scalars}
 use Rattle.swc_ecma_codegen_tree.specs.declared.versions.EsVersion.{EsVersion}
-use Rattle.swc_ecma_codegen_ast.specs.Names.{is_word}
+use Rattle.swc_ecma_codegen_ast.specs.Names.{is_name, name_value}
 use Rattle.swc_ecma_codegen_ast.specs.Strings.{is_string}
 use Rattle.swc_ecma_codegen_ast.specs.CodeUnits.{all_utf16}
 use Rattle.swc_ecma_codegen_literals.specs.StringTexts.{up_to_es5}
 use Rattle.swc_ecma_codegen_ast.specs.declared.units.Place.TheVariants.{Between}
 use Rattle.swc_ecma_codegen_ast.specs.StringValues.{string_value}
-use Rattle.swc_ecma_codegen_literals.specs.NameValues.{name_characters, spells_name}
+use Rattle.swc_ecma_codegen_literals.proofs.NameBridge.{named_word, same_name, same_value}
+use Rattle.swc_ecma_codegen_literals.proofs.NameDecoder.{name_characters}
 use Rattle.swc_ecma_codegen_literals.specs.AsciiNames.{lower_unit_escape, name_escape, name_escapes, wants_quotes, is_ascii_text, is_quoted_key, is_out_of_target, ascii_name}
 use Rattle.swc_ecma_codegen_literals.proofs.EscapeTexts.{is_ascii_char, code_escape_ascii, glyph_hex}
 use Rattle.swc_ecma_codegen_literals.proofs.Fronts.{hex_ascii}
 use Rattle.swc_ecma_codegen_literals.proofs.SpelledTexts.{ascii_from_all, scalar_bound}
 use Rattle.swc_ecma_codegen_literals.proofs.NameReads.{fits, named}
-use Rattle.swc_ecma_codegen_literals.proofs.NameStrings.{key_value, key_token}
+use Rattle.swc_ecma_codegen_literals.proofs.NameStrings.{key_value}
+use Rattle.swc_ecma_codegen_ast.proofs.StrictStrings.{valued_is_string}
 
 -- an ASCII text, by its bytes and by its characters
 all_from : (t : List ℕ) → IsAscii t → is_ascii_text t ≡ true
@@ -56,24 +57,6 @@ unfolding is_quoted_key
 unquoted true v text h = rw h refl
 unquoted false v text h = refl
 
--- the escapes of a text, character by character
-escapes_cons : (key : Bool) (v : EsVersion) (c : ℕ) (cs : List ℕ) → name_escapes key v (c ∷ cs) ≡ name_escape key v c ++ name_escapes key v cs
-unfolding name_escapes
-escapes_cons key v c cs = refl
-
-escapes_nil : (key : Bool) (v : EsVersion) → name_escapes key v [] ≡ []
-unfolding name_escapes
-escapes_nil key v = refl
-
-pub escapes_turn : (key : Bool) (v : EsVersion) (cs : List ℕ) (n m c : ℕ) (old now all : List ℕ) → n < length cs → c ≡ get_or cs n c → m ≡ n + 1 → now ≡ old ++ name_escape key v c → old ++ name_escapes key v (drop n cs) ≡ all → now ++ name_escapes key v (drop m cs) ≡ all
-escapes_turn key v cs n m c old now all l g i e h =
-    let t : name_escapes key v (drop n cs) ≡ name_escape key v c ++ name_escapes key v (drop (n + 1) cs) =
-    at_drop_more (name_escapes key v) cs n c l ∙ (ap (λ x. name_escapes key v (x ∷ drop (n + 1) cs)) (sym g) ∙ escapes_cons key v c (drop (n + 1) cs)) in
-    rw (i, e, append_assoc, ← t) h
-
-pub escapes_end : (key : Bool) (v : EsVersion) (cs : List ℕ) (n : ℕ) (now all : List ℕ) → length cs ≤ n → now ++ name_escapes key v (drop n cs) ≡ all → now ≡ all
-escapes_end key v cs n now all l h = sym (append-nil now) ∙ (ap (λ x. now ++ x) (sym (at_drop_all (name_escapes key v) cs n l ∙ escapes_nil key v)) ∙ h)
-
 -- all in ASCII
 lower_ascii : (c : ℕ) → c < 256 → list_all is_ascii_char (lower_unit_escape c) ≡ true
 unfolding lower_unit_escape
@@ -99,6 +82,16 @@ escapes_ascii key v (c ∷ cs) s =
     let p = and_parts (scalar c) (scalars cs) s in
     list_all-append is_ascii_char (name_escape key v c) (name_escapes key v cs) ∙
     and_from (list_all is_ascii_char (name_escape key v c)) (list_all is_ascii_char (name_escapes key v cs)) (escape_ascii key v c (scalar_bound c p.0)) (escapes_ascii key v cs p.1)
+
+ascii_scalars : (cs : List ℕ) → list_all is_ascii_char cs ≡ true → scalars cs ≡ true
+ascii_scalars [] h = refl
+ascii_scalars (c ∷ cs) h =
+    let p = and_parts (is_ascii_char c) (list_all is_ascii_char cs) h in
+    let l : c < 128 = ltb-true c 128 p.0 in
+    and_from (scalar c) (scalars cs) (low_scalar c (omega (arith, l))) (ascii_scalars cs p.1)
+
+escapes_scalars : (key : Bool) (v : EsVersion) (cs : List ℕ) → scalars cs ≡ true → scalars (name_escapes key v cs) ≡ true
+escapes_scalars key v cs s = ascii_scalars (name_escapes key v cs) (escapes_ascii key v cs s)
 
 pub name_ascii : (key : Bool) (v : EsVersion) (text : List ℕ) → scalars text ≡ true → IsAscii (name_escapes key v text)
 name_ascii key v text s = ascii_from_all (name_escapes key v text) (escapes_ascii key v text s)
@@ -130,15 +123,16 @@ unfolding is_out_of_target
 all_fit true v text h o = each_from (wants_quotes v) (fits true v) (λ c n. not_from_false (wants_quotes v c) n) text h
 all_fit false v text h o = bare_fits v text (up_to_es5 v) refl o
 
-pub name_value : (key : Bool) (v : EsVersion) (text : List ℕ) → scalars text ≡ true → (key && list_any (wants_quotes v) text) ≡ false → is_out_of_target key v text ≡ false → name_characters (name_escapes key v text) ≡ name_characters text
-name_value key v text s h o = named key v text s (all_fit key v text h o) Between
+same_read : (key : Bool) (v : EsVersion) (text : List ℕ) → scalars text ≡ true → (key && list_any (wants_quotes v) text) ≡ false → is_out_of_target key v text ≡ false → name_characters (name_escapes key v text) ≡ name_characters text
+same_read key v text s h o = named key v text s (all_fit key v text h o) Between
 
 -- What an answer ensures: in each case `result` are its bytes.
 pub record Answer (key : Bool) (v : EsVersion) (text result : List ℕ) : Type 0 where
   pub exactly : result ≡ ascii_name key v text
-  pub name : is_quoted_key key v text ≡ false → name_characters (chars result) ≡ name_characters text
-  pub key_value : is_quoted_key key v text ≡ true → (cs : List ℕ) → name_characters text ≡ Some cs → is_word cs ≡ true → string_value false (chars result) ≡ Some (all_utf16 cs)
-  pub token : is_quoted_key key v text ≡ true → spells_name text ≡ true → is_string (chars result) ≡ true
+  pub name : is_quoted_key key v text ≡ false → is_name (chars result) ≡ is_name text
+  pub value : is_quoted_key key v text ≡ false → is_name text ≡ true → name_value (chars result) ≡ name_value text
+  pub key_value : is_quoted_key key v text ≡ true → is_name text ≡ true → string_value false (chars result) ≡ Some (all_utf16 (name_value text))
+  pub token : is_quoted_key key v text ≡ true → is_name text ≡ true → is_string (chars result) ≡ true
   pub ascii : IsAscii result
 
 pub ascii_answer : (key : Bool) (v : EsVersion) (text result : List ℕ) → IsAscii text → result ≡ text → Answer key v (chars text) result
@@ -147,7 +141,8 @@ ascii_answer key v text result i e =
     let n = unquoted key v (chars text) p.1 in
     record {
       exactly = e ∙ (sym p.0 ∙ sym (ascii_text key v (chars text) p.1));
-      name = λ _. ap (λ x. name_characters (chars x)) e ∙ ap name_characters refl;
+      name = λ _. ap (λ x. is_name (chars x)) e;
+      value = λ _ _. ap (λ x. name_value (chars x)) e;
       key_value = λ q. absurd (false≢true (sym n ∙ q));
       token = λ q. absurd (false≢true (sym n ∙ q));
       ascii = subst (λ (x : List ℕ). IsAscii x) (sym e) i;
@@ -162,8 +157,9 @@ true_answer v text result u n h e =
     record {
       exactly = e ∙ sym p.1;
       name = λ q. absurd (false≢true (sym q ∙ p.0));
-      key_value = λ _ cs a w. ap (string_value false) c ∙ key_value v (chars text) cs s a w;
-      token = λ _ w. ap is_string c ∙ key_token v (chars text) s w;
+      value = λ q. absurd (false≢true (sym q ∙ p.0));
+      key_value = λ _ n. let w = named_word (chars text) s n in ap (string_value false) c ∙ key_value v (chars text) (name_value (chars text)) s w.0 w.1;
+      token = λ _ n. let w = named_word (chars text) s n in ap is_string c ∙ valued_is_string (34 ∷ (name_escapes true v (chars text) ++ 34 ∷ [])) (all_utf16 (name_value (chars text))) (key_value v (chars text) (name_value (chars text)) s w.0 w.1);
       ascii = i;
     }
 
@@ -196,7 +192,8 @@ escaped_answer key v text result u n h o e =
     let c : chars result ≡ name_escapes key v (chars text) = chars-IsAscii result i ∙ e in
     record {
       exactly = e ∙ sym p.1;
-      name = λ _. ap name_characters c ∙ name_value key v (chars text) s h o;
+      name = λ _. ap is_name c ∙ same_name (name_escapes key v (chars text)) (chars text) (escapes_scalars key v (chars text) s) s (same_read key v (chars text) s h o);
+      value = λ _ n. ap name_value c ∙ same_value (name_escapes key v (chars text)) (chars text) s (same_read key v (chars text) s h o) n;
       key_value = λ q. absurd (false≢true (sym p.0 ∙ q));
       token = λ q. absurd (false≢true (sym p.0 ∙ q));
       ascii = i;

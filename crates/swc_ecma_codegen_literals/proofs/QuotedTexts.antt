@@ -1,26 +1,24 @@
 -- A quoted text is one string literal with the units of the text.
-use Rattle.std.proofs.Common.{◌≡◌, ℕ, zero, suc, ◌+◌, ◌-◌, ◌<◌, ◌≤◌, Bool, true, false, not, cond, ◌&&◌, ◌||◌, ◌==◌, List, [], ◌∷◌, ◌++◌, length, nat_lt, nat_le, refl, sym, ap, ◌∙◌, subst, arith, inl, inr, if◌then◌else◌, codes, Option, Some, None, append_assoc, append-nil, ◌⊎◌, count_by}
+use Rattle.std.proofs.Common.{◌≡◌, ℕ, zero, suc, ◌+◌, ◌-◌, ◌<◌, ◌≤◌, Bool, true, false, ◌&&◌, ◌||◌, ◌==◌, List, [], ◌∷◌, ◌++◌, length, nat_lt, refl, sym, ap, ◌∙◌, subst, arith, inl, inr, if◌then◌else◌, Some, append_assoc, ◌⊎◌, count_by}
 use Rattle.std.specs.List.{list_all}
 use Rattle.std.specs.Str.{IsAscii, chars}
-use Rattle.std.proofs.lemmas.Bool.{cases_lt, cases_Bool, lt-ltb, le-ltb, ltb-true, ltb-false, and_from, and_parts, or_left, ne_eqb, eq-eqb, eqb-true, not-true, false≢true, false_from_ne_true, cond-true, cond-false}
+use Rattle.std.proofs.lemmas.Bool.{cases_lt, cases_Bool, lt-ltb, le-ltb, ltb-true, and_from, and_parts, eq-eqb, eqb-true, false≢true}
 use Rattle.std.proofs.lemmas.Str.{chars-encodes, encodes-IsAscii}
 use Rattle.std.proofs.lemmas.List.Folds.{list_all-append}
 use lib.Utf8.{scalars, scalar, encodes, low_scalar}
 use Rattle.swc_ecma_codegen_tree.specs.declared.versions.EsVersion.{EsVersion}
 use Rattle.swc_ecma_codegen_ast.specs.Chars.{is_quote}
-use Rattle.swc_ecma_codegen_ast.specs.Strings.{closes, is_string}
-use Rattle.swc_ecma_codegen_ast.specs.Numbers.{is_either}
+use Rattle.swc_ecma_codegen_ast.specs.Strings.{is_string}
+use Rattle.swc_ecma_codegen_ast.proofs.StrictStrings.{valued_is_string}
 use Rattle.swc_ecma_codegen_ast.specs.Texts.{is_empty}
 use Rattle.swc_ecma_codegen_ast.specs.CodeUnits.{utf16, escape_length, escape_unit, units_after, units}
-use Rattle.swc_ecma_codegen_ast.specs.declared.units.Place.{Place}
 use Rattle.swc_ecma_codegen_ast.specs.declared.units.Place.TheVariants.{Between}
 use Rattle.swc_ecma_codegen_ast.specs.StringValues.{before, string_rest, string_value}
-use Rattle.swc_ecma_codegen_literals.specs.StringTexts.{up_to_es5, stands, escape_text, backslash_escape, spelled, spelled_all, quote_of, quoted_text}
+use Rattle.swc_ecma_codegen_literals.specs.StringTexts.{stands, escape_text, backslash_escape, spelled, spelled_all, quote_of, quoted_text}
 use Rattle.swc_ecma_codegen_literals.proofs.EscapeTexts.{chosen, is_ascii_char, escape_text_ascii}
 use Rattle.swc_ecma_codegen_literals.proofs.SpelledTexts.{scalar_bound, ascii_from_all}
 use Rattle.swc_ecma_codegen_literals.proofs.StringReads.{IsQuote, quote_small, not_quote, Read}
-use Rattle.swc_ecma_codegen_literals.proofs.StringCloses.{escape_closes}
-use Rattle.swc_ecma_codegen_literals.proofs.StringUnits.{Bare, stands_bare, spelled_reads, spelled_digit, Skips, skips, scalars_rest}
+use Rattle.swc_ecma_codegen_literals.proofs.StringUnits.{spelled_reads, spelled_digit, Skips, skips, scalars_rest}
 
 -- the backslash of a written surrogate escape stays alone
 pub lone : (q : ℕ) (a : Bool) (v : EsVersion) (cs : List ℕ) → IsQuote q → nat_lt 0 (escape_length cs) ≡ true → spelled q a v 92 cs ≡ 92 ∷ []
@@ -82,40 +80,6 @@ string_units (suc n) q a v (c ∷ cs) l h s = elim (cases_Bool (Lone c cs)) [
   | inr x ↦ plain_turn q a v c cs h (first_bound c cs s) x (string_units n q a v cs (tail_le n cs l) h (scalars_rest c cs s))
 ]
 
--- the same of the token's end
-bare_closes : (q c : ℕ) (t : List ℕ) → Bare q c → closes q false (c ∷ t) ≡ closes q false t
-unfolding closes is_either
-bare_closes q c t b = rw (b.no_quote, b.no_line_end, b.no_backslash) refl
-
-plain_closes : (q : ℕ) (a : Bool) (v : EsVersion) (c : ℕ) (cs t : List ℕ) → IsQuote q → c < 1114112 → Lone c cs ≡ false → closes q false (spelled_all q a v (c ∷ cs) ++ t) ≡ closes q false (spelled_all q a v cs ++ t)
-unfolding spelled_all spelled
-plain_closes q a v c cs t h l n = elim (cases_Bool (stands q a v c)) [
-  | inl y ↦ rw y (bare_closes q c (spelled_all q a v cs ++ t) (stands_bare q a v c h y))
-  | inr x ↦ rw x (ap (λ r. closes q false r) (append_assoc (escape_text v c cs) (spelled_all q a v cs) t) ∙ escape_closes q v c cs (spelled_all q a v cs ++ t) h l (not_lone c cs n))
-]
-
-lone_closes : (q : ℕ) (a : Bool) (v : EsVersion) (c : ℕ) (cs t : List ℕ) → IsQuote q → Lone c cs ≡ true → (k : Skips q a v cs) → closes q false (spelled_all q a v (c ∷ cs) ++ t) ≡ closes q false (spelled_all q a v k.rest ++ t)
-unfolding spelled_all
-lone_closes q a v c cs t h y k =
-    let p = and_parts (c == 92) (nat_lt 0 (escape_length cs)) y in
-    let e : spelled q a v c cs ≡ 92 ∷ [] = ap (λ x. spelled q a v x cs) (eqb-true c 92 p.0) ∙ lone q a v cs h p.1 in
-    ap (λ x. closes q false ((x ++ spelled_all q a v cs) ++ t)) e ∙ k.ends t
-
-no_more_closes : (q : ℕ) (a : Bool) (v : EsVersion) → closes q false (spelled_all q a v [] ++ q ∷ []) ≡ true
-unfolding spelled_all closes is_empty
-no_more_closes q a v = rw (eq-eqb q q refl) refl
-
-string_closes : (n : ℕ) (q : ℕ) (a : Bool) (v : EsVersion) (cs : List ℕ) → length cs ≤ n → IsQuote q → scalars cs ≡ true → closes q false (spelled_all q a v cs ++ q ∷ []) ≡ true
-string_closes zero q a v [] l h s = no_more_closes q a v
-string_closes zero q a v (c ∷ cs) l h s = absurd (omega (arith, l))
-string_closes (suc n) q a v [] l h s = no_more_closes q a v
-string_closes (suc n) q a v (c ∷ cs) l h s = elim (cases_Bool (Lone c cs)) [
-  | inl y ↦
-      let k = skips q a v cs h (and_parts (c == 92) (nat_lt 0 (escape_length cs)) y).1 in
-      lone_closes q a v c cs (q ∷ []) h y k ∙ string_closes n q a v k.rest (shorter_le n cs k.rest k.shorter l) h (k.chars (scalars_rest c cs s))
-  | inr x ↦ plain_closes q a v c cs (q ∷ []) h (first_bound c cs s) x ∙ string_closes n q a v cs (tail_le n cs l) h (scalars_rest c cs s)
-]
-
 pub quote_is : (text : List ℕ) → IsQuote (quote_of text)
 unfolding quote_of IsQuote
 quote_is text = chosen (λ q. (q ≡ 34) ⊎ (q ≡ 39)) (nat_lt (count_by (λ c. c == 39) text) (count_by (λ c. c == 34) text)) 39 34 (λ _. inr refl) (λ _. inl refl)
@@ -129,8 +93,7 @@ unfolding string_value quoted_text
 quoted_value a v text s = rw (quote_shape (quote_of text) (quote_is text)) (string_units (length text) (quote_of text) a v text (omega arith) (quote_is text) s)
 
 pub quoted_is_string : (a : Bool) (v : EsVersion) (text : List ℕ) → scalars text ≡ true → is_string (quoted_text a v text) ≡ true
-unfolding is_string quoted_text
-quoted_is_string a v text s = and_from (is_quote (quote_of text)) (closes (quote_of text) false (spelled_all (quote_of text) a v text ++ quote_of text ∷ [])) (quote_shape (quote_of text) (quote_is text)) (string_closes (length text) (quote_of text) a v text (omega arith) (quote_is text) s)
+quoted_is_string a v text s = valued_is_string (quoted_text a v text) (units text) (quoted_value a v text s)
 
 -- all in ASCII
 ascii_stands : (q : ℕ) (v : EsVersion) (c : ℕ) → stands q true v c ≡ true → c < 127

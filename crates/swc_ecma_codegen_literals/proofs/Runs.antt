@@ -2,11 +2,11 @@
 use Rattle.std.proofs.Common.{◌≡◌, ℕ, ◌+◌, ◌-◌, ◌<◌, ◌≤◌, Bool, true, ◌&&◌, List, [], ◌∷◌, ◌++◌, length, take, drop, refl, sym, ap, ◌∙◌, subst, arith, append-nil, append_assoc, length-append}
 use Rattle.std.specs.Char.{encode_utf8}
 use Rattle.std.specs.List.{list_all}
-use Rattle.std.specs.Str.{chars, IsUtf8, IsCharBoundary, IsAscii}
+use Rattle.std.specs.Str.{chars, IsUtf8, IsCharBoundary}
 use Rattle.std.proofs.lemmas.Bool.{and_parts, and_from}
 use Rattle.std.proofs.lemmas.List.{take_at, drop_at, nil_from_length}
 use Rattle.std.proofs.lemmas.List.Folds.{list_all-append}
-use Rattle.std.proofs.lemmas.Str.{IsCharBoundary-at_seam, chars-encodes, cons_from_encodes, encodes-append, chars_past_char, encodes-chars, chars-append}
+use Rattle.std.proofs.lemmas.Str.{IsCharBoundary-at_seam, chars-encodes, cons_from_encodes, encodes-append}
 use lib.Utf8.{encodes, scalars, scalar}
 
 pub record Run (test : ℕ → Bool) (text rest : List ℕ) : Type 0 where

@@ -1,22 +1,18 @@
 -- A spelled string reads back: the escapes, one by one.
-use Rattle.std.proofs.Common.{◌≡◌, ℕ, zero, suc, ◌+◌, ◌-◌, ◌*◌, ◌/◌, ◌%◌, ◌^◌, ◌<◌, ◌≤◌, Bool, true, false, not, cond, ◌&&◌, ◌||◌, ◌==◌, List, [], ◌∷◌, ◌++◌, length, take, drop, nat_lt, nat_le, refl, sym, ap, ◌∙◌, subst, arith, inl, inr, if◌then◌else◌, codes, Option, Some, None, append_assoc, append-nil, ◌⊎◌}
+use Rattle.std.proofs.Common.{◌≡◌, ℕ, suc, ◌+◌, ◌-◌, ◌*◌, ◌/◌, ◌%◌, ◌^◌, ◌<◌, ◌≤◌, Bool, true, false, ◌&&◌, ◌||◌, ◌==◌, List, [], ◌∷◌, ◌++◌, length, nat_lt, refl, sym, ap, ◌∙◌, subst, arith, inl, inr, if◌then◌else◌, codes, Option, Some, None, append_assoc, ◌⊎◌}
 use Rattle.std.specs.Char.{digit_value}
 use Rattle.std.specs.Fmt.{digit_glyph, digits}
-use Rattle.std.specs.List.{list_all}
 use Rattle.std.specs.Str.Parse.{digits_value, digits_value_after, AllDigits, IsNumeral}
-use Rattle.std.proofs.Math.Nat.{zero-mul, zero-add, add-zero, mul-one}
 use Rattle.std.proofs.lemmas.Fmt.{digits_is_IsNumeral}
-use Rattle.std.proofs.lemmas.Bool.{cases_lt, cases_Bool, cases_eq, lt-ltb, le-ltb, le-leb, lt-leb, leb-true, ltb-true, ltb-false, and_from, and_parts, or_cases, or_parts, or_left, or_right, or_from, ne_eqb, eq-eqb, eqb-true, eqb-false, not-true, not_from_false, false≢true, true≢false, false_from_ne_true, cond-true, cond-false}
+use Rattle.std.proofs.lemmas.Bool.{cases_lt, lt-ltb, le-ltb, le-leb, or_right, ne_eqb, eqb-true, false≢true, cond-true, cond-false}
 use Rattle.swc_ecma_codegen_tree.specs.declared.versions.EsVersion.{EsVersion}
-use Rattle.swc_ecma_codegen_ast.specs.Chars.{is_digit, is_quote, begins_digit}
+use Rattle.swc_ecma_codegen_ast.specs.Chars.{is_digit, begins_digit}
 use Rattle.swc_ecma_codegen_ast.specs.Numbers.{is_hex, is_octal, is_either}
-use Rattle.swc_ecma_codegen_ast.specs.Strings.{closes, is_string}
-use Rattle.swc_ecma_codegen_ast.specs.Texts.{is_empty, begins}
-use Rattle.swc_ecma_codegen_ast.specs.CodeUnits.{utf16, begins_like, is_high_digit, short_escape, long_escape, escape_length, escape_unit, units_after, units}
+use Rattle.swc_ecma_codegen_ast.specs.CodeUnits.{utf16, escape_length}
 use Rattle.swc_ecma_codegen_ast.specs.declared.units.Place.{Place}
-use Rattle.swc_ecma_codegen_ast.specs.declared.units.Place.TheVariants.{Between, Escaped, Due, Unicode, Braced, Octal, Continued}
-use Rattle.swc_ecma_codegen_ast.specs.StringValues.{before, single_escape, begins_octal, string_rest, string_value}
-use Rattle.swc_ecma_codegen_literals.specs.StringTexts.{up_to_es5, below_es5, is_unseen, stands, escape_text, null_escape, backslash_escape, code_escape, hex_escape, unit_escape, pair_escape, braced_escape, spelled, spelled_all}
+use Rattle.swc_ecma_codegen_ast.specs.declared.units.Place.TheVariants.{Between, Escaped, Due, Unicode, Braced}
+use Rattle.swc_ecma_codegen_ast.specs.StringValues.{before, single_escape, string_rest}
+use Rattle.swc_ecma_codegen_literals.specs.StringTexts.{up_to_es5, below_es5, escape_text, null_escape, backslash_escape, code_escape, hex_escape, unit_escape, pair_escape, braced_escape}
 use Rattle.swc_ecma_codegen_literals.proofs.Numerals.{hex_from_value}
 use Rattle.swc_ecma_codegen_literals.proofs.EscapeTexts.{glyph_hex, chosen}
 

@@ -1,26 +1,21 @@
 -- A spelled string has the units of its text.
-use Rattle.std.proofs.Common.{◌≡◌, ℕ, zero, suc, ◌+◌, ◌-◌, ◌*◌, ◌^◌, ◌<◌, ◌≤◌, Bool, true, false, not, cond, ◌&&◌, ◌||◌, ◌==◌, List, [], ◌∷◌, ◌++◌, length, take, drop, nat_lt, nat_le, refl, sym, ap, ◌∙◌, subst, arith, inl, inr, if◌then◌else◌, codes, Option, Some, None, append_assoc, append-nil, ◌⊎◌}
+use Rattle.std.proofs.Common.{◌≡◌, ℕ, suc, ◌+◌, ◌-◌, ◌*◌, ◌^◌, ◌<◌, ◌≤◌, Bool, true, false, not, ◌&&◌, ◌||◌, ◌==◌, List, [], ◌∷◌, ◌++◌, length, nat_lt, nat_le, refl, sym, ap, ◌∙◌, subst, arith, inl, inr, if◌then◌else◌, codes, append_assoc, ◌⊎◌}
 use Rattle.std.specs.Char.{digit_value}
 use Rattle.std.specs.List.{list_all}
-use Rattle.std.specs.Str.Parse.{digits_value, digits_value_after}
-use Rattle.std.proofs.Math.Nat.{zero-mul, zero-add}
-use Rattle.std.proofs.lemmas.Bool.{cases_lt, cases_Bool, lt-ltb, le-ltb, le-leb, leb-true, ltb-true, ltb-false, and_from, and_parts, or_cases, or_parts, or_left, or_right, or_from, ne_eqb, eq-eqb, eqb-true, not-true, not_from_false, false≢true, true≢false, false_from_ne_true, cond-true, cond-false}
+use Rattle.std.specs.Str.Parse.{digits_value}
+use Rattle.std.proofs.lemmas.Bool.{cases_lt, cases_Bool, lt-ltb, le-leb, leb-true, and_from, and_parts, or_cases, or_parts, or_from, ne_eqb, eqb-true, not-true, not_from_false, false≢true, false_from_ne_true}
 use lib.Utf8.{scalars, scalar}
 use Rattle.swc_ecma_codegen_tree.specs.declared.versions.EsVersion.{EsVersion}
-use Rattle.swc_ecma_codegen_ast.specs.Chars.{is_digit, is_quote, begins_digit}
-use Rattle.swc_ecma_codegen_ast.specs.Numbers.{is_hex, is_octal, is_either}
-use Rattle.swc_ecma_codegen_ast.specs.Texts.{is_empty}
-use Rattle.swc_ecma_codegen_ast.specs.CodeUnits.{utf16, begins_like, is_high_digit, short_escape, long_escape, escape_length, escape_unit, units_after, units}
-use Rattle.swc_ecma_codegen_ast.specs.declared.units.Place.{Place}
-use Rattle.swc_ecma_codegen_ast.specs.declared.units.Place.TheVariants.{Between, Escaped, Due, Unicode, Braced}
-use Rattle.swc_ecma_codegen_ast.specs.StringValues.{before, string_rest, string_value}
-use Rattle.swc_ecma_codegen_literals.specs.StringTexts.{up_to_es5, below_es5, is_unseen, stands, escape_text, null_escape, backslash_escape, code_escape, hex_escape, unit_escape, pair_escape, braced_escape, spelled, spelled_all, quote_of, quoted_text}
+use Rattle.swc_ecma_codegen_ast.specs.Chars.{is_digit, begins_digit}
+use Rattle.swc_ecma_codegen_ast.specs.Numbers.{is_hex, is_either}
+use Rattle.swc_ecma_codegen_ast.specs.CodeUnits.{utf16, begins_like, is_high_digit, short_escape, long_escape, escape_length, escape_unit, units_after}
+use Rattle.swc_ecma_codegen_ast.specs.declared.units.Place.TheVariants.{Between, Due, Unicode, Braced}
+use Rattle.swc_ecma_codegen_ast.specs.StringValues.{before, string_rest}
+use Rattle.swc_ecma_codegen_literals.specs.StringTexts.{up_to_es5, below_es5, stands, escape_text, null_escape, backslash_escape, code_escape, hex_escape, unit_escape, pair_escape, braced_escape, spelled, spelled_all}
 use Rattle.swc_ecma_codegen_literals.proofs.EscapeTexts.{chosen}
-use Rattle.swc_ecma_codegen_literals.proofs.SpelledTexts.{spelled_run, scalar_bound}
-use Rattle.swc_ecma_codegen_ast.specs.Strings.{closes, is_string}
-use Rattle.swc_ecma_codegen_literals.proofs.StringCloses.{inside, hex_inside, closes_inside, closes_escape, escape_closes}
+use Rattle.swc_ecma_codegen_literals.proofs.SpelledTexts.{spelled_run}
 use Rattle.swc_ecma_codegen_literals.proofs.Fronts.{too_short, either_escape}
-use Rattle.swc_ecma_codegen_literals.proofs.StringReads.{IsQuote, quote_small, not_quote, digit_low, digit_upper, digit_lower, braced_run, braced_ends, utf16_small, Read, escapes, unit_opens, braced_opens, before_twice, hex_not, no_brace, escape_reads}
+use Rattle.swc_ecma_codegen_literals.proofs.StringReads.{IsQuote, quote_small, not_quote, digit_low, digit_upper, digit_lower, braced_run, braced_ends, utf16_small, Read, escapes, unit_opens, braced_opens, hex_not, no_brace, escape_reads}
 
 -- what a character that stands for itself isn't
 pub record Bare (q c : ℕ) : Type 0 where
@@ -207,7 +202,6 @@ pub record Skips (q : ℕ) (a : Bool) (v : EsVersion) (cs : List ℕ) : Type 0 w
   pub shorter : length rest < length cs
   pub chars : scalars cs ≡ true → scalars rest ≡ true
   pub reads : (t : List ℕ) → Read q Between (92 ∷ (spelled_all q a v cs ++ t)) ≡ before (escape_unit cs ∷ []) (Read q Between (spelled_all q a v rest ++ t))
-  pub ends : (t : List ℕ) → closes q false (92 ∷ (spelled_all q a v cs ++ t)) ≡ closes q false (spelled_all q a v rest ++ t)
   pub has_units : units_after (escape_length cs) cs ≡ units_after 0 rest
 
 stand_spelled : (q : ℕ) (a : Bool) (v : EsVersion) (run rest t : List ℕ) → list_all (stands q a v) run ≡ true → spelled_all q a v (run ++ rest) ++ t ≡ run ++ (spelled_all q a v rest ++ t)
@@ -218,10 +212,6 @@ all_two p c cs h g = and_from (p c) (list_all p cs) h g
 
 pub scalars_rest : (c : ℕ) (cs : List ℕ) → scalars (c ∷ cs) ≡ true → scalars cs ≡ true
 scalars_rest c cs h = (and_parts (scalar c) (scalars cs) h).1
-
-four_inside : (w x y z : ℕ) → FourHex w x y z → list_all inside (w ∷ x ∷ y ∷ z ∷ []) ≡ true
-four_inside w x y z f =
-    all_two inside w (x ∷ y ∷ z ∷ []) (hex_inside w f.first) (all_two inside x (y ∷ z ∷ []) (hex_inside x f.second) (all_two inside y (z ∷ []) (hex_inside y f.third) (all_two inside z [] (hex_inside z f.fourth) refl)))
 
 unit_of_short : (u w x y z : ℕ) (more : List ℕ) → begins_like short_escape (u ∷ w ∷ x ∷ y ∷ z ∷ more) ≡ true → escape_unit (u ∷ w ∷ x ∷ y ∷ z ∷ more) ≡ digits_value 16 (w ∷ x ∷ y ∷ z ∷ [])
 unfolding escape_unit
@@ -255,9 +245,6 @@ short_skips q a v (u ∷ w ∷ x ∷ y ∷ z ∷ more) h e =
           (ap (λ k. Read q Between (92 ∷ k ∷ w ∷ x ∷ y ∷ z ∷ (spelled_all q a v more ++ t))) u_is ∙
           (short_reads q w x y z (spelled_all q a v more ++ t) h f ∙
           ap (λ k. before (k ∷ []) (Read q Between (spelled_all q a v more ++ t))) (sym (unit_of_short u w x y z more e))));
-      ends = λ t.
-          ap (λ r. closes q false (92 ∷ r)) (stand_spelled q a v (u ∷ w ∷ x ∷ y ∷ z ∷ []) more t all) ∙
-          closes_escape q u (w ∷ x ∷ y ∷ z ∷ []) (spelled_all q a v more ++ t) h (four_inside w x y z f);
       has_units = units_of_short u w x y z more e;
     }
 
@@ -326,11 +313,6 @@ long_skips_at q a v u o w x y z e more h s l =
           (ap (λ k. Read q Between (92 ∷ 117 ∷ 123 ∷ w ∷ x ∷ y ∷ z ∷ k ∷ X)) p.2 ∙
           (long_reads q w x y z X h f ∙
           ap (λ k. before (k ∷ []) (Read q Between X)) (sym (unit_of_long u o w x y z e more s))))));
-      ends = λ t.
-          let X = spelled_all q a v more ++ t in
-          ap (λ r. closes q false (92 ∷ r)) (stand_spelled q a v (u ∷ o ∷ w ∷ x ∷ y ∷ z ∷ e ∷ []) more t all) ∙
-          closes_escape q u (o ∷ w ∷ x ∷ y ∷ z ∷ e ∷ []) X h
-          (all_two inside o (w ∷ x ∷ y ∷ z ∷ e ∷ []) (subst (λ j. inside j ≡ true) (sym p.1) refl) (all_two inside w (x ∷ y ∷ z ∷ e ∷ []) (hex_inside w f.first) (all_two inside x (y ∷ z ∷ e ∷ []) (hex_inside x f.second) (all_two inside y (z ∷ e ∷ []) (hex_inside y f.third) (all_two inside z (e ∷ []) (hex_inside z f.fourth) (all_two inside e [] (subst (λ j. inside j ≡ true) (sym p.2) refl) refl))))));
       has_units = units_of_long u o w x y z e more s l;
     }
 

@@ -1,16 +1,19 @@
 -- A text that has a cooked value is the inside of one part of a template.
-use Rattle.std.proofs.Common.{◌≡◌, ℕ, zero, suc, ◌+◌, ◌*◌, ◌≤◌, Bool, true, false, not, ◌&&◌, ◌||◌, ◌==◌, List, [], ◌∷◌, ◌++◌, length, nat_le, refl, sym, ap, ◌∙◌, arith, inl, inr, if◌then◌else◌, codes, Some, None}
+use Rattle.std.proofs.Common.{◌≡◌, ℕ, zero, suc, ◌+◌, ◌-◌, ◌*◌, ◌≤◌, Bool, true, false, not, ◌&&◌, ◌||◌, ◌==◌, List, [], ◌∷◌, ◌++◌, length, take, nat_le, refl, sym, ap, ◌∙◌, arith, inl, inr, if◌then◌else◌, codes, Some, None}
 use Rattle.std.specs.Char.{digit_value}
-use Rattle.std.proofs.lemmas.Bool.{cases_Bool, and_parts, and_from, ne_eqb, eqb-true, false≢true}
+use Rattle.std.proofs.Math.Seq.{take-append_seam}
+use Rattle.std.proofs.lemmas.List.{length-append}
+use Rattle.std.proofs.lemmas.Bool.{cases_Bool, or_right, and_parts, and_from, ne_eqb, eqb-true, false≢true}
 use Rattle.swc_ecma_codegen_ast.specs.Chars.{is_digit, begins_digit}
 use Rattle.swc_ecma_codegen_ast.specs.Numbers.{is_hex}
-use Rattle.swc_ecma_codegen_ast.specs.Templates.{ends_template, is_template, is_template_rest}
+use Rattle.swc_ecma_codegen_ast.specs.declared.kinds.TemplatePart.{TemplatePart}
+use Rattle.swc_ecma_codegen_ast.specs.Templates.{ends_template, before_end, part_end, goes_on_as, is_template, is_template_rest, IsInsidePart}
 use Rattle.swc_ecma_codegen_ast.specs.Texts.{begins, is_empty, is_same}
 use Rattle.swc_ecma_codegen_ast.specs.CodeUnits.{utf16}
 use Rattle.swc_ecma_codegen_ast.specs.declared.units.Place.{Place}
 use Rattle.swc_ecma_codegen_ast.specs.declared.units.Place.TheVariants.{Between, Escaped, Due, Unicode, Braced, Octal, Continued}
 use Rattle.swc_ecma_codegen_ast.specs.StringValues.{before, single_escape}
-use Rattle.swc_ecma_codegen_ast.specs.TemplateValues.{cooked_rest, cooked_value, part_end, IsInsidePart}
+use Rattle.swc_ecma_codegen_ast.specs.TemplateValues.{cooked_rest, cooked_value}
 use Rattle.swc_ecma_codegen_literals.proofs.TemplateReads.{has, rest_has, when, unless}
 use Rattle.swc_ecma_codegen_literals.proofs.TemplateCooks.{Inside, is_inner, inner_char}
 
@@ -152,8 +155,18 @@ all_end (suc n) o (c ∷ cs) l =
     tail_le : (d : ℕ) (ds : List ℕ) → cs ≡ d ∷ ds → length (c ∷ cs) ≤ suc n → length ds ≤ n
     tail_le d ds e m = let k : length cs ≡ suc (length ds) = ap length e in omega (arith, k, m)
 
+-- a text stands before the end that was put after it
+text_before : (part : TemplatePart) (text : List ℕ) → before_end part (text ++ part_end part) ≡ text
+unfolding before_end
+text_before part text =
+    let l : length (text ++ part_end part) ≡ length text + length (part_end part) = length-append text (part_end part) in
+    let e : length (text ++ part_end part) - length (part_end part) ≡ length text = omega (arith, l) in
+    ap (λ n. take n (text ++ part_end part)) e ∙ take-append_seam text (part_end part)
+
 pub value_inside : (text units : List ℕ) → cooked_value text ≡ Some units → IsInsidePart text
-unfolding is_template is_template_rest part_end
+unfolding is_template is_template_rest goes_on_as part_end
 value_inside text units e = λ part.
     let h = all_end (length text) part.opens text (omega arith) Between refl (ap has e) in
-    (and_from true (ends_template part.opens false (text ++ end part.opens)) refl h, and_from true (ends_template part.opens false (text ++ end part.opens)) refl h)
+    let c : has (cooked_value (before_end part (text ++ end part.opens))) ≡ true = ap (λ t. has (cooked_value t)) (text_before part text) ∙ ap has e in
+    let g = and_from _ (part.tagged || has (cooked_value (before_end part (text ++ end part.opens)))) h (or_right part.tagged _ c) in
+    (and_from true _ refl g, and_from true _ refl g)

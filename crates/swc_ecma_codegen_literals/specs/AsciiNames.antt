@@ -9,10 +9,14 @@ use Rattle.swc_ecma_codegen_literals.specs.StringTexts.{up_to_es5, code_escape}
 unfoldable pub lower_unit_escape : ℕ → List ℕ
 lower_unit_escape c = codes "\\u00" ++ (digit_glyph false (c / 16) ∷ digit_glyph false (c % 16) ∷ [])
 
+-- a character that no escape stands for
+abbrev pub is_plain : ℕ → Bool
+is_plain c = nat_lt c 127
+
 -- One character of a name. `key` says that the name may be put in quotes; elsewhere no `\x` may stand.
 unfoldable pub name_escape : Bool → EsVersion → ℕ → List ℕ
 name_escape key v c =
-    if nat_lt c 127 then c ∷ []
+    if is_plain c then c ∷ []
     else if nat_lt c 256 && not key then lower_unit_escape c
     else code_escape v c
 

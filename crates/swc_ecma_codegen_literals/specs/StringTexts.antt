@@ -2,7 +2,7 @@
 use Rattle.std.specs.Prelude.{ℕ, ◌+◌, ◌-◌, ◌/◌, ◌%◌, Bool, true, false, not, List, [], ◌∷◌, ◌++◌, ◌&&◌, ◌||◌, ◌==◌, nat_lt, nat_le, if◌then◌else◌, codes, count_by}
 use Rattle.std.specs.Fmt.{digit_glyph, digits}
 use Rattle.swc_ecma_codegen_tree.specs.declared.versions.EsVersion.{EsVersion}
-use Rattle.swc_ecma_codegen_tree.specs.declared.versions.EsVersion.TheVariants.{Es3, Es5, Es2015, Es2016, Es2017, Es2018, Es2019, Es2020, Es2021, Es2022, EsNext}
+use Rattle.swc_ecma_codegen_tree.specs.declared.versions.EsVersion.TheVariants.{Es3, Es5}
 use Rattle.swc_ecma_codegen_ast.specs.Chars.{begins_digit}
 use Rattle.swc_ecma_codegen_ast.specs.CodeUnits.{escape_length}
 

@@ -1,17 +1,15 @@
 //! Names in ASCII.
 
-ghost use Rattle.std.specs.Prelude.{◌≡◌, ◌++◌, ◌∷◌, [], ◌<◌, ◌&&◌, ℕ, nat_le, true, false, List, OnOk, IfOk, IfErr, Err, Some, IsErrAnd};
-ghost use Rattle.std.specs.List.{list_any};
-ghost use Rattle.std.specs.Str.{chars, IsAscii};
+ghost use Rattle.std.specs.Prelude.{◌≡◌, ◌++◌, ◌∷◌, [], ◌<◌, ◌≤◌, ◌&&◌, ℕ, nat_le, true, false, List, length, take, drop, OnOk, IfOk, IfErr, Err, Some, IsErrAnd};
+ghost use Rattle.std.specs.List.{list_all, list_any};
+ghost use Rattle.std.specs.Str.{chars, IsAscii, IsUtf8};
 ghost use Rattle.std.specs.String.{string_bytes};
 ghost use Rattle.swc_ecma_codegen_tree.specs.declared.errors.Error.TheVariants.{OutOfMemory, NameOutOfTarget};
-ghost use Rattle.swc_ecma_codegen_ast.specs.Names.{is_word};
+ghost use Rattle.swc_ecma_codegen_ast.specs.Names.{is_name, name_value};
 ghost use Rattle.swc_ecma_codegen_ast.specs.Strings.{is_string};
 ghost use Rattle.swc_ecma_codegen_ast.specs.CodeUnits.{all_utf16};
-ghost use Rattle.swc_ecma_codegen_literals.specs.StringTexts.{up_to_es5};
 ghost use Rattle.swc_ecma_codegen_ast.specs.StringValues.{string_value};
-ghost use Rattle.swc_ecma_codegen_literals.specs.NameValues.{name_characters, spells_name};
-ghost use Rattle.swc_ecma_codegen_literals.specs.AsciiNames.{lower_unit_escape, name_escape, name_escapes, wants_quotes, is_quoted_key, is_out_of_target, ascii_name};
+ghost use Rattle.swc_ecma_codegen_literals.specs.AsciiNames.{is_plain, lower_unit_escape, name_escape, name_escapes, wants_quotes, is_quoted_key, is_out_of_target, ascii_name};
 
 use crate::escapes::{is_up_to_es5, lower_digit, push_code};
 use std::alloc::{AllocError, Global};
@@ -31,9 +29,10 @@ pub fn ascii_only_ident(
     target: EsVersion,
 ) -> std::result::Result<String, Error>
     ensures exactly { IfOk result (λ name. string_bytes name ≡ ascii_name may_be_quoted target (chars text.now)) }
-    ensures name { is_quoted_key may_be_quoted target (chars text.now) ≡ false → IfOk result (λ name. name_characters (chars (string_bytes name)) ≡ name_characters (chars text.now)) }
-    ensures key { is_quoted_key may_be_quoted target (chars text.now) ≡ true → (cs : List ℕ) → name_characters (chars text.now) ≡ Some cs → is_word cs ≡ true → IfOk result (λ name. string_value false (chars (string_bytes name)) ≡ Some (all_utf16 cs)) }
-    ensures token { is_quoted_key may_be_quoted target (chars text.now) ≡ true → spells_name (chars text.now) ≡ true → IfOk result (λ name. is_string (chars (string_bytes name)) ≡ true) }
+    ensures name { is_quoted_key may_be_quoted target (chars text.now) ≡ false → IfOk result (λ name. is_name (chars (string_bytes name)) ≡ is_name (chars text.now)) }
+    ensures value { is_quoted_key may_be_quoted target (chars text.now) ≡ false → is_name (chars text.now) ≡ true → IfOk result (λ name. name_value (chars (string_bytes name)) ≡ name_value (chars text.now)) }
+    ensures key { is_quoted_key may_be_quoted target (chars text.now) ≡ true → is_name (chars text.now) ≡ true → IfOk result (λ name. string_value false (chars (string_bytes name)) ≡ Some (all_utf16 (name_value (chars text.now)))) }
+    ensures token { is_quoted_key may_be_quoted target (chars text.now) ≡ true → is_name (chars text.now) ≡ true → IfOk result (λ name. is_string (chars (string_bytes name)) ≡ true) }
     ensures ascii { IfOk result (λ name. IsAscii (string_bytes name)) }
     ensures out_of_target { is_out_of_target may_be_quoted target (chars text.now) ≡ true → IsErrAnd result (λ error. error ≡ NameOutOfTarget) }
     ensures refused { is_out_of_target may_be_quoted target (chars text.now) ≡ false → IfErr result (λ error. error ≡ OutOfMemory) }
@@ -110,6 +109,7 @@ fn asks_quotes(c: char, target: EsVersion) -> bool
     matches!(c, '\u{7F}'..='\u{FF}') || (c >= '\u{10000}' && is_up_to_es5(target))
 }
 
+// The characters of a name, each as it is spelled. Those that stand for themselves are copied a run at a time.
 fn push_escapes(
     name: &mut String,
     text: &str,
@@ -118,10 +118,59 @@ fn push_escapes(
 ) -> Result<(), AllocError>
     ensures { OnOk result (string_bytes name.new ≡ string_bytes name.old ++ name_escapes key target (chars text.now)) }
 {
-    for c in text.chars() {
-        push_character(name, c, key, target)?;
+    let mut rest = text;
+    while !rest.is_empty() {
+        let (run, after) = split_plain(rest);
+        name.push_str(run)?;
+        rest = push_first(name, after, key, target)?;
     }
     Ok(())
+}
+
+// The characters at the start of a text that stand for themselves, and what follows.
+fn split_plain(text: &str) -> (&str, &str)
+    ensures texts { IsUtf8 result.0.now × IsUtf8 result.1.now }
+    ensures parts { text.now ≡ result.0.now ++ result.1.now }
+    ensures run { list_all is_plain (chars result.0.now) ≡ true }
+    ensures stops { (c : ℕ) → (cs : List ℕ) → chars result.1.now ≡ c ∷ cs → is_plain c ≡ false }
+{
+    let mut rest = text;
+    let mut chars = text.chars();
+    while let Some(c) = chars.next() {
+        if !is_plain(c) {
+            return text.split_at(text.len() - rest.len());
+        }
+        rest = chars.as_str();
+    }
+    (text, "")
+}
+
+fn is_plain(c: char) -> bool
+    ensures { result ≡ is_plain c }
+{
+    c < '\u{7F}'
+}
+
+// The spelling of the first character of a text, which gives what follows it.
+fn push_first<'a>(
+    name: &mut String,
+    text: &'a str,
+    key: bool,
+    target: EsVersion,
+) -> Result<&'a str, AllocError>
+    ensures name { OnOk result (string_bytes name.new ≡ string_bytes name.old ++ name_escapes key target (take 1 (chars text.now))) }
+    ensures text { IfOk result (λ rest. IsUtf8 rest.now) }
+    ensures rest { IfOk result (λ rest. chars rest.now ≡ drop 1 (chars text.now)) }
+    ensures shorter { IfOk result (λ rest. (length rest.now ≤ length text.now) × (0 < length text.now → length rest.now < length text.now)) }
+{
+    let mut chars = text.chars();
+    match chars.next() {
+        Some(c) => {
+            push_character(name, c, key, target)?;
+            Ok(chars.as_str())
+        }
+        None => Ok(text),
+    }
 }
 
 // `a`, `\u00e9` or `\xe9`, `\u0301`, `\u{1D4AB}` or `\uD835\uDCAB`.
@@ -134,7 +183,7 @@ fn push_character(
 ) -> Result<(), AllocError>
     ensures { OnOk result (string_bytes name.new ≡ string_bytes name.old ++ name_escape key target c) }
 {
-    if c < '\u{7F}' {
+    if is_plain(c) {
         name.push(c)
     } else if c < '\u{100}' && !key {
         push_lower_unit_escape(name, c as u32)

@@ -5,6 +5,8 @@ mod escapes;
 mod idents;
 mod names;
 mod numbers;
+#[cfg(test)]
+mod patterns;
 mod scripts;
 mod strings;
 #[cfg(test)]

@@ -1,6 +1,6 @@
 //! Strings for scripts inside HTML.
 
-ghost use Rattle.std.specs.Prelude.{◌≡◌, ◌++◌, ◌+◌, ◌-◌, ◌<◌, ◌≤◌, ◌^◌, ℕ, true, false, IfOk, IfErr, IfSome, Some, None, drop, length, take, slice_index};
+ghost use Rattle.std.specs.Prelude.{◌≡◌, ◌++◌, ◌+◌, ◌-◌, ◌<◌, ◌≤◌, ◌^◌, true, false, IfOk, IfErr, IfSome, Some, None, drop, length, take, slice_index};
 ghost use Rattle.std.specs.Str.{encode_utf8_all};
 ghost use Rattle.std.specs.Str.{chars, IsAscii};
 ghost use Rattle.std.specs.String.{string_bytes};

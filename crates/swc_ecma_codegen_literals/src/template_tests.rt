@@ -1,34 +1,12 @@
 //! Texts of templates, character by character and escape by escape.
 //!
 //! The tables were made by a program in JavaScript that follows the rule of the spelling by regular expressions, and node
-//! confirmed that each raw text that has a cooked value has the same one as the text beside it. In them `¢` stands for
-//! the character, `½` for its two hexadecimal digits, `¼` for all of them, `·`, `⇥`, `¶`, `¬`, `↓`, `⇓` for a blank, a
-//! tab, LF, CR, U+2028, U+2029, and `∅` for no text.
+//! confirmed that each raw text that has a cooked value has the same one as the text beside it. They are made of patterns.
 
+use crate::patterns::expanded;
 use crate::template_from_raw;
-use std::alloc::{AllocError, Global};
+use std::alloc::Global;
 use std::test::Fail;
-
-/// A text of a table, for a character.
-fn expanded(alloc: Global, pattern: &str, c: char) -> Result<String, AllocError> {
-    let mut text = String::new(alloc);
-    for mark in pattern.chars() {
-        match mark {
-            '¢' => text.push(c)?,
-            '½' => write!(text, "{:02x}", c as u32)?,
-            '¼' => write!(text, "{:X}", c as u32)?,
-            '·' => text.push(' ')?,
-            '⇥' => text.push('\t')?,
-            '¶' => text.push('\n')?,
-            '¬' => text.push('\r')?,
-            '↓' => text.push('\u{2028}')?,
-            '⇓' => text.push('\u{2029}')?,
-            '∅' => {}
-            _ => text.push(mark)?,
-        }
-    }
-    Ok(text)
-}
 
 /// Whether a raw text gives the text beside it, for a character.
 fn gives(alloc: Global, raw: &str, text: &str, c: char, ascii_only: bool) -> Result<bool, Fail> {

@@ -10,7 +10,8 @@ ghost use Rattle.swc_ecma_codegen_tree.specs.declared.errors.Error.TheVariants.{
 ghost use Rattle.swc_ecma_codegen_ast.specs.Chars.{begins_digit};
 ghost use Rattle.swc_ecma_codegen_ast.specs.Numbers.{is_hex};
 ghost use Rattle.swc_ecma_codegen_ast.specs.Texts.{begins};
-ghost use Rattle.swc_ecma_codegen_ast.specs.TemplateValues.{cooked_value, IsInsidePart};
+ghost use Rattle.swc_ecma_codegen_ast.specs.TemplateValues.{cooked_value};
+ghost use Rattle.swc_ecma_codegen_ast.specs.Templates.{IsInsidePart};
 ghost use Rattle.swc_ecma_codegen_literals.specs.TemplateTexts.{stands_bare, pieces, pieces_after, escape_piece, escape_more, is_kept, hex_piece, hex_more, hex_digits_piece, hex_value_piece, bare_text, piece_text, dollar_after, spelled_pieces, spelled_bytes, template_text};
 
 use crate::escapes::{is_unseen, push_braced_escape, push_hex_escape, push_unit_escape};

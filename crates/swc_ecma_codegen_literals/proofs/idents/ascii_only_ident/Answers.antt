@@ -24,6 +24,9 @@ returns-then-is_better_quoted-clause-exactly c = (quoted_answer c.args.may_be_qu
 pub returns-then-is_better_quoted-clause-name : goal.returns-then-is_better_quoted-clause-name
 returns-then-is_better_quoted-clause-name c = (quoted_answer c.args.may_be_quoted c.args.target c.args.text.now _ c.utf8.text c.if-is_ascii.ensures.cases (sym c.is_better_quoted.ensures ∙ c.if-is_better_quoted.true) c.in_ok-quoted_key.ensures).name
 
+pub returns-then-is_better_quoted-clause-value : goal.returns-then-is_better_quoted-clause-value
+returns-then-is_better_quoted-clause-value c = (quoted_answer c.args.may_be_quoted c.args.target c.args.text.now _ c.utf8.text c.if-is_ascii.ensures.cases (sym c.is_better_quoted.ensures ∙ c.if-is_better_quoted.true) c.in_ok-quoted_key.ensures).value
+
 pub returns-then-is_better_quoted-clause-key : goal.returns-then-is_better_quoted-clause-key
 returns-then-is_better_quoted-clause-key c = (quoted_answer c.args.may_be_quoted c.args.target c.args.text.now _ c.utf8.text c.if-is_ascii.ensures.cases (sym c.is_better_quoted.ensures ∙ c.if-is_better_quoted.true) c.in_ok-quoted_key.ensures).key_value
 
@@ -38,6 +41,9 @@ returns-clause-exactly c = (escaped_answer c.args.may_be_quoted c.args.target c.
 
 pub returns-clause-name : goal.returns-clause-name
 returns-clause-name c = (escaped_answer c.args.may_be_quoted c.args.target c.args.text.now _ c.utf8.text c.if-is_ascii.ensures.cases (sym c.is_better_quoted.ensures ∙ c.if-is_better_quoted.false) (sym c.is_out_of_target.ensures ∙ c.if-is_out_of_target.false) c.in_ok-escaped_name.ensures).name
+
+pub returns-clause-value : goal.returns-clause-value
+returns-clause-value c = (escaped_answer c.args.may_be_quoted c.args.target c.args.text.now _ c.utf8.text c.if-is_ascii.ensures.cases (sym c.is_better_quoted.ensures ∙ c.if-is_better_quoted.false) (sym c.is_out_of_target.ensures ∙ c.if-is_out_of_target.false) c.in_ok-escaped_name.ensures).value
 
 pub returns-clause-key : goal.returns-clause-key
 returns-clause-key c = (escaped_answer c.args.may_be_quoted c.args.target c.args.text.now _ c.utf8.text c.if-is_ascii.ensures.cases (sym c.is_better_quoted.ensures ∙ c.if-is_better_quoted.false) (sym c.is_out_of_target.ensures ∙ c.if-is_out_of_target.false) c.in_ok-escaped_name.ensures).key_value

@@ -1,18 +1,16 @@
-use Rattle.std.proofs.Common.{◌≤◌, length, arith}
-use Rattle.std.proofs.lemmas.Iterator.{YieldsList-from_chars}
-use Rattle.std.proofs.lemmas.Iterator.Consumers.{YieldsList-turn, YieldsList-end}
-use Rattle.std.proofs.lemmas.List.{length_push}
-use Rattle.std.specs.Str.{chars}
-use Rattle.swc_ecma_codegen_literals.proofs.NameTexts.{escapes_turn, escapes_end}
+use Rattle.std.proofs.Common.{List, ap, append-nil, length, sym, ℕ, ◌++◌, ◌∙◌, ◌≡◌}
+use Rattle.std.proofs.lemmas.Bool.{eqb-true}
+use Rattle.std.specs.String.{string_bytes}
+use Rattle.swc_ecma_codegen_literals.proofs.NameRuns.{escapes_turn, no_escapes}
+use Rattle.swc_ecma_codegen_literals.proofs.SpelledTexts.{loop_turn}
 use Rattle.swc_ecma_codegen_literals.proofs.idents.push_escapes.Goals as goal
 
-pub loop-c-preserved : goal.loop-c-preserved
-loop-c-preserved c =
-    let t = YieldsList-turn (YieldsList-from_chars c.args.text.now c.utf8.text cc) c.loop-c.yielded _ c.loop-c.yielded_by _ _ c.in-Some.c c.in-Some.is c.next.ensures.steps in
-    escapes_turn _ _ _ _ _ c.in-Some.c _ _ _ t.0 t.1 (length_push c.loop-c.yielded c.in-Some.c) c.in_ok-push_character.ensures c.loop-c.invariant
+pub loop-rest-preserved : goal.loop-rest-preserved
+loop-rest-preserved c =
+    let t = escapes_turn _ _ _ _ _ c.in_ok-rest.rest.now c.split_plain.ensures.parts c.split_plain.ensures.texts.0 c.split_plain.ensures.run c.in_ok-rest.ensures.rest in
+    (c.in_ok-rest.ensures.text, loop_turn _ _ _ _ _ _ _ _ c.in_ok-push_str.ensures.bytes c.in_ok-rest.ensures.name t c.loop-rest.invariant.1)
 
 pub returns : goal.returns
 returns c =
-    let t = YieldsList-end (YieldsList-from_chars c.args.text.now c.utf8.text cc) c.loop-c.yielded _ c.loop-c.yielded_by _ _ c.in-None.is c.next.ensures.steps in
-    let l : length (chars c.args.text.now) ≤ length c.loop-c.yielded = omega (arith, t.1) in
-    escapes_end _ _ _ _ _ _ l c.loop-c.invariant
+    let none : length c.loop-rest.rest.now ≡ 0 = eqb-true _ _ (sym c.is_empty.ensures ∙ c.loop-rest-test.false) in
+    sym (append-nil (string_bytes c.loop-rest.name)) ∙ (ap (λ (x : List ℕ). string_bytes c.loop-rest.name ++ x) (sym (no_escapes _ _ _ none)) ∙ c.loop-rest.invariant.1)

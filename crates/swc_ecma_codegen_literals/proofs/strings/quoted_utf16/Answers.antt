@@ -1,7 +1,7 @@
-use Rattle.std.proofs.Common.{◌≡◌, sym, ◌∙◌, ap, ◌++◌, List, ℕ, true, false, subst}
+use Rattle.std.proofs.Common.{◌≡◌, ◌∙◌, ap, ◌++◌, List, ℕ, false, subst}
 use Rattle.std.proofs.lemmas.Str.{scalars-chars}
 use Rattle.std.specs.Char.{encode_utf8}
-use Rattle.std.specs.Str.{IsAscii, chars, encode_utf8_all}
+use Rattle.std.specs.Str.{chars, encode_utf8_all}
 use Rattle.std.specs.String.{string_bytes}
 use Rattle.swc_ecma_codegen_ast.specs.Strings.{is_string}
 use Rattle.swc_ecma_codegen_literals.specs.StringTexts.{quoted_text}

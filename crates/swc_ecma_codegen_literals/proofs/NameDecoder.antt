@@ -1,8 +1,7 @@
--- The characters of a name, its escapes read. ECMA-262, section 12.7.1.2, "IdentifierCodePoints".
-use Rattle.std.specs.Prelude.{ℕ, zero, suc, ◌+◌, ◌*◌, Bool, true, false, List, [], ◌∷◌, ◌&&◌, ◌==◌, nat_le, Option, Some, None, if◌then◌else◌}
+-- A decoder of names with the places of strings, so that a name in quotes is decoded step by step beside it.
+use Rattle.std.specs.Prelude.{ℕ, zero, suc, ◌+◌, ◌*◌, true, false, List, [], ◌∷◌, ◌&&◌, ◌==◌, nat_le, Option, Some, None, if◌then◌else◌}
 use Rattle.std.specs.Char.{digit_value}
 use Rattle.swc_ecma_codegen_ast.specs.Numbers.{is_hex}
-use Rattle.swc_ecma_codegen_ast.specs.Names.{is_word}
 use Rattle.swc_ecma_codegen_ast.specs.declared.units.Place.{Place}
 use Rattle.swc_ecma_codegen_ast.specs.declared.units.Place.TheVariants.{Between, Escaped, Due, Unicode, Braced, Octal, Continued}
 use Rattle.swc_ecma_codegen_ast.specs.StringValues.{before}
@@ -35,11 +34,3 @@ name_rest Continued text = None
 -- the characters of a name, where it has no malformed escape
 abbrev pub name_characters : List ℕ → Option (List ℕ)
 name_characters text = name_rest Between text
-
-unfoldable pub are_word : Option (List ℕ) → Bool
-are_word None = false
-are_word (Some cs) = is_word cs
-
--- IdentifierName, with or without escapes. Section 12.7.
-abbrev pub spells_name : List ℕ → Bool
-spells_name text = are_word (name_characters text)
