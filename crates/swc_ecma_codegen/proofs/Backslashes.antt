@@ -94,6 +94,10 @@ unmade_blank : (env : Env) (needed : Bool) → Unmade env (words.blank needed)
 unfolding words.blank
 unmade_blank env needed = unmade_if env needed space formatting_space (unmade_space env) (unmade_formatting_space env)
 
+unmade_spaced : (env : Env) (t : List ℕ) → Unmade env (words.spaced_punct t)
+unfolding words.spaced_punct
+unmade_spaced env t = unmade_then env formatting_space (λ rest. punct t (formatting_space rest)) (unmade_formatting_space env) (unmade_then env (punct t) formatting_space (unmade_punct env t) (unmade_formatting_space env))
+
 unmade_space_if : (env : Env) (needed : Bool) → Unmade env (words.space_if needed)
 unfolding words.space_if
 unmade_space_if env needed = unmade_if env needed space (λ rest. rest) (unmade_space env) (unmade_nothing env)
@@ -254,17 +258,12 @@ expr_here env (exprs.Member n) place h = unmade_expr env any_answers any_items _
 expr_here env (exprs.Cond n) place h =
     let p = or_parts (any_backslash n.test.node.value.0) (any_backslash n.cons.node.value.0 || any_backslash n.alt.node.value.0) h in
     let q = or_parts (any_backslash n.cons.node.value.0) (any_backslash n.alt.node.value.0) p.1 in
-    let gap = unmade_formatting_space env in
     unmade_expr env any_answers any_items _ place
     (unmade_then env (words.opened n.span) _ (unmade_opened env n.span)
     (unmade_then env (any_items n.test.node.value.0 Plain) _ (child env n.test.node.value Plain p.0)
-    (unmade_then env formatting_space _ gap
-    (unmade_then env (punct (codes "?")) _ (unmade_punct env (codes "?"))
-    (unmade_then env formatting_space _ gap
+    (unmade_then env (words.spaced_punct (codes "?")) _ (unmade_spaced env (codes "?"))
     (unmade_then env (any_items n.cons.node.value.0 Plain) _ (child env n.cons.node.value Plain q.0)
-    (unmade_then env formatting_space _ gap
-    (unmade_then env (punct (codes ":")) _ (unmade_punct env (codes ":"))
-    (unmade_then env formatting_space (any_items n.alt.node.value.0 Plain) gap (child env n.alt.node.value Plain q.1))))))))))
+    (unmade_then env (words.spaced_punct (codes ":")) (any_items n.alt.node.value.0 Plain) (unmade_spaced env (codes ":")) (child env n.alt.node.value Plain q.1))))))
 expr_here env (exprs.Seq n) place h =
     unmade_expr env any_answers any_items _ place
     (unmade_then env (words.opened n.span) _ (unmade_opened env n.span)

@@ -153,6 +153,13 @@ this_is_word : IsWord (codes "this")
 unfolding is_word is_start is_part is_letter is_digit all_part chars is_utf8 lib.Utf8.encode
 this_is_word = record { utf8 = refl; ascii = refl; shape = refl }
 
+-- a mark between two blanks
+spaced_prints : (env : Env) (t : List ℕ) → IsMark t → Prints env (words.spaced_punct t) (mark t)
+unfolding words.spaced_punct
+spaced_prints env t w =
+    let gap = writes_formatting_space env in
+    prints_before env formatting_space _ _ gap (prints_after env (punct t) formatting_space _ (mark_prints env t w) gap)
+
 -- ---- expressions, from what is known of their parts
 
 pub this_prints : (env : Env) (n : this_exprs.ThisExpr) → Prints env (words.this n) (lists.this_expr n)
@@ -216,16 +223,11 @@ member_prints env items f n h k =
 pub cond_prints : {X : Type 0} (env : Env) (items : X → Place → Part) (f : X → Phrase) (n : CondExpr X) → Prints env (items n.test.node.value Plain) (f n.test.node.value) → Prints env (items n.cons.node.value Plain) (f n.cons.node.value) → Prints env (items n.alt.node.value Plain) (f n.alt.node.value) → Prints env (words.choice items n) (lists.cond_expr f n)
 unfolding words.choice lists.cond_expr
 cond_prints env items f n h k l =
-    let gap = writes_formatting_space env in
     prints_before env (words.opened n.span) _ _ (writes_opened env n.span)
     (prints_then env (items n.test.node.value Plain) _ _ _ h
-    (prints_before env formatting_space _ _ gap
-    (prints_then env (punct (codes "?")) _ _ _ (mark_prints env (codes "?") question_is_mark)
-    (prints_before env formatting_space _ _ gap
+    (prints_then env (words.spaced_punct (codes "?")) _ _ _ (spaced_prints env (codes "?") question_is_mark)
     (prints_then env (items n.cons.node.value Plain) _ _ _ k
-    (prints_before env formatting_space _ _ gap
-    (prints_then env (punct (codes ":")) _ _ _ (mark_prints env (codes ":") colon_is_mark)
-    (prints_before env formatting_space (items n.alt.node.value Plain) _ gap l))))))))
+    (prints_then env (words.spaced_punct (codes ":")) (items n.alt.node.value Plain) _ _ (spaced_prints env (codes ":") colon_is_mark) l))))
 
 pub paren_prints : {X : Type 0} (env : Env) (items : X → Place → Part) (f : X → Phrase) (n : ParenExpr X) → Prints env (items n.expr.node.value Plain) (f n.expr.node.value) → Prints env (words.paren items n) (lists.paren_expr f n)
 unfolding words.paren lists.paren_expr

@@ -11,7 +11,7 @@ use Rattle.swc_ecma_codegen_tree.specs.Spans.{stmt_span}
 use Rattle.swc_ecma_codegen_ast.specs.Punctuators.{is_punctuator, punctuators}
 use Rattle.swc_ecma_codegen_ast.specs.Texts.{is_same, is_among}
 use Rattle.swc_ecma_codegen_ast.specs.Phrases as phrases
-use Rattle.swc_ecma_codegen_ast.specs.Phrases.{Phrase, Nothing, Then, ◌>◌, mark}
+use Rattle.swc_ecma_codegen_ast.specs.Phrases.{Phrase, ◌>◌, mark}
 use Rattle.swc_ecma_codegen_ast.specs.StmtPhrases as lists
 use Rattle.swc_ecma_codegen_ast.specs.WellFormedExprs.{all_well, is_some_list}
 use Rattle.swc_ecma_codegen_base.specs.Run.{Env, Part}

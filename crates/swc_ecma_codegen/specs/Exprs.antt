@@ -1,6 +1,6 @@
 -- What is written of each expression. A word is generic in what a link holds, X. It takes what is known of that:
 -- `asks` says what it answers, `items` what is written of it, where its parent puts it.
-use Rattle.std.specs.Prelude.{◌-◌, ◌==◌, Bool, true, false, if◌then◌else◌, codes, Some, None, string_bytes}
+use Rattle.std.specs.Prelude.{ℕ, ◌-◌, ◌==◌, Bool, true, false, if◌then◌else◌, List, codes, Some, None, string_bytes}
 use Rattle.swc_ecma_codegen_tree.specs.declared.positions.BytePos.{BytePos}
 use Rattle.swc_ecma_codegen_tree.specs.declared.positions.Span.{Span}
 use Rattle.swc_ecma_codegen_tree.specs.declared.idents.Ident.{Ident}
@@ -39,6 +39,10 @@ blank needed rest = if needed then space rest else formatting_space rest
 -- one blank where it is needed
 unfoldable pub space_if : Bool → Part
 space_if needed rest = if needed then space rest else rest
+
+-- a punctuator between two blanks, unless minified: ` ? `
+unfoldable pub spaced_punct : List ℕ → Part
+spaced_punct t rest = formatting_space (punct t (formatting_space rest))
 
 -- the comments before a node, and its start
 unfoldable pub opened : Span → Part
@@ -115,8 +119,8 @@ member items n rest = opened n.span (items n.obj.node.value Plain (member_prop i
 unfoldable pub choice : {X : Type 0} → (X → Place → Part) → CondExpr X → Part
 choice items n rest =
     opened n.span
-    (items n.test.node.value Plain (formatting_space (punct (codes "?") (formatting_space
-    (items n.cons.node.value Plain (formatting_space (punct (codes ":") (formatting_space (items n.alt.node.value Plain rest)))))))))
+    (items n.test.node.value Plain (spaced_punct (codes "?")
+    (items n.cons.node.value Plain (spaced_punct (codes ":") (items n.alt.node.value Plain rest)))))
 
 -- what a link holds
 abbrev pub held : {X : Type 0} → (X → Place → Part) → ExprBox X → Part

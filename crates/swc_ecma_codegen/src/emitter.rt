@@ -2,7 +2,7 @@
 
 ghost use Rattle.std.specs.Prelude.{◌≡◌, ◌≢◌, false, true, IsTrue, is_none, IfErr, OnErr, OnOk, Err, IsOk};
 ghost use Rattle.swc_ecma_codegen_text_writer.specs.Told.{IsFront};
-ghost use Rattle.swc_ecma_codegen_base.specs.Run.{Part, Emits, Follows, HasCause, IsUnhindered, nothing, printed, steps_in, start};
+ghost use Rattle.swc_ecma_codegen_base.specs.Run.{Follows, HasCause, IsUnhindered, nothing, printed, steps_in, start};
 
 use crate::nodes::{EmitAt, Place};
 use std::alloc::Global;

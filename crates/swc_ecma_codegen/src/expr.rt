@@ -1,6 +1,6 @@
 //! Expressions.
 
-ghost use Rattle.std.specs.Prelude.{◌≡◌, Some, None, OnOk, codes};
+ghost use Rattle.std.specs.Prelude.{◌≡◌, Some, None, OnOk};
 ghost use Rattle.swc_ecma_codegen_base.specs.Run.{Emits};
 ghost use Rattle.swc_ecma_codegen.specs.Exprs.{ident, ident_name, this, unary_op, unary_gap, unary, update_parts, update, binary_op, before_op, after_op, bin_trailing, bin_opened, bin, computed_prop_name, member_prop, member, choice, seq, paren, expr_parts, is_inner, expr_closed, place_of, expr};
 ghost use Rattle.swc_ecma_codegen_tree.specs.Spans.{expr_span};
@@ -149,15 +149,10 @@ impl<N: Held> EmitAt for CondExpr<N> {
     ) -> Result {
         e.opened(self.span)?;
         self.test.held().emit_at(e, Place::Plain)?;
-        e.formatting_space()?;
-        e.punct("?")?;
-        e.formatting_space()?;
+        e.spaced_punct("?")?;
         self.cons.held().emit_at(e, Place::Plain)?;
-        e.formatting_space()?;
-        e.punct(":")?;
-        e.formatting_space()?;
-        self.alt.held().emit_at(e, Place::Plain)?;
-        Ok(())
+        e.spaced_punct(":")?;
+        self.alt.held().emit_at(e, Place::Plain)
     }
 }
 

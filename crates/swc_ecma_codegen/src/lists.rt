@@ -1,6 +1,6 @@
 //! Lists of nodes.
 
-ghost use Rattle.std.specs.Prelude.{◌≡◌, true, OnOk, codes};
+ghost use Rattle.std.specs.Prelude.{◌≡◌, true, OnOk};
 ghost use Rattle.swc_ecma_codegen_base.specs.Run.{Emits};
 ghost use Rattle.swc_ecma_codegen.specs.Lists.{comma, listed, in_order};
 ghost use Rattle.swc_ecma_codegen.specs.Exprs.{held};

@@ -1,6 +1,6 @@
 //! Statements and programs.
 
-ghost use Rattle.std.specs.Prelude.{◌≡◌, OnOk, codes, List};
+ghost use Rattle.std.specs.Prelude.{◌≡◌, OnOk};
 ghost use Rattle.swc_ecma_codegen_base.specs.Run.{Emits};
 ghost use Rattle.swc_ecma_codegen.specs.Stmts.{empty_stmt, expr_stmt, stmt_parts, stmt};
 ghost use Rattle.swc_ecma_codegen.specs.Programs.{start_if_empty, script, program};

@@ -1,9 +1,9 @@
 //! Calls of the lower emitter.
 
-ghost use Rattle.std.specs.Prelude.{◌≡◌, Option, Some, None, OnOk, codes};
+ghost use Rattle.std.specs.Prelude.{◌≡◌, Option, OnOk};
 ghost use Rattle.swc_ecma_codegen_base.specs.Run.{Emits};
 ghost use Rattle.swc_ecma_codegen_base.specs.Words.{keyword, operator, word_operator, punct, semi, space, formatting_space, formatting_line, commit_pending_semi, position, position_before, start_of, end_of, last_of, leading_comments, trailing_comments, name};
-ghost use Rattle.swc_ecma_codegen.specs.Exprs.{blank, space_if, opened, comments_before};
+ghost use Rattle.swc_ecma_codegen.specs.Exprs.{blank, space_if, spaced_punct, opened, comments_before};
 ghost use Rattle.swc_ecma_codegen.specs.Programs.{last_semi};
 ghost use Rattle.swc_ecma_codegen.specs.View.{state_of};
 
@@ -173,6 +173,18 @@ impl<W: WriteJs, S, C: Comments> Emitter<'_, W, S, C> {
         if needed {
             self.space()?;
         }
+        Ok(())
+    }
+
+    /// Writes a punctuator between two blanks, as ` ? `; the blanks aren't written where the settings are to minify.
+    #[tactic(auto, unfolding(crate::specs::Exprs::spaced_punct))]
+    pub(crate) fn spaced_punct(&mut self, text: &'static str) -> Result
+        ensures items { Emits (spaced_punct text.now) (state_of W.sheet self.old) (state_of W.sheet self.new) result }
+        ensures level { OnOk result ((W.sheet self.new.wr).indentation ≡ (W.sheet self.old.wr).indentation) }
+    {
+        self.formatting_space()?;
+        self.punct(text)?;
+        self.formatting_space()?;
         Ok(())
     }
 
