@@ -1,13 +1,13 @@
 //! Looking into a value. What is found in it is smaller than it is, so a reader that goes on there ends.
 
-ghost use Rattle.std.specs.Prelude.{◌≡◌, ◌<◌, All, IfOk, IfSome, Some, option_map, string_bytes};
+ghost use Rattle.std.specs.Prelude.{◌≡◌, ◌<◌, All, IfOk, IfSome, IfNone, Some, option_map, string_bytes};
 ghost use Rattle.std.specs.BTreeMap.{values};
 ghost use Rattle.std.specs.List.{IsAmong};
 ghost use Rattle.serde_json.specs.declared.value.Value.{size-Value};
 ghost use Rattle.serde_json.specs.Data.{Data, no_members, member as one_member};
 ghost use Rattle.serde_json.specs.Find.{get, get_member, as_array, as_object};
 ghost use Rattle.serde_json.specs.View.{view, items_view, members_view};
-ghost use Rattle.swc_ecma_codegen_tree.specs.Forms.{HasMember, flag as flag_form, text as text_form, whole as whole_form};
+ghost use Rattle.swc_ecma_codegen_tree.specs.Forms.{HasMember, null as null_form, flag as flag_form, text as text_form, whole as whole_form};
 
 use serde_json::{Map, Value};
 use std::alloc::Global;
@@ -71,7 +71,8 @@ pub fn items<'a>(json: &'a Value, name: &str) -> Read<&'a Vec<Value>>
 
 /// A member that may be `null`.
 pub fn optional<'a>(json: &'a Value, name: &str) -> Read<Option<&'a Value>>
-    ensures { IfOk result (λ o. IfSome o (λ v. size-Value v.now < size-Value json.now)) }
+    ensures none { IfOk result (λ o. IfNone o (HasMember name.now null_form (view json.now))) }
+    ensures smaller { IfOk result (λ o. IfSome o (λ v. size-Value v.now < size-Value json.now)) }
 {
     match field(json, name)? {
         Value::Null => Ok(None),

@@ -1,8 +1,8 @@
 //! Programs.
 
-ghost use Rattle.std.specs.Prelude.{IfOk};
+ghost use Rattle.std.specs.Prelude.{codes, IfOk, OnOk};
 ghost use Rattle.serde_json.specs.View.{view};
-ghost use Rattle.swc_ecma_codegen_tree.specs.Forms.{HasForm};
+ghost use Rattle.swc_ecma_codegen_tree.specs.Forms.{HasForm, HasMember, null};
 ghost use Rattle.swc_ecma_codegen_tree.specs.NodeForms.{program_form, script_form};
 ghost use Rattle.swc_ecma_codegen_tree.specs.Readers.{ReadsBelow, MakesNodes};
 
@@ -42,7 +42,9 @@ fn read_script<N: Formed + Drop, F: Fn(Sort, &Value) -> Read<N>>(
 }
 
 /// The tree has no place for a shebang yet.
-fn no_shebang(json: &Value) -> Read<()> {
+fn no_shebang(json: &Value) -> Read<()>
+    ensures { OnOk result (HasMember (codes "shebang") null (view json.now)) }
+{
     match optional(json, "shebang")? {
         Some(_) => Err(ReadError::BadTree),
         None => Ok(()),

@@ -1,8 +1,8 @@
 //! The program, as a function over its words and its streams.
 #![tactic(auto)]
 
-ghost use Rattle.std.specs.Prelude.{◌≡◌, ◌≢◌, [], Err, OnOk, OnErr, IfOk, string_bytes};
-ghost use Rattle.swc_ecma_codegen_tool.specs.Prints.{IsProgramText, AddsProgram};
+ghost use Rattle.std.specs.Prelude.{◌≡◌, ◌≢◌, ◌⊎◌, ℕ, List, [], Err, OnOk, OnErr, IfOk, IfSome, string_bytes};
+ghost use Rattle.swc_ecma_codegen_tool.specs.Prints.{IsJsonOf, IsPrinted, AddsPrinted};
 
 mod faults;
 
@@ -11,7 +11,7 @@ use std::alloc::Global;
 use std::io::{ErrorKind, Read, Write};
 use swc_ecma_codegen::to_code;
 use swc_ecma_codegen_json::program_from_slice;
-use swc_ecma_codegen_tree::discard;
+use swc_ecma_codegen_tree::{Program, discard};
 
 /// A run of the program: `words` are those after its name, of which there may be none yet. Standard input is one
 /// program as JSON, and its text goes to `out`, whole, after it was made in memory. The answer is the status.
@@ -27,13 +27,15 @@ pub fn run<R: Read, O: Write, E: Write>(
     out: &mut O,
     err: &mut E,
 ) -> u8
-    // The text of some program goes out.
-    ensures printed { result ≡ 0 → AddsProgram (O.contents out.old) (O.contents out.new) }
+    // The text of the program that the input is goes out.
+    ensures printed { result ≡ 0 → AddsPrinted (R.remaining input.old) (O.contents out.old) (O.contents out.new) }
     ensures usage { words.now ≢ [] → result ≡ 2 }
     ensures no_usage { words.now ≡ [] → result ≢ 2 }
     // Wrong words leave the streams alone, and a text that went out whole leaves `err` alone.
     ensures unread { words.now ≢ [] → (input.new ≡ input.old) × (out.new ≡ out.old) }
     ensures silent { result ≡ 0 → err.new ≡ err.old }
+    // Otherwise `out` is as it was, unless a text was there to print, which it didn't take.
+    ensures nothing { result ≢ 0 → (out.new ≡ out.old) ⊎ ((text : List ℕ) × IsPrinted (R.remaining input.old) text) }
 {
     match print(alloc, words, input, out) {
         Ok(()) => 0,
@@ -64,10 +66,11 @@ fn print<R: Read, O: Write>(
     input: &mut R,
     out: &mut O,
 ) -> Result<(), Fault>
-    ensures printed { OnOk result (AddsProgram (O.contents out.old) (O.contents out.new)) }
+    ensures printed { OnOk result (AddsPrinted (R.remaining input.old) (O.contents out.old) (O.contents out.new)) }
     ensures usage { words.now ≢ [] → result ≡ Err Fault.Usage }
     ensures no_usage { words.now ≡ [] → result ≢ Err Fault.Usage }
     ensures unread { words.now ≢ [] → (input.new ≡ input.old) × (out.new ≡ out.old) }
+    ensures nothing { OnErr result ((out.new ≡ out.old) ⊎ ((text : List ℕ) × IsPrinted (R.remaining input.old) text)) }
 {
     if !words.is_empty() {
         return Err(Fault::Usage);
@@ -81,7 +84,21 @@ fn print<R: Read, O: Write>(
 
 /// The text of the program that `input` holds.
 fn program_text<R: Read>(alloc: Global, input: &mut R) -> Result<String, Fault>
-    ensures text { IfOk result (λ text. IsProgramText (string_bytes text)) }
+    ensures text { IfOk result (λ text. IsPrinted (R.remaining input.old) (string_bytes text)) }
+    ensures no_usage { result ≢ Err Fault.Usage }
+{
+    let program = read_program(alloc, input)?;
+    let text = to_code(alloc, &program);
+    discard(program);
+    match text {
+        Ok(text) => Ok(text),
+        Err(error) => Err(Fault::of_emission(&error)),
+    }
+}
+
+/// The program that `input` holds.
+fn read_program<R: Read>(alloc: Global, input: &mut R) -> Result<Program, Fault>
+    ensures means { IfOk result (λ program. IfSome (R.remaining input.old) (λ bytes. IsJsonOf bytes program)) }
     ensures no_usage { result ≢ Err Fault.Usage }
 {
     let mut bytes = Vec::new(alloc);
@@ -92,15 +109,9 @@ fn program_text<R: Read>(alloc: Global, input: &mut R) -> Result<String, Fault>
             Fault::CannotRead
         });
     }
-    let program = match program_from_slice(alloc, &bytes) {
-        Ok(program) => program,
-        Err(error) => return Err(Fault::of_reading(error)),
-    };
-    let text = to_code(alloc, &program);
-    discard(program);
-    match text {
-        Ok(text) => Ok(text),
-        Err(error) => Err(Fault::of_emission(&error)),
+    match program_from_slice(alloc, &bytes) {
+        Ok(program) => Ok(program),
+        Err(error) => Err(Fault::of_reading(error)),
     }
 }
 

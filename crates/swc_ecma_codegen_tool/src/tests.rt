@@ -48,14 +48,8 @@ impl Read for Halting {
             return Err(io::Error::from(self.kind));
         }
         self.room -= 1;
-        match self.rest.split_first() {
-            Some((first, rest)) if !buf.is_empty() => {
-                buf[0] = *first;
-                self.rest = rest;
-                Ok(1)
-            }
-            _ => Ok(0),
-        }
+        let one = buf.len().min(1);
+        self.rest.read(&mut buf[..one])
     }
 }
 
@@ -73,14 +67,8 @@ impl Read for Stuttering {
             return Err(io::Error::from(ErrorKind::Interrupted));
         }
         self.interrupted = false;
-        match self.rest.split_first() {
-            Some((first, rest)) if !buf.is_empty() => {
-                buf[0] = *first;
-                self.rest = rest;
-                Ok(1)
-            }
-            _ => Ok(0),
-        }
+        let one = buf.len().min(1);
+        self.rest.read(&mut buf[..one])
     }
 }
 

@@ -15,7 +15,7 @@ use Rattle.swc_ecma_codegen_tree.specs.declared.exprs.MemberProp.{MemberProp}
 use Rattle.swc_ecma_codegen_tree.specs.declared.exprs.MemberProp.TheVariants as member_props
 use Rattle.swc_ecma_codegen_tree.specs.declared.stmts.Stmt.{Stmt}
 use Rattle.swc_ecma_codegen_tree.specs.declared.stmts.Stmt.TheVariants as stmts
-use Rattle.swc_ecma_codegen_tree.specs.Forms.{Form, Forms, no_forms, form, listed, fields, variant, field, no_fields, forms_of}
+use Rattle.swc_ecma_codegen_tree.specs.Forms.{Form, form, listed, fields, variant, field, no_fields, forms_of}
 use Rattle.swc_ecma_codegen_tree.specs.NodeForms.{span_form, expr_link, expr_form, stmt_form, member_form, node_form, any_form}
 
 -- one layer of a node, with the forms of what its links hold

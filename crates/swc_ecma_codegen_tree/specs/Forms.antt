@@ -1,12 +1,14 @@
 -- What JSON has to look like to be that of a node. Members that no form names are passed over.
 use Rattle.std.specs.Prelude.{◌≡◌, ⊤, ℕ, List, [], ◌∷◌, Bool, Some, option_and_then}
 use Rattle.serde_json.specs.Data.{Data, Items, no_items, item, no_members, member}
-use Rattle.serde_json.specs.Find.{get, as_bool, as_number, as_u64, as_str, as_array, as_object}
+use Rattle.serde_json.specs.Find.{get, as_null, as_bool, as_number, as_u64, as_str, as_array, as_object}
 
 mutual
   pub data Form : Type 0 where
     -- no JSON has this form
     nothing : Form
+    -- `null`
+    null : Form
     -- `true` or `false`
     flag : Bool → Form
     -- a number without a dot or an exponent
@@ -32,6 +34,7 @@ mutual
 abbrev mutual
   pub HasForm : Form → Data → Type 0
   HasForm nothing d = ⊥
+  HasForm null d = as_null d ≡ Some tt
   HasForm (flag b) d = as_bool d ≡ Some b
   HasForm (whole n) d = option_and_then as_u64 (as_number d) ≡ Some n
   HasForm (text s) d = as_str d ≡ Some s

@@ -1,6 +1,5 @@
 -- The form of each node's JSON, under the names of its fields and variants.
 use Rattle.std.specs.Prelude.{ℕ, List, codes, string_bytes}
-use Rattle.swc_ecma_codegen_tree.specs.declared.positions.BytePos.{BytePos}
 use Rattle.swc_ecma_codegen_tree.specs.declared.positions.Span.{Span}
 use Rattle.swc_ecma_codegen_tree.specs.declared.readers.Sort.{Sort}
 use Rattle.swc_ecma_codegen_tree.specs.declared.readers.Sort.TheVariants as sorts
@@ -37,7 +36,7 @@ use Rattle.swc_ecma_codegen_tree.specs.declared.stmts.ExprStmt.{ExprStmt}
 use Rattle.swc_ecma_codegen_tree.specs.declared.programs.Program.{Program}
 use Rattle.swc_ecma_codegen_tree.specs.declared.programs.Program.TheVariants as programs
 use Rattle.swc_ecma_codegen_tree.specs.declared.programs.Script.{Script}
-use Rattle.swc_ecma_codegen_tree.specs.Forms.{Form, nothing, flag, whole, text, listed, fields, variant, Fields, no_fields, field, forms_of}
+use Rattle.swc_ecma_codegen_tree.specs.Forms.{Form, nothing, null, flag, whole, text, listed, fields, variant, no_fields, field, forms_of}
 
 -- {"lo":1,"hi":2}
 abbrev pub span_form : Span → Form
@@ -154,8 +153,9 @@ abbrev pub stmt_form : {X : Type 0} → (X → Sort → Form) → Stmt X → For
 stmt_form m (stmts.Empty n) = variant (codes "Empty") (empty_stmt_form n)
 stmt_form m (stmts.Expr n) = variant (codes "Expr") (expr_stmt_form m n)
 
+-- The tree has no place for a shebang yet.
 abbrev pub script_form : {X : Type 0} → (X → Sort → Form) → Script X → Form
-script_form m n = fields (field (codes "span") (span_form n.span) (field (codes "body") (listed (forms_of (stmt_link m) n.body.items)) no_fields))
+script_form m n = fields (field (codes "span") (span_form n.span) (field (codes "body") (listed (forms_of (stmt_link m) n.body.items)) (field (codes "shebang") null no_fields)))
 
 abbrev pub program_form : {X : Type 0} → (X → Sort → Form) → Program X → Form
 program_form m (programs.Script n) = variant (codes "Script") (script_form m n)

@@ -2,7 +2,7 @@
 
 ghost use Rattle.std.specs.Prelude.{◌≡◌};
 ghost use Rattle.swc_ecma_codegen_tree.specs.declared.positions.Span.{Span as Place};
-ghost use Rattle.swc_ecma_codegen_tree.specs.Spans.{dummy_span, option_span, expr_span, member_prop_span, stmt_span, program_span, any_span};
+ghost use Rattle.swc_ecma_codegen_tree.specs.Spans.{option_span, expr_span, member_prop_span, stmt_span, program_span, any_span};
 
 use crate::exprs::{
     BinExpr, ComputedPropName, CondExpr, Expr, MemberExpr, MemberProp, ParenExpr, SeqExpr,

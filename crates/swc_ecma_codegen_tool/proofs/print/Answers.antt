@@ -1,4 +1,4 @@
-use Rattle.std.proofs.Common.{◌≡◌, List, ℕ, subst, sym, string_bytes, rules}
+use Rattle.std.proofs.Common.{◌≡◌, List, ℕ, subst, string_bytes, rules}
 use Rattle.std.specs.Io.KnownBytes.{Appends}
 use Rattle.swc_ecma_codegen_tool.proofs.print.Goals as goal
 
