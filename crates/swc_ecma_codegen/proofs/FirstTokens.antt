@@ -1,37 +1,32 @@
--- How the text of a well-formed node begins, by the first token of its lists.
-use Rattle.std.proofs.Common.{◌≡◌, ℕ, Bool, true, false, cond, List, [], ◌∷◌, ◌++◌, ◌&&◌, map, codes, refl, sym, ap, ◌∙◌, subst}
-use Rattle.std.proofs.lemmas.Bool.{and_parts, true≢false}
+-- How the text of a node begins, by the first token of its lists.
+use Rattle.std.proofs.Common.{◌≡◌, ℕ, Bool, true, false, cond, List, [], ◌∷◌, ◌++◌, map, codes, refl, sym, ap, ◌∙◌, subst}
+use Rattle.std.proofs.lemmas.Bool.{true≢false}
 use denote.Hole.Holds.{Such}
 use Rattle.swc_ecma_codegen_tree.specs.Operators.{update_text}
 use Rattle.swc_ecma_codegen_tree.specs.declared.operators.UnaryOp.{UnaryOp}
 use Rattle.swc_ecma_codegen_tree.specs.declared.operators.UnaryOp.TheVariants as unary
-use Rattle.swc_ecma_codegen_tree.specs.declared.positions.Span.{Span}
-use Rattle.swc_ecma_codegen_tree.specs.declared.links.AnyNode.{AnyNode, AnyNode-F, ind-AnyNode, map-AnyNode, roll-AnyNode}
+use Rattle.swc_ecma_codegen_tree.specs.declared.links.AnyNode.{AnyNode, AnyNode-F, ind-AnyNode, roll-AnyNode}
 use Rattle.swc_ecma_codegen_tree.specs.declared.links.AnyNode.TheOpen as nodes
-use Rattle.swc_ecma_codegen_tree.specs.declared.links.AnyNode.TheVariants as whole
 use Rattle.swc_ecma_codegen_tree.specs.declared.links.AnyNode.TheBlock.{the_family, member-AnyNode}
 use Rattle.swc_ecma_codegen_tree.specs.declared.links.AnyNode.TheFolds.{claims}
 use Rattle.swc_ecma_codegen_tree.specs.declared.links.ExprBox.{ExprBox}
 use Rattle.swc_ecma_codegen_tree.specs.declared.exprs.Expr.{Expr}
 use Rattle.swc_ecma_codegen_tree.specs.declared.exprs.Expr.TheVariants as exprs
-use Rattle.swc_ecma_codegen_tree.specs.declared.exprs.MemberExpr.{MemberExpr}
-use Rattle.swc_ecma_codegen_tree.specs.declared.exprs.MemberProp.{MemberProp}
-use Rattle.swc_ecma_codegen_tree.specs.declared.exprs.MemberProp.TheVariants as member_props
 use Rattle.swc_ecma_codegen_tree.specs.declared.stmts.Stmt.{Stmt}
 use Rattle.swc_ecma_codegen_tree.specs.declared.stmts.Stmt.TheVariants as stmts
 use Rattle.swc_ecma_codegen_ast.specs.Tokens.{Token}
 use Rattle.swc_ecma_codegen_ast.specs.Tokens as tokens
-use Rattle.swc_ecma_codegen_ast.specs.Phrases.{Phrase, One, Then, Generates, ◌>◌, mark}
+use Rattle.swc_ecma_codegen_ast.specs.Phrases.{Phrase, Never, One, NameOf, Then, Generates, ◌>◌, mark}
 use Rattle.swc_ecma_codegen_ast.specs.Phrases as phrases
+use Rattle.swc_ecma_codegen_ast.specs.declared.roles.Role.{Role}
+use Rattle.swc_ecma_codegen_ast.specs.declared.roles.Role.TheVariants.{Expression, Statement, MemberExpression}
 use Rattle.swc_ecma_codegen_ast.specs.NamePhrases as names
 use Rattle.swc_ecma_codegen_ast.specs.ExprPhrases as lists
 use Rattle.swc_ecma_codegen_ast.specs.StmtPhrases as stmt_lists
-use Rattle.swc_ecma_codegen_ast.specs.TreePhrases.{node_phrase, phrase, well_node, is_well, is_sort, expr_phrase, is_well_formed_expr}
-use Rattle.swc_ecma_codegen_ast.specs.WellFormedExprs.{Sort, ExprSort, StmtSort, MemberExprSort, all_well, is_some_list, well_expr_at, well_expr, well_unary_expr, well_update_expr, well_bin_expr, well_member_prop, well_member_expr, well_cond_expr, well_seq_expr, well_paren_expr, well_ident_name}
-use Rattle.swc_ecma_codegen_ast.specs.WellFormedStmts.{well_stmt, well_expr_stmt}
-use Rattle.swc_ecma_codegen_ast.proofs.TreeLaws.{phrase_expr, phrase_stmt, phrase_member_expr, is_well_expr, is_well_stmt, is_well_member_expr}
+use Rattle.swc_ecma_codegen_ast.specs.TreePhrases.{node_phrase, phrase, expr_phrase}
+use Rattle.swc_ecma_codegen_ast.proofs.TreeLaws.{phrase_of}
 use Rattle.swc_ecma_codegen_util.specs.Starts.{is_word_op, update_starts, first_starts, expr_starts, stmt_starts, node_starts, any_starts}
-use Rattle.swc_ecma_codegen_util.proofs.Begins.{any_starts_expr, any_starts_stmt, any_starts_member_expr}
+use Rattle.swc_ecma_codegen_util.proofs.Begins.{starts_of}
 use Rattle.swc_ecma_codegen.specs.FirstTokens.{joins_a_word}
 
 -- No list of a phrase is empty, and where one begins with a word, a name or a number, b is true.
@@ -78,7 +73,15 @@ begins_true : (x : Token) → Begins (One x) true
 unfolding Generates
 begins_true x = record { some = λ k. nothing_first x [] k; told = λ y ys k j. refl }
 
-begins_unary : (op : UnaryOp) → Begins (lists.unary_op op) (is_word_op op)
+begins_name : (bytes : List ℕ) → Begins (NameOf bytes) true
+unfolding Generates
+begins_name bytes = record { some = λ k. nothing_first _ [] k; told = λ y ys k j. refl }
+
+begins_never : (b : Bool) → Begins Never b
+unfolding Generates
+begins_never b = record { some = λ k. k; told = λ y ys k j. absurd k }
+
+begins_unary : (op : UnaryOp) → Begins (One (lists.unary_op op)) (is_word_op op)
 unfolding lists.unary_op is_word_op
 begins_unary unary.Minus = begins_mark _ false
 begins_unary unary.Plus = begins_mark _ false
@@ -92,103 +95,55 @@ begins_update : (prefix : Bool) (op : List ℕ) (f : Phrase) (b : Bool) → Begi
 begins_update true op f b h = begins_then (mark op) f false (begins_mark op false)
 begins_update false op f b h = begins_then f (mark op) b h
 
-abbrev Law : AnyNode → Type 0
-Law n = (sort : Sort) → is_well n sort ≡ true → Begins (phrase n) (any_starts n)
+-- what a node begins with, where what its links hold begins as f says
+abbrev Begin : {X : Type 0} → (X → Role → Phrase) → (X → Bool) → Type 0
+Begin {X} reads starts = (x : X) (role : Role) → Begins (reads x role) (starts x)
 
--- a node that a link of the tree holds, with its law
-abbrev Child : Type 0
-Child = Such the_family (claims Law) member-AnyNode
+seq_begins : {X : Type 0} (reads : X → Role → Phrase) (starts : X → Bool) → Begin reads starts → (xs : List (ExprBox X)) → Begins (phrases.some_listed (codes ",") (map (lists.expr_at reads) xs)) (first_starts starts xs)
+unfolding phrases.some_listed first_starts
+seq_begins reads starts law [] = begins_never false
+seq_begins reads starts law (x ∷ xs) = begins_then _ _ _ (law x.node.value Expression)
 
-child : (y : Child) (sort : Sort) → is_well y.0 sort ≡ true → Begins (phrase y.0) (any_starts y.0)
-child y sort w = y.1 sort w
+expr_begins : {X : Type 0} (reads : X → Role → Phrase) (starts : X → Bool) → Begin reads starts → (n : Expr X) → Begins (lists.expr reads n) (expr_starts starts n)
+unfolding expr_starts update_starts lists.expr lists.this_expr lists.unary_expr lists.update_expr lists.update_op lists.bin_expr lists.cond_expr lists.seq_expr lists.paren_expr names.ident
+expr_begins reads starts law (exprs.This n) = begins_true _
+expr_begins reads starts law (exprs.Unary n) = begins_then _ _ _ (begins_unary n.op)
+expr_begins reads starts law (exprs.Update n) = begins_update n.prefix (update_text n.op) _ _ (law n.arg.node.value Expression)
+expr_begins reads starts law (exprs.Bin n) = begins_then _ _ _ (law n.left.node.value Expression)
+expr_begins reads starts law (exprs.Member n) = law n.node.value MemberExpression
+expr_begins reads starts law (exprs.Cond n) = begins_then _ _ _ (law n.test.node.value Expression)
+expr_begins reads starts law (exprs.Seq n) = seq_begins reads starts law n.exprs.items
+expr_begins reads starts law (exprs.Ident n) = begins_then _ _ _ (begins_name _)
+expr_begins reads starts law (exprs.Paren n) = begins_then _ _ _ (begins_mark _ false)
 
--- one node, from its parts
-Layer-Law : AnyNode-F AnyNode → Type 0
-Layer-Law m = (sort : Sort) → well_node is_well m sort ≡ true → Begins (node_phrase phrase m) (node_starts any_starts m)
+stmt_begins : {X : Type 0} (reads : X → Role → Phrase) (starts : X → Bool) → Begin reads starts → (n : Stmt X) → Begins (stmt_lists.stmt reads n) (stmt_starts starts n)
+unfolding stmt_starts stmt_lists.stmt stmt_lists.empty_stmt stmt_lists.expr_stmt
+stmt_begins reads starts law (stmts.Empty n) = begins_mark _ false
+stmt_begins reads starts law (stmts.Expr n) = begins_then _ _ _ (law n.expr.node.value Expression)
 
--- a sequence that isn't empty
-seq_begins : {A : Type 0} (g : A → ExprBox AnyNode) → ((x : A) → well_expr_at is_well (g x) ≡ true → Begins (phrase (g x).node.value) (any_starts (g x).node.value)) → (xs : List A) (test : Bool) → (test && (is_some_list (map g xs) && all_well (well_expr_at is_well) (map g xs))) ≡ true → Begins (phrases.listed (codes ",") (lists.expr_at phrase) (map g xs)) (first_starts any_starts (map g xs))
-unfolding phrases.listed first_starts is_some_list all_well
-seq_begins g law [] test w = absurd (true≢false (sym (and_parts test false w).1))
-seq_begins g law (x ∷ xs) test w =
-    let p = and_parts test (well_expr_at is_well (g x) && all_well (well_expr_at is_well) (map g xs)) w in
-    let q = and_parts (well_expr_at is_well (g x)) (all_well (well_expr_at is_well) (map g xs)) p.1 in
-    begins_then _ _ _ (law x q.0)
-
-member_here : (span : Span) (obj : ExprBox Child) (prop : MemberProp Child) → Layer-Law (map-AnyNode Child AnyNode (λ y. y.0) (nodes.MemberExpr (record { span = span; obj = obj; prop = prop })))
-unfolding Layer-Law well_node well_member_expr well_member_prop node_phrase node_starts lists.member_expr
-member_here span obj (member_props.Ident n) sort w =
-    let p = and_parts (is_sort sort MemberExprSort) (is_well obj.node.value.0 ExprSort && well_ident_name n) w in
-    let q = and_parts (is_well obj.node.value.0 ExprSort) (well_ident_name n) p.1 in
-    begins_then _ _ _ (child obj.node.value ExprSort q.0)
-member_here span obj (member_props.Computed n) sort w =
-    let p = and_parts (is_sort sort MemberExprSort) (is_well obj.node.value.0 ExprSort && _) w in
-    let q = and_parts (is_well obj.node.value.0 ExprSort) _ p.1 in
-    begins_then _ _ _ (child obj.node.value ExprSort q.0)
-
-expr_here : (n : Expr Child) → Layer-Law (map-AnyNode Child AnyNode (λ y. y.0) (nodes.Expr n))
-unfolding Layer-Law well_node well_expr well_unary_expr well_update_expr well_bin_expr well_cond_expr well_seq_expr well_paren_expr node_phrase node_starts expr_starts update_starts lists.expr lists.this_expr lists.unary_expr lists.update_expr lists.update_op lists.bin_expr lists.cond_expr lists.seq_expr lists.paren_expr names.ident names.name_phrase
-expr_here (exprs.This n) sort w = begins_true _
-expr_here (exprs.Unary n) sort w = begins_then _ _ _ (begins_unary n.op)
-expr_here (exprs.Update n) sort w =
-    let p = and_parts (is_sort sort ExprSort) (is_well n.arg.node.value.0 ExprSort) w in
-    begins_update n.prefix (update_text n.op) _ _ (child n.arg.node.value ExprSort p.1)
-expr_here (exprs.Bin n) sort w =
-    let p = and_parts (is_sort sort ExprSort) (is_well n.left.node.value.0 ExprSort && is_well n.right.node.value.0 ExprSort) w in
-    let q = and_parts (is_well n.left.node.value.0 ExprSort) (is_well n.right.node.value.0 ExprSort) p.1 in
-    begins_then _ _ _ (child n.left.node.value ExprSort q.0)
-expr_here (exprs.Member n) sort w =
-    let p = and_parts (is_sort sort ExprSort) (is_well n.node.value.0 MemberExprSort) w in
-    child n.node.value MemberExprSort p.1
-expr_here (exprs.Cond n) sort w =
-    let p = and_parts (is_sort sort ExprSort) (is_well n.test.node.value.0 ExprSort && (is_well n.cons.node.value.0 ExprSort && is_well n.alt.node.value.0 ExprSort)) w in
-    let q = and_parts (is_well n.test.node.value.0 ExprSort) (is_well n.cons.node.value.0 ExprSort && is_well n.alt.node.value.0 ExprSort) p.1 in
-    begins_then _ _ _ (child n.test.node.value ExprSort q.0)
-expr_here (exprs.Seq n) sort w = seq_begins _ (λ x h. child x.node.value ExprSort h) n.exprs.items (is_sort sort ExprSort) w
-expr_here (exprs.Ident n) sort w = begins_then _ _ _ (begins_true _)
-expr_here (exprs.Paren n) sort w = begins_then _ _ _ (begins_mark _ false)
-
-stmt_here : (n : Stmt Child) → Layer-Law (map-AnyNode Child AnyNode (λ y. y.0) (nodes.Stmt n))
-unfolding Layer-Law well_node well_stmt well_expr_stmt node_phrase node_starts stmt_starts stmt_lists.stmt stmt_lists.empty_stmt stmt_lists.expr_stmt
-stmt_here (stmts.Empty n) sort w = begins_mark _ false
-stmt_here (stmts.Expr n) sort w =
-    let p = and_parts (is_sort sort StmtSort) (is_well n.expr.node.value.0 ExprSort) w in
-    begins_then _ _ _ (child n.expr.node.value ExprSort p.1)
-
-here : (y : AnyNode-F Child) → Layer-Law (map-AnyNode Child AnyNode (λ y. y.0) y)
-here (nodes.Expr n) = expr_here n
-here (nodes.Stmt n) = stmt_here n
-here (nodes.MemberExpr n) = member_here n.span n.obj n.prop
+node_begins : {X : Type 0} (reads : X → Role → Phrase) (starts : X → Bool) → Begin reads starts → (n : AnyNode-F X) (role : Role) → Begins (node_phrase reads n role) (node_starts starts n)
+unfolding node_phrase node_starts lists.member_expr
+node_begins reads starts law (nodes.Expr n) Expression = expr_begins reads starts law n
+node_begins reads starts law (nodes.Stmt n) Statement = stmt_begins reads starts law n
+node_begins reads starts law (nodes.MemberExpr n) MemberExpression = begins_then _ _ _ (law n.obj.node.value Expression)
+node_begins reads starts law n role = begins_never _
 
 -- ---- whole nodes
 
 both : (f g : Phrase) (b c : Bool) → f ≡ g → b ≡ c → Begins g c → Begins f b
 both f g b c e d h = subst (λ z. Begins z b) (sym e) (subst (λ z. Begins g z) (sym d) h)
 
-expr_whole : (n : Expr AnyNode) → Layer-Law (nodes.Expr n) → Law (whole.Expr n)
-unfolding Layer-Law well_node node_phrase node_starts
-expr_whole n h sort w = both _ _ _ _ (phrase_expr n) (any_starts_expr n) (h sort (sym (is_well_expr n sort) ∙ w))
+abbrev Law : AnyNode → Type 0
+Law n = (role : Role) → Begins (phrase n role) (any_starts n)
 
-stmt_whole : (n : Stmt AnyNode) → Layer-Law (nodes.Stmt n) → Law (whole.Stmt n)
-unfolding Layer-Law well_node node_phrase node_starts
-stmt_whole n h sort w = both _ _ _ _ (phrase_stmt n) (any_starts_stmt n) (h sort (sym (is_well_stmt n sort) ∙ w))
+abbrev Child : Type 0
+Child = Such the_family (claims Law) member-AnyNode
 
-member_whole : (n : MemberExpr AnyNode) → Layer-Law (nodes.MemberExpr n) → Law (whole.MemberExpr n)
-unfolding Layer-Law well_node node_phrase node_starts
-member_whole n h sort w = both _ _ _ _ (phrase_member_expr n) (any_starts_member_expr n) (h sort (sym (is_well_member_expr n sort) ∙ w))
+begins : Begin phrase any_starts
+begins = ind-AnyNode Law (λ x y q. subst (λ z. Law (roll-AnyNode z)) q (λ role.
+    both _ _ _ _ (phrase_of {X = Child} (λ z. z.0) y role) (starts_of {X = Child} (λ z. z.0) y)
+    (node_begins {X = Child} (λ z. phrase z.0) (λ z. any_starts z.0) (λ z. z.1) y role)))
 
-rolled : (m : AnyNode-F AnyNode) → Layer-Law m → Law (roll-AnyNode m)
-rolled (nodes.Expr n) h = subst (λ z. Law z) (sym (whole.rolls-Expr n)) (expr_whole n h)
-rolled (nodes.Stmt n) h = subst (λ z. Law z) (sym (whole.rolls-Stmt n)) (stmt_whole n h)
-rolled (nodes.MemberExpr n) h = subst (λ z. Law z) (sym (whole.rolls-MemberExpr n)) (member_whole n h)
-
-begins : (n : AnyNode) → Law n
-begins = ind-AnyNode Law (λ x y q. subst (λ z. Law (roll-AnyNode z)) q (rolled (map-AnyNode Child AnyNode (λ y. y.0) y) (here y)))
-
--- Where an expression of a well-formed tree begins with a word, a name or a number, it is said to begin with a character
--- of a name.
-pub first_told : (n : Expr AnyNode) (x : Token) (xs : List Token) → is_well_formed_expr n ≡ true → Generates (expr_phrase n) (x ∷ xs) → joins_a_word x.kind ≡ true → expr_starts any_starts n ≡ true
-unfolding is_sort
-first_told n x xs w k j =
-    let b = begins (whole.Expr n) ExprSort (is_well_expr n ExprSort ∙ w) in
-    sym (any_starts_expr n) ∙ b.told x xs (subst (λ z. Generates z (x ∷ xs)) (sym (phrase_expr n)) k) j
+-- Where an expression begins with a word, a name or a number, it is said to begin with a character of a name.
+pub first_told : (n : Expr AnyNode) (x : Token) (xs : List Token) → Generates (expr_phrase n) (x ∷ xs) → joins_a_word x.kind ≡ true → expr_starts any_starts n ≡ true
+first_told n x xs k j = (expr_begins phrase any_starts begins n).told x xs k j

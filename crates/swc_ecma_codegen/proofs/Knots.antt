@@ -1,4 +1,4 @@
--- What is written of whole nodes, by their sorts.
+-- What is written of whole nodes.
 use Rattle.std.proofs.Common.{◌≡◌, List, [], ◌∷◌, Bool, true, false, map, refl, sym, ◌∙◌, ap}
 use Rattle.swc_ecma_codegen_tree.specs.declared.links.AnyNode.{AnyNode, AnyNode-F, map-AnyNode, roll-AnyNode}
 use Rattle.swc_ecma_codegen_tree.specs.declared.links.AnyNode.TheOpen as nodes
@@ -18,64 +18,54 @@ use Rattle.swc_ecma_codegen_base.specs.Run.{Plan, Part}
 use Rattle.swc_ecma_codegen_base.specs.Words.{trailing_comments}
 use Rattle.swc_ecma_codegen.specs.declared.nodes.Place.{Place}
 use Rattle.swc_ecma_codegen.specs.declared.nodes.Place.TheVariants.{Plain, LeftOperand}
-use Rattle.swc_ecma_codegen.specs.Answers.{any_answers}
+use Rattle.swc_ecma_codegen.specs.Answers.{Answers, any_answers}
 use Rattle.swc_ecma_codegen.specs.Lists.{comma, listed}
 use Rattle.swc_ecma_codegen.specs.Exprs.{this, unary, update, update_parts, bin, bin_trailing, member, member_prop, computed_prop_name, choice, seq, held, paren, ident, opened, expr_parts, expr_closed, is_inner, expr}
 use Rattle.swc_ecma_codegen.specs.Stmts.{empty_stmt, expr_stmt, stmt_parts, stmt}
 use Rattle.swc_ecma_codegen.specs.Tree.{node_items, any_items}
 
--- one layer of a node, with what its links hold and what is written of that
-abbrev Known : Type 0
-Known = AnyNode × (Place → Part)
+-- ---- a word sees what links hold through `asks` and `items` alone
 
-known_of : AnyNode-F AnyNode → AnyNode-F Known
-known_of = map-AnyNode AnyNode Known (λ y. (y, any_items y))
-
--- the word of a node, over what is known
-layer_items : AnyNode-F Known → Place → Part
-layer_items n = node_items (λ p. any_answers p.0) (λ p. p.1) n
-
--- Lists whose elements are written alike are written alike.
-listed_same : {A B : Type 0} (g : A → B) (e : B → Part) (d : A → Part) → ((x : A) → e (g x) ≡ d x) → (first : Bool) (xs : List A) (rest : Plan) → listed e first (map g xs) rest ≡ listed d first xs rest
+listed_mapped : {A B : Type 0} (g : A → B) (e : B → Part) (d : A → Part) → ((x : A) → e (g x) ≡ d x) → (first : Bool) (xs : List A) (rest : Plan) → listed e first (map g xs) rest ≡ listed d first xs rest
 unfolding listed
-listed_same g e d same first [] rest = refl
-listed_same g e d same first (x ∷ xs) rest = ap (λ part. comma first (part (listed e false (map g xs) rest))) (same x) ∙ ap (λ after. comma first (d x after)) (listed_same g e d same false xs rest)
+listed_mapped g e d same first [] rest = refl
+listed_mapped g e d same first (x ∷ xs) rest = ap (λ part. comma first (part (listed e false (map g xs) rest))) (same x) ∙ ap (λ after. comma first (d x after)) (listed_mapped g e d same false xs rest)
 
-prop_known : (span : Span) (obj : ExprBox AnyNode) (prop : MemberProp AnyNode) (place : Place) (rest : Plan) → layer_items (known_of (nodes.MemberExpr (record { span = span; obj = obj; prop = prop }))) place rest ≡ member any_items (record { span = span; obj = obj; prop = prop }) rest
-unfolding layer_items node_items known_of member member_prop computed_prop_name
-prop_known span obj (member_props.Ident n) place rest = refl
-prop_known span obj (member_props.Computed n) place rest = refl
+member_mapped : {X Y : Type 0} (g : X → Y) (asks : Y → Answers) (items : Y → Place → Part) (span : Span) (obj : ExprBox X) (prop : MemberProp X) (place : Place) (rest : Plan) → node_items asks items (map-AnyNode X Y g (nodes.MemberExpr (record { span = span; obj = obj; prop = prop }))) place rest ≡ member (λ x. items (g x)) (record { span = span; obj = obj; prop = prop }) rest
+unfolding node_items member member_prop computed_prop_name
+member_mapped g asks items span obj (member_props.Ident n) place rest = refl
+member_mapped g asks items span obj (member_props.Computed n) place rest = refl
 
-expr_known : (n : Expr AnyNode) (place : Place) (rest : Plan) → layer_items (known_of (nodes.Expr n)) place rest ≡ expr any_answers any_items n place rest
-unfolding layer_items node_items known_of any_answers expr expr_parts expr_closed expr_span is_inner this unary update update_parts bin bin_trailing choice seq paren ident
-expr_known (exprs.This n) place rest = refl
-expr_known (exprs.Unary n) place rest = refl
-expr_known (exprs.Update n) place rest = refl
-expr_known (exprs.Bin n) Plain rest = refl
-expr_known (exprs.Bin n) LeftOperand rest = refl
-expr_known (exprs.Member n) place rest = refl
-expr_known (exprs.Cond n) place rest = refl
-expr_known (exprs.Seq n) place rest = ap (opened n.span) (listed_same _ _ (held any_items) (λ x. refl) true n.exprs.items (trailing_comments true n.span.hi rest))
-expr_known (exprs.Ident n) place rest = refl
-expr_known (exprs.Paren n) place rest = refl
+expr_mapped : {X Y : Type 0} (g : X → Y) (asks : Y → Answers) (items : Y → Place → Part) (n : Expr X) (place : Place) (rest : Plan) → node_items asks items (map-AnyNode X Y g (nodes.Expr n)) place rest ≡ expr (λ x. asks (g x)) (λ x. items (g x)) n place rest
+unfolding node_items expr expr_parts expr_closed expr_span is_inner this unary update update_parts bin bin_trailing choice seq paren ident
+expr_mapped g asks items (exprs.Bin n) Plain rest = refl
+expr_mapped g asks items (exprs.Bin n) LeftOperand rest = refl
+expr_mapped {X} g asks items (exprs.Seq n) place rest = ap (opened n.span) (listed_mapped {A = ExprBox X} _ (held items) (held (λ x. items (g x))) (λ x. refl) true n.exprs.items (trailing_comments true n.span.hi rest))
+expr_mapped g asks items n place rest = refl
 
-stmt_known : (n : Stmt AnyNode) (place : Place) (rest : Plan) → layer_items (known_of (nodes.Stmt n)) place rest ≡ stmt any_items n rest
-unfolding layer_items node_items known_of stmt stmt_parts stmt_span empty_stmt expr_stmt
-stmt_known (stmts.Empty n) place rest = refl
-stmt_known (stmts.Expr n) place rest = refl
+stmt_mapped : {X Y : Type 0} (g : X → Y) (asks : Y → Answers) (items : Y → Place → Part) (n : Stmt X) (place : Place) (rest : Plan) → node_items asks items (map-AnyNode X Y g (nodes.Stmt n)) place rest ≡ stmt (λ x. items (g x)) n rest
+unfolding node_items stmt stmt_parts stmt_span empty_stmt expr_stmt
+stmt_mapped g asks items (stmts.Empty n) place rest = refl
+stmt_mapped g asks items n place rest = refl
 
-layer_known : (n : AnyNode-F AnyNode) (place : Place) (rest : Plan) → layer_items (known_of n) place rest ≡ node_items any_answers any_items n place rest
+node_mapped : {X Y : Type 0} (g : X → Y) (asks : Y → Answers) (items : Y → Place → Part) (n : AnyNode-F X) (place : Place) (rest : Plan) → node_items asks items (map-AnyNode X Y g n) place rest ≡ node_items (λ x. asks (g x)) (λ x. items (g x)) n place rest
 unfolding node_items
-layer_known (nodes.Expr n) = expr_known n
-layer_known (nodes.Stmt n) = stmt_known n
-layer_known (nodes.MemberExpr n) = prop_known n.span n.obj n.prop
+node_mapped g asks items (nodes.Expr n) = expr_mapped g asks items n
+node_mapped g asks items (nodes.Stmt n) = stmt_mapped g asks items n
+node_mapped g asks items (nodes.MemberExpr n) = member_mapped g asks items n.span n.obj n.prop
+
+-- ---- whole nodes
 
 at_rest : {f g : Place → Part} → f ≡ g → (place : Place) (rest : Plan) → f place rest ≡ g place rest
 at_rest e place rest = ap (λ h. h place rest) e
 
 items_of_layer : (n : AnyNode-F AnyNode) (place : Place) (rest : Plan) → any_items (roll-AnyNode n) place rest ≡ node_items any_answers any_items n place rest
-unfolding any_items known_of layer_items
-items_of_layer n place rest = at_rest (para-roll-AnyNode (Place → Part) (node_items (λ p. any_answers p.0) (λ p. p.1)) n) place rest ∙ layer_known n place rest
+unfolding any_items
+items_of_layer n place rest = at_rest (para-roll-AnyNode (Place → Part) (node_items (λ p. any_answers p.0) (λ p. p.1)) n) place rest ∙ node_mapped (λ y. (y, any_items y)) (λ p. any_answers p.0) (λ p. p.1) n place rest
+
+-- what links hold may come with more
+pub items_of : {X : Type 0} (g : X → AnyNode) (n : AnyNode-F X) (place : Place) → any_items (roll-AnyNode (map-AnyNode X AnyNode g n)) place ≡ node_items (λ x. any_answers (g x)) (λ x. any_items (g x)) n place
+items_of {X} g n place = λ i. λ rest. (items_of_layer (map-AnyNode X AnyNode g n) place rest ∙ node_mapped g any_answers any_items n place rest) i
 
 pub any_items_expr : (n : Expr AnyNode) (place : Place) → any_items (whole.Expr n) place ≡ expr any_answers any_items n place
 unfolding node_items

@@ -3,9 +3,10 @@ pub mod SpaceLaws
 pub mod Knots
 pub mod Steps
 pub mod Asked
-pub mod ExprParts
+pub mod Linked
 pub mod ListParts
+pub mod ExprParts
+pub mod StmtParts
 pub mod TreeLaw
 pub mod TreeReads
 pub mod FirstTokens
-pub mod Backslashes

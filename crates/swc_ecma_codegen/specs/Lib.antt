@@ -9,4 +9,3 @@ pub mod Tree
 pub mod Texts
 pub mod Roots
 pub mod FirstTokens
-pub mod Backslashes

@@ -2,7 +2,7 @@
 
 ghost use Rattle.std.specs.Prelude.{◌≡◌, ◌≢◌, false, true, IsTrue, is_none, IfErr, OnErr, OnOk, Err, IsOk};
 ghost use Rattle.swc_ecma_codegen_text_writer.specs.Told.{IsFront};
-ghost use Rattle.swc_ecma_codegen_base.specs.Run.{Follows, HasCause, IsUnhindered, nothing, printed, steps_in, start};
+ghost use Rattle.swc_ecma_codegen_base.specs.Run.{Follows, HasCause, IsUnhindered, nothing, printed, remakes_name, steps_in, steps_of, start};
 
 use crate::nodes::{EmitAt, Place};
 use std::alloc::Global;
@@ -35,7 +35,6 @@ impl<'a, W: WriteJs, S: SourceMapper, C: Comments> Emitter<'a, W, S, C> {
     ghost use Rattle.swc_ecma_codegen.specs.View.{state_of};
     ghost use Rattle.swc_ecma_codegen.specs.Tree.{any_items};
     ghost use Rattle.swc_ecma_codegen.specs.Programs.{program, script};
-    ghost use Rattle.swc_ecma_codegen.specs.Backslashes.{any_backslash, script_backslash, program_backslash};
     ghost use Rattle.swc_ecma_codegen.specs.declared.nodes.Place.TheVariants.{Plain};
     ghost use Rattle.swc_ecma_codegen_ast.specs.TreePhrases.{program_phrase, is_well_formed};
     ghost use Rattle.swc_ecma_codegen_base.specs.Written.{IsNew, AddsReading};
@@ -80,7 +79,7 @@ impl<'a, W: WriteJs, S: SourceMapper, C: Comments> Emitter<'a, W, S, C> {
     }
 
     /// Prints a program. swc's `emit_program`.
-    #[tactic(auto, using(crate::proofs::TreeReads::program_reads, crate::proofs::Backslashes::program_in_memory))]
+    #[tactic(auto, using(crate::proofs::TreeReads::program_reads, swc_ecma_codegen_base::proofs::Phrased::never_out_of_memory))]
     pub fn emit_program(&mut self, node: &Program) -> Result
         // The steps of the tree are made, and it comes to no node that can't be printed; or it halts.
         ensures items { Follows (program any_items node.now nothing) (state_of W.sheet self.old) (state_of W.sheet self.new) result }
@@ -90,8 +89,8 @@ impl<'a, W: WriteJs, S: SourceMapper, C: Comments> Emitter<'a, W, S, C> {
         ensures front { IsFront (W.sheet self.new.wr).text (printed (program any_items node.now) (state_of W.sheet self.old)).sheet.text }
         // It is refused only for the cause that the error names.
         ensures cause { IfErr result (λ error. HasCause (steps_in (program any_items node.now) (state_of W.sheet self.old)) error (state_of W.sheet self.old) (state_of W.sheet self.new)) }
-        // Where no name holds a backslash, and no call of the writer takes memory, none is wanting.
-        ensures no_memory { program_backslash node.now ≡ false → (W.sheet self.old.wr).takes_memory ≡ false → result ≢ Err Error.OutOfMemory }
+        // Where no name is made anew, and no call of the writer takes memory, none is wanting.
+        ensures no_memory { remakes_name (steps_of (steps_in (program any_items node.now) (state_of W.sheet self.old))) ≡ false → (W.sheet self.old.wr).takes_memory ≡ false → result ≢ Err Error.OutOfMemory }
         // Where nothing stands in its way, it is made.
         ensures succeeds { IsUnhindered (steps_in (program any_items node.now) (state_of W.sheet self.old)) (state_of W.sheet self.old) (state_of W.sheet self.new) → IsOk result }
         ensures marked { OnErr result ((state_of W.sheet self.new).failed ≡ true) }
@@ -104,7 +103,7 @@ impl<'a, W: WriteJs, S: SourceMapper, C: Comments> Emitter<'a, W, S, C> {
 
     /// Prints a script: the text of each statement, and then a semicolon that is held back, unless the settings leave
     /// it out. swc's `emit_script`.
-    #[tactic(auto, using(crate::proofs::TreeReads::script_reads, crate::proofs::Backslashes::script_in_memory))]
+    #[tactic(auto, using(crate::proofs::TreeReads::script_reads, swc_ecma_codegen_base::proofs::Phrased::never_out_of_memory))]
     pub fn emit_script(&mut self, node: &Script) -> Result
         // The steps of the tree are made, and it comes to no node that can't be printed; or it halts.
         ensures items { Follows (script any_items node.now nothing) (state_of W.sheet self.old) (state_of W.sheet self.new) result }
@@ -114,8 +113,8 @@ impl<'a, W: WriteJs, S: SourceMapper, C: Comments> Emitter<'a, W, S, C> {
         ensures front { IsFront (W.sheet self.new.wr).text (printed (script any_items node.now) (state_of W.sheet self.old)).sheet.text }
         // It is refused only for the cause that the error names.
         ensures cause { IfErr result (λ error. HasCause (steps_in (script any_items node.now) (state_of W.sheet self.old)) error (state_of W.sheet self.old) (state_of W.sheet self.new)) }
-        // Where no name holds a backslash, and no call of the writer takes memory, none is wanting.
-        ensures no_memory { script_backslash any_backslash node.now ≡ false → (W.sheet self.old.wr).takes_memory ≡ false → result ≢ Err Error.OutOfMemory }
+        // Where no name is made anew, and no call of the writer takes memory, none is wanting.
+        ensures no_memory { remakes_name (steps_of (steps_in (script any_items node.now) (state_of W.sheet self.old))) ≡ false → (W.sheet self.old.wr).takes_memory ≡ false → result ≢ Err Error.OutOfMemory }
         // Where nothing stands in its way, it is made.
         ensures succeeds { IsUnhindered (steps_in (script any_items node.now) (state_of W.sheet self.old)) (state_of W.sheet self.old) (state_of W.sheet self.new) → IsOk result }
         ensures marked { OnErr result ((state_of W.sheet self.new).failed ≡ true) }

@@ -7,8 +7,8 @@
 ghost use Rattle.std.specs.Prelude.{◌≡◌, ℕ, true, false, List, ◌∷◌, OnOk};
 ghost use Rattle.swc_ecma_codegen_util.specs.declared.config.Config.{Config};
 ghost use Rattle.swc_ecma_codegen_ast.specs.Tokens.{Token};
-ghost use Rattle.swc_ecma_codegen_ast.specs.Phrases.{Generates};
-ghost use Rattle.swc_ecma_codegen_ast.specs.TreePhrases.{expr_phrase, stmt_phrase, is_well_formed_expr, is_well_formed_stmt};
+ghost use Rattle.swc_ecma_codegen_ast.specs.Phrases.{Generates, is_possible};
+ghost use Rattle.swc_ecma_codegen_ast.specs.TreePhrases.{expr_phrase, stmt_phrase};
 ghost use Rattle.swc_ecma_codegen_text_writer.specs.View.{new_sheet};
 ghost use Rattle.swc_ecma_codegen_base.specs.Run.{Follows, State, nothing, remakes_name, start, steps_in, steps_of};
 ghost use Rattle.swc_ecma_codegen_base.specs.Written.{IsLineEnd, IsNew, AddsReading, all_indent};
@@ -18,8 +18,8 @@ ghost use Rattle.swc_ecma_codegen.specs.Answers.{any_answers};
 ghost use Rattle.swc_ecma_codegen.specs.Exprs.{expr as expr_items};
 ghost use Rattle.swc_ecma_codegen.specs.Stmts.{stmt as stmt_items};
 ghost use Rattle.swc_ecma_codegen.specs.Tree.{any_items};
-ghost use Rattle.swc_ecma_codegen.specs.Backslashes.{root_backslash};
-ghost use Rattle.swc_ecma_codegen.specs.Roots.{Root, root_items};
+ghost use Rattle.swc_ecma_codegen_base.specs.Escapes.{escapes_name};
+ghost use Rattle.swc_ecma_codegen.specs.Roots.{Root, root_items, root_phrase, is_well_formed_root};
 ghost use Rattle.swc_ecma_codegen.specs.FirstTokens.{joins_a_word};
 ghost use Rattle.swc_ecma_codegen.specs.View.{state_of};
 
@@ -41,7 +41,7 @@ pub fn emitted_expr_reads<W: WriteJs, S: SourceMapper, C: Comments>(
 ) -> Result
     // It is what `emit_with` does.
     ensures items { Follows (expr_items any_answers any_items expr.now Plain nothing) (state_of W.sheet e.old) (state_of W.sheet e.new) result }
-    ensures reads { is_well_formed_expr expr.now ≡ true → IsNew (state_of W.sheet e.old) → OnOk result (AddsReading (expr_phrase expr.now) (W.sheet e.old.wr).text (W.sheet e.new.wr).text) }
+    ensures reads { is_possible (expr_phrase expr.now) ≡ true → IsNew (state_of W.sheet e.old) → OnOk result (AddsReading (expr_phrase expr.now) (W.sheet e.old.wr).text (W.sheet e.new.wr).text) }
 {
     expr.emit_with(e)
 }
@@ -53,7 +53,7 @@ pub fn emitted_stmt_reads<W: WriteJs, S: SourceMapper, C: Comments>(
 ) -> Result
     // It is what `emit_with` does.
     ensures items { Follows (stmt_items any_items stmt.now nothing) (state_of W.sheet e.old) (state_of W.sheet e.new) result }
-    ensures reads { is_well_formed_stmt stmt.now ≡ true → IsNew (state_of W.sheet e.old) → OnOk result (AddsReading (stmt_phrase stmt.now) (W.sheet e.old.wr).text (W.sheet e.new.wr).text) }
+    ensures reads { is_possible (stmt_phrase stmt.now) ≡ true → IsNew (state_of W.sheet e.old) → OnOk result (AddsReading (stmt_phrase stmt.now) (W.sheet e.old.wr).text (W.sheet e.new.wr).text) }
 {
     stmt.emit_with(e)
 }
@@ -65,20 +65,21 @@ pub fn new_emitter_reads()
     ensures indented { (config : Config) (bytes line_end indent : List ℕ) → IsLineEnd line_end → all_indent indent ≡ true → IsNew (start config (record (new_sheet bytes line_end) { indent_text = indent })) }
 {}
 
-/// Where an expression of a well-formed tree begins with a word, a name or a number, by the first token of a list that
+/// Where an expression begins with a word, a name or a number, by the first token of a list that
 /// syntax gives it, `starts_with_alpha_num` is true: of `a + b`, `typeof a` and `this.a`, but not only of these.
 #[tactic(auto, using(crate::proofs::FirstTokens::first_told))]
 pub fn first_token_is_told(expr: &Expr) -> bool
     // It is what `starts_with_alpha_num` answers.
     ensures answer { result ≡ expr_starts any_starts expr.now }
-    ensures told { (first : Token) (rest : List Token) → is_well_formed_expr expr.now ≡ true → Generates (expr_phrase expr.now) (first ∷ rest) → joins_a_word first.kind ≡ true → result ≡ true }
+    ensures told { (first : Token) (rest : List Token) → Generates (expr_phrase expr.now) (first ∷ rest) → joins_a_word first.kind ≡ true → result ≡ true }
 {
     expr.starts_with_alpha_num()
 }
 
-/// Among the steps of an emission of a tree in which no name holds a backslash no name is made anew: what the clauses
-/// `cause` and `succeeds` of `emit_with` ask of memory is met, over a writer that takes none.
-#[tactic(auto, using(crate::proofs::Backslashes::no_name_made))]
+/// Among the steps of an emission of a well-formed tree a name is made anew exactly where a name of the tree holds a
+/// backslash, over a writer that leaves out U+0000 after one: what the clauses `cause`, `no_memory` and `succeeds` of
+/// `emit_with` ask of memory.
+#[tactic(auto, using(crate::proofs::TreeReads::root_remakes))]
 pub fn plain_names_take_no_memory()
-    ensures { (root : Root) (s : State) → root_backslash root ≡ false → remakes_name (steps_of (steps_in (root_items root) s)) ≡ false }
+    ensures { (root : Root) (s : State) → is_well_formed_root root ≡ true → s.env.keeps_invalid ≡ false → remakes_name (steps_of (steps_in (root_items root) s)) ≡ escapes_name (root_phrase root) }
 {}

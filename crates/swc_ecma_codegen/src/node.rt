@@ -2,11 +2,10 @@
 
 ghost use Rattle.std.specs.Prelude.{◌≡◌, ◌≢◌, true, false, IfErr, OnErr, OnOk, Err, IsOk};
 ghost use Rattle.swc_ecma_codegen_text_writer.specs.Told.{IsFront};
-ghost use Rattle.swc_ecma_codegen_base.specs.Run.{Part, Follows, HasCause, IsUnhindered, nothing, printed, steps_in};
+ghost use Rattle.swc_ecma_codegen_base.specs.Run.{Part, Follows, HasCause, IsUnhindered, nothing, printed, remakes_name, steps_in, steps_of};
 ghost use Rattle.swc_ecma_codegen_base.specs.Written.{IsNew, AddsReading};
 ghost use Rattle.swc_ecma_codegen.specs.View.{state_of};
 ghost use Rattle.swc_ecma_codegen.specs.Roots.{Root, root_items, root_phrase, is_well_formed_root};
-ghost use Rattle.swc_ecma_codegen.specs.Backslashes.{root_backslash};
 ghost use Rattle.swc_ecma_codegen.specs.Lists.{if_some_at};
 ghost use Rattle.swc_ecma_codegen.specs.declared.nodes.Place.TheVariants.{Plain};
 
@@ -34,8 +33,8 @@ pub trait Node: Spanned {
         ensures front { IsFront (W.sheet e.new.wr).text (printed (part self.now) (state_of W.sheet e.old)).sheet.text }
         // It is refused only for the cause that the error names.
         ensures cause { IfErr result (λ error. HasCause (steps_in (part self.now) (state_of W.sheet e.old)) error (state_of W.sheet e.old) (state_of W.sheet e.new)) }
-        // Where no name holds a backslash, and no call of the writer takes memory, none is wanting.
-        ensures no_memory { (root : Root) → part self.now ≡ root_items root → root_backslash root ≡ false → (W.sheet e.old.wr).takes_memory ≡ false → result ≢ Err Error.OutOfMemory }
+        // Where no name is made anew, and no call of the writer takes memory, none is wanting.
+        ensures no_memory { remakes_name (steps_of (steps_in (part self.now) (state_of W.sheet e.old))) ≡ false → (W.sheet e.old.wr).takes_memory ≡ false → result ≢ Err Error.OutOfMemory }
         // Where nothing stands in its way, it is made.
         ensures succeeds { IsUnhindered (steps_in (part self.now) (state_of W.sheet e.old)) (state_of W.sheet e.old) (state_of W.sheet e.new) → IsOk result }
         ensures marked { OnErr result ((state_of W.sheet e.new).failed ≡ true) }
@@ -47,7 +46,7 @@ pub trait Node: Spanned {
 impl<T: EmitAt + Spanned> Node for T {
     ghost part = { λ n. T.items n Plain };
 
-    #[tactic(auto, using(crate::proofs::TreeReads::root_reads))]
+    #[tactic(auto, using(crate::proofs::TreeReads::root_reads, swc_ecma_codegen_base::proofs::Phrased::never_out_of_memory))]
     fn emit_with<W: WriteJs, S: SourceMapper, C: Comments>(
         &self,
         e: &mut Emitter<'_, W, S, C>,

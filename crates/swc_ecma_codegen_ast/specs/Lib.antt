@@ -7,6 +7,7 @@ pub mod Hashbangs
 pub mod HeldNumbers
 pub mod Jsx
 pub mod LongestMatch
+pub mod SpelledNames
 pub mod NamePhrases
 pub mod NameTurns
 pub mod Names
@@ -30,6 +31,4 @@ pub mod TreePhrases
 pub mod Trivia
 pub mod Turns
 pub mod ValidNames
-pub mod WellFormedExprs
-pub mod WellFormedStmts
 pub mod WrittenUnits

@@ -1,14 +1,17 @@
--- Sets of token lists, as plain data.
-use Rattle.std.specs.Prelude.{◌≡◌, ◌⊎◌, ℕ, List, [], ◌∷◌, ◌++◌, Option, Some, None}
+-- Sets of token lists, as plain data: what a tree reads as, and on what condition.
+use Rattle.std.specs.Prelude.{◌≡◌, ℕ, Bool, true, false, ◌&&◌, List, [], ◌∷◌, ◌++◌, Option, Some, None}
+use Rattle.swc_ecma_codegen_ast.specs.Names.{name_value}
+use Rattle.swc_ecma_codegen_ast.specs.SpelledNames.{spelled_name, is_well_formed_name}
 use Rattle.swc_ecma_codegen_ast.specs.Tokens.{Token}
 use Rattle.swc_ecma_codegen_ast.specs.Tokens as tokens
 
--- no token, one token, one list and then another, or a list of one of two sets
+-- no list at all, no token, one token, a name by its bytes in the tree, or one list and then another
 pub data Phrase : Type 0 where
+  Never : Phrase
   Nothing : Phrase
   One : (token : Token) → Phrase
+  NameOf : (bytes : List ℕ) → Phrase
   Then : (first second : Phrase) → Phrase
-  Either : (one other : Phrase) → Phrase
 
 infixr 20 ◌>◌
 abbrev pub ◌>◌ : Phrase → Phrase → Phrase
@@ -16,36 +19,52 @@ a > b = Then a b
 
 -- a list is one of the set
 unfoldable pub Generates : Phrase → List Token → Type 0
+Generates Never ts = ⊥
 Generates Nothing ts = ts ≡ []
 Generates (One x) ts = ts ≡ x ∷ []
+Generates (NameOf bytes) ts = ts ≡ tokens.name (name_value (spelled_name bytes)) ∷ []
 Generates (Then a b) ts = (us vs : List Token) × Generates a us × Generates b vs × (ts ≡ us ++ vs)
-Generates (Either a b) ts = Generates a ts ⊎ Generates b ts
+
+-- The tree is well-formed: no part of it is refused, and its names are names.
+unfoldable pub is_possible : Phrase → Bool
+is_possible Never = false
+is_possible Nothing = true
+is_possible (One x) = true
+is_possible (NameOf bytes) = is_well_formed_name bytes
+is_possible (Then a b) = is_possible a && is_possible b
+
+-- on a condition
+unfoldable pub where_ : Bool → Phrase → Phrase
+where_ true phrase = phrase
+where_ false phrase = Never
 
 abbrev pub word : List ℕ → Phrase
 word spelling = One (tokens.word spelling)
-
-abbrev pub name : List ℕ → Phrase
-name characters = One (tokens.name characters)
 
 abbrev pub mark : List ℕ → Phrase
 mark spelling = One (tokens.punctuator spelling)
 
 -- what is there
-unfoldable pub if_some : {A : Type 0} → (A → Phrase) → Option A → Phrase
-if_some each None = Nothing
-if_some each (Some x) = each x
+unfoldable pub if_some : Option Phrase → Phrase
+if_some None = Nothing
+if_some (Some x) = x
 
 -- one after another
-unfoldable pub in_order : {A : Type 0} → (A → Phrase) → List A → Phrase
-in_order each [] = Nothing
-in_order each (x ∷ xs) = each x > in_order each xs
+unfoldable pub in_order : List Phrase → Phrase
+in_order [] = Nothing
+in_order (x ∷ xs) = x > in_order xs
 
 -- each with a mark before it
-unfoldable pub each_after : {A : Type 0} → List ℕ → (A → Phrase) → List A → Phrase
-each_after between each [] = Nothing
-each_after between each (x ∷ xs) = mark between > each x > each_after between each xs
+unfoldable pub each_after : List ℕ → List Phrase → Phrase
+each_after between [] = Nothing
+each_after between (x ∷ xs) = mark between > x > each_after between xs
 
 -- one after another, with a mark between
-unfoldable pub listed : {A : Type 0} → List ℕ → (A → Phrase) → List A → Phrase
-listed between each [] = Nothing
-listed between each (x ∷ xs) = each x > each_after between each xs
+unfoldable pub listed : List ℕ → List Phrase → Phrase
+listed between [] = Nothing
+listed between (x ∷ xs) = x > each_after between xs
+
+-- the same, of one at least
+unfoldable pub some_listed : List ℕ → List Phrase → Phrase
+some_listed between [] = Never
+some_listed between (x ∷ xs) = x > each_after between xs

@@ -1,5 +1,5 @@
--- The token lists of statements and programs: one production a node. `f` says what the lists of what a link holds are.
-use Rattle.std.specs.Prelude.{codes}
+-- Statements and programs: one production a node. `f` says what is read of what a link holds, in its role.
+use Rattle.std.specs.Prelude.{map, codes}
 use Rattle.swc_ecma_codegen_tree.specs.declared.links.StmtBox.{StmtBox}
 use Rattle.swc_ecma_codegen_tree.specs.declared.stmts.Stmt.{Stmt}
 use Rattle.swc_ecma_codegen_tree.specs.declared.stmts.Stmt.TheVariants as stmts
@@ -9,27 +9,29 @@ use Rattle.swc_ecma_codegen_tree.specs.declared.programs.Program.{Program}
 use Rattle.swc_ecma_codegen_tree.specs.declared.programs.Program.TheVariants as programs
 use Rattle.swc_ecma_codegen_tree.specs.declared.programs.Script.{Script}
 use Rattle.swc_ecma_codegen_ast.specs.Phrases.{Phrase, ◌>◌, mark, in_order}
+use Rattle.swc_ecma_codegen_ast.specs.declared.roles.Role.{Role}
+use Rattle.swc_ecma_codegen_ast.specs.declared.roles.Role.TheVariants.{Statement}
 use Rattle.swc_ecma_codegen_ast.specs.ExprPhrases.{expr_at}
 
--- what a link holds
-abbrev pub stmt_at : {X : Type 0} → (X → Phrase) → StmtBox X → Phrase
-stmt_at f n = f n.node.value
+-- a statement that a link holds
+abbrev pub stmt_at : {X : Type 0} → (X → Role → Phrase) → StmtBox X → Phrase
+stmt_at f n = f n.node.value Statement
 
 -- ECMA-262, section 14.4
 unfoldable pub empty_stmt : EmptyStmt → Phrase
 empty_stmt n = mark (codes ";")
 
 -- section 14.5
-unfoldable pub expr_stmt : {X : Type 0} → (X → Phrase) → ExprStmt X → Phrase
+unfoldable pub expr_stmt : {X : Type 0} → (X → Role → Phrase) → ExprStmt X → Phrase
 expr_stmt f n = expr_at f n.expr > mark (codes ";")
 
-unfoldable pub stmt : {X : Type 0} → (X → Phrase) → Stmt X → Phrase
+unfoldable pub stmt : {X : Type 0} → (X → Role → Phrase) → Stmt X → Phrase
 stmt f (stmts.Empty n) = empty_stmt n
 stmt f (stmts.Expr n) = expr_stmt f n
 
 -- section 16.1
-unfoldable pub script : {X : Type 0} → (X → Phrase) → Script X → Phrase
-script f n = in_order (stmt_at f) n.body.items
+unfoldable pub script : {X : Type 0} → (X → Role → Phrase) → Script X → Phrase
+script f n = in_order (map (stmt_at f) n.body.items)
 
-unfoldable pub program : {X : Type 0} → (X → Phrase) → Program X → Phrase
+unfoldable pub program : {X : Type 0} → (X → Role → Phrase) → Program X → Phrase
 program f (programs.Script n) = script f n

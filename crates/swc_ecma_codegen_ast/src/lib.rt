@@ -13,6 +13,7 @@ mod numerals;
 mod punctuation;
 pub mod reader;
 pub mod reading_laws;
+pub mod roles;
 mod shapes;
 pub mod string_values;
 pub mod template_values;

@@ -91,7 +91,7 @@ fn given(c: Option<char>) -> NameTurn
 
 /// What one character does.
 #[tactic(auto, unfolding(crate::specs::NameTurns::IsNameTurn, crate::specs::NameTurns::LeadsOn, crate::specs::Names::name_rest, crate::specs::Names::name_characters, crate::specs::Names::IsSmall))]
-fn turn(first: bool, place: Place, c: char) -> NameTurn
+pub fn turn(first: bool, place: Place, c: char) -> NameTurn
     requires { names.IsSmall place }
     ensures turn { (rest : List ℕ) → IsNameTurn first place c rest result }
     ensures small { LeadsOn result }

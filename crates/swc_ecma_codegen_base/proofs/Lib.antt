@@ -8,4 +8,3 @@ pub mod Written
 pub mod Printed
 pub mod Phrased
 pub mod SoFar
-pub mod Unmade

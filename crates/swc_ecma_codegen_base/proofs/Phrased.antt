@@ -1,8 +1,9 @@
 -- What each word writes is one of the token lists of a phrase.
-use Rattle.std.proofs.Common.{◌≡◌, ℕ, Bool, true, false, cond, List, [], ◌∷◌, ◌++◌, ◌&&◌, ◌==◌, codes, refl, sym, ap, ◌∙◌, subst, append-nil, Option, Result, Ok, Err, OnOk}
+use Rattle.std.proofs.Common.{◌≡◌, ◌≢◌, ℕ, Bool, true, false, cond, List, [], ◌∷◌, ◌++◌, ◌||◌, codes, refl, sym, ap, ◌∙◌, subst, append-nil, Option, Result, Ok, Err, OnOk, IfErr}
 use Rattle.std.specs.Str.{chars, is_utf8}
-use Rattle.std.proofs.lemmas.Bool.{and_parts}
+use Rattle.std.proofs.lemmas.Bool.{and_parts, or_from, true≢false}
 use Rattle.swc_ecma_codegen_tree.specs.declared.errors.Error.{Error}
+use Rattle.swc_ecma_codegen_tree.specs.declared.errors.Error.TheVariants.{OutOfMemory}
 use Rattle.swc_ecma_codegen_tree.specs.declared.positions.Span.{Span}
 use Rattle.swc_ecma_codegen_ast.specs.declared.kinds.Kind.TheVariants.{Word, Name, Punctuator}
 use Rattle.swc_ecma_codegen_ast.specs.Tokens as lexical
@@ -13,54 +14,74 @@ use Rattle.swc_ecma_codegen_ast.specs.Texts.{is_same, is_among}
 use Rattle.swc_ecma_codegen_ast.specs.Reads.{Reads}
 use Rattle.swc_ecma_codegen_ast.specs.GapRules.{Start, allows}
 use Rattle.swc_ecma_codegen_ast.specs.Parts.{NoneFuse, tokens_of, remarks_in}
-use Rattle.swc_ecma_codegen_ast.specs.Phrases.{Phrase, Nothing, One, Then, Generates, ◌>◌, mark}
+use Rattle.swc_ecma_codegen_ast.specs.Phrases.{Phrase, Never, Nothing, One, NameOf, Then, Generates, is_possible, ◌>◌, mark}
 use Rattle.swc_ecma_codegen_ast.specs.Phrases as phrases
-use Rattle.swc_ecma_codegen_ast.specs.NamePhrases as names
-use Rattle.swc_ecma_codegen_ast.specs.NamePhrases.{name_phrase, is_well_formed_name}
+use Rattle.swc_ecma_codegen_ast.specs.SpelledNames as names
+use Rattle.swc_ecma_codegen_ast.specs.SpelledNames.{is_well_formed_name}
 use Rattle.swc_ecma_codegen_ast.specs.ValidNames.{turned}
 use Rattle.swc_ecma_codegen_ast.proofs.Reading.{reads}
-use Rattle.swc_ecma_codegen_base.specs.Run.{Env, Plan, Part, State, Step, done, steps_of, run, nothing, spelling, Follows}
-use Rattle.swc_ecma_codegen_base.specs.Words.{keyword, operator, word_operator, punct, semi, commit_pending_semi, leading_comments, name_text, question, name}
+use Rattle.swc_ecma_codegen_base.specs.Run.{Env, Part, State, Step, done, steps_of, run, nothing, spelling, Follows, HasCause, remakes_name}
+use Rattle.swc_ecma_codegen_base.specs.Words.{keyword, operator, word_operator, punct, semi, name_text, question, name}
 use Rattle.swc_ecma_codegen_base.specs.Written.{AtRest, is_free, IsNew, AddsReading, IsWord, IsMark}
+use Rattle.swc_ecma_codegen_base.specs.Escapes.{escapes_name}
+use Rattle.swc_ecma_codegen_base.proofs.Fronts.{follows_cause}
 use Rattle.swc_ecma_codegen_base.proofs.Written.{Lays, Spelled, spelled_word, spelled_name, spelled_mark}
-use Rattle.swc_ecma_codegen_base.proofs.Printed.{chain, Writes, writes_then, writes_same, writes_nothing, writes_keyword, writes_operator, writes_word_operator, writes_punct, writes_semi, writes_commit, writes_leading, writes_name_text}
+use Rattle.swc_ecma_codegen_base.proofs.Printed.{chain, Makes, Writes, writes_then, writes_nothing, writes_keyword, writes_operator, writes_word_operator, writes_punct, writes_semi, writes_commit, writes_leading, writes_name_text}
 
--- A part writes a token list of a phrase, whatever comes after it.
-pub record Prints (env : Env) (part : Part) (phrase : Phrase) : Type 0 where
+-- A part writes a token list of a phrase, whatever comes after it, and makes no name anew but those of the phrase.
+pub record Printed (env : Env) (part : Part) (phrase : Phrase) : Type 0 where
   pub tokens : List lexical.Token
   pub generated : Generates phrase tokens
-  pub writes : Writes env part tokens
+  pub writes : Makes env part tokens (escapes_name phrase)
+
+-- It does so where the phrase is possible.
+pub record Prints (env : Env) (part : Part) (phrase : Phrase) : Type 0 where
+  pub where_possible : is_possible phrase ≡ true → Printed env part phrase
 
 -- one part after the other
-pub prints_then : (env : Env) (p q : Part) (f g : Phrase) → Prints env p f → Prints env q g → Prints env (λ rest. p (q rest)) (Then f g)
-unfolding Generates
-prints_then env p q f g h k = record {
-  tokens = h.tokens ++ k.tokens;
-  generated = (h.tokens, k.tokens, h.generated, k.generated, refl);
-  writes = writes_then env p q h.tokens k.tokens h.writes k.writes;
-}
+pub then : {env : Env} {p q : Part} {f g : Phrase} → Prints env p f → Prints env q g → Prints env (λ rest. p (q rest)) (Then f g)
+unfolding Generates is_possible escapes_name
+then {env} {p} {q} {f} {g} h k = record { where_possible = λ w.
+  let both = and_parts (is_possible f) (is_possible g) w in
+  let a = h.where_possible both.0 in
+  let b = k.where_possible both.1 in
+  record {
+    tokens = a.tokens ++ b.tokens;
+    generated = (a.tokens, b.tokens, a.generated, b.generated, refl);
+    writes = writes_then env p q a.tokens b.tokens a.writes b.writes;
+  } }
 
 -- a part before or after one that writes no token
-pub prints_before : (env : Env) (q p : Part) (f : Phrase) → Writes env q [] → Prints env p f → Prints env (λ rest. q (p rest)) f
-prints_before env q p f k h = record { tokens = h.tokens; generated = h.generated; writes = writes_then env q p [] h.tokens k h.writes }
+pub after : {env : Env} {q p : Part} {f : Phrase} → Writes env q [] → Prints env p f → Prints env (λ rest. q (p rest)) f
+after {env} {q} {p} {f} k h = record { where_possible = λ w.
+  let a = h.where_possible w in
+  record { tokens = a.tokens; generated = a.generated; writes = writes_then env q p [] a.tokens k a.writes } }
 
-pub prints_after : (env : Env) (p q : Part) (f : Phrase) → Prints env p f → Writes env q [] → Prints env (λ rest. p (q rest)) f
-prints_after env p q f h k = record {
-  tokens = h.tokens;
-  generated = h.generated;
-  writes = subst (λ z. Writes env (λ rest. p (q rest)) z) (append-nil h.tokens) (writes_then env p q h.tokens [] h.writes k);
-}
+or_false : (b : Bool) → (b || false) ≡ b
+or_false true = refl
+or_false false = refl
 
-pub prints_same : (env : Env) (p q : Part) (f : Phrase) → ((rest : Plan) → p rest env ≡ q rest env) → Prints env q f → Prints env p f
-prints_same env p q f e h = record { tokens = h.tokens; generated = h.generated; writes = writes_same env p q h.tokens e h.writes }
+pub before : {env : Env} {p q : Part} {f : Phrase} → Prints env p f → Writes env q [] → Prints env (λ rest. p (q rest)) f
+before {env} {p} {q} {f} h k = record { where_possible = λ w.
+  let a = h.where_possible w in
+  record {
+    tokens = a.tokens;
+    generated = a.generated;
+    writes = subst (λ z. Makes env (λ rest. p (q rest)) a.tokens z) (or_false (escapes_name f)) (subst (λ z. Makes env (λ rest. p (q rest)) z (escapes_name f || false)) (append-nil a.tokens) (writes_then env p q a.tokens [] a.writes k));
+  } }
 
-pub prints_nothing : (env : Env) → Prints env (λ rest. rest) Nothing
-unfolding Generates
-prints_nothing env = record { tokens = []; generated = refl; writes = writes_nothing env }
+pub prints_nothing : {env : Env} → Prints env (λ rest. rest) Nothing
+unfolding Generates escapes_name
+prints_nothing {env} = record { where_possible = λ w. record { tokens = []; generated = refl; writes = writes_nothing env } }
+
+-- what is Never has no list
+pub prints_never : {env : Env} {p : Part} → Prints env p Never
+unfolding is_possible
+prints_never = record { where_possible = λ w. absurd (true≢false (sym w)) }
 
 prints_one : (env : Env) (p : Part) (x : lexical.Token) → Writes env p (x ∷ []) → Prints env p (One x)
-unfolding Generates
-prints_one env p x h = record { tokens = x ∷ []; generated = refl; writes = h }
+unfolding Generates escapes_name
+prints_one env p x h = record { where_possible = λ w. record { tokens = x ∷ []; generated = refl; writes = h } }
 
 -- ---- words and punctuators, which are ASCII
 
@@ -107,28 +128,23 @@ name_spelled : (bytes : List ℕ) → is_well_formed_name bytes ≡ true → Spe
 unfolding is_well_formed_name names.spelled_name
 name_spelled bytes w = let p = and_parts (is_utf8 (turned bytes)) (is_name (chars (turned bytes))) w in spelled_name (turned bytes) p.0 p.1
 
-pub prints_name_text : (env : Env) (span : Span) (bytes : List ℕ) → env.keeps_invalid ≡ false → is_well_formed_name bytes ≡ true → Prints env (name_text span bytes) (name_phrase bytes)
-unfolding token_of value_of spelling lexical.name name_phrase names.spelled_name
-prints_name_text env span bytes e w = prints_one env (name_text span bytes) _ (writes_name_text env span bytes e (name_spelled bytes w))
+prints_name_text : (env : Env) (span : Span) (bytes : List ℕ) → env.keeps_invalid ≡ false → Prints env (name_text span bytes) (NameOf bytes)
+unfolding token_of value_of spelling lexical.name names.spelled_name Generates is_possible escapes_name
+prints_name_text env span bytes e = record { where_possible = λ w. record { tokens = _; generated = refl; writes = writes_name_text env span bytes e (name_spelled bytes w) } }
 
 prints_question : (env : Env) (optional : Bool) → Prints env (question optional) (cond optional (mark (codes "?")) Nothing)
 unfolding question
 prints_question env true = prints_punct env (codes "?") question_is_mark
-prints_question env false = prints_nothing env
+prints_question env false = prints_nothing
 
 -- a name, and `?` after an optional one
-pub prints_ident : (env : Env) (span : Span) (bytes : List ℕ) (optional : Bool) → env.keeps_invalid ≡ false → is_well_formed_name bytes ≡ true → Prints env (name span bytes optional) (name_phrase bytes > cond optional (mark (codes "?")) Nothing)
+pub prints_ident : (env : Env) (span : Span) (bytes : List ℕ) (optional : Bool) → env.keeps_invalid ≡ false → Prints env (name span bytes optional) (NameOf bytes > cond optional (mark (codes "?")) Nothing)
 unfolding name
-prints_ident env span bytes optional e w =
-    prints_before env (leading_comments span.lo) _ _ (writes_leading env span.lo)
-    (prints_before env commit_pending_semi _ _ (writes_commit env)
-    (prints_then env (name_text span bytes) (question optional) _ _ (prints_name_text env span bytes e w) (prints_question env optional)))
+prints_ident env span bytes optional e = after (writes_leading env span.lo) (after (writes_commit env) (then (prints_name_text env span bytes e) (prints_question env optional)))
 
-pub prints_name : (env : Env) (span : Span) (bytes : List ℕ) → env.keeps_invalid ≡ false → is_well_formed_name bytes ≡ true → Prints env (name span bytes false) (name_phrase bytes)
+pub prints_name : (env : Env) (span : Span) (bytes : List ℕ) → env.keeps_invalid ≡ false → Prints env (name span bytes false) (NameOf bytes)
 unfolding name question
-prints_name env span bytes e w =
-    prints_before env (leading_comments span.lo) _ _ (writes_leading env span.lo)
-    (prints_before env commit_pending_semi (name_text span bytes) _ (writes_commit env) (prints_name_text env span bytes e w))
+prints_name env span bytes e = after (writes_leading env span.lo) (after (writes_commit env) (prints_name_text env span bytes e))
 
 -- ---- what an emission adds reads
 
@@ -158,10 +174,26 @@ laid_reads f ts a b g s l =
       reads = subst (λ z. Reads (chars l.bytes) ts z) l.remarks (subst (λ z. Reads (chars l.bytes) z (remarks_in l.out)) l.tokens (subst (λ z. Reads z (tokens_of l.out) (remarks_in l.out)) (sym l.spells) (reads l.out apart)));
     }
 
-pub printed_reads : (p : Part) (f : Phrase) (a b : State) (r : Result (Unit {0}) Error) → IsNew a → Prints a.env p f → Follows (p nothing) a b r → OnOk r (AddsReading f a.sheet.text b.sheet.text)
+pub printed_reads : (p : Part) (f : Phrase) (a b : State) (r : Result (Unit {0}) Error) → IsNew a → Prints a.env p f → is_possible f ≡ true → Follows (p nothing) a b r → OnOk r (AddsReading f a.sheet.text b.sheet.text)
 unfolding Follows nothing
-printed_reads p f a b (Ok u) n h k =
+printed_reads p f a b (Ok u) n prints w k =
+    let h = prints.where_possible w in
     let end : b ≡ run h.writes.steps a = k.1 ∙ ap (λ z. run (steps_of z) a) (h.writes.is_steps nothing) ∙ ap (λ z. run z a) (steps_of_chain h.writes.steps) in
     let P : State → Type 0 = λ z. AddsReading f a.sheet.text z.sheet.text in
     subst P (sym end) (laid_reads f h.tokens a (run h.writes.steps a) h.generated n.nothing_written (h.writes.lays a (new_at_rest a n)))
-printed_reads p f a b (Err e) n h k = tt
+printed_reads p f a b (Err e) n prints w k = tt
+
+-- which names are made anew
+pub printed_remakes : (p : Part) (f : Phrase) (env : Env) → Prints env p f → is_possible f ≡ true → remakes_name (steps_of (p nothing env)) ≡ escapes_name f
+unfolding nothing
+printed_remakes p f env prints w =
+    let h = prints.where_possible w in
+    ap (λ z. remakes_name (steps_of z)) (h.writes.is_steps nothing) ∙ ap remakes_name (steps_of_chain h.writes.steps) ∙ h.writes.remakes
+
+-- an emission without calls that take memory, and without such a name, isn't refused for want of memory
+pub never_out_of_memory : (p : Part) (a b : State) (r : Result (Unit {0}) Error) → remakes_name (steps_of (p nothing a.env)) ≡ false → a.sheet.takes_memory ≡ false → Follows (p nothing) a b r → r ≢ Err OutOfMemory
+unfolding HasCause
+never_out_of_memory p a b r plain t h e =
+    let P : Result (Unit {0}) Error → Type 0 = λ z. IfErr z (λ x. HasCause (p nothing a.env) x a b) in
+    let k : (a.sheet.takes_memory || remakes_name (steps_of (p nothing a.env))) ≡ true = subst P e (follows_cause (p nothing) a b r h) in
+    true≢false (sym k ∙ or_from _ _ t plain)

@@ -1,5 +1,5 @@
 -- After a call the text reads as the tokens so far and those of the call, whatever follows that doesn't fuse.
-use Rattle.std.proofs.Common.{◌≡◌, ℕ, Bool, true, false, cond, List, [], ◌∷◌, ◌++◌, codes, sym, ap, ◌∙◌, subst, append_assoc, append-nil, Option, Ok}
+use Rattle.std.proofs.Common.{◌≡◌, ℕ, Bool, true, false, ◌&&◌, cond, List, [], ◌∷◌, ◌++◌, codes, refl, sym, ap, ◌∙◌, subst, append_assoc, append-nil, Option, Ok}
 use Rattle.std.specs.Str.{chars}
 use Rattle.std.proofs.lemmas.Str.{chars-nil, chars-append, IsUtf8-nil, IsUtf8-append}
 use Rattle.swc_ecma_codegen_tree.specs.declared.positions.BytePos.{BytePos}
@@ -8,15 +8,15 @@ use Rattle.swc_ecma_codegen_ast.specs.Tokens as lexical
 use Rattle.swc_ecma_codegen_ast.specs.Reads.{Reads}
 use Rattle.swc_ecma_codegen_ast.specs.Parts as parts
 use Rattle.swc_ecma_codegen_ast.specs.Parts.{NoneFuse, tokens_of, remarks_in}
-use Rattle.swc_ecma_codegen_ast.specs.Phrases.{Phrase, Nothing, One, Generates, ◌>◌, mark}
-use Rattle.swc_ecma_codegen_ast.specs.NamePhrases.{name_phrase, is_well_formed_name}
+use Rattle.swc_ecma_codegen_ast.specs.Phrases.{Phrase, Nothing, One, NameOf, Generates, is_possible, ◌>◌, mark}
+use Rattle.swc_ecma_codegen_ast.specs.SpelledNames.{is_well_formed_name}
 use Rattle.swc_ecma_codegen_ast.proofs.Reading.{reads}
 use Rattle.swc_ecma_codegen_base.specs.Run.{Part, State, steps_of, run, nothing, Follows, Emits}
 use Rattle.swc_ecma_codegen_base.specs.Words.{keyword, operator, word_operator, punct, semi, name, space, formatting_space, line_end, formatting_line, commit_pending_semi, position, position_before, leading_comments, trailing_comments}
 use Rattle.swc_ecma_codegen_base.specs.Written.{IsNew, IsWord, IsMark, ReadsSoFar, AddsReading, name_tokens}
 use Rattle.swc_ecma_codegen_base.proofs.Emitting.{emits_nothing}
 use Rattle.swc_ecma_codegen_base.proofs.Written.{Lays, text_append, tokens_append, remarks_append}
-use Rattle.swc_ecma_codegen_base.proofs.Printed.{Writes, writes_space, writes_formatting_space, writes_line, writes_formatting_line, writes_commit, writes_position, writes_position_before, writes_leading, writes_trailing}
+use Rattle.swc_ecma_codegen_base.proofs.Printed.{Makes, Writes, writes_space, writes_formatting_space, writes_line, writes_formatting_line, writes_commit, writes_position, writes_position_before, writes_leading, writes_trailing}
 use Rattle.swc_ecma_codegen_base.proofs.Phrased.{Prints, steps_of_chain, new_at_rest, prints_keyword, prints_operator, prints_word_operator, prints_punct, prints_semi, prints_ident}
 
 -- what was laid since
@@ -44,7 +44,7 @@ lays_so_far old tokens ts a b l h = record {
 }
 
 -- a part that writes tokens, and was made
-emitted_so_far : (part : Part) (old : List ℕ) (tokens ts : List lexical.Token) (a b : State) → Writes a.env part ts → Emits part a b (Ok tt) → ReadsSoFar old tokens a → ReadsSoFar old (tokens ++ ts) b
+emitted_so_far : (part : Part) (old : List ℕ) (tokens ts : List lexical.Token) (a b : State) {remade : Bool} → Makes a.env part ts remade → Emits part a b (Ok tt) → ReadsSoFar old tokens a → ReadsSoFar old (tokens ++ ts) b
 unfolding Follows nothing
 emitted_so_far part old tokens ts a b w e h =
     let k = e nothing b (Ok tt) (emits_nothing b) in
@@ -54,8 +54,10 @@ emitted_so_far part old tokens ts a b w e h =
 
 -- a part that writes one token
 one_so_far : (part : Part) (x : lexical.Token) (old : List ℕ) (tokens : List lexical.Token) (a b : State) → Prints a.env part (One x) → Emits part a b (Ok tt) → ReadsSoFar old tokens a → ReadsSoFar old (tokens ++ x ∷ []) b
-unfolding Generates
-one_so_far part x old tokens a b p e h = subst (λ z. ReadsSoFar old (tokens ++ z) b) p.generated (emitted_so_far part old tokens p.tokens a b p.writes e h)
+unfolding Generates is_possible
+one_so_far part x old tokens a b prints e h =
+    let p = prints.where_possible refl in
+    subst (λ z. ReadsSoFar old (tokens ++ z) b) p.generated (emitted_so_far part old tokens p.tokens a b p.writes e h)
 
 pub keyword_so_far : (span : Option Span) (t old : List ℕ) (tokens : List lexical.Token) (a b : State) → IsWord t → Emits (keyword span t) a b (Ok tt) → ReadsSoFar old tokens a → ReadsSoFar old (tokens ++ lexical.word t ∷ []) b
 keyword_so_far span t old tokens a b w e h = one_so_far (keyword span t) (lexical.word t) old tokens a b (prints_keyword a.env span t w) e h
@@ -73,14 +75,19 @@ pub semi_so_far : (old : List ℕ) (tokens : List lexical.Token) (a b : State) �
 semi_so_far old tokens a b e h = one_so_far semi (lexical.punctuator (codes ";")) old tokens a b (prints_semi a.env) e h
 
 -- a name, and `?` after an optional one
-name_list : (bytes : List ℕ) (optional : Bool) (ts : List lexical.Token) → Generates (name_phrase bytes > cond optional (mark (codes "?")) Nothing) ts → ts ≡ name_tokens bytes optional
-unfolding Generates name_phrase
+name_list : (bytes : List ℕ) (optional : Bool) (ts : List lexical.Token) → Generates (NameOf bytes > cond optional (mark (codes "?")) Nothing) ts → ts ≡ name_tokens bytes optional
+unfolding Generates
 name_list bytes true ts g = g.4 ∙ ap (λ z. z ++ g.1) g.2 ∙ ap (λ z. name_tokens bytes false ++ z) g.3
 name_list bytes false ts g = g.4 ∙ ap (λ z. z ++ g.1) g.2 ∙ ap (λ z. name_tokens bytes false ++ z) g.3
 
+name_possible : (bytes : List ℕ) (optional : Bool) → is_well_formed_name bytes ≡ true → is_possible (NameOf bytes > cond optional (mark (codes "?")) Nothing) ≡ true
+unfolding is_possible
+name_possible bytes true w = ap (λ z. z && true) w
+name_possible bytes false w = ap (λ z. z && true) w
+
 pub name_so_far : (span : Span) (bytes : List ℕ) (optional : Bool) (old : List ℕ) (tokens : List lexical.Token) (a b : State) → a.env.keeps_invalid ≡ false → is_well_formed_name bytes ≡ true → Emits (name span bytes optional) a b (Ok tt) → ReadsSoFar old tokens a → ReadsSoFar old (tokens ++ name_tokens bytes optional) b
 name_so_far span bytes optional old tokens a b v w e h =
-    let p = prints_ident a.env span bytes optional v w in
+    let p = (prints_ident a.env span bytes optional v).where_possible (name_possible bytes optional w) in
     subst (λ z. ReadsSoFar old (tokens ++ z) b) (name_list bytes optional p.tokens p.generated) (emitted_so_far (name span bytes optional) old tokens p.tokens a b p.writes e h)
 
 -- nothing was written yet

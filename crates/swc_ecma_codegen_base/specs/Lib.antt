@@ -3,3 +3,4 @@ pub mod Words
 pub mod Last
 pub mod View
 pub mod Written
+pub mod Escapes

@@ -3,7 +3,7 @@ use Rattle.std.specs.Prelude.{◌≡◌, ◌⊎◌, ℕ, Bool, true, false, if�
 use Rattle.std.specs.Str.{chars, is_utf8, IsUtf8}
 use Rattle.swc_ecma_codegen_ast.specs.Tokens.{Token, punctuator, name}
 use Rattle.swc_ecma_codegen_ast.specs.Names.{is_word, name_value}
-use Rattle.swc_ecma_codegen_ast.specs.NamePhrases.{spelled_name}
+use Rattle.swc_ecma_codegen_ast.specs.SpelledNames.{spelled_name}
 use Rattle.swc_ecma_codegen_ast.specs.Punctuators.{is_punctuator}
 use Rattle.swc_ecma_codegen_ast.specs.Reads.{Reads}
 use Rattle.swc_ecma_codegen_ast.specs.Phrases.{Phrase, Generates}

@@ -4,7 +4,7 @@ ghost use Rattle.std.specs.Prelude.{◌≡◌, ℕ, OnOk, IsNone, List, ◌++◌
 ghost use Rattle.swc_ecma_codegen_base.specs.Run.{Emits};
 ghost use Rattle.swc_ecma_codegen_base.specs.Words.{name, name_text, symbol, valid_symbol, question};
 ghost use Rattle.swc_ecma_codegen_ast.specs.Tokens.{Token};
-ghost use Rattle.swc_ecma_codegen_ast.specs.NamePhrases.{is_well_formed_name};
+ghost use Rattle.swc_ecma_codegen_ast.specs.SpelledNames.{is_well_formed_name};
 ghost use Rattle.swc_ecma_codegen_base.specs.Written.{ReadsSoFar, name_tokens};
 ghost use Rattle.swc_ecma_codegen_base.specs.View.{state_of};
 

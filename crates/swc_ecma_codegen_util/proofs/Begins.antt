@@ -13,41 +13,38 @@ use Rattle.swc_ecma_codegen_tree.specs.declared.stmts.Stmt.{Stmt}
 use Rattle.swc_ecma_codegen_tree.specs.declared.stmts.Stmt.TheVariants as stmts
 use Rattle.swc_ecma_codegen_util.specs.Starts.{update_starts, first_starts, expr_starts, stmt_starts, node_starts, any_starts}
 
--- one layer of a node, with what is known of what its links hold
-known_of : AnyNode-F AnyNode → AnyNode-F Bool
-known_of = map-AnyNode AnyNode Bool any_starts
+-- ---- a word sees what links hold through f alone
 
-first_same : {A B : Type 0} (g : ExprBox A → ExprBox B) (e : B → Bool) (d : A → Bool) → ((x : ExprBox A) → e (g x).node.value ≡ d x.node.value) → (xs : List (ExprBox A)) → first_starts e (map g xs) ≡ first_starts d xs
+first_mapped : {A B : Type 0} (g : ExprBox A → ExprBox B) (e : B → Bool) (d : A → Bool) → ((x : ExprBox A) → e (g x).node.value ≡ d x.node.value) → (xs : List (ExprBox A)) → first_starts e (map g xs) ≡ first_starts d xs
 unfolding first_starts
-first_same g e d same [] = refl
-first_same g e d same (x ∷ xs) = same x
+first_mapped g e d same [] = refl
+first_mapped g e d same (x ∷ xs) = same x
 
-expr_known : (n : Expr AnyNode) → node_starts (λ known. known) (known_of (nodes.Expr n)) ≡ expr_starts any_starts n
-unfolding node_starts known_of expr_starts update_starts first_starts
-expr_known (exprs.This n) = refl
-expr_known (exprs.Unary n) = refl
-expr_known (exprs.Update n) = refl
-expr_known (exprs.Bin n) = refl
-expr_known (exprs.Member n) = refl
-expr_known (exprs.Cond n) = refl
-expr_known (exprs.Seq n) = first_same _ _ any_starts (λ x. refl) n.exprs.items
-expr_known (exprs.Ident n) = refl
-expr_known (exprs.Paren n) = refl
+expr_mapped : {X Y : Type 0} (g : X → Y) (f : Y → Bool) (n : Expr X) → node_starts f (map-AnyNode X Y g (nodes.Expr n)) ≡ expr_starts (λ x. f (g x)) n
+unfolding node_starts expr_starts update_starts first_starts
+expr_mapped g f (exprs.Seq n) = first_mapped _ f (λ x. f (g x)) (λ x. refl) n.exprs.items
+expr_mapped g f n = refl
 
-stmt_known : (n : Stmt AnyNode) → node_starts (λ known. known) (known_of (nodes.Stmt n)) ≡ stmt_starts any_starts n
-unfolding node_starts known_of stmt_starts
-stmt_known (stmts.Empty n) = refl
-stmt_known (stmts.Expr n) = refl
+stmt_mapped : {X Y : Type 0} (g : X → Y) (f : Y → Bool) (n : Stmt X) → node_starts f (map-AnyNode X Y g (nodes.Stmt n)) ≡ stmt_starts (λ x. f (g x)) n
+unfolding node_starts stmt_starts
+stmt_mapped g f (stmts.Empty n) = refl
+stmt_mapped g f n = refl
 
-layer_known : (n : AnyNode-F AnyNode) → node_starts (λ known. known) (known_of n) ≡ node_starts any_starts n
-unfolding node_starts known_of
-layer_known (nodes.Expr n) = expr_known n
-layer_known (nodes.Stmt n) = stmt_known n
-layer_known (nodes.MemberExpr n) = refl
+node_mapped : {X Y : Type 0} (g : X → Y) (f : Y → Bool) (n : AnyNode-F X) → node_starts f (map-AnyNode X Y g n) ≡ node_starts (λ x. f (g x)) n
+unfolding node_starts
+node_mapped g f (nodes.Expr n) = expr_mapped g f n
+node_mapped g f (nodes.Stmt n) = stmt_mapped g f n
+node_mapped g f (nodes.MemberExpr n) = refl
+
+-- ---- whole nodes
 
 starts_of_layer : (n : AnyNode-F AnyNode) → any_starts (roll-AnyNode n) ≡ node_starts any_starts n
-unfolding any_starts known_of
-starts_of_layer n = fold-roll-AnyNode Bool (node_starts (λ known. known)) n ∙ layer_known n
+unfolding any_starts
+starts_of_layer n = fold-roll-AnyNode Bool (node_starts (λ known. known)) n ∙ node_mapped any_starts (λ known. known) n
+
+-- what links hold may come with more
+pub starts_of : {X : Type 0} (g : X → AnyNode) (n : AnyNode-F X) → any_starts (roll-AnyNode (map-AnyNode X AnyNode g n)) ≡ node_starts (λ x. any_starts (g x)) n
+starts_of {X} g n = starts_of_layer (map-AnyNode X AnyNode g n) ∙ node_mapped g any_starts n
 
 pub any_starts_expr : (n : Expr AnyNode) → any_starts (whole.Expr n) ≡ expr_starts any_starts n
 unfolding node_starts

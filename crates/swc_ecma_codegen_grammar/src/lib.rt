@@ -1,0 +1,11 @@
+//! Which trees are well-formed.
+#![tactic(auto)]
+
+pub mod exprs;
+pub mod forms;
+mod knot;
+mod names;
+mod stmts;
+
+pub use crate::forms::{Fits, WellFormed};
+pub use crate::knot::is_well_formed;
