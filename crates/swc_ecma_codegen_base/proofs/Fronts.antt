@@ -22,7 +22,7 @@ put_sheet f k (Token kind x) a = k x a.sheet
 put_sheet f k (Plain x) a = k x a.sheet
 put_sheet f k (Remake name) a = refl
 
-run_sheet : {A : Type 0} (f : Sheet → A) → ((x : Item) (s : Sheet) → f (effect x s) ≡ f s) → (xs : List Step) (a : State) → f (run xs a).sheet ≡ f a.sheet
+pub run_sheet : {A : Type 0} (f : Sheet → A) → ((x : Item) (s : Sheet) → f (effect x s) ≡ f s) → (xs : List Step) (a : State) → f (run xs a).sheet ≡ f a.sheet
 unfolding run
 run_sheet f k [] a = refl
 run_sheet f k (x ∷ xs) a = run_sheet f k xs (put x a) ∙ put_sheet f k x a

@@ -1,5 +1,5 @@
 -- Indentation: blanks and tabs.
-use Rattle.std.proofs.Common.{◌≡◌, ℕ, zero, suc, true, List, [], ◌∷◌, ◌++◌, ◌||◌, ◌&&◌, ◌==◌, ◌<◌, refl, sym, ap, ◌∙◌, subst, arith, inl, inr}
+use Rattle.std.proofs.Common.{◌≡◌, ℕ, zero, suc, true, List, [], ◌∷◌, ◌++◌, ◌||◌, ◌==◌, ◌<◌, refl, sym, ap, subst, arith, inl, inr}
 use Rattle.std.specs.List.{repeat}
 use Rattle.std.specs.Str.{chars, IsAscii, IsUtf8}
 use Rattle.std.proofs.lemmas.Bool.{and_from, and_parts, eqb-true, or_cases}

@@ -2,9 +2,11 @@ pub mod Emitting
 pub mod Calls
 pub mod Spelled
 pub mod Fronts
+pub mod Levels
 pub mod Fusing
 pub mod Indented
 pub mod Written
 pub mod Printed
 pub mod Phrased
 pub mod SoFar
+pub mod Made

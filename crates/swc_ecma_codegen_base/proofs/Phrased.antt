@@ -22,7 +22,7 @@ use Rattle.swc_ecma_codegen_ast.specs.ValidNames.{turned}
 use Rattle.swc_ecma_codegen_ast.proofs.Reading.{reads}
 use Rattle.swc_ecma_codegen_base.specs.Run.{Env, Part, State, Step, done, steps_of, run, nothing, spelling, Follows, HasCause, remakes_name}
 use Rattle.swc_ecma_codegen_base.specs.Words.{keyword, operator, word_operator, punct, semi, name_text, question, name}
-use Rattle.swc_ecma_codegen_base.specs.Written.{AtRest, is_free, IsNew, AddsReading, IsWord, IsMark}
+use Rattle.swc_ecma_codegen_base.specs.Written.{AtRest, is_free, IsNew, ReadsAs, AddsReading, IsWord, IsMark}
 use Rattle.swc_ecma_codegen_base.specs.Escapes.{escapes_name}
 use Rattle.swc_ecma_codegen_base.proofs.Fronts.{follows_cause}
 use Rattle.swc_ecma_codegen_base.proofs.Written.{Lays, Spelled, spelled_word, spelled_name, spelled_mark}
@@ -41,34 +41,40 @@ pub record Prints (env : Env) (part : Part) (phrase : Phrase) : Type 0 where
 -- one part after the other
 pub then : {env : Env} {p q : Part} {f g : Phrase} → Prints env p f → Prints env q g → Prints env (λ rest. p (q rest)) (Then f g)
 unfolding Generates is_possible escapes_name
-then {env} {p} {q} {f} {g} h k = record { where_possible = λ w.
-  let both = and_parts (is_possible f) (is_possible g) w in
-  let a = h.where_possible both.0 in
-  let b = k.where_possible both.1 in
-  record {
-    tokens = a.tokens ++ b.tokens;
-    generated = (a.tokens, b.tokens, a.generated, b.generated, refl);
-    writes = writes_then env p q a.tokens b.tokens a.writes b.writes;
-  } }
+then {env} {p} {q} {f} {g} h k = record {
+  where_possible = λ w.
+      let both = and_parts (is_possible f) (is_possible g) w in
+      let a = h.where_possible both.0 in
+      let b = k.where_possible both.1 in
+      record {
+        tokens = a.tokens ++ b.tokens;
+        generated = (a.tokens, b.tokens, a.generated, b.generated, refl);
+        writes = writes_then env p q a.tokens b.tokens a.writes b.writes;
+      };
+}
 
 -- a part before or after one that writes no token
 pub after : {env : Env} {q p : Part} {f : Phrase} → Writes env q [] → Prints env p f → Prints env (λ rest. q (p rest)) f
-after {env} {q} {p} {f} k h = record { where_possible = λ w.
-  let a = h.where_possible w in
-  record { tokens = a.tokens; generated = a.generated; writes = writes_then env q p [] a.tokens k a.writes } }
+after {env} {q} {p} {f} k h = record {
+  where_possible = λ w.
+      let a = h.where_possible w in
+      record { tokens = a.tokens; generated = a.generated; writes = writes_then env q p [] a.tokens k a.writes };
+}
 
 or_false : (b : Bool) → (b || false) ≡ b
 or_false true = refl
 or_false false = refl
 
 pub before : {env : Env} {p q : Part} {f : Phrase} → Prints env p f → Writes env q [] → Prints env (λ rest. p (q rest)) f
-before {env} {p} {q} {f} h k = record { where_possible = λ w.
-  let a = h.where_possible w in
-  record {
-    tokens = a.tokens;
-    generated = a.generated;
-    writes = subst (λ z. Makes env (λ rest. p (q rest)) a.tokens z) (or_false (escapes_name f)) (subst (λ z. Makes env (λ rest. p (q rest)) z (escapes_name f || false)) (append-nil a.tokens) (writes_then env p q a.tokens [] a.writes k));
-  } }
+before {env} {p} {q} {f} h k = record {
+  where_possible = λ w.
+      let a = h.where_possible w in
+      record {
+        tokens = a.tokens;
+        generated = a.generated;
+        writes = subst (λ z. Makes env (λ rest. p (q rest)) a.tokens z) (or_false (escapes_name f)) (subst (λ z. Makes env (λ rest. p (q rest)) z (escapes_name f || false)) (append-nil a.tokens) (writes_then env p q a.tokens [] a.writes k));
+      };
+}
 
 pub prints_nothing : {env : Env} → Prints env (λ rest. rest) Nothing
 unfolding Generates escapes_name
@@ -169,18 +175,30 @@ laid_reads f ts a b g s l =
     record {
       added = l.bytes;
       is_added = l.text;
-      tokens = ts;
-      is_list = g;
-      reads = subst (λ z. Reads (chars l.bytes) ts z) l.remarks (subst (λ z. Reads (chars l.bytes) z (remarks_in l.out)) l.tokens (subst (λ z. Reads z (tokens_of l.out) (remarks_in l.out)) (sym l.spells) (reads l.out apart)));
+      reading = record {
+        utf8 = l.utf8;
+        tokens = ts;
+        is_list = g;
+        reads = subst (λ z. Reads (chars l.bytes) ts z) l.remarks (subst (λ z. Reads (chars l.bytes) z (remarks_in l.out)) l.tokens (subst (λ z. Reads z (tokens_of l.out) (remarks_in l.out)) (sym l.spells) (reads l.out apart)));
+      };
     }
 
-pub printed_reads : (p : Part) (f : Phrase) (a b : State) (r : Result (Unit {0}) Error) → IsNew a → Prints a.env p f → is_possible f ≡ true → Follows (p nothing) a b r → OnOk r (AddsReading f a.sheet.text b.sheet.text)
-unfolding Follows nothing
-printed_reads p f a b (Ok u) n prints w k =
+-- the steps of a part, made from a state where an emission begins
+pub steps_read : (p : Part) (f : Phrase) (a : State) → IsNew a → Prints a.env p f → is_possible f ≡ true → AddsReading f a.sheet.text (run (steps_of (p nothing a.env)) a).sheet.text
+unfolding nothing
+steps_read p f a n prints w =
     let h = prints.where_possible w in
-    let end : b ≡ run h.writes.steps a = k.1 ∙ ap (λ z. run (steps_of z) a) (h.writes.is_steps nothing) ∙ ap (λ z. run z a) (steps_of_chain h.writes.steps) in
+    let end : run (steps_of (p nothing a.env)) a ≡ run h.writes.steps a = ap (λ z. run (steps_of z) a) (h.writes.is_steps nothing) ∙ ap (λ z. run z a) (steps_of_chain h.writes.steps) in
     let P : State → Type 0 = λ z. AddsReading f a.sheet.text z.sheet.text in
     subst P (sym end) (laid_reads f h.tokens a (run h.writes.steps a) h.generated n.nothing_written (h.writes.lays a (new_at_rest a n)))
+
+-- of an empty text the whole reads
+pub whole_reads : (f : Phrase) (text : List ℕ) → AddsReading f [] text → ReadsAs f text
+whole_reads f text h = subst (λ z. ReadsAs f z) (sym h.is_added) h.reading
+
+pub printed_reads : (p : Part) (f : Phrase) (a b : State) (r : Result (Unit {0}) Error) → IsNew a → Prints a.env p f → is_possible f ≡ true → Follows (p nothing) a b r → OnOk r (AddsReading f a.sheet.text b.sheet.text)
+unfolding Follows
+printed_reads p f a b (Ok u) n prints w k = let P : State → Type 0 = λ z. AddsReading f a.sheet.text z.sheet.text in subst P (sym k.1) (steps_read p f a n prints w)
 printed_reads p f a b (Err e) n prints w k = tt
 
 -- which names are made anew

@@ -1,5 +1,5 @@
 -- What each word writes, whatever comes after it.
-use Rattle.std.proofs.Common.{◌≡◌, ℕ, Bool, true, false, cond, ◌||◌, List, [], ◌∷◌, ◌++◌, ◌==◌, codes, refl, sym, ap, ◌∙◌, subst, inl, inr, Option, None}
+use Rattle.std.proofs.Common.{◌≡◌, ℕ, ◌≤◌, Bool, true, false, cond, ◌||◌, List, [], ◌∷◌, ◌++◌, length, length-append, arith, ◌==◌, codes, refl, sym, ap, ◌∙◌, subst, inl, inr, Option, None}
 use Rattle.std.proofs.lemmas.Bool.{cases_Bool}
 use Rattle.swc_ecma_codegen_tree.specs.declared.positions.BytePos.{BytePos}
 use Rattle.swc_ecma_codegen_tree.specs.declared.positions.Span.{Span}
@@ -14,6 +14,7 @@ use Rattle.swc_ecma_codegen_base.specs.Words.{keyword, operator, word_operator, 
 use Rattle.swc_ecma_codegen_base.specs.Written.{AtRest}
 use Rattle.swc_ecma_codegen_base.proofs.Emitting.{minified_same, pretty_same}
 use Rattle.swc_ecma_codegen_base.proofs.Fronts.{run_append}
+use Rattle.swc_ecma_codegen_base.proofs.Levels.{levels, rise, levels_append}
 use Rattle.swc_ecma_codegen_base.proofs.Spelled.{valid_same}
 use Rattle.swc_ecma_codegen_base.proofs.Written.{Lays, lays_then, lays_nothing, lays_blank, lays_line, lays_guard, lays_token, Spelled, own_put}
 
@@ -28,12 +29,13 @@ chain_append [] ys rest = refl
 chain_append (x ∷ xs) ys rest = ap (λ z. next x z) (chain_append xs ys rest)
 
 -- A part is these steps, whatever comes after it, and they write these tokens; `remade` says that a name is among them
--- that is made anew, in memory.
+-- that is made anew, in memory. They make no more levels than tokens.
 pub record Makes (env : Env) (part : Part) (ts : List lexical.Token) (remade : Bool) : Type 0 where
   pub steps : List Step
   pub is_steps : (rest : Plan) → part rest env ≡ chain steps (rest env)
   pub lays : (s : State) → AtRest s → Lays ts s (run steps s)
   pub remakes : remakes_name steps ≡ remade
+  pub deep : levels steps ≤ length ts
 
 abbrev pub Writes : Env → Part → List lexical.Token → Type 0
 Writes env part ts = Makes env part ts false
@@ -64,25 +66,26 @@ writes_then env p q ts us {a} {b} h k = record {
       let P : State → Type 0 = λ z. Lays (ts ++ us) s z in
       subst P (sym (run_append h.steps k.steps s)) (lays_then ts us s (run h.steps s) (run k.steps (run h.steps s)) a (k.lays (run h.steps s) a.rest));
   remakes = remakes_append h.steps k.steps ∙ ap (λ z. z || remakes_name k.steps) h.remakes ∙ ap (λ z. a || z) k.remakes;
+  deep = let x = h.deep in let y = k.deep in omega (arith, x, y, levels_append h.steps k.steps, length-append ts us);
 }
 
 -- a part that is written as another is
 pub writes_same : (env : Env) (p q : Part) (ts : List lexical.Token) {a : Bool} → ((rest : Plan) → p rest env ≡ q rest env) → Makes env q ts a → Makes env p ts a
-writes_same env p q ts e h = record { steps = h.steps; is_steps = λ rest. e rest ∙ h.is_steps rest; lays = h.lays; remakes = h.remakes }
+writes_same env p q ts e h = record { steps = h.steps; is_steps = λ rest. e rest ∙ h.is_steps rest; lays = h.lays; remakes = h.remakes; deep = h.deep }
 
 pub writes_nothing : (env : Env) → Writes env (λ rest. rest) []
-unfolding chain run remakes_name
-writes_nothing env = record { steps = []; is_steps = λ rest. refl; lays = λ s r. lays_nothing s r; remakes = refl }
+unfolding chain run remakes_name levels
+writes_nothing env = record { steps = []; is_steps = λ rest. refl; lays = λ s r. lays_nothing s r; remakes = refl; deep = omega arith }
 
 -- one step
-writes_step : (env : Env) (x : Step) (ts : List lexical.Token) → ((s : State) → AtRest s → Lays ts s (put x s)) → Makes env (step x) ts (remakes_name (x ∷ []))
+writes_step : (env : Env) (x : Step) (ts : List lexical.Token) → ((s : State) → AtRest s → Lays ts s (put x s)) → levels (x ∷ []) ≤ length ts → Makes env (step x) ts (remakes_name (x ∷ []))
 unfolding step chain run
-writes_step env x ts h = record { steps = x ∷ []; is_steps = λ rest. refl; lays = h; remakes = refl }
+writes_step env x ts h k = record { steps = x ∷ []; is_steps = λ rest. refl; lays = h; remakes = refl; deep = k }
 
 -- two steps
-writes_two : (env : Env) (x y : Step) (ts : List lexical.Token) → ((s : State) → AtRest s → Lays ts s (put y (put x s))) → Makes env (λ rest. step x (step y rest)) ts (remakes_name (x ∷ y ∷ []))
+writes_two : (env : Env) (x y : Step) (ts : List lexical.Token) → ((s : State) → AtRest s → Lays ts s (put y (put x s))) → levels (x ∷ y ∷ []) ≤ length ts → Makes env (λ rest. step x (step y rest)) ts (remakes_name (x ∷ y ∷ []))
 unfolding step chain run
-writes_two env x y ts h = record { steps = x ∷ y ∷ []; is_steps = λ rest. refl; lays = h; remakes = refl }
+writes_two env x y ts h k = record { steps = x ∷ y ∷ []; is_steps = λ rest. refl; lays = h; remakes = refl; deep = k }
 
 -- one of two parts
 pub writes_if : (env : Env) (b : Bool) (p q : Part) (ts : List lexical.Token) → Writes env p ts → Writes env q ts → Writes env (λ rest. cond b (p rest) (q rest)) ts
@@ -98,50 +101,50 @@ writes_minified env p q ts h k = elim (cases_Bool env.config.minify) [
 -- ---- tokens
 
 pub writes_keyword : (env : Env) (span : Option Span) (t : List ℕ) → Spelled Word t → Writes env (keyword span t) (token_of Word (spelling Word t) ∷ [])
-unfolding keyword put effect text_of after_token own_put remakes_name
-writes_keyword env span t p = writes_two env (Guard t) (Token Word (Keyword span t)) _ (λ s r. lays_token Word t s p r)
+unfolding keyword put effect text_of after_token own_put remakes_name levels rise
+writes_keyword env span t p = writes_two env (Guard t) (Token Word (Keyword span t)) _ (λ s r. lays_token Word t s p r) (omega arith)
 
 pub writes_operator : (env : Env) (t : List ℕ) → Spelled Punctuator t → Writes env (operator t) (token_of Punctuator (spelling Punctuator t) ∷ [])
-unfolding operator put effect text_of after_token own_put remakes_name
-writes_operator env t p = writes_two env (Guard t) (Token Punctuator (Operator None t)) _ (λ s r. lays_token Punctuator t s p r)
+unfolding operator put effect text_of after_token own_put remakes_name levels rise
+writes_operator env t p = writes_two env (Guard t) (Token Punctuator (Operator None t)) _ (λ s r. lays_token Punctuator t s p r) (omega arith)
 
 pub writes_word_operator : (env : Env) (t : List ℕ) → Spelled Word t → Writes env (word_operator t) (token_of Word (spelling Word t) ∷ [])
-unfolding word_operator put effect text_of after_token own_put remakes_name
-writes_word_operator env t p = writes_two env (Guard t) (Token Word (Operator None t)) _ (λ s r. lays_token Word t s p r)
+unfolding word_operator put effect text_of after_token own_put remakes_name levels rise
+writes_word_operator env t p = writes_two env (Guard t) (Token Word (Operator None t)) _ (λ s r. lays_token Word t s p r) (omega arith)
 
 pub writes_punct : (env : Env) (t : List ℕ) → Spelled Punctuator t → Writes env (punct t) (token_of Punctuator (spelling Punctuator t) ∷ [])
-unfolding punct put effect text_of after_token own_put remakes_name
-writes_punct env t p = writes_two env (Guard t) (Token Punctuator (Punct None t)) _ (λ s r. lays_token Punctuator t s p r)
+unfolding punct put effect text_of after_token own_put remakes_name levels rise
+writes_punct env t p = writes_two env (Guard t) (Token Punctuator (Punct None t)) _ (λ s r. lays_token Punctuator t s p r) (omega arith)
 
 pub writes_semi : (env : Env) → Spelled Punctuator (codes ";") → Writes env semi (token_of Punctuator (spelling Punctuator (codes ";")) ∷ [])
-unfolding semi put effect text_of after_token own_put remakes_name
-writes_semi env p = writes_two env (Guard (codes ";")) (Token Punctuator (Semi None)) _ (λ s r. lays_token Punctuator (codes ";") s p r)
+unfolding semi put effect text_of after_token own_put remakes_name levels rise
+writes_semi env p = writes_two env (Guard (codes ";")) (Token Punctuator (Semi None)) _ (λ s r. lays_token Punctuator (codes ";") s p r) (omega arith)
 
 -- ---- what stands between
 
 pub writes_space : (env : Env) → Writes env space []
-unfolding space put after_plain remakes_name
-writes_space env = writes_step env (Plain Space) [] (λ s r. lays_blank s r)
+unfolding space put after_plain remakes_name levels rise
+writes_space env = writes_step env (Plain Space) [] (λ s r. lays_blank s r) (omega arith)
 
 pub writes_formatting_space : (env : Env) → Writes env formatting_space []
 unfolding formatting_space no_part
 writes_formatting_space env = writes_minified env no_part space [] (writes_nothing env) (writes_space env)
 
 pub writes_line : (env : Env) → Writes env line_end []
-unfolding line_end put after_plain remakes_name
-writes_line env = writes_step env (Plain Line) [] (λ s r. lays_line s r)
+unfolding line_end put after_plain remakes_name levels rise
+writes_line env = writes_step env (Plain Line) [] (λ s r. lays_line s r) (omega arith)
 
 pub writes_formatting_line : (env : Env) → Writes env formatting_line []
 unfolding formatting_line no_part
 writes_formatting_line env = writes_minified env no_part line_end [] (writes_nothing env) (writes_line env)
 
 pub writes_commit : (env : Env) → Writes env commit_pending_semi []
-unfolding commit_pending_semi put effect after_plain remakes_name
-writes_commit env = writes_step env (Plain Commit) [] (λ s r. lays_nothing s r)
+unfolding commit_pending_semi put effect after_plain remakes_name levels rise
+writes_commit env = writes_step env (Plain Commit) [] (λ s r. lays_nothing s r) (omega arith)
 
 recorded : (env : Env) (pos : BytePos) → Writes env (step (Plain (Position pos))) []
-unfolding put effect after_plain remakes_name
-recorded env pos = writes_step env (Plain (Position pos)) [] (λ s r. lays_nothing s r)
+unfolding put effect after_plain remakes_name levels rise
+recorded env pos = writes_step env (Plain (Position pos)) [] (λ s r. lays_nothing s r) (omega arith)
 
 pub writes_position : (env : Env) (pos : BytePos) → Writes env (position pos) []
 unfolding position
@@ -162,12 +165,12 @@ writes_trailing env b pos = writes_nothing env
 -- ---- names
 
 writes_guard : (env : Env) (t : List ℕ) → Writes env (step (Guard t)) []
-unfolding remakes_name
-writes_guard env t = writes_step env (Guard t) [] (λ s r. lays_guard t s r)
+unfolding remakes_name levels
+writes_guard env t = writes_step env (Guard t) [] (λ s r. lays_guard t s r) (omega arith)
 
 name_token : (env : Env) (t : List ℕ) → Spelled Name t → Writes env (λ rest. step (Guard t) (step (Token Name (Symbol dummy_span t)) rest)) (token_of Name (spelling Name t) ∷ [])
-unfolding put effect text_of after_token own_put remakes_name
-name_token env t p = writes_two env (Guard t) (Token Name (Symbol dummy_span t)) _ (λ s r. lays_token Name t s p r)
+unfolding put effect text_of after_token own_put remakes_name levels rise
+name_token env t p = writes_two env (Guard t) (Token Name (Symbol dummy_span t)) _ (λ s r. lays_token Name t s p r) (omega arith)
 
 -- the position of a name has the blank that is due before it
 pub writes_symbol : (env : Env) (span : Span) (t : List ℕ) → Spelled Name t → Writes env (symbol span t) (token_of Name (spelling Name t) ∷ [])
@@ -177,9 +180,9 @@ writes_symbol env span t p =
     (writes_then env (position span.lo) (λ rest. step (Guard t) (step (Token Name (Symbol dummy_span t)) rest)) [] (token_of Name (spelling Name t) ∷ []) (writes_position env span.lo) (name_token env t p))
 
 pub writes_name_text : (env : Env) (span : Span) (bytes : List ℕ) → env.keeps_invalid ≡ false → Spelled Name (turned bytes) → Makes env (name_text span bytes) (token_of Name (spelling Name (turned bytes)) ∷ []) (has_backslash bytes)
-unfolding valid_symbol put remakes_name
+unfolding valid_symbol put remakes_name levels
 writes_name_text env span bytes e p =
     let P : Bool → Type 0 = λ z. Makes env (name_text span bytes) (token_of Name (spelling Name (turned bytes)) ∷ []) z in
     subst P (or_none (has_backslash bytes))
     (writes_same env (name_text span bytes) (valid_symbol span bytes) _ (λ rest. valid_same span bytes rest env e)
-    (writes_then env (step (Remake bytes)) (symbol span (turned bytes)) [] (token_of Name (spelling Name (turned bytes)) ∷ []) (writes_step env (Remake bytes) [] (λ s r. lays_nothing s r)) (writes_symbol env span (turned bytes) p)))
+    (writes_then env (step (Remake bytes)) (symbol span (turned bytes)) [] (token_of Name (spelling Name (turned bytes)) ∷ []) (writes_step env (Remake bytes) [] (λ s r. lays_nothing s r) (omega arith)) (writes_symbol env span (turned bytes) p)))

@@ -106,9 +106,12 @@ unfolding NoneFuse parts.text_of tokens_of remarks_in
 so_far_reads f old tokens s g h = record {
   added = h.added;
   is_added = h.is_added;
-  tokens = tokens;
-  is_list = g;
-  reads = subst (λ z. Reads (chars h.added) z []) (append-nil tokens) (subst (λ z. Reads z (tokens ++ []) []) (append-nil (chars h.added)) (h.reads [] (h.rest.allowed [])));
+  reading = record {
+    utf8 = h.utf8;
+    tokens = tokens;
+    is_list = g;
+    reads = subst (λ z. Reads (chars h.added) z []) (append-nil tokens) (subst (λ z. Reads z (tokens ++ []) []) (append-nil (chars h.added)) (h.reads [] (h.rest.allowed [])));
+  };
 }
 
 -- a part that writes no token

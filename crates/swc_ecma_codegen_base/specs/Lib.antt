@@ -4,3 +4,4 @@ pub mod Last
 pub mod View
 pub mod Written
 pub mod Escapes
+pub mod Ready

@@ -44,13 +44,18 @@ pub record IsNew (s : State) : Type 0 where
   pub line_end : IsLineEnd s.sheet.line_end
   pub leaves_out : s.env.keeps_invalid ≡ false
 
--- What a text is longer by reads as one of the token lists of a phrase, without comments.
+-- A text is UTF-8, and reads as one of the token lists of a phrase, without comments.
+pub record ReadsAs (phrase : Phrase) (text : List ℕ) : Type 0 where
+  pub utf8 : IsUtf8 text
+  pub tokens : List Token
+  pub is_list : Generates phrase tokens
+  pub reads : Reads (chars text) tokens []
+
+-- What a text is longer by reads so.
 pub record AddsReading (phrase : Phrase) (old new : List ℕ) : Type 0 where
   pub added : List ℕ
   pub is_added : new ≡ old ++ added
-  pub tokens : List Token
-  pub is_list : Generates phrase tokens
-  pub reads : Reads (chars added) tokens []
+  pub reading : ReadsAs phrase added
 
 -- a text is a word of the grammar, or a punctuator: in ASCII
 pub record IsWord (t : List ℕ) : Type 0 where

@@ -1,0 +1,119 @@
+-- When an emission of a tree is made, and what is left after it.
+use Rattle.std.proofs.Common.{◌≡◌, ◌+◌, ◌^◌, ◌<◌, true, false, List, [], ◌∷◌, ◌++◌, length, length-append, Result, Ok, Err, None, Option, Some, OnOk, IsOk, refl, sym, ap, ◌∙◌, subst, arith}
+use Rattle.std.proofs.lemmas.Bool.{or_from, true≢false}
+use Rattle.swc_ecma_codegen_tree.specs.declared.errors.Error.{Error}
+use Rattle.swc_ecma_codegen_base.specs.declared.refusals.Refusal.{Refusal}
+use Rattle.swc_ecma_codegen_text_writer.proofs.Sheets.{effect_refused, effect_faults, effect_takes_memory}
+use Rattle.swc_ecma_codegen_ast.specs.Tokens.{Token as LexicalToken}
+use Rattle.swc_ecma_codegen_ast.specs.Phrases.{Phrase, Never, Nothing, One, NameOf, Then, Generates, is_possible}
+use Rattle.swc_ecma_codegen_base.specs.Run.{Env, Plan, Part, Step, State, done, run, steps_of, refusal_of, nothing, Follows, PassesLimit, IsUnhindered, earlier, stopped, reached}
+use Rattle.swc_ecma_codegen_base.specs.Ready.{token_count, IsPlainTree, IsReady}
+use Rattle.swc_ecma_codegen_base.proofs.Emitting.{put_failed, put_env}
+use Rattle.swc_ecma_codegen_base.proofs.Fronts.{run_sheet, follows_succeeds}
+use Rattle.swc_ecma_codegen_base.proofs.Levels.{levels, stays_within}
+use Rattle.swc_ecma_codegen_base.proofs.Printed.{chain}
+use Rattle.swc_ecma_codegen_base.proofs.Phrased.{Prints, steps_of_chain, printed_remakes}
+
+-- each list of a phrase has as many tokens
+counted : (f : Phrase) (ts : List LexicalToken) → Generates f ts → length ts ≡ token_count f
+unfolding Generates token_count
+counted Never ts g = absurd g
+counted Nothing ts g = ap length g
+counted (One x) ts g = ap length g
+counted (NameOf bytes) ts g = ap length g
+counted (Then a b) ts g =
+    let h = counted a g.0 g.2 in
+    let k = counted b g.1 g.3 in
+    let e = ap length g.4 in
+    omega (arith, h, k, e, length-append g.0 g.1)
+
+-- these steps come to an end
+comes_to_end : (xs : List Step) → refusal_of (chain xs done) ≡ None
+unfolding chain refusal_of
+comes_to_end [] = refl
+comes_to_end (x ∷ xs) = comes_to_end xs
+
+-- each node of a well-formed tree can be printed
+pub printable : (p : Part) (f : Phrase) (env : Env) → Prints env p f → is_possible f ≡ true → refusal_of (p nothing env) ≡ None
+unfolding nothing
+printable p f env prints w = let h = prints.where_possible w in ap refusal_of (h.writes.is_steps nothing) ∙ comes_to_end h.writes.steps
+
+-- and with room for as many levels as tokens it comes to no limit
+pub within : (p : Part) (f : Phrase) (a : State) → Prints a.env p f → is_possible f ≡ true → a.sheet.indentation + token_count f < 2 ^ 32 → PassesLimit (steps_of (p nothing a.env)) a → ⊥
+unfolding nothing
+within p f a prints w room =
+    let h = prints.where_possible w in
+    let same : steps_of (p nothing a.env) ≡ h.writes.steps = ap steps_of (h.writes.is_steps nothing) ∙ steps_of_chain h.writes.steps in
+    let deep = h.writes.deep in
+    let count = counted f h.tokens h.generated in
+    let few = ap levels same in
+    stays_within (steps_of (p nothing a.env)) a (omega (arith, deep, count, few, room))
+
+-- nothing stands in the way of a plain tree
+plain_unhindered : (p : Part) (f : Phrase) (a b : State) → Prints a.env p f → IsPlainTree f a.sheet.indentation → IsReady a → b.sheet.faults ≡ a.sheet.faults → IsUnhindered (p nothing a.env) a b
+plain_unhindered p f a b prints t s e = record {
+  fresh = or_from _ _ s.none_failed s.none_refused;
+  no_fault = e;
+  can_count = s.can_count;
+  no_memory = or_from _ _ s.no_memory (printed_remakes p f a.env prints t.well_formed ∙ t.plain_names);
+  within = within p f a prints t.well_formed t.has_room;
+  printable = printable p f a.env prints t.well_formed;
+}
+
+pub plain_made : (p : Part) (f : Phrase) (a b : State) (r : Result (Unit {0}) Error) → Prints a.env p f → IsPlainTree f a.sheet.indentation → IsReady a → b.sheet.faults ≡ a.sheet.faults → Follows (p nothing) a b r → IsOk r
+plain_made p f a b r prints t s e h = follows_succeeds (p nothing) a b r h (plain_unhindered p f a b prints t s e)
+
+-- ---- what is left after it
+
+run_failed : (xs : List Step) (a : State) → (run xs a).failed ≡ a.failed
+unfolding run
+run_failed [] a = refl
+run_failed (x ∷ xs) a = run_failed xs _ ∙ put_failed x a
+
+run_env : (xs : List Step) (a : State) → (run xs a).env ≡ a.env
+unfolding run
+run_env [] a = refl
+run_env (x ∷ xs) a = run_env xs _ ∙ put_env x a
+
+run_ready : (xs : List Step) (a : State) → IsReady a → IsReady (run xs a)
+run_ready xs a s =
+    let faults = run_sheet (λ z. z.faults) effect_faults xs a in
+    let can_count = s.can_count in
+    record {
+      none_failed = run_failed xs a ∙ s.none_failed;
+      none_refused = run_sheet (λ z. z.refused) effect_refused xs a ∙ s.none_refused;
+      no_memory = run_sheet (λ z. z.takes_memory) effect_takes_memory xs a ∙ s.no_memory;
+      leaves_out = ap (λ (z : Env). z.keeps_invalid) (run_env xs a) ∙ s.leaves_out;
+      can_count = omega (arith, faults, can_count);
+    }
+
+-- an emission that was made leaves it ready for the next
+pub ready_after : (p : Plan) (a b : State) (r : Result (Unit {0}) Error) → Follows p a b r → OnOk r (IsReady a → IsReady b)
+unfolding Follows
+ready_after p a b (Ok u) h = λ s. subst IsReady (sym h.1) (run_ready (steps_of (p a.env)) a s)
+ready_after p a b (Err e) h = tt
+
+-- ---- nothing
+
+no_split : (front : List Step) (x : Step) (rest : List Step) → ◌≡◌ {A = List Step} [] (front ++ (x ∷ rest)) → ⊥
+no_split [] x rest h = absurd (cc)
+no_split (y ∷ front) x rest h = absurd (cc)
+
+no_refusal : (r : Refusal) → ◌≡◌ {A = Option Refusal} None (Some r) → ⊥
+no_refusal r h = absurd (cc)
+
+-- where nothing is to be done, nothing changes
+pub nothing_changes : (a b : State) (r : Result (Unit {0}) Error) → Follows nothing a b r → b ≡ a
+unfolding Follows nothing run steps_of refusal_of
+nothing_changes a b (Ok u) h = h.1
+nothing_changes a b (Err e) (earlier h k m) = m
+nothing_changes a b (Err e) (stopped h) = absurd (no_split h.front h.step h.rest h.split)
+nothing_changes a b (Err e) (reached r h k q m) = absurd (no_refusal r k)
+
+-- and it is refused only for an earlier refusal
+pub nothing_made : (a b : State) (r : Result (Unit {0}) Error) → Follows nothing a b r → a.failed ≡ false → IsOk r
+unfolding Follows nothing steps_of refusal_of
+nothing_made a b (Ok u) h f = refl
+nothing_made a b (Err e) (earlier h k m) f = absurd (true≢false (sym h ∙ f))
+nothing_made a b (Err e) (stopped h) f = absurd (no_split h.front h.step h.rest h.split)
+nothing_made a b (Err e) (reached r h k q m) f = absurd (no_refusal r k)
