@@ -9,4 +9,6 @@ pub mod ExprParts
 pub mod StmtParts
 pub mod TreeLaw
 pub mod TreeReads
+pub mod LinkLaws
+pub mod TreeMade
 pub mod FirstTokens

@@ -21,7 +21,7 @@ use Rattle.swc_ecma_codegen.proofs.ExprParts.{expr_prints}
 use Rattle.swc_ecma_codegen.proofs.StmtParts.{stmt_prints, script_prints, program_prints}
 use Rattle.swc_ecma_codegen.proofs.TreeLaw.{prints, known}
 
-root_prints : (env : Env) → env.keeps_invalid ≡ false → (n : Root) → Prints env (root_items n) (root_phrase n)
+pub root_prints : (env : Env) → env.keeps_invalid ≡ false → (n : Root) → Prints env (root_items n) (root_phrase n)
 unfolding stmt_lists.program
 root_prints env e (OfExpr n) = expr_prints (known env e) n Plain
 root_prints env e (OfStmt n) = stmt_prints (known env e) n

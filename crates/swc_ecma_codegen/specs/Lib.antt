@@ -9,3 +9,4 @@ pub mod Tree
 pub mod Texts
 pub mod Roots
 pub mod FirstTokens
+pub mod HeldRoots

@@ -1,9 +1,12 @@
 //! A text in memory.
 
-ghost use Rattle.std.specs.Prelude.{◌≡◌, ◌⊎◌, IfOk, IfErr, string_bytes};
+ghost use Rattle.std.specs.Prelude.{◌≡◌, ◌⊎◌, ◌<◌, ◌^◌, true, IfOk, IfErr, string_bytes};
 ghost use Rattle.swc_ecma_codegen_tree.specs.declared.errors.Error.TheVariants.{OutOfMemory};
 ghost use Rattle.swc_ecma_codegen_base.specs.Run.{printed, start};
+ghost use Rattle.swc_ecma_codegen_base.specs.Written.{ReadsAs};
+ghost use Rattle.swc_ecma_codegen_base.specs.Ready.{token_count};
 ghost use Rattle.swc_ecma_codegen_util.specs.Defaults.{default_config};
+ghost use Rattle.swc_ecma_codegen.specs.Roots.{Root, root_items, root_phrase, is_well_formed_root};
 ghost use Rattle.swc_ecma_codegen.specs.Texts.{blank_sheet, text_of, GivesCause, IsOfWriter};
 
 use crate::emitter::Emitter;
@@ -33,6 +36,10 @@ fn print_to<N: Node, W: WriteJs + Drop>(
 /// `OutOfMemory` is want of memory for the text too. swc's `to_code`.
 pub fn to_code<N: Node>(alloc: Global, node: &N) -> std::result::Result<String, Error>
     ensures text { IfOk result (λ text. string_bytes text ≡ text_of (N.part node.now)) }
+    // The text of a well-formed tree is UTF-8, and reads as one of the tree's token lists.
+    ensures reads { (root : Root) → N.part node.now ≡ root_items root → is_well_formed_root root ≡ true → IfOk result (λ text. ReadsAs (root_phrase root) (string_bytes text)) }
+    // A well-formed tree is refused for want of memory alone.
+    ensures made { (root : Root) → N.part node.now ≡ root_items root → is_well_formed_root root ≡ true → token_count (root_phrase root) < 2 ^ 32 → IfErr result (λ error. error ≡ OutOfMemory) }
     // It is refused for want of memory, or for the cause that the error names.
     ensures cause { IfErr result (λ error. (error ≡ OutOfMemory) ⊎ GivesCause (N.part node.now) (start default_config blank_sheet) error) }
     ensures not_writer { IfErr result (λ error. IsOfWriter error → ⊥) }

@@ -38,6 +38,7 @@ impl<'a, W: WriteJs, S: SourceMapper, C: Comments> Emitter<'a, W, S, C> {
     ghost use Rattle.swc_ecma_codegen.specs.declared.nodes.Place.TheVariants.{Plain};
     ghost use Rattle.swc_ecma_codegen_ast.specs.TreePhrases.{program_phrase, is_well_formed};
     ghost use Rattle.swc_ecma_codegen_base.specs.Written.{IsNew, AddsReading};
+    ghost use Rattle.swc_ecma_codegen_base.specs.Ready.{IsPlainTree, IsReady};
 
     /// An emitter that has written nothing. Takes no memory.
     pub fn new(alloc: Global, cfg: Config, cm: &'a S, comments: Option<C>, wr: W) -> Self
@@ -79,7 +80,7 @@ impl<'a, W: WriteJs, S: SourceMapper, C: Comments> Emitter<'a, W, S, C> {
     }
 
     /// Prints a program. swc's `emit_program`.
-    #[tactic(auto, using(crate::proofs::TreeReads::program_reads, swc_ecma_codegen_base::proofs::Phrased::never_out_of_memory))]
+    #[tactic(auto, using(crate::proofs::TreeReads::program_reads, crate::proofs::TreeMade::program_made, swc_ecma_codegen_base::proofs::Made::ready_after, swc_ecma_codegen_base::proofs::Phrased::never_out_of_memory))]
     pub fn emit_program(&mut self, node: &Program) -> Result
         // The steps of the tree are made, and it comes to no node that can't be printed; or it halts.
         ensures items { Follows (program any_items node.now nothing) (state_of W.sheet self.old) (state_of W.sheet self.new) result }
@@ -93,6 +94,9 @@ impl<'a, W: WriteJs, S: SourceMapper, C: Comments> Emitter<'a, W, S, C> {
         ensures no_memory { remakes_name (steps_of (steps_in (program any_items node.now) (state_of W.sheet self.old))) ≡ false → (W.sheet self.old.wr).takes_memory ≡ false → result ≢ Err Error.OutOfMemory }
         // Where nothing stands in its way, it is made.
         ensures succeeds { IsUnhindered (steps_in (program any_items node.now) (state_of W.sheet self.old)) (state_of W.sheet self.old) (state_of W.sheet self.new) → IsOk result }
+        // A well-formed tree without such names, and with room for its levels, is printed, where the writer counts no fault.
+        ensures made { IsPlainTree (program_phrase node.now) (W.sheet self.old.wr).indentation → IsReady (state_of W.sheet self.old) → (W.sheet self.new.wr).faults ≡ (W.sheet self.old.wr).faults → IsOk result }
+        ensures ready { OnOk result (IsReady (state_of W.sheet self.old) → IsReady (state_of W.sheet self.new)) }
         ensures marked { OnErr result ((state_of W.sheet self.new).failed ≡ true) }
         ensures failed { (state_of W.sheet self.old).failed ≡ true → result ≡ Err Error.Failed }
         // The indentation is what it was.
@@ -103,7 +107,7 @@ impl<'a, W: WriteJs, S: SourceMapper, C: Comments> Emitter<'a, W, S, C> {
 
     /// Prints a script: the text of each statement, and then a semicolon that is held back, unless the settings leave
     /// it out. swc's `emit_script`.
-    #[tactic(auto, using(crate::proofs::TreeReads::script_reads, swc_ecma_codegen_base::proofs::Phrased::never_out_of_memory))]
+    #[tactic(auto, using(crate::proofs::TreeReads::script_reads, crate::proofs::TreeMade::script_made, swc_ecma_codegen_base::proofs::Made::ready_after, swc_ecma_codegen_base::proofs::Phrased::never_out_of_memory))]
     pub fn emit_script(&mut self, node: &Script) -> Result
         // The steps of the tree are made, and it comes to no node that can't be printed; or it halts.
         ensures items { Follows (script any_items node.now nothing) (state_of W.sheet self.old) (state_of W.sheet self.new) result }
@@ -117,6 +121,9 @@ impl<'a, W: WriteJs, S: SourceMapper, C: Comments> Emitter<'a, W, S, C> {
         ensures no_memory { remakes_name (steps_of (steps_in (script any_items node.now) (state_of W.sheet self.old))) ≡ false → (W.sheet self.old.wr).takes_memory ≡ false → result ≢ Err Error.OutOfMemory }
         // Where nothing stands in its way, it is made.
         ensures succeeds { IsUnhindered (steps_in (script any_items node.now) (state_of W.sheet self.old)) (state_of W.sheet self.old) (state_of W.sheet self.new) → IsOk result }
+        // A well-formed tree without such names, and with room for its levels, is printed, where the writer counts no fault.
+        ensures made { IsPlainTree (program_phrase (Program.Script node.now)) (W.sheet self.old.wr).indentation → IsReady (state_of W.sheet self.old) → (W.sheet self.new.wr).faults ≡ (W.sheet self.old.wr).faults → IsOk result }
+        ensures ready { OnOk result (IsReady (state_of W.sheet self.old) → IsReady (state_of W.sheet self.new)) }
         ensures marked { OnErr result ((state_of W.sheet self.new).failed ≡ true) }
         ensures failed { (state_of W.sheet self.old).failed ≡ true → result ≡ Err Error.Failed }
         // The indentation is what it was.

@@ -12,6 +12,7 @@ ghost use Rattle.swc_ecma_codegen_ast.specs.TreePhrases.{expr_phrase, stmt_phras
 ghost use Rattle.swc_ecma_codegen_text_writer.specs.View.{new_sheet};
 ghost use Rattle.swc_ecma_codegen_base.specs.Run.{Follows, State, nothing, remakes_name, start, steps_in, steps_of};
 ghost use Rattle.swc_ecma_codegen_base.specs.Written.{IsLineEnd, IsNew, AddsReading, all_indent};
+ghost use Rattle.swc_ecma_codegen_base.specs.Ready.{IsReady};
 ghost use Rattle.swc_ecma_codegen_util.specs.Starts.{expr_starts, any_starts};
 ghost use Rattle.swc_ecma_codegen.specs.declared.nodes.Place.TheVariants.{Plain};
 ghost use Rattle.swc_ecma_codegen.specs.Answers.{any_answers};
@@ -24,6 +25,11 @@ ghost use Rattle.swc_ecma_codegen.specs.FirstTokens.{joins_a_word};
 ghost use Rattle.swc_ecma_codegen.specs.View.{state_of};
 
 use crate::emitter::Emitter;
+pub use crate::link_laws::{
+    emitted_boxed_stmt_reads, emitted_expr_box_reads, emitted_member_expr_box_reads,
+    emitted_optional_stmt_reads, emitted_program_reads, emitted_script_reads,
+    emitted_stmt_box_reads, emitted_stmt_ref_reads,
+};
 use crate::node::Node;
 use swc_ecma_codegen_ast::comments::Comments;
 use swc_ecma_codegen_ast::mapper::SourceMapper;
@@ -59,9 +65,10 @@ pub fn emitted_stmt_reads<W: WriteJs, S: SourceMapper, C: Comments>(
 }
 
 /// A new emitter over a new `JsWriter`, whose lines end with LF or with CR and LF, is one that these laws speak of; and
-/// after `set_indent_str` of blanks and tabs.
+/// after `set_indent_str` of blanks and tabs. It is ready, whatever its lines end with.
 pub fn new_emitter_reads()
     ensures new { (config : Config) (bytes line_end : List ℕ) → IsLineEnd line_end → IsNew (start config (new_sheet bytes line_end)) }
+    ensures ready { (config : Config) (bytes line_end : List ℕ) → IsReady (start config (new_sheet bytes line_end)) }
     ensures indented { (config : Config) (bytes line_end indent : List ℕ) → IsLineEnd line_end → all_indent indent ≡ true → IsNew (start config (record (new_sheet bytes line_end) { indent_text = indent })) }
 {}
 

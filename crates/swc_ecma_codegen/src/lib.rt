@@ -6,6 +6,7 @@ mod emitter;
 mod expr;
 mod knot;
 pub mod laws;
+mod link_laws;
 mod lists;
 mod node;
 pub mod nodes;

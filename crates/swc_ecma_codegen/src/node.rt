@@ -4,6 +4,7 @@ ghost use Rattle.std.specs.Prelude.{◌≡◌, ◌≢◌, true, false, IfErr, On
 ghost use Rattle.swc_ecma_codegen_text_writer.specs.Told.{IsFront};
 ghost use Rattle.swc_ecma_codegen_base.specs.Run.{Part, Follows, HasCause, IsUnhindered, nothing, printed, remakes_name, steps_in, steps_of};
 ghost use Rattle.swc_ecma_codegen_base.specs.Written.{IsNew, AddsReading};
+ghost use Rattle.swc_ecma_codegen_base.specs.Ready.{IsPlainTree, IsReady};
 ghost use Rattle.swc_ecma_codegen.specs.View.{state_of};
 ghost use Rattle.swc_ecma_codegen.specs.Roots.{Root, root_items, root_phrase, is_well_formed_root};
 ghost use Rattle.swc_ecma_codegen.specs.Lists.{if_some_at};
@@ -37,6 +38,9 @@ pub trait Node: Spanned {
         ensures no_memory { remakes_name (steps_of (steps_in (part self.now) (state_of W.sheet e.old))) ≡ false → (W.sheet e.old.wr).takes_memory ≡ false → result ≢ Err Error.OutOfMemory }
         // Where nothing stands in its way, it is made.
         ensures succeeds { IsUnhindered (steps_in (part self.now) (state_of W.sheet e.old)) (state_of W.sheet e.old) (state_of W.sheet e.new) → IsOk result }
+        // A well-formed tree without such names, and with room for its levels, is printed, where the writer counts no fault.
+        ensures made { (root : Root) → part self.now ≡ root_items root → IsPlainTree (root_phrase root) (W.sheet e.old.wr).indentation → IsReady (state_of W.sheet e.old) → (W.sheet e.new.wr).faults ≡ (W.sheet e.old.wr).faults → IsOk result }
+        ensures ready { OnOk result (IsReady (state_of W.sheet e.old) → IsReady (state_of W.sheet e.new)) }
         ensures marked { OnErr result ((state_of W.sheet e.new).failed ≡ true) }
         ensures failed { (state_of W.sheet e.old).failed ≡ true → result ≡ Err Error.Failed }
         // The indentation is what it was.
@@ -46,7 +50,7 @@ pub trait Node: Spanned {
 impl<T: EmitAt + Spanned> Node for T {
     ghost part = { λ n. T.items n Plain };
 
-    #[tactic(auto, using(crate::proofs::TreeReads::root_reads, swc_ecma_codegen_base::proofs::Phrased::never_out_of_memory))]
+    #[tactic(auto, using(crate::proofs::TreeReads::root_reads, swc_ecma_codegen_base::proofs::Made::ready_after, swc_ecma_codegen_base::proofs::Phrased::never_out_of_memory))]
     fn emit_with<W: WriteJs, S: SourceMapper, C: Comments>(
         &self,
         e: &mut Emitter<'_, W, S, C>,

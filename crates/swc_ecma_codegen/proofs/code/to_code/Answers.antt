@@ -1,4 +1,4 @@
-use Rattle.std.proofs.Common.{refl, ◌≡◌, [], ◌∷◌, ◌∙◌, ap, rules, string_bytes, sym}
+use Rattle.std.proofs.Common.{refl, ◌≡◌, [], ◌∷◌, ◌∙◌, ap, rules, string_bytes, subst, sym}
 use Rattle.std.proofs.lemmas.Str.{IsUtf8-from_is_utf8, is_utf8-from_IsUtf8, IsUtf8-nil}
 use Rattle.std.specs.Str.{is_utf8}
 use Rattle.swc_ecma_codegen_util.specs.Defaults.{default_config}
@@ -7,7 +7,10 @@ use Rattle.swc_ecma_codegen_text_writer.specs.Sheet.{Sheet}
 use Rattle.swc_ecma_codegen_text_writer.specs.View.{sheet_of, new_sheet}
 use Rattle.swc_ecma_codegen_base.specs.Run.{steps_of, steps_in, printed, start}
 use Rattle.swc_ecma_codegen_base.proofs.Fronts.{run_whole}
-use Rattle.swc_ecma_codegen.specs.Texts.{blank_sheet}
+use Rattle.swc_ecma_codegen.specs.Texts.{blank_sheet, GivesCause, IsOfWriter}
+use Rattle.swc_ecma_codegen_base.specs.Written.{ReadsAs}
+use Rattle.swc_ecma_codegen.specs.Roots.{root_phrase}
+use Rattle.swc_ecma_codegen.proofs.TreeMade.{code_reads, code_cause}
 use Rattle.swc_ecma_codegen.proofs.code.to_code.Goals as goal
 
 -- The sheet at the end is what the steps make of a blank one, so its bytes are UTF-8, as no bytes are.
@@ -32,3 +35,15 @@ returns-in-Ok-clause-text g c =
     let all : c.into_inner.result.items ≡ (sheet_of c.in-Ok.writer).text = ap told (c.into_inner.ensures.text refl) in
     let same : string_bytes c.unwrap.result ≡ c.into_inner.result.items = search rules in
     same ∙ all ∙ ap (λ (s : Sheet). s.text) end
+
+pub returns-in-Ok-clause-reads : goal.returns-in-Ok-clause-reads
+returns-in-Ok-clause-reads g c = λ root same well. subst (λ z. ReadsAs (root_phrase root) z) (sym (returns-in-Ok-clause-text g c)) (code_reads root (g.N.Node.part c.args.node.now) same well)
+
+-- the writer began with a blank sheet, and its own errors were answered before
+pub returns-in-Err-clause-made : goal.returns-in-Err-clause-made
+returns-in-Err-clause-made g c = λ root same well room.
+    let part = g.N.Node.part c.args.node.now in
+    let blank = ap (λ t. new_sheet t (10 ∷ [])) c.new.ensures.items in
+    let given : GivesCause part (start default_config blank_sheet) c.in-Err.error = subst (λ s. GivesCause part (start default_config s) c.in-Err.error) (c.new-writer.ensures.sheet ∙ blank) c.in-Err.ensures.cause in
+    let other : IsOfWriter c.in-Err.error → ⊥ = search rules in
+    code_cause root part c.in-Err.error same well room given other

@@ -1,4 +1,5 @@
 use Rattle.swc_ecma_codegen.proofs.TreeReads.{new_is_new, indented_is_new}
+use Rattle.swc_ecma_codegen.proofs.TreeMade.{new_is_ready}
 use Rattle.swc_ecma_codegen.proofs.laws.new_emitter_reads.Goals as goal
 
 pub returns-clause-new : goal.returns-clause-new
@@ -6,3 +7,6 @@ returns-clause-new c config bytes line_end h = new_is_new config bytes line_end 
 
 pub returns-clause-indented : goal.returns-clause-indented
 returns-clause-indented c config bytes line_end indent h k = indented_is_new config bytes line_end indent h k
+
+pub returns-clause-ready : goal.returns-clause-ready
+returns-clause-ready c config bytes line_end = new_is_ready config bytes line_end

@@ -1,5 +1,9 @@
 use Rattle.swc_ecma_codegen.proofs.TreeReads.{root_reads}
+use Rattle.swc_ecma_codegen.proofs.TreeMade.{root_made}
 use Rattle.swc_ecma_codegen.proofs.node.AnyNode.emit_with.Goals as goal
 
 pub returns-clause-reads : goal.returns-clause-reads
 returns-clause-reads g c = λ root same well fresh. root_reads root _ _ _ _ same well fresh c.emit.ensures.items
+
+pub returns-clause-made : goal.returns-clause-made
+returns-clause-made g c = λ root same plain ready no_fault. root_made root _ _ _ _ same plain ready no_fault c.emit.ensures.items

@@ -1,0 +1,65 @@
+-- When the emission of a tree is made.
+use Rattle.std.proofs.Common.{◌≡◌, inl, ℕ, ◌^◌, ◌<◌, true, false, [], refl, sym, ◌∙◌, subst, List, ◌∷◌, Option, Some, Result, None, IsOk, arith}
+use Rattle.std.proofs.lemmas.Bool.{true≢false}
+use Rattle.swc_ecma_codegen_tree.specs.declared.errors.Error.{Error}
+use Rattle.swc_ecma_codegen_tree.specs.declared.errors.Error.TheVariants.{Writer, OutOfMemory, UnsupportedNode, BadShape, NameOutOfTarget, PositionTooLarge, Failed}
+use Rattle.swc_ecma_codegen_tree.specs.declared.links.AnyNode.{AnyNode}
+use Rattle.swc_ecma_codegen_tree.specs.declared.programs.Program.{Program}
+use Rattle.swc_ecma_codegen_tree.specs.declared.programs.Program.TheVariants.{Script as a_script}
+use Rattle.swc_ecma_codegen_tree.specs.declared.programs.Script.{Script}
+use Rattle.swc_ecma_codegen_ast.specs.TreePhrases.{program_phrase}
+use Rattle.swc_ecma_codegen_util.specs.declared.config.Config.{Config}
+use Rattle.swc_ecma_codegen_util.specs.Defaults.{default_config}
+use Rattle.swc_ecma_codegen_text_writer.specs.View.{new_sheet}
+use Rattle.swc_ecma_codegen_base.specs.Run.{Env, Part, State, nothing, refusal_of, Follows, HasCause, start, steps_in}
+use Rattle.swc_ecma_codegen_base.specs.declared.refusals.Refusal.{Refusal}
+use Rattle.swc_ecma_codegen_base.specs.Ready.{token_count, IsPlainTree, IsReady}
+use Rattle.swc_ecma_codegen_base.specs.Written.{ReadsAs}
+use Rattle.swc_ecma_codegen_base.proofs.Phrased.{Prints, steps_read, whole_reads}
+use Rattle.swc_ecma_codegen_base.proofs.Made.{plain_made, printable, within}
+use Rattle.swc_ecma_codegen.specs.Programs as programs
+use Rattle.swc_ecma_codegen.specs.Tree.{any_items}
+use Rattle.swc_ecma_codegen.specs.Texts.{blank_sheet, text_of, IsOfWriter, GivesCause}
+use Rattle.swc_ecma_codegen.specs.Roots.{Root, OfScript, OfProgram, root_items, root_phrase, is_well_formed_root}
+use Rattle.swc_ecma_codegen.proofs.TreeReads.{root_prints, new_is_new}
+
+part_prints : (n : Root) (p : Part) (env : Env) → env.keeps_invalid ≡ false → p ≡ root_items n → Prints env p (root_phrase n)
+part_prints n p env e same = subst (λ z. Prints env z (root_phrase n)) (sym same) (root_prints env e n)
+
+-- whatever the root is, and whatever refers to it
+pub root_made : (n : Root) (p : Part) (a b : State) (r : Result (Unit {0}) Error) → p ≡ root_items n → IsPlainTree (root_phrase n) a.sheet.indentation → IsReady a → b.sheet.faults ≡ a.sheet.faults → Follows (p nothing) a b r → IsOk r
+root_made n p a b r same t s e h = plain_made p (root_phrase n) a b r (part_prints n p a.env s.leaves_out same) t s e h
+
+pub script_made : (n : Script AnyNode) (a b : State) (r : Result (Unit {0}) Error) → IsPlainTree (program_phrase (a_script n)) a.sheet.indentation → IsReady a → b.sheet.faults ≡ a.sheet.faults → Follows (programs.script any_items n nothing) a b r → IsOk r
+script_made n a b r t s e h = root_made (OfScript n) _ a b r refl t s e h
+
+pub program_made : (n : Program AnyNode) (a b : State) (r : Result (Unit {0}) Error) → IsPlainTree (program_phrase n) a.sheet.indentation → IsReady a → b.sheet.faults ≡ a.sheet.faults → Follows (programs.program any_items n nothing) a b r → IsOk r
+program_made n a b r t s e h = root_made (OfProgram n) _ a b r refl t s e h
+
+-- a new emitter over a new writer
+pub new_is_ready : (config : Config) (bytes line_end : List ℕ) → IsReady (start config (new_sheet bytes line_end))
+new_is_ready config bytes line_end = record { none_failed = refl; none_refused = refl; no_memory = refl; leaves_out = refl; can_count = omega arith }
+
+-- ---- a text in memory
+
+pub code_reads : (n : Root) (p : Part) → p ≡ root_items n → is_well_formed_root n ≡ true → ReadsAs (root_phrase n) (text_of p)
+code_reads n p same w =
+    let a : State = start default_config blank_sheet in
+    whole_reads (root_phrase n) (text_of p) (steps_read p (root_phrase n) a (new_is_new default_config [] (10 ∷ []) (inl refl)) (part_prints n p a.env refl same) w)
+
+root_printable : (n : Root) (p : Part) → p ≡ root_items n → is_well_formed_root n ≡ true → refusal_of (steps_in p (start default_config blank_sheet)) ≡ None
+root_printable n p same w = let a : State = start default_config blank_sheet in printable p (root_phrase n) a.env (part_prints n p a.env refl same) w
+
+no_refusal : (r : Refusal) → ◌≡◌ {A = Option Refusal} (Some r) None → ⊥
+no_refusal r h = absurd (cc)
+
+-- of a well-formed tree memory alone can be wanting, besides the writer
+pub code_cause : (n : Root) (p : Part) (error : Error) → p ≡ root_items n → is_well_formed_root n ≡ true → token_count (root_phrase n) < 2 ^ 32 → GivesCause p (start default_config blank_sheet) error → (IsOfWriter error → ⊥) → error ≡ OutOfMemory
+unfolding HasCause
+code_cause n p (Writer x) same w room h not_writer = absurd (not_writer tt)
+code_cause n p OutOfMemory same w room h not_writer = refl
+code_cause n p UnsupportedNode same w room h not_writer = absurd (no_refusal _ (sym h.1.refusal ∙ root_printable n p same w))
+code_cause n p BadShape same w room h not_writer = absurd (no_refusal _ (sym h.1.refusal ∙ root_printable n p same w))
+code_cause n p NameOutOfTarget same w room h not_writer = absurd (no_refusal _ (sym h.1.refusal ∙ root_printable n p same w))
+code_cause n p PositionTooLarge same w room h not_writer = absurd (within p (root_phrase n) (start default_config blank_sheet) (part_prints n p _ refl same) w (omega (arith, room)) h.1)
+code_cause n p Failed same w room h not_writer = absurd (true≢false (sym h.1))

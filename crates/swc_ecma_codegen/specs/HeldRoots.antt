@@ -1,0 +1,13 @@
+-- What a link holds, as a root.
+use Rattle.std.specs.Prelude.{◌≡◌}
+use Rattle.swc_ecma_codegen_tree.specs.declared.links.AnyNode.{AnyNode}
+use Rattle.swc_ecma_codegen_tree.specs.declared.links.AnyNode.TheVariants as nodes
+use Rattle.swc_ecma_codegen.specs.Roots.{Root, OfExpr, OfStmt, OfScript, OfProgram, OfLink}
+
+-- it is this expression, this statement, or this node in any role; no link holds a program
+abbrev pub IsHeld : AnyNode → Root → Type 0
+IsHeld n (OfExpr e) = n ≡ nodes.Expr e
+IsHeld n (OfStmt s) = n ≡ nodes.Stmt s
+IsHeld n (OfLink m role) = n ≡ m
+IsHeld n (OfScript s) = ⊥
+IsHeld n (OfProgram p) = ⊥

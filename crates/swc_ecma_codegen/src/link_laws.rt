@@ -1,0 +1,117 @@
+//! Laws of links, references, boxes, options and programs: `emit_with` of one writes what is written of the root that it
+//! holds, and what it adds to the text reads as that root. Given again by `laws`.
+
+ghost use Rattle.std.specs.Prelude.{◌≡◌, true, false, Some, None, OnOk, IsOk};
+ghost use Rattle.swc_ecma_codegen_tree.specs.declared.exprs.MemberExpr.{MemberExpr};
+ghost use Rattle.swc_ecma_codegen_tree.specs.declared.stmts.Stmt.{Stmt as StmtOf};
+ghost use Rattle.swc_ecma_codegen_ast.specs.Phrases.{is_possible};
+ghost use Rattle.swc_ecma_codegen_ast.specs.ExprPhrases.{member_expr};
+ghost use Rattle.swc_ecma_codegen_ast.specs.TreePhrases.{phrase};
+ghost use Rattle.swc_ecma_codegen_base.specs.Run.{Follows, nothing};
+ghost use Rattle.swc_ecma_codegen_base.specs.Written.{IsNew, AddsReading};
+ghost use Rattle.swc_ecma_codegen.specs.Exprs.{member as member_items};
+ghost use Rattle.swc_ecma_codegen.specs.Tree.{any_items};
+ghost use Rattle.swc_ecma_codegen.specs.Roots.{Root, OfStmt, OfScript, OfProgram, root_items, root_phrase, is_well_formed_root};
+ghost use Rattle.swc_ecma_codegen.specs.HeldRoots.{IsHeld};
+ghost use Rattle.swc_ecma_codegen.specs.View.{state_of};
+
+use crate::emitter::Emitter;
+use crate::node::Node;
+use swc_ecma_codegen_ast::comments::Comments;
+use swc_ecma_codegen_ast::mapper::SourceMapper;
+use swc_ecma_codegen_text_writer::WriteJs;
+use swc_ecma_codegen_tree::{
+    AnyNode, ExprBox, MemberExprBox, Program, Result, Script, Stmt, StmtBox,
+};
+
+/// A link to an expression: what is written of what it holds, which reads as that.
+pub fn emitted_expr_box_reads<W: WriteJs, S: SourceMapper, C: Comments>(
+    link: &ExprBox,
+    e: &mut Emitter<'_, W, S, C>,
+) -> Result
+    ensures items { (root : Root) → IsHeld link.now.node.value root → Follows (root_items root nothing) (state_of W.sheet e.old) (state_of W.sheet e.new) result }
+    ensures reads { (root : Root) → IsHeld link.now.node.value root → is_well_formed_root root ≡ true → IsNew (state_of W.sheet e.old) → OnOk result (AddsReading (root_phrase root) (W.sheet e.old.wr).text (W.sheet e.new.wr).text) }
+{
+    link.emit_with(e)
+}
+
+/// A link to a statement.
+pub fn emitted_stmt_box_reads<W: WriteJs, S: SourceMapper, C: Comments>(
+    link: &StmtBox,
+    e: &mut Emitter<'_, W, S, C>,
+) -> Result
+    ensures items { (root : Root) → IsHeld link.now.node.value root → Follows (root_items root nothing) (state_of W.sheet e.old) (state_of W.sheet e.new) result }
+    ensures reads { (root : Root) → IsHeld link.now.node.value root → is_well_formed_root root ≡ true → IsNew (state_of W.sheet e.old) → OnOk result (AddsReading (root_phrase root) (W.sheet e.old.wr).text (W.sheet e.new.wr).text) }
+{
+    link.emit_with(e)
+}
+
+/// A link to a member expression.
+pub fn emitted_member_expr_box_reads<W: WriteJs, S: SourceMapper, C: Comments>(
+    link: &MemberExprBox,
+    e: &mut Emitter<'_, W, S, C>,
+) -> Result
+    ensures items { (root : Root) → IsHeld link.now.node.value root → Follows (root_items root nothing) (state_of W.sheet e.old) (state_of W.sheet e.new) result }
+    ensures reads { (root : Root) → IsHeld link.now.node.value root → is_well_formed_root root ≡ true → IsNew (state_of W.sheet e.old) → OnOk result (AddsReading (root_phrase root) (W.sheet e.old.wr).text (W.sheet e.new.wr).text) }
+    ensures member_items { (member : MemberExpr AnyNode) → link.now.node.value ≡ AnyNode.MemberExpr member → Follows (member_items any_items member nothing) (state_of W.sheet e.old) (state_of W.sheet e.new) result }
+    ensures member_reads { (member : MemberExpr AnyNode) → link.now.node.value ≡ AnyNode.MemberExpr member → is_possible (member_expr phrase member) ≡ true → IsNew (state_of W.sheet e.old) → OnOk result (AddsReading (member_expr phrase member) (W.sheet e.old.wr).text (W.sheet e.new.wr).text) }
+{
+    link.emit_with(e)
+}
+
+/// A reference to a statement.
+pub fn emitted_stmt_ref_reads<W: WriteJs, S: SourceMapper, C: Comments>(
+    stmt: &&Stmt,
+    e: &mut Emitter<'_, W, S, C>,
+) -> Result
+    ensures items { Follows (root_items (OfStmt stmt.now.now) nothing) (state_of W.sheet e.old) (state_of W.sheet e.new) result }
+    ensures reads { is_well_formed_root (OfStmt stmt.now.now) ≡ true → IsNew (state_of W.sheet e.old) → OnOk result (AddsReading (root_phrase (OfStmt stmt.now.now)) (W.sheet e.old.wr).text (W.sheet e.new.wr).text) }
+{
+    stmt.emit_with(e)
+}
+
+/// A box with a statement.
+pub fn emitted_boxed_stmt_reads<W: WriteJs, S: SourceMapper, C: Comments>(
+    stmt: &Box<Stmt>,
+    e: &mut Emitter<'_, W, S, C>,
+) -> Result
+    ensures items { Follows (root_items (OfStmt stmt.now.value) nothing) (state_of W.sheet e.old) (state_of W.sheet e.new) result }
+    ensures reads { is_well_formed_root (OfStmt stmt.now.value) ≡ true → IsNew (state_of W.sheet e.old) → OnOk result (AddsReading (root_phrase (OfStmt stmt.now.value)) (W.sheet e.old.wr).text (W.sheet e.new.wr).text) }
+{
+    stmt.emit_with(e)
+}
+
+/// A statement that may be missing: where it is, nothing is written, and nothing is refused but for an earlier refusal.
+pub fn emitted_optional_stmt_reads<W: WriteJs, S: SourceMapper, C: Comments>(
+    stmt: &Option<Stmt>,
+    e: &mut Emitter<'_, W, S, C>,
+) -> Result
+    ensures items { (node : StmtOf AnyNode) → stmt.now ≡ Some node → Follows (root_items (OfStmt node) nothing) (state_of W.sheet e.old) (state_of W.sheet e.new) result }
+    ensures reads { (node : StmtOf AnyNode) → stmt.now ≡ Some node → is_well_formed_root (OfStmt node) ≡ true → IsNew (state_of W.sheet e.old) → OnOk result (AddsReading (root_phrase (OfStmt node)) (W.sheet e.old.wr).text (W.sheet e.new.wr).text) }
+    ensures none { stmt.now ≡ None → state_of W.sheet e.new ≡ state_of W.sheet e.old }
+    ensures none_made { stmt.now ≡ None → (state_of W.sheet e.old).failed ≡ false → IsOk result }
+{
+    stmt.emit_with(e)
+}
+
+/// A script, by `emit_with`.
+pub fn emitted_script_reads<W: WriteJs, S: SourceMapper, C: Comments>(
+    script: &Script,
+    e: &mut Emitter<'_, W, S, C>,
+) -> Result
+    ensures items { Follows (root_items (OfScript script.now) nothing) (state_of W.sheet e.old) (state_of W.sheet e.new) result }
+    ensures reads { is_well_formed_root (OfScript script.now) ≡ true → IsNew (state_of W.sheet e.old) → OnOk result (AddsReading (root_phrase (OfScript script.now)) (W.sheet e.old.wr).text (W.sheet e.new.wr).text) }
+{
+    script.emit_with(e)
+}
+
+/// A program, by `emit_with`.
+pub fn emitted_program_reads<W: WriteJs, S: SourceMapper, C: Comments>(
+    program: &Program,
+    e: &mut Emitter<'_, W, S, C>,
+) -> Result
+    ensures items { Follows (root_items (OfProgram program.now) nothing) (state_of W.sheet e.old) (state_of W.sheet e.new) result }
+    ensures reads { is_well_formed_root (OfProgram program.now) ≡ true → IsNew (state_of W.sheet e.old) → OnOk result (AddsReading (root_phrase (OfProgram program.now)) (W.sheet e.old.wr).text (W.sheet e.new.wr).text) }
+{
+    program.emit_with(e)
+}
