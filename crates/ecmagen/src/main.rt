@@ -14,12 +14,12 @@ fn main(rt: HostRuntime) -> ExitCode {
             &mut rt.stdout(),
             &mut rt.stderr(),
         ),
-        Err(_) => refuse_words(&mut rt.stderr()),
+        Err(error) => refuse_words(&error, &mut rt.stderr()),
     };
     ExitCode::from(status)
 }
 
-/// The words after the program's name.
+/// The words after the program's name. The error is want of memory, or a word that isn't UTF-8.
 fn words(rt: &HostRuntime) -> io::Result<Vec<String>> {
     Ok(env::args(rt)?.skip(1).collect(rt.alloc())?)
 }

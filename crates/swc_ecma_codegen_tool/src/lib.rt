@@ -2,12 +2,14 @@
 #![tactic(auto)]
 
 ghost use Rattle.std.specs.Prelude.{◌≡◌, ◌≢◌, ◌⊎◌, ℕ, List, [], Err, OnOk, OnErr, IfOk, IfSome, string_bytes};
+ghost use Rattle.std.specs.IoError.{error_kind};
 ghost use Rattle.swc_ecma_codegen_tool.specs.Prints.{IsJsonOf, IsPrinted, AddsPrinted};
 
 mod faults;
 
 use crate::faults::Fault;
 use std::alloc::Global;
+use std::io;
 use std::io::{ErrorKind, Read, Write};
 use swc_ecma_codegen::to_code;
 use swc_ecma_codegen_json::program_from_slice;
@@ -43,11 +45,16 @@ pub fn run<R: Read, O: Write, E: Write>(
     }
 }
 
-/// The answer where there is no memory for the words: `refused: memory` to `err`, and the status 1.
-pub fn refuse_words<E: Write>(err: &mut E) -> u8
-    ensures { result ≡ 1 }
+/// The answer where the words can't be had, by the error that says why. The status is 1 for want of memory, with
+/// `refused: memory` to `err`; else a word isn't UTF-8, and so is a wrong word: the status is 2.
+pub fn refuse_words<E: Write>(error: &io::Error, err: &mut E) -> u8
+    ensures memory { error_kind error.now ≡ ErrorKind.OutOfMemory → result ≡ 1 }
+    ensures usage { error_kind error.now ≢ ErrorKind.OutOfMemory → result ≡ 2 }
 {
-    tell(Fault::Memory, err)
+    match error.kind() {
+        ErrorKind::OutOfMemory => tell(Fault::Memory, err),
+        _ => tell(Fault::Usage, err),
+    }
 }
 
 /// Tells of a fault, and gives the status.

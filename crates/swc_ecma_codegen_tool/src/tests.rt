@@ -184,11 +184,13 @@ fn words_and_streams(rt: HostRuntime) -> Result<(), Fail> {
         run(rt.alloc(), &[], &mut input, &mut Broken {}, &mut err),
         1
     );
-    assert_eq!(rt; refuse_words(&mut err), 1);
+    for (kind, status) in [(ErrorKind::OutOfMemory, 1), (ErrorKind::InvalidData, 2)] {
+        assert_eq!(rt; refuse_words(&io::Error::from(kind), &mut err), status);
+    }
     assert!(rt; out.is_empty());
     assert_eq!(rt;
         err.as_slice(),
-        b"usage: ecmagen [options]\ncannot read\nrefused: writer\nrefused: memory\n".as_slice()
+        b"usage: ecmagen [options]\ncannot read\nrefused: writer\nrefused: memory\nusage: ecmagen [options]\n".as_slice()
     );
     Ok(())
 }
