@@ -9,6 +9,7 @@ ghost use Rattle.swc_ecma_codegen_ast.specs.ExprPhrases.{member_expr};
 ghost use Rattle.swc_ecma_codegen_ast.specs.TreePhrases.{phrase};
 ghost use Rattle.swc_ecma_codegen_base.specs.Run.{Follows, nothing};
 ghost use Rattle.swc_ecma_codegen_base.specs.Written.{IsNew, AddsReading};
+ghost use Rattle.swc_ecma_codegen.specs.declared.nodes.Place.TheVariants.{Plain};
 ghost use Rattle.swc_ecma_codegen.specs.Exprs.{member as member_items};
 ghost use Rattle.swc_ecma_codegen.specs.Tree.{any_items};
 ghost use Rattle.swc_ecma_codegen.specs.Roots.{Root, OfStmt, OfScript, OfProgram, root_items, root_phrase, is_well_formed_root};
@@ -23,6 +24,13 @@ use swc_ecma_codegen_text_writer::WriteJs;
 use swc_ecma_codegen_tree::{
     AnyNode, ExprBox, MemberExprBox, Program, Result, Script, Stmt, StmtBox,
 };
+
+/// What a link writes is what is written of the root that it holds. So the clauses of `emit_with` and `to_code` that speak
+/// of roots speak of links too.
+#[tactic(auto, using(crate::proofs::LinkLaws::held_written))]
+pub fn links_write_their_roots()
+    ensures { (node : AnyNode) (root : Root) → IsHeld node root → any_items node Plain ≡ root_items root }
+{}
 
 /// A link to an expression: what is written of what it holds, which reads as that.
 pub fn emitted_expr_box_reads<W: WriteJs, S: SourceMapper, C: Comments>(
