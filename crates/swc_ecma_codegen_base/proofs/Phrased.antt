@@ -41,34 +41,40 @@ pub record Prints (env : Env) (part : Part) (phrase : Phrase) : Type 0 where
 -- one part after the other
 pub then : {env : Env} {p q : Part} {f g : Phrase} → Prints env p f → Prints env q g → Prints env (λ rest. p (q rest)) (Then f g)
 unfolding Generates is_possible escapes_name
-then {env} {p} {q} {f} {g} h k = record { where_possible = λ w.
-  let both = and_parts (is_possible f) (is_possible g) w in
-  let a = h.where_possible both.0 in
-  let b = k.where_possible both.1 in
-  record {
-    tokens = a.tokens ++ b.tokens;
-    generated = (a.tokens, b.tokens, a.generated, b.generated, refl);
-    writes = writes_then env p q a.tokens b.tokens a.writes b.writes;
-  } }
+then {env} {p} {q} {f} {g} h k = record {
+  where_possible = λ w.
+      let both = and_parts (is_possible f) (is_possible g) w in
+      let a = h.where_possible both.0 in
+      let b = k.where_possible both.1 in
+      record {
+        tokens = a.tokens ++ b.tokens;
+        generated = (a.tokens, b.tokens, a.generated, b.generated, refl);
+        writes = writes_then env p q a.tokens b.tokens a.writes b.writes;
+      };
+}
 
 -- a part before or after one that writes no token
 pub after : {env : Env} {q p : Part} {f : Phrase} → Writes env q [] → Prints env p f → Prints env (λ rest. q (p rest)) f
-after {env} {q} {p} {f} k h = record { where_possible = λ w.
-  let a = h.where_possible w in
-  record { tokens = a.tokens; generated = a.generated; writes = writes_then env q p [] a.tokens k a.writes } }
+after {env} {q} {p} {f} k h = record {
+  where_possible = λ w.
+      let a = h.where_possible w in
+      record { tokens = a.tokens; generated = a.generated; writes = writes_then env q p [] a.tokens k a.writes };
+}
 
 or_false : (b : Bool) → (b || false) ≡ b
 or_false true = refl
 or_false false = refl
 
 pub before : {env : Env} {p q : Part} {f : Phrase} → Prints env p f → Writes env q [] → Prints env (λ rest. p (q rest)) f
-before {env} {p} {q} {f} h k = record { where_possible = λ w.
-  let a = h.where_possible w in
-  record {
-    tokens = a.tokens;
-    generated = a.generated;
-    writes = subst (λ z. Makes env (λ rest. p (q rest)) a.tokens z) (or_false (escapes_name f)) (subst (λ z. Makes env (λ rest. p (q rest)) z (escapes_name f || false)) (append-nil a.tokens) (writes_then env p q a.tokens [] a.writes k));
-  } }
+before {env} {p} {q} {f} h k = record {
+  where_possible = λ w.
+      let a = h.where_possible w in
+      record {
+        tokens = a.tokens;
+        generated = a.generated;
+        writes = subst (λ z. Makes env (λ rest. p (q rest)) a.tokens z) (or_false (escapes_name f)) (subst (λ z. Makes env (λ rest. p (q rest)) z (escapes_name f || false)) (append-nil a.tokens) (writes_then env p q a.tokens [] a.writes k));
+      };
+}
 
 pub prints_nothing : {env : Env} → Prints env (λ rest. rest) Nothing
 unfolding Generates escapes_name

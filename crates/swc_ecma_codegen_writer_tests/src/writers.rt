@@ -1,10 +1,12 @@
+//! What a writer writes of each call, and what it does where the writer under it fails, dribbles or is interrupted.
+
 ghost use Rattle.std.specs.Prelude.{Some, ◌<◌};
 
-use crate::{JsWriter, WriteJs};
 use std::alloc::Global;
 use std::io;
 use std::io::{ErrorKind, Write};
 use std::test::Fail;
+use swc_ecma_codegen_text_writer::{JsWriter, WriteJs};
 use swc_ecma_codegen_tree::{BytePos, DUMMY_SP, Error, Result};
 
 /// Takes one byte a call, up to a number of bytes, and then fails, or answers 0 where it has no fault.
@@ -68,7 +70,7 @@ fn write_foobar<W: WriteJs>(wr: &mut W) -> Result {
 }
 
 /// Each call of a writer.
-#[tactic(auto, unfolding(crate::specs::Sheet::Writes, crate::specs::Sheet::effect))]
+#[tactic(auto, unfolding(swc_ecma_codegen_text_writer::specs::Sheet::Writes, swc_ecma_codegen_text_writer::specs::Sheet::effect))]
 fn write_each<W: WriteJs>(wr: &mut W) -> Result {
     wr.increase_indent()?;
     wr.increase_indent()?;

@@ -1,7 +1,7 @@
 use Rattle.std.proofs.Common.{arith, ap, refl}
 use Rattle.swc_ecma_codegen_text_writer.specs.Sheet.{Sheet, Symbol, Writes, effect}
 use Rattle.swc_ecma_codegen_text_writer.proofs.Sheets.{writes_indentation}
-use Rattle.swc_ecma_codegen_text_writer.proofs.tests.interrupted_once.Goals as goal
+use Rattle.swc_ecma_codegen_writer_tests.proofs.writers.interrupted_once.Goals as goal
 
 -- the depth is one since the call before
 pub is_failed-requires : goal.is_failed-requires

@@ -1,4 +1,6 @@
-use super::*;
+//! Where a blank is due between two tokens.
+
+use swc_ecma_codegen_base::Last;
 
 #[test]
 fn a_blank_is_due_where_neighbours_fuse(rt: HostRuntime) {
