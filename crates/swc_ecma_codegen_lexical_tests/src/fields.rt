@@ -8,13 +8,18 @@ pub fn code(digits: &str) -> Option<u32> {
     u32::from_str_radix(digits, 16).ok()
 }
 
+/// The character of a code in hexadecimal.
+fn character(digits: &str) -> Option<char> {
+    char::from_u32(code(digits)?)
+}
+
 /// The text that a field stands for.
 fn decoded(alloc: Global, field: &str) -> Result<String, AllocError> {
     let mut text = String::new(alloc);
     for part in field.split('‹') {
         let rest = match part.split_once('›') {
             Some((digits, rest)) => {
-                if let Some(c) = code(digits).and_then(char::from_u32) {
+                if let Some(c) = character(digits) {
                     text.push(c)?;
                 }
                 rest

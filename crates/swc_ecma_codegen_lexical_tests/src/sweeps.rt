@@ -2,7 +2,7 @@
 //! each literal: its code units were those of the text. How a character is spelled is a pattern.
 
 use crate::patterns::expanded;
-use std::alloc::Global;
+use std::alloc::{AllocError, Global};
 use swc_ecma_codegen_literals::{quoted_for_inline_script, quoted_utf16};
 use swc_ecma_codegen_tree::{Error, EsVersion};
 
@@ -26,6 +26,16 @@ fn spells(
     Ok(plain.as_str() == literal && inline.as_str() == literal)
 }
 
+/// Two texts between quotes.
+fn quoted(alloc: Global, quote: char, text: &str, end: &str) -> Result<String, AllocError> {
+    let mut literal = String::new(alloc);
+    literal.push(quote)?;
+    literal.push_str(text)?;
+    literal.push_str(end)?;
+    literal.push(quote)?;
+    Ok(literal)
+}
+
 /// A character is spelled so before this text.
 fn stands_before(
     alloc: Global,
@@ -45,8 +55,10 @@ fn stands_before(
     } else {
         after
     };
-    let text = format!(in alloc; "{c}{after}")?;
-    let literal = format!(in alloc; "{quote}{spelled}{end}{quote}")?;
+    let mut text = String::new(alloc);
+    text.push(c)?;
+    text.push_str(after)?;
+    let literal = quoted(alloc, quote, spelled, end)?;
     spells(alloc, text.as_str(), ascii_only, target, literal.as_str())
 }
 

@@ -2,65 +2,88 @@
 
 use swc_ecma_codegen_base::Last;
 
+/// The last token of a row: its word, or its punctuator.
+fn last_of(word: &'static str) -> Last {
+    match word {
+        "start" => Last::Start,
+        "apart" => Last::Apart,
+        "word" => Last::WordEnd,
+        "<!" => Last::LessBang,
+        mark => Last::Mark(mark),
+    }
+}
+
+/// The three fields of a row.
+fn fields(row: &'static str) -> [&'static str; 3] {
+    let (first, rest) = row.split_once(' ').unwrap_or((row, ""));
+    let (second, third) = rest.split_once(' ').unwrap_or((rest, ""));
+    [first, second, third]
+}
+
 #[test]
 fn a_blank_is_due_where_neighbours_fuse(rt: HostRuntime) {
-    let cases = [
-        (Last::Start, "a", false),
-        (Last::Apart, "a", false),
-        (Last::WordEnd, "", false),
-        (Last::WordEnd, "a", true),
-        (Last::WordEnd, "7", true),
-        (Last::WordEnd, "\\u0061", true),
-        (Last::WordEnd, "\u{e9}", true),
-        (Last::WordEnd, "\u{200d}", true),
-        (Last::WordEnd, "\u{2028}", false),
-        (Last::WordEnd, ".", false),
-        (Last::Mark("-"), "-b", true),
-        (Last::Mark("-"), ">", false),
-        (Last::Mark("--"), ">", true),
-        (Last::Mark("++"), ">", false),
-        (Last::Mark("+"), "-b", false),
-        (Last::Mark("="), ">", true),
-        (Last::Mark("="), "!b", false),
-        (Last::Mark("&&"), "=", true),
-        (Last::Mark("&&"), "&", false),
-        (Last::Mark(">>"), ">", true),
-        (Last::Mark(">>>"), "=", true),
-        (Last::Mark(">>>"), ">", false),
-        (Last::Mark(">"), ">", true),
-        (Last::Mark("."), ".", true),
-        (Last::Mark("."), "5", true),
-        (Last::Mark("?."), "5", true),
-        (Last::Mark("?"), ".5", false),
-        (Last::Mark("?"), ".a", true),
-        (Last::Mark("..."), ".5", false),
-        (Last::Mark("/"), "/b/", true),
-        (Last::Mark("/"), "*", true),
-        (Last::Mark("*"), "/b/", false),
-        (Last::Mark("("), "(", false),
-        (Last::Mark("!"), "--b", false),
-        (Last::LessBang, "--b", true),
-        (Last::LessBang, "-b", false),
-        (Last::LessBang, "=", true),
-    ];
-    for (last, next, due) in cases {
-        assert_eq!(rt; last.fuses(next), due, "{last:?} and {next}");
+    let mut rows: u32 = 0;
+    for row in NEIGHBOURS.lines() {
+        let [last, next, due] = fields(row);
+        assert!(rt; last_of(last).fuses(next) == (due == "yes"), "{row}");
+        rows = rows.saturating_add(1);
     }
+    assert!(rt; rows == 37);
 }
 
 #[test]
 fn a_bang_is_told_apart_right_after_less(rt: HostRuntime) {
-    let cases = [
-        (Last::Mark("<"), "!", true),
-        (Last::Mark("<<"), "!", false),
-        (Last::Apart, "!", false),
-        (Last::LessBang, "!", false),
-    ];
-    for (last, mark, due) in cases {
-        assert_eq!(rt;
-            last.then_punct(mark).fuses("--b"),
-            due,
-            "{last:?} and {mark}"
-        );
+    let mut rows: u32 = 0;
+    for row in BANGS.lines() {
+        let [last, mark, due] = fields(row);
+        let is_due = last_of(last).then_punct(mark).fuses("--b");
+        assert!(rt; is_due == (due == "yes"), "{row}");
+        rows = rows.saturating_add(1);
     }
+    assert!(rt; rows == 4);
 }
+
+/// The last token, what follows it, and whether a blank is due.
+const NEIGHBOURS: &str = "start a no\n\
+    apart a no\n\
+    word  no\n\
+    word a yes\n\
+    word 7 yes\n\
+    word \\u0061 yes\n\
+    word \u{e9} yes\n\
+    word \u{200d} yes\n\
+    word \u{2028} no\n\
+    word . no\n\
+    - -b yes\n\
+    - > no\n\
+    -- > yes\n\
+    ++ > no\n\
+    + -b no\n\
+    = > yes\n\
+    = !b no\n\
+    && = yes\n\
+    && & no\n\
+    >> > yes\n\
+    >>> = yes\n\
+    >>> > no\n\
+    > > yes\n\
+    . . yes\n\
+    . 5 yes\n\
+    ?. 5 yes\n\
+    ? .5 no\n\
+    ? .a yes\n\
+    ... .5 no\n\
+    / /b/ yes\n\
+    / * yes\n\
+    * /b/ no\n\
+    ( ( no\n\
+    ! --b no\n\
+    <! --b yes\n\
+    <! -b no\n\
+    <! = yes";
+
+/// The last token, a punctuator right after it, and whether a blank is due before `--b` then.
+const BANGS: &str = "< ! yes\n\
+    << ! no\n\
+    apart ! no\n\
+    <! ! no";

@@ -69,30 +69,50 @@ fn write_foobar<W: WriteJs>(wr: &mut W) -> Result {
     wr.write_line()
 }
 
-/// Each call of a writer.
+/// Two levels of indentation more, and one less.
 #[tactic(auto, unfolding(swc_ecma_codegen_text_writer::specs::Sheet::Writes, swc_ecma_codegen_text_writer::specs::Sheet::effect))]
-fn write_each<W: WriteJs>(wr: &mut W) -> Result {
+fn deepen<W: WriteJs>(wr: &mut W) -> Result {
     wr.increase_indent()?;
     wr.increase_indent()?;
-    wr.decrease_indent()?;
+    wr.decrease_indent()
+}
+
+/// `var x=1`, with a position in it.
+fn write_declaration<W: WriteJs>(wr: &mut W) -> Result {
     wr.write_keyword(None, "var")?;
     wr.write_space()?;
     wr.add_srcmap(BytePos(7))?;
     wr.write_symbol(DUMMY_SP, "x")?;
     wr.write_operator(None, "=")?;
-    wr.write_lit(DUMMY_SP, "1")?;
+    wr.write_lit(DUMMY_SP, "1")
+}
+
+/// A semicolon and the line's end, twice, and a comment.
+fn write_comment_after_semicolon<W: WriteJs>(wr: &mut W) -> Result {
     wr.write_semi(None)?;
     wr.commit_pending_semi()?;
     wr.write_line()?;
     wr.write_line()?;
     wr.write_comment("//c")?;
-    wr.write_line()?;
+    wr.write_line()
+}
+
+/// The other texts.
+fn write_texts<W: WriteJs>(wr: &mut W) -> Result {
     wr.write_str("")?;
     wr.write_str_lit(DUMMY_SP, "'s'")?;
     wr.write_punct(None, ",")?;
     wr.write_param("p")?;
     wr.write_property("q")?;
     wr.write_str("r")
+}
+
+/// Each call of a writer.
+fn write_each<W: WriteJs>(wr: &mut W) -> Result {
+    deepen(wr)?;
+    write_declaration(wr)?;
+    write_comment_after_semicolon(wr)?;
+    write_texts(wr)
 }
 
 const EACH: &str = "    var x=1;\r\n    //c\r\n    's',pqr";
@@ -160,13 +180,19 @@ fn each_call(rt: HostRuntime) -> std::result::Result<(), Fail> {
 }
 
 #[test]
-fn behind_a_reference_and_in_a_box(rt: HostRuntime) -> std::result::Result<(), Fail> {
+fn behind_a_reference(rt: HostRuntime) -> std::result::Result<(), Fail> {
     let alloc = rt.alloc();
     let mut wr = JsWriter::new(alloc, &(), "\r\n", Vec::new(alloc), None);
     let mut lent = &mut wr;
     write_each(&mut lent)?;
     assert!(rt; answers_no(&mut lent));
     assert_eq!(rt; wr.into_inner().as_slice(), EACH.as_bytes());
+    Ok(())
+}
+
+#[test]
+fn in_a_box(rt: HostRuntime) -> std::result::Result<(), Fail> {
+    let alloc = rt.alloc();
     let wr = JsWriter::new(alloc, &(), "\r\n", Vec::new(alloc), None);
     let mut boxed = Box::new(alloc, wr)?;
     write_each(&mut boxed)?;
