@@ -1,11 +1,8 @@
-//! Texts that read and texts that don't, by the definitions of ECMA-262, and what an empty map and no source answer.
+//! Texts that read and texts that don't, by the definitions of ECMA-262.
 
 use std::alloc::{AllocError, Global};
-use swc_ecma_codegen_ast::comments::{CommentMaps, Comments};
 use swc_ecma_codegen_ast::kinds::{Kind, TemplatePart};
-use swc_ecma_codegen_ast::mapper::{NoSource, SourceMapper};
 use swc_ecma_codegen_ast::reader::{characters, read_tokens};
-use swc_ecma_codegen_tree::{BytePos, DUMMY_SP};
 
 fn part(tagged: bool, opens: bool) -> TemplatePart {
     TemplatePart { tagged, opens }
@@ -55,27 +52,4 @@ pub fn tokens(alloc: Global, text: &str, letters: &str) -> Result<String, AllocE
         }
     }
     Ok(joined)
-}
-
-fn is_empty<C: Comments>(comments: &mut C) -> bool {
-    let pos = BytePos(1);
-    !comments.has_leading(pos)
-        && !comments.has_trailing(pos)
-        && comments.get_leading(pos).is_none()
-        && comments.take_leading(pos).is_none()
-        && comments.take_trailing(pos).is_none()
-}
-
-/// Whether new maps of comments know of none, behind a reference too.
-pub fn has_no_comments(alloc: Global) -> bool {
-    let mut maps = CommentMaps::new(alloc);
-    let is_one = is_empty(&mut maps);
-    let mut lent = &mut maps;
-    is_one && is_empty(&mut lent)
-}
-
-/// Whether nothing is known without a source.
-pub fn has_no_source(alloc: Global) -> bool {
-    let snippet = NoSource.span_to_snippet(alloc, DUMMY_SP);
-    matches!(snippet, Ok(None)) && !NoSource.is_on_same_line(BytePos(1), BytePos(1))
 }

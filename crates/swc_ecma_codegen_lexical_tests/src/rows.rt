@@ -1,11 +1,11 @@
 //! What the words of the rows ask.
 
 use crate::fields::{code, fields, is_yes, target};
-use crate::reading::{has_no_comments, has_no_source, tokens};
+use crate::reading::tokens;
 use crate::spellings::{is_decimal, is_number, is_out_of_target, is_valid_name};
 use crate::sweeps::{are_spelled, spells_always, spells_by_age, spells_wide};
 use crate::templates::{gives, gives_always, gives_each};
-use crate::values::{name, number, one_character, plain, string, template};
+use crate::values::{is_one_character, is_plain, is_string, is_template, is_worth, name};
 use std::alloc::Global;
 use swc_ecma_codegen_ast::reader::characters;
 use swc_ecma_codegen_ast::{is_hashbang, is_regex};
@@ -23,21 +23,12 @@ pub fn holds(alloc: Global, line: &str) -> bool {
 fn answer(alloc: Global, line: &str) -> Result<bool, Error> {
     let fields = fields(alloc, line)?;
     match fields.as_slice() {
-        [word] => Ok(of_none(alloc, word)),
         [word, text] => of_one(alloc, word, text),
         [word, text, want] => of_two(alloc, word, text, want),
         [word, first, second, want] => of_three(alloc, word, [first, second], want),
         [word, first, second, third, want] => of_four(alloc, word, [first, second, third], want),
         [word, first, last, patterns @ ..] => of_range(alloc, word, [first, last], patterns),
         _ => Ok(false),
-    }
-}
-
-fn of_none(alloc: Global, word: &str) -> bool {
-    match word {
-        "no_comments" => has_no_comments(alloc),
-        "no_source" => has_no_source(alloc),
-        _ => false,
     }
 }
 
@@ -51,12 +42,12 @@ fn of_one(alloc: Global, word: &str, text: &str) -> Result<bool, Error> {
 
 fn of_two(alloc: Global, word: &str, text: &str, want: &str) -> Result<bool, Error> {
     let found = match word {
-        "utf16" => one_character(alloc, text)?,
         "name" => name(alloc, text)?.unwrap_or(String::new(alloc)),
-        "number" => number(alloc, text)?,
-        "template" => template(alloc, text)?,
-        "plain" => plain(alloc, text)?,
         "inline" => quoted_for_inline_script(alloc, text, false, EsVersion::EsNext)?,
+        "utf16" => return Ok(is_one_character(alloc, text, want)?),
+        "number" => return Ok(is_worth(alloc, text, want)?),
+        "template" => return Ok(is_template(alloc, text, want)?),
+        "plain" => return Ok(is_plain(alloc, text, want)?),
         "regex" => return Ok(is_regex(&characters(alloc, text)?) == is_yes(want)),
         "hashbang" => return Ok(is_hashbang(&characters(alloc, text)?) == is_yes(want)),
         "valid_name" => return is_valid_name(alloc, text, want),
@@ -75,10 +66,10 @@ fn of_three(
 ) -> Result<bool, Error> {
     match word {
         "tokens" => Ok(tokens(alloc, first, second)?.as_str() == want),
-        "string" => Ok(
-            string(alloc, true, first)?.as_str() == second
-                && string(alloc, false, first)?.as_str() == want,
-        ),
+        "string" => {
+            let is_sloppy = is_string(alloc, true, first, second)?;
+            Ok(is_sloppy && is_string(alloc, false, first, want)?)
+        }
         "raw" => gives(alloc, first, is_yes(second), want),
         "decimal" => Ok(is_decimal(alloc, first, second)? == is_yes(want)),
         "null" => spells_by_age(alloc, first, second, want),

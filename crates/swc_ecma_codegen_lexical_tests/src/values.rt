@@ -4,6 +4,7 @@
 //! its units after a replacement of written surrogate escapes. `none` stands for a syntax error, or for a template without a
 //! cooked value.
 
+use crate::fields::code;
 use std::alloc::{AllocError, Global};
 use swc_ecma_codegen_ast::names::name_value;
 use swc_ecma_codegen_ast::number_values::numeric_value;
@@ -27,61 +28,65 @@ pub fn name(alloc: Global, text: &str) -> Result<Option<String>, AllocError> {
     }
 }
 
-/// What a literal stands for, as `25 3 1` for `2.5e3`, or `none` where there is no room.
-pub fn number(alloc: Global, text: &str) -> Result<String, AllocError> {
+/// Whether a literal stands for this number, as `25 3 1` for `2.5e3`; `none` where there is no room.
+pub fn is_worth(alloc: Global, text: &str, want: &str) -> Result<bool, AllocError> {
     let text = characters(alloc, text)?;
-    match numeric_value(&text) {
-        Some(found) => {
-            let (whole, tens, tenths) = (found.whole, found.tens, found.tenths);
-            format!(in alloc; "{whole} {tens} {tenths}")
-        }
-        None => String::from_str(alloc, "none"),
-    }
+    let Some(found) = numeric_value(&text) else {
+        return Ok(want == "none");
+    };
+    let (whole, rest) = want.split_once(' ').unwrap_or((want, ""));
+    let (tens, tenths) = rest.split_once(' ').unwrap_or((rest, ""));
+    Ok(
+        whole.parse() == Ok(found.whole)
+            && tens.parse() == Ok(found.tens)
+            && tenths.parse() == Ok(found.tenths),
+    )
 }
 
-/// Code units in hexadecimal.
-fn in_hexadecimal(alloc: Global, units: &[u16]) -> Result<String, AllocError> {
-    let mut shown = String::new(alloc);
-    for unit in units {
-        if !shown.is_empty() {
-            shown.push(' ')?;
+/// Whether these are the code units, in hexadecimal.
+fn are_units(units: &[u16], want: &str) -> bool {
+    let mut left = units;
+    for unit in want.split_ascii_whitespace() {
+        match left {
+            [first, rest @ ..] if code(unit) == Some(u32::from(*first)) => left = rest,
+            _ => return false,
         }
-        write!(shown, "{unit:x}")?;
     }
-    Ok(shown)
+    left.is_empty()
 }
 
-/// A value in hexadecimal, or `none`; `differs` where it is told otherwise whether there is one.
-fn shown(alloc: Global, value: Option<Vec<u16>>, is_one: bool) -> Result<String, AllocError> {
+/// Whether this is the value, `none` for no value. `is_one` is what was told of whether there is one.
+fn is_value(value: Option<Vec<u16>>, is_one: bool, want: &str) -> bool {
     match value {
-        Some(units) if is_one => in_hexadecimal(alloc, &units),
-        None if !is_one => String::from_str(alloc, "none"),
-        _ => String::from_str(alloc, "differs"),
+        Some(units) => is_one && want != "none" && are_units(&units, want),
+        None => !is_one && want == "none",
     }
 }
 
-/// What a string stands for.
-pub fn string(alloc: Global, sloppy: bool, text: &str) -> Result<String, AllocError> {
+/// Whether a string has this value.
+pub fn is_string(alloc: Global, sloppy: bool, text: &str, want: &str) -> Result<bool, AllocError> {
     let text = characters(alloc, text)?;
     let value = string_value(alloc, sloppy, &text)?;
-    shown(alloc, value, has_string_value(sloppy, &text))
+    Ok(is_value(value, has_string_value(sloppy, &text), want))
 }
 
-/// What the text of a template stands for.
-pub fn template(alloc: Global, text: &str) -> Result<String, AllocError> {
+/// Whether the text of a template has this value.
+pub fn is_template(alloc: Global, text: &str, want: &str) -> Result<bool, AllocError> {
     let text = characters(alloc, text)?;
     let value = cooked_value(alloc, &text)?;
-    shown(alloc, value, has_cooked_value(&text))
+    Ok(is_value(value, has_cooked_value(&text), want))
 }
 
-/// The code units of a plain text.
-pub fn plain(alloc: Global, text: &str) -> Result<String, AllocError> {
+/// Whether a plain text has these code units.
+pub fn is_plain(alloc: Global, text: &str, want: &str) -> Result<bool, AllocError> {
     let text = characters(alloc, text)?;
-    in_hexadecimal(alloc, &units(alloc, &text)?)
+    let units = units(alloc, &text)?;
+    Ok(are_units(&units, want))
 }
 
-/// The code units of a text of one character.
-pub fn one_character(alloc: Global, text: &str) -> Result<String, AllocError> {
+/// Whether a text of one character has these code units.
+pub fn is_one_character(alloc: Global, text: &str, want: &str) -> Result<bool, AllocError> {
     let c = text.chars().next().unwrap_or(' ');
-    in_hexadecimal(alloc, &utf16(alloc, c)?)
+    let units = utf16(alloc, c)?;
+    Ok(are_units(&units, want))
 }
