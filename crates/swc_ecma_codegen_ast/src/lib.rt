@@ -20,22 +20,10 @@ pub mod template_values;
 mod turns;
 pub mod units;
 
+pub use crate::shapes::{is_hashbang, is_regex};
 pub use swc_ecma_codegen_tree::{
     AnyNode, AssignOp, BinExpr, BinaryOp, BytePos, ComputedPropName, CondExpr, DUMMY_SP, EmptyStmt,
     Error, EsVersion, Expr, ExprBox, ExprStmt, Ident, IdentName, LineCol, MemberExpr,
     MemberExprBox, MemberProp, ParenExpr, Program, Result, Script, SeqExpr, Span, Spanned, Stmt,
     StmtBox, ThisExpr, UnaryExpr, UnaryOp, UpdateExpr, UpdateOp, discard,
 };
-
-#[cfg(test)]
-mod name_tests;
-#[cfg(test)]
-mod number_tests;
-#[cfg(test)]
-mod shape_tests;
-#[cfg(test)]
-mod string_tests;
-#[cfg(test)]
-mod template_tests;
-#[cfg(test)]
-mod tests;

@@ -12,9 +12,6 @@ ghost use Rattle.swc_ecma_codegen_base.specs.Last.{last_at};
 
 use unicode_ident::is_xid_continue;
 
-#[cfg(test)]
-mod tests;
-
 /// The last token, as far as what follows may fuse with it.
 #[derive(Debug, Clone, Copy)]
 pub enum Last {
@@ -32,7 +29,7 @@ pub enum Last {
 
 impl Last {
     /// The last token after a punctuator that nothing parts from this one.
-    pub(crate) fn then_punct(self, text: &'static str) -> Last
+    pub fn then_punct(self, text: &'static str) -> Last
         ensures { last_at result ≡ after_token Punctuator text.now (last_at self) }
     {
         match self {
@@ -42,7 +39,7 @@ impl Last {
     }
 
     /// Whether this token and `next` would be read as another token, or as a comment.
-    pub(crate) fn fuses(self, next: &str) -> bool
+    pub fn fuses(self, next: &str) -> bool
         ensures { result ≡ fuses (last_at self) (chars next.now) }
     {
         let Some((first, rest)) = split_first_char(next) else {

@@ -5,14 +5,8 @@ mod escapes;
 mod idents;
 mod names;
 mod numbers;
-#[cfg(test)]
-mod patterns;
 mod scripts;
 mod strings;
-#[cfg(test)]
-mod sweeps;
-#[cfg(test)]
-mod template_tests;
 mod templates;
 
 pub use crate::idents::ascii_only_ident;

@@ -43,32 +43,3 @@ fn without_nulls(alloc: Global, name: &str) -> std::result::Result<String, Error
     valid.push_str(rest)?;
     Ok(valid)
 }
-
-#[cfg(test)]
-mod tests {
-    use super::*;
-    use std::test::Fail;
-
-    fn text<'a>(name: &'a CowStr<'_>) -> &'a str {
-        match name {
-            CowStr::Borrowed(text) => text,
-            CowStr::Owned(text) => text.as_str(),
-        }
-    }
-
-    #[test]
-    fn nulls_after_backslashes_go(rt: HostRuntime) -> Result<(), Fail> {
-        let rows = [
-            ("", ""),
-            ("name", "name"),
-            ("\\\0ud83d", "\\ud83d"),
-            ("a\\\0b\\\0\0c\0\\", "a\\b\\\0c\0\\"),
-            ("é\\\\\0\\\0", "é\\\\\\"),
-        ];
-        for (name, valid) in rows {
-            let found = valid_name(rt.alloc(), name)?;
-            assert_eq!(rt; text(&found), valid);
-        }
-        Ok(())
-    }
-}

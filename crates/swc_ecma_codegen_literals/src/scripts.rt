@@ -135,30 +135,3 @@ fn is_tag_end(c: u8) -> bool
 {
     matches!(c, b'>' | b' ' | b'\t' | b'\n' | 0xC | b'\r')
 }
-
-#[cfg(test)]
-mod tests {
-    use super::*;
-    use std::test::Fail;
-
-    #[test]
-    fn inline_scripts(rt: HostRuntime) -> Result<(), Fail> {
-        let rows = [
-            ("</script>", r#""<\/script>""#),
-            ("<!-->", r#""\x3c!--\x3e""#),
-            ("name", r#""name""#),
-            ("</SCRIPT >", r#""<\/SCRIPT >""#),
-            ("</script</script\t--->", "\"</script<\\/script\t---\\x3e\""),
-            ("--\\>", r#""--\\>""#),
-            ("</scriptx>", r#""</scriptx>""#),
-            ("--><!--", r#""--\x3e\x3c!--""#),
-            ("-\u{2028}->", r#""-\u2028->""#),
-            ("\\</script>", r#""\\<\/script>""#),
-        ];
-        for (text, literal) in rows {
-            let found = quoted_for_inline_script(rt.alloc(), text, false, EsVersion::EsNext)?;
-            assert_eq!(rt; found.as_str(), literal);
-        }
-        Ok(())
-    }
-}

@@ -113,30 +113,3 @@ fn split_run(text: &str, style: Style) -> (&str, &str)
     }
     (text, "")
 }
-
-#[cfg(test)]
-mod tests {
-    use super::*;
-    use std::test::Fail;
-
-    #[test]
-    fn quoted_strings(rt: HostRuntime) -> Result<(), Fail> {
-        let latest = EsVersion::EsNext;
-        let rows = [
-            ("\u{0}1", true, EsVersion::Es3, r#""\x001""#),
-            ("\u{10FFFF}", true, EsVersion::Es2020, r#""\u{10FFFF}""#),
-            ("\u{1F600}", true, EsVersion::Es5, r#""\uD83D\uDE00""#),
-            ("a\"b", false, latest, r#"'a"b'"#),
-            (r"\ud83d", false, latest, r#""\ud83d""#),
-            (r"\u{D83D", false, latest, r#""\\u{D83D""#),
-            ("\u{0}9", false, latest, r#""\x009""#),
-            (r"\u{D83D}", false, latest, r#""\u{D83D}""#),
-            (r"\uD83g", false, latest, r#""\\uD83g""#),
-        ];
-        for (text, ascii_only, target, literal) in rows {
-            let found = quoted_utf16(rt.alloc(), text, ascii_only, target)?;
-            assert_eq!(rt; found.as_str(), literal);
-        }
-        Ok(())
-    }
-}

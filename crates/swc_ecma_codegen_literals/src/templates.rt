@@ -334,33 +334,3 @@ fn is_dollar(piece: Piece, dollar: bool) -> bool
         _ => false,
     }
 }
-
-#[cfg(test)]
-mod tests {
-    use super::*;
-    use std::test::Fail;
-
-    #[test]
-    fn raw_texts_of_templates(rt: HostRuntime) -> Result<(), Fail> {
-        let rows = [
-            (r"\x60", false, r"\x60"),
-            (r"\x41", false, "A"),
-            ("$\\\u{2028}{", false, r"$\{"),
-            (r"\0\x31", false, r"\x001"),
-            (r"\x24{", false, r"\x24{"),
-            (r"\${", false, r"\${"),
-            (r"\x5cn", false, r"\x5cn"),
-            ("\\0\\\u{2028}1", false, r"\x001"),
-            (
-                "\u{1F60A}\u{2764}\u{FE0F}",
-                true,
-                r"\u{1F60A}\u{2764}\u{FE0F}",
-            ),
-        ];
-        for (raw, ascii_only, text) in rows {
-            let found = template_from_raw(rt.alloc(), raw, ascii_only)?;
-            assert_eq!(rt; found.as_str(), text);
-        }
-        Ok(())
-    }
-}

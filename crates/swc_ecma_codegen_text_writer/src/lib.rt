@@ -9,8 +9,6 @@ mod boxed;
 mod lent;
 mod logs;
 mod outlet;
-#[cfg(test)]
-mod tests;
 
 pub use crate::basic_impl::JsWriter;
 use swc_ecma_codegen_tree::{BytePos, Result, Span};
