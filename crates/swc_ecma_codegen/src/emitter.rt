@@ -94,8 +94,9 @@ impl<'a, W: WriteJs, S: SourceMapper, C: Comments> Emitter<'a, W, S, C> {
         ensures no_memory { remakes_name (steps_of (steps_in (program any_items node.now) (state_of W.sheet self.old))) ≡ false → (W.sheet self.old.wr).takes_memory ≡ false → result ≢ Err Error.OutOfMemory }
         // Where nothing stands in its way, it is made.
         ensures succeeds { IsUnhindered (steps_in (program any_items node.now) (state_of W.sheet self.old)) (state_of W.sheet self.old) (state_of W.sheet self.new) → IsOk result }
-        // A well-formed tree without such names, and with room for its levels, is printed, where the writer counts no fault.
+        // Where it is ready, and the writer counts no fault, a plain tree is printed.
         ensures made { IsPlainTree (program_phrase node.now) (W.sheet self.old.wr).indentation → IsReady (state_of W.sheet self.old) → (W.sheet self.new.wr).faults ≡ (W.sheet self.old.wr).faults → IsOk result }
+        // It is ready again for the next.
         ensures ready { OnOk result (IsReady (state_of W.sheet self.old) → IsReady (state_of W.sheet self.new)) }
         ensures marked { OnErr result ((state_of W.sheet self.new).failed ≡ true) }
         ensures failed { (state_of W.sheet self.old).failed ≡ true → result ≡ Err Error.Failed }
@@ -121,8 +122,9 @@ impl<'a, W: WriteJs, S: SourceMapper, C: Comments> Emitter<'a, W, S, C> {
         ensures no_memory { remakes_name (steps_of (steps_in (script any_items node.now) (state_of W.sheet self.old))) ≡ false → (W.sheet self.old.wr).takes_memory ≡ false → result ≢ Err Error.OutOfMemory }
         // Where nothing stands in its way, it is made.
         ensures succeeds { IsUnhindered (steps_in (script any_items node.now) (state_of W.sheet self.old)) (state_of W.sheet self.old) (state_of W.sheet self.new) → IsOk result }
-        // A well-formed tree without such names, and with room for its levels, is printed, where the writer counts no fault.
+        // Where it is ready, and the writer counts no fault, a plain tree is printed.
         ensures made { IsPlainTree (program_phrase (Program.Script node.now)) (W.sheet self.old.wr).indentation → IsReady (state_of W.sheet self.old) → (W.sheet self.new.wr).faults ≡ (W.sheet self.old.wr).faults → IsOk result }
+        // It is ready again for the next.
         ensures ready { OnOk result (IsReady (state_of W.sheet self.old) → IsReady (state_of W.sheet self.new)) }
         ensures marked { OnErr result ((state_of W.sheet self.new).failed ≡ true) }
         ensures failed { (state_of W.sheet self.old).failed ≡ true → result ≡ Err Error.Failed }

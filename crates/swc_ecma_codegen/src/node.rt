@@ -38,8 +38,9 @@ pub trait Node: Spanned {
         ensures no_memory { remakes_name (steps_of (steps_in (part self.now) (state_of W.sheet e.old))) ≡ false → (W.sheet e.old.wr).takes_memory ≡ false → result ≢ Err Error.OutOfMemory }
         // Where nothing stands in its way, it is made.
         ensures succeeds { IsUnhindered (steps_in (part self.now) (state_of W.sheet e.old)) (state_of W.sheet e.old) (state_of W.sheet e.new) → IsOk result }
-        // A well-formed tree without such names, and with room for its levels, is printed, where the writer counts no fault.
+        // Where it is ready, and the writer counts no fault, a plain tree is printed.
         ensures made { (root : Root) → part self.now ≡ root_items root → IsPlainTree (root_phrase root) (W.sheet e.old.wr).indentation → IsReady (state_of W.sheet e.old) → (W.sheet e.new.wr).faults ≡ (W.sheet e.old.wr).faults → IsOk result }
+        // It is ready again for the next.
         ensures ready { OnOk result (IsReady (state_of W.sheet e.old) → IsReady (state_of W.sheet e.new)) }
         ensures marked { OnErr result ((state_of W.sheet e.new).failed ≡ true) }
         ensures failed { (state_of W.sheet e.old).failed ≡ true → result ≡ Err Error.Failed }
