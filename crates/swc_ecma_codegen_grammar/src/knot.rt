@@ -1,11 +1,12 @@
 //! The whole tree.
 
 ghost use Rattle.std.specs.Prelude.{◌≡◌};
-ghost use Rattle.swc_ecma_codegen_ast.specs.TreePhrases.{phrase, is_well_formed};
+ghost use Rattle.swc_ecma_codegen_ast.specs.TreePhrases.{phrase, expr_phrase, stmt_phrase, is_well_formed};
+ghost use Rattle.swc_ecma_codegen_ast.specs.Phrases.{is_possible};
 
 use crate::forms::{Fits, WellFormed};
 use swc_ecma_codegen_ast::roles::Role;
-use swc_ecma_codegen_tree::{AnyNode, Program};
+use swc_ecma_codegen_tree::{AnyNode, Expr, Program, Stmt};
 
 impl Fits for AnyNode {
     ghost reads = { phrase };
@@ -21,9 +22,23 @@ impl Fits for AnyNode {
     }
 }
 
-/// Whether a program is well-formed.
+/// Whether a program is well-formed: whether its syntax has a list of tokens for it. Takes no memory.
 pub fn is_well_formed(program: &Program) -> bool
     ensures { result ≡ is_well_formed program.now }
 {
     program.is_well_formed()
+}
+
+/// Whether a statement is well-formed. Takes no memory.
+pub fn is_well_formed_stmt(stmt: &Stmt) -> bool
+    ensures { result ≡ is_possible (stmt_phrase stmt.now) }
+{
+    stmt.is_well_formed()
+}
+
+/// Whether an expression is well-formed. Takes no memory.
+pub fn is_well_formed_expr(expr: &Expr) -> bool
+    ensures { result ≡ is_possible (expr_phrase expr.now) }
+{
+    expr.is_well_formed()
 }

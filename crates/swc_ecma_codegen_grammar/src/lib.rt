@@ -8,4 +8,4 @@ mod names;
 mod stmts;
 
 pub use crate::forms::{Fits, WellFormed};
-pub use crate::knot::is_well_formed;
+pub use crate::knot::{is_well_formed, is_well_formed_expr, is_well_formed_stmt};

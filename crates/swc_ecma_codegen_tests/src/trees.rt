@@ -3,7 +3,7 @@
 ghost use Rattle.std.specs.Prelude.{◌≡◌, false};
 
 use std::alloc::Global;
-use swc_ecma_codegen::{Config, Emitter, to_code};
+use swc_ecma_codegen::{Config, Emitter, is_well_formed, to_code};
 use swc_ecma_codegen_ast::comments::CommentMaps;
 use swc_ecma_codegen_ast::mapper::NoSource;
 use swc_ecma_codegen_text_writer::JsWriter;
@@ -192,6 +192,10 @@ pub(crate) fn bytes_of(
 /// The text by `to_code`, and the bytes without blanks.
 pub(crate) fn texts(alloc: Global, steps: &[Step]) -> Result<(String, Vec<u8>), Error> {
     let program = program(alloc, steps)?;
+    if !is_well_formed(&program) {
+        discard(program);
+        return Err(Error::BadShape);
+    }
     let code = to_code(alloc, &program);
     let minified = bytes_of(alloc, &program, true, "\n");
     discard(program);
