@@ -4,7 +4,10 @@ ghost use Rattle.std.specs.Prelude.{◌≡◌};
 ghost use Rattle.swc_ecma_codegen_ast.specs.ExprPhrases.{this_expr, unary_expr, update_expr, bin_expr, computed_prop_name, member_prop, member_expr, cond_expr, seq_expr, paren_expr, expr};
 
 use crate::forms::{Fits, WellFormed, all_well_formed};
-use swc_ecma_codegen_tree::{BinExpr, ComputedPropName, CondExpr, Expr, MemberExpr, MemberProp, ParenExpr, SeqExpr, ThisExpr, UnaryExpr, UpdateExpr};
+use swc_ecma_codegen_tree::{
+    BinExpr, ComputedPropName, CondExpr, Expr, MemberExpr, MemberProp, ParenExpr, SeqExpr,
+    ThisExpr, UnaryExpr, UpdateExpr,
+};
 
 impl WellFormed for ThisExpr {
     ghost phrase = { this_expr };
