@@ -1,6 +1,6 @@
 //! Trees and their texts, as the reference prints them.
 
-use crate::trees::{Step, texts};
+use crate::trees::{Step, texts, texts_malformed};
 use std::alloc::Global;
 use std::test::Fail;
 use swc_ecma_codegen_tree::{BinaryOp, Error, UnaryOp, UpdateOp};
@@ -142,8 +142,14 @@ fn statements(rt: HostRuntime) -> Result<(), Fail> {
             "typeof \\u0061b\\u{63};"
         )?
     );
-    let steps = [Step::Name("a\\\u{0}b")];
-    assert!(rt; makes(alloc, &steps, "a\\b;\n", "a\\b;")?);
+    Ok(())
+}
+
+#[test]
+fn a_name_that_a_parser_found_invalid(rt: HostRuntime) -> Result<(), Fail> {
+    let (code, bytes) = texts_malformed(rt.alloc(), &[Step::Name("a\\\u{0}b")])?;
+    assert_eq!(rt; code.as_str(), "a\\b;\n");
+    assert_eq!(rt; bytes.as_slice(), b"a\\b;".as_slice());
     Ok(())
 }
 

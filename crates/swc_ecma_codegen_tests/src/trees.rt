@@ -189,13 +189,28 @@ pub(crate) fn bytes_of(
     Ok(emitter.wr.into_inner())
 }
 
-/// The text by `to_code`, and the bytes without blanks.
+/// The text by `to_code`, and the bytes without blanks, of a tree that is well-formed.
 pub(crate) fn texts(alloc: Global, steps: &[Step]) -> Result<(String, Vec<u8>), Error> {
     let program = program(alloc, steps)?;
     if !is_well_formed(&program) {
         discard(program);
         return Err(Error::BadShape);
     }
+    texts_of(alloc, program)
+}
+
+/// The same of one that isn't.
+pub(crate) fn texts_malformed(alloc: Global, steps: &[Step]) -> Result<(String, Vec<u8>), Error> {
+    let program = program(alloc, steps)?;
+    if is_well_formed(&program) {
+        discard(program);
+        return Err(Error::BadShape);
+    }
+    texts_of(alloc, program)
+}
+
+/// The text by `to_code`, and the bytes without blanks.
+fn texts_of(alloc: Global, program: Program) -> Result<(String, Vec<u8>), Error> {
     let code = to_code(alloc, &program);
     let minified = bytes_of(alloc, &program, true, "\n");
     discard(program);
