@@ -3,10 +3,15 @@
 use crate::trees::{Step, bytes_of, program, settings};
 use std::alloc::Global;
 use std::test::Fail;
-use swc_ecma_codegen::laws::{emitted_expr_reads, emitted_stmt_reads, new_emitter_reads};
+use swc_ecma_codegen::laws::{
+    emitted_boxed_stmt_reads, emitted_expr_box_reads, emitted_expr_reads,
+    emitted_member_expr_box_reads, emitted_optional_stmt_reads, emitted_program_reads,
+    emitted_script_reads, emitted_stmt_box_reads, emitted_stmt_reads, emitted_stmt_ref_reads,
+    links_write_their_roots, new_emitter_reads,
+};
 use swc_ecma_codegen::operands::{Operand, OperandKind, SpaceBefore};
 use swc_ecma_codegen::util::{EndsWithAlphaNum, StartsWithAlphaNum};
-use swc_ecma_codegen::{Emitter, Node, to_code};
+use swc_ecma_codegen::{Emitter, Node, is_well_formed_expr, is_well_formed_stmt, to_code};
 use swc_ecma_codegen_ast::comments::CommentMaps;
 use swc_ecma_codegen_ast::mapper::NoSource;
 use swc_ecma_codegen_text_writer::JsWriter;
@@ -159,6 +164,70 @@ fn bytes_that_read(alloc: Global, stmt: &Stmt, expr: &Expr) -> Result<Vec<u8>, E
     emitted_stmt_reads(stmt, &mut emitter)?;
     emitted_expr_reads(expr, &mut emitter)?;
     Ok(emitter.wr.into_inner())
+}
+
+/// The bytes of a tree, and then of its parts, by the functions that say how what holds a node reads.
+fn bytes_of_what_holds(alloc: Global, tree: &Program) -> Result<Vec<u8>, Error> {
+    links_write_their_roots();
+    let wr = JsWriter::new(alloc, &NoSource, "\n", Vec::new(alloc), None);
+    let mut emitter = Emitter::new(alloc, settings(true), &NoSource, None::<CommentMaps>, wr);
+    emitted_program_reads(tree, &mut emitter)?;
+    emitted_script_reads(script_of(tree), &mut emitter)?;
+    if let Some(link) = script_of(tree).body.first() {
+        emitted_stmt_box_reads(link, &mut emitter)?;
+    }
+    if let Some(stmt) = statement_of(tree) {
+        emitted_stmt_ref_reads(&stmt, &mut emitter)?;
+    }
+    if let Some(Stmt::Expr(node)) = statement_of(tree) {
+        emitted_expr_box_reads(&node.expr, &mut emitter)?;
+    }
+    if let Some(Expr::Member(link)) = expr_of(tree) {
+        emitted_member_expr_box_reads(link, &mut emitter)?;
+    }
+    let boxed = Box::new(alloc, Stmt::Empty(EmptyStmt { span: DUMMY_SP }))?;
+    emitted_boxed_stmt_reads(&boxed, &mut emitter)?;
+    emitted_optional_stmt_reads(&Some(Box::into_inner(boxed)), &mut emitter)?;
+    emitted_optional_stmt_reads(&None, &mut emitter)?;
+    Ok(emitter.wr.into_inner())
+}
+
+#[test]
+fn what_holds_a_node_has_its_text(rt: HostRuntime) -> Result<(), Fail> {
+    let alloc = rt.alloc();
+    let tree = program(alloc, &[A, Step::Member("b")])?;
+    let bytes = bytes_of_what_holds(alloc, &tree);
+    discard(tree);
+    assert_eq!(rt; bytes?.as_slice(), b"a.b;a.b;a.b;a.b;a.b a.b;;".as_slice());
+    Ok(())
+}
+
+/// Whether the statement and the expression of a name are well-formed.
+fn are_well_formed(alloc: Global, name: &'static str) -> Result<Option<(bool, bool)>, Error> {
+    let tree = program(alloc, &[Step::Name(name)])?;
+    let answers = match (statement_of(&tree), expr_of(&tree)) {
+        (Some(stmt), Some(expr)) => Some((is_well_formed_stmt(stmt), is_well_formed_expr(expr))),
+        _ => None,
+    };
+    discard(tree);
+    Ok(answers)
+}
+
+#[test]
+fn names_that_are_none_are_not_well_formed(rt: HostRuntime) -> Result<(), Fail> {
+    for name in ["a", "$", "\u{e9}", "\\u0061b"] {
+        assert!(rt;
+            are_well_formed(rt.alloc(), name)? == Some((true, true)),
+            "{name}"
+        );
+    }
+    for name in ["", "1", "a-b", "a b", "\\u0031", "a\\\u{0}b"] {
+        assert!(rt;
+            are_well_formed(rt.alloc(), name)? == Some((false, false)),
+            "{name}"
+        );
+    }
+    Ok(())
 }
 
 /// What an expression tells those above it: `--a`.
