@@ -1,6 +1,6 @@
 -- What is done where a setting says so.
 use Rattle.std.proofs.Common.{◌≡◌, true, false, cond, Result, Ok, Err, ap}
-use Rattle.swc_ecma_codegen_tree.specs.declared.errors.Error.{Error}
+use Rattle.swc_ecma_codegen_common.specs.declared.errors.Error.{Error}
 use Rattle.swc_ecma_codegen_base.specs.Run.{Env, Plan, State, Emits}
 use Rattle.swc_ecma_codegen_base.specs.Words.{commit_pending_semi}
 use Rattle.swc_ecma_codegen_base.proofs.Emitting.{follows_same}

@@ -1,16 +1,16 @@
 -- What is written of each expression is what it reads as.
 use Rattle.std.proofs.Common.{ℕ, Bool, true, false, cond, List, [], ◌==◌, ◌-◌, codes, refl, Some, None, string_bytes}
 use Rattle.std.specs.Str.{chars, is_utf8}
-use Rattle.swc_ecma_codegen_tree.specs.declared.positions.BytePos.{BytePos}
-use Rattle.swc_ecma_codegen_tree.specs.declared.positions.Span.{Span}
+use Rattle.swc_ecma_codegen_common.specs.declared.positions.BytePos.{BytePos}
+use Rattle.swc_ecma_codegen_common.specs.declared.positions.Span.{Span}
 use Rattle.swc_ecma_codegen_tree.specs.declared.idents.Ident.{Ident}
 use Rattle.swc_ecma_codegen_tree.specs.declared.idents.IdentName.{IdentName}
-use Rattle.swc_ecma_codegen_tree.specs.declared.operators.UnaryOp.{UnaryOp}
-use Rattle.swc_ecma_codegen_tree.specs.declared.operators.UnaryOp.TheVariants as unary
-use Rattle.swc_ecma_codegen_tree.specs.declared.operators.UpdateOp.{UpdateOp}
-use Rattle.swc_ecma_codegen_tree.specs.declared.operators.UpdateOp.TheVariants as update
-use Rattle.swc_ecma_codegen_tree.specs.declared.operators.BinaryOp.{BinaryOp}
-use Rattle.swc_ecma_codegen_tree.specs.declared.operators.BinaryOp.TheVariants as binary
+use Rattle.swc_ecma_codegen_common.specs.declared.operators.UnaryOp.{UnaryOp}
+use Rattle.swc_ecma_codegen_common.specs.declared.operators.UnaryOp.TheVariants as unary
+use Rattle.swc_ecma_codegen_common.specs.declared.operators.UpdateOp.{UpdateOp}
+use Rattle.swc_ecma_codegen_common.specs.declared.operators.UpdateOp.TheVariants as update
+use Rattle.swc_ecma_codegen_common.specs.declared.operators.BinaryOp.{BinaryOp}
+use Rattle.swc_ecma_codegen_common.specs.declared.operators.BinaryOp.TheVariants as binary
 use Rattle.swc_ecma_codegen_tree.specs.declared.exprs.ThisExpr as this_exprs
 use Rattle.swc_ecma_codegen_tree.specs.declared.exprs.UnaryExpr.{UnaryExpr}
 use Rattle.swc_ecma_codegen_tree.specs.declared.exprs.UpdateExpr.{UpdateExpr}
@@ -24,8 +24,8 @@ use Rattle.swc_ecma_codegen_tree.specs.declared.exprs.SeqExpr.{SeqExpr}
 use Rattle.swc_ecma_codegen_tree.specs.declared.exprs.ParenExpr.{ParenExpr}
 use Rattle.swc_ecma_codegen_tree.specs.declared.exprs.Expr.{Expr}
 use Rattle.swc_ecma_codegen_tree.specs.declared.exprs.Expr.TheVariants as exprs
-use Rattle.swc_ecma_codegen_tree.specs.Operators.{unary_text, binary_text, update_text}
-use Rattle.swc_ecma_codegen_tree.specs.Spans.{expr_span}
+use Rattle.swc_ecma_codegen_common.specs.Operators.{unary_text, binary_text, update_text}
+use Rattle.swc_ecma_codegen_spans.specs.Spans.{expr_span}
 use Rattle.swc_ecma_codegen_util.specs.Starts as starts
 use Rattle.swc_ecma_codegen_ast.specs.Chars.{is_start, is_part, is_letter, is_digit}
 use Rattle.swc_ecma_codegen_ast.specs.Names.{is_word, all_part}
@@ -39,10 +39,10 @@ use Rattle.swc_ecma_codegen_base.specs.Run.{Env, Part}
 use Rattle.swc_ecma_codegen_base.specs.Words.{operator, space, formatting_space, position, leading_comments, trailing_comments}
 use Rattle.swc_ecma_codegen_base.proofs.Printed.{Writes, writes_then, writes_if, writes_nothing, writes_space, writes_formatting_space, writes_commit, writes_position, writes_position_before, writes_leading, writes_trailing}
 use Rattle.swc_ecma_codegen_base.specs.Written.{IsWord, IsMark}
-use Rattle.swc_ecma_codegen_base.proofs.Phrased.{Prints, then, after, before, prints_keyword, prints_word_operator, prints_operator, prints_punct, prints_ident, prints_name}
+use Rattle.swc_ecma_codegen_base.proofs.Phrased.{Prints, then, after, before, prints_never, prints_keyword, prints_word_operator, prints_operator, prints_punct, prints_ident, prints_name}
 use Rattle.swc_ecma_codegen.specs.declared.nodes.Place.{Place}
 use Rattle.swc_ecma_codegen.specs.declared.nodes.Place.TheVariants.{Plain, LeftOperand}
-use Rattle.swc_ecma_codegen.specs.Answers.{Answers}
+use Rattle.swc_ecma_codegen.specs.Answers.{Answers, place_of}
 use Rattle.swc_ecma_codegen.specs.Operands.{is_word_op, operand_space}
 use Rattle.swc_ecma_codegen.specs.Exprs as words
 use Rattle.swc_ecma_codegen.proofs.Linked.{Linked, expr_at}
@@ -208,6 +208,7 @@ member_prop_prints : {X : Type 0} (l : Linked X) (n : MemberProp X) → Prints l
 unfolding words.member_prop lists.member_prop
 member_prop_prints l (member_props.Ident n) = after (writes_comments_before l.env n.span.lo) (then (prints_punct l.env (codes ".") dot_is_mark) (ident_name_prints l n))
 member_prop_prints l (member_props.Computed n) = computed_prints l n
+member_prop_prints l n = prints_never
 
 pub member_prints : {X : Type 0} (l : Linked X) (n : MemberExpr X) → Prints l.env (words.member l.items n) (lists.member_expr l.reads n)
 unfolding words.member lists.member_expr
@@ -245,8 +246,9 @@ parts_print l (exprs.Cond n) place = cond_prints l n
 parts_print l (exprs.Seq n) place = seq_prints l n
 parts_print l (exprs.Ident n) place = ident_prints l n
 parts_print l (exprs.Paren n) place = paren_prints l n
+parts_print l n place = prints_never
 
 -- the comments after it
 pub expr_prints : {X : Type 0} (l : Linked X) (n : Expr X) (place : Place) → Prints l.env (words.expr l.asks l.items n place) (lists.expr l.reads n)
 unfolding words.expr
-expr_prints l n place = before (parts_print l n place) (writes_closed l.env (words.is_inner n place) (expr_span (words.place_of l.asks) n))
+expr_prints l n place = before (parts_print l n place) (writes_closed l.env (words.is_inner n place) (expr_span (place_of l.asks) n))

@@ -2,14 +2,14 @@
 use Rattle.std.proofs.Common.{◌≡◌, ℕ, Bool, true, false, cond, List, [], ◌∷◌, ◌++◌, map, codes, refl, sym, ap, ◌∙◌, subst}
 use Rattle.std.proofs.lemmas.Bool.{true≢false}
 use denote.Hole.Holds.{Such}
-use Rattle.swc_ecma_codegen_tree.specs.Operators.{update_text}
-use Rattle.swc_ecma_codegen_tree.specs.declared.operators.UnaryOp.{UnaryOp}
-use Rattle.swc_ecma_codegen_tree.specs.declared.operators.UnaryOp.TheVariants as unary
+use Rattle.swc_ecma_codegen_common.specs.Operators.{update_text}
+use Rattle.swc_ecma_codegen_common.specs.declared.operators.UnaryOp.{UnaryOp}
+use Rattle.swc_ecma_codegen_common.specs.declared.operators.UnaryOp.TheVariants as unary
 use Rattle.swc_ecma_codegen_tree.specs.declared.links.AnyNode.{AnyNode, AnyNode-F, ind-AnyNode, roll-AnyNode}
 use Rattle.swc_ecma_codegen_tree.specs.declared.links.AnyNode.TheOpen as nodes
 use Rattle.swc_ecma_codegen_tree.specs.declared.links.AnyNode.TheBlock.{the_family, member-AnyNode}
 use Rattle.swc_ecma_codegen_tree.specs.declared.links.AnyNode.TheFolds.{claims}
-use Rattle.swc_ecma_codegen_tree.specs.declared.links.ExprBox.{ExprBox}
+use Rattle.swc_ecma_codegen_tree.specs.declared.expr_links.ExprBox.{ExprBox}
 use Rattle.swc_ecma_codegen_tree.specs.declared.exprs.Expr.{Expr}
 use Rattle.swc_ecma_codegen_tree.specs.declared.exprs.Expr.TheVariants as exprs
 use Rattle.swc_ecma_codegen_tree.specs.declared.stmts.Stmt.{Stmt}
@@ -115,11 +115,13 @@ expr_begins reads starts law (exprs.Cond n) = begins_then _ _ _ (law n.test.node
 expr_begins reads starts law (exprs.Seq n) = seq_begins reads starts law n.exprs.items
 expr_begins reads starts law (exprs.Ident n) = begins_then _ _ _ (begins_name _)
 expr_begins reads starts law (exprs.Paren n) = begins_then _ _ _ (begins_mark _ false)
+expr_begins reads starts law n = begins_never _
 
 stmt_begins : {X : Type 0} (reads : X → Role → Phrase) (starts : X → Bool) → Begin reads starts → (n : Stmt X) → Begins (stmt_lists.stmt reads n) (stmt_starts starts n)
 unfolding stmt_starts stmt_lists.stmt stmt_lists.empty_stmt stmt_lists.expr_stmt
 stmt_begins reads starts law (stmts.Empty n) = begins_mark _ false
 stmt_begins reads starts law (stmts.Expr n) = begins_then _ _ _ (law n.expr.node.value Expression)
+stmt_begins reads starts law n = begins_never _
 
 node_begins : {X : Type 0} (reads : X → Role → Phrase) (starts : X → Bool) → Begin reads starts → (n : AnyNode-F X) (role : Role) → Begins (node_phrase reads n role) (node_starts starts n)
 unfolding node_phrase node_starts lists.member_expr

@@ -1,7 +1,8 @@
 -- What is written of whole nodes.
 use Rattle.std.proofs.Common.{◌≡◌, List, [], ◌∷◌, Bool, true, false, map, refl, sym, ◌∙◌, ap}
-use Rattle.swc_ecma_codegen_tree.specs.declared.links.AnyNode.{AnyNode, AnyNode-F, map-AnyNode, roll-AnyNode}
+use Rattle.swc_ecma_codegen_tree.specs.declared.links.AnyNode.{AnyNode, AnyNode-F, map-AnyNode, roll-AnyNode, out-AnyNode}
 use Rattle.swc_ecma_codegen_tree.specs.declared.links.AnyNode.TheOpen as nodes
+use Rattle.swc_ecma_codegen_tree.specs.declared.links.AnyNode.TheViews.{roll-out-AnyNode}
 use Rattle.swc_ecma_codegen_tree.specs.declared.links.AnyNode.TheVariants as whole
 use Rattle.swc_ecma_codegen_tree.specs.declared.exprs.Expr.{Expr}
 use Rattle.swc_ecma_codegen_tree.specs.declared.exprs.Expr.TheVariants as exprs
@@ -9,17 +10,17 @@ use Rattle.swc_ecma_codegen_tree.specs.declared.exprs.MemberExpr.{MemberExpr}
 use Rattle.swc_ecma_codegen_tree.specs.declared.stmts.Stmt.{Stmt}
 use Rattle.swc_ecma_codegen_tree.specs.declared.stmts.Stmt.TheVariants as stmts
 use Rattle.swc_ecma_codegen_tree.specs.declared.links.AnyNode.TheFolds.{para-roll-AnyNode}
-use Rattle.swc_ecma_codegen_tree.specs.declared.links.ExprBox.{ExprBox}
-use Rattle.swc_ecma_codegen_tree.specs.declared.positions.Span.{Span}
+use Rattle.swc_ecma_codegen_tree.specs.declared.expr_links.ExprBox.{ExprBox}
+use Rattle.swc_ecma_codegen_common.specs.declared.positions.Span.{Span}
 use Rattle.swc_ecma_codegen_tree.specs.declared.exprs.MemberProp.{MemberProp}
 use Rattle.swc_ecma_codegen_tree.specs.declared.exprs.MemberProp.TheVariants as member_props
-use Rattle.swc_ecma_codegen_tree.specs.Spans.{expr_span, stmt_span}
-use Rattle.swc_ecma_codegen_base.specs.Run.{Plan, Part}
+use Rattle.swc_ecma_codegen_spans.specs.Spans.{expr_span, stmt_span}
+use Rattle.swc_ecma_codegen_base.specs.Run.{Plan, Part, refuse}
 use Rattle.swc_ecma_codegen_base.specs.Words.{trailing_comments}
 use Rattle.swc_ecma_codegen.specs.declared.nodes.Place.{Place}
 use Rattle.swc_ecma_codegen.specs.declared.nodes.Place.TheVariants.{Plain, LeftOperand}
 use Rattle.swc_ecma_codegen.specs.Answers.{Answers, any_answers}
-use Rattle.swc_ecma_codegen.specs.Lists.{comma, listed}
+use Rattle.swc_ecma_codegen.specs.Lists.{comma, listed, unsupported}
 use Rattle.swc_ecma_codegen.specs.Exprs.{this, unary, update, update_parts, bin, bin_trailing, member, member_prop, computed_prop_name, choice, seq, held, paren, ident, opened, expr_parts, expr_closed, is_inner, expr}
 use Rattle.swc_ecma_codegen.specs.Stmts.{empty_stmt, expr_stmt, stmt_parts, stmt}
 use Rattle.swc_ecma_codegen.specs.Tree.{node_items, any_items}
@@ -32,27 +33,29 @@ listed_mapped g e d same first [] rest = refl
 listed_mapped g e d same first (x ∷ xs) rest = ap (λ part. comma first (part (listed e false (map g xs) rest))) (same x) ∙ ap (λ after. comma first (d x after)) (listed_mapped g e d same false xs rest)
 
 member_mapped : {X Y : Type 0} (g : X → Y) (asks : Y → Answers) (items : Y → Place → Part) (span : Span) (obj : ExprBox X) (prop : MemberProp X) (place : Place) (rest : Plan) → node_items asks items (map-AnyNode X Y g (nodes.MemberExpr (record { span = span; obj = obj; prop = prop }))) place rest ≡ member (λ x. items (g x)) (record { span = span; obj = obj; prop = prop }) rest
-unfolding node_items member member_prop computed_prop_name
+unfolding node_items member member_prop computed_prop_name unsupported refuse
 member_mapped g asks items span obj (member_props.Ident n) place rest = refl
 member_mapped g asks items span obj (member_props.Computed n) place rest = refl
+member_mapped g asks items span obj n place rest = refl
 
 expr_mapped : {X Y : Type 0} (g : X → Y) (asks : Y → Answers) (items : Y → Place → Part) (n : Expr X) (place : Place) (rest : Plan) → node_items asks items (map-AnyNode X Y g (nodes.Expr n)) place rest ≡ expr (λ x. asks (g x)) (λ x. items (g x)) n place rest
-unfolding node_items expr expr_parts expr_closed expr_span is_inner this unary update update_parts bin bin_trailing choice seq paren ident
+unfolding node_items expr expr_parts expr_closed expr_span is_inner unsupported refuse this unary update update_parts bin bin_trailing choice seq paren ident
 expr_mapped g asks items (exprs.Bin n) Plain rest = refl
 expr_mapped g asks items (exprs.Bin n) LeftOperand rest = refl
 expr_mapped {X} g asks items (exprs.Seq n) place rest = ap (opened n.span) (listed_mapped {A = ExprBox X} _ (held items) (held (λ x. items (g x))) (λ x. refl) true n.exprs.items (trailing_comments true n.span.hi rest))
 expr_mapped g asks items n place rest = refl
 
-stmt_mapped : {X Y : Type 0} (g : X → Y) (asks : Y → Answers) (items : Y → Place → Part) (n : Stmt X) (place : Place) (rest : Plan) → node_items asks items (map-AnyNode X Y g (nodes.Stmt n)) place rest ≡ stmt (λ x. items (g x)) n rest
-unfolding node_items stmt stmt_parts stmt_span empty_stmt expr_stmt
+stmt_mapped : {X Y : Type 0} (g : X → Y) (asks : Y → Answers) (items : Y → Place → Part) (n : Stmt X) (place : Place) (rest : Plan) → node_items asks items (map-AnyNode X Y g (nodes.Stmt n)) place rest ≡ stmt (λ x. asks (g x)) (λ x. items (g x)) n rest
+unfolding node_items stmt stmt_parts stmt_span empty_stmt expr_stmt unsupported refuse
 stmt_mapped g asks items (stmts.Empty n) place rest = refl
 stmt_mapped g asks items n place rest = refl
 
 node_mapped : {X Y : Type 0} (g : X → Y) (asks : Y → Answers) (items : Y → Place → Part) (n : AnyNode-F X) (place : Place) (rest : Plan) → node_items asks items (map-AnyNode X Y g n) place rest ≡ node_items (λ x. asks (g x)) (λ x. items (g x)) n place rest
 unfolding node_items
-node_mapped g asks items (nodes.Expr n) = expr_mapped g asks items n
-node_mapped g asks items (nodes.Stmt n) = stmt_mapped g asks items n
-node_mapped g asks items (nodes.MemberExpr n) = member_mapped g asks items n.span n.obj n.prop
+node_mapped g asks items (nodes.Expr n) place rest = expr_mapped g asks items n place rest
+node_mapped g asks items (nodes.Stmt n) place rest = stmt_mapped g asks items n place rest
+node_mapped g asks items (nodes.MemberExpr n) place rest = member_mapped g asks items n.span n.obj n.prop place rest
+node_mapped g asks items n place rest = refl
 
 -- ---- whole nodes
 
@@ -67,11 +70,15 @@ items_of_layer n place rest = at_rest (para-roll-AnyNode (Place → Part) (node_
 pub items_of : {X : Type 0} (g : X → AnyNode) (n : AnyNode-F X) (place : Place) → any_items (roll-AnyNode (map-AnyNode X AnyNode g n)) place ≡ node_items (λ x. any_answers (g x)) (λ x. any_items (g x)) n place
 items_of {X} g n place = λ i. λ rest. (items_of_layer (map-AnyNode X AnyNode g n) place rest ∙ node_mapped g any_answers any_items n place rest) i
 
+-- by what a node is: one that isn't printed yet is refused
+pub any_items_of : (n : AnyNode) (place : Place) → any_items n place ≡ node_items any_answers any_items (out-AnyNode n) place
+any_items_of n place = λ i. λ rest. (at_rest (ap any_items (sym (roll-out-AnyNode n))) place rest ∙ items_of_layer (out-AnyNode n) place rest) i
+
 pub any_items_expr : (n : Expr AnyNode) (place : Place) → any_items (whole.Expr n) place ≡ expr any_answers any_items n place
 unfolding node_items
 any_items_expr n place = λ i. λ rest. (at_rest (ap any_items (sym (whole.rolls-Expr n))) place rest ∙ items_of_layer (nodes.Expr n) place rest) i
 
-pub any_items_stmt : (n : Stmt AnyNode) (place : Place) → any_items (whole.Stmt n) place ≡ stmt any_items n
+pub any_items_stmt : (n : Stmt AnyNode) (place : Place) → any_items (whole.Stmt n) place ≡ stmt any_answers any_items n
 unfolding node_items
 any_items_stmt n place = λ i. λ rest. (at_rest (ap any_items (sym (whole.rolls-Stmt n))) place rest ∙ items_of_layer (nodes.Stmt n) place rest) i
 

@@ -1,6 +1,6 @@
 -- What is written of what a link holds, by its sort, and what it reads as.
 use Rattle.std.proofs.Common.{◌≡◌, true, refl, ap, ◌∙◌, subst, Option, Some, None, Result, OnOk}
-use Rattle.swc_ecma_codegen_tree.specs.declared.errors.Error.{Error}
+use Rattle.swc_ecma_codegen_common.specs.declared.errors.Error.{Error}
 use Rattle.swc_ecma_codegen_tree.specs.declared.links.AnyNode.{AnyNode}
 use Rattle.swc_ecma_codegen_tree.specs.declared.links.AnyNode.TheOpen as nodes
 use Rattle.swc_ecma_codegen_tree.specs.declared.links.AnyNode.TheVariants as whole

@@ -3,8 +3,8 @@ use Rattle.std.proofs.Common.{◌≡◌, false}
 use Rattle.swc_ecma_codegen_ast.specs.Phrases.{Phrase}
 use Rattle.swc_ecma_codegen_ast.specs.declared.roles.Role.{Role}
 use Rattle.swc_ecma_codegen_ast.specs.declared.roles.Role.TheVariants.{Expression, Statement}
-use Rattle.swc_ecma_codegen_tree.specs.declared.links.ExprBox.{ExprBox}
-use Rattle.swc_ecma_codegen_tree.specs.declared.links.StmtBox.{StmtBox}
+use Rattle.swc_ecma_codegen_tree.specs.declared.expr_links.ExprBox.{ExprBox}
+use Rattle.swc_ecma_codegen_tree.specs.declared.stmt_links.StmtBox.{StmtBox}
 use Rattle.swc_ecma_codegen_base.specs.Run.{Env, Part}
 use Rattle.swc_ecma_codegen_base.proofs.Phrased.{Prints}
 use Rattle.swc_ecma_codegen.specs.declared.nodes.Place.{Place}

@@ -1,6 +1,6 @@
 -- What an emission of a well-formed tree adds to a text reads as one of the tree's token lists.
 use Rattle.std.proofs.Common.{◌≡◌, ℕ, true, false, List, refl, sym, subst, Result, OnOk}
-use Rattle.swc_ecma_codegen_tree.specs.declared.errors.Error.{Error}
+use Rattle.swc_ecma_codegen_common.specs.declared.errors.Error.{Error}
 use Rattle.swc_ecma_codegen_tree.specs.declared.links.AnyNode.{AnyNode}
 use Rattle.swc_ecma_codegen_tree.specs.declared.programs.Program.{Program}
 use Rattle.swc_ecma_codegen_tree.specs.declared.programs.Program.TheVariants.{Script as a_script}

@@ -1,9 +1,9 @@
 -- What a node tells those above it.
 use Rattle.std.specs.Prelude.{Bool}
 use Rattle.swc_ecma_codegen_tree.specs.declared.links.AnyNode.{AnyNode}
-use Rattle.swc_ecma_codegen_tree.specs.declared.positions.Span.{Span}
-use Rattle.swc_ecma_codegen_tree.specs.Spans.{any_span}
-use Rattle.swc_ecma_codegen_tree.specs.declared.operators.BinaryOp.{BinaryOp}
+use Rattle.swc_ecma_codegen_common.specs.declared.positions.Span.{Span}
+use Rattle.swc_ecma_codegen_spans.specs.Spans.{any_span}
+use Rattle.swc_ecma_codegen_common.specs.declared.operators.BinaryOp.{BinaryOp}
 use Rattle.swc_ecma_codegen_util.specs.Starts.{any_starts}
 use Rattle.swc_ecma_codegen_util.specs.Ends.{any_ends}
 use Rattle.swc_ecma_codegen.specs.declared.operands.OperandKind.{OperandKind}
@@ -20,6 +20,10 @@ pub record Answers : Type 0 where
   pub kind : OperandKind
   -- a blank is due before it, after an operator
   pub space : BinaryOp → Bool
+
+-- where what a link holds stands
+abbrev pub place_of : {X : Type 0} → (X → Answers) → X → Span
+place_of asks x = (asks x).place
 
 unfoldable pub any_answers : AnyNode → Answers
 any_answers n = record { place = any_span n; starts = any_starts n; ends = any_ends n; kind = any_kind n; space = any_space n }

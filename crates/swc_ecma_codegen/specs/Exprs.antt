@@ -1,13 +1,13 @@
 -- What is written of each expression. A word is generic in what a link holds, X. It takes what is known of that:
 -- `asks` says what it answers, `items` what is written of it, where its parent puts it.
 use Rattle.std.specs.Prelude.{ℕ, ◌-◌, ◌==◌, Bool, true, false, if◌then◌else◌, List, codes, Some, None, string_bytes}
-use Rattle.swc_ecma_codegen_tree.specs.declared.positions.BytePos.{BytePos}
-use Rattle.swc_ecma_codegen_tree.specs.declared.positions.Span.{Span}
+use Rattle.swc_ecma_codegen_common.specs.declared.positions.BytePos.{BytePos}
+use Rattle.swc_ecma_codegen_common.specs.declared.positions.Span.{Span}
 use Rattle.swc_ecma_codegen_tree.specs.declared.idents.Ident.{Ident}
 use Rattle.swc_ecma_codegen_tree.specs.declared.idents.IdentName.{IdentName}
-use Rattle.swc_ecma_codegen_tree.specs.declared.operators.UnaryOp.{UnaryOp}
-use Rattle.swc_ecma_codegen_tree.specs.declared.operators.BinaryOp.{BinaryOp}
-use Rattle.swc_ecma_codegen_tree.specs.declared.links.ExprBox.{ExprBox}
+use Rattle.swc_ecma_codegen_common.specs.declared.operators.UnaryOp.{UnaryOp}
+use Rattle.swc_ecma_codegen_common.specs.declared.operators.BinaryOp.{BinaryOp}
+use Rattle.swc_ecma_codegen_tree.specs.declared.expr_links.ExprBox.{ExprBox}
 use Rattle.swc_ecma_codegen_tree.specs.declared.exprs.ThisExpr as this_expr
 use Rattle.swc_ecma_codegen_tree.specs.declared.exprs.UnaryExpr.{UnaryExpr}
 use Rattle.swc_ecma_codegen_tree.specs.declared.exprs.UpdateExpr.{UpdateExpr}
@@ -21,16 +21,16 @@ use Rattle.swc_ecma_codegen_tree.specs.declared.exprs.SeqExpr.{SeqExpr}
 use Rattle.swc_ecma_codegen_tree.specs.declared.exprs.ParenExpr.{ParenExpr}
 use Rattle.swc_ecma_codegen_tree.specs.declared.exprs.Expr.{Expr}
 use Rattle.swc_ecma_codegen_tree.specs.declared.exprs.Expr.TheVariants as exprs
-use Rattle.swc_ecma_codegen_tree.specs.Operators.{unary_text, binary_text, update_text}
-use Rattle.swc_ecma_codegen_tree.specs.Spans.{expr_span}
+use Rattle.swc_ecma_codegen_common.specs.Operators.{unary_text, binary_text, update_text}
+use Rattle.swc_ecma_codegen_spans.specs.Spans.{expr_span}
 use Rattle.swc_ecma_codegen_util.specs.Starts as starts
 use Rattle.swc_ecma_codegen_base.specs.Run.{Part}
 use Rattle.swc_ecma_codegen_base.specs.Words.{keyword, operator, word_operator, punct, space, formatting_space, commit_pending_semi, start_of, end_of, last_of, leading_comments, trailing_comments, name}
 use Rattle.swc_ecma_codegen.specs.declared.nodes.Place.{Place}
 use Rattle.swc_ecma_codegen.specs.declared.nodes.Place.TheVariants.{Plain, LeftOperand}
-use Rattle.swc_ecma_codegen.specs.Answers.{Answers}
+use Rattle.swc_ecma_codegen.specs.Answers.{Answers, place_of}
 use Rattle.swc_ecma_codegen.specs.Operands.{is_word_op, space_after, operand_space}
-use Rattle.swc_ecma_codegen.specs.Lists.{listed}
+use Rattle.swc_ecma_codegen.specs.Lists.{listed, unsupported}
 
 -- one blank where it is needed, else what the settings want
 unfoldable pub blank : Bool → Part
@@ -112,6 +112,7 @@ computed_prop_name items n rest = start_of n.span (punct (codes "[") (items n.ex
 unfoldable pub member_prop : {X : Type 0} → (X → Place → Part) → MemberProp X → Part
 member_prop items (member_props.Ident n) rest = comments_before n.span.lo (punct (codes ".") (ident_name n rest))
 member_prop items (member_props.Computed n) rest = computed_prop_name items n rest
+member_prop items n rest = unsupported rest
 
 unfoldable pub member : {X : Type 0} → (X → Place → Part) → MemberExpr X → Part
 member items n rest = opened n.span (items n.obj.node.value Plain (member_prop items n.prop (end_of n.span rest)))
@@ -143,6 +144,7 @@ expr_parts asks items (exprs.Cond n) place rest = choice items n rest
 expr_parts asks items (exprs.Seq n) place rest = seq items n rest
 expr_parts asks items (exprs.Ident n) place rest = ident n rest
 expr_parts asks items (exprs.Paren n) place rest = paren items n rest
+expr_parts asks items n place rest = unsupported rest
 
 -- an inner left operand: its comments are left where they are
 unfoldable pub is_inner : {X : Type 0} → Expr X → Place → Bool
@@ -152,10 +154,6 @@ is_inner n place = false
 -- the comments after an expression
 unfoldable pub expr_closed : Bool → Span → Part
 expr_closed inner span rest = if inner then rest else trailing_comments true span.hi rest
-
--- where what a link holds stands
-abbrev pub place_of : {X : Type 0} → (X → Answers) → X → Span
-place_of asks x = (asks x).place
 
 unfoldable pub expr : {X : Type 0} → (X → Answers) → (X → Place → Part) → Expr X → Place → Part
 expr asks items n place rest = expr_parts asks items n place (expr_closed (is_inner n place) (expr_span (place_of asks) n) rest)

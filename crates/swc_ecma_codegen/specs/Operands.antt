@@ -4,12 +4,12 @@ use Rattle.std.specs.Prelude.{Bool, true, false, if◌then◌else◌}
 use Rattle.swc_ecma_codegen_tree.specs.declared.links.AnyNode.{AnyNode, AnyNode-F, fold-AnyNode}
 use Rattle.swc_ecma_codegen_tree.specs.declared.links.AnyNode.TheOpen as nodes
 use Rattle.swc_ecma_codegen_tree.specs.declared.links.AnyNode.TheFolds.{para-AnyNode}
-use Rattle.swc_ecma_codegen_tree.specs.declared.operators.BinaryOp.{BinaryOp}
-use Rattle.swc_ecma_codegen_tree.specs.declared.operators.BinaryOp.TheVariants as binary
-use Rattle.swc_ecma_codegen_tree.specs.declared.operators.UnaryOp.{UnaryOp}
-use Rattle.swc_ecma_codegen_tree.specs.declared.operators.UnaryOp.TheVariants as unary
-use Rattle.swc_ecma_codegen_tree.specs.declared.operators.UpdateOp.{UpdateOp}
-use Rattle.swc_ecma_codegen_tree.specs.declared.operators.UpdateOp.TheVariants as update
+use Rattle.swc_ecma_codegen_common.specs.declared.operators.BinaryOp.{BinaryOp}
+use Rattle.swc_ecma_codegen_common.specs.declared.operators.BinaryOp.TheVariants as binary
+use Rattle.swc_ecma_codegen_common.specs.declared.operators.UnaryOp.{UnaryOp}
+use Rattle.swc_ecma_codegen_common.specs.declared.operators.UnaryOp.TheVariants as unary
+use Rattle.swc_ecma_codegen_common.specs.declared.operators.UpdateOp.{UpdateOp}
+use Rattle.swc_ecma_codegen_common.specs.declared.operators.UpdateOp.TheVariants as update
 use Rattle.swc_ecma_codegen_tree.specs.declared.exprs.Expr.{Expr}
 use Rattle.swc_ecma_codegen_tree.specs.declared.exprs.Expr.TheVariants as exprs
 use Rattle.swc_ecma_codegen_tree.specs.declared.exprs.UpdateExpr.{UpdateExpr}
@@ -22,20 +22,13 @@ update_kind n = if n.prefix then kinds.Prefix n.op else kinds.Postfix n.op
 
 -- an expression, by its operator
 unfoldable pub expr_kind : {X : Type 0} → (X → OperandKind) → Expr X → OperandKind
-expr_kind kind (exprs.This n) = kinds.Other
 expr_kind kind (exprs.Unary n) = kinds.Unary n.op
 expr_kind kind (exprs.Update n) = update_kind n
-expr_kind kind (exprs.Bin n) = kinds.Other
-expr_kind kind (exprs.Member n) = kinds.Other
-expr_kind kind (exprs.Cond n) = kinds.Other
-expr_kind kind (exprs.Seq n) = kinds.Other
-expr_kind kind (exprs.Ident n) = kinds.Other
-expr_kind kind (exprs.Paren n) = kinds.Other
+expr_kind kind n = kinds.Other
 
 unfoldable pub node_kind : {X : Type 0} → (X → OperandKind) → AnyNode-F X → OperandKind
 node_kind kind (nodes.Expr n) = expr_kind kind n
-node_kind kind (nodes.Stmt n) = kinds.Other
-node_kind kind (nodes.MemberExpr n) = kinds.Other
+node_kind kind n = kinds.Other
 
 unfoldable pub any_kind : AnyNode → OperandKind
 any_kind = fold-AnyNode OperandKind (node_kind (λ known. known))
@@ -93,20 +86,14 @@ update_space n op = if n.prefix then update_repeats op n.op else false
 
 -- a blank is due between an operator that is no word and its right operand
 unfoldable pub expr_space : {X : Type 0} → (X → OperandKind) → (X → BinaryOp → Bool) → Expr X → BinaryOp → Bool
-expr_space kind space (exprs.This n) op = false
 expr_space kind space (exprs.Unary n) op = bang_space (kind n.arg.node.value) op n.op
 expr_space kind space (exprs.Update n) op = update_space n op
 expr_space kind space (exprs.Bin n) op = space n.left.node.value op
-expr_space kind space (exprs.Member n) op = false
-expr_space kind space (exprs.Cond n) op = false
-expr_space kind space (exprs.Seq n) op = false
-expr_space kind space (exprs.Ident n) op = false
-expr_space kind space (exprs.Paren n) op = false
+expr_space kind space n op = false
 
 unfoldable pub node_space : {X : Type 0} → (X → OperandKind) → (X → BinaryOp → Bool) → AnyNode-F X → BinaryOp → Bool
 node_space kind space (nodes.Expr n) op = expr_space kind space n op
-node_space kind space (nodes.Stmt n) op = false
-node_space kind space (nodes.MemberExpr n) op = false
+node_space kind space n op = false
 
 unfoldable pub any_space : AnyNode → BinaryOp → Bool
 any_space = para-AnyNode (BinaryOp → Bool) (node_space (λ p. any_kind p.0) (λ p. p.1))

@@ -1,7 +1,7 @@
 -- What is written of a whole program.
-use Rattle.std.specs.Prelude.{true, if◌then◌else◌, List, [], ◌∷◌}
-use Rattle.swc_ecma_codegen_tree.specs.declared.positions.Span.{Span}
-use Rattle.swc_ecma_codegen_tree.specs.declared.links.StmtBox.{StmtBox}
+use Rattle.std.specs.Prelude.{true, is_some, if◌then◌else◌, List, [], ◌∷◌}
+use Rattle.swc_ecma_codegen_common.specs.declared.positions.Span.{Span}
+use Rattle.swc_ecma_codegen_tree.specs.declared.stmt_links.StmtBox.{StmtBox}
 use Rattle.swc_ecma_codegen_tree.specs.declared.programs.Script.{Script}
 use Rattle.swc_ecma_codegen_tree.specs.declared.programs.Program.{Program}
 use Rattle.swc_ecma_codegen_tree.specs.declared.programs.Program.TheVariants as programs
@@ -9,7 +9,7 @@ use Rattle.swc_ecma_codegen_base.specs.Run.{Part}
 use Rattle.swc_ecma_codegen_base.specs.Words.{commit_pending_semi, start_of, leading_comments, trailing_comments}
 use Rattle.swc_ecma_codegen.specs.declared.nodes.Place.{Place}
 use Rattle.swc_ecma_codegen.specs.declared.nodes.Place.TheVariants.{Plain}
-use Rattle.swc_ecma_codegen.specs.Lists.{in_order}
+use Rattle.swc_ecma_codegen.specs.Lists.{in_order, unsupported}
 
 -- what a link holds
 abbrev pub held : {X : Type 0} → (X → Place → Part) → StmtBox X → Part
@@ -24,10 +24,16 @@ start_if_empty (x ∷ xs) span rest = rest
 unfoldable pub last_semi : Part
 last_semi rest env = if env.config.omit_last_semi then rest env else commit_pending_semi rest env
 
-unfoldable pub script : {X : Type 0} → (X → Place → Part) → Script X → Part
-script items n rest =
+-- without a hashbang
+unfoldable pub script_body : {X : Type 0} → (X → Place → Part) → Script X → Part
+script_body items n rest =
     leading_comments n.span.lo
     (start_if_empty n.body.items n.span (in_order (held items) n.body.items (trailing_comments true n.span.hi (last_semi rest))))
 
+-- a hashbang isn't printed yet
+unfoldable pub script : {X : Type 0} → (X → Place → Part) → Script X → Part
+script items n rest = if is_some n.shebang then unsupported rest else script_body items n rest
+
 unfoldable pub program : {X : Type 0} → (X → Place → Part) → Program X → Part
 program items (programs.Script n) rest = script items n rest
+program items n rest = unsupported rest

@@ -28,7 +28,7 @@ pub data Root : Type 0 where
 -- what is written of it
 abbrev pub root_items : Root → Part
 root_items (OfExpr n) = expr any_answers any_items n Plain
-root_items (OfStmt n) = stmt any_items n
+root_items (OfStmt n) = stmt any_answers any_items n
 root_items (OfScript n) = script any_items n
 root_items (OfProgram n) = program any_items n
 root_items (OfLink n role) = any_items n Plain

@@ -7,12 +7,14 @@ use Rattle.swc_ecma_codegen.specs.declared.nodes.Place.{Place}
 use Rattle.swc_ecma_codegen.specs.Answers.{Answers, any_answers}
 use Rattle.swc_ecma_codegen.specs.Exprs.{expr, member}
 use Rattle.swc_ecma_codegen.specs.Stmts.{stmt}
+use Rattle.swc_ecma_codegen.specs.Lists.{unsupported}
 
 -- one node, from what is known of what its links hold
 unfoldable pub node_items : {X : Type 0} → (X → Answers) → (X → Place → Part) → AnyNode-F X → Place → Part
 node_items asks items (nodes.Expr n) place = expr asks items n place
-node_items asks items (nodes.Stmt n) place = stmt items n
+node_items asks items (nodes.Stmt n) place = stmt asks items n
 node_items asks items (nodes.MemberExpr n) place = member items n
+node_items asks items n place = unsupported
 
 -- a whole node
 unfoldable pub any_items : AnyNode → Place → Part

@@ -1,7 +1,7 @@
 //! A text in memory.
 
 ghost use Rattle.std.specs.Prelude.{◌≡◌, ◌⊎◌, ◌<◌, ◌^◌, true, IfOk, IfErr, string_bytes};
-ghost use Rattle.swc_ecma_codegen_tree.specs.declared.errors.Error.TheVariants.{OutOfMemory};
+ghost use Rattle.swc_ecma_codegen_common.specs.declared.errors.Error.TheVariants.{OutOfMemory};
 ghost use Rattle.swc_ecma_codegen_base.specs.Run.{printed, start};
 ghost use Rattle.swc_ecma_codegen_base.specs.Written.{ReadsAs};
 ghost use Rattle.swc_ecma_codegen_base.specs.Ready.{token_count};
@@ -14,8 +14,8 @@ use crate::node::Node;
 use std::alloc::Global;
 use swc_ecma_codegen_ast::comments::CommentMaps;
 use swc_ecma_codegen_ast::mapper::NoSource;
+use swc_ecma_codegen_common::Error;
 use swc_ecma_codegen_text_writer::{JsWriter, WriteJs};
-use swc_ecma_codegen_tree::Error;
 use swc_ecma_codegen_util::config::Config;
 
 /// Prints a node to a writer, with the settings of `Config::default()`, and gives the writer back.

@@ -9,8 +9,9 @@ use std::alloc::Global;
 use swc_ecma_codegen_ast::comments::Comments;
 use swc_ecma_codegen_ast::mapper::SourceMapper;
 use swc_ecma_codegen_base::LowerEmitter;
+use swc_ecma_codegen_common::{Error, Result};
 use swc_ecma_codegen_text_writer::WriteJs;
-use swc_ecma_codegen_tree::{Error, Program, Result, Script};
+use swc_ecma_codegen_tree::{Program, Script};
 use swc_ecma_codegen_util::config::Config;
 
 /// Prints nodes to a writer. Once a call was refused, each further call that gives a `Result` answers `Failed`.

@@ -2,39 +2,22 @@
 
 ghost use Rattle.std.specs.Prelude.{◌≡◌, Some, None, OnOk};
 ghost use Rattle.swc_ecma_codegen_base.specs.Run.{Emits};
-ghost use Rattle.swc_ecma_codegen.specs.Exprs.{ident, ident_name, this, unary_op, unary_gap, unary, update_parts, update, binary_op, before_op, after_op, bin_trailing, bin_opened, bin, computed_prop_name, member_prop, member, choice, seq, paren, expr_parts, is_inner, expr_closed, place_of, expr};
-ghost use Rattle.swc_ecma_codegen_tree.specs.Spans.{expr_span};
+ghost use Rattle.swc_ecma_codegen.specs.Exprs.{ident, ident_name, this, unary_op, unary_gap, unary, update_parts, update, binary_op, before_op, after_op, bin_trailing, bin_opened, bin, computed_prop_name, member_prop, member, choice, seq, paren, expr_parts, is_inner, expr_closed, expr};
 ghost use Rattle.swc_ecma_codegen_util.specs.Starts.{is_word_op as is_word_unary};
 ghost use Rattle.swc_ecma_codegen.specs.View.{state_of};
 
 use crate::emitter::Emitter;
-use crate::nodes::{AskEnds, AskKind, AskPlace, AskSpace, AskStarts, Asked, EmitAt, Held, Place};
+use crate::nodes::{AskEnds, AskKind, AskSpace, AskStarts, Asked, EmitAt, Held, Place};
 use crate::operands::{is_word_op, operand_space, space_after};
+use crate::places::expr_place;
 use swc_ecma_codegen_ast::comments::Comments;
 use swc_ecma_codegen_ast::mapper::SourceMapper;
+use swc_ecma_codegen_common::{BinaryOp, Result, Span, UnaryOp};
 use swc_ecma_codegen_text_writer::WriteJs;
 use swc_ecma_codegen_tree::{
-    BinExpr, BinaryOp, ComputedPropName, CondExpr, Expr, Ident, IdentName, MemberExpr, MemberProp,
-    ParenExpr, Result, SeqExpr, Span, ThisExpr, UnaryExpr, UnaryOp, UpdateExpr,
+    BinExpr, ComputedPropName, CondExpr, Expr, Ident, IdentName, MemberExpr, MemberProp, ParenExpr,
+    SeqExpr, ThisExpr, UnaryExpr, UpdateExpr,
 };
-
-/// Where an expression stands.
-#[tactic(auto, unfolding(swc_ecma_codegen_tree::specs::Spans::expr_span))]
-fn place_of<N: AskPlace>(node: &Expr<N>) -> Span
-    ensures { result ≡ expr_span (place_of N.answers) node.now }
-{
-    match node {
-        Expr::This(node) => node.span,
-        Expr::Unary(node) => node.span,
-        Expr::Update(node) => node.span,
-        Expr::Bin(node) => node.span,
-        Expr::Member(node) => node.held().place(),
-        Expr::Cond(node) => node.span,
-        Expr::Seq(node) => node.span,
-        Expr::Ident(node) => node.span,
-        Expr::Paren(node) => node.span,
-    }
-}
 
 /// Whether it is an inner left operand, as `a + b` in `a + b + c`: its comments are left where they are.
 #[tactic(auto, unfolding(crate::specs::Exprs::is_inner))]
@@ -66,8 +49,9 @@ impl<N: Held> EmitAt for Expr<N> {
             Expr::Seq(node) => node.emit_at(e, place)?,
             Expr::Ident(node) => node.emit_at(e, place)?,
             Expr::Paren(node) => node.emit_at(e, place)?,
+            _ => e.unsupported()?,
         }
-        e.expr_closed(is_inner(self, place), place_of(self))?;
+        e.expr_closed(is_inner(self, place), expr_place(self))?;
         Ok(())
     }
 }
@@ -282,6 +266,7 @@ impl<W: WriteJs, S: SourceMapper, C: Comments> Emitter<'_, W, S, C> {
                 name.emit_at(self, Place::Plain)
             }
             MemberProp::Computed(name) => name.emit_at(self, Place::Plain),
+            MemberProp::PrivateName(_) => self.unsupported(),
         }
     }
 

@@ -12,8 +12,10 @@ use crate::nodes::{
 use crate::operands::{Operand, OperandKind, SpaceBefore};
 use swc_ecma_codegen_ast::comments::Comments;
 use swc_ecma_codegen_ast::mapper::SourceMapper;
+use swc_ecma_codegen_common::{BinaryOp, Result, Span};
+use swc_ecma_codegen_spans::Spanned;
 use swc_ecma_codegen_text_writer::WriteJs;
-use swc_ecma_codegen_tree::{AnyNode, BinaryOp, Result, Span, Spanned};
+use swc_ecma_codegen_tree::AnyNode;
 use swc_ecma_codegen_util::util::{EndsWithAlphaNum, StartsWithAlphaNum};
 
 impl Known for AnyNode {
@@ -60,7 +62,7 @@ impl Asked for AnyNode {}
 impl EmitAt for AnyNode {
     ghost items = { any_items };
 
-    #[tactic(auto, using(crate::proofs::Knots::any_items_expr, crate::proofs::Knots::any_items_stmt, crate::proofs::Knots::any_items_member_expr))]
+    #[tactic(auto, using(crate::proofs::Knots::any_items_of, crate::proofs::Knots::any_items_expr, crate::proofs::Knots::any_items_stmt, crate::proofs::Knots::any_items_member_expr), unfolding(crate::specs::Tree::node_items))]
     fn emit_at<W: WriteJs, S: SourceMapper, C: Comments>(
         &self,
         e: &mut Emitter<'_, W, S, C>,
@@ -70,6 +72,7 @@ impl EmitAt for AnyNode {
             AnyNode::Expr(node) => node.emit_at(e, place),
             AnyNode::Stmt(node) => node.emit_at(e, place),
             AnyNode::MemberExpr(node) => node.emit_at(e, place),
+            _ => e.unsupported(),
         }
     }
 }

@@ -36,8 +36,9 @@ use swc_ecma_codegen_ast::mapper::SourceMapper;
 pub use swc_ecma_codegen_ast::reading_laws::{
     one_reading, reduced_tokens_read, spaced_tokens_read,
 };
+use swc_ecma_codegen_common::Result;
 use swc_ecma_codegen_text_writer::WriteJs;
-use swc_ecma_codegen_tree::{Expr, Result, Stmt};
+use swc_ecma_codegen_tree::{Expr, Stmt};
 use swc_ecma_codegen_util::util::StartsWithAlphaNum;
 
 /// What `emit_with` of an expression adds to the text reads as one of the expression's token lists.
@@ -58,7 +59,7 @@ pub fn emitted_stmt_reads<W: WriteJs, S: SourceMapper, C: Comments>(
     e: &mut Emitter<'_, W, S, C>,
 ) -> Result
     // It is what `emit_with` does.
-    ensures items { Follows (stmt_items any_items stmt.now nothing) (state_of W.sheet e.old) (state_of W.sheet e.new) result }
+    ensures items { Follows (stmt_items any_answers any_items stmt.now nothing) (state_of W.sheet e.old) (state_of W.sheet e.new) result }
     ensures reads { is_possible (stmt_phrase stmt.now) ≡ true → IsNew (state_of W.sheet e.old) → OnOk result (AddsReading (stmt_phrase stmt.now) (W.sheet e.old.wr).text (W.sheet e.new.wr).text) }
 {
     stmt.emit_with(e)

@@ -1,6 +1,7 @@
 //! Prints trees of ECMAScript as text. A port of `swc_ecma_codegen`.
 #![tactic(auto)]
 
+pub mod ast;
 mod code;
 mod emitter;
 mod expr;
@@ -11,13 +12,13 @@ mod lists;
 mod node;
 pub mod nodes;
 pub mod operands;
+mod places;
 mod stmt;
 mod tokens;
 
 pub use crate::code::to_code;
 pub use crate::emitter::Emitter;
 pub use crate::node::Node;
-pub use swc_ecma_codegen_ast as ast;
 pub use swc_ecma_codegen_ast::{Error, Result};
 pub use swc_ecma_codegen_grammar::{is_well_formed, is_well_formed_expr, is_well_formed_stmt};
 pub use swc_ecma_codegen_text_writer as text_writer;

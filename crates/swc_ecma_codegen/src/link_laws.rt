@@ -20,10 +20,9 @@ use crate::emitter::Emitter;
 use crate::node::Node;
 use swc_ecma_codegen_ast::comments::Comments;
 use swc_ecma_codegen_ast::mapper::SourceMapper;
+use swc_ecma_codegen_common::Result;
 use swc_ecma_codegen_text_writer::WriteJs;
-use swc_ecma_codegen_tree::{
-    AnyNode, ExprBox, MemberExprBox, Program, Result, Script, Stmt, StmtBox,
-};
+use swc_ecma_codegen_tree::{AnyNode, ExprBox, MemberExprBox, Program, Script, Stmt, StmtBox};
 
 /// What a link writes is what is written of the root that it holds. So the clauses of `emit_with` and `to_code` that speak
 /// of roots speak of links too.

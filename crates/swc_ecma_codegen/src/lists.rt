@@ -11,8 +11,9 @@ use crate::emitter::Emitter;
 use crate::nodes::{EmitAt, Place};
 use swc_ecma_codegen_ast::comments::Comments;
 use swc_ecma_codegen_ast::mapper::SourceMapper;
+use swc_ecma_codegen_common::Result;
 use swc_ecma_codegen_text_writer::WriteJs;
-use swc_ecma_codegen_tree::{ExprBox, Result, StmtBox};
+use swc_ecma_codegen_tree::{ExprBox, StmtBox};
 
 impl<W: WriteJs, S: SourceMapper, C: Comments> Emitter<'_, W, S, C> {
     /// Writes a comma and a blank, except before the first.

@@ -14,8 +14,10 @@ use crate::emitter::Emitter;
 use crate::nodes::{EmitAt, Place};
 use swc_ecma_codegen_ast::comments::Comments;
 use swc_ecma_codegen_ast::mapper::SourceMapper;
+use swc_ecma_codegen_common::{Error, Result};
+use swc_ecma_codegen_spans::Spanned;
 use swc_ecma_codegen_text_writer::WriteJs;
-use swc_ecma_codegen_tree::{Error, ExprBox, MemberExprBox, Result, Spanned, StmtBox};
+use swc_ecma_codegen_tree::{ExprBox, MemberExprBox, StmtBox};
 
 /// A node that can be printed: each type of node, a link, and a reference, a box or an option of these. swc's `Node`.
 pub trait Node: Spanned {

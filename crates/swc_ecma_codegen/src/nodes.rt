@@ -10,8 +10,8 @@ use crate::emitter::Emitter;
 use crate::operands::OperandKind;
 use swc_ecma_codegen_ast::comments::Comments;
 use swc_ecma_codegen_ast::mapper::SourceMapper;
+use swc_ecma_codegen_common::{BinaryOp, Result, Span};
 use swc_ecma_codegen_text_writer::WriteJs;
-use swc_ecma_codegen_tree::{BinaryOp, Result, Span};
 
 /// Where a node stands in the one above it.
 #[derive(Debug, Clone, Copy, PartialEq, Eq)]

@@ -1,11 +1,12 @@
 //! What an operator asks of its operands.
 
 ghost use Rattle.std.specs.Prelude.{◌≡◌, Bool};
-ghost use Rattle.swc_ecma_codegen_tree.specs.declared.operators.BinaryOp.{BinaryOp as Op};
+ghost use Rattle.swc_ecma_codegen_common.specs.declared.operators.BinaryOp.{BinaryOp as Op};
 ghost use Rattle.swc_ecma_codegen.specs.declared.operands.OperandKind.{OperandKind as Kind};
 ghost use Rattle.swc_ecma_codegen.specs.Operands.{update_kind, expr_kind, any_kind, is_word_op, begins_greater, is_less, space_after, sign_repeats, update_repeats, is_decrement, bang_space, update_space, expr_space, any_space, operand_space};
 
-use swc_ecma_codegen_tree::{AnyNode, BinaryOp, Expr, UnaryOp, UpdateExpr, UpdateOp};
+use swc_ecma_codegen_common::{BinaryOp, UnaryOp, UpdateOp};
+use swc_ecma_codegen_tree::{AnyNode, Expr, UpdateExpr};
 
 /// An operand, by its operator.
 #[derive(Debug, Clone, Copy, PartialEq, Eq)]
@@ -57,8 +58,7 @@ impl<N: Operand> Operand for Expr<N> {
         match self {
             Expr::Unary(node) => OperandKind::Unary(node.op),
             Expr::Update(node) => kind_of_update(node),
-            Expr::This(_) | Expr::Bin(_) | Expr::Member(_) | Expr::Cond(_) => OperandKind::Other,
-            Expr::Seq(_) | Expr::Ident(_) | Expr::Paren(_) => OperandKind::Other,
+            _ => OperandKind::Other,
         }
     }
 }
@@ -66,12 +66,11 @@ impl<N: Operand> Operand for Expr<N> {
 impl Operand for AnyNode {
     ghost kind = { any_kind };
 
-    #[tactic(auto, using(crate::proofs::KindLaws::any_kind_expr, crate::proofs::KindLaws::any_kind_stmt, crate::proofs::KindLaws::any_kind_member_expr))]
+    #[tactic(auto, using(crate::proofs::KindLaws::any_kind_of, crate::proofs::KindLaws::any_kind_expr), unfolding(crate::specs::Operands::node_kind))]
     fn operand_kind(&self) -> OperandKind {
         match self {
             AnyNode::Expr(node) => node.operand_kind(),
-            AnyNode::Stmt(_) => OperandKind::Other,
-            AnyNode::MemberExpr(_) => OperandKind::Other,
+            _ => OperandKind::Other,
         }
     }
 }
@@ -174,8 +173,7 @@ impl<N: SpaceBefore> SpaceBefore for Expr<N> {
             Expr::Unary(node) => bang_space(node.arg.held().operand_kind(), op, node.op),
             Expr::Update(node) => node.prefix && update_repeats(op, node.op),
             Expr::Bin(node) => node.left.held().require_space_before(op),
-            Expr::This(_) | Expr::Member(_) | Expr::Cond(_) => false,
-            Expr::Seq(_) | Expr::Ident(_) | Expr::Paren(_) => false,
+            _ => false,
         }
     }
 }
@@ -183,12 +181,11 @@ impl<N: SpaceBefore> SpaceBefore for Expr<N> {
 impl SpaceBefore for AnyNode {
     ghost space = { any_space };
 
-    #[tactic(auto, using(crate::proofs::SpaceLaws::any_space_expr, crate::proofs::SpaceLaws::any_space_stmt, crate::proofs::SpaceLaws::any_space_member_expr))]
+    #[tactic(auto, using(crate::proofs::SpaceLaws::any_space_of, crate::proofs::SpaceLaws::any_space_expr), unfolding(crate::specs::Operands::node_space))]
     fn require_space_before(&self, op: BinaryOp) -> bool {
         match self {
             AnyNode::Expr(node) => node.require_space_before(op),
-            AnyNode::Stmt(_) => false,
-            AnyNode::MemberExpr(_) => false,
+            _ => false,
         }
     }
 }

@@ -8,15 +8,16 @@ ghost use Rattle.swc_ecma_codegen.specs.View.{state_of};
 
 use crate::emitter::Emitter;
 use crate::nodes::{EmitAt, Held, Place};
+use crate::places::stmt_place;
 use swc_ecma_codegen_ast::comments::Comments;
 use swc_ecma_codegen_ast::mapper::SourceMapper;
+use swc_ecma_codegen_common::{Result, Span};
+use swc_ecma_codegen_spans::Spanned;
 use swc_ecma_codegen_text_writer::WriteJs;
-use swc_ecma_codegen_tree::{
-    EmptyStmt, ExprStmt, Program, Result, Script, Span, Spanned, Stmt, StmtBox,
-};
+use swc_ecma_codegen_tree::{EmptyStmt, ExprStmt, Program, Script, Stmt, StmtBox};
 
 impl<N: Held> EmitAt for Stmt<N> {
-    ghost items = { λ n _. stmt N.items n };
+    ghost items = { λ n _. stmt N.answers N.items n };
 
     #[tactic(auto, unfolding(crate::specs::Stmts::stmt, crate::specs::Stmts::stmt_parts))]
     fn emit_at<W: WriteJs, S: SourceMapper, C: Comments>(
@@ -27,8 +28,9 @@ impl<N: Held> EmitAt for Stmt<N> {
         match self {
             Stmt::Empty(node) => node.emit_at(e, Place::Plain)?,
             Stmt::Expr(node) => node.emit_at(e, Place::Plain)?,
+            _ => e.unsupported()?,
         }
-        e.trailing_comments(self.span().hi, true)?;
+        e.trailing_comments(stmt_place(self).hi, true)?;
         e.formatting_line()?;
         Ok(())
     }
@@ -68,27 +70,21 @@ impl EmitAt for EmptyStmt {
 impl<N: Held> EmitAt for Script<N> {
     ghost items = { λ n _. script N.items n };
 
-    #[tactic(auto, unfolding(crate::specs::Programs::script))]
+    #[tactic(auto, unfolding(crate::specs::Programs::script, crate::specs::Programs::script_body))]
     fn emit_at<W: WriteJs, S: SourceMapper, C: Comments>(
         &self,
         e: &mut Emitter<'_, W, S, C>,
         place: Place,
     ) -> Result {
+        if self.shebang.is_some() {
+            return e.unsupported();
+        }
         e.leading_comments(self.span.lo)?;
         e.start_if_empty(&self.body, self.span)?;
         e.stmts(&self.body)?;
         e.trailing_comments(self.span.hi, true)?;
         e.last_semi()?;
         Ok(())
-    }
-}
-
-/// The script that a program is.
-fn script_of<N>(node: &Program<N>) -> &Script<N>
-    ensures { node.now ≡ Program.Script result.now }
-{
-    match node {
-        Program::Script(script) => script,
     }
 }
 
@@ -101,8 +97,10 @@ impl<N: Held> EmitAt for Program<N> {
         e: &mut Emitter<'_, W, S, C>,
         place: Place,
     ) -> Result {
-        script_of(self).emit_at(e, Place::Plain)?;
-        Ok(())
+        match self {
+            Program::Script(node) => node.emit_at(e, Place::Plain),
+            _ => e.unsupported(),
+        }
     }
 }
 

@@ -4,15 +4,27 @@ ghost use Rattle.std.specs.Prelude.{◌≡◌, Option, OnOk};
 ghost use Rattle.swc_ecma_codegen_base.specs.Run.{Emits};
 ghost use Rattle.swc_ecma_codegen_base.specs.Words.{keyword, operator, word_operator, punct, semi, space, formatting_space, formatting_line, commit_pending_semi, position, position_before, start_of, end_of, last_of, leading_comments, trailing_comments, name};
 ghost use Rattle.swc_ecma_codegen.specs.Exprs.{blank, space_if, spaced_punct, opened, comments_before};
+ghost use Rattle.swc_ecma_codegen.specs.Lists.{unsupported};
 ghost use Rattle.swc_ecma_codegen.specs.Programs.{last_semi};
 ghost use Rattle.swc_ecma_codegen.specs.View.{state_of};
 
 use crate::emitter::Emitter;
 use swc_ecma_codegen_ast::comments::Comments;
+use swc_ecma_codegen_base::Refusal;
+use swc_ecma_codegen_common::{BytePos, Result, Span};
 use swc_ecma_codegen_text_writer::WriteJs;
-use swc_ecma_codegen_tree::{BytePos, Result, Span};
 
 impl<W: WriteJs, S, C: Comments> Emitter<'_, W, S, C> {
+    /// Comes to a node that isn't printed yet.
+    #[tactic(auto, unfolding(crate::specs::Lists::unsupported))]
+    pub(crate) fn unsupported(&mut self) -> Result
+        ensures items { Emits unsupported (state_of W.sheet self.old) (state_of W.sheet self.new) result }
+        ensures level { OnOk result ((W.sheet self.new.wr).indentation ≡ (W.sheet self.old.wr).indentation) }
+    {
+        self.lower
+            .refuse(&self.cfg, &self.wr, Refusal::UnsupportedNode)
+    }
+
     /// Writes a keyword.
     pub(crate) fn keyword(&mut self, span: Option<Span>, text: &'static str) -> Result
         ensures items { Emits (keyword span text.now) (state_of W.sheet self.old) (state_of W.sheet self.new) result }

@@ -1,11 +1,12 @@
 -- What a whole node is read as, by its sort.
 use Rattle.std.proofs.Common.{◌≡◌, refl, sym, ◌∙◌, ap, List, [], ◌∷◌, map, codes}
-use Rattle.swc_ecma_codegen_tree.specs.declared.links.AnyNode.{AnyNode, AnyNode-F, map-AnyNode, roll-AnyNode}
+use Rattle.swc_ecma_codegen_tree.specs.declared.links.AnyNode.{AnyNode, AnyNode-F, map-AnyNode, roll-AnyNode, out-AnyNode}
 use Rattle.swc_ecma_codegen_tree.specs.declared.links.AnyNode.TheOpen as nodes
+use Rattle.swc_ecma_codegen_tree.specs.declared.links.AnyNode.TheViews.{roll-out-AnyNode}
 use Rattle.swc_ecma_codegen_tree.specs.declared.links.AnyNode.TheVariants as whole
 use Rattle.swc_ecma_codegen_tree.specs.declared.links.AnyNode.TheFolds.{fold-roll-AnyNode}
-use Rattle.swc_ecma_codegen_tree.specs.declared.links.ExprBox.{ExprBox}
-use Rattle.swc_ecma_codegen_tree.specs.declared.positions.Span.{Span}
+use Rattle.swc_ecma_codegen_tree.specs.declared.expr_links.ExprBox.{ExprBox}
+use Rattle.swc_ecma_codegen_common.specs.declared.positions.Span.{Span}
 use Rattle.swc_ecma_codegen_tree.specs.declared.exprs.Expr.{Expr}
 use Rattle.swc_ecma_codegen_tree.specs.declared.exprs.Expr.TheVariants as exprs
 use Rattle.swc_ecma_codegen_tree.specs.declared.exprs.MemberExpr.{MemberExpr}
@@ -40,6 +41,7 @@ member_mapped : {X Y : Type 0} (g : X → Y) (f : Y → Role → Phrase) (span :
 unfolding node_phrase member_expr member_prop computed_prop_name
 member_mapped g f span obj (member_props.Ident n) = refl
 member_mapped g f span obj (member_props.Computed n) = refl
+member_mapped g f span obj n = refl
 
 node_mapped : {X Y : Type 0} (g : X → Y) (f : Y → Role → Phrase) (n : AnyNode-F X) (role : Role) → node_phrase f (map-AnyNode X Y g n) role ≡ node_phrase (λ x. f (g x)) n role
 unfolding node_phrase
@@ -57,6 +59,10 @@ phrase_of_layer n role = ap (λ f. f role) (fold-roll-AnyNode (Role → Phrase) 
 -- what links hold may come with more
 pub phrase_of : {X : Type 0} (g : X → AnyNode) (n : AnyNode-F X) (role : Role) → phrase (roll-AnyNode (map-AnyNode X AnyNode g n)) role ≡ node_phrase (λ x. phrase (g x)) n role
 phrase_of {X} g n role = phrase_of_layer (map-AnyNode X AnyNode g n) role ∙ node_mapped g phrase n role
+
+-- by what a node is: what has no role here is Never
+pub phrase_at : (n : AnyNode) (role : Role) → phrase n role ≡ node_phrase phrase (out-AnyNode n) role
+phrase_at n role = ap (λ x. phrase x role) (sym (roll-out-AnyNode n)) ∙ phrase_of_layer (out-AnyNode n) role
 
 pub phrase_expr : (n : Expr AnyNode) (role : Role) → phrase (whole.Expr n) role ≡ node_phrase phrase (nodes.Expr n) role
 phrase_expr n role = ap (λ x. phrase x role) (sym (whole.rolls-Expr n)) ∙ phrase_of_layer (nodes.Expr n) role

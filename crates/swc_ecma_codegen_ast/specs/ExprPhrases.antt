@@ -1,12 +1,12 @@
 -- Expressions: one production a node. `f` says what is read of what a link holds, in its role.
 use Rattle.std.specs.Prelude.{if◌then◌else◌, map, codes}
-use Rattle.swc_ecma_codegen_tree.specs.Operators.{binary_text, unary_text, update_text}
-use Rattle.swc_ecma_codegen_tree.specs.declared.operators.BinaryOp.{BinaryOp}
-use Rattle.swc_ecma_codegen_tree.specs.declared.operators.BinaryOp.TheVariants as binary
-use Rattle.swc_ecma_codegen_tree.specs.declared.operators.UnaryOp.{UnaryOp}
-use Rattle.swc_ecma_codegen_tree.specs.declared.operators.UnaryOp.TheVariants as unary
-use Rattle.swc_ecma_codegen_tree.specs.declared.operators.UpdateOp.{UpdateOp}
-use Rattle.swc_ecma_codegen_tree.specs.declared.links.ExprBox.{ExprBox}
+use Rattle.swc_ecma_codegen_common.specs.Operators.{binary_text, unary_text, update_text}
+use Rattle.swc_ecma_codegen_common.specs.declared.operators.BinaryOp.{BinaryOp}
+use Rattle.swc_ecma_codegen_common.specs.declared.operators.BinaryOp.TheVariants as binary
+use Rattle.swc_ecma_codegen_common.specs.declared.operators.UnaryOp.{UnaryOp}
+use Rattle.swc_ecma_codegen_common.specs.declared.operators.UnaryOp.TheVariants as unary
+use Rattle.swc_ecma_codegen_common.specs.declared.operators.UpdateOp.{UpdateOp}
+use Rattle.swc_ecma_codegen_tree.specs.declared.expr_links.ExprBox.{ExprBox}
 use Rattle.swc_ecma_codegen_tree.specs.declared.exprs.Expr.{Expr}
 use Rattle.swc_ecma_codegen_tree.specs.declared.exprs.Expr.TheVariants as exprs
 use Rattle.swc_ecma_codegen_tree.specs.declared.exprs.ThisExpr.{ThisExpr}
@@ -20,7 +20,7 @@ use Rattle.swc_ecma_codegen_tree.specs.declared.exprs.ComputedPropName.{Computed
 use Rattle.swc_ecma_codegen_tree.specs.declared.exprs.CondExpr.{CondExpr}
 use Rattle.swc_ecma_codegen_tree.specs.declared.exprs.SeqExpr.{SeqExpr}
 use Rattle.swc_ecma_codegen_tree.specs.declared.exprs.ParenExpr.{ParenExpr}
-use Rattle.swc_ecma_codegen_ast.specs.Phrases.{Phrase, One, ◌>◌, word, mark, some_listed}
+use Rattle.swc_ecma_codegen_ast.specs.Phrases.{Phrase, Never, One, ◌>◌, word, mark, some_listed}
 use Rattle.swc_ecma_codegen_ast.specs.Tokens.{Token}
 use Rattle.swc_ecma_codegen_ast.specs.Tokens as tokens
 use Rattle.swc_ecma_codegen_ast.specs.declared.roles.Role.{Role}
@@ -69,6 +69,7 @@ computed_prop_name f n = mark (codes "[") > expr_at f n.expr > mark (codes "]")
 unfoldable pub member_prop : {X : Type 0} → (X → Role → Phrase) → MemberProp X → Phrase
 member_prop f (member_props.Ident n) = mark (codes ".") > ident_name n
 member_prop f (member_props.Computed n) = computed_prop_name f n
+member_prop f n = Never
 
 unfoldable pub member_expr : {X : Type 0} → (X → Role → Phrase) → MemberExpr X → Phrase
 member_expr f n = expr_at f n.obj > member_prop f n.prop
@@ -95,3 +96,5 @@ expr f (exprs.Cond n) = cond_expr f n
 expr f (exprs.Seq n) = seq_expr f n
 expr f (exprs.Ident n) = ident n
 expr f (exprs.Paren n) = paren_expr f n
+-- what isn't printed yet
+expr f n = Never

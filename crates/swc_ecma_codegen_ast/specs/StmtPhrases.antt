@@ -1,6 +1,6 @@
 -- Statements and programs: one production a node. `f` says what is read of what a link holds, in its role.
-use Rattle.std.specs.Prelude.{map, codes}
-use Rattle.swc_ecma_codegen_tree.specs.declared.links.StmtBox.{StmtBox}
+use Rattle.std.specs.Prelude.{if◌then◌else◌, is_some, map, codes}
+use Rattle.swc_ecma_codegen_tree.specs.declared.stmt_links.StmtBox.{StmtBox}
 use Rattle.swc_ecma_codegen_tree.specs.declared.stmts.Stmt.{Stmt}
 use Rattle.swc_ecma_codegen_tree.specs.declared.stmts.Stmt.TheVariants as stmts
 use Rattle.swc_ecma_codegen_tree.specs.declared.stmts.EmptyStmt.{EmptyStmt}
@@ -8,7 +8,7 @@ use Rattle.swc_ecma_codegen_tree.specs.declared.stmts.ExprStmt.{ExprStmt}
 use Rattle.swc_ecma_codegen_tree.specs.declared.programs.Program.{Program}
 use Rattle.swc_ecma_codegen_tree.specs.declared.programs.Program.TheVariants as programs
 use Rattle.swc_ecma_codegen_tree.specs.declared.programs.Script.{Script}
-use Rattle.swc_ecma_codegen_ast.specs.Phrases.{Phrase, ◌>◌, mark, in_order}
+use Rattle.swc_ecma_codegen_ast.specs.Phrases.{Phrase, Never, ◌>◌, mark, in_order}
 use Rattle.swc_ecma_codegen_ast.specs.declared.roles.Role.{Role}
 use Rattle.swc_ecma_codegen_ast.specs.declared.roles.Role.TheVariants.{Statement}
 use Rattle.swc_ecma_codegen_ast.specs.ExprPhrases.{expr_at}
@@ -28,10 +28,14 @@ expr_stmt f n = expr_at f n.expr > mark (codes ";")
 unfoldable pub stmt : {X : Type 0} → (X → Role → Phrase) → Stmt X → Phrase
 stmt f (stmts.Empty n) = empty_stmt n
 stmt f (stmts.Expr n) = expr_stmt f n
+-- what isn't printed yet
+stmt f n = Never
 
--- section 16.1
+-- section 16.1: without a hashbang, which isn't printed yet
 unfoldable pub script : {X : Type 0} → (X → Role → Phrase) → Script X → Phrase
-script f n = in_order (map (stmt_at f) n.body.items)
+script f n = if is_some n.shebang then Never else in_order (map (stmt_at f) n.body.items)
 
 unfoldable pub program : {X : Type 0} → (X → Role → Phrase) → Program X → Phrase
 program f (programs.Script n) = script f n
+-- what isn't printed yet
+program f n = Never

@@ -15,11 +15,9 @@ use Rattle.swc_ecma_codegen_ast.specs.StmtPhrases.{stmt, program}
 -- one node, where f says what is read of what its links hold: a node of another sort has no place there
 unfoldable pub node_phrase : {X : Type 0} → (X → Role → Phrase) → AnyNode-F X → Role → Phrase
 node_phrase f (nodes.Expr n) Expression = expr f n
-node_phrase f (nodes.Expr n) role = Never
 node_phrase f (nodes.Stmt n) Statement = stmt f n
-node_phrase f (nodes.Stmt n) role = Never
 node_phrase f (nodes.MemberExpr n) MemberExpression = member_expr f n
-node_phrase f (nodes.MemberExpr n) role = Never
+node_phrase f n role = Never
 
 -- a whole node
 unfoldable pub phrase : AnyNode → Role → Phrase

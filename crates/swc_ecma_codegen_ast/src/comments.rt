@@ -6,7 +6,7 @@ ghost use Rattle.swc_ecma_codegen_ast.specs.CommentMaps.{Maps, without_leading, 
 
 use std::alloc::Global;
 use std::collections::BTreeMap;
-use swc_ecma_codegen_tree::{BytePos, Span};
+use swc_ecma_codegen_common::{BytePos, Span};
 
 /// How a comment is written.
 #[derive(Debug, Clone, Copy, PartialEq, Eq)]

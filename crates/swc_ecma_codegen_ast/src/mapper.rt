@@ -2,12 +2,12 @@
 
 ghost use Rattle.std.specs.Prelude.{◌≡◌, ℕ, Bool, false, List, Option, None, option_map, IfOk, IfErr};
 ghost use Rattle.std.specs.String.{string_bytes};
-ghost use Rattle.swc_ecma_codegen_tree.specs.declared.positions.BytePos.{BytePos as Pos};
-ghost use Rattle.swc_ecma_codegen_tree.specs.declared.positions.Span.{Span as Place};
-ghost use Rattle.swc_ecma_codegen_tree.specs.declared.errors.Error.TheVariants.{OutOfMemory};
+ghost use Rattle.swc_ecma_codegen_common.specs.declared.positions.BytePos.{BytePos as Pos};
+ghost use Rattle.swc_ecma_codegen_common.specs.declared.positions.Span.{Span as Place};
+ghost use Rattle.swc_ecma_codegen_common.specs.declared.errors.Error.TheVariants.{OutOfMemory};
 
 use std::alloc::Global;
-use swc_ecma_codegen_tree::{BytePos, Error, Span};
+use swc_ecma_codegen_common::{BytePos, Error, Span};
 
 /// A source text. Each answer depends on the mapper's value and the arguments alone. `SourceMapper` of `swc_common`.
 pub trait SourceMapper {

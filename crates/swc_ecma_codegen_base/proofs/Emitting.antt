@@ -1,8 +1,8 @@
 -- Steps that are made, and steps that are refused.
 use Rattle.std.proofs.Common.{◌≡◌, true, false, cond, [], ◌∷◌, Result, Ok, Err, None, refl, sym, ◌∙◌, ap, subst}
 use Rattle.std.specs.Str.{chars}
-use Rattle.swc_ecma_codegen_tree.specs.declared.errors.Error.{Error}
-use Rattle.swc_ecma_codegen_tree.specs.declared.errors.Error.TheVariants.{Failed}
+use Rattle.swc_ecma_codegen_common.specs.declared.errors.Error.{Error}
+use Rattle.swc_ecma_codegen_common.specs.declared.errors.Error.TheVariants.{Failed}
 use Rattle.swc_ecma_codegen_ast.specs.GapRules.{fuses, Apart}
 use Rattle.swc_ecma_codegen_text_writer.specs.Sheet.{Space, effect}
 use Rattle.swc_ecma_codegen_base.specs.declared.refusals.Refusal.{Refusal}

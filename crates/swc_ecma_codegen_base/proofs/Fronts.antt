@@ -1,8 +1,8 @@
 -- What is out after a refusal, and why.
 use Rattle.std.proofs.Common.{◌≡◌, ℕ, Bool, true, false, ◌||◌, cond, List, [], ◌∷◌, ◌++◌, Result, Ok, Err, OnErr, IfErr, IsOk, Some, refl, sym, ◌∙◌, ap, subst, arith}
 use Rattle.std.specs.Str.{chars}
-use Rattle.swc_ecma_codegen_tree.specs.declared.errors.Error.{Error}
-use Rattle.swc_ecma_codegen_tree.specs.declared.errors.Error.TheVariants.{Writer, OutOfMemory, UnsupportedNode, BadShape, NameOutOfTarget, PositionTooLarge, Failed}
+use Rattle.swc_ecma_codegen_common.specs.declared.errors.Error.{Error}
+use Rattle.swc_ecma_codegen_common.specs.declared.errors.Error.TheVariants.{Writer, OutOfMemory, UnsupportedNode, BadShape, NameOutOfTarget, PositionTooLarge, Failed}
 use Rattle.swc_ecma_codegen_ast.specs.GapRules.{fuses, Apart}
 use Rattle.swc_ecma_codegen_text_writer.specs.Told.{IsFront, Rises}
 use Rattle.swc_ecma_codegen_text_writer.specs.Sheet.{Item, Space, Deeper, Sheet, effect, Causes, Refuses, earlier, stopped}

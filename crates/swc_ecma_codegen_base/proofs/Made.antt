@@ -1,7 +1,7 @@
 -- When an emission of a tree is made, and what is left after it.
 use Rattle.std.proofs.Common.{◌≡◌, ◌+◌, ◌^◌, ◌<◌, true, false, List, [], ◌∷◌, ◌++◌, length, length-append, Result, Ok, Err, None, Option, Some, OnOk, IsOk, refl, sym, ap, ◌∙◌, subst, arith}
 use Rattle.std.proofs.lemmas.Bool.{or_from, true≢false}
-use Rattle.swc_ecma_codegen_tree.specs.declared.errors.Error.{Error}
+use Rattle.swc_ecma_codegen_common.specs.declared.errors.Error.{Error}
 use Rattle.swc_ecma_codegen_base.specs.declared.refusals.Refusal.{Refusal}
 use Rattle.swc_ecma_codegen_text_writer.proofs.Sheets.{effect_refused, effect_faults, effect_takes_memory}
 use Rattle.swc_ecma_codegen_ast.specs.Tokens.{Token as LexicalToken}

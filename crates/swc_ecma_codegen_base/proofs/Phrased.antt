@@ -2,9 +2,9 @@
 use Rattle.std.proofs.Common.{◌≡◌, ◌≢◌, ℕ, Bool, true, false, cond, List, [], ◌∷◌, ◌++◌, ◌||◌, codes, refl, sym, ap, ◌∙◌, subst, append-nil, Option, Result, Ok, Err, OnOk, IfErr}
 use Rattle.std.specs.Str.{chars, is_utf8}
 use Rattle.std.proofs.lemmas.Bool.{and_parts, or_from, true≢false}
-use Rattle.swc_ecma_codegen_tree.specs.declared.errors.Error.{Error}
-use Rattle.swc_ecma_codegen_tree.specs.declared.errors.Error.TheVariants.{OutOfMemory}
-use Rattle.swc_ecma_codegen_tree.specs.declared.positions.Span.{Span}
+use Rattle.swc_ecma_codegen_common.specs.declared.errors.Error.{Error}
+use Rattle.swc_ecma_codegen_common.specs.declared.errors.Error.TheVariants.{OutOfMemory}
+use Rattle.swc_ecma_codegen_common.specs.declared.positions.Span.{Span}
 use Rattle.swc_ecma_codegen_ast.specs.declared.kinds.Kind.TheVariants.{Word, Name, Punctuator}
 use Rattle.swc_ecma_codegen_ast.specs.Tokens as lexical
 use Rattle.swc_ecma_codegen_ast.specs.Tokens.{token_of, value_of}

@@ -1,9 +1,9 @@
 -- What each word writes, whatever comes after it.
 use Rattle.std.proofs.Common.{◌≡◌, ℕ, ◌≤◌, Bool, true, false, cond, ◌||◌, List, [], ◌∷◌, ◌++◌, length, length-append, arith, ◌==◌, codes, refl, sym, ap, ◌∙◌, subst, inl, inr, Option, None}
 use Rattle.std.proofs.lemmas.Bool.{cases_Bool}
-use Rattle.swc_ecma_codegen_tree.specs.declared.positions.BytePos.{BytePos}
-use Rattle.swc_ecma_codegen_tree.specs.declared.positions.Span.{Span}
-use Rattle.swc_ecma_codegen_tree.specs.Spans.{dummy_span}
+use Rattle.swc_ecma_codegen_common.specs.declared.positions.BytePos.{BytePos}
+use Rattle.swc_ecma_codegen_common.specs.declared.positions.Span.{Span}
+use Rattle.swc_ecma_codegen_spans.specs.Spans.{dummy_span}
 use Rattle.swc_ecma_codegen_ast.specs.declared.kinds.Kind.TheVariants.{Word, Name, Punctuator}
 use Rattle.swc_ecma_codegen_ast.specs.Tokens as lexical
 use Rattle.swc_ecma_codegen_ast.specs.Tokens.{token_of}

@@ -1,8 +1,8 @@
 -- Names, by the text that they are written with.
 use Rattle.std.proofs.Common.{◌≡◌, true, false, cond, List, ℕ, Bool, Result, Ok, Err, refl, sym, ap, subst}
-use Rattle.swc_ecma_codegen_tree.specs.declared.errors.Error.{Error}
-use Rattle.swc_ecma_codegen_tree.specs.declared.errors.Error.TheVariants.{OutOfMemory}
-use Rattle.swc_ecma_codegen_tree.specs.declared.positions.Span.{Span}
+use Rattle.swc_ecma_codegen_common.specs.declared.errors.Error.{Error}
+use Rattle.swc_ecma_codegen_common.specs.declared.errors.Error.TheVariants.{OutOfMemory}
+use Rattle.swc_ecma_codegen_common.specs.declared.positions.Span.{Span}
 use Rattle.swc_ecma_codegen_ast.specs.ValidNames.{turned}
 use Rattle.swc_ecma_codegen_literals.specs.ValidNames.{has_byte}
 use Rattle.swc_ecma_codegen_base.specs.Run.{Env, Plan, State, Remake, Follows, Emits, put, IsRefused}

@@ -1,8 +1,8 @@
 -- The parts that plans are made of.
 use Rattle.std.specs.Prelude.{ℕ, ◌-◌, ◌==◌, Bool, if◌then◌else◌, List, codes, Option, None}
-use Rattle.swc_ecma_codegen_tree.specs.declared.positions.BytePos.{BytePos}
-use Rattle.swc_ecma_codegen_tree.specs.declared.positions.Span.{Span}
-use Rattle.swc_ecma_codegen_tree.specs.Spans.{dummy_span}
+use Rattle.swc_ecma_codegen_common.specs.declared.positions.BytePos.{BytePos}
+use Rattle.swc_ecma_codegen_common.specs.declared.positions.Span.{Span}
+use Rattle.swc_ecma_codegen_spans.specs.Spans.{dummy_span}
 use Rattle.swc_ecma_codegen_ast.specs.declared.kinds.Kind.TheVariants.{Word, Name, Punctuator}
 use Rattle.swc_ecma_codegen_text_writer.specs.Sheet.{Semi, Space, Keyword, Operator, Line, Symbol, Punct, Position, Commit}
 use Rattle.swc_ecma_codegen_ast.specs.ValidNames.{turned}

@@ -7,8 +7,8 @@ ghost use Rattle.swc_ecma_codegen_base.specs.View.{state_of};
 
 use crate::LowerEmitter;
 use swc_ecma_codegen_ast::comments::Comments;
+use swc_ecma_codegen_common::{BytePos, Result};
 use swc_ecma_codegen_text_writer::WriteJs;
-use swc_ecma_codegen_tree::{BytePos, Result};
 use swc_ecma_codegen_util::config::Config;
 
 impl LowerEmitter {

@@ -2,7 +2,7 @@
 //! need to call it. That a call of a token adds its token is a clause of the call.
 
 ghost use Rattle.std.specs.Prelude.{◌≡◌, ℕ, Bool, List, [], Ok};
-ghost use Rattle.swc_ecma_codegen_tree.specs.declared.positions.BytePos.{BytePos};
+ghost use Rattle.swc_ecma_codegen_common.specs.declared.positions.BytePos.{BytePos};
 ghost use Rattle.swc_ecma_codegen_ast.specs.Tokens.{Token};
 ghost use Rattle.swc_ecma_codegen_ast.specs.Phrases.{Phrase, Generates};
 ghost use Rattle.swc_ecma_codegen_base.specs.Run.{State, Emits};

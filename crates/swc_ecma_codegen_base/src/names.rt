@@ -10,9 +10,9 @@ ghost use Rattle.swc_ecma_codegen_base.specs.View.{state_of};
 
 use crate::LowerEmitter;
 use swc_ecma_codegen_ast::comments::Comments;
+use swc_ecma_codegen_common::{Error, Result, Span};
 use swc_ecma_codegen_literals::valid_name;
 use swc_ecma_codegen_text_writer::WriteJs;
-use swc_ecma_codegen_tree::{Error, Result, Span};
 use swc_ecma_codegen_util::config::Config;
 
 impl LowerEmitter {

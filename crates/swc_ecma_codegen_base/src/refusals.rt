@@ -5,8 +5,8 @@ ghost use Rattle.swc_ecma_codegen_base.specs.Run.{Emits, refuse, error_of};
 ghost use Rattle.swc_ecma_codegen_base.specs.View.{state_of};
 
 use crate::LowerEmitter;
+use swc_ecma_codegen_common::{Error, Result};
 use swc_ecma_codegen_text_writer::WriteJs;
-use swc_ecma_codegen_tree::{Error, Result};
 use swc_ecma_codegen_util::config::Config;
 
 /// Why a node can't be printed.

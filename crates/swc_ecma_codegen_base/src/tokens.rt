@@ -1,7 +1,7 @@
 //! One call of the writer, and the blank that is due before it.
 
 ghost use Rattle.std.specs.Prelude.{◌≡◌, ℕ, None, OnOk, OnErr, Option, List, [], ◌∷◌, ◌++◌, codes, true, false};
-ghost use Rattle.swc_ecma_codegen_tree.specs.Spans.{dummy_span};
+ghost use Rattle.swc_ecma_codegen_spans.specs.Spans.{dummy_span};
 ghost use Rattle.swc_ecma_codegen_text_writer.specs.Sheet.{Semi, Keyword, Operator, Symbol, Punct, Position};
 ghost use Rattle.swc_ecma_codegen_ast.specs.declared.kinds.Kind.TheVariants.{Word, Name, Punctuator};
 ghost use Rattle.swc_ecma_codegen_ast.specs.Tokens as lexical;
@@ -12,8 +12,8 @@ ghost use Rattle.swc_ecma_codegen_base.specs.View.{state_of};
 
 use crate::LowerEmitter;
 use crate::guard::Last;
+use swc_ecma_codegen_common::{BytePos, DUMMY_SP, Error, Result, Span};
 use swc_ecma_codegen_text_writer::WriteJs;
-use swc_ecma_codegen_tree::{BytePos, DUMMY_SP, Error, Result, Span};
 use swc_ecma_codegen_util::config::Config;
 
 impl LowerEmitter {

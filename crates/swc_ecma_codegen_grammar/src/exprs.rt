@@ -62,6 +62,7 @@ impl<N: Fits> WellFormed for MemberProp<N> {
         match self {
             MemberProp::Ident(name) => name.is_well_formed(),
             MemberProp::Computed(name) => name.is_well_formed(),
+            _ => false,
         }
     }
 }
@@ -117,6 +118,7 @@ impl<N: Fits> WellFormed for Expr<N> {
             Expr::Seq(node) => node.is_well_formed(),
             Expr::Ident(node) => node.is_well_formed(),
             Expr::Paren(node) => node.is_well_formed(),
+            _ => false,
         }
     }
 }

@@ -11,7 +11,7 @@ use swc_ecma_codegen_tree::{AnyNode, Expr, Program, Stmt};
 impl Fits for AnyNode {
     ghost reads = { phrase };
 
-    #[tactic(auto, using(swc_ecma_codegen_ast::proofs::TreeLaws::phrase_expr, swc_ecma_codegen_ast::proofs::TreeLaws::phrase_stmt, swc_ecma_codegen_ast::proofs::TreeLaws::phrase_member_expr), unfolding(swc_ecma_codegen_ast::specs::TreePhrases::node_phrase, swc_ecma_codegen_ast::specs::Phrases::is_possible))]
+    #[tactic(auto, using(swc_ecma_codegen_ast::proofs::TreeLaws::phrase_at, swc_ecma_codegen_ast::proofs::TreeLaws::phrase_expr, swc_ecma_codegen_ast::proofs::TreeLaws::phrase_stmt, swc_ecma_codegen_ast::proofs::TreeLaws::phrase_member_expr), unfolding(swc_ecma_codegen_ast::specs::TreePhrases::node_phrase, swc_ecma_codegen_ast::specs::Phrases::is_possible))]
     fn fits(&self, role: Role) -> bool {
         match (self, role) {
             (AnyNode::Expr(node), Role::Expression) => node.is_well_formed(),

@@ -32,6 +32,7 @@ impl<N: Fits> WellFormed for Stmt<N> {
         match self {
             Stmt::Empty(node) => node.is_well_formed(),
             Stmt::Expr(node) => node.is_well_formed(),
+            _ => false,
         }
     }
 }
@@ -41,7 +42,7 @@ impl<N: Fits> WellFormed for Script<N> {
 
     #[tactic(auto, using(crate::proofs::Lists::in_order_possible), unfolding(swc_ecma_codegen_ast::specs::StmtPhrases::script, swc_ecma_codegen_ast::specs::Phrases::is_possible))]
     fn is_well_formed(&self) -> bool {
-        all_well_formed(&self.body)
+        self.shebang.is_none() && all_well_formed(&self.body)
     }
 }
 
@@ -52,6 +53,7 @@ impl<N: Fits> WellFormed for Program<N> {
     fn is_well_formed(&self) -> bool {
         match self {
             Program::Script(node) => node.is_well_formed(),
+            _ => false,
         }
     }
 }

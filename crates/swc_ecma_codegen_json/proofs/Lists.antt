@@ -3,7 +3,7 @@ use Rattle.std.proofs.Common.{◌≡◌, ℕ, ◌+◌, ◌<◌, List, [], ◌∷
 use Rattle.std.proofs.Math.Seq.{take-suc}
 use Rattle.serde_json.specs.declared.value.Value.{Value}
 use Rattle.serde_json.specs.View.{view, items_view}
-use Rattle.swc_ecma_codegen_tree.specs.Forms.{Form, HasForm, HaveForms, forms_of}
+use Rattle.swc_ecma_codegen_json.specs.Forms.{Form, HasForm, HaveForms, forms_of}
 
 -- one more node, and one more value of its form
 with_one_more : {A : Type 0} (each : A → Form) (xs : List A) (x : A) (vs : List Value) (v : Value)

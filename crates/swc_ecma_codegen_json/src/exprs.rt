@@ -2,9 +2,9 @@
 
 ghost use Rattle.std.specs.Prelude.{IfOk};
 ghost use Rattle.serde_json.specs.View.{view};
-ghost use Rattle.swc_ecma_codegen_tree.specs.Forms.{HasForm, HasMember};
-ghost use Rattle.swc_ecma_codegen_tree.specs.NodeForms.{bin_form, computed_form, cond_form, expr_form, member_form, member_prop_form, paren_form, seq_form, unary_form, update_form, this_form};
-ghost use Rattle.swc_ecma_codegen_tree.specs.Readers.{ReadsBelow, MakesNodes};
+ghost use Rattle.swc_ecma_codegen_json.specs.Forms.{HasForm, HasMember};
+ghost use Rattle.swc_ecma_codegen_json.specs.NodeForms.{bin_form, computed_form, cond_form, expr_form, member_form, member_prop_form, paren_form, seq_form, unary_form, update_form, this_form};
+ghost use Rattle.swc_ecma_codegen_json.specs.Readers.{ReadsBelow, MakesNodes};
 
 use crate::fields::{field, flag, member};
 use crate::idents::{read_ident, read_ident_name};
@@ -12,11 +12,12 @@ use crate::links::{expr, exprs, member_expr};
 use crate::macros::{name_of, read_enum, read_field, read_leaf, read_struct, read_variant};
 use crate::operators::{binary_op, unary_op, update_op};
 use crate::positions::span;
+use crate::readers::{Formed, Read, ReadError, Sort};
 use serde_json::Value;
 use std::alloc::Global;
 use swc_ecma_codegen_tree::{
-    BinExpr, ComputedPropName, CondExpr, Expr, Formed, MemberExpr, MemberProp, ParenExpr, Read,
-    ReadError, SeqExpr, Sort, ThisExpr, UnaryExpr, UpdateExpr,
+    BinExpr, ComputedPropName, CondExpr, Expr, MemberExpr, MemberProp, ParenExpr, SeqExpr,
+    ThisExpr, UnaryExpr, UpdateExpr,
 };
 
 pub fn read_expr<N: Formed + Drop, F: Fn(Sort, &Value) -> Read<N>>(

@@ -7,11 +7,11 @@ ghost use Rattle.serde_json.specs.declared.value.Value.{size-Value};
 ghost use Rattle.serde_json.specs.Data.{Data, no_members, member as one_member};
 ghost use Rattle.serde_json.specs.Find.{get, get_member, as_array, as_object};
 ghost use Rattle.serde_json.specs.View.{view, items_view, members_view};
-ghost use Rattle.swc_ecma_codegen_tree.specs.Forms.{HasMember, null as null_form, flag as flag_form, text as text_form, whole as whole_form};
+ghost use Rattle.swc_ecma_codegen_json.specs.Forms.{HasMember, null as null_form, flag as flag_form, text as text_form, whole as whole_form};
 
+use crate::readers::{Read, ReadError};
 use serde_json::{Map, Value};
 use std::alloc::Global;
-use swc_ecma_codegen_tree::{Read, ReadError};
 
 /// The value that is found under a name.
 fn found<'a>(members: &'a Map<String, Value>, name: &str) -> Option<&'a Value>

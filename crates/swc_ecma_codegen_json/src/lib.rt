@@ -10,8 +10,8 @@ ghost use Rattle.std.specs.Str.{IsUtf8};
 ghost use Rattle.serde_json.specs.Data.{Data};
 ghost use Rattle.serde_json.specs.Read.{read as read_text};
 ghost use Rattle.serde_json.specs.View.{view};
-ghost use Rattle.swc_ecma_codegen_tree.specs.Forms.{HasForm};
-ghost use Rattle.swc_ecma_codegen_tree.specs.NodeForms.{program_form, any_form};
+ghost use Rattle.swc_ecma_codegen_json.specs.Forms.{HasForm};
+ghost use Rattle.swc_ecma_codegen_json.specs.NodeForms.{program_form, any_form};
 
 mod exprs;
 mod fields;
@@ -22,12 +22,14 @@ mod nodes;
 mod operators;
 mod positions;
 mod programs;
+mod readers;
 mod stmts;
 
 use crate::nodes::Json;
+pub use crate::readers::{Formed, Read, ReadError, ReadNodes, Sort, read_tree};
 use serde_json::Value;
 use std::alloc::Global;
-use swc_ecma_codegen_tree::{Program, Read, ReadError, read_tree};
+use swc_ecma_codegen_tree::Program;
 
 /// Reads a program from the bytes of its JSON: `CannotRead` where they aren't UTF-8, `BadTree` where they are no JSON,
 /// nest deeper than 127 or have another form, `OutOfMemory` where a growth is refused.

@@ -2,14 +2,15 @@
 
 ghost use Rattle.std.specs.Prelude.{IfOk};
 ghost use Rattle.serde_json.specs.View.{view};
-ghost use Rattle.swc_ecma_codegen_tree.specs.Forms.{HasForm, HasMember, listed, forms_of};
-ghost use Rattle.swc_ecma_codegen_tree.specs.NodeForms.{expr_link, stmt_link, member_expr_link};
-ghost use Rattle.swc_ecma_codegen_tree.specs.Readers.{ReadsBelow, MakesNodes};
+ghost use Rattle.swc_ecma_codegen_json.specs.Forms.{HasForm, HasMember, listed, forms_of};
+ghost use Rattle.swc_ecma_codegen_json.specs.NodeForms.{expr_link, stmt_link, member_expr_link};
+ghost use Rattle.swc_ecma_codegen_json.specs.Readers.{ReadsBelow, MakesNodes};
 
 use crate::fields::{field, items};
+use crate::readers::{Formed, Read, Sort};
 use serde_json::Value;
 use std::alloc::Global;
-use swc_ecma_codegen_tree::{ExprBox, Formed, MemberExprBox, Read, Sort, StmtBox};
+use swc_ecma_codegen_tree::{ExprBox, MemberExprBox, StmtBox};
 
 pub fn expr<N: Formed + Drop, F: Fn(Sort, &Value) -> Read<N>>(
     alloc: Global,

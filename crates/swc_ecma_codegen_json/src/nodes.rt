@@ -1,9 +1,10 @@
 //! Each sort of node, and a program, by its reader.
 
+use crate::readers::{Formed, Read, ReadNodes, Sort};
 use crate::{exprs, programs, stmts};
 use serde_json::Value;
 use std::alloc::Global;
-use swc_ecma_codegen_tree::{Expr, Formed, MemberExpr, Program, Read, ReadNodes, Sort, Stmt};
+use swc_ecma_codegen_tree::{Expr, MemberExpr, Program, Stmt};
 
 /// The readers of this crate.
 pub struct Json {}

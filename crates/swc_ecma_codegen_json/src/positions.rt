@@ -2,14 +2,15 @@
 
 ghost use Rattle.std.specs.Prelude.{IfOk};
 ghost use Rattle.serde_json.specs.View.{view};
-ghost use Rattle.swc_ecma_codegen_tree.specs.Forms.{HasMember, whole};
-ghost use Rattle.swc_ecma_codegen_tree.specs.NodeForms.{span_form};
+ghost use Rattle.swc_ecma_codegen_json.specs.Forms.{HasMember, whole};
+ghost use Rattle.swc_ecma_codegen_json.specs.NodeForms.{span_form};
 
 use crate::fields::{field, number_u32};
 use crate::macros::{name_of, read_field, read_leaf, read_struct};
+use crate::readers::Read;
 use serde_json::Value;
 use std::alloc::Global;
-use swc_ecma_codegen_tree::{BytePos, Read, Span};
+use swc_ecma_codegen_common::{BytePos, Span};
 
 fn byte_pos(_alloc: Global, json: &Value, name: &str) -> Read<BytePos>
     ensures { IfOk result (λ position. HasMember name.now (whole position.0) (view json.now)) }

@@ -2,17 +2,18 @@
 
 ghost use Rattle.std.specs.Prelude.{codes, IfOk, OnOk};
 ghost use Rattle.serde_json.specs.View.{view};
-ghost use Rattle.swc_ecma_codegen_tree.specs.Forms.{HasForm, HasMember, null};
-ghost use Rattle.swc_ecma_codegen_tree.specs.NodeForms.{program_form, script_form};
-ghost use Rattle.swc_ecma_codegen_tree.specs.Readers.{ReadsBelow, MakesNodes};
+ghost use Rattle.swc_ecma_codegen_json.specs.Forms.{HasForm, HasMember, null};
+ghost use Rattle.swc_ecma_codegen_json.specs.NodeForms.{program_form, script_form};
+ghost use Rattle.swc_ecma_codegen_json.specs.Readers.{ReadsBelow, MakesNodes};
 
 use crate::fields::{member, optional};
 use crate::links::stmts;
-use crate::macros::{name_of, read_enum, read_field, read_struct, read_variant};
+use crate::macros::{name_of, read_enum, read_variant};
 use crate::positions::span;
+use crate::readers::{Formed, Read, ReadError, Sort};
 use serde_json::Value;
 use std::alloc::Global;
-use swc_ecma_codegen_tree::{Formed, Program, Read, ReadError, Script, Sort};
+use swc_ecma_codegen_tree::{Program, Script};
 
 pub fn read_program<N: Formed + Drop, F: Fn(Sort, &Value) -> Read<N>>(
     alloc: Global,
@@ -38,10 +39,14 @@ fn read_script<N: Formed + Drop, F: Fn(Sort, &Value) -> Read<N>>(
     ensures { IfOk result (λ n. HasForm (script_form N.form n) (view json.now)) }
 {
     no_shebang(json)?;
-    read_struct!(alloc, json, make => Script { span: span, body: node stmts })
+    Ok(Script {
+        span: span(alloc, json, "span")?,
+        body: stmts(alloc, json, "body", make)?,
+        shebang: None,
+    })
 }
 
-/// The tree has no place for a shebang yet.
+/// No shebang is read yet.
 fn no_shebang(json: &Value) -> Read<()>
     ensures { OnOk result (HasMember (codes "shebang") null (view json.now)) }
 {

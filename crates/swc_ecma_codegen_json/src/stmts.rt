@@ -2,17 +2,18 @@
 
 ghost use Rattle.std.specs.Prelude.{IfOk};
 ghost use Rattle.serde_json.specs.View.{view};
-ghost use Rattle.swc_ecma_codegen_tree.specs.Forms.{HasForm};
-ghost use Rattle.swc_ecma_codegen_tree.specs.NodeForms.{expr_stmt_form, stmt_form, empty_stmt_form};
-ghost use Rattle.swc_ecma_codegen_tree.specs.Readers.{ReadsBelow, MakesNodes};
+ghost use Rattle.swc_ecma_codegen_json.specs.Forms.{HasForm};
+ghost use Rattle.swc_ecma_codegen_json.specs.NodeForms.{expr_stmt_form, stmt_form, empty_stmt_form};
+ghost use Rattle.swc_ecma_codegen_json.specs.Readers.{ReadsBelow, MakesNodes};
 
 use crate::fields::member;
 use crate::links::expr;
 use crate::macros::{name_of, read_enum, read_field, read_leaf, read_struct, read_variant};
 use crate::positions::span;
+use crate::readers::{Formed, Read, ReadError, Sort};
 use serde_json::Value;
 use std::alloc::Global;
-use swc_ecma_codegen_tree::{EmptyStmt, ExprStmt, Formed, Read, ReadError, Sort, Stmt};
+use swc_ecma_codegen_tree::{EmptyStmt, ExprStmt, Stmt};
 
 pub fn read_stmt<N: Formed + Drop, F: Fn(Sort, &Value) -> Read<N>>(
     alloc: Global,

@@ -1,7 +1,7 @@
 //! The fields of a row.
 
 use std::alloc::{AllocError, Global};
-use swc_ecma_codegen_tree::EsVersion;
+use swc_ecma_codegen_common::EsVersion;
 
 /// A code in hexadecimal.
 pub fn code(digits: &str) -> Option<u32> {

@@ -9,8 +9,8 @@ use crate::values::{is_one_character, is_plain, is_string, is_template, is_worth
 use std::alloc::Global;
 use swc_ecma_codegen_ast::reader::characters;
 use swc_ecma_codegen_ast::{is_hashbang, is_regex};
+use swc_ecma_codegen_common::{Error, EsVersion};
 use swc_ecma_codegen_literals::{ascii_only_ident, quoted_for_inline_script, quoted_utf16};
-use swc_ecma_codegen_tree::{Error, EsVersion};
 
 /// Whether a row holds. One that no word here fits doesn't.
 pub fn holds(alloc: Global, line: &str) -> bool {

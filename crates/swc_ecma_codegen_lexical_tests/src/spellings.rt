@@ -2,8 +2,8 @@
 
 use std::alloc::Global;
 use std::borrow::CowStr;
+use swc_ecma_codegen_common::{Decimal, Error, EsVersion};
 use swc_ecma_codegen_literals::{ascii_only_ident, minified_number, plain_number, valid_name};
-use swc_ecma_codegen_tree::{Decimal, Error, EsVersion};
 
 /// The decimal of a sign, digits and an exponent, where they are those of one.
 fn decimal_of(

@@ -3,8 +3,8 @@
 
 use crate::patterns::expanded;
 use std::alloc::{AllocError, Global};
+use swc_ecma_codegen_common::{Error, EsVersion};
 use swc_ecma_codegen_literals::{quoted_for_inline_script, quoted_utf16};
-use swc_ecma_codegen_tree::{Error, EsVersion};
 
 const SETTINGS: [(bool, EsVersion); 4] = [
     (true, EsVersion::Es5),

@@ -5,8 +5,8 @@
 
 use crate::patterns::expanded;
 use std::alloc::Global;
+use swc_ecma_codegen_common::Error;
 use swc_ecma_codegen_literals::template_from_raw;
-use swc_ecma_codegen_tree::Error;
 
 /// Whether a raw text gives this text.
 pub fn gives(alloc: Global, raw: &str, ascii_only: bool, text: &str) -> Result<bool, Error> {

@@ -9,7 +9,7 @@ use Rattle.std.proofs.lemmas.Str.{chars-encodes, encodes-IsAscii}
 use Rattle.std.proofs.lemmas.List.Folds.{list_all-append}
 use Rattle.std.proofs.lemmas.Fmt.{digits_is_IsNumeral}
 use lib.Utf8.{scalars, encodes}
-use Rattle.swc_ecma_codegen_tree.specs.declared.versions.EsVersion.{EsVersion}
+use Rattle.swc_ecma_codegen_common.specs.declared.versions.EsVersion.{EsVersion}
 use Rattle.swc_ecma_codegen_ast.specs.Chars.{begins_digit, is_digit}
 use Rattle.swc_ecma_codegen_ast.specs.Strings.{is_string}
 use Rattle.swc_ecma_codegen_ast.specs.Numbers.{is_hex}

@@ -7,7 +7,7 @@ use Rattle.std.specs.Str.Parse.{digits_value, digits_value_after, AllDigits, IsN
 use Rattle.std.proofs.lemmas.Fmt.{digits_is_IsNumeral}
 use Rattle.std.proofs.lemmas.Bool.{cases_lt, cases_Bool, lt-ltb, le-ltb, le-leb, leb-true, and_from, and_parts, or_parts, or_right, ne_eqb, not-true, false≢true, false_from_ne_true}
 use lib.Utf8.{scalars, scalar}
-use Rattle.swc_ecma_codegen_tree.specs.declared.versions.EsVersion.{EsVersion}
+use Rattle.swc_ecma_codegen_common.specs.declared.versions.EsVersion.{EsVersion}
 use Rattle.swc_ecma_codegen_ast.specs.Chars.{is_digit}
 use Rattle.swc_ecma_codegen_ast.specs.Numbers.{is_hex}
 use Rattle.swc_ecma_codegen_ast.specs.declared.units.Place.{Place}

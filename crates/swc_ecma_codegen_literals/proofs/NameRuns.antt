@@ -6,7 +6,7 @@ use Rattle.std.proofs.lemmas.Str.{chars-append, chars_past_char, encodes-IsAscii
 use Rattle.std.specs.Char.{encode_utf8}
 use Rattle.std.specs.List.{list_all}
 use Rattle.std.specs.Str.{IsUtf8, chars}
-use Rattle.swc_ecma_codegen_tree.specs.declared.versions.EsVersion.{EsVersion}
+use Rattle.swc_ecma_codegen_common.specs.declared.versions.EsVersion.{EsVersion}
 use Rattle.swc_ecma_codegen_literals.specs.AsciiNames.{is_plain, name_escape, name_escapes}
 use Rattle.swc_ecma_codegen_literals.proofs.EscapeTexts.{is_ascii_char}
 use Rattle.swc_ecma_codegen_literals.proofs.SpelledTexts.{ascii_from_all}

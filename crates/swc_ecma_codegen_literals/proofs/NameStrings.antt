@@ -4,7 +4,7 @@ use Rattle.std.specs.Char.{digit_value}
 use Rattle.std.specs.List.{list_all}
 use Rattle.std.proofs.lemmas.Bool.{cases_lt, cases_Bool, lt-ltb, le-ltb, and_from, and_parts, or_from, not-true, not_from_false, ne_eqb, eqb-true, false≢true}
 use lib.Utf8.{scalars, scalar}
-use Rattle.swc_ecma_codegen_tree.specs.declared.versions.EsVersion.{EsVersion}
+use Rattle.swc_ecma_codegen_common.specs.declared.versions.EsVersion.{EsVersion}
 use Rattle.swc_ecma_codegen_ast.specs.Chars.{is_digit, is_letter, is_part, is_start, is_quote}
 use Rattle.swc_ecma_codegen_ast.specs.Names.{all_part, is_word}
 use Rattle.swc_ecma_codegen_ast.specs.Numbers.{is_hex, is_either}

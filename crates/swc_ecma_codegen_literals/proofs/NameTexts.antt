@@ -7,7 +7,7 @@ use Rattle.std.proofs.lemmas.Bool.{cases_lt, cases_Bool, lt-ltb, le-ltb, ltb-tru
 use Rattle.std.proofs.lemmas.List.Folds.{list_all-append}
 use Rattle.std.proofs.lemmas.Str.{chars-IsAscii, encodes-IsAscii, encodes-chars, scalars-chars}
 use lib.Utf8.{low_scalar, scalar, scalars}
-use Rattle.swc_ecma_codegen_tree.specs.declared.versions.EsVersion.{EsVersion}
+use Rattle.swc_ecma_codegen_common.specs.declared.versions.EsVersion.{EsVersion}
 use Rattle.swc_ecma_codegen_ast.specs.Names.{is_name, name_value}
 use Rattle.swc_ecma_codegen_ast.specs.Strings.{is_string}
 use Rattle.swc_ecma_codegen_ast.specs.CodeUnits.{all_utf16}

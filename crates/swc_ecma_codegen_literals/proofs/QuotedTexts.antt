@@ -6,7 +6,7 @@ use Rattle.std.proofs.lemmas.Bool.{cases_lt, cases_Bool, lt-ltb, le-ltb, ltb-tru
 use Rattle.std.proofs.lemmas.Str.{chars-encodes, encodes-IsAscii}
 use Rattle.std.proofs.lemmas.List.Folds.{list_all-append}
 use lib.Utf8.{scalars, scalar, encodes, low_scalar}
-use Rattle.swc_ecma_codegen_tree.specs.declared.versions.EsVersion.{EsVersion}
+use Rattle.swc_ecma_codegen_common.specs.declared.versions.EsVersion.{EsVersion}
 use Rattle.swc_ecma_codegen_ast.specs.Chars.{is_quote}
 use Rattle.swc_ecma_codegen_ast.specs.Strings.{is_string}
 use Rattle.swc_ecma_codegen_ast.proofs.StrictStrings.{valued_is_string}

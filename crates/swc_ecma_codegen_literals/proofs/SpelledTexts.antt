@@ -7,7 +7,7 @@ use Rattle.std.proofs.lemmas.Bool.{and_parts, ltb-true}
 use Rattle.std.proofs.lemmas.Str.{encodes-append, encodes-chars, chars-append, encodes-IsAscii, scalars-chars, chars_past_char}
 use Rattle.std.proofs.lemmas.List.{nil_from_length}
 use lib.Utf8.{encodes, scalars, scalar, scalar_cases}
-use Rattle.swc_ecma_codegen_tree.specs.declared.versions.EsVersion.{EsVersion}
+use Rattle.swc_ecma_codegen_common.specs.declared.versions.EsVersion.{EsVersion}
 use Rattle.swc_ecma_codegen_literals.specs.StringTexts.{stands, escape_text, spelled, spelled_all, first_escape, quoted_text, quote_of}
 use Rattle.swc_ecma_codegen_literals.proofs.EscapeTexts.{is_ascii_char, escape_text_ascii}
 

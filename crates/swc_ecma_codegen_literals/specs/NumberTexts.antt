@@ -7,7 +7,7 @@ use Rattle.std.specs.declared.string.String.{String}
 use Rattle.std.specs.Str.Parse.{digits_value}
 use Rattle.swc_ecma_codegen_ast.specs.Numbers.{is_number}
 use Rattle.swc_ecma_codegen_ast.specs.NumberValues.{MathValue, times_ten, over_ten, SameValue, numeric_value}
-use Rattle.swc_ecma_codegen_tree.specs.declared.decimals.Decimal.{Decimal}
+use Rattle.swc_ecma_codegen_common.specs.declared.decimals.Decimal.{Decimal}
 
 -- `12` with the point before its last n digits: `1.2` for 1, `0.12` for 2, `0.0012` for 4
 unfoldable pub with_point : List ℕ → ℕ → List ℕ

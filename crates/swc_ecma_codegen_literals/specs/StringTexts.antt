@@ -1,8 +1,8 @@
 -- How a string is spelled.
 use Rattle.std.specs.Prelude.{ℕ, ◌+◌, ◌-◌, ◌/◌, ◌%◌, Bool, true, false, not, List, [], ◌∷◌, ◌++◌, ◌&&◌, ◌||◌, ◌==◌, nat_lt, nat_le, if◌then◌else◌, codes, count_by}
 use Rattle.std.specs.Fmt.{digit_glyph, digits}
-use Rattle.swc_ecma_codegen_tree.specs.declared.versions.EsVersion.{EsVersion}
-use Rattle.swc_ecma_codegen_tree.specs.declared.versions.EsVersion.TheVariants.{Es3, Es5}
+use Rattle.swc_ecma_codegen_common.specs.declared.versions.EsVersion.{EsVersion}
+use Rattle.swc_ecma_codegen_common.specs.declared.versions.EsVersion.TheVariants.{Es3, Es5}
 use Rattle.swc_ecma_codegen_ast.specs.Chars.{begins_digit}
 use Rattle.swc_ecma_codegen_ast.specs.CodeUnits.{escape_length}
 

@@ -10,7 +10,7 @@ ghost use Rattle.swc_ecma_codegen_ast.specs.CodeUnits.{escape_length, is_high_di
 ghost use Rattle.swc_ecma_codegen_literals.specs.StringTexts.{up_to_es5, below_es5, stands, is_unseen, escape_text, null_escape, backslash_escape, code_escape, hex_escape, unit_escape, braced_escape};
 
 use std::alloc::AllocError;
-use swc_ecma_codegen_tree::EsVersion;
+use swc_ecma_codegen_common::EsVersion;
 
 /// How a string is spelled: its quote, whether all in ASCII, and for which version of the language.
 #[derive(Clone, Copy)]

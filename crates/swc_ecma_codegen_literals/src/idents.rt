@@ -4,7 +4,7 @@ ghost use Rattle.std.specs.Prelude.{◌≡◌, ◌++◌, ◌∷◌, [], ◌<◌,
 ghost use Rattle.std.specs.List.{list_all, list_any};
 ghost use Rattle.std.specs.Str.{chars, IsAscii, IsUtf8};
 ghost use Rattle.std.specs.String.{string_bytes};
-ghost use Rattle.swc_ecma_codegen_tree.specs.declared.errors.Error.TheVariants.{OutOfMemory, NameOutOfTarget};
+ghost use Rattle.swc_ecma_codegen_common.specs.declared.errors.Error.TheVariants.{OutOfMemory, NameOutOfTarget};
 ghost use Rattle.swc_ecma_codegen_ast.specs.Names.{is_name, name_value};
 ghost use Rattle.swc_ecma_codegen_ast.specs.Strings.{is_string};
 ghost use Rattle.swc_ecma_codegen_ast.specs.CodeUnits.{all_utf16};
@@ -13,7 +13,7 @@ ghost use Rattle.swc_ecma_codegen_literals.specs.AsciiNames.{is_plain, lower_uni
 
 use crate::escapes::{is_up_to_es5, lower_digit, push_code};
 use std::alloc::{AllocError, Global};
-use swc_ecma_codegen_tree::{Error, EsVersion};
+use swc_ecma_codegen_common::{Error, EsVersion};
 
 /// A name in ASCII alone. What isn't ASCII is escaped: `\u00e9`, `\u0301`, `\u{1D4AB}`. A key of an object or a class
 /// may be quoted; it is, where a character has a shorter escape in a string, `"\xe9"`, or one there alone,

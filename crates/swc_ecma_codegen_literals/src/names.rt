@@ -3,14 +3,14 @@
 ghost use Rattle.std.specs.Prelude.{◌≡◌, false, IfOk, IfErr, IsOkAnd};
 ghost use Rattle.std.specs.Cow.{cow_str_bytes};
 ghost use Rattle.std.specs.String.{string_bytes};
-ghost use Rattle.swc_ecma_codegen_tree.specs.declared.errors.Error.TheVariants.{OutOfMemory};
+ghost use Rattle.swc_ecma_codegen_common.specs.declared.errors.Error.TheVariants.{OutOfMemory};
 ghost use Rattle.swc_ecma_codegen_ast.specs.ValidNames.{turned};
 ghost use Rattle.swc_ecma_codegen_literals.specs.ValidNames.{has_byte, IsLent};
 
 use memchr::memmem;
 use std::alloc::Global;
 use std::borrow::CowStr;
-use swc_ecma_codegen_tree::Error;
+use swc_ecma_codegen_common::Error;
 
 /// The name that is written for `name`, where a parser put U+0000 after a backslash to mark a name that is invalid:
 /// each such U+0000 is left out, from left to right. `Error::OutOfMemory` where there is one and no room for the new

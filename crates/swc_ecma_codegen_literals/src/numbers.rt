@@ -3,11 +3,11 @@
 ghost use Rattle.std.specs.Prelude.{◌≡◌, ◌++◌, replicate, IfOk, IfErr, OnOk, option_map};
 ghost use Rattle.std.specs.String.{string_bytes};
 ghost use Rattle.std.specs.Str.{IsAscii};
-ghost use Rattle.swc_ecma_codegen_tree.specs.declared.errors.Error.TheVariants.{OutOfMemory};
+ghost use Rattle.swc_ecma_codegen_common.specs.declared.errors.Error.TheVariants.{OutOfMemory};
 ghost use Rattle.swc_ecma_codegen_literals.specs.NumberTexts.{plain_text, minified_text, plain_size, with_point, short_size, short_fraction, hexadecimal_size, whole_size, shorter_size, sign_text, decimal_digits, option_text, SpellsDecimal};
 
 use std::alloc::{AllocError, Global};
-use swc_ecma_codegen_tree::{Decimal, Error};
+use swc_ecma_codegen_common::{Decimal, Error};
 
 /// The shortest of the spellings of a number that a minifier writes: `1e3`, `.5`, `123e-6`, `0x38d7ea4c68001`.
 /// `Error::OutOfMemory` where there is no room for a text.

@@ -4,7 +4,7 @@ ghost use Rattle.std.specs.Prelude.{◌≡◌, ◌++◌, ◌+◌, ◌-◌, ◌<�
 ghost use Rattle.std.specs.Str.{encode_utf8_all};
 ghost use Rattle.std.specs.Str.{chars, IsAscii};
 ghost use Rattle.std.specs.String.{string_bytes};
-ghost use Rattle.swc_ecma_codegen_tree.specs.declared.errors.Error.TheVariants.{OutOfMemory};
+ghost use Rattle.swc_ecma_codegen_common.specs.declared.errors.Error.TheVariants.{OutOfMemory};
 ghost use Rattle.swc_ecma_codegen_ast.specs.Numbers.{is_either};
 ghost use Rattle.swc_ecma_codegen_ast.specs.Strings.{is_string};
 ghost use Rattle.swc_ecma_codegen_ast.specs.CodeUnits.{units, begins_like};
@@ -14,7 +14,7 @@ ghost use Rattle.swc_ecma_codegen_literals.specs.InlineScripts.{is_tag_end, comm
 
 use crate::strings::quoted_utf16;
 use std::alloc::{AllocError, Global};
-use swc_ecma_codegen_tree::{Error, EsVersion};
+use swc_ecma_codegen_common::{Error, EsVersion};
 
 /// The string literal of a text, as `quoted_utf16` gives it, for a script inside HTML: `</script` before the end of a
 /// tag's name is written `<\/script`, `<!--` is `\x3c!--` and `-->` is `--\x3e`. `Error::OutOfMemory` where there is no

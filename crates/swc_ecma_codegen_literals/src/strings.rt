@@ -5,7 +5,7 @@ ghost use Rattle.std.specs.List.{list_all};
 ghost use Rattle.std.specs.Str.{encode_utf8_all};
 ghost use Rattle.std.specs.Str.{chars, IsUtf8, IsAscii};
 ghost use Rattle.std.specs.String.{string_bytes};
-ghost use Rattle.swc_ecma_codegen_tree.specs.declared.errors.Error.TheVariants.{OutOfMemory};
+ghost use Rattle.swc_ecma_codegen_common.specs.declared.errors.Error.TheVariants.{OutOfMemory};
 ghost use Rattle.swc_ecma_codegen_ast.specs.Strings.{is_string};
 ghost use Rattle.swc_ecma_codegen_ast.specs.CodeUnits.{units};
 ghost use Rattle.swc_ecma_codegen_ast.specs.StringValues.{string_value};
@@ -13,7 +13,7 @@ ghost use Rattle.swc_ecma_codegen_literals.specs.StringTexts.{stands, spelled_al
 
 use crate::escapes::{Style, push_escape, stands};
 use std::alloc::{AllocError, Global};
-use swc_ecma_codegen_tree::{Error, EsVersion};
+use swc_ecma_codegen_common::{Error, EsVersion};
 
 /// The string literal of a text: in `'` where it has more `"` than `'`, else in `"`. A surrogate escape that is written
 /// in the text in plain characters, as `\ud83d`, stands for its code unit and is copied. `Error::OutOfMemory` where

@@ -6,7 +6,7 @@ ghost use Rattle.std.specs.List.{list_all};
 ghost use Rattle.std.specs.Str.{encode_utf8_all};
 ghost use Rattle.std.specs.Str.{chars, IsUtf8, IsAscii};
 ghost use Rattle.std.specs.String.{string_bytes};
-ghost use Rattle.swc_ecma_codegen_tree.specs.declared.errors.Error.TheVariants.{OutOfMemory};
+ghost use Rattle.swc_ecma_codegen_common.specs.declared.errors.Error.TheVariants.{OutOfMemory};
 ghost use Rattle.swc_ecma_codegen_ast.specs.Chars.{begins_digit};
 ghost use Rattle.swc_ecma_codegen_ast.specs.Numbers.{is_hex};
 ghost use Rattle.swc_ecma_codegen_ast.specs.Texts.{begins};
@@ -16,7 +16,7 @@ ghost use Rattle.swc_ecma_codegen_literals.specs.TemplateTexts.{stands_bare, pie
 
 use crate::escapes::{is_unseen, push_braced_escape, push_hex_escape, push_unit_escape};
 use std::alloc::{AllocError, Global};
-use swc_ecma_codegen_tree::Error;
+use swc_ecma_codegen_common::Error;
 
 /// A piece of a template's raw text: a character, or an escape.
 #[derive(Clone, Copy)]

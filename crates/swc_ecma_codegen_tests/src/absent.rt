@@ -3,7 +3,7 @@
 use std::alloc::AllocError;
 use swc_ecma_codegen_ast::comments::{CommentMaps, Comments};
 use swc_ecma_codegen_ast::mapper::{NoSource, SourceMapper};
-use swc_ecma_codegen_tree::{BytePos, DUMMY_SP};
+use swc_ecma_codegen_common::{BytePos, DUMMY_SP};
 
 fn is_empty<C: Comments>(comments: &mut C) -> bool {
     let pos = BytePos(1);

@@ -2,6 +2,7 @@
 
 use crate::trees::{Step, bytes_of, program, settings};
 use std::alloc::Global;
+use std::mem::size_of;
 use std::test::Fail;
 use swc_ecma_codegen::laws::{
     emitted_boxed_stmt_reads, emitted_expr_box_reads, emitted_expr_reads,
@@ -11,13 +12,17 @@ use swc_ecma_codegen::laws::{
 };
 use swc_ecma_codegen::operands::{Operand, OperandKind, SpaceBefore};
 use swc_ecma_codegen::util::{EndsWithAlphaNum, StartsWithAlphaNum};
-use swc_ecma_codegen::{Emitter, Node, is_well_formed_expr, is_well_formed_stmt, to_code};
+use swc_ecma_codegen::{
+    Emitter, Node, is_well_formed, is_well_formed_expr, is_well_formed_stmt, to_code,
+};
 use swc_ecma_codegen_ast::comments::CommentMaps;
 use swc_ecma_codegen_ast::mapper::NoSource;
+use swc_ecma_codegen_common::{AssignOp, BinaryOp, BytePos, DUMMY_SP, Error, UnaryOp, UpdateOp};
+use swc_ecma_codegen_spans::{SpanEnds, Spanned};
 use swc_ecma_codegen_text_writer::JsWriter;
 use swc_ecma_codegen_tree::{
-    AssignOp, BinaryOp, BytePos, DUMMY_SP, EmptyStmt, Error, Expr, Ident, MemberExpr, MemberProp,
-    Program, Script, Spanned, Stmt, UnaryOp, UpdateOp, discard,
+    AnyNode, DebuggerStmt, EmptyStmt, Expr, ExprBox, Ident, MemberExpr, MemberProp, Module,
+    Program, Script, Stmt, StmtBox,
 };
 
 /// Whether a node has this text by `to_code`.
@@ -30,6 +35,7 @@ fn prints_prop(alloc: Global, node: &MemberExpr, text: &str) -> Result<bool, Err
     match &node.prop {
         MemberProp::Ident(name) => prints(alloc, name, text),
         MemberProp::Computed(name) => prints(alloc, name, text),
+        MemberProp::PrivateName(_) => Ok(false),
     }
 }
 
@@ -45,18 +51,20 @@ fn prints_node(alloc: Global, expr: &Expr, text: &str) -> Result<bool, Error> {
         Expr::Seq(node) => prints(alloc, node, text),
         Expr::Ident(node) => prints(alloc, node, text),
         Expr::Paren(node) => prints(alloc, node, text),
+        _ => Ok(false),
     }
 }
 
-fn script_of(tree: &Program) -> &Script {
+fn script_of(tree: &Program) -> Option<&Script> {
     match tree {
-        Program::Script(script) => script,
+        Program::Script(script) => Some(script),
+        Program::Module(_) => None,
     }
 }
 
 /// The first statement.
 fn statement_of(tree: &Program) -> Option<&Stmt> {
-    match script_of(tree).body.first() {
+    match script_of(tree)?.body.first() {
         Some(link) => link.get(),
         None => None,
     }
@@ -77,7 +85,6 @@ fn makes_node(alloc: Global, steps: &[Step], text: &str) -> Result<bool, Error> 
         Some(expr) => prints_node(alloc, expr, text),
         None => Ok(false),
     };
-    discard(tree);
     answer
 }
 
@@ -104,7 +111,9 @@ fn each_type_of_expression(rt: HostRuntime) -> Result<(), Fail> {
 /// Whether links, references, boxes and options have the text of what they hold.
 fn prints_through(alloc: Global, tree: &Program) -> Result<bool, Error> {
     let text = "a.b;\n";
-    let script = script_of(tree);
+    let Some(script) = script_of(tree) else {
+        return Ok(false);
+    };
     let empty = Box::new(alloc, EmptyStmt { span: DUMMY_SP })?;
     Ok(
         prints(alloc, tree, text)?
@@ -143,7 +152,6 @@ fn each_way_to_a_node(rt: HostRuntime) -> Result<(), Fail> {
     assert!(rt; prints_member(alloc, &tree)?);
     let bytes = bytes_of(alloc, &tree, false, "\r\n")?;
     assert_eq!(rt; bytes.as_slice(), b"a.b;\r\n".as_slice());
-    discard(tree);
     Ok(())
 }
 
@@ -172,9 +180,11 @@ fn bytes_of_what_holds(alloc: Global, tree: &Program) -> Result<Vec<u8>, Error> 
     let wr = JsWriter::new(alloc, &NoSource, "\n", Vec::new(alloc), None);
     let mut emitter = Emitter::new(alloc, settings(true), &NoSource, None::<CommentMaps>, wr);
     emitted_program_reads(tree, &mut emitter)?;
-    emitted_script_reads(script_of(tree), &mut emitter)?;
-    if let Some(link) = script_of(tree).body.first() {
-        emitted_stmt_box_reads(link, &mut emitter)?;
+    if let Some(script) = script_of(tree) {
+        emitted_script_reads(script, &mut emitter)?;
+        if let Some(link) = script.body.first() {
+            emitted_stmt_box_reads(link, &mut emitter)?;
+        }
     }
     if let Some(stmt) = statement_of(tree) {
         emitted_stmt_ref_reads(&stmt, &mut emitter)?;
@@ -197,7 +207,6 @@ fn what_holds_a_node_has_its_text(rt: HostRuntime) -> Result<(), Fail> {
     let alloc = rt.alloc();
     let tree = program(alloc, &[A, Step::Member("b")])?;
     let bytes = bytes_of_what_holds(alloc, &tree);
-    discard(tree);
     assert_eq!(rt; bytes?.as_slice(), b"a.b;a.b;a.b;a.b;a.b a.b;;".as_slice());
     Ok(())
 }
@@ -209,7 +218,6 @@ fn are_well_formed(alloc: Global, name: &'static str) -> Result<Option<(bool, bo
         (Some(stmt), Some(expr)) => Some((is_well_formed_stmt(stmt), is_well_formed_expr(expr))),
         _ => None,
     };
-    discard(tree);
     Ok(answers)
 }
 
@@ -243,15 +251,16 @@ fn tells(expr: &Expr) -> bool {
 fn scripts_and_questions(rt: HostRuntime) -> Result<(), Fail> {
     let alloc = rt.alloc();
     let tree = program(alloc, &[A, Step::Prefix(UpdateOp::MinusMinus)])?;
-    let bytes = script_bytes(alloc, script_of(&tree))?;
-    assert_eq!(rt; bytes.as_slice(), b"--a;".as_slice());
+    if let Some(script) = script_of(&tree) {
+        let bytes = script_bytes(alloc, script)?;
+        assert_eq!(rt; bytes.as_slice(), b"--a;".as_slice());
+    }
     if let (Some(stmt), Some(expr)) = (statement_of(&tree), expr_of(&tree)) {
         let twice = bytes_that_read(alloc, stmt, expr)?;
         assert_eq!(rt; twice.as_slice(), b"--a;--a".as_slice());
     }
     assert!(rt; expr_of(&tree).is_some_and(|expr| tells(expr)));
     assert!(rt; tree.span().is_dummy() && tree.span_lo().is_dummy() && !BytePos(1).is_dummy());
-    discard(tree);
     Ok(())
 }
 
@@ -278,4 +287,68 @@ fn assignment_operators(rt: HostRuntime) {
     for (op, text) in rows {
         assert_eq!(rt; op.as_str(), text);
     }
+}
+
+/// How a program is refused, which isn't well-formed.
+fn refusal(alloc: Global, program: Program) -> Option<Error> {
+    match to_code(alloc, &program) {
+        Err(error) if !is_well_formed(&program) => Some(error),
+        _ => None,
+    }
+}
+
+fn is_unsupported(alloc: Global, program: Program) -> bool {
+    matches!(refusal(alloc, program), Some(Error::UnsupportedNode))
+}
+
+#[test]
+fn modules_and_hashbangs_are_refused(rt: HostRuntime) -> Result<(), Fail> {
+    let alloc = rt.alloc();
+    let span = DUMMY_SP;
+    let module = Module {
+        span,
+        body: Vec::new(alloc),
+        shebang: None,
+    };
+    assert!(rt; is_unsupported(alloc, Program::Module(module)));
+    let shebang = Some(String::from_str(alloc, "a")?);
+    let body = Vec::new(alloc);
+    assert!(rt;
+        is_unsupported(
+            alloc,
+            Program::Script(Script {
+                span,
+                body,
+                shebang
+            })
+        )
+    );
+    Ok(())
+}
+
+/// The text of `a` and then a statement that isn't printed yet, as far as it goes.
+fn text_before_debugger(alloc: Global) -> Result<(bool, Vec<u8>), Error> {
+    let mut tree = program(alloc, &[A])?;
+    if let Program::Script(script) = &mut tree {
+        let debugger = Stmt::Debugger(DebuggerStmt { span: DUMMY_SP });
+        script.body.push(StmtBox::new(alloc, debugger)?)?;
+    }
+    let wr = JsWriter::new(alloc, &NoSource, "\n", Vec::new(alloc), None);
+    let mut emitter = Emitter::new(alloc, settings(true), &NoSource, None::<CommentMaps>, wr);
+    let refused = matches!(emitter.emit_program(&tree), Err(Error::UnsupportedNode));
+    Ok((refused && !is_well_formed(&tree), emitter.wr.into_inner()))
+}
+
+#[test]
+fn what_is_not_printed_yet_is_refused_before_its_first_token(rt: HostRuntime) -> Result<(), Fail> {
+    let (refused, text) = text_before_debugger(rt.alloc())?;
+    assert!(rt; refused);
+    assert_eq!(rt; text.as_slice(), b"a;".as_slice());
+    Ok(())
+}
+
+#[test]
+fn a_link_takes_at_most_112_bytes(rt: HostRuntime) {
+    assert!(rt; size_of::<AnyNode>() <= 112);
+    assert_eq!(rt; size_of::<ExprBox>(), 8);
 }

@@ -10,8 +10,9 @@ use std::test::Fail;
 use swc_ecma_codegen::{Emitter, Node};
 use swc_ecma_codegen_ast::comments::CommentMaps;
 use swc_ecma_codegen_ast::mapper::NoSource;
+use swc_ecma_codegen_common::{BinaryOp, Error, Result as Answer, UnaryOp};
 use swc_ecma_codegen_text_writer::{JsWriter, WriteJs};
-use swc_ecma_codegen_tree::{BinaryOp, Error, Ident, Program, Result as Answer, UnaryOp, discard};
+use swc_ecma_codegen_tree::{Ident, Program};
 
 /// Takes one byte a call, up to a number of bytes, and then fails, or answers 0 where it has no fault.
 #[derive(Drop)]
@@ -154,7 +155,6 @@ fn fails_after_each_byte(rt: HostRuntime) -> Result<(), Fail> {
             assert!(rt; text.as_bytes().starts_with(taken.as_slice()));
         }
     }
-    discard(tree);
     Ok(())
 }
 
@@ -169,6 +169,5 @@ fn one_byte_a_call_and_interrupted_once(rt: HostRuntime) -> Result<(), Fail> {
     assert_eq!(rt; kind_of(&answers.first), Some(ErrorKind::Interrupted));
     assert!(rt; is_failed(&answers.second) && is_failed(&answers.nothing));
     assert_eq!(rt; calls, 2);
-    discard(tree);
     Ok(())
 }

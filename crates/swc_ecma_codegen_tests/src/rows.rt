@@ -3,7 +3,7 @@
 use crate::trees::{Step, texts, texts_malformed};
 use std::alloc::Global;
 use std::test::Fail;
-use swc_ecma_codegen_tree::{BinaryOp, Error, UnaryOp, UpdateOp};
+use swc_ecma_codegen_common::{BinaryOp, Error, UnaryOp, UpdateOp};
 
 #[test]
 fn binary_operators(rt: HostRuntime) -> Result<(), Fail> {

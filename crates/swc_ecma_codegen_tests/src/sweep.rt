@@ -6,7 +6,7 @@ use std::alloc::{AllocError, Global};
 use std::test::Fail;
 use swc_ecma_codegen_ast::kinds::Kind;
 use swc_ecma_codegen_ast::reader::{characters, read_tokens};
-use swc_ecma_codegen_tree::{BinaryOp, Error, UnaryOp, UpdateOp};
+use swc_ecma_codegen_common::{BinaryOp, Error, UnaryOp, UpdateOp};
 
 const NAMES: [&str; 4] = ["a", "in_", "$", "\u{e9}"];
 

@@ -6,11 +6,12 @@ use std::alloc::Global;
 use swc_ecma_codegen::{Config, Emitter, is_well_formed, to_code};
 use swc_ecma_codegen_ast::comments::CommentMaps;
 use swc_ecma_codegen_ast::mapper::NoSource;
+use swc_ecma_codegen_common::{BinaryOp, DUMMY_SP, Error, EsVersion, UnaryOp, UpdateOp};
 use swc_ecma_codegen_text_writer::JsWriter;
 use swc_ecma_codegen_tree::{
-    BinExpr, BinaryOp, ComputedPropName, CondExpr, DUMMY_SP, Error, EsVersion, Expr, ExprBox,
-    ExprStmt, Ident, IdentName, MemberExpr, MemberExprBox, MemberProp, ParenExpr, Program, Script,
-    SeqExpr, Stmt, StmtBox, ThisExpr, UnaryExpr, UnaryOp, UpdateExpr, UpdateOp, discard,
+    BinExpr, ComputedPropName, CondExpr, Expr, ExprBox, ExprStmt, Ident, IdentName, MemberExpr,
+    MemberExprBox, MemberProp, ParenExpr, Program, Script, SeqExpr, Stmt, StmtBox, ThisExpr,
+    UnaryExpr, UpdateExpr,
 };
 
 /// A step in the making of an expression, after the steps of its operands: `a`, `b`, `+` for `a + b`.
@@ -159,7 +160,11 @@ pub(crate) fn program(alloc: Global, steps: &[Step]) -> Result<Program, Error> {
     let mut body = Vec::new(alloc);
     body.push(statement(alloc, steps)?)?;
     let span = DUMMY_SP;
-    Ok(Program::Script(Script { span, body }))
+    Ok(Program::Script(Script {
+        span,
+        body,
+        shebang: None,
+    }))
 }
 
 /// The settings of these tests.
@@ -193,7 +198,6 @@ pub(crate) fn bytes_of(
 pub(crate) fn texts(alloc: Global, steps: &[Step]) -> Result<(String, Vec<u8>), Error> {
     let program = program(alloc, steps)?;
     if !is_well_formed(&program) {
-        discard(program);
         return Err(Error::BadShape);
     }
     texts_of(alloc, program)
@@ -203,7 +207,6 @@ pub(crate) fn texts(alloc: Global, steps: &[Step]) -> Result<(String, Vec<u8>), 
 pub(crate) fn texts_malformed(alloc: Global, steps: &[Step]) -> Result<(String, Vec<u8>), Error> {
     let program = program(alloc, steps)?;
     if is_well_formed(&program) {
-        discard(program);
         return Err(Error::BadShape);
     }
     texts_of(alloc, program)
@@ -213,6 +216,5 @@ pub(crate) fn texts_malformed(alloc: Global, steps: &[Step]) -> Result<(String, 
 fn texts_of(alloc: Global, program: Program) -> Result<(String, Vec<u8>), Error> {
     let code = to_code(alloc, &program);
     let minified = bytes_of(alloc, &program, true, "\n");
-    discard(program);
     Ok((code?, minified?))
 }

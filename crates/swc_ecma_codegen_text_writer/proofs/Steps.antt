@@ -1,8 +1,8 @@
 -- Sheets on the way to others.
 use Rattle.std.proofs.Common.{◌≡◌, ℕ, ◌+◌, ◌-◌, ◌^◌, ◌<◌, ◌≤◌, Bool, true, false, List, [], ◌∷◌, ◌++◌, length, refl, sym, ◌∙◌, ap, subst, append_assoc, arith, append-nil, zero, suc, Result, Ok, Err, cond}
 use Rattle.std.specs.List.{repeat}
-use Rattle.swc_ecma_codegen_tree.specs.declared.errors.Error.{Error}
-use Rattle.swc_ecma_codegen_tree.specs.declared.errors.Error.TheVariants.{Writer, OutOfMemory, UnsupportedNode, BadShape, NameOutOfTarget, PositionTooLarge, Failed}
+use Rattle.swc_ecma_codegen_common.specs.declared.errors.Error.{Error}
+use Rattle.swc_ecma_codegen_common.specs.declared.errors.Error.TheVariants.{Writer, OutOfMemory, UnsupportedNode, BadShape, NameOutOfTarget, PositionTooLarge, Failed}
 use Rattle.swc_ecma_codegen_text_writer.specs.Told.{IsFront}
 use Rattle.swc_ecma_codegen_text_writer.specs.Sheet.{Sheet, Item, Causes, earlier, stopped, Writes, appended, indented, started, written, ended, effect, Line, Deeper}
 use Rattle.swc_ecma_codegen_text_writer.specs.View.{Counted, Halted, Reaches}

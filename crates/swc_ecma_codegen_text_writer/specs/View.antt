@@ -2,8 +2,8 @@
 use Rattle.std.specs.Prelude.{◌≡◌, ℕ, true, false, List, codes, Result, Ok, Err, IsSome}
 use Rattle.std.specs.Str.{is_utf8}
 use Rattle.std.specs.declared.io.traits.Write.{Ghosts}
-use Rattle.swc_ecma_codegen_tree.specs.declared.errors.Error.{Error}
-use Rattle.swc_ecma_codegen_tree.specs.declared.errors.Error.TheVariants.{Writer, OutOfMemory, UnsupportedNode, BadShape, NameOutOfTarget, PositionTooLarge, Failed}
+use Rattle.swc_ecma_codegen_common.specs.declared.errors.Error.{Error}
+use Rattle.swc_ecma_codegen_common.specs.declared.errors.Error.TheVariants.{Writer, OutOfMemory, UnsupportedNode, BadShape, NameOutOfTarget, PositionTooLarge, Failed}
 use Rattle.swc_ecma_codegen_text_writer.specs.Told.{Rises}
 use Rattle.swc_ecma_codegen_text_writer.specs.Sent.{sent}
 use Rattle.swc_ecma_codegen_text_writer.specs.Sheet.{Sheet, Item, Stopped, Writes, effect, written}

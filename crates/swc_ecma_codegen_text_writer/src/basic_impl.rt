@@ -4,7 +4,7 @@ use crate::WriteJs;
 use crate::outlet::Outlet;
 use std::alloc::Global;
 use std::io::Write;
-use swc_ecma_codegen_tree::{BytePos, Error, LineCol, Result, Span};
+use swc_ecma_codegen_common::{BytePos, Error, LineCol, Result, Span};
 
 const DEFAULT_INDENT: &str = "    ";
 

@@ -1,7 +1,7 @@
 //! A writer in a box is a writer, of the same sheet.
 
 use crate::WriteJs;
-use swc_ecma_codegen_tree::{BytePos, Result, Span};
+use swc_ecma_codegen_common::{BytePos, Result, Span};
 
 impl<W: WriteJs> WriteJs for Box<W> {
     ghost sheet = { λ w. W.sheet w.value };

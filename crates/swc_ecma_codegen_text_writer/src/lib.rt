@@ -11,7 +11,7 @@ mod logs;
 mod outlet;
 
 pub use crate::basic_impl::JsWriter;
-use swc_ecma_codegen_tree::{BytePos, Result, Span};
+use swc_ecma_codegen_common::{BytePos, Result, Span};
 
 /// A writer of tokens. Its value is a sheet, and each call has one effect on it, or is refused.
 ///

@@ -3,8 +3,8 @@ use Rattle.std.specs.Prelude.{◌≡◌, ℕ, List, Option, Some, IfSome}
 use Rattle.std.specs.Io.KnownBytes.{Appends}
 use Rattle.serde_json.specs.Data.{Data}
 use Rattle.serde_json.specs.Read.{read as read_text}
-use Rattle.swc_ecma_codegen_tree.specs.Forms.{HasForm}
-use Rattle.swc_ecma_codegen_tree.specs.NodeForms.{program_form, any_form}
+use Rattle.swc_ecma_codegen_json.specs.Forms.{HasForm}
+use Rattle.swc_ecma_codegen_json.specs.NodeForms.{program_form, any_form}
 use Rattle.swc_ecma_codegen_tree.specs.declared.links.AnyNode.{AnyNode}
 use Rattle.swc_ecma_codegen_tree.specs.declared.programs.Program.{Program}
 use Rattle.swc_ecma_codegen.specs.Programs.{program}

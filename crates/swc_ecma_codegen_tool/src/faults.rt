@@ -2,7 +2,8 @@
 
 ghost use Rattle.std.specs.Prelude.{◌≡◌, ◌≢◌};
 
-use swc_ecma_codegen_tree::{Error, ReadError};
+use swc_ecma_codegen_common::Error;
+use swc_ecma_codegen_json::ReadError;
 
 /// Why a run prints nothing.
 #[derive(Debug, Clone, Copy, PartialEq, Eq)]

@@ -13,7 +13,7 @@ use std::io;
 use std::io::{ErrorKind, Read, Write};
 use swc_ecma_codegen::to_code;
 use swc_ecma_codegen_json::program_from_slice;
-use swc_ecma_codegen_tree::{Program, discard};
+use swc_ecma_codegen_tree::Program;
 
 /// A run of the program: `words` are those after its name, of which there may be none yet. Standard input is one
 /// program as JSON, and its text goes to `out`, whole, after it was made in memory. The answer is the status.
@@ -96,7 +96,6 @@ fn program_text<R: Read>(alloc: Global, input: &mut R) -> Result<String, Fault>
 {
     let program = read_program(alloc, input)?;
     let text = to_code(alloc, &program);
-    discard(program);
     match text {
         Ok(text) => Ok(text),
         Err(error) => Err(Fault::of_emission(&error)),

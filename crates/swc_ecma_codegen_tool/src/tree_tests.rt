@@ -4,10 +4,12 @@ use std::alloc::{AllocError, Global};
 use std::io;
 use std::io::ErrorKind;
 use std::test::Fail;
+use swc_ecma_codegen_common::{BytePos, DUMMY_SP, Decimal, Error, EsVersion, LineCol, Span};
+use swc_ecma_codegen_json::ReadError;
+use swc_ecma_codegen_spans::Spanned;
 use swc_ecma_codegen_tree::{
-    BytePos, DUMMY_SP, Decimal, EmptyStmt, Error, EsVersion, Expr, ExprBox, IdentName, LineCol,
-    MemberExpr, MemberExprBox, MemberProp, ReadError, Span, Spanned, Stmt, StmtBox, ThisExpr,
-    discard_expr, discard_member_expr, discard_stmt,
+    EmptyStmt, Expr, ExprBox, IdentName, MemberExpr, MemberExprBox, MemberProp, Stmt, StmtBox,
+    ThisExpr,
 };
 
 fn place(lo: u32, hi: u32) -> Span {
@@ -125,7 +127,6 @@ fn expr_comes_back(alloc: Global) -> Result<bool, AllocError> {
     match link.into_inner() {
         Some(expr) => {
             let same = matches!(&expr, Expr::This(_)) && expr.span() == span;
-            discard_expr(expr);
             Ok(seen && same)
         }
         None => Ok(false),
@@ -141,7 +142,6 @@ fn stmt_comes_back(alloc: Global) -> Result<bool, AllocError> {
     match link.into_inner() {
         Some(stmt) => {
             let same = matches!(&stmt, Stmt::Empty(_)) && stmt.span() == span;
-            discard_stmt(stmt);
             Ok(seen && same)
         }
         None => Ok(false),
@@ -165,7 +165,6 @@ fn member_comes_back(alloc: Global) -> Result<bool, AllocError> {
     match link.into_inner() {
         Some(member) => {
             let same = member.span() == span && member.obj.span() == place(3, 7);
-            discard_member_expr(member);
             Ok(seen && same)
         }
         None => Ok(false),

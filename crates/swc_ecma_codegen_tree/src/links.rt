@@ -1,79 +1,127 @@
-//! The links between nodes.
+//! What links hold: the one type that refers to itself.
 
-ghost use Rattle.std.specs.Prelude.{◌≡◌, IfOk};
+ghost use Rattle.std.specs.Prelude.{◌≡◌, Option};
 ghost use Rattle.std.specs.Option.{option_copied};
 ghost use Rattle.swc_ecma_codegen_tree.specs.Held.{expr_in, stmt_in, member_expr_in};
 
-use crate::exprs::{Expr, MemberExpr};
-use crate::stmts::Stmt;
-use std::alloc::{AllocError, Global};
+use crate::classes::{Class, ClassMember};
+use crate::decls::{Decl, Function, VarDecl};
+use crate::exprs::{Expr, MemberExpr, ObjectLit, OptCall, Prop, PropName, Tpl};
+use crate::jsx::{JSXAttrValue, JSXElement, JSXElementChild, JSXFragment, JSXObject};
+use crate::pats::{AssignTarget, Pat};
+use crate::programs::{ModuleDecl, ModuleItem};
+use crate::stmts::{BlockStmt, Stmt};
+use crate::ts_decls::TsNamespaceBody;
+use crate::ts_members::TsTypeElement;
+use crate::ts_types::{
+    TsEntityName, TsFnParam, TsType, TsTypeAnn, TsTypeParamDecl, TsTypeParamInstantiation,
+};
 
-/// What a link can hold: the one type that refers to itself, with a variant for each sort of link.
-#[derive(Drop)]
+/// What a link can hold: the one type that refers to itself, with a variant for each sort of link. Where a
+/// node is larger than an expression it is in a box of its own, so that no link takes more room than that.
 pub enum AnyNode {
     Expr(Expr<AnyNode>),
     Stmt(Stmt<AnyNode>),
+    Pat(Pat<AnyNode>),
+    TsType(Box<TsType<AnyNode>>),
+    JSXElementChild(JSXElementChild<AnyNode>),
+    JSXAttrValue(JSXAttrValue<AnyNode>),
+    TsNamespaceBody(TsNamespaceBody<AnyNode>),
+    TsTypeAnn(TsTypeAnn<AnyNode>),
+    TsTypeParamDecl(TsTypeParamDecl<AnyNode>),
+    TsTypeParamInstantiation(TsTypeParamInstantiation<AnyNode>),
+    Function(Box<Function<AnyNode>>),
+    Class(Box<Class<AnyNode>>),
+    Tpl(Tpl<AnyNode>),
+    BlockStmt(BlockStmt<AnyNode>),
+    Decl(Box<Decl<AnyNode>>),
+    ModuleItem(ModuleItem<AnyNode>),
+    ModuleDecl(Box<ModuleDecl<AnyNode>>),
+    ObjectLit(ObjectLit<AnyNode>),
+    PropName(PropName<AnyNode>),
+    VarDecl(VarDecl<AnyNode>),
+    TsFnParam(TsFnParam<AnyNode>),
+    ClassMember(Box<ClassMember<AnyNode>>),
+    JSXElement(Box<JSXElement<AnyNode>>),
+    JSXFragment(JSXFragment<AnyNode>),
+    TsTypeElement(TsTypeElement<AnyNode>),
+    Prop(Prop<AnyNode>),
     MemberExpr(MemberExpr<AnyNode>),
+    OptCall(OptCall<AnyNode>),
+    AssignTarget(AssignTarget<AnyNode>),
+    TsEntityName(TsEntityName<AnyNode>),
+    JSXObject(JSXObject<AnyNode>),
 }
 
 /// Lets a node go. In one place, so that not each function that meets a node of another sort drops all types of nodes.
-fn let_go(node: AnyNode) {
+fn let_go<T: Drop>(node: T) {
     let _ = node;
 }
 
-/// A link to an expression, as `Box<Expr>` in swc.
-#[derive(Drop)]
-pub struct ExprBox<N = AnyNode> {
-    node: Box<N>,
-}
-
-impl<N> ExprBox<N> {
-    /// What is held, whatever it is.
-    pub fn held(&self) -> &N
-        ensures { result.now ≡ self.now.node.value }
-    {
-        &self.node
+impl Drop for AnyNode {
+    fn drop(self) {
+        match self {
+            AnyNode::Expr(node) => let_go(node),
+            AnyNode::Stmt(node) => let_go(node),
+            AnyNode::Pat(node) => let_go(node),
+            AnyNode::TsType(node) => let_go(node),
+            AnyNode::JSXElementChild(node) => let_go(node),
+            AnyNode::JSXAttrValue(node) => let_go(node),
+            AnyNode::TsNamespaceBody(node) => let_go(node),
+            AnyNode::TsTypeAnn(node) => let_go(node),
+            AnyNode::TsTypeParamDecl(node) => let_go(node),
+            AnyNode::TsTypeParamInstantiation(node) => let_go(node),
+            AnyNode::Function(node) => let_go(node),
+            AnyNode::Class(node) => let_go(node),
+            AnyNode::Tpl(node) => let_go(node),
+            AnyNode::BlockStmt(node) => let_go(node),
+            AnyNode::Decl(node) => let_go(node),
+            AnyNode::ModuleItem(node) => let_go(node),
+            AnyNode::ModuleDecl(node) => let_go(node),
+            AnyNode::ObjectLit(node) => let_go(node),
+            AnyNode::PropName(node) => let_go(node),
+            AnyNode::VarDecl(node) => let_go(node),
+            AnyNode::TsFnParam(node) => let_go(node),
+            AnyNode::ClassMember(node) => let_go(node),
+            AnyNode::JSXElement(node) => let_go(node),
+            AnyNode::JSXFragment(node) => let_go(node),
+            AnyNode::TsTypeElement(node) => let_go(node),
+            AnyNode::Prop(node) => let_go(node),
+            AnyNode::MemberExpr(node) => let_go(node),
+            AnyNode::OptCall(node) => let_go(node),
+            AnyNode::AssignTarget(node) => let_go(node),
+            AnyNode::TsEntityName(node) => let_go(node),
+            AnyNode::JSXObject(node) => let_go(node),
+        }
     }
 }
 
-impl<N: Drop> ExprBox<N> {
-    /// A link that holds `node`, whatever it is. Where memory is refused, `node` is let go.
-    pub fn holding(alloc: Global, node: N) -> Result<ExprBox<N>, AllocError>
-        ensures { IfOk result (λ link. link.node.value ≡ node) }
-    {
-        Ok(ExprBox {
-            node: Box::new(alloc, node)?,
-        })
-    }
+/// What may hold a node of type `T`.
+pub trait Holds<T>: Sized {
+    ghost node_in: { Self → Option T };
+
+    /// The node, where it is one.
+    fn node(&self) -> Option<&T>
+        ensures { option_copied result ≡ node_in self.now };
+
+    /// The node, taken out, where it is one. Another is let go.
+    fn into_node(self) -> Option<T>
+        ensures { result ≡ node_in self };
 }
 
-impl ExprBox<AnyNode> {
-    /// A link to `expr`. Where memory is refused, `expr` is let go.
-    pub fn new(alloc: Global, expr: Expr) -> Result<ExprBox, AllocError>
-        ensures { IfOk result (λ link. link.node.value ≡ AnyNode.Expr expr) }
-    {
-        Ok(ExprBox {
-            node: Box::new(alloc, AnyNode::Expr(expr))?,
-        })
-    }
+impl Holds<Expr<AnyNode>> for AnyNode {
+    ghost node_in = { expr_in };
 
-    /// The node that is linked to.
-    pub fn get(&self) -> Option<&Expr>
-        ensures { option_copied result ≡ expr_in self.now.node.value }
-    {
-        match &*self.node {
-            AnyNode::Expr(expr) => Some(expr),
+    fn node(&self) -> Option<&Expr> {
+        match self {
+            AnyNode::Expr(node) => Some(node),
             _ => None,
         }
     }
 
-    /// The node that is linked to, taken out.
-    pub fn into_inner(self) -> Option<Expr>
-        ensures { result ≡ expr_in self.node.value }
-    {
-        let ExprBox { node } = self;
-        match Box::into_inner(node) {
-            AnyNode::Expr(expr) => Some(expr),
+    fn into_node(self) -> Option<Expr> {
+        match self {
+            AnyNode::Expr(node) => Some(node),
             other => {
                 let_go(other);
                 None
@@ -82,59 +130,19 @@ impl ExprBox<AnyNode> {
     }
 }
 
-/// A link to a statement, as `Box<Stmt>` in swc.
-#[derive(Drop)]
-pub struct StmtBox<N = AnyNode> {
-    node: Box<N>,
-}
+impl Holds<Stmt<AnyNode>> for AnyNode {
+    ghost node_in = { stmt_in };
 
-impl<N> StmtBox<N> {
-    /// What is held, whatever it is.
-    pub fn held(&self) -> &N
-        ensures { result.now ≡ self.now.node.value }
-    {
-        &self.node
-    }
-}
-
-impl<N: Drop> StmtBox<N> {
-    /// A link that holds `node`, whatever it is. Where memory is refused, `node` is let go.
-    pub fn holding(alloc: Global, node: N) -> Result<StmtBox<N>, AllocError>
-        ensures { IfOk result (λ link. link.node.value ≡ node) }
-    {
-        Ok(StmtBox {
-            node: Box::new(alloc, node)?,
-        })
-    }
-}
-
-impl StmtBox<AnyNode> {
-    /// A link to `stmt`. Where memory is refused, `stmt` is let go.
-    pub fn new(alloc: Global, stmt: Stmt) -> Result<StmtBox, AllocError>
-        ensures { IfOk result (λ link. link.node.value ≡ AnyNode.Stmt stmt) }
-    {
-        Ok(StmtBox {
-            node: Box::new(alloc, AnyNode::Stmt(stmt))?,
-        })
-    }
-
-    /// The node that is linked to.
-    pub fn get(&self) -> Option<&Stmt>
-        ensures { option_copied result ≡ stmt_in self.now.node.value }
-    {
-        match &*self.node {
-            AnyNode::Stmt(stmt) => Some(stmt),
+    fn node(&self) -> Option<&Stmt> {
+        match self {
+            AnyNode::Stmt(node) => Some(node),
             _ => None,
         }
     }
 
-    /// The node that is linked to, taken out.
-    pub fn into_inner(self) -> Option<Stmt>
-        ensures { result ≡ stmt_in self.node.value }
-    {
-        let StmtBox { node } = self;
-        match Box::into_inner(node) {
-            AnyNode::Stmt(stmt) => Some(stmt),
+    fn into_node(self) -> Option<Stmt> {
+        match self {
+            AnyNode::Stmt(node) => Some(node),
             other => {
                 let_go(other);
                 None
@@ -143,59 +151,19 @@ impl StmtBox<AnyNode> {
     }
 }
 
-/// A link to a member expression, as `Box<MemberExpr>` in swc.
-#[derive(Drop)]
-pub struct MemberExprBox<N = AnyNode> {
-    node: Box<N>,
-}
+impl Holds<MemberExpr<AnyNode>> for AnyNode {
+    ghost node_in = { member_expr_in };
 
-impl<N> MemberExprBox<N> {
-    /// What is held, whatever it is.
-    pub fn held(&self) -> &N
-        ensures { result.now ≡ self.now.node.value }
-    {
-        &self.node
-    }
-}
-
-impl<N: Drop> MemberExprBox<N> {
-    /// A link that holds `node`, whatever it is. Where memory is refused, `node` is let go.
-    pub fn holding(alloc: Global, node: N) -> Result<MemberExprBox<N>, AllocError>
-        ensures { IfOk result (λ link. link.node.value ≡ node) }
-    {
-        Ok(MemberExprBox {
-            node: Box::new(alloc, node)?,
-        })
-    }
-}
-
-impl MemberExprBox<AnyNode> {
-    /// A link to `member_expr`. Where memory is refused, `member_expr` is let go.
-    pub fn new(alloc: Global, member_expr: MemberExpr) -> Result<MemberExprBox, AllocError>
-        ensures { IfOk result (λ link. link.node.value ≡ AnyNode.MemberExpr member_expr) }
-    {
-        Ok(MemberExprBox {
-            node: Box::new(alloc, AnyNode::MemberExpr(member_expr))?,
-        })
-    }
-
-    /// The node that is linked to.
-    pub fn get(&self) -> Option<&MemberExpr>
-        ensures { option_copied result ≡ member_expr_in self.now.node.value }
-    {
-        match &*self.node {
-            AnyNode::MemberExpr(member_expr) => Some(member_expr),
+    fn node(&self) -> Option<&MemberExpr> {
+        match self {
+            AnyNode::MemberExpr(node) => Some(node),
             _ => None,
         }
     }
 
-    /// The node that is linked to, taken out.
-    pub fn into_inner(self) -> Option<MemberExpr>
-        ensures { result ≡ member_expr_in self.node.value }
-    {
-        let MemberExprBox { node } = self;
-        match Box::into_inner(node) {
-            AnyNode::MemberExpr(member_expr) => Some(member_expr),
+    fn into_node(self) -> Option<MemberExpr> {
+        match self {
+            AnyNode::MemberExpr(node) => Some(node),
             other => {
                 let_go(other);
                 None

@@ -1,50 +1,83 @@
 -- What the words of Ends say of a whole node, by its sort.
-use Rattle.std.proofs.Common.{◌≡◌, Bool, false, [], ◌∷◌, refl, sym, ◌∙◌, ap}
-use Rattle.swc_ecma_codegen_tree.specs.declared.links.AnyNode.{AnyNode, AnyNode-F, map-AnyNode, roll-AnyNode}
+use Rattle.std.proofs.Common.{◌≡◌, ◌≢◌, Bool, false, List, length, ◌-◌, Option, Some, None, refl, sym, ◌∙◌, ap, map}
+use Rattle.std.specs.List.{slice_get}
+use Rattle.std.specs.Option.{option_map}
+use Rattle.std.proofs.lemmas.List.{length-map}
+use Rattle.std.proofs.lemmas.Option.{slice_get-map}
+use Rattle.swc_ecma_codegen_tree.specs.declared.links.AnyNode.{AnyNode, AnyNode-F, map-AnyNode, out-AnyNode, roll-AnyNode, roll-out-AnyNode}
 use Rattle.swc_ecma_codegen_tree.specs.declared.links.AnyNode.TheOpen as nodes
 use Rattle.swc_ecma_codegen_tree.specs.declared.links.AnyNode.TheVariants as whole
-use Rattle.swc_ecma_codegen_tree.specs.declared.links.AnyNode.TheFolds.{fold-roll-AnyNode}
-use Rattle.swc_ecma_codegen_tree.specs.declared.links.ExprBox.{ExprBox}
+use Rattle.swc_ecma_codegen_tree.specs.declared.links.AnyNode.TheFolds.{fold-roll-AnyNode, fold_out-AnyNode}
+use Rattle.swc_ecma_codegen_tree.specs.declared.expr_links.ExprBox.{ExprBox}
+use Rattle.swc_ecma_codegen_tree.specs.declared.decls.VarDecl.{VarDecl}
+use Rattle.swc_ecma_codegen_tree.specs.declared.decls.VarDeclarator.{VarDeclarator}
 use Rattle.swc_ecma_codegen_tree.specs.declared.exprs.Expr.{Expr}
 use Rattle.swc_ecma_codegen_tree.specs.declared.exprs.Expr.TheVariants as exprs
 use Rattle.swc_ecma_codegen_tree.specs.declared.exprs.MemberExpr.{MemberExpr}
 use Rattle.swc_ecma_codegen_tree.specs.declared.exprs.MemberProp.{MemberProp}
 use Rattle.swc_ecma_codegen_tree.specs.declared.exprs.MemberProp.TheVariants as member_props
-use Rattle.swc_ecma_codegen_tree.specs.declared.positions.Span.{Span}
+use Rattle.swc_ecma_codegen_tree.specs.declared.pats.Pat.{Pat}
+use Rattle.swc_ecma_codegen_tree.specs.declared.pats.Pat.TheVariants as pats
 use Rattle.swc_ecma_codegen_tree.specs.declared.stmts.Stmt.{Stmt}
-use Rattle.swc_ecma_codegen_tree.specs.declared.stmts.Stmt.TheVariants as stmts
-use Rattle.swc_ecma_codegen_util.specs.Ends.{prop_ends, expr_ends, node_ends, any_ends}
+use Rattle.swc_ecma_codegen_util.specs.Ends.{prop_ends, expr_ends, pat_ends, init_ends, declarator_ends, last_ends, declarators_end, node_ends, any_ends}
 
--- one layer of a node, with what is known of what its links hold
-known_of : AnyNode-F AnyNode → AnyNode-F Bool
-known_of = map-AnyNode AnyNode Bool any_ends
+-- ---- a word sees what links hold through f alone
 
-prop_known : (span : Span) (obj : ExprBox AnyNode) (prop : MemberProp AnyNode) → node_ends (λ known. known) (known_of (nodes.MemberExpr (record { span = span; obj = obj; prop = prop }))) ≡ prop_ends prop
-unfolding node_ends known_of prop_ends
-prop_known span obj (member_props.Ident n) = refl
-prop_known span obj (member_props.Computed n) = refl
+-- a declarator with an initializer, and one without
+declarator_mapped : {A B : Type 0} (g : VarDeclarator A → VarDeclarator B) (e : B → Bool) (d : A → Bool) → ((x : VarDeclarator A) (y : ExprBox A) → declarator_ends e (g (record x { init = Some y })) ≡ d y.node.value) → ((x : VarDeclarator A) → declarator_ends e (g (record x { init = None })) ≡ d x.name.node.value)
+    → (x : VarDeclarator A) (init : Option (ExprBox A)) → declarator_ends e (g (record x { init = init })) ≡ declarator_ends d (record x { init = init })
+unfolding declarator_ends init_ends
+declarator_mapped g e d with_init without x (Some y) = with_init x y
+declarator_mapped g e d with_init without x None = without x
 
-expr_known : (n : Expr AnyNode) → node_ends (λ known. known) (known_of (nodes.Expr n)) ≡ expr_ends any_ends n
-unfolding node_ends known_of expr_ends
-expr_known (exprs.This n) = refl
-expr_known (exprs.Unary n) = refl
-expr_known (exprs.Update n) = refl
-expr_known (exprs.Bin n) = refl
-expr_known (exprs.Member n) = refl
-expr_known (exprs.Cond n) = refl
-expr_known (exprs.Seq n) = refl
-expr_known (exprs.Ident n) = refl
-expr_known (exprs.Paren n) = refl
+last_mapped : {A B : Type 0} (g : VarDeclarator A → VarDeclarator B) (e : B → Bool) (d : A → Bool) → ((x : VarDeclarator A) → declarator_ends e (g x) ≡ declarator_ends d x) → (x : Option (VarDeclarator A)) → last_ends e (option_map g x) ≡ last_ends d x
+unfolding last_ends
+last_mapped g e d same (Some x) = same x
+last_mapped g e d same None = refl
 
-layer_known : (n : AnyNode-F AnyNode) → node_ends (λ known. known) (known_of n) ≡ node_ends any_ends n
-unfolding node_ends known_of
-layer_known (nodes.Expr n) = expr_known n
-layer_known (nodes.Stmt n) = refl
-layer_known (nodes.MemberExpr n) = prop_known n.span n.obj n.prop
+declarators_mapped : {A B : Type 0} (g : VarDeclarator A → VarDeclarator B) (e : B → Bool) (d : A → Bool) → ((x : VarDeclarator A) (y : ExprBox A) → declarator_ends e (g (record x { init = Some y })) ≡ d y.node.value) → ((x : VarDeclarator A) → declarator_ends e (g (record x { init = None })) ≡ d x.name.node.value)
+    → (xs : List (VarDeclarator A)) → declarators_end e (map g xs) ≡ declarators_end d xs
+unfolding declarators_end
+declarators_mapped g e d with_init without xs = ap (λ i. last_ends e (slice_get (map g xs) (i - 1))) (length-map xs g) ∙ ap (last_ends e) (slice_get-map g xs (length xs - 1))
+    ∙ last_mapped g e d (λ x. declarator_mapped g e d with_init without x x.init) (slice_get xs (length xs - 1))
+
+var_decl_mapped : {X Y : Type 0} (g : X → Y) (f : Y → Bool) (n : VarDecl X) → node_ends f (map-AnyNode X Y g (nodes.VarDecl n)) ≡ declarators_end (λ x. f (g x)) n.decls.items
+unfolding node_ends declarator_ends init_ends
+var_decl_mapped g f n = declarators_mapped _ f (λ x. f (g x)) (λ x y. refl) (λ x. refl) n.decls.items
+
+member_mapped : {X Y : Type 0} (g : X → Y) (f : Y → Bool) (n : MemberExpr X) (prop : MemberProp X) → node_ends f (map-AnyNode X Y g (nodes.MemberExpr (record n { prop = prop }))) ≡ prop_ends prop
+unfolding node_ends prop_ends
+member_mapped g f n (member_props.Ident p) = refl
+member_mapped g f n (member_props.PrivateName p) = refl
+member_mapped g f n (member_props.Computed p) = refl
+
+expr_mapped : {X Y : Type 0} (g : X → Y) (f : Y → Bool) (n : Expr X) → node_ends f (map-AnyNode X Y g (nodes.Expr n)) ≡ expr_ends (λ x. f (g x)) n
+unfolding node_ends expr_ends
+expr_mapped g f (exprs.Paren n) = refl
+expr_mapped g f n = refl
+
+pat_mapped : {X Y : Type 0} (g : X → Y) (f : Y → Bool) (n : Pat X) → node_ends f (map-AnyNode X Y g (nodes.Pat n)) ≡ pat_ends (λ x. f (g x)) n
+unfolding node_ends pat_ends
+pat_mapped g f (pats.Invalid n) = refl
+pat_mapped g f n = refl
+
+node_mapped : {X Y : Type 0} (g : X → Y) (f : Y → Bool) (n : AnyNode-F X) → node_ends f (map-AnyNode X Y g n) ≡ node_ends (λ x. f (g x)) n
+unfolding node_ends
+node_mapped g f (nodes.Expr n) = expr_mapped g f n
+node_mapped g f (nodes.Pat n) = pat_mapped g f n
+node_mapped g f (nodes.VarDecl n) = var_decl_mapped g f n
+node_mapped g f (nodes.MemberExpr n) = member_mapped g f n n.prop
+node_mapped g f n = refl
+
+-- ---- whole nodes
 
 ends_of_layer : (n : AnyNode-F AnyNode) → any_ends (roll-AnyNode n) ≡ node_ends any_ends n
-unfolding any_ends known_of
-ends_of_layer n = fold-roll-AnyNode Bool (node_ends (λ known. known)) n ∙ layer_known n
+unfolding any_ends
+ends_of_layer n = fold-roll-AnyNode Bool (node_ends (λ known. known)) n ∙ node_mapped any_ends (λ known. known) n
+
+pub any_ends_layer : (n : AnyNode) → any_ends n ≡ node_ends any_ends (out-AnyNode n)
+unfolding any_ends
+any_ends_layer n = fold_out-AnyNode Bool (node_ends (λ known. known)) n ∙ node_mapped any_ends (λ known. known) (out-AnyNode n)
 
 pub any_ends_expr : (n : Expr AnyNode) → any_ends (whole.Expr n) ≡ expr_ends any_ends n
 unfolding node_ends
@@ -54,6 +87,41 @@ pub any_ends_stmt : (n : Stmt AnyNode) → any_ends (whole.Stmt n) ≡ false
 unfolding node_ends
 any_ends_stmt n = ap any_ends (sym (whole.rolls-Stmt n)) ∙ ends_of_layer (nodes.Stmt n)
 
+pub any_ends_pat : (n : Pat AnyNode) → any_ends (whole.Pat n) ≡ pat_ends any_ends n
+unfolding node_ends
+any_ends_pat n = ap any_ends (sym (whole.rolls-Pat n)) ∙ ends_of_layer (nodes.Pat n)
+
+pub any_ends_var_decl : (n : VarDecl AnyNode) → any_ends (whole.VarDecl n) ≡ declarators_end any_ends n.decls.items
+unfolding node_ends
+any_ends_var_decl n = ap any_ends (sym (whole.rolls-VarDecl n)) ∙ ends_of_layer (nodes.VarDecl n)
+
 pub any_ends_member_expr : (n : MemberExpr AnyNode) → any_ends (whole.MemberExpr n) ≡ prop_ends n.prop
 unfolding node_ends
 any_ends_member_expr n = ap any_ends (sym (whole.rolls-MemberExpr n)) ∙ ends_of_layer (nodes.MemberExpr n)
+
+-- ---- nodes of the other sorts
+
+other_ends : (n : AnyNode-F AnyNode)
+    → ((x : Expr AnyNode) → roll-AnyNode n ≢ whole.Expr x)
+    → ((x : Pat AnyNode) → roll-AnyNode n ≢ whole.Pat x)
+    → ((x : VarDecl AnyNode) → roll-AnyNode n ≢ whole.VarDecl x)
+    → ((x : MemberExpr AnyNode) → roll-AnyNode n ≢ whole.MemberExpr x)
+    → node_ends any_ends n ≡ false
+unfolding node_ends
+other_ends (nodes.Expr x) never _ _ _ = absurd (never x (whole.rolls-Expr x))
+other_ends (nodes.Pat x) _ never _ _ = absurd (never x (whole.rolls-Pat x))
+other_ends (nodes.VarDecl x) _ _ never _ = absurd (never x (whole.rolls-VarDecl x))
+other_ends (nodes.MemberExpr x) _ _ _ never = absurd (never x (whole.rolls-MemberExpr x))
+other_ends n _ _ _ _ = refl
+
+pub ends_of_other : (n : AnyNode)
+    → ((x : Expr AnyNode) → n ≢ whole.Expr x)
+    → ((x : Pat AnyNode) → n ≢ whole.Pat x)
+    → ((x : VarDecl AnyNode) → n ≢ whole.VarDecl x)
+    → ((x : MemberExpr AnyNode) → n ≢ whole.MemberExpr x)
+    → false ≡ any_ends n
+ends_of_other n no_expr no_pat no_var_decl no_member_expr = sym (any_ends_layer n ∙ other_ends (out-AnyNode n)
+    (λ x same. no_expr x (sym (roll-out-AnyNode n) ∙ same))
+    (λ x same. no_pat x (sym (roll-out-AnyNode n) ∙ same))
+    (λ x same. no_var_decl x (sym (roll-out-AnyNode n) ∙ same))
+    (λ x same. no_member_expr x (sym (roll-out-AnyNode n) ∙ same)))

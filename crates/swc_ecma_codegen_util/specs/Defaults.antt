@@ -1,6 +1,6 @@
 -- The settings that stand where none are given.
 use Rattle.std.specs.Prelude.{false}
-use Rattle.swc_ecma_codegen_tree.specs.declared.versions.EsVersion.TheVariants.{EsNext}
+use Rattle.swc_ecma_codegen_common.specs.declared.versions.EsVersion.TheVariants.{EsNext}
 use Rattle.swc_ecma_codegen_util.specs.declared.config.Config.{Config}
 
 -- the latest version, and all else false

@@ -3,7 +3,7 @@
 ghost use Rattle.std.specs.Prelude.{◌≡◌};
 ghost use Rattle.swc_ecma_codegen_util.specs.Defaults.{default_config};
 
-use swc_ecma_codegen_tree::EsVersion;
+use swc_ecma_codegen_common::EsVersion;
 
 /// The settings of an emission. swc's `Config`.
 #[derive(Debug, Clone, Copy)]

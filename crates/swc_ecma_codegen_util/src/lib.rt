@@ -2,4 +2,6 @@
 #![tactic(auto)]
 
 pub mod config;
+mod ends;
+mod starts;
 pub mod util;

@@ -6,8 +6,8 @@ use std::alloc::Global;
 use std::io;
 use std::io::{ErrorKind, Write};
 use std::test::Fail;
+use swc_ecma_codegen_common::{BytePos, DUMMY_SP, Error, Result};
 use swc_ecma_codegen_text_writer::{JsWriter, WriteJs};
-use swc_ecma_codegen_tree::{BytePos, DUMMY_SP, Error, Result};
 
 /// Takes one byte a call, up to a number of bytes, and then fails, or answers 0 where it has no fault.
 #[derive(Drop)]

@@ -1,5 +1,5 @@
 use Rattle.std.proofs.Common.{arith, rules}
-use Rattle.swc_ecma_codegen_tree.specs.NodeForms.{expr_link}
+use Rattle.swc_ecma_codegen_json.specs.NodeForms.{expr_link}
 use Rattle.swc_ecma_codegen_json.proofs.Lists.{taken_one_more}
 use Rattle.swc_ecma_codegen_json.proofs.links.exprs.Goals as goal
 

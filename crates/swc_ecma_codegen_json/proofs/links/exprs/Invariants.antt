@@ -1,7 +1,7 @@
 use Rattle.std.proofs.Common.{take}
 use Rattle.serde_json.specs.View.{items_view}
-use Rattle.swc_ecma_codegen_tree.specs.Forms.{HaveForms, forms_of}
-use Rattle.swc_ecma_codegen_tree.specs.NodeForms.{expr_link}
+use Rattle.swc_ecma_codegen_json.specs.Forms.{HaveForms, forms_of}
+use Rattle.swc_ecma_codegen_json.specs.NodeForms.{expr_link}
 use Rattle.swc_ecma_codegen_json.proofs.links.exprs.Given as goal
 
 -- what was read so far has the forms of the values so far

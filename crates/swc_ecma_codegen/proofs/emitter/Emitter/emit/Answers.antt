@@ -1,5 +1,5 @@
 use Rattle.std.proofs.Common.{Ok, Err, ◌∙◌, sym}
-use Rattle.swc_ecma_codegen_tree.specs.declared.errors.Error.TheVariants.{Failed}
+use Rattle.swc_ecma_codegen_common.specs.declared.errors.Error.TheVariants.{Failed}
 use Rattle.swc_ecma_codegen_base.specs.Run.{nothing}
 use Rattle.swc_ecma_codegen_base.proofs.Emitting.{emits_nothing}
 use Rattle.swc_ecma_codegen_base.proofs.Fronts.{follows_front, follows_marked, follows_failed, on_err}

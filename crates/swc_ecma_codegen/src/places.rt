@@ -1,0 +1,88 @@
+//! Where a node stands whose place is that of what it holds.
+
+ghost use Rattle.std.specs.Prelude.{◌≡◌};
+ghost use Rattle.swc_ecma_codegen_spans.specs.Spans.{expr_span, stmt_span};
+ghost use Rattle.swc_ecma_codegen.specs.Answers.{place_of};
+
+use crate::nodes::AskPlace;
+use swc_ecma_codegen_common::Span;
+use swc_ecma_codegen_spans::Spanned;
+use swc_ecma_codegen_tree::{Expr, Stmt};
+
+/// Where an expression stands.
+#[tactic(auto, unfolding(swc_ecma_codegen_spans::specs::Spans::expr_span, swc_ecma_codegen_spans::specs::Spans::fn_expr_span, swc_ecma_codegen_spans::specs::Spans::class_expr_span, swc_ecma_codegen_spans::specs::Spans::jsx_member_expr_span))]
+pub(crate) fn expr_place<N: AskPlace>(node: &Expr<N>) -> Span
+    ensures { result ≡ expr_span (place_of N.answers) node.now }
+{
+    match node {
+        Expr::This(node) => node.span,
+        Expr::Array(node) => node.span,
+        Expr::Object(node) => node.held().place(),
+        Expr::Fn(node) => node.function.held().place(),
+        Expr::Unary(node) => node.span,
+        Expr::Update(node) => node.span,
+        Expr::Bin(node) => node.span,
+        Expr::Assign(node) => node.span,
+        Expr::Member(node) => node.held().place(),
+        Expr::SuperProp(node) => node.span,
+        Expr::Cond(node) => node.span,
+        Expr::Call(node) => node.span,
+        Expr::New(node) => node.span,
+        Expr::Seq(node) => node.span,
+        Expr::Ident(node) => node.span,
+        Expr::Lit(node) => node.span(),
+        Expr::Tpl(node) => node.held().place(),
+        Expr::TaggedTpl(node) => node.span,
+        Expr::Arrow(node) => node.span,
+        Expr::Class(node) => node.class.held().place(),
+        Expr::Yield(node) => node.span,
+        Expr::MetaProp(node) => node.span,
+        Expr::Await(node) => node.span,
+        Expr::Paren(node) => node.span,
+        Expr::JSXMember(node) => Span {
+            lo: node.obj.held().place().lo,
+            hi: node.prop.span.hi,
+        },
+        Expr::JSXNamespacedName(node) => node.span(),
+        Expr::JSXEmpty(node) => node.span,
+        Expr::JSXElement(node) => node.held().place(),
+        Expr::JSXFragment(node) => node.held().place(),
+        Expr::TsTypeAssertion(node) => node.span,
+        Expr::TsConstAssertion(node) => node.span,
+        Expr::TsNonNull(node) => node.span,
+        Expr::TsAs(node) => node.span,
+        Expr::TsInstantiation(node) => node.span,
+        Expr::TsSatisfies(node) => node.span,
+        Expr::PrivateName(node) => node.span,
+        Expr::OptChain(node) => node.span,
+        Expr::Invalid(node) => node.span,
+    }
+}
+
+/// Where a statement stands.
+#[tactic(auto, unfolding(swc_ecma_codegen_spans::specs::Spans::stmt_span))]
+pub(crate) fn stmt_place<N: AskPlace>(node: &Stmt<N>) -> Span
+    ensures { result ≡ stmt_span (place_of N.answers) node.now }
+{
+    match node {
+        Stmt::Block(node) => node.held().place(),
+        Stmt::Empty(node) => node.span,
+        Stmt::Debugger(node) => node.span,
+        Stmt::With(node) => node.span,
+        Stmt::Return(node) => node.span,
+        Stmt::Labeled(node) => node.span,
+        Stmt::Break(node) => node.span,
+        Stmt::Continue(node) => node.span,
+        Stmt::If(node) => node.span,
+        Stmt::Switch(node) => node.span,
+        Stmt::Throw(node) => node.span,
+        Stmt::Try(node) => node.span,
+        Stmt::While(node) => node.span,
+        Stmt::DoWhile(node) => node.span,
+        Stmt::For(node) => node.span,
+        Stmt::ForIn(node) => node.span,
+        Stmt::ForOf(node) => node.span,
+        Stmt::Decl(node) => node.held().place(),
+        Stmt::Expr(node) => node.span,
+    }
+}

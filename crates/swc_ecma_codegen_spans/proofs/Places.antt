@@ -1,0 +1,502 @@
+-- Where a whole node stands, by its sort.
+use Rattle.std.proofs.Common.{◌≡◌, refl, sym, ◌∙◌, ap, Box, Global}
+use Rattle.swc_ecma_codegen_common.specs.declared.positions.Span.{Span}
+use Rattle.swc_ecma_codegen_tree.specs.declared.links.AnyNode.{AnyNode, AnyNode-F, map-AnyNode, roll-AnyNode}
+use Rattle.swc_ecma_codegen_tree.specs.declared.links.AnyNode.TheOpen as nodes
+use Rattle.swc_ecma_codegen_tree.specs.declared.links.AnyNode.TheVariants as whole
+use Rattle.swc_ecma_codegen_tree.specs.declared.links.AnyNode.TheFolds.{fold-roll-AnyNode}
+use Rattle.swc_ecma_codegen_tree.specs.declared.pats.AssignTarget.{AssignTarget}
+use Rattle.swc_ecma_codegen_tree.specs.declared.pats.AssignTargetPat.{AssignTargetPat}
+use Rattle.swc_ecma_codegen_tree.specs.declared.stmts.BlockStmt.{BlockStmt}
+use Rattle.swc_ecma_codegen_tree.specs.declared.classes.Class.{Class}
+use Rattle.swc_ecma_codegen_tree.specs.declared.classes.ClassMember.{ClassMember}
+use Rattle.swc_ecma_codegen_tree.specs.declared.decls.Decl.{Decl}
+use Rattle.swc_ecma_codegen_tree.specs.declared.exprs.Expr.{Expr}
+use Rattle.swc_ecma_codegen_tree.specs.declared.decls.Function.{Function}
+use Rattle.swc_ecma_codegen_tree.specs.declared.jsx.JSXAttrValue.{JSXAttrValue}
+use Rattle.swc_ecma_codegen_tree.specs.declared.jsx.JSXElement.{JSXElement}
+use Rattle.swc_ecma_codegen_tree.specs.declared.jsx.JSXElementChild.{JSXElementChild}
+use Rattle.swc_ecma_codegen_tree.specs.declared.jsx.JSXFragment.{JSXFragment}
+use Rattle.swc_ecma_codegen_tree.specs.declared.jsx.JSXObject.{JSXObject}
+use Rattle.swc_ecma_codegen_tree.specs.declared.exprs.MemberExpr.{MemberExpr}
+use Rattle.swc_ecma_codegen_tree.specs.declared.programs.ModuleDecl.{ModuleDecl}
+use Rattle.swc_ecma_codegen_tree.specs.declared.programs.ModuleItem.{ModuleItem}
+use Rattle.swc_ecma_codegen_tree.specs.declared.exprs.ObjectLit.{ObjectLit}
+use Rattle.swc_ecma_codegen_tree.specs.declared.exprs.OptCall.{OptCall}
+use Rattle.swc_ecma_codegen_tree.specs.declared.pats.Pat.{Pat}
+use Rattle.swc_ecma_codegen_tree.specs.declared.exprs.Prop.{Prop}
+use Rattle.swc_ecma_codegen_tree.specs.declared.exprs.PropName.{PropName}
+use Rattle.swc_ecma_codegen_tree.specs.declared.pats.SimpleAssignTarget.{SimpleAssignTarget}
+use Rattle.swc_ecma_codegen_tree.specs.declared.stmts.Stmt.{Stmt}
+use Rattle.swc_ecma_codegen_tree.specs.declared.exprs.Tpl.{Tpl}
+use Rattle.swc_ecma_codegen_tree.specs.declared.ts_types.TsEntityName.{TsEntityName}
+use Rattle.swc_ecma_codegen_tree.specs.declared.ts_types.TsFnOrConstructorType.{TsFnOrConstructorType}
+use Rattle.swc_ecma_codegen_tree.specs.declared.ts_types.TsFnParam.{TsFnParam}
+use Rattle.swc_ecma_codegen_tree.specs.declared.ts_decls.TsNamespaceBody.{TsNamespaceBody}
+use Rattle.swc_ecma_codegen_tree.specs.declared.ts_types.TsType.{TsType}
+use Rattle.swc_ecma_codegen_tree.specs.declared.ts_types.TsTypeAnn.{TsTypeAnn}
+use Rattle.swc_ecma_codegen_tree.specs.declared.ts_members.TsTypeElement.{TsTypeElement}
+use Rattle.swc_ecma_codegen_tree.specs.declared.ts_types.TsTypeParamDecl.{TsTypeParamDecl}
+use Rattle.swc_ecma_codegen_tree.specs.declared.ts_types.TsTypeParamInstantiation.{TsTypeParamInstantiation}
+use Rattle.swc_ecma_codegen_tree.specs.declared.ts_types.TsUnionOrIntersectionType.{TsUnionOrIntersectionType}
+use Rattle.swc_ecma_codegen_tree.specs.declared.decls.VarDecl.{VarDecl}
+use Rattle.swc_ecma_codegen_tree.specs.declared.pats.AssignTarget.TheVariants as assign_targets
+use Rattle.swc_ecma_codegen_tree.specs.declared.pats.AssignTargetPat.TheVariants as assign_target_pats
+use Rattle.swc_ecma_codegen_tree.specs.declared.classes.ClassMember.TheVariants as class_members
+use Rattle.swc_ecma_codegen_tree.specs.declared.decls.Decl.TheVariants as decls
+use Rattle.swc_ecma_codegen_tree.specs.declared.exprs.Expr.TheVariants as exprs
+use Rattle.swc_ecma_codegen_tree.specs.declared.jsx.JSXAttrValue.TheVariants as jsx_attr_values
+use Rattle.swc_ecma_codegen_tree.specs.declared.jsx.JSXElementChild.TheVariants as jsx_element_childs
+use Rattle.swc_ecma_codegen_tree.specs.declared.jsx.JSXObject.TheVariants as jsx_objects
+use Rattle.swc_ecma_codegen_tree.specs.declared.programs.ModuleDecl.TheVariants as module_decls
+use Rattle.swc_ecma_codegen_tree.specs.declared.programs.ModuleItem.TheVariants as module_items
+use Rattle.swc_ecma_codegen_tree.specs.declared.pats.Pat.TheVariants as pats
+use Rattle.swc_ecma_codegen_tree.specs.declared.exprs.Prop.TheVariants as props
+use Rattle.swc_ecma_codegen_tree.specs.declared.exprs.PropName.TheVariants as prop_names
+use Rattle.swc_ecma_codegen_tree.specs.declared.pats.SimpleAssignTarget.TheVariants as simple_assign_targets
+use Rattle.swc_ecma_codegen_tree.specs.declared.stmts.Stmt.TheVariants as stmts
+use Rattle.swc_ecma_codegen_tree.specs.declared.ts_types.TsEntityName.TheVariants as ts_entity_names
+use Rattle.swc_ecma_codegen_tree.specs.declared.ts_types.TsFnOrConstructorType.TheVariants as ts_fn_or_constructor_types
+use Rattle.swc_ecma_codegen_tree.specs.declared.ts_types.TsFnParam.TheVariants as ts_fn_params
+use Rattle.swc_ecma_codegen_tree.specs.declared.ts_decls.TsNamespaceBody.TheVariants as ts_namespace_bodys
+use Rattle.swc_ecma_codegen_tree.specs.declared.ts_types.TsType.TheVariants as ts_types
+use Rattle.swc_ecma_codegen_tree.specs.declared.ts_members.TsTypeElement.TheVariants as ts_type_elements
+use Rattle.swc_ecma_codegen_tree.specs.declared.ts_types.TsUnionOrIntersectionType.TheVariants as ts_union_or_intersection_types
+use Rattle.std.specs.Box.{with_value}
+use Rattle.swc_ecma_codegen_spans.specs.Spans.{assign_prop_span, assign_target_pat_span, assign_target_span, binding_ident_span, class_decl_span, class_expr_span, class_member_span, decl_span, expr_span, fn_decl_span, fn_expr_span, jsx_attr_value_span, jsx_element_child_span, jsx_member_expr_span, jsx_namespaced_name_span, jsx_object_span, key_value_prop_span, lit_span, method_prop_span, module_decl_span, module_item_span, pat_span, prop_name_span, prop_span, simple_assign_target_span, stmt_span, ts_entity_name_span, ts_fn_or_constructor_type_span, ts_fn_param_span, ts_namespace_body_span, ts_type_element_span, ts_type_span, ts_union_or_intersection_type_span, node_span, any_span}
+
+known_of : AnyNode-F AnyNode → AnyNode-F Span
+known_of = map-AnyNode AnyNode Span any_span
+
+expr_known : (n : Expr AnyNode) → node_span (λ known. known) (known_of (nodes.Expr n)) ≡ expr_span any_span n
+unfolding node_span known_of expr_span fn_expr_span lit_span class_expr_span jsx_member_expr_span jsx_namespaced_name_span
+expr_known (exprs.This n) = refl
+expr_known (exprs.Array n) = refl
+expr_known (exprs.Object n) = refl
+expr_known (exprs.Fn n) = refl
+expr_known (exprs.Unary n) = refl
+expr_known (exprs.Update n) = refl
+expr_known (exprs.Bin n) = refl
+expr_known (exprs.Assign n) = refl
+expr_known (exprs.Member n) = refl
+expr_known (exprs.SuperProp n) = refl
+expr_known (exprs.Cond n) = refl
+expr_known (exprs.Call n) = refl
+expr_known (exprs.New n) = refl
+expr_known (exprs.Seq n) = refl
+expr_known (exprs.Ident n) = refl
+expr_known (exprs.Lit n) = refl
+expr_known (exprs.Tpl n) = refl
+expr_known (exprs.TaggedTpl n) = refl
+expr_known (exprs.Arrow n) = refl
+expr_known (exprs.Class n) = refl
+expr_known (exprs.Yield n) = refl
+expr_known (exprs.MetaProp n) = refl
+expr_known (exprs.Await n) = refl
+expr_known (exprs.Paren n) = refl
+expr_known (exprs.JSXMember n) = refl
+expr_known (exprs.JSXNamespacedName n) = refl
+expr_known (exprs.JSXEmpty n) = refl
+expr_known (exprs.JSXElement n) = refl
+expr_known (exprs.JSXFragment n) = refl
+expr_known (exprs.TsTypeAssertion n) = refl
+expr_known (exprs.TsConstAssertion n) = refl
+expr_known (exprs.TsNonNull n) = refl
+expr_known (exprs.TsAs n) = refl
+expr_known (exprs.TsInstantiation n) = refl
+expr_known (exprs.TsSatisfies n) = refl
+expr_known (exprs.PrivateName n) = refl
+expr_known (exprs.OptChain n) = refl
+expr_known (exprs.Invalid n) = refl
+
+stmt_known : (n : Stmt AnyNode) → node_span (λ known. known) (known_of (nodes.Stmt n)) ≡ stmt_span any_span n
+unfolding node_span known_of stmt_span
+stmt_known (stmts.Block n) = refl
+stmt_known (stmts.Empty n) = refl
+stmt_known (stmts.Debugger n) = refl
+stmt_known (stmts.With n) = refl
+stmt_known (stmts.Return n) = refl
+stmt_known (stmts.Labeled n) = refl
+stmt_known (stmts.Break n) = refl
+stmt_known (stmts.Continue n) = refl
+stmt_known (stmts.If n) = refl
+stmt_known (stmts.Switch n) = refl
+stmt_known (stmts.Throw n) = refl
+stmt_known (stmts.Try n) = refl
+stmt_known (stmts.While n) = refl
+stmt_known (stmts.DoWhile n) = refl
+stmt_known (stmts.For n) = refl
+stmt_known (stmts.ForIn n) = refl
+stmt_known (stmts.ForOf n) = refl
+stmt_known (stmts.Decl n) = refl
+stmt_known (stmts.Expr n) = refl
+
+pat_known : (n : Pat AnyNode) → node_span (λ known. known) (known_of (nodes.Pat n)) ≡ pat_span any_span n
+unfolding node_span known_of pat_span binding_ident_span
+pat_known (pats.Ident n) = refl
+pat_known (pats.Array n) = refl
+pat_known (pats.Rest n) = refl
+pat_known (pats.Object n) = refl
+pat_known (pats.Assign n) = refl
+pat_known (pats.Invalid n) = refl
+pat_known (pats.Expr n) = refl
+
+ts_type_known : (b : (Box (TsType AnyNode) Global)) (n : TsType AnyNode) → node_span (λ known. known) (known_of (nodes.TsType (with_value b n))) ≡ ts_type_span n
+unfolding node_span known_of ts_type_span ts_fn_or_constructor_type_span ts_union_or_intersection_type_span
+ts_type_known b (ts_types.TsKeywordType n) = refl
+ts_type_known b (ts_types.TsThisType n) = refl
+ts_type_known b (ts_types.TsFnOrConstructorType (ts_fn_or_constructor_types.TsFnType n)) = refl
+ts_type_known b (ts_types.TsFnOrConstructorType (ts_fn_or_constructor_types.TsConstructorType n)) = refl
+ts_type_known b (ts_types.TsTypeRef n) = refl
+ts_type_known b (ts_types.TsTypeQuery n) = refl
+ts_type_known b (ts_types.TsTypeLit n) = refl
+ts_type_known b (ts_types.TsArrayType n) = refl
+ts_type_known b (ts_types.TsTupleType n) = refl
+ts_type_known b (ts_types.TsOptionalType n) = refl
+ts_type_known b (ts_types.TsRestType n) = refl
+ts_type_known b (ts_types.TsUnionOrIntersectionType (ts_union_or_intersection_types.TsUnionType n)) = refl
+ts_type_known b (ts_types.TsUnionOrIntersectionType (ts_union_or_intersection_types.TsIntersectionType n)) = refl
+ts_type_known b (ts_types.TsConditionalType n) = refl
+ts_type_known b (ts_types.TsInferType n) = refl
+ts_type_known b (ts_types.TsParenthesizedType n) = refl
+ts_type_known b (ts_types.TsTypeOperator n) = refl
+ts_type_known b (ts_types.TsIndexedAccessType n) = refl
+ts_type_known b (ts_types.TsMappedType n) = refl
+ts_type_known b (ts_types.TsLitType n) = refl
+ts_type_known b (ts_types.TsTypePredicate n) = refl
+ts_type_known b (ts_types.TsImportType n) = refl
+
+jsx_element_child_known : (n : JSXElementChild AnyNode) → node_span (λ known. known) (known_of (nodes.JSXElementChild n)) ≡ jsx_element_child_span any_span n
+unfolding node_span known_of jsx_element_child_span
+jsx_element_child_known (jsx_element_childs.JSXText n) = refl
+jsx_element_child_known (jsx_element_childs.JSXExprContainer n) = refl
+jsx_element_child_known (jsx_element_childs.JSXSpreadChild n) = refl
+jsx_element_child_known (jsx_element_childs.JSXElement n) = refl
+jsx_element_child_known (jsx_element_childs.JSXFragment n) = refl
+
+jsx_attr_value_known : (n : JSXAttrValue AnyNode) → node_span (λ known. known) (known_of (nodes.JSXAttrValue n)) ≡ jsx_attr_value_span any_span n
+unfolding node_span known_of jsx_attr_value_span lit_span
+jsx_attr_value_known (jsx_attr_values.Lit n) = refl
+jsx_attr_value_known (jsx_attr_values.JSXExprContainer n) = refl
+jsx_attr_value_known (jsx_attr_values.JSXElement n) = refl
+jsx_attr_value_known (jsx_attr_values.JSXFragment n) = refl
+
+ts_namespace_body_known : (n : TsNamespaceBody AnyNode) → node_span (λ known. known) (known_of (nodes.TsNamespaceBody n)) ≡ ts_namespace_body_span n
+unfolding node_span known_of ts_namespace_body_span
+ts_namespace_body_known (ts_namespace_bodys.TsModuleBlock n) = refl
+ts_namespace_body_known (ts_namespace_bodys.TsNamespaceDecl n) = refl
+
+ts_type_ann_known : (n : TsTypeAnn AnyNode) → node_span (λ known. known) (known_of (nodes.TsTypeAnn n)) ≡ n.span
+unfolding node_span known_of
+ts_type_ann_known n = refl
+
+ts_type_param_decl_known : (n : TsTypeParamDecl AnyNode) → node_span (λ known. known) (known_of (nodes.TsTypeParamDecl n)) ≡ n.span
+unfolding node_span known_of
+ts_type_param_decl_known n = refl
+
+ts_type_param_instantiation_known : (n : TsTypeParamInstantiation AnyNode) → node_span (λ known. known) (known_of (nodes.TsTypeParamInstantiation n)) ≡ n.span
+unfolding node_span known_of
+ts_type_param_instantiation_known n = refl
+
+function_known : (b : (Box (Function AnyNode) Global)) (n : Function AnyNode) → node_span (λ known. known) (known_of (nodes.Function (with_value b n))) ≡ n.span
+unfolding node_span known_of
+function_known b n = refl
+
+class_known : (b : (Box (Class AnyNode) Global)) (n : Class AnyNode) → node_span (λ known. known) (known_of (nodes.Class (with_value b n))) ≡ n.span
+unfolding node_span known_of
+class_known b n = refl
+
+tpl_known : (n : Tpl AnyNode) → node_span (λ known. known) (known_of (nodes.Tpl n)) ≡ n.span
+unfolding node_span known_of
+tpl_known n = refl
+
+block_stmt_known : (n : BlockStmt AnyNode) → node_span (λ known. known) (known_of (nodes.BlockStmt n)) ≡ n.span
+unfolding node_span known_of
+block_stmt_known n = refl
+
+decl_known : (b : (Box (Decl AnyNode) Global)) (n : Decl AnyNode) → node_span (λ known. known) (known_of (nodes.Decl (with_value b n))) ≡ decl_span any_span n
+unfolding node_span known_of decl_span class_decl_span fn_decl_span
+decl_known b (decls.Class n) = refl
+decl_known b (decls.Fn n) = refl
+decl_known b (decls.Var n) = refl
+decl_known b (decls.Using n) = refl
+decl_known b (decls.TsInterface n) = refl
+decl_known b (decls.TsTypeAlias n) = refl
+decl_known b (decls.TsEnum n) = refl
+decl_known b (decls.TsModule n) = refl
+
+module_item_known : (n : ModuleItem AnyNode) → node_span (λ known. known) (known_of (nodes.ModuleItem n)) ≡ module_item_span any_span n
+unfolding node_span known_of module_item_span
+module_item_known (module_items.ModuleDecl n) = refl
+module_item_known (module_items.Stmt n) = refl
+
+module_decl_known : (b : (Box (ModuleDecl AnyNode) Global)) (n : ModuleDecl AnyNode) → node_span (λ known. known) (known_of (nodes.ModuleDecl (with_value b n))) ≡ module_decl_span n
+unfolding node_span known_of module_decl_span
+module_decl_known b (module_decls.Import n) = refl
+module_decl_known b (module_decls.ExportDecl n) = refl
+module_decl_known b (module_decls.ExportNamed n) = refl
+module_decl_known b (module_decls.ExportDefaultDecl n) = refl
+module_decl_known b (module_decls.ExportDefaultExpr n) = refl
+module_decl_known b (module_decls.ExportAll n) = refl
+module_decl_known b (module_decls.TsImportEquals n) = refl
+module_decl_known b (module_decls.TsExportAssignment n) = refl
+module_decl_known b (module_decls.TsNamespaceExport n) = refl
+
+object_lit_known : (n : ObjectLit AnyNode) → node_span (λ known. known) (known_of (nodes.ObjectLit n)) ≡ n.span
+unfolding node_span known_of
+object_lit_known n = refl
+
+prop_name_known : (n : PropName AnyNode) → node_span (λ known. known) (known_of (nodes.PropName n)) ≡ prop_name_span n
+unfolding node_span known_of prop_name_span
+prop_name_known (prop_names.Ident n) = refl
+prop_name_known (prop_names.Str n) = refl
+prop_name_known (prop_names.Num n) = refl
+prop_name_known (prop_names.BigInt n) = refl
+prop_name_known (prop_names.Computed n) = refl
+
+var_decl_known : (n : VarDecl AnyNode) → node_span (λ known. known) (known_of (nodes.VarDecl n)) ≡ n.span
+unfolding node_span known_of
+var_decl_known n = refl
+
+ts_fn_param_known : (n : TsFnParam AnyNode) → node_span (λ known. known) (known_of (nodes.TsFnParam n)) ≡ ts_fn_param_span n
+unfolding node_span known_of ts_fn_param_span binding_ident_span
+ts_fn_param_known (ts_fn_params.Ident n) = refl
+ts_fn_param_known (ts_fn_params.Array n) = refl
+ts_fn_param_known (ts_fn_params.Rest n) = refl
+ts_fn_param_known (ts_fn_params.Object n) = refl
+
+class_member_known : (b : (Box (ClassMember AnyNode) Global)) (n : ClassMember AnyNode) → node_span (λ known. known) (known_of (nodes.ClassMember (with_value b n))) ≡ class_member_span n
+unfolding node_span known_of class_member_span
+class_member_known b (class_members.Constructor n) = refl
+class_member_known b (class_members.Method n) = refl
+class_member_known b (class_members.PrivateMethod n) = refl
+class_member_known b (class_members.ClassProp n) = refl
+class_member_known b (class_members.PrivateProp n) = refl
+class_member_known b (class_members.TsIndexSignature n) = refl
+class_member_known b (class_members.Empty n) = refl
+class_member_known b (class_members.StaticBlock n) = refl
+class_member_known b (class_members.AutoAccessor n) = refl
+
+jsx_element_known : (b : (Box (JSXElement AnyNode) Global)) (n : JSXElement AnyNode) → node_span (λ known. known) (known_of (nodes.JSXElement (with_value b n))) ≡ n.span
+unfolding node_span known_of
+jsx_element_known b n = refl
+
+jsx_fragment_known : (n : JSXFragment AnyNode) → node_span (λ known. known) (known_of (nodes.JSXFragment n)) ≡ n.span
+unfolding node_span known_of
+jsx_fragment_known n = refl
+
+ts_type_element_known : (n : TsTypeElement AnyNode) → node_span (λ known. known) (known_of (nodes.TsTypeElement n)) ≡ ts_type_element_span n
+unfolding node_span known_of ts_type_element_span
+ts_type_element_known (ts_type_elements.TsCallSignatureDecl n) = refl
+ts_type_element_known (ts_type_elements.TsConstructSignatureDecl n) = refl
+ts_type_element_known (ts_type_elements.TsPropertySignature n) = refl
+ts_type_element_known (ts_type_elements.TsGetterSignature n) = refl
+ts_type_element_known (ts_type_elements.TsSetterSignature n) = refl
+ts_type_element_known (ts_type_elements.TsMethodSignature n) = refl
+ts_type_element_known (ts_type_elements.TsIndexSignature n) = refl
+
+prop_known : (n : Prop AnyNode) → node_span (λ known. known) (known_of (nodes.Prop n)) ≡ prop_span any_span n
+unfolding node_span known_of prop_span key_value_prop_span assign_prop_span method_prop_span
+prop_known (props.Shorthand n) = refl
+prop_known (props.KeyValue n) = refl
+prop_known (props.Assign n) = refl
+prop_known (props.Getter n) = refl
+prop_known (props.Setter n) = refl
+prop_known (props.Method n) = refl
+
+member_expr_known : (n : MemberExpr AnyNode) → node_span (λ known. known) (known_of (nodes.MemberExpr n)) ≡ n.span
+unfolding node_span known_of
+member_expr_known n = refl
+
+opt_call_known : (n : OptCall AnyNode) → node_span (λ known. known) (known_of (nodes.OptCall n)) ≡ n.span
+unfolding node_span known_of
+opt_call_known n = refl
+
+assign_target_known : (n : AssignTarget AnyNode) → node_span (λ known. known) (known_of (nodes.AssignTarget n)) ≡ assign_target_span any_span n
+unfolding node_span known_of assign_target_span simple_assign_target_span binding_ident_span assign_target_pat_span
+assign_target_known (assign_targets.Simple (simple_assign_targets.Ident n)) = refl
+assign_target_known (assign_targets.Simple (simple_assign_targets.Member n)) = refl
+assign_target_known (assign_targets.Simple (simple_assign_targets.SuperProp n)) = refl
+assign_target_known (assign_targets.Simple (simple_assign_targets.Paren n)) = refl
+assign_target_known (assign_targets.Simple (simple_assign_targets.OptChain n)) = refl
+assign_target_known (assign_targets.Simple (simple_assign_targets.TsAs n)) = refl
+assign_target_known (assign_targets.Simple (simple_assign_targets.TsSatisfies n)) = refl
+assign_target_known (assign_targets.Simple (simple_assign_targets.TsNonNull n)) = refl
+assign_target_known (assign_targets.Simple (simple_assign_targets.TsTypeAssertion n)) = refl
+assign_target_known (assign_targets.Simple (simple_assign_targets.TsInstantiation n)) = refl
+assign_target_known (assign_targets.Simple (simple_assign_targets.Invalid n)) = refl
+assign_target_known (assign_targets.Pat (assign_target_pats.Array n)) = refl
+assign_target_known (assign_targets.Pat (assign_target_pats.Object n)) = refl
+assign_target_known (assign_targets.Pat (assign_target_pats.Invalid n)) = refl
+
+ts_entity_name_known : (n : TsEntityName AnyNode) → node_span (λ known. known) (known_of (nodes.TsEntityName n)) ≡ ts_entity_name_span n
+unfolding node_span known_of ts_entity_name_span
+ts_entity_name_known (ts_entity_names.TsQualifiedName n) = refl
+ts_entity_name_known (ts_entity_names.Ident n) = refl
+
+jsx_object_known : (n : JSXObject AnyNode) → node_span (λ known. known) (known_of (nodes.JSXObject n)) ≡ jsx_object_span any_span n
+unfolding node_span known_of jsx_object_span jsx_member_expr_span
+jsx_object_known (jsx_objects.JSXMemberExpr n) = refl
+jsx_object_known (jsx_objects.Ident n) = refl
+
+layer_known : (n : AnyNode-F AnyNode) → node_span (λ known. known) (known_of n) ≡ node_span any_span n
+unfolding node_span known_of
+layer_known (nodes.Expr n) = expr_known n
+layer_known (nodes.Stmt n) = stmt_known n
+layer_known (nodes.Pat n) = pat_known n
+layer_known (nodes.TsType n) = ts_type_known n n.value
+layer_known (nodes.JSXElementChild n) = jsx_element_child_known n
+layer_known (nodes.JSXAttrValue n) = jsx_attr_value_known n
+layer_known (nodes.TsNamespaceBody n) = ts_namespace_body_known n
+layer_known (nodes.TsTypeAnn n) = ts_type_ann_known n
+layer_known (nodes.TsTypeParamDecl n) = ts_type_param_decl_known n
+layer_known (nodes.TsTypeParamInstantiation n) = ts_type_param_instantiation_known n
+layer_known (nodes.Function n) = function_known n n.value
+layer_known (nodes.Class n) = class_known n n.value
+layer_known (nodes.Tpl n) = tpl_known n
+layer_known (nodes.BlockStmt n) = block_stmt_known n
+layer_known (nodes.Decl n) = decl_known n n.value
+layer_known (nodes.ModuleItem n) = module_item_known n
+layer_known (nodes.ModuleDecl n) = module_decl_known n n.value
+layer_known (nodes.ObjectLit n) = object_lit_known n
+layer_known (nodes.PropName n) = prop_name_known n
+layer_known (nodes.VarDecl n) = var_decl_known n
+layer_known (nodes.TsFnParam n) = ts_fn_param_known n
+layer_known (nodes.ClassMember n) = class_member_known n n.value
+layer_known (nodes.JSXElement n) = jsx_element_known n n.value
+layer_known (nodes.JSXFragment n) = jsx_fragment_known n
+layer_known (nodes.TsTypeElement n) = ts_type_element_known n
+layer_known (nodes.Prop n) = prop_known n
+layer_known (nodes.MemberExpr n) = member_expr_known n
+layer_known (nodes.OptCall n) = opt_call_known n
+layer_known (nodes.AssignTarget n) = assign_target_known n
+layer_known (nodes.TsEntityName n) = ts_entity_name_known n
+layer_known (nodes.JSXObject n) = jsx_object_known n
+
+span_of_layer : (n : AnyNode-F AnyNode) → any_span (roll-AnyNode n) ≡ node_span any_span n
+unfolding any_span known_of
+span_of_layer n = fold-roll-AnyNode Span (node_span (λ known. known)) n ∙ layer_known n
+
+pub any_span_expr : (n : Expr AnyNode) → any_span (whole.Expr n) ≡ expr_span any_span n
+unfolding node_span
+any_span_expr n = ap any_span (sym (whole.rolls-Expr n)) ∙ span_of_layer (nodes.Expr n)
+
+pub any_span_stmt : (n : Stmt AnyNode) → any_span (whole.Stmt n) ≡ stmt_span any_span n
+unfolding node_span
+any_span_stmt n = ap any_span (sym (whole.rolls-Stmt n)) ∙ span_of_layer (nodes.Stmt n)
+
+pub any_span_pat : (n : Pat AnyNode) → any_span (whole.Pat n) ≡ pat_span any_span n
+unfolding node_span
+any_span_pat n = ap any_span (sym (whole.rolls-Pat n)) ∙ span_of_layer (nodes.Pat n)
+
+pub any_span_ts_type : (n : Box (TsType AnyNode) Global) → any_span (whole.TsType n) ≡ ts_type_span n.value
+unfolding node_span
+any_span_ts_type n = ap any_span (sym (whole.rolls-TsType n)) ∙ span_of_layer (nodes.TsType n)
+
+pub any_span_jsx_element_child : (n : JSXElementChild AnyNode) → any_span (whole.JSXElementChild n) ≡ jsx_element_child_span any_span n
+unfolding node_span
+any_span_jsx_element_child n = ap any_span (sym (whole.rolls-JSXElementChild n)) ∙ span_of_layer (nodes.JSXElementChild n)
+
+pub any_span_jsx_attr_value : (n : JSXAttrValue AnyNode) → any_span (whole.JSXAttrValue n) ≡ jsx_attr_value_span any_span n
+unfolding node_span
+any_span_jsx_attr_value n = ap any_span (sym (whole.rolls-JSXAttrValue n)) ∙ span_of_layer (nodes.JSXAttrValue n)
+
+pub any_span_ts_namespace_body : (n : TsNamespaceBody AnyNode) → any_span (whole.TsNamespaceBody n) ≡ ts_namespace_body_span n
+unfolding node_span
+any_span_ts_namespace_body n = ap any_span (sym (whole.rolls-TsNamespaceBody n)) ∙ span_of_layer (nodes.TsNamespaceBody n)
+
+pub any_span_ts_type_ann : (n : TsTypeAnn AnyNode) → any_span (whole.TsTypeAnn n) ≡ n.span
+unfolding node_span
+any_span_ts_type_ann n = ap any_span (sym (whole.rolls-TsTypeAnn n)) ∙ span_of_layer (nodes.TsTypeAnn n)
+
+pub any_span_ts_type_param_decl : (n : TsTypeParamDecl AnyNode) → any_span (whole.TsTypeParamDecl n) ≡ n.span
+unfolding node_span
+any_span_ts_type_param_decl n = ap any_span (sym (whole.rolls-TsTypeParamDecl n)) ∙ span_of_layer (nodes.TsTypeParamDecl n)
+
+pub any_span_ts_type_param_instantiation : (n : TsTypeParamInstantiation AnyNode) → any_span (whole.TsTypeParamInstantiation n) ≡ n.span
+unfolding node_span
+any_span_ts_type_param_instantiation n = ap any_span (sym (whole.rolls-TsTypeParamInstantiation n)) ∙ span_of_layer (nodes.TsTypeParamInstantiation n)
+
+pub any_span_function : (n : Box (Function AnyNode) Global) → any_span (whole.Function n) ≡ n.value.span
+unfolding node_span
+any_span_function n = ap any_span (sym (whole.rolls-Function n)) ∙ span_of_layer (nodes.Function n)
+
+pub any_span_class : (n : Box (Class AnyNode) Global) → any_span (whole.Class n) ≡ n.value.span
+unfolding node_span
+any_span_class n = ap any_span (sym (whole.rolls-Class n)) ∙ span_of_layer (nodes.Class n)
+
+pub any_span_tpl : (n : Tpl AnyNode) → any_span (whole.Tpl n) ≡ n.span
+unfolding node_span
+any_span_tpl n = ap any_span (sym (whole.rolls-Tpl n)) ∙ span_of_layer (nodes.Tpl n)
+
+pub any_span_block_stmt : (n : BlockStmt AnyNode) → any_span (whole.BlockStmt n) ≡ n.span
+unfolding node_span
+any_span_block_stmt n = ap any_span (sym (whole.rolls-BlockStmt n)) ∙ span_of_layer (nodes.BlockStmt n)
+
+pub any_span_decl : (n : Box (Decl AnyNode) Global) → any_span (whole.Decl n) ≡ decl_span any_span n.value
+unfolding node_span
+any_span_decl n = ap any_span (sym (whole.rolls-Decl n)) ∙ span_of_layer (nodes.Decl n)
+
+pub any_span_module_item : (n : ModuleItem AnyNode) → any_span (whole.ModuleItem n) ≡ module_item_span any_span n
+unfolding node_span
+any_span_module_item n = ap any_span (sym (whole.rolls-ModuleItem n)) ∙ span_of_layer (nodes.ModuleItem n)
+
+pub any_span_module_decl : (n : Box (ModuleDecl AnyNode) Global) → any_span (whole.ModuleDecl n) ≡ module_decl_span n.value
+unfolding node_span
+any_span_module_decl n = ap any_span (sym (whole.rolls-ModuleDecl n)) ∙ span_of_layer (nodes.ModuleDecl n)
+
+pub any_span_object_lit : (n : ObjectLit AnyNode) → any_span (whole.ObjectLit n) ≡ n.span
+unfolding node_span
+any_span_object_lit n = ap any_span (sym (whole.rolls-ObjectLit n)) ∙ span_of_layer (nodes.ObjectLit n)
+
+pub any_span_prop_name : (n : PropName AnyNode) → any_span (whole.PropName n) ≡ prop_name_span n
+unfolding node_span
+any_span_prop_name n = ap any_span (sym (whole.rolls-PropName n)) ∙ span_of_layer (nodes.PropName n)
+
+pub any_span_var_decl : (n : VarDecl AnyNode) → any_span (whole.VarDecl n) ≡ n.span
+unfolding node_span
+any_span_var_decl n = ap any_span (sym (whole.rolls-VarDecl n)) ∙ span_of_layer (nodes.VarDecl n)
+
+pub any_span_ts_fn_param : (n : TsFnParam AnyNode) → any_span (whole.TsFnParam n) ≡ ts_fn_param_span n
+unfolding node_span
+any_span_ts_fn_param n = ap any_span (sym (whole.rolls-TsFnParam n)) ∙ span_of_layer (nodes.TsFnParam n)
+
+pub any_span_class_member : (n : Box (ClassMember AnyNode) Global) → any_span (whole.ClassMember n) ≡ class_member_span n.value
+unfolding node_span
+any_span_class_member n = ap any_span (sym (whole.rolls-ClassMember n)) ∙ span_of_layer (nodes.ClassMember n)
+
+pub any_span_jsx_element : (n : Box (JSXElement AnyNode) Global) → any_span (whole.JSXElement n) ≡ n.value.span
+unfolding node_span
+any_span_jsx_element n = ap any_span (sym (whole.rolls-JSXElement n)) ∙ span_of_layer (nodes.JSXElement n)
+
+pub any_span_jsx_fragment : (n : JSXFragment AnyNode) → any_span (whole.JSXFragment n) ≡ n.span
+unfolding node_span
+any_span_jsx_fragment n = ap any_span (sym (whole.rolls-JSXFragment n)) ∙ span_of_layer (nodes.JSXFragment n)
+
+pub any_span_ts_type_element : (n : TsTypeElement AnyNode) → any_span (whole.TsTypeElement n) ≡ ts_type_element_span n
+unfolding node_span
+any_span_ts_type_element n = ap any_span (sym (whole.rolls-TsTypeElement n)) ∙ span_of_layer (nodes.TsTypeElement n)
+
+pub any_span_prop : (n : Prop AnyNode) → any_span (whole.Prop n) ≡ prop_span any_span n
+unfolding node_span
+any_span_prop n = ap any_span (sym (whole.rolls-Prop n)) ∙ span_of_layer (nodes.Prop n)
+
+pub any_span_member_expr : (n : MemberExpr AnyNode) → any_span (whole.MemberExpr n) ≡ n.span
+unfolding node_span
+any_span_member_expr n = ap any_span (sym (whole.rolls-MemberExpr n)) ∙ span_of_layer (nodes.MemberExpr n)
+
+pub any_span_opt_call : (n : OptCall AnyNode) → any_span (whole.OptCall n) ≡ n.span
+unfolding node_span
+any_span_opt_call n = ap any_span (sym (whole.rolls-OptCall n)) ∙ span_of_layer (nodes.OptCall n)
+
+pub any_span_assign_target : (n : AssignTarget AnyNode) → any_span (whole.AssignTarget n) ≡ assign_target_span any_span n
+unfolding node_span
+any_span_assign_target n = ap any_span (sym (whole.rolls-AssignTarget n)) ∙ span_of_layer (nodes.AssignTarget n)
+
+pub any_span_ts_entity_name : (n : TsEntityName AnyNode) → any_span (whole.TsEntityName n) ≡ ts_entity_name_span n
+unfolding node_span
+any_span_ts_entity_name n = ap any_span (sym (whole.rolls-TsEntityName n)) ∙ span_of_layer (nodes.TsEntityName n)
+
+pub any_span_jsx_object : (n : JSXObject AnyNode) → any_span (whole.JSXObject n) ≡ jsx_object_span any_span n
+unfolding node_span
+any_span_jsx_object n = ap any_span (sym (whole.rolls-JSXObject n)) ∙ span_of_layer (nodes.JSXObject n)

@@ -1,0 +1,135 @@
+//! Declarations and functions.
+
+use crate::expr_links::{ExprBox, PatBox};
+use crate::idents::Ident;
+use crate::links::AnyNode;
+use crate::stmt_links::{BlockStmtBox, ClassBox, FunctionBox, VarDeclBox};
+use crate::ts_decls::{TsEnumDecl, TsInterfaceDecl, TsModuleDecl, TsTypeAliasDecl};
+use crate::ts_links::{TsTypeAnnBox, TsTypeParamDeclBox};
+use swc_ecma_codegen_common::Span;
+
+/// `let a = 1;` or `class A {}`. ECMA-262, section 14.
+#[derive(Drop)]
+pub enum Decl<N = AnyNode> {
+    /// `class A {}`
+    Class(ClassDecl<N>),
+    /// `function f() {}`
+    Fn(FnDecl<N>),
+    /// `let a = 1, b;`
+    Var(VarDeclBox<N>),
+    /// `using a = b;`
+    Using(UsingDecl<N>),
+    /// TypeScript: `interface A {}`
+    TsInterface(TsInterfaceDecl<N>),
+    /// TypeScript: `type A = T;`
+    TsTypeAlias(TsTypeAliasDecl<N>),
+    /// TypeScript: `enum A { B }`
+    TsEnum(TsEnumDecl<N>),
+    /// TypeScript: `namespace A {}`
+    TsModule(TsModuleDecl<N>),
+}
+
+/// `class A {}` as a declaration. ECMA-262, section 15.7.
+#[derive(Drop)]
+pub struct ClassDecl<N = AnyNode> {
+    /// `A` of `class A {}`.
+    pub ident: Ident,
+    /// TypeScript: whether `declare` stands first, `declare class A {}`.
+    pub declare: bool,
+    /// `class {}` of `class A {}`, all but the name.
+    pub class: ClassBox<N>,
+}
+
+/// `function f() {}` as a declaration. ECMA-262, section 15.2.
+#[derive(Drop)]
+pub struct FnDecl<N = AnyNode> {
+    /// `f` of `function f() {}`.
+    pub ident: Ident,
+    /// TypeScript: whether `declare` stands first, `declare function f();`.
+    pub declare: bool,
+    /// `() {}` of `function f() {}`, all but the name.
+    pub function: FunctionBox<N>,
+}
+
+/// `let a = 1, b;`. ECMA-262, section 14.3.
+#[derive(Drop)]
+pub struct VarDecl<N = AnyNode> {
+    pub span: Span,
+    /// `let` of `let a = 1, b;`.
+    pub kind: VarDeclKind,
+    /// TypeScript: whether `declare` stands first, `declare let a;`.
+    pub declare: bool,
+    /// `a = 1` and `b` of `let a = 1, b;`.
+    pub decls: Vec<VarDeclarator<N>>,
+}
+
+/// `let` of `let a = 1;`. ECMA-262, section 14.3.
+#[derive(Clone, Copy, Debug, PartialEq, Eq)]
+pub enum VarDeclKind {
+    /// `var` of `var a;`
+    Var,
+    /// `let` of `let a;`
+    Let,
+    /// `const` of `const a = 1;`
+    Const,
+}
+
+/// `a = 1` of `let a = 1;`. ECMA-262, section 14.3.
+#[derive(Drop)]
+pub struct VarDeclarator<N = AnyNode> {
+    pub span: Span,
+    /// `a` of `let a = 1;`.
+    pub name: PatBox<N>,
+    /// `1` of `let a = 1;`, or none of `let a;`.
+    pub init: Option<ExprBox<N>>,
+    /// TypeScript: whether `!` stands after the name, `let a!: T;`.
+    pub definite: bool,
+}
+
+/// `using a = b;`. A proposal, not in ECMA-262, 2024 edition.
+#[derive(Drop)]
+pub struct UsingDecl<N = AnyNode> {
+    pub span: Span,
+    /// Whether `await` stands first, `await using a = b;`.
+    pub is_await: bool,
+    /// `a = b` and `c = d` of `using a = b, c = d;`.
+    pub decls: Vec<VarDeclarator<N>>,
+}
+
+/// `function (a) { b; }`: a function or method without its name. ECMA-262, section 15.2.
+#[derive(Drop)]
+pub struct Function<N = AnyNode> {
+    pub span: Span,
+    /// `a` and `b` of `function f(a, b) {}`.
+    pub params: Vec<Param<N>>,
+    /// `@a` of the method `@a b() {}`. A proposal.
+    pub decorators: Vec<Decorator<N>>,
+    /// `{ a; }` of `function f() { a; }`, or none of TypeScript's `function f();`.
+    pub body: Option<BlockStmtBox<N>>,
+    /// Whether it is a generator, `function* f() {}`.
+    pub is_generator: bool,
+    /// Whether it is asynchronous, `async function f() {}`.
+    pub is_async: bool,
+    /// TypeScript: `<T>` of `function f<T>() {}`, or none of `function f() {}`.
+    pub type_params: Option<TsTypeParamDeclBox<N>>,
+    /// TypeScript: `: T` of `function f(): T {}`, or none of `function f() {}`.
+    pub return_type: Option<TsTypeAnnBox<N>>,
+}
+
+/// `a = 1` of `function f(a = 1) {}`. ECMA-262, section 15.1.
+#[derive(Drop)]
+pub struct Param<N = AnyNode> {
+    pub span: Span,
+    /// TypeScript: `@a` of `class A { b(@a c) {} }`.
+    pub decorators: Vec<Decorator<N>>,
+    /// `a = 1` of `function f(a = 1) {}`.
+    pub pat: PatBox<N>,
+}
+
+/// `@a` of `@a class B {}`. A proposal, not in ECMA-262, 2024 edition.
+#[derive(Drop)]
+pub struct Decorator<N = AnyNode> {
+    pub span: Span,
+    /// `a()` of `@a() class B {}`.
+    pub expr: ExprBox<N>,
+}
