@@ -6,7 +6,7 @@ use std::io::ErrorKind;
 use std::test::Fail;
 use swc_ecma_codegen_common::{BytePos, DUMMY_SP, Decimal, Error, EsVersion, LineCol, Span};
 use swc_ecma_codegen_json::ReadError;
-use swc_ecma_codegen_spans::Spanned;
+use swc_ecma_codegen_spans::{SpanEnds, Spanned};
 use swc_ecma_codegen_tree::{
     EmptyStmt, Expr, ExprBox, IdentName, MemberExpr, MemberExprBox, MemberProp, Stmt, StmtBox,
     ThisExpr,
