@@ -8,6 +8,8 @@ mod calls;
 #[cfg(test)]
 mod faults;
 #[cfg(test)]
+mod links;
+#[cfg(test)]
 mod nestings;
 #[cfg(test)]
 mod rows;
