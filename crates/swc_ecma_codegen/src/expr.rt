@@ -12,7 +12,7 @@ use crate::operands::{is_word_op, operand_space, space_after};
 use crate::places::expr_place;
 use swc_ecma_codegen_ast::comments::Comments;
 use swc_ecma_codegen_ast::mapper::SourceMapper;
-use swc_ecma_codegen_common::{BinaryOp, Result, Span, UnaryOp};
+use swc_ecma_codegen_common::{Answer, BinaryOp, Span, UnaryOp};
 use swc_ecma_codegen_text_writer::WriteJs;
 use swc_ecma_codegen_tree::{
     BinExpr, ComputedPropName, CondExpr, Expr, Ident, IdentName, MemberExpr, MemberProp, ParenExpr,
@@ -38,7 +38,7 @@ impl<N: Held> EmitAt for Expr<N> {
         &self,
         e: &mut Emitter<'_, W, S, C>,
         place: Place,
-    ) -> Result {
+    ) -> Answer {
         match self {
             Expr::This(node) => node.emit_at(e, place)?,
             Expr::Unary(node) => node.emit_at(e, place)?,
@@ -64,7 +64,7 @@ impl<N: Held> EmitAt for MemberExpr<N> {
         &self,
         e: &mut Emitter<'_, W, S, C>,
         place: Place,
-    ) -> Result {
+    ) -> Answer {
         e.opened(self.span)?;
         self.obj.held().emit_at(e, Place::Plain)?;
         e.member_prop(&self.prop)?;
@@ -81,7 +81,7 @@ impl<N: Held> EmitAt for BinExpr<N> {
         &self,
         e: &mut Emitter<'_, W, S, C>,
         place: Place,
-    ) -> Result {
+    ) -> Answer {
         e.bin_opened(place, self.span)?;
         self.left.held().emit_at(e, Place::LeftOperand)?;
         e.bin_trailing(self)?;
@@ -97,7 +97,7 @@ impl<N: Held> EmitAt for SeqExpr<N> {
         &self,
         e: &mut Emitter<'_, W, S, C>,
         place: Place,
-    ) -> Result {
+    ) -> Answer {
         e.opened(self.span)?;
         e.exprs(&self.exprs)?;
         Ok(())
@@ -112,7 +112,7 @@ impl<N: Held> EmitAt for ComputedPropName<N> {
         &self,
         e: &mut Emitter<'_, W, S, C>,
         place: Place,
-    ) -> Result {
+    ) -> Answer {
         e.start_of(self.span)?;
         e.punct("[")?;
         self.expr.held().emit_at(e, Place::Plain)?;
@@ -130,7 +130,7 @@ impl<N: Held> EmitAt for CondExpr<N> {
         &self,
         e: &mut Emitter<'_, W, S, C>,
         place: Place,
-    ) -> Result {
+    ) -> Answer {
         e.opened(self.span)?;
         self.test.held().emit_at(e, Place::Plain)?;
         e.spaced_punct("?")?;
@@ -148,7 +148,7 @@ impl EmitAt for ThisExpr {
         &self,
         e: &mut Emitter<'_, W, S, C>,
         place: Place,
-    ) -> Result {
+    ) -> Answer {
         e.leading_comments(self.span.lo)?;
         e.keyword(Some(self.span), "this")?;
         Ok(())
@@ -163,7 +163,7 @@ impl<N: Held> EmitAt for UnaryExpr<N> {
         &self,
         e: &mut Emitter<'_, W, S, C>,
         place: Place,
-    ) -> Result {
+    ) -> Answer {
         e.opened(self.span)?;
         e.unary_op(self.op)?;
         e.unary_gap(self.op, self.arg.held())?;
@@ -180,7 +180,7 @@ impl<N: Held> EmitAt for UpdateExpr<N> {
         &self,
         e: &mut Emitter<'_, W, S, C>,
         place: Place,
-    ) -> Result {
+    ) -> Answer {
         e.opened(self.span)?;
         if self.prefix {
             e.operator(self.op.as_str())?;
@@ -201,7 +201,7 @@ impl<N: Held> EmitAt for ParenExpr<N> {
         &self,
         e: &mut Emitter<'_, W, S, C>,
         place: Place,
-    ) -> Result {
+    ) -> Answer {
         e.commit_pending_semi()?;
         e.opened(self.span)?;
         e.punct("(")?;
@@ -220,7 +220,7 @@ impl EmitAt for Ident {
         &self,
         e: &mut Emitter<'_, W, S, C>,
         place: Place,
-    ) -> Result {
+    ) -> Answer {
         e.name(self.span, &self.sym, self.optional)?;
         Ok(())
     }
@@ -234,7 +234,7 @@ impl EmitAt for IdentName {
         &self,
         e: &mut Emitter<'_, W, S, C>,
         place: Place,
-    ) -> Result {
+    ) -> Answer {
         e.name(self.span, &self.sym, false)?;
         Ok(())
     }
@@ -243,7 +243,7 @@ impl EmitAt for IdentName {
 impl<W: WriteJs, S: SourceMapper, C: Comments> Emitter<'_, W, S, C> {
     /// Writes the comments after an expression.
     #[tactic(auto, unfolding(crate::specs::Exprs::expr_closed))]
-    fn expr_closed(&mut self, inner: bool, span: Span) -> Result
+    fn expr_closed(&mut self, inner: bool, span: Span) -> Answer
         ensures items { Emits (expr_closed inner span) (state_of W.sheet self.old) (state_of W.sheet self.new) result }
         ensures level { OnOk result ((W.sheet self.new.wr).indentation ≡ (W.sheet self.old.wr).indentation) }
     {
@@ -255,7 +255,7 @@ impl<W: WriteJs, S: SourceMapper, C: Comments> Emitter<'_, W, S, C> {
 
     /// Writes `.b` or `[b]`.
     #[tactic(auto, unfolding(crate::specs::Exprs::member_prop))]
-    fn member_prop<N: Held>(&mut self, prop: &MemberProp<N>) -> Result
+    fn member_prop<N: Held>(&mut self, prop: &MemberProp<N>) -> Answer
         ensures items { Emits (member_prop N.items prop.now) (state_of W.sheet self.old) (state_of W.sheet self.new) result }
         ensures level { OnOk result ((W.sheet self.new.wr).indentation ≡ (W.sheet self.old.wr).indentation) }
     {
@@ -272,7 +272,7 @@ impl<W: WriteJs, S: SourceMapper, C: Comments> Emitter<'_, W, S, C> {
 
     /// Writes the comments before a binary expression and its start, unless it is an inner left operand.
     #[tactic(auto, unfolding(crate::specs::Exprs::bin_opened))]
-    fn bin_opened(&mut self, place: Place, span: Span) -> Result
+    fn bin_opened(&mut self, place: Place, span: Span) -> Answer
         ensures items { Emits (bin_opened place span) (state_of W.sheet self.old) (state_of W.sheet self.new) result }
         ensures level { OnOk result ((W.sheet self.new.wr).indentation ≡ (W.sheet self.old.wr).indentation) }
     {
@@ -284,7 +284,7 @@ impl<W: WriteJs, S: SourceMapper, C: Comments> Emitter<'_, W, S, C> {
 
     /// Writes a binary operator.
     #[tactic(auto, unfolding(crate::specs::Exprs::binary_op))]
-    fn binary_op(&mut self, op: BinaryOp) -> Result
+    fn binary_op(&mut self, op: BinaryOp) -> Answer
         ensures items { Emits (binary_op op) (state_of W.sheet self.old) (state_of W.sheet self.new) result }
         ensures level { OnOk result ((W.sheet self.new.wr).indentation ≡ (W.sheet self.old.wr).indentation) }
     {
@@ -297,7 +297,7 @@ impl<W: WriteJs, S: SourceMapper, C: Comments> Emitter<'_, W, S, C> {
 
     /// Writes the operator and the right operand. swc's `emit_bin_expr_trailing`.
     #[tactic(auto, unfolding(crate::specs::Exprs::bin_trailing))]
-    fn bin_trailing<N: Held>(&mut self, node: &BinExpr<N>) -> Result
+    fn bin_trailing<N: Held>(&mut self, node: &BinExpr<N>) -> Answer
         ensures items { Emits (bin_trailing N.answers N.items node.now) (state_of W.sheet self.old) (state_of W.sheet self.new) result }
         ensures level { OnOk result ((W.sheet self.new.wr).indentation ≡ (W.sheet self.old.wr).indentation) }
     {
@@ -310,7 +310,7 @@ impl<W: WriteJs, S: SourceMapper, C: Comments> Emitter<'_, W, S, C> {
 
     /// Writes a unary operator.
     #[tactic(auto, unfolding(crate::specs::Exprs::unary_op))]
-    fn unary_op(&mut self, op: UnaryOp) -> Result
+    fn unary_op(&mut self, op: UnaryOp) -> Answer
         ensures items { Emits (unary_op op) (state_of W.sheet self.old) (state_of W.sheet self.new) result }
         ensures level { OnOk result ((W.sheet self.new.wr).indentation ≡ (W.sheet self.old.wr).indentation) }
     {
@@ -323,7 +323,7 @@ impl<W: WriteJs, S: SourceMapper, C: Comments> Emitter<'_, W, S, C> {
 
     /// Writes what stands between a unary operator and its operand.
     #[tactic(auto, unfolding(crate::specs::Exprs::unary_gap))]
-    fn unary_gap<N: Asked>(&mut self, op: UnaryOp, arg: &N) -> Result
+    fn unary_gap<N: Asked>(&mut self, op: UnaryOp, arg: &N) -> Answer
         ensures items { Emits (unary_gap op (N.answers arg.now)) (state_of W.sheet self.old) (state_of W.sheet self.new) result }
         ensures level { OnOk result ((W.sheet self.new.wr).indentation ≡ (W.sheet self.old.wr).indentation) }
     {

@@ -1,7 +1,7 @@
 -- Calls of a writer, as steps of an emission.
 use Rattle.std.proofs.Common.{◌≡◌, true, false, cond, [], ◌∷◌, List, ℕ, Result, Ok, Err, OnOk, OnErr, refl, sym, ◌∙◌, ap, subst, Bool}
 use Rattle.std.specs.Str.{chars}
-use Rattle.swc_ecma_codegen_common.specs.declared.errors.Error.{Error}
+use Rattle.swc_ecma_codegen_common.specs.declared.errors.Refusal.{Refusal}
 use Rattle.swc_ecma_codegen_util.specs.declared.config.Config.{Config}
 use Rattle.swc_ecma_codegen_ast.specs.declared.kinds.Kind.{Kind}
 use Rattle.swc_ecma_codegen_ast.specs.GapRules as rules
@@ -46,7 +46,7 @@ effect_keeps Commit s = refl
 effect_keeps Deeper s = refl
 effect_keeps Shallower s = refl
 
-refuses_keeps : {x : Item} {e : Error} (old new : Sheet) → Refuses x e old new → new.keeps_invalid ≡ old.keeps_invalid
+refuses_keeps : {x : Item} {e : Refusal} (old new : Sheet) → Refuses x e old new → new.keeps_invalid ≡ old.keeps_invalid
 refuses_keeps old new (earlier h k eq) = ap (λ (s : Sheet). s.keeps_invalid) eq
 refuses_keeps old new (stopped h k s) = ap (λ (z : Sheet). z.keeps_invalid) s.same
 
@@ -86,52 +86,52 @@ effect_level Deeper s h = absurd (cc)
 effect_level Shallower s h = absurd (cc)
 
 -- a call that answers `Ok` leaves the indentation as it is
-pub level : (x : Item) (old new : Sheet) (answer r : Result (Unit {0}) Error) → Writes x old new answer → r ≡ answer → is_level x ≡ true → OnOk r (new.indentation ≡ old.indentation)
+pub level : (x : Item) (old new : Sheet) (answer r : Result (Unit {0}) Refusal) → Writes x old new answer → r ≡ answer → is_level x ≡ true → OnOk r (new.indentation ≡ old.indentation)
 unfolding Writes
-level x old new (Ok u) r h eq l = let P : Result (Unit {0}) Error → Type 0 = λ z. OnOk z (new.indentation ≡ old.indentation) in subst P (sym eq) (ap (λ (s : Sheet). s.indentation) h.1 ∙ effect_level x old l)
-level x old new (Err e) r h eq l = let P : Result (Unit {0}) Error → Type 0 = λ z. OnOk z (new.indentation ≡ old.indentation) in subst P (sym eq) tt
+level x old new (Ok u) r h eq l = let P : Result (Unit {0}) Refusal → Type 0 = λ z. OnOk z (new.indentation ≡ old.indentation) in subst P (sym eq) (ap (λ (s : Sheet). s.indentation) h.1 ∙ effect_level x old l)
+level x old new (Err e) r h eq l = let P : Result (Unit {0}) Refusal → Type 0 = λ z. OnOk z (new.indentation ≡ old.indentation) in subst P (sym eq) tt
 
 -- ---- calls as steps
 
 -- the step of a token, or of a call that writes none, by one call and what is noted of it
-step_called : (x : Step) (item : Item) (config : Config) (e f : LowerEmitter) (old new : Sheet) (l : Last) (answer r : Result (Unit {0}) Error)
+step_called : (x : Step) (item : Item) (config : Config) (e f : LowerEmitter) (old new : Sheet) (l : Last) (r : Result (Unit {0}) Refusal)
     → ((s : State) → put x s ≡ record s { sheet = effect item s.sheet; last = (put x s).last })
-    → ((s : State) (err : Error) (z : Sheet) → Refuses item err s.sheet z → IsRefused x err s z)
-    → e.failed ≡ false → Writes item old new answer → OnOk answer (f ≡ record e { last = l }) → OnErr answer (f ≡ record e { failed = true }) → r ≡ answer
+    → ((s : State) (err : Refusal) (z : Sheet) → Refuses item err s.sheet z → IsRefused x err s z)
+    → e.failed ≡ false → Writes item old new r → OnOk r (f ≡ record e { last = l }) → OnErr r (f ≡ record e { failed = true; fault = f.fault })
     → last_at l ≡ (put x (state_of config old e)).last
     → Emits (step x) (state_of config old e) (state_of config new f) r
 unfolding Writes
-step_called x item config e f old new l (Ok u) r made refused fresh w ok err eq last =
-    let P : Result (Unit {0}) Error → Type 0 = λ z. Emits (step x) (state_of config old e) (state_of config new f) z in
+step_called x item config e f old new l (Ok u) made refused fresh w ok err last =
     let there : State = state_of config old e in
     let q : state_of config new f ≡ put x there =
     ap (λ (z : LowerEmitter). state_of config new z) ok
     ∙ (λ i. record { env = record { config = config; keeps_invalid = (ap (λ (s : Sheet). s.keeps_invalid) w.1 ∙ effect_keeps item old) i }; sheet = w.1 i; last = last i; failed = e.failed })
     ∙ sym (made there) in
-    subst P (sym eq) (emits_step x there (state_of config new f) fresh q)
-step_called x item config e f old new l (Err er) r made refused fresh w ok err eq last =
-    let P : Result (Unit {0}) Error → Type 0 = λ z. Emits (step x) (state_of config old e) (state_of config new f) z in
+    emits_step x there (state_of config new f) fresh q
+step_called x item config e f old new l (Err er) made refused fresh w ok err last =
     let there : State = state_of config old e in
     let q : state_of config new f ≡ record there { sheet = new; failed = true } =
     ap (λ (z : LowerEmitter). state_of config new z) err
     ∙ (λ i. record { env = record { config = config; keeps_invalid = refuses_keeps old new w i }; sheet = new; last = last_at e.last; failed = true }) in
-    subst P (sym eq) (emits_refused x er there (state_of config new f) fresh q (refused there er new w))
+    emits_refused x er there (state_of config new f) fresh q (refused there er new w)
 
 -- a token, by one call
-pub called : (kind : Kind) (item : Item) (config : Config) (e f : LowerEmitter) (old new : Sheet) (l : Last) (answer r : Result (Unit {0}) Error)
-    → e.failed ≡ false → Writes item old new answer → OnOk answer (f ≡ record e { last = l }) → OnErr answer (f ≡ record e { failed = true }) → r ≡ answer
+pub called : (kind : Kind) (item : Item) (config : Config) (e f : LowerEmitter) (old new : Sheet) (l : Last) (answer r : Result (Unit {0}) Refusal)
+    → e.failed ≡ false → Writes item old new answer → OnOk r (f ≡ record e { last = l }) → OnErr r (f ≡ record e { failed = true; fault = f.fault }) → r ≡ answer
     → last_at l ≡ after_token kind (text_of item) (last_at e.last)
     → Emits (step (Token kind item)) (state_of config old e) (state_of config new f) r
 unfolding put IsRefused
-called kind item config e f old new l answer r = step_called (Token kind item) item config e f old new l answer r (λ s. refl) (λ s err z h. h)
+called kind item config e f old new l answer r fresh w ok err eq =
+    step_called (Token kind item) item config e f old new l r (λ s. refl) (λ s err z h. h) fresh (subst (λ z. Writes item old new z) (sym eq) w) ok err
 
 -- a call that writes no token
-pub called_plain : (item : Item) (config : Config) (e f : LowerEmitter) (old new : Sheet) (l : Last) (answer r : Result (Unit {0}) Error)
-    → e.failed ≡ false → Writes item old new answer → OnOk answer (f ≡ record e { last = l }) → OnErr answer (f ≡ record e { failed = true }) → r ≡ answer
+pub called_plain : (item : Item) (config : Config) (e f : LowerEmitter) (old new : Sheet) (l : Last) (answer r : Result (Unit {0}) Refusal)
+    → e.failed ≡ false → Writes item old new answer → OnOk r (f ≡ record e { last = l }) → OnErr r (f ≡ record e { failed = true; fault = f.fault }) → r ≡ answer
     → last_at l ≡ after_plain item (last_at e.last)
     → Emits (step (Plain item)) (state_of config old e) (state_of config new f) r
 unfolding put IsRefused
-called_plain item config e f old new l answer r = step_called (Plain item) item config e f old new l answer r (λ s. refl) (λ s err z h. h)
+called_plain item config e f old new l answer r fresh w ok err eq =
+    step_called (Plain item) item config e f old new l r (λ s. refl) (λ s err z h. h) fresh (subst (λ z. Writes item old new z) (sym eq) w) ok err
 
 guarded_put : (t : List ℕ) (s : State) → fuses s.last (chars t) ≡ true → put (Guard t) s ≡ record s { sheet = effect Space s.sheet; last = rules.Apart }
 unfolding put
@@ -145,27 +145,31 @@ passed_put t s h = ap (λ b. cond b (record s { sheet = effect Space s.sheet; la
 pub passed : (t : List ℕ) (a : State) → a.failed ≡ false → fuses a.last (chars t) ≡ false → Emits (step (Guard t)) a a (Ok tt)
 passed t a fresh h = emits_step (Guard t) a a fresh (sym (passed_put t a h))
 
--- they fuse, and a blank is written
-pub guarded : (t : List ℕ) (config : Config) (e f : LowerEmitter) (old new : Sheet) (answer r : Result (Unit {0}) Error)
-    → e.failed ≡ false → Writes Space old new answer → OnOk answer (f ≡ record e { last = last.Apart }) → OnErr answer (f ≡ record e { failed = true }) → r ≡ answer
+blank_written : (t : List ℕ) (config : Config) (e f : LowerEmitter) (old new : Sheet) (r : Result (Unit {0}) Refusal)
+    → e.failed ≡ false → Writes Space old new r → OnOk r (f ≡ record e { last = last.Apart }) → OnErr r (f ≡ record e { failed = true; fault = f.fault })
     → fuses (last_at e.last) (chars t) ≡ true
     → Emits (step (Guard t)) (state_of config old e) (state_of config new f) r
 unfolding Writes IsRefused last_at
-guarded t config e f old new (Ok u) r fresh w ok err eq h =
-    let P : Result (Unit {0}) Error → Type 0 = λ z. Emits (step (Guard t)) (state_of config old e) (state_of config new f) z in
+blank_written t config e f old new (Ok u) fresh w ok err h =
     let there : State = state_of config old e in
     let q : state_of config new f ≡ put (Guard t) there =
     ap (λ (z : LowerEmitter). state_of config new z) ok
     ∙ (λ i. record { env = record { config = config; keeps_invalid = (ap (λ (s : Sheet). s.keeps_invalid) w.1 ∙ effect_keeps Space old) i }; sheet = w.1 i; last = rules.Apart; failed = e.failed })
     ∙ sym (guarded_put t there h) in
-    subst P (sym eq) (emits_step (Guard t) there (state_of config new f) fresh q)
-guarded t config e f old new (Err er) r fresh w ok err eq h =
-    let P : Result (Unit {0}) Error → Type 0 = λ z. Emits (step (Guard t)) (state_of config old e) (state_of config new f) z in
+    emits_step (Guard t) there (state_of config new f) fresh q
+blank_written t config e f old new (Err er) fresh w ok err h =
     let there : State = state_of config old e in
     let q : state_of config new f ≡ record there { sheet = new; failed = true } =
     ap (λ (z : LowerEmitter). state_of config new z) err
     ∙ (λ i. record { env = record { config = config; keeps_invalid = refuses_keeps old new w i }; sheet = new; last = last_at e.last; failed = true }) in
-    subst P (sym eq) (emits_refused (Guard t) er there (state_of config new f) fresh q (h, w))
+    emits_refused (Guard t) er there (state_of config new f) fresh q (h, w)
+
+-- they fuse, and a blank is written
+pub guarded : (t : List ℕ) (config : Config) (e f : LowerEmitter) (old new : Sheet) (answer r : Result (Unit {0}) Refusal)
+    → e.failed ≡ false → Writes Space old new answer → OnOk r (f ≡ record e { last = last.Apart }) → OnErr r (f ≡ record e { failed = true; fault = f.fault }) → r ≡ answer
+    → fuses (last_at e.last) (chars t) ≡ true
+    → Emits (step (Guard t)) (state_of config old e) (state_of config new f) r
+guarded t config e f old new answer r fresh w ok err eq = blank_written t config e f old new r fresh (subst (λ z. Writes Space old new z) (sym eq) w) ok err
 
 -- ---- what is done unless minified
 
@@ -173,6 +177,6 @@ pub skipped : (part : Part) (a : State) → a.env.config.minify ≡ true → Emi
 unfolding no_part
 skipped part a h rest c r k = follows_same (when_minified no_part part rest) rest a c r (minified_same no_part part rest a.env h) k
 
-pub not_skipped : (part : Part) (a b : State) (r : Result (Unit {0}) Error) → a.env.config.minify ≡ false → Emits part a b r → Emits (when_minified no_part part) a b r
+pub not_skipped : (part : Part) (a b : State) (r : Result (Unit {0}) Refusal) → a.env.config.minify ≡ false → Emits part a b r → Emits (when_minified no_part part) a b r
 not_skipped part a b (Ok u) h k = λ rest c r f. follows_same (when_minified no_part part rest) (part rest) a c r (pretty_same no_part part rest a.env h) (k rest c r f)
 not_skipped part a b (Err e) h k = λ rest. follows_same (when_minified no_part part rest) (part rest) a b (Err e) (pretty_same no_part part rest a.env h) (k rest)

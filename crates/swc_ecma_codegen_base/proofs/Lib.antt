@@ -1,4 +1,5 @@
 pub mod Emitting
+pub mod Short
 pub mod Calls
 pub mod Spelled
 pub mod Fronts

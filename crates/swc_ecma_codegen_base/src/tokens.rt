@@ -1,6 +1,7 @@
 //! One call of the writer, and the blank that is due before it.
 
 ghost use Rattle.std.specs.Prelude.{◌≡◌, ℕ, None, OnOk, OnErr, Option, List, [], ◌∷◌, ◌++◌, codes, true, false};
+ghost use Rattle.swc_ecma_codegen_common.specs.Refusals.{in_short};
 ghost use Rattle.swc_ecma_codegen_spans.specs.Spans.{dummy_span};
 ghost use Rattle.swc_ecma_codegen_text_writer.specs.Sheet.{Semi, Keyword, Operator, Symbol, Punct, Position};
 ghost use Rattle.swc_ecma_codegen_ast.specs.declared.kinds.Kind.TheVariants.{Word, Name, Punctuator};
@@ -12,16 +13,16 @@ ghost use Rattle.swc_ecma_codegen_base.specs.View.{state_of};
 
 use crate::LowerEmitter;
 use crate::guard::Last;
-use swc_ecma_codegen_common::{BytePos, DUMMY_SP, Error, Result, Span};
+use swc_ecma_codegen_common::{Answer, BytePos, DUMMY_SP, Refusal, Result, Span};
 use swc_ecma_codegen_text_writer::WriteJs;
 use swc_ecma_codegen_util::config::Config;
 
 impl LowerEmitter {
-    /// What a call of the writer answered is noted, and passed on.
-    fn settle(&mut self, answer: Result, last: Last) -> Result
-        ensures same { result ≡ answer }
-        ensures ok { OnOk answer (self.new ≡ record self.old { last = last }) }
-        ensures err { OnErr answer (self.new ≡ record self.old { failed = true }) }
+    /// What a call of the writer answered is noted, and passed on in short.
+    fn settle(&mut self, answer: Result, last: Last) -> Answer
+        ensures same { result ≡ in_short answer }
+        ensures ok { OnOk result (self.new ≡ record self.old { last = last }) }
+        ensures err { OnErr result (self.new ≡ record self.old { failed = true; fault = self.new.fault }) }
     {
         match answer {
             Ok(()) => {
@@ -29,21 +30,23 @@ impl LowerEmitter {
                 Ok(())
             }
             Err(error) => {
+                let refusal = error.refusal();
                 self.failed = true;
-                Err(error)
+                self.fault = error.into_fault();
+                Err(refusal)
             }
         }
     }
 
     /// Writes a blank where the last token and `text` would fuse.
     #[tactic(auto, using(crate::proofs::Emitting::emits_failed, crate::proofs::Calls::guarded, crate::proofs::Calls::passed, crate::proofs::Calls::level))]
-    pub(crate) fn guard<W: WriteJs>(&mut self, cfg: &Config, wr: &mut W, text: &str) -> Result
+    pub(crate) fn guard<W: WriteJs>(&mut self, cfg: &Config, wr: &mut W, text: &str) -> Answer
         ensures items { Emits (step (Guard text.now)) (state_of cfg.now (W.sheet wr.old) self.old) (state_of cfg.now (W.sheet wr.new) self.new) result }
         ensures level { OnOk result ((W.sheet wr.new).indentation ≡ (W.sheet wr.old).indentation) }
         ensures fresh { OnOk result (self.new.failed ≡ false) }
     {
         if self.failed {
-            return Err(Error::Failed);
+            return Err(Refusal::Failed);
         }
         if !self.last.fuses(text) {
             return Ok(());
@@ -59,7 +62,7 @@ impl LowerEmitter {
         wr: &mut W,
         span: Option<Span>,
         text: &'static str,
-    ) -> Result
+    ) -> Answer
         requires { self.old.failed ≡ false }
         ensures items { Emits (step (Token Word (Keyword span text.now))) (state_of cfg.now (W.sheet wr.old) self.old) (state_of cfg.now (W.sheet wr.new) self.new) result }
         ensures level { OnOk result ((W.sheet wr.new).indentation ≡ (W.sheet wr.old).indentation) }
@@ -70,7 +73,7 @@ impl LowerEmitter {
     }
 
     /// The call of an operator that is a punctuator.
-    fn put_operator<W: WriteJs>(&mut self, cfg: &Config, wr: &mut W, text: &'static str) -> Result
+    fn put_operator<W: WriteJs>(&mut self, cfg: &Config, wr: &mut W, text: &'static str) -> Answer
         requires { self.old.failed ≡ false }
         ensures items { Emits (step (Token Punctuator (Operator None text.now))) (state_of cfg.now (W.sheet wr.old) self.old) (state_of cfg.now (W.sheet wr.new) self.new) result }
         ensures level { OnOk result ((W.sheet wr.new).indentation ≡ (W.sheet wr.old).indentation) }
@@ -87,7 +90,7 @@ impl LowerEmitter {
         cfg: &Config,
         wr: &mut W,
         text: &'static str,
-    ) -> Result
+    ) -> Answer
         requires { self.old.failed ≡ false }
         ensures items { Emits (step (Token Word (Operator None text.now))) (state_of cfg.now (W.sheet wr.old) self.old) (state_of cfg.now (W.sheet wr.new) self.new) result }
         ensures level { OnOk result ((W.sheet wr.new).indentation ≡ (W.sheet wr.old).indentation) }
@@ -98,7 +101,7 @@ impl LowerEmitter {
     }
 
     /// The call of a punctuator.
-    fn put_punct<W: WriteJs>(&mut self, cfg: &Config, wr: &mut W, text: &'static str) -> Result
+    fn put_punct<W: WriteJs>(&mut self, cfg: &Config, wr: &mut W, text: &'static str) -> Answer
         requires { self.old.failed ≡ false }
         ensures items { Emits (step (Token Punctuator (Punct None text.now))) (state_of cfg.now (W.sheet wr.old) self.old) (state_of cfg.now (W.sheet wr.new) self.new) result }
         ensures level { OnOk result ((W.sheet wr.new).indentation ≡ (W.sheet wr.old).indentation) }
@@ -110,7 +113,7 @@ impl LowerEmitter {
     }
 
     /// The call of a semicolon.
-    fn put_semi<W: WriteJs>(&mut self, cfg: &Config, wr: &mut W) -> Result
+    fn put_semi<W: WriteJs>(&mut self, cfg: &Config, wr: &mut W) -> Answer
         requires { self.old.failed ≡ false }
         ensures items { Emits (step (Token Punctuator (Semi None))) (state_of cfg.now (W.sheet wr.old) self.old) (state_of cfg.now (W.sheet wr.new) self.new) result }
         ensures level { OnOk result ((W.sheet wr.new).indentation ≡ (W.sheet wr.old).indentation) }
@@ -122,7 +125,7 @@ impl LowerEmitter {
     }
 
     /// The call of a name.
-    pub(crate) fn put_symbol<W: WriteJs>(&mut self, cfg: &Config, wr: &mut W, text: &str) -> Result
+    pub(crate) fn put_symbol<W: WriteJs>(&mut self, cfg: &Config, wr: &mut W, text: &str) -> Answer
         requires { self.old.failed ≡ false }
         ensures items { Emits (step (Token Name (Symbol dummy_span text.now))) (state_of cfg.now (W.sheet wr.old) self.old) (state_of cfg.now (W.sheet wr.new) self.new) result }
         ensures level { OnOk result ((W.sheet wr.new).indentation ≡ (W.sheet wr.old).indentation) }
@@ -140,7 +143,7 @@ impl LowerEmitter {
         wr: &mut W,
         span: Option<Span>,
         word: &'static str,
-    ) -> Result
+    ) -> Answer
         ensures items { Emits (keyword span word.now) (state_of cfg.now (W.sheet wr.old) self.old) (state_of cfg.now (W.sheet wr.new) self.new) result }
         // The text reads as the tokens so far and this one, whatever follows that doesn't fuse.
         ensures reads { (text_before : List ℕ) (tokens : List lexical.Token) → IsWord word.now → ReadsSoFar text_before tokens (state_of cfg.now (W.sheet wr.old) self.old) → OnOk result (ReadsSoFar text_before (tokens ++ lexical.word word.now ∷ []) (state_of cfg.now (W.sheet wr.new) self.new)) }
@@ -153,7 +156,7 @@ impl LowerEmitter {
 
     /// Writes an operator that is a punctuator.
     #[tactic(auto, unfolding(crate::specs::Words::operator))]
-    pub fn operator<W: WriteJs>(&mut self, cfg: &Config, wr: &mut W, text: &'static str) -> Result
+    pub fn operator<W: WriteJs>(&mut self, cfg: &Config, wr: &mut W, text: &'static str) -> Answer
         ensures items { Emits (operator text.now) (state_of cfg.now (W.sheet wr.old) self.old) (state_of cfg.now (W.sheet wr.new) self.new) result }
         // The text reads as the tokens so far and this one, whatever follows that doesn't fuse.
         ensures reads { (text_before : List ℕ) (tokens : List lexical.Token) → IsMark text.now → ReadsSoFar text_before tokens (state_of cfg.now (W.sheet wr.old) self.old) → OnOk result (ReadsSoFar text_before (tokens ++ lexical.punctuator text.now ∷ []) (state_of cfg.now (W.sheet wr.new) self.new)) }
@@ -171,7 +174,7 @@ impl LowerEmitter {
         cfg: &Config,
         wr: &mut W,
         text: &'static str,
-    ) -> Result
+    ) -> Answer
         ensures items { Emits (word_operator text.now) (state_of cfg.now (W.sheet wr.old) self.old) (state_of cfg.now (W.sheet wr.new) self.new) result }
         // The text reads as the tokens so far and this one, whatever follows that doesn't fuse.
         ensures reads { (text_before : List ℕ) (tokens : List lexical.Token) → IsWord text.now → ReadsSoFar text_before tokens (state_of cfg.now (W.sheet wr.old) self.old) → OnOk result (ReadsSoFar text_before (tokens ++ lexical.word text.now ∷ []) (state_of cfg.now (W.sheet wr.new) self.new)) }
@@ -184,7 +187,7 @@ impl LowerEmitter {
 
     /// Writes a punctuator.
     #[tactic(auto, unfolding(crate::specs::Words::punct))]
-    pub fn punct<W: WriteJs>(&mut self, cfg: &Config, wr: &mut W, text: &'static str) -> Result
+    pub fn punct<W: WriteJs>(&mut self, cfg: &Config, wr: &mut W, text: &'static str) -> Answer
         ensures items { Emits (punct text.now) (state_of cfg.now (W.sheet wr.old) self.old) (state_of cfg.now (W.sheet wr.new) self.new) result }
         // The text reads as the tokens so far and this one, whatever follows that doesn't fuse.
         ensures reads { (text_before : List ℕ) (tokens : List lexical.Token) → IsMark text.now → ReadsSoFar text_before tokens (state_of cfg.now (W.sheet wr.old) self.old) → OnOk result (ReadsSoFar text_before (tokens ++ lexical.punctuator text.now ∷ []) (state_of cfg.now (W.sheet wr.new) self.new)) }
@@ -197,7 +200,7 @@ impl LowerEmitter {
 
     /// Writes a semicolon that may be left out where it isn't needed.
     #[tactic(auto, unfolding(crate::specs::Words::semi))]
-    pub fn semi<W: WriteJs>(&mut self, cfg: &Config, wr: &mut W) -> Result
+    pub fn semi<W: WriteJs>(&mut self, cfg: &Config, wr: &mut W) -> Answer
         ensures items { Emits (semi) (state_of cfg.now (W.sheet wr.old) self.old) (state_of cfg.now (W.sheet wr.new) self.new) result }
         // The text reads as the tokens so far and this one, whatever follows that doesn't fuse.
         ensures reads { (text_before : List ℕ) (tokens : List lexical.Token) → ReadsSoFar text_before tokens (state_of cfg.now (W.sheet wr.old) self.old) → OnOk result (ReadsSoFar text_before (tokens ++ lexical.punctuator (codes ";") ∷ []) (state_of cfg.now (W.sheet wr.new) self.new)) }
@@ -209,39 +212,39 @@ impl LowerEmitter {
     }
 
     /// Writes a blank.
-    pub fn space<W: WriteJs>(&mut self, cfg: &Config, wr: &mut W) -> Result
+    pub fn space<W: WriteJs>(&mut self, cfg: &Config, wr: &mut W) -> Answer
         ensures items { Emits (space) (state_of cfg.now (W.sheet wr.old) self.old) (state_of cfg.now (W.sheet wr.new) self.new) result }
         ensures level { OnOk result ((W.sheet wr.new).indentation ≡ (W.sheet wr.old).indentation) }
     {
         let _ = cfg;
         if self.failed {
-            return Err(Error::Failed);
+            return Err(Refusal::Failed);
         }
         let answer = wr.write_space();
         self.settle(answer, Last::Apart)
     }
 
     /// Ends the line, unless at a line's start.
-    pub fn line<W: WriteJs>(&mut self, cfg: &Config, wr: &mut W) -> Result
+    pub fn line<W: WriteJs>(&mut self, cfg: &Config, wr: &mut W) -> Answer
         ensures items { Emits (line_end) (state_of cfg.now (W.sheet wr.old) self.old) (state_of cfg.now (W.sheet wr.new) self.new) result }
         ensures level { OnOk result ((W.sheet wr.new).indentation ≡ (W.sheet wr.old).indentation) }
     {
         let _ = cfg;
         if self.failed {
-            return Err(Error::Failed);
+            return Err(Refusal::Failed);
         }
         let answer = wr.write_line();
         self.settle(answer, Last::Apart)
     }
 
     /// Writes a semicolon that is held back.
-    pub fn commit_pending_semi<W: WriteJs>(&mut self, cfg: &Config, wr: &mut W) -> Result
+    pub fn commit_pending_semi<W: WriteJs>(&mut self, cfg: &Config, wr: &mut W) -> Answer
         ensures items { Emits (commit_pending_semi) (state_of cfg.now (W.sheet wr.old) self.old) (state_of cfg.now (W.sheet wr.new) self.new) result }
         ensures level { OnOk result ((W.sheet wr.new).indentation ≡ (W.sheet wr.old).indentation) }
     {
         let _ = cfg;
         if self.failed {
-            return Err(Error::Failed);
+            return Err(Refusal::Failed);
         }
         let last = self.last;
         let answer = wr.commit_pending_semi();
@@ -249,13 +252,13 @@ impl LowerEmitter {
     }
 
     /// Records a position.
-    fn record<W: WriteJs>(&mut self, cfg: &Config, wr: &mut W, pos: BytePos) -> Result
+    fn record<W: WriteJs>(&mut self, cfg: &Config, wr: &mut W, pos: BytePos) -> Answer
         ensures items { Emits (step (Plain (Position pos))) (state_of cfg.now (W.sheet wr.old) self.old) (state_of cfg.now (W.sheet wr.new) self.new) result }
         ensures level { OnOk result ((W.sheet wr.new).indentation ≡ (W.sheet wr.old).indentation) }
     {
         let _ = cfg;
         if self.failed {
-            return Err(Error::Failed);
+            return Err(Refusal::Failed);
         }
         let last = self.last;
         let answer = wr.add_srcmap(pos);
@@ -264,7 +267,7 @@ impl LowerEmitter {
 
     /// Writes a blank, unless the settings are to minify.
     #[tactic(auto, unfolding(crate::specs::Words::formatting_space), using(crate::proofs::Calls::skipped, crate::proofs::Calls::not_skipped))]
-    pub fn formatting_space<W: WriteJs>(&mut self, cfg: &Config, wr: &mut W) -> Result
+    pub fn formatting_space<W: WriteJs>(&mut self, cfg: &Config, wr: &mut W) -> Answer
         ensures items { Emits formatting_space (state_of cfg.now (W.sheet wr.old) self.old) (state_of cfg.now (W.sheet wr.new) self.new) result }
         ensures level { OnOk result ((W.sheet wr.new).indentation ≡ (W.sheet wr.old).indentation) }
     {
@@ -276,7 +279,7 @@ impl LowerEmitter {
 
     /// Ends the line, unless the settings are to minify.
     #[tactic(auto, unfolding(crate::specs::Words::formatting_line), using(crate::proofs::Calls::skipped, crate::proofs::Calls::not_skipped))]
-    pub fn formatting_line<W: WriteJs>(&mut self, cfg: &Config, wr: &mut W) -> Result
+    pub fn formatting_line<W: WriteJs>(&mut self, cfg: &Config, wr: &mut W) -> Answer
         ensures items { Emits formatting_line (state_of cfg.now (W.sheet wr.old) self.old) (state_of cfg.now (W.sheet wr.new) self.new) result }
         ensures level { OnOk result ((W.sheet wr.new).indentation ≡ (W.sheet wr.old).indentation) }
     {
@@ -288,7 +291,7 @@ impl LowerEmitter {
 
     /// Records a position, unless it is none.
     #[tactic(auto, unfolding(crate::specs::Words::position))]
-    pub fn position<W: WriteJs>(&mut self, cfg: &Config, wr: &mut W, pos: BytePos) -> Result
+    pub fn position<W: WriteJs>(&mut self, cfg: &Config, wr: &mut W, pos: BytePos) -> Answer
         ensures items { Emits (position pos) (state_of cfg.now (W.sheet wr.old) self.old) (state_of cfg.now (W.sheet wr.new) self.new) result }
         ensures level { OnOk result ((W.sheet wr.new).indentation ≡ (W.sheet wr.old).indentation) }
     {
@@ -300,7 +303,7 @@ impl LowerEmitter {
 
     /// Records the position before one, unless that one is none.
     #[tactic(auto, unfolding(crate::specs::Words::position_before))]
-    pub fn position_before<W: WriteJs>(&mut self, cfg: &Config, wr: &mut W, pos: BytePos) -> Result
+    pub fn position_before<W: WriteJs>(&mut self, cfg: &Config, wr: &mut W, pos: BytePos) -> Answer
         ensures items { Emits (position_before pos) (state_of cfg.now (W.sheet wr.old) self.old) (state_of cfg.now (W.sheet wr.new) self.new) result }
         ensures level { OnOk result ((W.sheet wr.new).indentation ≡ (W.sheet wr.old).indentation) }
     {
