@@ -1,14 +1,12 @@
 //! What ties the readers of the nodes together: they are generic in what links hold, and only here is it `AnyNode`.
 
-use serde::{Deserializer, Format};
 use std::alloc::{AllocError, Global};
-use swc_ecma_codegen_read::{Make, ReadWith, Sort};
-use swc_ecma_codegen_tree::{
-    AnyNode, AssignTarget, BlockStmt, Class, ClassMember, Decl, Expr, Function, JSXAttrValue,
-    JSXElement, JSXElementChild, JSXFragment, JSXObject, MemberExpr, ModuleDecl, ModuleItem,
-    ObjectLit, OptCall, Pat, Prop, PropName, Stmt, Tpl, TsEntityName, TsFnParam, TsNamespaceBody,
-    TsType, TsTypeAnn, TsTypeElement, TsTypeParamDecl, TsTypeParamInstantiation, VarDecl,
-};
+use swc_ecma_codegen_read::{Failed, Fault, Make, Sort, Source, read};
+use swc_ecma_codegen_read_expr::ExprReaders;
+use swc_ecma_codegen_read_jsx::JsxReaders;
+use swc_ecma_codegen_read_stmt::StmtReaders;
+use swc_ecma_codegen_read_ts::TsReaders;
+use swc_ecma_codegen_tree::AnyNode;
 
 /// How many links may still lie below one another. It gets shorter at each link, so that reading ends.
 #[derive(Drop)]
@@ -29,66 +27,56 @@ pub fn all_levels(alloc: Global) -> Result<Levels, AllocError> {
 impl Make<AnyNode> for Levels {
     #[cycle(tie)]
     #[inline(always)]
-    fn make<F: Format>(
-        &self,
-        alloc: Global,
-        sort: Sort,
-        from: &mut Deserializer<'_, '_, F>,
-    ) -> Result<AnyNode, F::Error> {
+    fn make<S: Source>(&self, sort: Sort, source: &mut S) -> Result<AnyNode, Failed> {
         match self {
-            Levels::More(fewer) => read_node(alloc, fewer, sort, from),
-            Levels::Out => Err(from.custom("recursion limit exceeded")),
+            Levels::More(fewer) => read_node(sort, source, fewer),
+            Levels::Out => Err(source.fail(Fault::TooDeep)),
         }
     }
 }
 
+/// A node of a sort, read by its area.
+macro_rules! node {
+    ($sort:ident in $area:ident, $source:ident, $make:ident) => {
+        AnyNode::$sort(read::<$area, _, _, _, _>($source, $make)?)
+    };
+}
+
 /// A node of a sort, and all that lies below it.
 #[cycle(tie)]
-fn read_node<F: Format>(
-    alloc: Global,
-    make: &Levels,
-    sort: Sort,
-    from: &mut Deserializer<'_, '_, F>,
-) -> Result<AnyNode, F::Error> {
+fn read_node<S: Source>(sort: Sort, source: &mut S, make: &Levels) -> Result<AnyNode, Failed> {
     Ok(match sort {
-        Sort::Expr => AnyNode::Expr(Expr::read_with(alloc, from, make)?),
-        Sort::Stmt => AnyNode::Stmt(Stmt::read_with(alloc, from, make)?),
-        Sort::Pat => AnyNode::Pat(Pat::read_with(alloc, from, make)?),
-        Sort::TsType => AnyNode::TsType(Box::read_with(alloc, from, make)?),
-        Sort::JSXElementChild => AnyNode::JSXElementChild(JSXElementChild::read_with(
-            alloc, from, make,
-        )?),
-        Sort::JSXAttrValue => AnyNode::JSXAttrValue(JSXAttrValue::read_with(alloc, from, make)?),
-        Sort::TsNamespaceBody => AnyNode::TsNamespaceBody(TsNamespaceBody::read_with(
-            alloc, from, make,
-        )?),
-        Sort::TsTypeAnn => AnyNode::TsTypeAnn(TsTypeAnn::read_with(alloc, from, make)?),
-        Sort::TsTypeParamDecl => AnyNode::TsTypeParamDecl(TsTypeParamDecl::read_with(
-            alloc, from, make,
-        )?),
-        Sort::TsTypeParamInstantiation => AnyNode::TsTypeParamInstantiation(
-            TsTypeParamInstantiation::read_with(alloc, from, make)?,
-        ),
-        Sort::Function => AnyNode::Function(Box::read_with(alloc, from, make)?),
-        Sort::Class => AnyNode::Class(Box::read_with(alloc, from, make)?),
-        Sort::Tpl => AnyNode::Tpl(Tpl::read_with(alloc, from, make)?),
-        Sort::BlockStmt => AnyNode::BlockStmt(BlockStmt::read_with(alloc, from, make)?),
-        Sort::Decl => AnyNode::Decl(Box::read_with(alloc, from, make)?),
-        Sort::ModuleItem => AnyNode::ModuleItem(ModuleItem::read_with(alloc, from, make)?),
-        Sort::ModuleDecl => AnyNode::ModuleDecl(Box::read_with(alloc, from, make)?),
-        Sort::ObjectLit => AnyNode::ObjectLit(ObjectLit::read_with(alloc, from, make)?),
-        Sort::PropName => AnyNode::PropName(PropName::read_with(alloc, from, make)?),
-        Sort::VarDecl => AnyNode::VarDecl(VarDecl::read_with(alloc, from, make)?),
-        Sort::TsFnParam => AnyNode::TsFnParam(TsFnParam::read_with(alloc, from, make)?),
-        Sort::ClassMember => AnyNode::ClassMember(Box::read_with(alloc, from, make)?),
-        Sort::JSXElement => AnyNode::JSXElement(Box::read_with(alloc, from, make)?),
-        Sort::JSXFragment => AnyNode::JSXFragment(JSXFragment::read_with(alloc, from, make)?),
-        Sort::TsTypeElement => AnyNode::TsTypeElement(TsTypeElement::read_with(alloc, from, make)?),
-        Sort::Prop => AnyNode::Prop(Prop::read_with(alloc, from, make)?),
-        Sort::MemberExpr => AnyNode::MemberExpr(MemberExpr::read_with(alloc, from, make)?),
-        Sort::OptCall => AnyNode::OptCall(OptCall::read_with(alloc, from, make)?),
-        Sort::AssignTarget => AnyNode::AssignTarget(AssignTarget::read_with(alloc, from, make)?),
-        Sort::TsEntityName => AnyNode::TsEntityName(TsEntityName::read_with(alloc, from, make)?),
-        Sort::JSXObject => AnyNode::JSXObject(JSXObject::read_with(alloc, from, make)?),
+        Sort::Expr => node!(Expr in ExprReaders, source, make),
+        Sort::Stmt => node!(Stmt in StmtReaders, source, make),
+        Sort::Pat => node!(Pat in ExprReaders, source, make),
+        Sort::TsType => node!(TsType in TsReaders, source, make),
+        Sort::JSXElementChild => node!(JSXElementChild in JsxReaders, source, make),
+        Sort::JSXAttrValue => node!(JSXAttrValue in JsxReaders, source, make),
+        Sort::TsNamespaceBody => node!(TsNamespaceBody in TsReaders, source, make),
+        Sort::TsTypeAnn => node!(TsTypeAnn in TsReaders, source, make),
+        Sort::TsTypeParamDecl => node!(TsTypeParamDecl in TsReaders, source, make),
+        Sort::TsTypeParamInstantiation =>
+            node!(TsTypeParamInstantiation in TsReaders, source, make),
+        Sort::Function => node!(Function in StmtReaders, source, make),
+        Sort::Class => node!(Class in StmtReaders, source, make),
+        Sort::Tpl => node!(Tpl in ExprReaders, source, make),
+        Sort::BlockStmt => node!(BlockStmt in StmtReaders, source, make),
+        Sort::Decl => node!(Decl in StmtReaders, source, make),
+        Sort::ModuleItem => node!(ModuleItem in StmtReaders, source, make),
+        Sort::ModuleDecl => node!(ModuleDecl in StmtReaders, source, make),
+        Sort::ObjectLit => node!(ObjectLit in ExprReaders, source, make),
+        Sort::PropName => node!(PropName in ExprReaders, source, make),
+        Sort::VarDecl => node!(VarDecl in StmtReaders, source, make),
+        Sort::TsFnParam => node!(TsFnParam in TsReaders, source, make),
+        Sort::ClassMember => node!(ClassMember in StmtReaders, source, make),
+        Sort::JSXElement => node!(JSXElement in JsxReaders, source, make),
+        Sort::JSXFragment => node!(JSXFragment in JsxReaders, source, make),
+        Sort::TsTypeElement => node!(TsTypeElement in TsReaders, source, make),
+        Sort::Prop => node!(Prop in ExprReaders, source, make),
+        Sort::MemberExpr => node!(MemberExpr in ExprReaders, source, make),
+        Sort::OptCall => node!(OptCall in ExprReaders, source, make),
+        Sort::AssignTarget => node!(AssignTarget in ExprReaders, source, make),
+        Sort::TsEntityName => node!(TsEntityName in TsReaders, source, make),
+        Sort::JSXObject => node!(JSXObject in JsxReaders, source, make),
     })
 }

@@ -3,7 +3,8 @@
 use crate::levels::all_levels;
 use serde::{Deserialize, DeserializeOwned, Deserializer, Format};
 use std::alloc::Global;
-use swc_ecma_codegen_read::ReadWith;
+use swc_ecma_codegen_read::{Input, read};
+use swc_ecma_codegen_read_stmt::StmtReaders;
 use swc_ecma_codegen_tree::Program;
 
 /// A program that serde reads, in any of its formats: `let tree: Tree = serde_json::from_slice(alloc, bytes)?`.
@@ -15,9 +16,13 @@ impl DeserializeOwned for Tree {
         alloc: Global,
         from: &mut Deserializer<'_, '_, F>,
     ) -> Result<Tree, F::Error> {
-        match all_levels(alloc) {
-            Ok(levels) => Ok(Tree(Program::read_with(alloc, from, &levels)?)),
-            Err(_) => Err(from.no_memory()),
+        let Ok(levels) = all_levels(alloc) else {
+            return Err(from.no_memory());
+        };
+        let mut input = Input::new(alloc, from);
+        match read::<StmtReaders, _, _, _, _>(&mut input, &levels) {
+            Ok(program) => Ok(Tree(program)),
+            Err(_) => Err(input.error()),
         }
     }
 }

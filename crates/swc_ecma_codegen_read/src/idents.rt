@@ -1,57 +1,80 @@
 //! Names.
 
-use crate::macros::read_struct;
-use crate::reading::{Make, ReadWith};
-use serde::{Deserializer, Format};
-use std::alloc::Global;
+use crate::reading::{Make, ReadFrom, Whole, members};
+use crate::source::{Failed, Source};
+use crate::{made, names, values};
+use serde::Name;
+use swc_ecma_codegen_common::Span;
 use swc_ecma_codegen_tree::{BindingIdent, Ident, IdentName, Invalid, PrivateName};
 
-impl<N: Drop> ReadWith<N> for Ident {
-    fn read_with<F: Format, M: Make<N>>(
-        alloc: Global,
-        from: &mut Deserializer<'_, '_, F>,
-        make: &M,
-    ) -> Result<Ident, F::Error> {
-        read_struct!(alloc, from, make => Ident { span, sym, optional })
+impl<A, N: Drop> ReadFrom<A, N> for Ident {
+    type Parts = Whole;
+
+    fn of<S: Source, M: Make<N>>(_whole: Whole, source: &mut S, make: &M) -> Result<Ident, Failed> {
+        let values!(span, sym, optional) = members::<A, _, _, _, _>(
+            names!(span, sym, optional),
+            source,
+            make,
+        )?;
+        Ok(Ident {
+            span,
+            sym,
+            optional,
+        })
     }
 }
 
-impl<N: Drop> ReadWith<N> for IdentName {
-    fn read_with<F: Format, M: Make<N>>(
-        alloc: Global,
-        from: &mut Deserializer<'_, '_, F>,
+impl<A, N: Drop> ReadFrom<A, N> for IdentName {
+    type Parts = Whole;
+
+    fn of<S: Source, M: Make<N>>(
+        _whole: Whole,
+        source: &mut S,
         make: &M,
-    ) -> Result<IdentName, F::Error> {
-        read_struct!(alloc, from, make => IdentName { span, sym })
+    ) -> Result<IdentName, Failed> {
+        let values!(span, sym) = members::<A, _, _, _, _>(names!(span, sym), source, make)?;
+        Ok(IdentName { span, sym })
     }
 }
 
-impl<N: Drop> ReadWith<N> for PrivateName {
-    fn read_with<F: Format, M: Make<N>>(
-        alloc: Global,
-        from: &mut Deserializer<'_, '_, F>,
+impl<A, N: Drop> ReadFrom<A, N> for PrivateName {
+    type Parts = Whole;
+
+    fn of<S: Source, M: Make<N>>(
+        _whole: Whole,
+        source: &mut S,
         make: &M,
-    ) -> Result<PrivateName, F::Error> {
-        read_struct!(alloc, from, make => PrivateName { span, name })
+    ) -> Result<PrivateName, Failed> {
+        let values!(span, name) = members::<A, _, _, _, _>(names!(span, name), source, make)?;
+        Ok(PrivateName { span, name })
     }
 }
 
-impl<N: Drop> ReadWith<N> for BindingIdent<N> {
-    fn read_with<F: Format, M: Make<N>>(
-        alloc: Global,
-        from: &mut Deserializer<'_, '_, F>,
+impl<A, N: Drop> ReadFrom<A, N> for BindingIdent<N> {
+    type Parts = Whole;
+
+    fn of<S: Source, M: Make<N>>(
+        _whole: Whole,
+        source: &mut S,
         make: &M,
-    ) -> Result<BindingIdent<N>, F::Error> {
-        read_struct!(alloc, from, make => BindingIdent { id, type_ann })
+    ) -> Result<BindingIdent<N>, Failed> {
+        let values!(id, type_ann) = members::<A, _, _, _, _>(names!(id, type_ann), source, make)?;
+        Ok(BindingIdent { id, type_ann })
     }
 }
 
-impl<N: Drop> ReadWith<N> for Invalid {
-    fn read_with<F: Format, M: Make<N>>(
-        alloc: Global,
-        from: &mut Deserializer<'_, '_, F>,
-        make: &M,
-    ) -> Result<Invalid, F::Error> {
-        read_struct!(alloc, from, make => Invalid { span })
+impl<A, N: Drop> ReadFrom<A, N> for Invalid {
+    type Parts = (Span, ());
+
+    fn names() -> &'static [Name<'static>] {
+        names!(span)
+    }
+
+    fn of<S: Source, M: Make<N>>(
+        values: Self::Parts,
+        _source: &mut S,
+        _make: &M,
+    ) -> Result<Invalid, Failed> {
+        made!(values => Invalid { span })
     }
 }

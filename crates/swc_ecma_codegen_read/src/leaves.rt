@@ -1,96 +1,152 @@
 //! Positions, operators and the digits of numbers.
 
-use crate::macros::{names, parts, read_struct, read_word, slots};
-use crate::reading::{Make, ReadWith, members};
-use serde::{DeserializeOwned, Deserializer, Format};
-use std::alloc::Global;
+use crate::reading::{Make, ReadFrom, Whole, Word, members};
+use crate::source::{Failed, Fault, Source};
+use crate::{names, spelled, values};
+use serde::Name;
 use swc_ecma_codegen_common::{AssignOp, BinaryOp, BytePos, Decimal, Span, UnaryOp, UpdateOp};
 
-impl<N: Drop> ReadWith<N> for BytePos {
-    #[inline(always)]
-    fn read_with<F: Format, M: Make<N>>(
-        alloc: Global,
-        from: &mut Deserializer<'_, '_, F>,
+impl<A, N: Drop> ReadFrom<A, N> for Span {
+    type Parts = Whole;
+
+    fn of<S: Source, M: Make<N>>(_whole: Whole, source: &mut S, make: &M) -> Result<Span, Failed> {
+        let values!(lo, hi) = members::<A, _, _, _, _>(names!(lo, hi), source, make)?;
+        Ok(Span { lo, hi })
+    }
+}
+
+impl<A, N: Drop> ReadFrom<A, N> for UnaryOp {
+    type Parts = Word;
+
+    fn names() -> &'static [Name<'static>] {
+        names!(Minus, Plus, Bang, Tilde, TypeOf, Void, Delete)
+    }
+
+    fn of<S: Source, M: Make<N>>(word: Word, source: &mut S, _make: &M) -> Result<UnaryOp, Failed> {
+        spelled!(word, source => UnaryOp { Minus, Plus, Bang, Tilde, TypeOf, Void, Delete })
+    }
+}
+
+impl<A, N: Drop> ReadFrom<A, N> for UpdateOp {
+    type Parts = Word;
+
+    fn names() -> &'static [Name<'static>] {
+        names!(PlusPlus, MinusMinus)
+    }
+
+    fn of<S: Source, M: Make<N>>(
+        word: Word,
+        source: &mut S,
         _make: &M,
-    ) -> Result<BytePos, F::Error> {
-        Ok(BytePos(u32::deserialize_owned(alloc, from)?))
+    ) -> Result<UpdateOp, Failed> {
+        spelled!(word, source => UpdateOp { PlusPlus, MinusMinus })
     }
 }
 
-impl<N: Drop> ReadWith<N> for Span {
-    fn read_with<F: Format, M: Make<N>>(
-        alloc: Global,
-        from: &mut Deserializer<'_, '_, F>,
-        make: &M,
-    ) -> Result<Span, F::Error> {
-        read_struct!(alloc, from, make => Span { lo, hi })
+impl<A, N: Drop> ReadFrom<A, N> for BinaryOp {
+    type Parts = Word;
+
+    fn names() -> &'static [Name<'static>] {
+        names!(
+            EqEq,
+            NotEq,
+            EqEqEq,
+            NotEqEq,
+            Lt,
+            LtEq,
+            Gt,
+            GtEq,
+            LShift,
+            RShift,
+            ZeroFillRShift,
+            Add,
+            Sub,
+            Mul,
+            Div,
+            Mod,
+            BitOr,
+            BitXor,
+            BitAnd,
+            LogicalOr,
+            LogicalAnd,
+            In,
+            InstanceOf,
+            Exp,
+            NullishCoalescing
+        )
+    }
+
+    fn of<S: Source, M: Make<N>>(
+        word: Word,
+        source: &mut S,
+        _make: &M,
+    ) -> Result<BinaryOp, Failed> {
+        spelled!(word, source => BinaryOp { EqEq, NotEq, EqEqEq, NotEqEq, Lt, LtEq, Gt, GtEq, LShift, RShift, ZeroFillRShift, Add, Sub, Mul, Div, Mod, BitOr, BitXor, BitAnd, LogicalOr, LogicalAnd, In, InstanceOf, Exp, NullishCoalescing })
     }
 }
 
-impl<N: Drop> ReadWith<N> for Decimal {
-    fn read_with<F: Format, M: Make<N>>(
-        alloc: Global,
-        from: &mut Deserializer<'_, '_, F>,
-        make: &M,
-    ) -> Result<Decimal, F::Error> {
-        let parts!(negative, digits, exponent) = members(
-            alloc,
-            names!(negative, digits, exponent),
-            from,
-            make,
-            slots!(negative, digits, exponent),
-        )?;
+impl<A, N: Drop> ReadFrom<A, N> for AssignOp {
+    type Parts = Word;
+
+    fn names() -> &'static [Name<'static>] {
+        names!(
+            Assign,
+            AddAssign,
+            SubAssign,
+            MulAssign,
+            DivAssign,
+            ModAssign,
+            LShiftAssign,
+            RShiftAssign,
+            ZeroFillRShiftAssign,
+            BitOrAssign,
+            BitXorAssign,
+            BitAndAssign,
+            ExpAssign,
+            AndAssign,
+            OrAssign,
+            NullishAssign
+        )
+    }
+
+    fn of<S: Source, M: Make<N>>(
+        word: Word,
+        source: &mut S,
+        _make: &M,
+    ) -> Result<AssignOp, Failed> {
+        spelled!(word, source => AssignOp { Assign, AddAssign, SubAssign, MulAssign, DivAssign, ModAssign, LShiftAssign, RShiftAssign, ZeroFillRShiftAssign, BitOrAssign, BitXorAssign, BitAndAssign, ExpAssign, AndAssign, OrAssign, NullishAssign })
+    }
+}
+
+impl<A, N: Drop> ReadFrom<A, N> for BytePos {
+    type Parts = Whole;
+
+    #[inline(always)]
+    fn of<S: Source, M: Make<N>>(
+        _whole: Whole,
+        source: &mut S,
+        _make: &M,
+    ) -> Result<BytePos, Failed> {
+        Ok(BytePos(source.unsigned()?))
+    }
+}
+
+impl<A, N: Drop> ReadFrom<A, N> for Decimal {
+    type Parts = (bool, (String, (i32, ())));
+
+    fn names() -> &'static [Name<'static>] {
+        names!(negative, digits, exponent)
+    }
+
+    fn of<S: Source, M: Make<N>>(
+        values: Self::Parts,
+        source: &mut S,
+        _make: &M,
+    ) -> Result<Decimal, Failed> {
+        let values!(negative, digits, exponent) = values;
         match Decimal::new(negative, digits, exponent) {
             Some(number) => Ok(number),
-            None => Err(from.custom("a number that isn't in its one form")),
+            None => Err(source.fail(Fault::NotInItsForm)),
         }
-    }
-}
-
-impl<N: Drop> ReadWith<N> for UnaryOp {
-    fn read_with<F: Format, M: Make<N>>(
-        _alloc: Global,
-        from: &mut Deserializer<'_, '_, F>,
-        _make: &M,
-    ) -> Result<UnaryOp, F::Error> {
-        read_word!(from => UnaryOp { Minus, Plus, Bang, Tilde, TypeOf, Void, Delete })
-    }
-}
-
-impl<N: Drop> ReadWith<N> for UpdateOp {
-    fn read_with<F: Format, M: Make<N>>(
-        _alloc: Global,
-        from: &mut Deserializer<'_, '_, F>,
-        _make: &M,
-    ) -> Result<UpdateOp, F::Error> {
-        read_word!(from => UpdateOp { PlusPlus, MinusMinus })
-    }
-}
-
-impl<N: Drop> ReadWith<N> for BinaryOp {
-    fn read_with<F: Format, M: Make<N>>(
-        _alloc: Global,
-        from: &mut Deserializer<'_, '_, F>,
-        _make: &M,
-    ) -> Result<BinaryOp, F::Error> {
-        read_word!(from => BinaryOp {
-            EqEq, NotEq, EqEqEq, NotEqEq, Lt, LtEq, Gt, GtEq, LShift, RShift, ZeroFillRShift, Add,
-            Sub, Mul, Div, Mod, BitOr, BitXor, BitAnd, LogicalOr, LogicalAnd, In, InstanceOf, Exp,
-            NullishCoalescing,
-        })
-    }
-}
-
-impl<N: Drop> ReadWith<N> for AssignOp {
-    fn read_with<F: Format, M: Make<N>>(
-        _alloc: Global,
-        from: &mut Deserializer<'_, '_, F>,
-        _make: &M,
-    ) -> Result<AssignOp, F::Error> {
-        read_word!(from => AssignOp {
-            Assign, AddAssign, SubAssign, MulAssign, DivAssign, ModAssign, LShiftAssign,
-            RShiftAssign, ZeroFillRShiftAssign, BitOrAssign, BitXorAssign, BitAndAssign, ExpAssign,
-            AndAssign, OrAssign, NullishAssign,
-        })
     }
 }

@@ -1,9 +1,7 @@
 //! Links. What one holds is made by `make`.
 
-use crate::macros::read_link;
-use crate::reading::{Make, ReadWith, Sort};
-use serde::{Deserializer, Format};
-use std::alloc::Global;
+use crate::reading::{Make, ReadFrom, Sort, Whole};
+use crate::source::{Failed, Fault, Source};
 use swc_ecma_codegen_tree::{
     AssignTargetBox, BlockStmtBox, ClassBox, ClassMemberBox, DeclBox, ExprBox, FunctionBox,
     JSXAttrValueBox, JSXElementBox, JSXElementChildBox, JSXFragmentBox, JSXObjectBox,
@@ -12,343 +10,416 @@ use swc_ecma_codegen_tree::{
     TsTypeBox, TsTypeElementBox, TsTypeParamDeclBox, TsTypeParamInstantiationBox, VarDeclBox,
 };
 
-impl<N: Drop> ReadWith<N> for ExprBox<N> {
+/// A link, to a node of a sort.
+macro_rules! linked {
+    ($source:ident, $make:ident => $link:ident: $sort:ident) => {{
+        let node = $make.make(Sort::$sort, $source)?;
+        match $link::holding($source.alloc(), node) {
+            Ok(link) => Ok(link),
+            Err(_) => Err($source.fail(Fault::NoMemory)),
+        }
+    }};
+}
+
+impl<A, N: Drop> ReadFrom<A, N> for ExprBox<N> {
+    type Parts = Whole;
+
     #[inline(always)]
-    fn read_with<F: Format, M: Make<N>>(
-        alloc: Global,
-        from: &mut Deserializer<'_, '_, F>,
+    fn of<S: Source, M: Make<N>>(
+        _whole: Whole,
+        source: &mut S,
         make: &M,
-    ) -> Result<ExprBox<N>, F::Error> {
-        read_link!(alloc, from, make => ExprBox: Expr)
+    ) -> Result<ExprBox<N>, Failed> {
+        linked!(source, make => ExprBox: Expr)
     }
 }
 
-impl<N: Drop> ReadWith<N> for StmtBox<N> {
+impl<A, N: Drop> ReadFrom<A, N> for StmtBox<N> {
+    type Parts = Whole;
+
     #[inline(always)]
-    fn read_with<F: Format, M: Make<N>>(
-        alloc: Global,
-        from: &mut Deserializer<'_, '_, F>,
+    fn of<S: Source, M: Make<N>>(
+        _whole: Whole,
+        source: &mut S,
         make: &M,
-    ) -> Result<StmtBox<N>, F::Error> {
-        read_link!(alloc, from, make => StmtBox: Stmt)
+    ) -> Result<StmtBox<N>, Failed> {
+        linked!(source, make => StmtBox: Stmt)
     }
 }
 
-impl<N: Drop> ReadWith<N> for PatBox<N> {
+impl<A, N: Drop> ReadFrom<A, N> for PatBox<N> {
+    type Parts = Whole;
+
     #[inline(always)]
-    fn read_with<F: Format, M: Make<N>>(
-        alloc: Global,
-        from: &mut Deserializer<'_, '_, F>,
+    fn of<S: Source, M: Make<N>>(
+        _whole: Whole,
+        source: &mut S,
         make: &M,
-    ) -> Result<PatBox<N>, F::Error> {
-        read_link!(alloc, from, make => PatBox: Pat)
+    ) -> Result<PatBox<N>, Failed> {
+        linked!(source, make => PatBox: Pat)
     }
 }
 
-impl<N: Drop> ReadWith<N> for TsTypeBox<N> {
+impl<A, N: Drop> ReadFrom<A, N> for TsTypeBox<N> {
+    type Parts = Whole;
+
     #[inline(always)]
-    fn read_with<F: Format, M: Make<N>>(
-        alloc: Global,
-        from: &mut Deserializer<'_, '_, F>,
+    fn of<S: Source, M: Make<N>>(
+        _whole: Whole,
+        source: &mut S,
         make: &M,
-    ) -> Result<TsTypeBox<N>, F::Error> {
-        read_link!(alloc, from, make => TsTypeBox: TsType)
+    ) -> Result<TsTypeBox<N>, Failed> {
+        linked!(source, make => TsTypeBox: TsType)
     }
 }
 
-impl<N: Drop> ReadWith<N> for JSXElementChildBox<N> {
+impl<A, N: Drop> ReadFrom<A, N> for JSXElementChildBox<N> {
+    type Parts = Whole;
+
     #[inline(always)]
-    fn read_with<F: Format, M: Make<N>>(
-        alloc: Global,
-        from: &mut Deserializer<'_, '_, F>,
+    fn of<S: Source, M: Make<N>>(
+        _whole: Whole,
+        source: &mut S,
         make: &M,
-    ) -> Result<JSXElementChildBox<N>, F::Error> {
-        read_link!(alloc, from, make => JSXElementChildBox: JSXElementChild)
+    ) -> Result<JSXElementChildBox<N>, Failed> {
+        linked!(source, make => JSXElementChildBox: JSXElementChild)
     }
 }
 
-impl<N: Drop> ReadWith<N> for JSXAttrValueBox<N> {
+impl<A, N: Drop> ReadFrom<A, N> for JSXAttrValueBox<N> {
+    type Parts = Whole;
+
     #[inline(always)]
-    fn read_with<F: Format, M: Make<N>>(
-        alloc: Global,
-        from: &mut Deserializer<'_, '_, F>,
+    fn of<S: Source, M: Make<N>>(
+        _whole: Whole,
+        source: &mut S,
         make: &M,
-    ) -> Result<JSXAttrValueBox<N>, F::Error> {
-        read_link!(alloc, from, make => JSXAttrValueBox: JSXAttrValue)
+    ) -> Result<JSXAttrValueBox<N>, Failed> {
+        linked!(source, make => JSXAttrValueBox: JSXAttrValue)
     }
 }
 
-impl<N: Drop> ReadWith<N> for TsNamespaceBodyBox<N> {
+impl<A, N: Drop> ReadFrom<A, N> for TsNamespaceBodyBox<N> {
+    type Parts = Whole;
+
     #[inline(always)]
-    fn read_with<F: Format, M: Make<N>>(
-        alloc: Global,
-        from: &mut Deserializer<'_, '_, F>,
+    fn of<S: Source, M: Make<N>>(
+        _whole: Whole,
+        source: &mut S,
         make: &M,
-    ) -> Result<TsNamespaceBodyBox<N>, F::Error> {
-        read_link!(alloc, from, make => TsNamespaceBodyBox: TsNamespaceBody)
+    ) -> Result<TsNamespaceBodyBox<N>, Failed> {
+        linked!(source, make => TsNamespaceBodyBox: TsNamespaceBody)
     }
 }
 
-impl<N: Drop> ReadWith<N> for TsTypeAnnBox<N> {
+impl<A, N: Drop> ReadFrom<A, N> for TsTypeAnnBox<N> {
+    type Parts = Whole;
+
     #[inline(always)]
-    fn read_with<F: Format, M: Make<N>>(
-        alloc: Global,
-        from: &mut Deserializer<'_, '_, F>,
+    fn of<S: Source, M: Make<N>>(
+        _whole: Whole,
+        source: &mut S,
         make: &M,
-    ) -> Result<TsTypeAnnBox<N>, F::Error> {
-        read_link!(alloc, from, make => TsTypeAnnBox: TsTypeAnn)
+    ) -> Result<TsTypeAnnBox<N>, Failed> {
+        linked!(source, make => TsTypeAnnBox: TsTypeAnn)
     }
 }
 
-impl<N: Drop> ReadWith<N> for TsTypeParamDeclBox<N> {
+impl<A, N: Drop> ReadFrom<A, N> for TsTypeParamDeclBox<N> {
+    type Parts = Whole;
+
     #[inline(always)]
-    fn read_with<F: Format, M: Make<N>>(
-        alloc: Global,
-        from: &mut Deserializer<'_, '_, F>,
+    fn of<S: Source, M: Make<N>>(
+        _whole: Whole,
+        source: &mut S,
         make: &M,
-    ) -> Result<TsTypeParamDeclBox<N>, F::Error> {
-        read_link!(alloc, from, make => TsTypeParamDeclBox: TsTypeParamDecl)
+    ) -> Result<TsTypeParamDeclBox<N>, Failed> {
+        linked!(source, make => TsTypeParamDeclBox: TsTypeParamDecl)
     }
 }
 
-impl<N: Drop> ReadWith<N> for TsTypeParamInstantiationBox<N> {
+impl<A, N: Drop> ReadFrom<A, N> for TsTypeParamInstantiationBox<N> {
+    type Parts = Whole;
+
     #[inline(always)]
-    fn read_with<F: Format, M: Make<N>>(
-        alloc: Global,
-        from: &mut Deserializer<'_, '_, F>,
+    fn of<S: Source, M: Make<N>>(
+        _whole: Whole,
+        source: &mut S,
         make: &M,
-    ) -> Result<TsTypeParamInstantiationBox<N>, F::Error> {
-        read_link!(alloc, from, make => TsTypeParamInstantiationBox: TsTypeParamInstantiation)
+    ) -> Result<TsTypeParamInstantiationBox<N>, Failed> {
+        linked!(source, make => TsTypeParamInstantiationBox: TsTypeParamInstantiation)
     }
 }
 
-impl<N: Drop> ReadWith<N> for FunctionBox<N> {
+impl<A, N: Drop> ReadFrom<A, N> for FunctionBox<N> {
+    type Parts = Whole;
+
     #[inline(always)]
-    fn read_with<F: Format, M: Make<N>>(
-        alloc: Global,
-        from: &mut Deserializer<'_, '_, F>,
+    fn of<S: Source, M: Make<N>>(
+        _whole: Whole,
+        source: &mut S,
         make: &M,
-    ) -> Result<FunctionBox<N>, F::Error> {
-        read_link!(alloc, from, make => FunctionBox: Function)
+    ) -> Result<FunctionBox<N>, Failed> {
+        linked!(source, make => FunctionBox: Function)
     }
 }
 
-impl<N: Drop> ReadWith<N> for ClassBox<N> {
+impl<A, N: Drop> ReadFrom<A, N> for ClassBox<N> {
+    type Parts = Whole;
+
     #[inline(always)]
-    fn read_with<F: Format, M: Make<N>>(
-        alloc: Global,
-        from: &mut Deserializer<'_, '_, F>,
+    fn of<S: Source, M: Make<N>>(
+        _whole: Whole,
+        source: &mut S,
         make: &M,
-    ) -> Result<ClassBox<N>, F::Error> {
-        read_link!(alloc, from, make => ClassBox: Class)
+    ) -> Result<ClassBox<N>, Failed> {
+        linked!(source, make => ClassBox: Class)
     }
 }
 
-impl<N: Drop> ReadWith<N> for TplBox<N> {
+impl<A, N: Drop> ReadFrom<A, N> for TplBox<N> {
+    type Parts = Whole;
+
     #[inline(always)]
-    fn read_with<F: Format, M: Make<N>>(
-        alloc: Global,
-        from: &mut Deserializer<'_, '_, F>,
+    fn of<S: Source, M: Make<N>>(
+        _whole: Whole,
+        source: &mut S,
         make: &M,
-    ) -> Result<TplBox<N>, F::Error> {
-        read_link!(alloc, from, make => TplBox: Tpl)
+    ) -> Result<TplBox<N>, Failed> {
+        linked!(source, make => TplBox: Tpl)
     }
 }
 
-impl<N: Drop> ReadWith<N> for BlockStmtBox<N> {
+impl<A, N: Drop> ReadFrom<A, N> for BlockStmtBox<N> {
+    type Parts = Whole;
+
     #[inline(always)]
-    fn read_with<F: Format, M: Make<N>>(
-        alloc: Global,
-        from: &mut Deserializer<'_, '_, F>,
+    fn of<S: Source, M: Make<N>>(
+        _whole: Whole,
+        source: &mut S,
         make: &M,
-    ) -> Result<BlockStmtBox<N>, F::Error> {
-        read_link!(alloc, from, make => BlockStmtBox: BlockStmt)
+    ) -> Result<BlockStmtBox<N>, Failed> {
+        linked!(source, make => BlockStmtBox: BlockStmt)
     }
 }
 
-impl<N: Drop> ReadWith<N> for DeclBox<N> {
+impl<A, N: Drop> ReadFrom<A, N> for DeclBox<N> {
+    type Parts = Whole;
+
     #[inline(always)]
-    fn read_with<F: Format, M: Make<N>>(
-        alloc: Global,
-        from: &mut Deserializer<'_, '_, F>,
+    fn of<S: Source, M: Make<N>>(
+        _whole: Whole,
+        source: &mut S,
         make: &M,
-    ) -> Result<DeclBox<N>, F::Error> {
-        read_link!(alloc, from, make => DeclBox: Decl)
+    ) -> Result<DeclBox<N>, Failed> {
+        linked!(source, make => DeclBox: Decl)
     }
 }
 
-impl<N: Drop> ReadWith<N> for ModuleItemBox<N> {
+impl<A, N: Drop> ReadFrom<A, N> for ModuleItemBox<N> {
+    type Parts = Whole;
+
     #[inline(always)]
-    fn read_with<F: Format, M: Make<N>>(
-        alloc: Global,
-        from: &mut Deserializer<'_, '_, F>,
+    fn of<S: Source, M: Make<N>>(
+        _whole: Whole,
+        source: &mut S,
         make: &M,
-    ) -> Result<ModuleItemBox<N>, F::Error> {
-        read_link!(alloc, from, make => ModuleItemBox: ModuleItem)
+    ) -> Result<ModuleItemBox<N>, Failed> {
+        linked!(source, make => ModuleItemBox: ModuleItem)
     }
 }
 
-impl<N: Drop> ReadWith<N> for ModuleDeclBox<N> {
+impl<A, N: Drop> ReadFrom<A, N> for ModuleDeclBox<N> {
+    type Parts = Whole;
+
     #[inline(always)]
-    fn read_with<F: Format, M: Make<N>>(
-        alloc: Global,
-        from: &mut Deserializer<'_, '_, F>,
+    fn of<S: Source, M: Make<N>>(
+        _whole: Whole,
+        source: &mut S,
         make: &M,
-    ) -> Result<ModuleDeclBox<N>, F::Error> {
-        read_link!(alloc, from, make => ModuleDeclBox: ModuleDecl)
+    ) -> Result<ModuleDeclBox<N>, Failed> {
+        linked!(source, make => ModuleDeclBox: ModuleDecl)
     }
 }
 
-impl<N: Drop> ReadWith<N> for ObjectLitBox<N> {
+impl<A, N: Drop> ReadFrom<A, N> for ObjectLitBox<N> {
+    type Parts = Whole;
+
     #[inline(always)]
-    fn read_with<F: Format, M: Make<N>>(
-        alloc: Global,
-        from: &mut Deserializer<'_, '_, F>,
+    fn of<S: Source, M: Make<N>>(
+        _whole: Whole,
+        source: &mut S,
         make: &M,
-    ) -> Result<ObjectLitBox<N>, F::Error> {
-        read_link!(alloc, from, make => ObjectLitBox: ObjectLit)
+    ) -> Result<ObjectLitBox<N>, Failed> {
+        linked!(source, make => ObjectLitBox: ObjectLit)
     }
 }
 
-impl<N: Drop> ReadWith<N> for PropNameBox<N> {
+impl<A, N: Drop> ReadFrom<A, N> for PropNameBox<N> {
+    type Parts = Whole;
+
     #[inline(always)]
-    fn read_with<F: Format, M: Make<N>>(
-        alloc: Global,
-        from: &mut Deserializer<'_, '_, F>,
+    fn of<S: Source, M: Make<N>>(
+        _whole: Whole,
+        source: &mut S,
         make: &M,
-    ) -> Result<PropNameBox<N>, F::Error> {
-        read_link!(alloc, from, make => PropNameBox: PropName)
+    ) -> Result<PropNameBox<N>, Failed> {
+        linked!(source, make => PropNameBox: PropName)
     }
 }
 
-impl<N: Drop> ReadWith<N> for VarDeclBox<N> {
+impl<A, N: Drop> ReadFrom<A, N> for VarDeclBox<N> {
+    type Parts = Whole;
+
     #[inline(always)]
-    fn read_with<F: Format, M: Make<N>>(
-        alloc: Global,
-        from: &mut Deserializer<'_, '_, F>,
+    fn of<S: Source, M: Make<N>>(
+        _whole: Whole,
+        source: &mut S,
         make: &M,
-    ) -> Result<VarDeclBox<N>, F::Error> {
-        read_link!(alloc, from, make => VarDeclBox: VarDecl)
+    ) -> Result<VarDeclBox<N>, Failed> {
+        linked!(source, make => VarDeclBox: VarDecl)
     }
 }
 
-impl<N: Drop> ReadWith<N> for TsFnParamBox<N> {
+impl<A, N: Drop> ReadFrom<A, N> for TsFnParamBox<N> {
+    type Parts = Whole;
+
     #[inline(always)]
-    fn read_with<F: Format, M: Make<N>>(
-        alloc: Global,
-        from: &mut Deserializer<'_, '_, F>,
+    fn of<S: Source, M: Make<N>>(
+        _whole: Whole,
+        source: &mut S,
         make: &M,
-    ) -> Result<TsFnParamBox<N>, F::Error> {
-        read_link!(alloc, from, make => TsFnParamBox: TsFnParam)
+    ) -> Result<TsFnParamBox<N>, Failed> {
+        linked!(source, make => TsFnParamBox: TsFnParam)
     }
 }
 
-impl<N: Drop> ReadWith<N> for ClassMemberBox<N> {
+impl<A, N: Drop> ReadFrom<A, N> for ClassMemberBox<N> {
+    type Parts = Whole;
+
     #[inline(always)]
-    fn read_with<F: Format, M: Make<N>>(
-        alloc: Global,
-        from: &mut Deserializer<'_, '_, F>,
+    fn of<S: Source, M: Make<N>>(
+        _whole: Whole,
+        source: &mut S,
         make: &M,
-    ) -> Result<ClassMemberBox<N>, F::Error> {
-        read_link!(alloc, from, make => ClassMemberBox: ClassMember)
+    ) -> Result<ClassMemberBox<N>, Failed> {
+        linked!(source, make => ClassMemberBox: ClassMember)
     }
 }
 
-impl<N: Drop> ReadWith<N> for JSXElementBox<N> {
+impl<A, N: Drop> ReadFrom<A, N> for JSXElementBox<N> {
+    type Parts = Whole;
+
     #[inline(always)]
-    fn read_with<F: Format, M: Make<N>>(
-        alloc: Global,
-        from: &mut Deserializer<'_, '_, F>,
+    fn of<S: Source, M: Make<N>>(
+        _whole: Whole,
+        source: &mut S,
         make: &M,
-    ) -> Result<JSXElementBox<N>, F::Error> {
-        read_link!(alloc, from, make => JSXElementBox: JSXElement)
+    ) -> Result<JSXElementBox<N>, Failed> {
+        linked!(source, make => JSXElementBox: JSXElement)
     }
 }
 
-impl<N: Drop> ReadWith<N> for JSXFragmentBox<N> {
+impl<A, N: Drop> ReadFrom<A, N> for JSXFragmentBox<N> {
+    type Parts = Whole;
+
     #[inline(always)]
-    fn read_with<F: Format, M: Make<N>>(
-        alloc: Global,
-        from: &mut Deserializer<'_, '_, F>,
+    fn of<S: Source, M: Make<N>>(
+        _whole: Whole,
+        source: &mut S,
         make: &M,
-    ) -> Result<JSXFragmentBox<N>, F::Error> {
-        read_link!(alloc, from, make => JSXFragmentBox: JSXFragment)
+    ) -> Result<JSXFragmentBox<N>, Failed> {
+        linked!(source, make => JSXFragmentBox: JSXFragment)
     }
 }
 
-impl<N: Drop> ReadWith<N> for TsTypeElementBox<N> {
+impl<A, N: Drop> ReadFrom<A, N> for TsTypeElementBox<N> {
+    type Parts = Whole;
+
     #[inline(always)]
-    fn read_with<F: Format, M: Make<N>>(
-        alloc: Global,
-        from: &mut Deserializer<'_, '_, F>,
+    fn of<S: Source, M: Make<N>>(
+        _whole: Whole,
+        source: &mut S,
         make: &M,
-    ) -> Result<TsTypeElementBox<N>, F::Error> {
-        read_link!(alloc, from, make => TsTypeElementBox: TsTypeElement)
+    ) -> Result<TsTypeElementBox<N>, Failed> {
+        linked!(source, make => TsTypeElementBox: TsTypeElement)
     }
 }
 
-impl<N: Drop> ReadWith<N> for PropBox<N> {
+impl<A, N: Drop> ReadFrom<A, N> for PropBox<N> {
+    type Parts = Whole;
+
     #[inline(always)]
-    fn read_with<F: Format, M: Make<N>>(
-        alloc: Global,
-        from: &mut Deserializer<'_, '_, F>,
+    fn of<S: Source, M: Make<N>>(
+        _whole: Whole,
+        source: &mut S,
         make: &M,
-    ) -> Result<PropBox<N>, F::Error> {
-        read_link!(alloc, from, make => PropBox: Prop)
+    ) -> Result<PropBox<N>, Failed> {
+        linked!(source, make => PropBox: Prop)
     }
 }
 
-impl<N: Drop> ReadWith<N> for MemberExprBox<N> {
+impl<A, N: Drop> ReadFrom<A, N> for MemberExprBox<N> {
+    type Parts = Whole;
+
     #[inline(always)]
-    fn read_with<F: Format, M: Make<N>>(
-        alloc: Global,
-        from: &mut Deserializer<'_, '_, F>,
+    fn of<S: Source, M: Make<N>>(
+        _whole: Whole,
+        source: &mut S,
         make: &M,
-    ) -> Result<MemberExprBox<N>, F::Error> {
-        read_link!(alloc, from, make => MemberExprBox: MemberExpr)
+    ) -> Result<MemberExprBox<N>, Failed> {
+        linked!(source, make => MemberExprBox: MemberExpr)
     }
 }
 
-impl<N: Drop> ReadWith<N> for OptCallBox<N> {
+impl<A, N: Drop> ReadFrom<A, N> for OptCallBox<N> {
+    type Parts = Whole;
+
     #[inline(always)]
-    fn read_with<F: Format, M: Make<N>>(
-        alloc: Global,
-        from: &mut Deserializer<'_, '_, F>,
+    fn of<S: Source, M: Make<N>>(
+        _whole: Whole,
+        source: &mut S,
         make: &M,
-    ) -> Result<OptCallBox<N>, F::Error> {
-        read_link!(alloc, from, make => OptCallBox: OptCall)
+    ) -> Result<OptCallBox<N>, Failed> {
+        linked!(source, make => OptCallBox: OptCall)
     }
 }
 
-impl<N: Drop> ReadWith<N> for AssignTargetBox<N> {
+impl<A, N: Drop> ReadFrom<A, N> for AssignTargetBox<N> {
+    type Parts = Whole;
+
     #[inline(always)]
-    fn read_with<F: Format, M: Make<N>>(
-        alloc: Global,
-        from: &mut Deserializer<'_, '_, F>,
+    fn of<S: Source, M: Make<N>>(
+        _whole: Whole,
+        source: &mut S,
         make: &M,
-    ) -> Result<AssignTargetBox<N>, F::Error> {
-        read_link!(alloc, from, make => AssignTargetBox: AssignTarget)
+    ) -> Result<AssignTargetBox<N>, Failed> {
+        linked!(source, make => AssignTargetBox: AssignTarget)
     }
 }
 
-impl<N: Drop> ReadWith<N> for TsEntityNameBox<N> {
+impl<A, N: Drop> ReadFrom<A, N> for TsEntityNameBox<N> {
+    type Parts = Whole;
+
     #[inline(always)]
-    fn read_with<F: Format, M: Make<N>>(
-        alloc: Global,
-        from: &mut Deserializer<'_, '_, F>,
+    fn of<S: Source, M: Make<N>>(
+        _whole: Whole,
+        source: &mut S,
         make: &M,
-    ) -> Result<TsEntityNameBox<N>, F::Error> {
-        read_link!(alloc, from, make => TsEntityNameBox: TsEntityName)
+    ) -> Result<TsEntityNameBox<N>, Failed> {
+        linked!(source, make => TsEntityNameBox: TsEntityName)
     }
 }
 
-impl<N: Drop> ReadWith<N> for JSXObjectBox<N> {
+impl<A, N: Drop> ReadFrom<A, N> for JSXObjectBox<N> {
+    type Parts = Whole;
+
     #[inline(always)]
-    fn read_with<F: Format, M: Make<N>>(
-        alloc: Global,
-        from: &mut Deserializer<'_, '_, F>,
+    fn of<S: Source, M: Make<N>>(
+        _whole: Whole,
+        source: &mut S,
         make: &M,
-    ) -> Result<JSXObjectBox<N>, F::Error> {
-        read_link!(alloc, from, make => JSXObjectBox: JSXObject)
+    ) -> Result<JSXObjectBox<N>, Failed> {
+        linked!(source, make => JSXObjectBox: JSXObject)
     }
 }

@@ -1,117 +1,173 @@
 //! Literals.
 
-use crate::macros::{names, read_enum, read_struct, read_word};
-use crate::reading::{Make, ReadWith};
-use serde::{Deserializer, Format, Kind};
-use std::alloc::Global;
+use crate::reading::{Make, Parts, ReadFrom, Variant, Whole, Word, members, read};
+use crate::source::{Failed, Fault, Source};
+use crate::{held, made, names, spelled, values};
+use serde::Name;
+use swc_ecma_codegen_common::Span;
 use swc_ecma_codegen_tree::{
     BigInt, Bool, JSXText, Lit, Null, Number, NumberValue, Radix, Regex, Str,
 };
 
-impl<N: Drop> ReadWith<N> for Lit {
-    fn read_with<F: Format, M: Make<N>>(
-        alloc: Global,
-        from: &mut Deserializer<'_, '_, F>,
+impl<A, N: Drop> ReadFrom<A, N> for Lit {
+    type Parts = Variant;
+
+    fn names() -> &'static [Name<'static>] {
+        names!(Str, Bool, Null, Num, BigInt, Regex, JSXText)
+    }
+
+    fn of<S: Source, M: Make<N>>(
+        variant: Variant,
+        source: &mut S,
         make: &M,
-    ) -> Result<Lit, F::Error> {
-        read_enum!(alloc, from, make => Lit { Str, Bool, Null, Num, BigInt, Regex, JSXText })
+    ) -> Result<Lit, Failed> {
+        held!(A, variant, source, make => Lit { Str, Bool, Null, Num, BigInt, Regex, JSXText })
     }
 }
 
-impl<N: Drop> ReadWith<N> for Str {
-    fn read_with<F: Format, M: Make<N>>(
-        alloc: Global,
-        from: &mut Deserializer<'_, '_, F>,
-        make: &M,
-    ) -> Result<Str, F::Error> {
-        read_struct!(alloc, from, make => Str { span, value, raw })
+impl<A, N: Drop> ReadFrom<A, N> for Str {
+    type Parts = Whole;
+
+    fn of<S: Source, M: Make<N>>(_whole: Whole, source: &mut S, make: &M) -> Result<Str, Failed> {
+        let values!(span, value, raw) = members::<A, _, _, _, _>(
+            names!(span, value, raw),
+            source,
+            make,
+        )?;
+        Ok(Str { span, value, raw })
     }
 }
 
-impl<N: Drop> ReadWith<N> for Bool {
-    fn read_with<F: Format, M: Make<N>>(
-        alloc: Global,
-        from: &mut Deserializer<'_, '_, F>,
-        make: &M,
-    ) -> Result<Bool, F::Error> {
-        read_struct!(alloc, from, make => Bool { span, value })
-    }
-}
+impl<A, N: Drop> ReadFrom<A, N> for Bool {
+    type Parts = (Span, (bool, ()));
 
-impl<N: Drop> ReadWith<N> for Null {
-    fn read_with<F: Format, M: Make<N>>(
-        alloc: Global,
-        from: &mut Deserializer<'_, '_, F>,
-        make: &M,
-    ) -> Result<Null, F::Error> {
-        read_struct!(alloc, from, make => Null { span })
+    fn names() -> &'static [Name<'static>] {
+        names!(span, value)
     }
-}
 
-impl<N: Drop> ReadWith<N> for Number {
-    fn read_with<F: Format, M: Make<N>>(
-        alloc: Global,
-        from: &mut Deserializer<'_, '_, F>,
-        make: &M,
-    ) -> Result<Number, F::Error> {
-        read_struct!(alloc, from, make => Number { span, value, raw })
-    }
-}
-
-impl<N: Drop> ReadWith<N> for NumberValue {
-    fn read_with<F: Format, M: Make<N>>(
-        alloc: Global,
-        from: &mut Deserializer<'_, '_, F>,
-        make: &M,
-    ) -> Result<NumberValue, F::Error> {
-        if from.peek()? != Kind::Str {
-            return read_enum!(alloc, from, make => NumberValue { Finite });
-        }
-        match from.variant(names!(Infinity, NegInfinity, NaN))? {
-            0 => Ok(NumberValue::Infinity),
-            1 => Ok(NumberValue::NegInfinity),
-            2 => Ok(NumberValue::NaN),
-            _ => Err(from.unknown_variant()),
-        }
-    }
-}
-
-impl<N: Drop> ReadWith<N> for BigInt {
-    fn read_with<F: Format, M: Make<N>>(
-        alloc: Global,
-        from: &mut Deserializer<'_, '_, F>,
-        make: &M,
-    ) -> Result<BigInt, F::Error> {
-        read_struct!(alloc, from, make => BigInt { span, negative, radix, digits, raw })
-    }
-}
-
-impl<N: Drop> ReadWith<N> for Radix {
-    fn read_with<F: Format, M: Make<N>>(
-        _alloc: Global,
-        from: &mut Deserializer<'_, '_, F>,
+    fn of<S: Source, M: Make<N>>(
+        values: Self::Parts,
+        _source: &mut S,
         _make: &M,
-    ) -> Result<Radix, F::Error> {
-        read_word!(from => Radix { Binary, Octal, Decimal, Hex })
+    ) -> Result<Bool, Failed> {
+        made!(values => Bool { span, value })
     }
 }
 
-impl<N: Drop> ReadWith<N> for Regex {
-    fn read_with<F: Format, M: Make<N>>(
-        alloc: Global,
-        from: &mut Deserializer<'_, '_, F>,
-        make: &M,
-    ) -> Result<Regex, F::Error> {
-        read_struct!(alloc, from, make => Regex { span, exp, flags })
+impl<A, N: Drop> ReadFrom<A, N> for Null {
+    type Parts = (Span, ());
+
+    fn names() -> &'static [Name<'static>] {
+        names!(span)
+    }
+
+    fn of<S: Source, M: Make<N>>(
+        values: Self::Parts,
+        _source: &mut S,
+        _make: &M,
+    ) -> Result<Null, Failed> {
+        made!(values => Null { span })
     }
 }
 
-impl<N: Drop> ReadWith<N> for JSXText {
-    fn read_with<F: Format, M: Make<N>>(
-        alloc: Global,
-        from: &mut Deserializer<'_, '_, F>,
+impl<A, N: Drop> ReadFrom<A, N> for Number {
+    type Parts = (Span, (NumberValue, (Option<String>, ())));
+
+    fn names() -> &'static [Name<'static>] {
+        names!(span, value, raw)
+    }
+
+    fn of<S: Source, M: Make<N>>(
+        values: Self::Parts,
+        _source: &mut S,
+        _make: &M,
+    ) -> Result<Number, Failed> {
+        made!(values => Number { span, value, raw })
+    }
+}
+
+impl<A, N: Drop> ReadFrom<A, N> for BigInt {
+    type Parts = (Span, (bool, (Radix, (String, (Option<String>, ())))));
+
+    fn names() -> &'static [Name<'static>] {
+        names!(span, negative, radix, digits, raw)
+    }
+
+    fn of<S: Source, M: Make<N>>(
+        values: Self::Parts,
+        _source: &mut S,
+        _make: &M,
+    ) -> Result<BigInt, Failed> {
+        made!(values => BigInt { span, negative, radix, digits, raw })
+    }
+}
+
+impl<A, N: Drop> ReadFrom<A, N> for Radix {
+    type Parts = Word;
+
+    fn names() -> &'static [Name<'static>] {
+        names!(Binary, Octal, Decimal, Hex)
+    }
+
+    fn of<S: Source, M: Make<N>>(word: Word, source: &mut S, _make: &M) -> Result<Radix, Failed> {
+        spelled!(word, source => Radix { Binary, Octal, Decimal, Hex })
+    }
+}
+
+impl<A, N: Drop> ReadFrom<A, N> for Regex {
+    type Parts = (Span, (String, (String, ())));
+
+    fn names() -> &'static [Name<'static>] {
+        names!(span, exp, flags)
+    }
+
+    fn of<S: Source, M: Make<N>>(
+        values: Self::Parts,
+        _source: &mut S,
+        _make: &M,
+    ) -> Result<Regex, Failed> {
+        made!(values => Regex { span, exp, flags })
+    }
+}
+
+impl<A, N: Drop> ReadFrom<A, N> for JSXText {
+    type Parts = (Span, (String, (String, ())));
+
+    fn names() -> &'static [Name<'static>] {
+        names!(span, value, raw)
+    }
+
+    fn of<S: Source, M: Make<N>>(
+        values: Self::Parts,
+        _source: &mut S,
+        _make: &M,
+    ) -> Result<JSXText, Failed> {
+        made!(values => JSXText { span, value, raw })
+    }
+}
+
+impl<A, N: Drop> ReadFrom<A, N> for NumberValue {
+    type Parts = Whole;
+
+    fn of<S: Source, M: Make<N>>(
+        _whole: Whole,
+        source: &mut S,
         make: &M,
-    ) -> Result<JSXText, F::Error> {
-        read_struct!(alloc, from, make => JSXText { span, value, raw })
+    ) -> Result<NumberValue, Failed> {
+        if source.is_at_text()? {
+            return match source.word(names!(Infinity, NegInfinity, NaN))? {
+                0 => Ok(NumberValue::Infinity),
+                1 => Ok(NumberValue::NegInfinity),
+                2 => Ok(NumberValue::NaN),
+                _ => Err(source.fail(Fault::UnknownVariant)),
+            };
+        }
+        let variant = <Variant as Parts<A, N>>::begin(names!(Finite), source, make)?;
+        if variant != Variant(0) {
+            return Err(source.fail(Fault::UnknownVariant));
+        }
+        let number = read::<A, _, _, _, _>(source, make)?;
+        <Variant as Parts<A, N>>::end(source)?;
+        Ok(NumberValue::Finite(number))
     }
 }

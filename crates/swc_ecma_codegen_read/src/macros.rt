@@ -1,20 +1,11 @@
 //! The bodies of the readers.
 
-/// The name of a member: that of its field or variant, unless it is given.
-macro_rules! name_of {
-    ($own:ident) => {
-        stringify!($own)
-    };
-    ($own:ident $name:literal) => {
-        $name
-    };
-}
-
-/// Names, as they stand in the input.
+/// Names, as they stand in the input: those of fields or variants, unless they are given.
+#[macro_export]
 macro_rules! names {
-    ($($own:ident $(= $key:literal)?),*) => {
+    ($($own:ident $(= $key:literal)?),* $(,)?) => {
         &[$(serde::Name {
-            name: $crate::macros::name_of!($own $($key)?),
+            name: $crate::name_of!($own $($key)?),
             kind: serde::NameKind::Field,
             case: serde::Case::AsIs,
             aliases: &[],
@@ -23,78 +14,78 @@ macro_rules! names {
     };
 }
 
-/// A slot for each field, one in another: `(a, (b, ()))`.
-macro_rules! slots {
-    () => {
-        ()
+/// The name of a member.
+#[macro_export]
+macro_rules! name_of {
+    ($own:ident) => {
+        stringify!($own)
     };
-    ($field:ident $(, $($rest:tt)*)?) => {
-        ($crate::reading::wanted(), $crate::macros::slots!($($($rest)*)?))
-    };
-}
-
-/// What slots are taken apart to.
-macro_rules! parts {
-    () => {
-        ()
-    };
-    ($field:ident $(, $($rest:tt)*)?) => {
-        ($field, $crate::macros::parts!($($($rest)*)?))
+    ($own:ident $key:literal) => {
+        $key
     };
 }
 
-/// A struct, from the members of an object. A member has another name than its field where one is given.
-macro_rules! read_struct {
-    ($alloc:ident, $from:ident, $make:ident => $name:ident { $($field:ident $(= $key:literal)?),* $(,)? }) => {{
-        let $crate::macros::parts!($($field),*) = $crate::reading::members(
-            $alloc,
-            $crate::macros::names!($($field $(= $key)?),*),
-            $from,
-            $make,
-            $crate::macros::slots!($($field),*),
-        )?;
+/// A pattern for values one in another: `(a, (b, ()))`.
+#[macro_export]
+macro_rules! values {
+    () => {
+        ()
+    };
+    ($field:ident $(, $rest:ident)*) => {
+        ($field, $crate::values!($($rest),*))
+    };
+}
+
+/// A struct of the values of its members.
+#[macro_export]
+macro_rules! made {
+    ($values:ident => $name:ident { $($field:ident),* $(,)? }) => {{
+        let $crate::values!($($field),*) = $values;
         Ok($name { $($field),* })
     }};
 }
 
-/// An enum each of whose variants holds a value.
-macro_rules! read_enum {
-    ($alloc:ident, $from:ident, $make:ident => $name:ident { $($variant:ident),* $(,)? }) => {{
-        let mut at = $crate::reading::variant($crate::macros::names!($($variant),*), $from)?;
-        $(if $crate::reading::hit(&mut at) {
-            return Ok($name::$variant($crate::reading::held($alloc, $from, $make)?));
-        })*
-        Err($from.unknown_variant())
-    }};
+/// The variant at a place. What it holds is read by an area's readers, those of the enum's unless another is named.
+#[macro_export]
+macro_rules! held {
+    ($area:ident, $variant:ident, $source:ident, $make:ident => $name:ident { $($own:ident $(in $other:ident)?),* $(,)? }) => {
+        $crate::held_arms!(
+            $area $variant $source $make $name [] [
+                0 1 2 3 4 5 6 7 8 9 10 11 12 13 14 15 16 17 18 19 20 21 22 23 24 25 26 27 28 29 30
+                31 32 33 34 35 36 37 38 39
+            ] $([$own $($other)?])*
+        )
+    };
 }
 
-/// An enum whose variants hold nothing.
-macro_rules! read_word {
-    ($from:ident => $name:ident { $($variant:ident),* $(,)? }) => {{
-        let at = $from.variant($crate::macros::names!($($variant),*))?;
-        match [$($name::$variant),*].get(at) {
+/// The arms of `held`, each with its place.
+#[macro_export]
+macro_rules! held_arms {
+    ($area:ident $variant:ident $source:ident $make:ident $name:ident [$($arms:tt)*] [$place:literal $($places:literal)*] [$own:ident] $($rest:tt)*) => {
+        $crate::held_arms!($area $variant $source $make $name [
+            $($arms)* $place => $name::$own($crate::read::<$area, _, _, _, _>($source, $make)?),
+        ] [$($places)*] $($rest)*)
+    };
+    ($area:ident $variant:ident $source:ident $make:ident $name:ident [$($arms:tt)*] [$place:literal $($places:literal)*] [$own:ident $other:ident] $($rest:tt)*) => {
+        $crate::held_arms!($area $variant $source $make $name [
+            $($arms)* $place => $name::$own($crate::read::<$other, _, _, _, _>($source, $make)?),
+        ] [$($places)*] $($rest)*)
+    };
+    ($area:ident $variant:ident $source:ident $make:ident $name:ident [$($arms:tt)*] [$($places:literal)*]) => {
+        Ok(match $variant.0 {
+            $($arms)*
+            _ => return Err($source.fail($crate::Fault::UnknownVariant)),
+        })
+    };
+}
+
+/// The word at a place.
+#[macro_export]
+macro_rules! spelled {
+    ($word:ident, $source:ident => $name:ident { $($variant:ident),* $(,)? }) => {
+        match [$($name::$variant),*].get($word.0) {
             Some(word) => Ok(*word),
-            None => Err($from.unknown_variant()),
+            None => Err($source.fail($crate::Fault::UnknownVariant)),
         }
-    }};
+    };
 }
-
-/// A link, to a node of a sort.
-macro_rules! read_link {
-    ($alloc:ident, $from:ident, $make:ident => $link:ident: $sort:ident) => {{
-        let node = $make.make($alloc, $crate::reading::Sort::$sort, $from)?;
-        match $link::holding($alloc, node) {
-            Ok(link) => Ok(link),
-            Err(_) => Err($from.no_memory()),
-        }
-    }};
-}
-
-pub(crate) use name_of;
-pub(crate) use names;
-pub(crate) use parts;
-pub(crate) use read_enum;
-pub(crate) use read_link;
-pub(crate) use read_struct;
-pub(crate) use read_word;
-pub(crate) use slots;

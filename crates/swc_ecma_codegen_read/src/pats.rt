@@ -1,123 +1,164 @@
-//! Patterns, and what is assigned to.
+//! Patterns.
 
-use crate::macros::{read_enum, read_struct};
-use crate::reading::{Make, ReadWith};
-use serde::{Deserializer, Format};
-use std::alloc::Global;
+use crate::reading::{Make, ReadFrom, Variant};
+use crate::source::{Failed, Source};
+use crate::{held, made, names};
+use serde::Name;
+use swc_ecma_codegen_common::Span;
 use swc_ecma_codegen_tree::{
-    ArrayPat, AssignPat, AssignPatProp, AssignTarget, AssignTargetPat, KeyValuePatProp, ObjectPat,
-    ObjectPatProp, Pat, RestPat, SimpleAssignTarget,
+    ArrayPat, AssignPat, AssignPatProp, AssignTargetPat, BindingIdent, ExprBox, KeyValuePatProp,
+    ObjectPat, ObjectPatProp, Pat, PatBox, PropNameBox, RestPat, TsTypeAnnBox,
 };
 
-impl<N: Drop> ReadWith<N> for Pat<N> {
-    fn read_with<F: Format, M: Make<N>>(
-        alloc: Global,
-        from: &mut Deserializer<'_, '_, F>,
+impl<A, N: Drop> ReadFrom<A, N> for Pat<N> {
+    type Parts = Variant;
+
+    fn names() -> &'static [Name<'static>] {
+        names!(Ident, Array, Rest, Object, Assign, Invalid, Expr)
+    }
+
+    fn of<S: Source, M: Make<N>>(
+        variant: Variant,
+        source: &mut S,
         make: &M,
-    ) -> Result<Pat<N>, F::Error> {
-        read_enum!(alloc, from, make => Pat { Ident, Array, Rest, Object, Assign, Invalid, Expr })
+    ) -> Result<Pat<N>, Failed> {
+        held!(A, variant, source, make => Pat { Ident, Array, Rest, Object, Assign, Invalid, Expr })
     }
 }
 
-impl<N: Drop> ReadWith<N> for ArrayPat<N> {
-    fn read_with<F: Format, M: Make<N>>(
-        alloc: Global,
-        from: &mut Deserializer<'_, '_, F>,
-        make: &M,
-    ) -> Result<ArrayPat<N>, F::Error> {
-        read_struct!(alloc, from, make => ArrayPat { span, elems, optional, type_ann })
+impl<A, N: Drop> ReadFrom<A, N> for ArrayPat<N> {
+    type Parts = (
+        Span,
+        (
+            Vec<Option<PatBox<N>>>,
+            (bool, (Option<TsTypeAnnBox<N>>, ())),
+        ),
+    );
+
+    fn names() -> &'static [Name<'static>] {
+        names!(span, elems, optional, type_ann)
+    }
+
+    fn of<S: Source, M: Make<N>>(
+        values: Self::Parts,
+        _source: &mut S,
+        _make: &M,
+    ) -> Result<ArrayPat<N>, Failed> {
+        made!(values => ArrayPat { span, elems, optional, type_ann })
     }
 }
 
-impl<N: Drop> ReadWith<N> for ObjectPat<N> {
-    fn read_with<F: Format, M: Make<N>>(
-        alloc: Global,
-        from: &mut Deserializer<'_, '_, F>,
-        make: &M,
-    ) -> Result<ObjectPat<N>, F::Error> {
-        read_struct!(alloc, from, make => ObjectPat { span, props, optional, type_ann })
+impl<A, N: Drop> ReadFrom<A, N> for ObjectPat<N> {
+    type Parts = (
+        Span,
+        (Vec<ObjectPatProp<N>>, (bool, (Option<TsTypeAnnBox<N>>, ()))),
+    );
+
+    fn names() -> &'static [Name<'static>] {
+        names!(span, props, optional, type_ann)
+    }
+
+    fn of<S: Source, M: Make<N>>(
+        values: Self::Parts,
+        _source: &mut S,
+        _make: &M,
+    ) -> Result<ObjectPat<N>, Failed> {
+        made!(values => ObjectPat { span, props, optional, type_ann })
     }
 }
 
-impl<N: Drop> ReadWith<N> for RestPat<N> {
-    fn read_with<F: Format, M: Make<N>>(
-        alloc: Global,
-        from: &mut Deserializer<'_, '_, F>,
-        make: &M,
-    ) -> Result<RestPat<N>, F::Error> {
-        read_struct!(alloc, from, make => RestPat { span, dot3_token, arg, type_ann })
+impl<A, N: Drop> ReadFrom<A, N> for RestPat<N> {
+    type Parts = (Span, (Span, (PatBox<N>, (Option<TsTypeAnnBox<N>>, ()))));
+
+    fn names() -> &'static [Name<'static>] {
+        names!(span, dot3_token, arg, type_ann)
+    }
+
+    fn of<S: Source, M: Make<N>>(
+        values: Self::Parts,
+        _source: &mut S,
+        _make: &M,
+    ) -> Result<RestPat<N>, Failed> {
+        made!(values => RestPat { span, dot3_token, arg, type_ann })
     }
 }
 
-impl<N: Drop> ReadWith<N> for AssignPat<N> {
-    fn read_with<F: Format, M: Make<N>>(
-        alloc: Global,
-        from: &mut Deserializer<'_, '_, F>,
-        make: &M,
-    ) -> Result<AssignPat<N>, F::Error> {
-        read_struct!(alloc, from, make => AssignPat { span, left, right })
+impl<A, N: Drop> ReadFrom<A, N> for AssignPat<N> {
+    type Parts = (Span, (PatBox<N>, (ExprBox<N>, ())));
+
+    fn names() -> &'static [Name<'static>] {
+        names!(span, left, right)
+    }
+
+    fn of<S: Source, M: Make<N>>(
+        values: Self::Parts,
+        _source: &mut S,
+        _make: &M,
+    ) -> Result<AssignPat<N>, Failed> {
+        made!(values => AssignPat { span, left, right })
     }
 }
 
-impl<N: Drop> ReadWith<N> for ObjectPatProp<N> {
-    fn read_with<F: Format, M: Make<N>>(
-        alloc: Global,
-        from: &mut Deserializer<'_, '_, F>,
+impl<A, N: Drop> ReadFrom<A, N> for ObjectPatProp<N> {
+    type Parts = Variant;
+
+    fn names() -> &'static [Name<'static>] {
+        names!(KeyValue, Assign, Rest)
+    }
+
+    fn of<S: Source, M: Make<N>>(
+        variant: Variant,
+        source: &mut S,
         make: &M,
-    ) -> Result<ObjectPatProp<N>, F::Error> {
-        read_enum!(alloc, from, make => ObjectPatProp { KeyValue, Assign, Rest })
+    ) -> Result<ObjectPatProp<N>, Failed> {
+        held!(A, variant, source, make => ObjectPatProp { KeyValue, Assign, Rest })
     }
 }
 
-impl<N: Drop> ReadWith<N> for KeyValuePatProp<N> {
-    fn read_with<F: Format, M: Make<N>>(
-        alloc: Global,
-        from: &mut Deserializer<'_, '_, F>,
-        make: &M,
-    ) -> Result<KeyValuePatProp<N>, F::Error> {
-        read_struct!(alloc, from, make => KeyValuePatProp { key, value })
+impl<A, N: Drop> ReadFrom<A, N> for KeyValuePatProp<N> {
+    type Parts = (PropNameBox<N>, (PatBox<N>, ()));
+
+    fn names() -> &'static [Name<'static>] {
+        names!(key, value)
+    }
+
+    fn of<S: Source, M: Make<N>>(
+        values: Self::Parts,
+        _source: &mut S,
+        _make: &M,
+    ) -> Result<KeyValuePatProp<N>, Failed> {
+        made!(values => KeyValuePatProp { key, value })
     }
 }
 
-impl<N: Drop> ReadWith<N> for AssignPatProp<N> {
-    fn read_with<F: Format, M: Make<N>>(
-        alloc: Global,
-        from: &mut Deserializer<'_, '_, F>,
-        make: &M,
-    ) -> Result<AssignPatProp<N>, F::Error> {
-        read_struct!(alloc, from, make => AssignPatProp { span, key, value })
+impl<A, N: Drop> ReadFrom<A, N> for AssignPatProp<N> {
+    type Parts = (Span, (BindingIdent<N>, (Option<ExprBox<N>>, ())));
+
+    fn names() -> &'static [Name<'static>] {
+        names!(span, key, value)
+    }
+
+    fn of<S: Source, M: Make<N>>(
+        values: Self::Parts,
+        _source: &mut S,
+        _make: &M,
+    ) -> Result<AssignPatProp<N>, Failed> {
+        made!(values => AssignPatProp { span, key, value })
     }
 }
 
-impl<N: Drop> ReadWith<N> for AssignTarget<N> {
-    fn read_with<F: Format, M: Make<N>>(
-        alloc: Global,
-        from: &mut Deserializer<'_, '_, F>,
-        make: &M,
-    ) -> Result<AssignTarget<N>, F::Error> {
-        read_enum!(alloc, from, make => AssignTarget { Simple, Pat })
-    }
-}
+impl<A, N: Drop> ReadFrom<A, N> for AssignTargetPat<N> {
+    type Parts = Variant;
 
-impl<N: Drop> ReadWith<N> for AssignTargetPat<N> {
-    fn read_with<F: Format, M: Make<N>>(
-        alloc: Global,
-        from: &mut Deserializer<'_, '_, F>,
-        make: &M,
-    ) -> Result<AssignTargetPat<N>, F::Error> {
-        read_enum!(alloc, from, make => AssignTargetPat { Array, Object, Invalid })
+    fn names() -> &'static [Name<'static>] {
+        names!(Array, Object, Invalid)
     }
-}
 
-impl<N: Drop> ReadWith<N> for SimpleAssignTarget<N> {
-    fn read_with<F: Format, M: Make<N>>(
-        alloc: Global,
-        from: &mut Deserializer<'_, '_, F>,
+    fn of<S: Source, M: Make<N>>(
+        variant: Variant,
+        source: &mut S,
         make: &M,
-    ) -> Result<SimpleAssignTarget<N>, F::Error> {
-        read_enum!(alloc, from, make => SimpleAssignTarget {
-            Ident, Member, SuperProp, Paren, OptChain, TsAs, TsSatisfies, TsNonNull,
-            TsTypeAssertion, TsInstantiation, Invalid,
-        })
+    ) -> Result<AssignTargetPat<N>, Failed> {
+        held!(A, variant, source, make => AssignTargetPat { Array, Object, Invalid })
     }
 }

@@ -1,7 +1,7 @@
-//! What can be read, and the members of an object.
+//! What can be read: first its parts, and then it is made of them.
 
-use serde::{Deserializer, Format, Name};
-use std::alloc::Global;
+use crate::source::{Failed, Fault, Source};
+use serde::Name;
 
 /// The sorts of nodes that links hold.
 #[derive(Debug, Clone, Copy, PartialEq, Eq)]
@@ -41,189 +41,128 @@ pub enum Sort {
 
 /// Makes what a link holds.
 pub trait Make<N: Drop> {
-    fn make<F: Format>(
-        &self,
-        alloc: Global,
-        sort: Sort,
-        from: &mut Deserializer<'_, '_, F>,
-    ) -> Result<N, F::Error>;
+    fn make<S: Source>(&self, sort: Sort, source: &mut S) -> Result<N, Failed>;
 }
 
-/// What can be read. What a link holds is made by `make`.
-pub trait ReadWith<N: Drop>: Sized + Drop {
-    fn read_with<F: Format, M: Make<N>>(
-        alloc: Global,
-        from: &mut Deserializer<'_, '_, F>,
+/// What can be read, by the readers of the area `A`. What a link holds is made by `make`.
+pub trait ReadFrom<A, N: Drop>: Sized + Drop {
+    /// What is read of it before it is made.
+    type Parts: Parts<A, N>;
+
+    /// The names of its members, or of its variants.
+    fn names() -> &'static [Name<'static>] {
+        &[]
+    }
+
+    /// What these parts make. Of some types it reads the rest.
+    fn of<S: Source, M: Make<N>>(
+        parts: Self::Parts,
+        source: &mut S,
         make: &M,
-    ) -> Result<Self, F::Error>;
+    ) -> Result<Self, Failed>;
+
+    final fn read_from<S: Source, M: Make<N>>(source: &mut S, make: &M) -> Result<Self, Failed> {
+        let parts = Self::Parts::begin(Self::names(), source, make)?;
+        let value = Self::of(parts, source, make)?;
+        Self::Parts::end(source)?;
+        Ok(value)
+    }
 }
 
-/// What was read of a member that is wanted.
-#[derive(Drop)]
-pub struct Slot<T: Drop> {
-    value: Option<T>,
-}
-
-#[inline(always)]
-pub fn wanted<T: Drop>() -> Slot<T> {
-    Slot { value: None }
-}
-
-/// Members that are wanted, each in a slot.
-pub trait Slots<N: Drop>: Sized + Drop {
-    /// What is read of them.
-    type Values: Drop;
-
-    /// Reads the member at a place among them, or passes over another one. It says no to one that was read before.
-    fn fill<F: Format, M: Make<N>>(
-        &mut self,
-        alloc: Global,
-        at: usize,
-        from: &mut Deserializer<'_, '_, F>,
-        make: &M,
-    ) -> Result<bool, F::Error>;
-
-    /// What was read. A member that is missing is an error; `at` says where among the names these begin.
-    fn finish<F: Format>(
-        self,
+/// What is read of a value before it is made.
+pub trait Parts<A, N: Drop>: Sized {
+    fn begin<S: Source, M: Make<N>>(
         names: &[Name<'_>],
-        at: usize,
-        from: &Deserializer<'_, '_, F>,
-    ) -> Result<Self::Values, F::Error>;
+        source: &mut S,
+        make: &M,
+    ) -> Result<Self, Failed>;
+
+    /// What has to come after the value.
+    fn end<S: Source>(source: &mut S) -> Result<(), Failed>;
 }
 
-impl<N: Drop> Slots<N> for () {
-    type Values = ();
+/// Nothing: a value reads itself.
+#[derive(Debug, Clone, Copy, PartialEq, Eq)]
+pub struct Whole;
 
+impl<A, N: Drop> Parts<A, N> for Whole {
     #[inline(always)]
-    fn fill<F: Format, M: Make<N>>(
-        &mut self,
-        _alloc: Global,
-        _at: usize,
-        from: &mut Deserializer<'_, '_, F>,
+    fn begin<S: Source, M: Make<N>>(
+        _names: &[Name<'_>],
+        _source: &mut S,
         _make: &M,
-    ) -> Result<bool, F::Error> {
-        from.skip()?;
-        Ok(true)
+    ) -> Result<Whole, Failed> {
+        Ok(Whole)
     }
 
     #[inline(always)]
-    fn finish<F: Format>(
-        self,
-        _names: &[Name<'_>],
-        _at: usize,
-        _from: &Deserializer<'_, '_, F>,
-    ) -> Result<(), F::Error> {
+    fn end<S: Source>(_source: &mut S) -> Result<(), Failed> {
         Ok(())
     }
 }
 
-impl<N: Drop, T: ReadWith<N>, S: Slots<N>> Slots<N> for (Slot<T>, S) {
-    type Values = (T, S::Values);
+/// The place of a word among the names of variants that hold nothing, or past them.
+#[derive(Debug, Clone, Copy, PartialEq, Eq)]
+pub struct Word(pub usize);
 
+impl<A, N: Drop> Parts<A, N> for Word {
     #[inline(always)]
-    fn fill<F: Format, M: Make<N>>(
-        &mut self,
-        alloc: Global,
-        at: usize,
-        from: &mut Deserializer<'_, '_, F>,
-        make: &M,
-    ) -> Result<bool, F::Error> {
-        if at != 0 {
-            return self.1.fill(alloc, at - 1, from, make);
-        }
-        if self.0.value.is_some() {
-            return Ok(false);
-        }
-        self.0.value = Some(T::read_with(alloc, from, make)?);
-        Ok(true)
-    }
-
-    #[inline(always)]
-    fn finish<F: Format>(
-        self,
+    fn begin<S: Source, M: Make<N>>(
         names: &[Name<'_>],
-        at: usize,
-        from: &Deserializer<'_, '_, F>,
-    ) -> Result<(T, S::Values), F::Error> {
-        let (first, rest) = self;
-        match first.value {
-            Some(value) => Ok((value, rest.finish(names, at.wrapping_add(1), from)?)),
-            None => Err(from.missing(name_at(names, at))),
+        source: &mut S,
+        _make: &M,
+    ) -> Result<Word, Failed> {
+        Ok(Word(source.word(names)?))
+    }
+
+    #[inline(always)]
+    fn end<S: Source>(_source: &mut S) -> Result<(), Failed> {
+        Ok(())
+    }
+}
+
+/// The place of a variant among their names, or past them: that of the one member of an object.
+#[derive(Debug, Clone, Copy, PartialEq, Eq)]
+pub struct Variant(pub usize);
+
+impl<A, N: Drop> Parts<A, N> for Variant {
+    #[inline(always)]
+    fn begin<S: Source, M: Make<N>>(
+        names: &[Name<'_>],
+        source: &mut S,
+        _make: &M,
+    ) -> Result<Variant, Failed> {
+        source.begin_object()?;
+        match source.next_member(names)? {
+            Some(place) => Ok(Variant(place)),
+            None => Err(source.fail(Fault::Invalid)),
+        }
+    }
+
+    #[inline(always)]
+    fn end<S: Source>(source: &mut S) -> Result<(), Failed> {
+        match source.next_member(&[])? {
+            None => Ok(()),
+            Some(_) => Err(source.fail(Fault::Invalid)),
         }
     }
 }
 
-fn name_at<'a>(names: &[Name<'a>], at: usize) -> &'a str {
-    match names.get(at) {
-        Some(name) => name.name,
-        None => "",
-    }
-}
-
-/// An object has to begin here.
+/// What the readers of an area read.
 #[inline(always)]
-fn begin<F: Format>(from: &mut Deserializer<'_, '_, F>) -> Result<(), F::Error> {
-    if from.begin_struct()? {
-        return Err(from.invalid());
-    }
-    Ok(())
-}
-
-/// The members of an object that are wanted, in any order. Others are passed over.
-#[inline(always)]
-pub fn members<N: Drop, F: Format, M: Make<N>, S: Slots<N>>(
-    alloc: Global,
-    names: &[Name<'_>],
-    from: &mut Deserializer<'_, '_, F>,
+pub fn read<A, N: Drop, T: ReadFrom<A, N>, S: Source, M: Make<N>>(
+    source: &mut S,
     make: &M,
-    slots: S,
-) -> Result<S::Values, F::Error> {
-    let mut slots = slots;
-    begin(from)?;
-    for _ in 0..u64::MAX {
-        match from.next_key(names)? {
-            None => break,
-            Some(at) => {
-                if !slots.fill(alloc, at, from, make)? {
-                    return Err(from.duplicate(name_at(names, at)));
-                }
-            }
-        }
-    }
-    slots.finish(names, 0, from)
+) -> Result<T, Failed> {
+    T::read_from(source, make)
 }
 
-/// Which variant stands in the object that begins here.
+/// The members of an object that stands in place in others, of which the check follows one in another and no further.
 #[inline(always)]
-pub fn variant<F: Format>(
+pub fn members<A, N: Drop, V: Parts<A, N>, S: Source, M: Make<N>>(
     names: &[Name<'_>],
-    from: &mut Deserializer<'_, '_, F>,
-) -> Result<usize, F::Error> {
-    begin(from)?;
-    match from.next_key(names)? {
-        Some(at) => Ok(at),
-        None => Err(from.invalid()),
-    }
-}
-
-/// Whether the count is at 0, and counts down.
-#[inline(always)]
-pub fn hit(at: &mut usize) -> bool {
-    let was = *at;
-    *at = was.wrapping_sub(1);
-    was == 0
-}
-
-/// What a variant holds, where nothing else stands in its object.
-pub fn held<N: Drop, F: Format, M: Make<N>, T: ReadWith<N>>(
-    alloc: Global,
-    from: &mut Deserializer<'_, '_, F>,
+    source: &mut S,
     make: &M,
-) -> Result<T, F::Error> {
-    let value = T::read_with(alloc, from, make)?;
-    match from.next_key(&[])? {
-        None => Ok(value),
-        Some(_) => Err(from.invalid()),
-    }
+) -> Result<V, Failed> {
+    V::begin(names, source, make)
 }

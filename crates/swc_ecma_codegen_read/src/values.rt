@@ -1,87 +1,90 @@
 //! Flags, texts, numbers, lists, and what may be left out or stands in a box.
 
-use crate::reading::{Make, ReadWith};
-use serde::{DeserializeOwned, Deserializer, Format};
-use std::alloc::Global;
+use crate::reading::{Make, ReadFrom, Whole};
+use crate::source::{Failed, Fault, Source};
 
-impl<N: Drop> ReadWith<N> for bool {
+impl<A, N: Drop> ReadFrom<A, N> for bool {
+    type Parts = Whole;
+
     #[inline(always)]
-    fn read_with<F: Format, M: Make<N>>(
-        _alloc: Global,
-        from: &mut Deserializer<'_, '_, F>,
-        _make: &M,
-    ) -> Result<bool, F::Error> {
-        from.bool()
+    fn of<S: Source, M: Make<N>>(_whole: Whole, source: &mut S, _make: &M) -> Result<bool, Failed> {
+        source.flag()
     }
 }
 
-impl<N: Drop> ReadWith<N> for String {
+impl<A, N: Drop> ReadFrom<A, N> for String {
+    type Parts = Whole;
+
     #[inline(always)]
-    fn read_with<F: Format, M: Make<N>>(
-        alloc: Global,
-        from: &mut Deserializer<'_, '_, F>,
+    fn of<S: Source, M: Make<N>>(
+        _whole: Whole,
+        source: &mut S,
         _make: &M,
-    ) -> Result<String, F::Error> {
-        from.string(alloc)
+    ) -> Result<String, Failed> {
+        source.text()
     }
 }
 
-impl<N: Drop> ReadWith<N> for i32 {
+impl<A, N: Drop> ReadFrom<A, N> for i32 {
+    type Parts = Whole;
+
     #[inline(always)]
-    fn read_with<F: Format, M: Make<N>>(
-        alloc: Global,
-        from: &mut Deserializer<'_, '_, F>,
-        _make: &M,
-    ) -> Result<i32, F::Error> {
-        i32::deserialize_owned(alloc, from)
+    fn of<S: Source, M: Make<N>>(_whole: Whole, source: &mut S, _make: &M) -> Result<i32, Failed> {
+        source.signed()
     }
 }
 
-impl<N: Drop, T: ReadWith<N>> ReadWith<N> for Option<T> {
+impl<A, N: Drop, T: ReadFrom<A, N>> ReadFrom<A, N> for Option<T> {
+    type Parts = Whole;
+
     #[inline(always)]
-    fn read_with<F: Format, M: Make<N>>(
-        alloc: Global,
-        from: &mut Deserializer<'_, '_, F>,
+    fn of<S: Source, M: Make<N>>(
+        _whole: Whole,
+        source: &mut S,
         make: &M,
-    ) -> Result<Option<T>, F::Error> {
-        if from.take_none()? {
+    ) -> Result<Option<T>, Failed> {
+        if source.takes_null()? {
             return Ok(None);
         }
-        Ok(Some(T::read_with(alloc, from, make)?))
+        Ok(Some(T::read_from(source, make)?))
     }
 }
 
-impl<N: Drop, T: ReadWith<N>> ReadWith<N> for Vec<T> {
-    fn read_with<F: Format, M: Make<N>>(
-        alloc: Global,
-        from: &mut Deserializer<'_, '_, F>,
+impl<A, N: Drop, T: ReadFrom<A, N>> ReadFrom<A, N> for Vec<T> {
+    type Parts = Whole;
+
+    fn of<S: Source, M: Make<N>>(
+        _whole: Whole,
+        source: &mut S,
         make: &M,
-    ) -> Result<Vec<T>, F::Error> {
-        from.begin_seq()?;
-        let mut found = Vec::new(alloc);
+    ) -> Result<Vec<T>, Failed> {
+        source.begin_list()?;
+        let mut found = Vec::new(source.alloc());
         for _ in 0..u64::MAX {
-            if !from.next_item()? {
+            if !source.next_item()? {
                 break;
             }
-            let item = T::read_with(alloc, from, make)?;
+            let item = T::read_from(source, make)?;
             if found.push(item).is_err() {
-                return Err(from.no_memory());
+                return Err(source.fail(Fault::NoMemory));
             }
         }
         Ok(found)
     }
 }
 
-impl<N: Drop, T: ReadWith<N>> ReadWith<N> for Box<T> {
-    fn read_with<F: Format, M: Make<N>>(
-        alloc: Global,
-        from: &mut Deserializer<'_, '_, F>,
+impl<A, N: Drop, T: ReadFrom<A, N>> ReadFrom<A, N> for Box<T> {
+    type Parts = Whole;
+
+    fn of<S: Source, M: Make<N>>(
+        _whole: Whole,
+        source: &mut S,
         make: &M,
-    ) -> Result<Box<T>, F::Error> {
-        let value = T::read_with(alloc, from, make)?;
-        match Box::new(alloc, value) {
+    ) -> Result<Box<T>, Failed> {
+        let value = T::read_from(source, make)?;
+        match Box::new(source.alloc(), value) {
             Ok(held) => Ok(held),
-            Err(_) => Err(from.no_memory()),
+            Err(_) => Err(source.fail(Fault::NoMemory)),
         }
     }
 }
