@@ -81,7 +81,11 @@ impl<A, N: Drop> ReadFrom<A, N> for BinaryOp {
         source: &mut S,
         _make: &M,
     ) -> Result<BinaryOp, Failed> {
-        spelled!(word, source => BinaryOp { EqEq, NotEq, EqEqEq, NotEqEq, Lt, LtEq, Gt, GtEq, LShift, RShift, ZeroFillRShift, Add, Sub, Mul, Div, Mod, BitOr, BitXor, BitAnd, LogicalOr, LogicalAnd, In, InstanceOf, Exp, NullishCoalescing })
+        spelled!(word, source => BinaryOp {
+            EqEq, NotEq, EqEqEq, NotEqEq, Lt, LtEq, Gt, GtEq, LShift, RShift, ZeroFillRShift, Add,
+            Sub, Mul, Div, Mod, BitOr, BitXor, BitAnd, LogicalOr, LogicalAnd, In, InstanceOf, Exp,
+            NullishCoalescing,
+        })
     }
 }
 
@@ -114,7 +118,11 @@ impl<A, N: Drop> ReadFrom<A, N> for AssignOp {
         source: &mut S,
         _make: &M,
     ) -> Result<AssignOp, Failed> {
-        spelled!(word, source => AssignOp { Assign, AddAssign, SubAssign, MulAssign, DivAssign, ModAssign, LShiftAssign, RShiftAssign, ZeroFillRShiftAssign, BitOrAssign, BitXorAssign, BitAndAssign, ExpAssign, AndAssign, OrAssign, NullishAssign })
+        spelled!(word, source => AssignOp {
+            Assign, AddAssign, SubAssign, MulAssign, DivAssign, ModAssign, LShiftAssign,
+            RShiftAssign, ZeroFillRShiftAssign, BitOrAssign, BitXorAssign, BitAndAssign, ExpAssign,
+            AndAssign, OrAssign, NullishAssign,
+        })
     }
 }
 

@@ -48,7 +48,9 @@ macro_rules! made {
 /// The variant at a place. What it holds is read by an area's readers, those of the enum's unless another is named.
 #[macro_export]
 macro_rules! held {
-    ($area:ident, $variant:ident, $source:ident, $make:ident => $name:ident { $($own:ident $(in $other:ident)?),* $(,)? }) => {
+    ($area:ident, $variant:ident, $source:ident, $make:ident => $name:ident {
+        $($own:ident $(in $other:ident)?),* $(,)?
+    }) => {
         $crate::held_arms!(
             $area $variant $source $make $name [] [
                 0 1 2 3 4 5 6 7 8 9 10 11 12 13 14 15 16 17 18 19 20 21 22 23 24 25 26 27 28 29 30
@@ -61,17 +63,26 @@ macro_rules! held {
 /// The arms of `held`, each with its place.
 #[macro_export]
 macro_rules! held_arms {
-    ($area:ident $variant:ident $source:ident $make:ident $name:ident [$($arms:tt)*] [$place:literal $($places:literal)*] [$own:ident] $($rest:tt)*) => {
+    (
+        $area:ident $variant:ident $source:ident $make:ident $name:ident [$($arms:tt)*]
+        [$place:literal $($places:literal)*] [$own:ident] $($rest:tt)*
+    ) => {
         $crate::held_arms!($area $variant $source $make $name [
             $($arms)* $place => $name::$own($crate::read::<$area, _, _, _, _>($source, $make)?),
         ] [$($places)*] $($rest)*)
     };
-    ($area:ident $variant:ident $source:ident $make:ident $name:ident [$($arms:tt)*] [$place:literal $($places:literal)*] [$own:ident $other:ident] $($rest:tt)*) => {
+    (
+        $area:ident $variant:ident $source:ident $make:ident $name:ident [$($arms:tt)*]
+        [$place:literal $($places:literal)*] [$own:ident $other:ident] $($rest:tt)*
+    ) => {
         $crate::held_arms!($area $variant $source $make $name [
             $($arms)* $place => $name::$own($crate::read::<$other, _, _, _, _>($source, $make)?),
         ] [$($places)*] $($rest)*)
     };
-    ($area:ident $variant:ident $source:ident $make:ident $name:ident [$($arms:tt)*] [$($places:literal)*]) => {
+    (
+        $area:ident $variant:ident $source:ident $make:ident $name:ident [$($arms:tt)*]
+        [$($places:literal)*]
+    ) => {
         Ok(match $variant.0 {
             $($arms)*
             _ => return Err($source.fail($crate::Fault::UnknownVariant)),

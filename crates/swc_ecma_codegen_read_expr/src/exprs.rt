@@ -71,7 +71,14 @@ impl<N: Drop> ReadFrom<ExprReaders, N> for Expr<N> {
         source: &mut S,
         make: &M,
     ) -> Result<Expr<N>, Failed> {
-        held!(ExprReaders, variant, source, make => Expr { This, Array, Object, Fn, Unary, Update, Bin, Assign, Member, SuperProp, Cond, Call, New, Seq, Ident, Lit, Tpl, TaggedTpl, Arrow, Class, Yield, MetaProp, Await, Paren, JSXMember in JsxReaders, JSXNamespacedName in JsxReaders, JSXEmpty in JsxReaders, JSXElement, JSXFragment, TsTypeAssertion in TsReaders, TsConstAssertion in TsReaders, TsNonNull in TsReaders, TsAs in TsReaders, TsInstantiation in TsReaders, TsSatisfies in TsReaders, PrivateName, OptChain, Invalid })
+        held!(ExprReaders, variant, source, make => Expr {
+            This, Array, Object, Fn, Unary, Update, Bin, Assign, Member, SuperProp, Cond, Call, New,
+            Seq, Ident, Lit, Tpl, TaggedTpl, Arrow, Class, Yield, MetaProp, Await, Paren,
+            JSXMember in JsxReaders, JSXNamespacedName in JsxReaders, JSXEmpty in JsxReaders,
+            JSXElement, JSXFragment, TsTypeAssertion in TsReaders, TsConstAssertion in TsReaders,
+            TsNonNull in TsReaders, TsAs in TsReaders, TsInstantiation in TsReaders,
+            TsSatisfies in TsReaders, PrivateName, OptChain, Invalid,
+        })
     }
 }
 
@@ -168,7 +175,9 @@ impl<N: Drop> ReadFrom<ExprReaders, N> for Prop<N> {
         source: &mut S,
         make: &M,
     ) -> Result<Prop<N>, Failed> {
-        held!(ExprReaders, variant, source, make => Prop { Shorthand, KeyValue, Assign, Getter, Setter, Method })
+        held!(ExprReaders, variant, source, make => Prop {
+            Shorthand, KeyValue, Assign, Getter, Setter, Method,
+        })
     }
 }
 
@@ -642,7 +651,9 @@ impl<N: Drop> ReadFrom<ExprReaders, N> for ArrowExpr<N> {
         _source: &mut S,
         _make: &M,
     ) -> Result<ArrowExpr<N>, Failed> {
-        made!(values => ArrowExpr { span, params, body, is_async, is_generator, type_params, return_type })
+        made!(values => ArrowExpr {
+            span, params, body, is_async, is_generator, type_params, return_type,
+        })
     }
 }
 

@@ -46,6 +46,10 @@ impl<N: Drop> ReadFrom<ExprReaders, N> for SimpleAssignTarget<N> {
         source: &mut S,
         make: &M,
     ) -> Result<SimpleAssignTarget<N>, Failed> {
-        held!(ExprReaders, variant, source, make => SimpleAssignTarget { Ident, Member, SuperProp, Paren, OptChain, TsAs in TsReaders, TsSatisfies in TsReaders, TsNonNull in TsReaders, TsTypeAssertion in TsReaders, TsInstantiation in TsReaders, Invalid })
+        held!(ExprReaders, variant, source, make => SimpleAssignTarget {
+            Ident, Member, SuperProp, Paren, OptChain, TsAs in TsReaders, TsSatisfies in TsReaders,
+            TsNonNull in TsReaders, TsTypeAssertion in TsReaders, TsInstantiation in TsReaders,
+            Invalid,
+        })
     }
 }

@@ -139,7 +139,9 @@ impl<N: Drop> ReadFrom<JsxReaders, N> for JSXElementName<N> {
         source: &mut S,
         make: &M,
     ) -> Result<JSXElementName<N>, Failed> {
-        held!(JsxReaders, variant, source, make => JSXElementName { Ident, JSXMemberExpr, JSXNamespacedName })
+        held!(JsxReaders, variant, source, make => JSXElementName {
+            Ident, JSXMemberExpr, JSXNamespacedName,
+        })
     }
 }
 
@@ -251,7 +253,9 @@ impl<N: Drop> ReadFrom<JsxReaders, N> for JSXAttrValue<N> {
         source: &mut S,
         make: &M,
     ) -> Result<JSXAttrValue<N>, Failed> {
-        held!(JsxReaders, variant, source, make => JSXAttrValue { Lit, JSXExprContainer, JSXElement, JSXFragment })
+        held!(JsxReaders, variant, source, make => JSXAttrValue {
+            Lit, JSXExprContainer, JSXElement, JSXFragment,
+        })
     }
 }
 
@@ -273,7 +277,9 @@ impl<N: Drop> ReadFrom<JsxReaders, N> for JSXElementChild<N> {
         source: &mut S,
         make: &M,
     ) -> Result<JSXElementChild<N>, Failed> {
-        held!(JsxReaders, variant, source, make => JSXElementChild { JSXText, JSXExprContainer, JSXSpreadChild, JSXElement, JSXFragment })
+        held!(JsxReaders, variant, source, make => JSXElementChild {
+            JSXText, JSXExprContainer, JSXSpreadChild, JSXElement, JSXFragment,
+        })
     }
 }
 

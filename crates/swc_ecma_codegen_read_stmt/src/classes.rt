@@ -56,7 +56,10 @@ impl<N: Drop> ReadFrom<StmtReaders, N> for Class<N> {
         _source: &mut S,
         _make: &M,
     ) -> Result<Class<N>, Failed> {
-        made!(values => Class { span, decorators, body, super_class, is_abstract, type_params, super_type_params, implements })
+        made!(values => Class {
+            span, decorators, body, super_class, is_abstract, type_params, super_type_params,
+            implements,
+        })
     }
 }
 
@@ -82,7 +85,10 @@ impl<N: Drop> ReadFrom<StmtReaders, N> for ClassMember<N> {
         source: &mut S,
         make: &M,
     ) -> Result<ClassMember<N>, Failed> {
-        held!(StmtReaders, variant, source, make => ClassMember { Constructor, Method, PrivateMethod, ClassProp, PrivateProp, TsIndexSignature in TsReaders, Empty, StaticBlock, AutoAccessor })
+        held!(StmtReaders, variant, source, make => ClassMember {
+            Constructor, Method, PrivateMethod, ClassProp, PrivateProp,
+            TsIndexSignature in TsReaders, Empty, StaticBlock, AutoAccessor,
+        })
     }
 }
 
@@ -120,7 +126,10 @@ impl<N: Drop> ReadFrom<StmtReaders, N> for PrivateMethod<N> {
         _source: &mut S,
         _make: &M,
     ) -> Result<PrivateMethod<N>, Failed> {
-        made!(values => PrivateMethod { span, key, function, kind, is_static, accessibility, is_abstract, is_optional, is_override })
+        made!(values => PrivateMethod {
+            span, key, function, kind, is_static, accessibility, is_abstract, is_optional,
+            is_override,
+        })
     }
 }
 
@@ -190,7 +199,9 @@ impl<N: Drop> ReadFrom<StmtReaders, N> for TsParamProp<N> {
         _source: &mut S,
         _make: &M,
     ) -> Result<TsParamProp<N>, Failed> {
-        made!(values => TsParamProp { span, decorators, accessibility, is_override, readonly, param })
+        made!(values => TsParamProp {
+            span, decorators, accessibility, is_override, readonly, param,
+        })
     }
 }
 
@@ -244,7 +255,10 @@ impl<N: Drop> ReadFrom<StmtReaders, N> for ClassMethod<N> {
         _source: &mut S,
         _make: &M,
     ) -> Result<ClassMethod<N>, Failed> {
-        made!(values => ClassMethod { span, key, function, kind, is_static, accessibility, is_abstract, is_optional, is_override })
+        made!(values => ClassMethod {
+            span, key, function, kind, is_static, accessibility, is_abstract, is_optional,
+            is_override,
+        })
     }
 }
 
@@ -327,7 +341,10 @@ impl<N: Drop> ReadFrom<StmtReaders, N> for ClassProp<N> {
         _source: &mut S,
         _make: &M,
     ) -> Result<ClassProp<N>, Failed> {
-        made!(values => ClassProp { span, key, value, type_ann, is_static, decorators, accessibility, is_abstract, is_optional, is_override, readonly, declare, definite })
+        made!(values => ClassProp {
+            span, key, value, type_ann, is_static, decorators, accessibility, is_abstract,
+            is_optional, is_override, readonly, declare, definite,
+        })
     }
 }
 
@@ -373,7 +390,10 @@ impl<N: Drop> ReadFrom<StmtReaders, N> for PrivateProp<N> {
         _source: &mut S,
         _make: &M,
     ) -> Result<PrivateProp<N>, Failed> {
-        made!(values => PrivateProp { span, key, value, type_ann, is_static, decorators, accessibility, is_optional, is_override, readonly, definite })
+        made!(values => PrivateProp {
+            span, key, value, type_ann, is_static, decorators, accessibility, is_optional,
+            is_override, readonly, definite,
+        })
     }
 }
 
@@ -418,7 +438,10 @@ impl<N: Drop> ReadFrom<StmtReaders, N> for AutoAccessor<N> {
         _source: &mut S,
         _make: &M,
     ) -> Result<AutoAccessor<N>, Failed> {
-        made!(values => AutoAccessor { span, key, value, type_ann, is_static, decorators, accessibility, is_abstract, is_override, definite })
+        made!(values => AutoAccessor {
+            span, key, value, type_ann, is_static, decorators, accessibility, is_abstract,
+            is_override, definite,
+        })
     }
 }
 

@@ -34,7 +34,10 @@ impl<N: Drop> ReadFrom<StmtReaders, N> for Decl<N> {
         source: &mut S,
         make: &M,
     ) -> Result<Decl<N>, Failed> {
-        held!(StmtReaders, variant, source, make => Decl { Class, Fn, Var, Using, TsInterface in TsReaders, TsTypeAlias in TsReaders, TsEnum in TsReaders, TsModule in TsReaders })
+        held!(StmtReaders, variant, source, make => Decl {
+            Class, Fn, Var, Using, TsInterface in TsReaders, TsTypeAlias in TsReaders,
+            TsEnum in TsReaders, TsModule in TsReaders,
+        })
     }
 }
 
@@ -179,7 +182,9 @@ impl<N: Drop> ReadFrom<StmtReaders, N> for Function<N> {
         _source: &mut S,
         _make: &M,
     ) -> Result<Function<N>, Failed> {
-        made!(values => Function { span, params, decorators, body, is_generator, is_async, type_params, return_type })
+        made!(values => Function {
+            span, params, decorators, body, is_generator, is_async, type_params, return_type,
+        })
     }
 }
 

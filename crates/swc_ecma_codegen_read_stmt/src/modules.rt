@@ -247,7 +247,9 @@ impl<N: Drop> ReadFrom<StmtReaders, N> for DefaultDecl<N> {
         source: &mut S,
         make: &M,
     ) -> Result<DefaultDecl<N>, Failed> {
-        held!(StmtReaders, variant, source, make => DefaultDecl { Class, Fn, TsInterfaceDecl in TsReaders })
+        held!(StmtReaders, variant, source, make => DefaultDecl {
+            Class, Fn, TsInterfaceDecl in TsReaders,
+        })
     }
 }
 

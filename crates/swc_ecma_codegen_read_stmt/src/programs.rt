@@ -95,6 +95,10 @@ impl<N: Drop> ReadFrom<StmtReaders, N> for ModuleDecl<N> {
         source: &mut S,
         make: &M,
     ) -> Result<ModuleDecl<N>, Failed> {
-        held!(StmtReaders, variant, source, make => ModuleDecl { Import, ExportDecl, ExportNamed, ExportDefaultDecl, ExportDefaultExpr, ExportAll, TsImportEquals in TsReaders, TsExportAssignment in TsReaders, TsNamespaceExport in TsReaders })
+        held!(StmtReaders, variant, source, make => ModuleDecl {
+            Import, ExportDecl, ExportNamed, ExportDefaultDecl, ExportDefaultExpr, ExportAll,
+            TsImportEquals in TsReaders, TsExportAssignment in TsReaders,
+            TsNamespaceExport in TsReaders,
+        })
     }
 }

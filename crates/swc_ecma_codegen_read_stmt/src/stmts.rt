@@ -28,7 +28,10 @@ impl<N: Drop> ReadFrom<StmtReaders, N> for Stmt<N> {
         source: &mut S,
         make: &M,
     ) -> Result<Stmt<N>, Failed> {
-        held!(StmtReaders, variant, source, make => Stmt { Block, Empty, Debugger, With, Return, Labeled, Break, Continue, If, Switch, Throw, Try, While, DoWhile, For, ForIn, ForOf, Decl, Expr })
+        held!(StmtReaders, variant, source, make => Stmt {
+            Block, Empty, Debugger, With, Return, Labeled, Break, Continue, If, Switch, Throw, Try,
+            While, DoWhile, For, ForIn, ForOf, Decl, Expr,
+        })
     }
 }
 

@@ -163,7 +163,9 @@ impl<N: Drop> ReadFrom<TsReaders, N> for TsNamespaceBody<N> {
         source: &mut S,
         make: &M,
     ) -> Result<TsNamespaceBody<N>, Failed> {
-        held!(TsReaders, variant, source, make => TsNamespaceBody { TsModuleBlock, TsNamespaceDecl })
+        held!(TsReaders, variant, source, make => TsNamespaceBody {
+            TsModuleBlock, TsNamespaceDecl,
+        })
     }
 }
 

@@ -32,7 +32,10 @@ impl<N: Drop> ReadFrom<TsReaders, N> for TsTypeElement<N> {
         source: &mut S,
         make: &M,
     ) -> Result<TsTypeElement<N>, Failed> {
-        held!(TsReaders, variant, source, make => TsTypeElement { TsCallSignatureDecl, TsConstructSignatureDecl, TsPropertySignature, TsGetterSignature, TsSetterSignature, TsMethodSignature, TsIndexSignature })
+        held!(TsReaders, variant, source, make => TsTypeElement {
+            TsCallSignatureDecl, TsConstructSignatureDecl, TsPropertySignature, TsGetterSignature,
+            TsSetterSignature, TsMethodSignature, TsIndexSignature,
+        })
     }
 }
 
@@ -161,7 +164,9 @@ impl<N: Drop> ReadFrom<TsReaders, N> for TsMethodSignature<N> {
         _source: &mut S,
         _make: &M,
     ) -> Result<TsMethodSignature<N>, Failed> {
-        made!(values => TsMethodSignature { span, key, computed, optional, params, type_ann, type_params })
+        made!(values => TsMethodSignature {
+            span, key, computed, optional, params, type_ann, type_params,
+        })
     }
 }
 

@@ -68,7 +68,12 @@ impl<N: Drop> ReadFrom<TsReaders, N> for TsType<N> {
         source: &mut S,
         make: &M,
     ) -> Result<TsType<N>, Failed> {
-        held!(TsReaders, variant, source, make => TsType { TsKeywordType, TsThisType, TsFnOrConstructorType, TsTypeRef, TsTypeQuery, TsTypeLit, TsArrayType, TsTupleType, TsOptionalType, TsRestType, TsUnionOrIntersectionType, TsConditionalType, TsInferType, TsParenthesizedType, TsTypeOperator, TsIndexedAccessType, TsMappedType, TsLitType, TsTypePredicate, TsImportType })
+        held!(TsReaders, variant, source, make => TsType {
+            TsKeywordType, TsThisType, TsFnOrConstructorType, TsTypeRef, TsTypeQuery, TsTypeLit,
+            TsArrayType, TsTupleType, TsOptionalType, TsRestType, TsUnionOrIntersectionType,
+            TsConditionalType, TsInferType, TsParenthesizedType, TsTypeOperator,
+            TsIndexedAccessType, TsMappedType, TsLitType, TsTypePredicate, TsImportType,
+        })
     }
 }
 
@@ -116,7 +121,9 @@ impl<N: Drop> ReadFrom<TsReaders, N> for TsFnOrConstructorType<N> {
         source: &mut S,
         make: &M,
     ) -> Result<TsFnOrConstructorType<N>, Failed> {
-        held!(TsReaders, variant, source, make => TsFnOrConstructorType { TsFnType, TsConstructorType })
+        held!(TsReaders, variant, source, make => TsFnOrConstructorType {
+            TsFnType, TsConstructorType,
+        })
     }
 }
 
@@ -278,7 +285,9 @@ impl<N: Drop> ReadFrom<TsReaders, N> for TsUnionOrIntersectionType<N> {
         source: &mut S,
         make: &M,
     ) -> Result<TsUnionOrIntersectionType<N>, Failed> {
-        held!(TsReaders, variant, source, make => TsUnionOrIntersectionType { TsUnionType, TsIntersectionType })
+        held!(TsReaders, variant, source, make => TsUnionOrIntersectionType {
+            TsUnionType, TsIntersectionType,
+        })
     }
 }
 
@@ -514,7 +523,11 @@ impl<N: Drop> ReadFrom<TsReaders, N> for TsKeywordTypeKind {
         source: &mut S,
         _make: &M,
     ) -> Result<TsKeywordTypeKind, Failed> {
-        spelled!(word, source => TsKeywordTypeKind { TsAnyKeyword, TsUnknownKeyword, TsNumberKeyword, TsObjectKeyword, TsBooleanKeyword, TsBigIntKeyword, TsStringKeyword, TsSymbolKeyword, TsVoidKeyword, TsUndefinedKeyword, TsNullKeyword, TsNeverKeyword, TsIntrinsicKeyword })
+        spelled!(word, source => TsKeywordTypeKind {
+            TsAnyKeyword, TsUnknownKeyword, TsNumberKeyword, TsObjectKeyword, TsBooleanKeyword,
+            TsBigIntKeyword, TsStringKeyword, TsSymbolKeyword, TsVoidKeyword, TsUndefinedKeyword,
+            TsNullKeyword, TsNeverKeyword, TsIntrinsicKeyword,
+        })
     }
 }
 
