@@ -118,8 +118,9 @@ expr_begins reads starts law (exprs.Paren n) = begins_then _ _ _ (begins_mark _ 
 expr_begins reads starts law n = begins_never _
 
 stmt_begins : {X : Type 0} (reads : X → Role → Phrase) (starts : X → Bool) → Begin reads starts → (n : Stmt X) → Begins (stmt_lists.stmt reads n) (stmt_starts starts n)
-unfolding stmt_starts stmt_lists.stmt stmt_lists.empty_stmt stmt_lists.expr_stmt
+unfolding stmt_starts stmt_lists.stmt stmt_lists.empty_stmt stmt_lists.debugger_stmt stmt_lists.expr_stmt
 stmt_begins reads starts law (stmts.Empty n) = begins_mark _ false
+stmt_begins reads starts law (stmts.Debugger n) = begins_then _ _ _ (begins_true _)
 stmt_begins reads starts law (stmts.Expr n) = begins_then _ _ _ (law n.expr.node.value Expression)
 stmt_begins reads starts law n = begins_never _
 

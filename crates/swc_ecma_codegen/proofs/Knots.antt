@@ -22,7 +22,7 @@ use Rattle.swc_ecma_codegen.specs.declared.nodes.Place.TheVariants.{Plain, LeftO
 use Rattle.swc_ecma_codegen.specs.Answers.{Answers, any_answers}
 use Rattle.swc_ecma_codegen.specs.Lists.{comma, listed, unsupported}
 use Rattle.swc_ecma_codegen.specs.Exprs.{this, unary, update, update_parts, bin, bin_trailing, member, member_prop, computed_prop_name, choice, seq, held, paren, ident, opened, expr_parts, expr_closed, is_inner, expr}
-use Rattle.swc_ecma_codegen.specs.Stmts.{empty_stmt, expr_stmt, stmt_parts, stmt}
+use Rattle.swc_ecma_codegen.specs.Stmts.{empty_stmt, debugger_stmt, expr_stmt, stmt_parts, stmt}
 use Rattle.swc_ecma_codegen.specs.Tree.{node_items, any_items}
 
 -- ---- a word sees what links hold through `asks` and `items` alone
@@ -46,7 +46,7 @@ expr_mapped {X} g asks items (exprs.Seq n) place rest = ap (opened n.span) (list
 expr_mapped g asks items n place rest = refl
 
 stmt_mapped : {X Y : Type 0} (g : X → Y) (asks : Y → Answers) (items : Y → Place → Part) (n : Stmt X) (place : Place) (rest : Plan) → node_items asks items (map-AnyNode X Y g (nodes.Stmt n)) place rest ≡ stmt (λ x. asks (g x)) (λ x. items (g x)) n rest
-unfolding node_items stmt stmt_parts stmt_span empty_stmt expr_stmt unsupported refuse
+unfolding node_items stmt stmt_parts stmt_span empty_stmt debugger_stmt expr_stmt unsupported refuse
 stmt_mapped g asks items (stmts.Empty n) place rest = refl
 stmt_mapped g asks items n place rest = refl
 

@@ -1,9 +1,10 @@
 -- What is written of each statement and program is what it reads as.
-use Rattle.std.proofs.Common.{Bool, true, false, cond, is_some, List, [], ◌∷◌, map, codes, refl, inl, inr}
+use Rattle.std.proofs.Common.{Bool, true, false, Some, cond, is_some, List, [], ◌∷◌, map, codes, refl, inl, inr}
 use Rattle.std.specs.Str.{chars, is_utf8}
 use Rattle.std.proofs.lemmas.Bool.{cases_Bool}
 use Rattle.swc_ecma_codegen_common.specs.declared.positions.Span.{Span}
 use Rattle.swc_ecma_codegen_tree.specs.declared.stmts.EmptyStmt.{EmptyStmt}
+use Rattle.swc_ecma_codegen_tree.specs.declared.stmts.DebuggerStmt.{DebuggerStmt}
 use Rattle.swc_ecma_codegen_tree.specs.declared.stmts.ExprStmt.{ExprStmt}
 use Rattle.swc_ecma_codegen_tree.specs.declared.stmts.Stmt.{Stmt}
 use Rattle.swc_ecma_codegen_tree.specs.declared.stmts.Stmt.TheVariants as stmts
@@ -11,15 +12,17 @@ use Rattle.swc_ecma_codegen_tree.specs.declared.programs.Program.{Program}
 use Rattle.swc_ecma_codegen_tree.specs.declared.programs.Program.TheVariants as program_variants
 use Rattle.swc_ecma_codegen_tree.specs.declared.programs.Script.{Script}
 use Rattle.swc_ecma_codegen_spans.specs.Spans.{stmt_span}
+use Rattle.swc_ecma_codegen_ast.specs.Chars.{is_start, is_part, is_letter, is_digit}
+use Rattle.swc_ecma_codegen_ast.specs.Names.{is_word, all_part}
 use Rattle.swc_ecma_codegen_ast.specs.Punctuators.{is_punctuator, punctuators}
 use Rattle.swc_ecma_codegen_ast.specs.Texts.{is_same, is_among}
 use Rattle.swc_ecma_codegen_ast.specs.Phrases.{Never, in_order}
 use Rattle.swc_ecma_codegen_ast.specs.StmtPhrases as lists
 use Rattle.swc_ecma_codegen_base.specs.Run.{Env}
 use Rattle.swc_ecma_codegen_base.specs.Words.{formatting_line, commit_pending_semi, trailing_comments}
-use Rattle.swc_ecma_codegen_base.specs.Written.{IsMark}
+use Rattle.swc_ecma_codegen_base.specs.Written.{IsMark, IsWord}
 use Rattle.swc_ecma_codegen_base.proofs.Printed.{Writes, writes_then, writes_same, writes_nothing, writes_formatting_line, writes_commit, writes_position, writes_leading, writes_trailing}
-use Rattle.swc_ecma_codegen_base.proofs.Phrased.{Prints, then, after, before, prints_never, prints_punct, prints_semi}
+use Rattle.swc_ecma_codegen_base.proofs.Phrased.{Prints, then, after, before, prints_never, prints_keyword, prints_punct, prints_semi}
 use Rattle.swc_ecma_codegen.specs.declared.nodes.Place.TheVariants.{Plain}
 use Rattle.swc_ecma_codegen.specs.Answers.{place_of}
 use Rattle.swc_ecma_codegen.specs.Lists.{unsupported}
@@ -33,11 +36,19 @@ semi_is_mark : IsMark (codes ";")
 unfolding is_punctuator is_among is_same punctuators chars is_utf8 lib.Utf8.encode
 semi_is_mark = record { utf8 = refl; ascii = refl; shape = refl }
 
+debugger_is_word : IsWord (codes "debugger")
+unfolding is_word is_start is_part is_letter is_digit all_part chars is_utf8 lib.Utf8.encode
+debugger_is_word = record { utf8 = refl; ascii = refl; shape = refl }
+
 -- ---- statements
 
 empty_prints : (env : Env) (n : EmptyStmt) → Prints env (words.empty_stmt n) (lists.empty_stmt n)
 unfolding words.empty_stmt lists.empty_stmt
 empty_prints env n = after (writes_leading env n.span.lo) (prints_punct env (codes ";") semi_is_mark)
+
+debugger_prints : (env : Env) (n : DebuggerStmt) → Prints env (words.debugger_stmt n) (lists.debugger_stmt n)
+unfolding words.debugger_stmt lists.debugger_stmt
+debugger_prints env n = after (writes_leading env n.span.lo) (then (prints_keyword env (Some n.span) (codes "debugger") debugger_is_word) (prints_semi env))
 
 expr_stmt_prints : {X : Type 0} (l : Linked X) (n : ExprStmt X) → Prints l.env (words.expr_stmt l.items n) (lists.expr_stmt l.reads n)
 unfolding words.expr_stmt lists.expr_stmt
@@ -46,6 +57,7 @@ expr_stmt_prints l n = after (writes_leading l.env n.span.lo) (then (expr_at l n
 parts_print : {X : Type 0} (l : Linked X) (n : Stmt X) → Prints l.env (words.stmt_parts l.items n) (lists.stmt l.reads n)
 unfolding words.stmt_parts lists.stmt
 parts_print l (stmts.Empty n) = empty_prints l.env n
+parts_print l (stmts.Debugger n) = debugger_prints l.env n
 parts_print l (stmts.Expr n) = expr_stmt_prints l n
 parts_print l n = prints_never
 

@@ -2,7 +2,7 @@
 
 ghost use Rattle.std.specs.Prelude.{◌≡◌, OnOk};
 ghost use Rattle.swc_ecma_codegen_base.specs.Run.{Emits};
-ghost use Rattle.swc_ecma_codegen.specs.Stmts.{empty_stmt, expr_stmt, stmt_parts, stmt};
+ghost use Rattle.swc_ecma_codegen.specs.Stmts.{empty_stmt, debugger_stmt, expr_stmt, stmt_parts, stmt};
 ghost use Rattle.swc_ecma_codegen.specs.Programs.{start_if_empty, script, program};
 ghost use Rattle.swc_ecma_codegen.specs.View.{state_of};
 
@@ -14,7 +14,7 @@ use swc_ecma_codegen_ast::mapper::SourceMapper;
 use swc_ecma_codegen_common::{Answer, Span};
 use swc_ecma_codegen_spans::Spanned;
 use swc_ecma_codegen_text_writer::WriteJs;
-use swc_ecma_codegen_tree::{EmptyStmt, ExprStmt, Program, Script, Stmt, StmtBox};
+use swc_ecma_codegen_tree::{DebuggerStmt, EmptyStmt, ExprStmt, Program, Script, Stmt, StmtBox};
 
 impl<N: Held> EmitAt for Stmt<N> {
     ghost items = { λ n _. stmt N.answers N.items n };
@@ -27,6 +27,7 @@ impl<N: Held> EmitAt for Stmt<N> {
     ) -> Answer {
         match self {
             Stmt::Empty(node) => node.emit_at(e, Place::Plain)?,
+            Stmt::Debugger(node) => node.emit_at(e, Place::Plain)?,
             Stmt::Expr(node) => node.emit_at(e, Place::Plain)?,
             _ => e.unsupported()?,
         }
@@ -63,6 +64,22 @@ impl EmitAt for EmptyStmt {
     ) -> Answer {
         e.leading_comments(self.span.lo)?;
         e.punct(";")?;
+        Ok(())
+    }
+}
+
+impl EmitAt for DebuggerStmt {
+    ghost items = { λ n _. debugger_stmt n };
+
+    #[tactic(auto, unfolding(crate::specs::Stmts::debugger_stmt))]
+    fn emit_at<W: WriteJs, S: SourceMapper, C: Comments>(
+        &self,
+        e: &mut Emitter<'_, W, S, C>,
+        place: Place,
+    ) -> Answer {
+        e.leading_comments(self.span.lo)?;
+        e.keyword(Some(self.span), "debugger")?;
+        e.semi()?;
         Ok(())
     }
 }

@@ -18,7 +18,7 @@ use Rattle.swc_ecma_codegen_ast.specs.Phrases.{Phrase, some_listed}
 use Rattle.swc_ecma_codegen_ast.specs.declared.roles.Role.{Role}
 use Rattle.swc_ecma_codegen_ast.specs.declared.roles.Role.TheVariants.{Expression, Statement, MemberExpression}
 use Rattle.swc_ecma_codegen_ast.specs.ExprPhrases.{expr, expr_at, this_expr, unary_expr, update_expr, bin_expr, computed_prop_name, member_prop, member_expr, cond_expr, seq_expr, paren_expr}
-use Rattle.swc_ecma_codegen_ast.specs.StmtPhrases.{stmt, empty_stmt, expr_stmt}
+use Rattle.swc_ecma_codegen_ast.specs.StmtPhrases.{stmt, empty_stmt, debugger_stmt, expr_stmt}
 use Rattle.swc_ecma_codegen_ast.specs.TreePhrases.{node_phrase, phrase}
 
 -- ---- a production sees what links hold through f alone
@@ -33,7 +33,7 @@ expr_mapped {X} g f (exprs.Seq n) = ap (some_listed (codes ",")) (list_mapped {A
 expr_mapped g f n = refl
 
 stmt_mapped : {X Y : Type 0} (g : X → Y) (f : Y → Role → Phrase) (n : Stmt X) → node_phrase f (map-AnyNode X Y g (nodes.Stmt n)) Statement ≡ stmt (λ x. f (g x)) n
-unfolding node_phrase stmt empty_stmt expr_stmt
+unfolding node_phrase stmt empty_stmt debugger_stmt expr_stmt
 stmt_mapped g f (stmts.Empty n) = refl
 stmt_mapped g f n = refl
 

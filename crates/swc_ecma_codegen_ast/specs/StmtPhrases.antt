@@ -4,11 +4,12 @@ use Rattle.swc_ecma_codegen_tree.specs.declared.stmt_links.StmtBox.{StmtBox}
 use Rattle.swc_ecma_codegen_tree.specs.declared.stmts.Stmt.{Stmt}
 use Rattle.swc_ecma_codegen_tree.specs.declared.stmts.Stmt.TheVariants as stmts
 use Rattle.swc_ecma_codegen_tree.specs.declared.stmts.EmptyStmt.{EmptyStmt}
+use Rattle.swc_ecma_codegen_tree.specs.declared.stmts.DebuggerStmt.{DebuggerStmt}
 use Rattle.swc_ecma_codegen_tree.specs.declared.stmts.ExprStmt.{ExprStmt}
 use Rattle.swc_ecma_codegen_tree.specs.declared.programs.Program.{Program}
 use Rattle.swc_ecma_codegen_tree.specs.declared.programs.Program.TheVariants as programs
 use Rattle.swc_ecma_codegen_tree.specs.declared.programs.Script.{Script}
-use Rattle.swc_ecma_codegen_ast.specs.Phrases.{Phrase, Never, ◌>◌, mark, in_order}
+use Rattle.swc_ecma_codegen_ast.specs.Phrases.{Phrase, Never, ◌>◌, mark, word, in_order}
 use Rattle.swc_ecma_codegen_ast.specs.declared.roles.Role.{Role}
 use Rattle.swc_ecma_codegen_ast.specs.declared.roles.Role.TheVariants.{Statement}
 use Rattle.swc_ecma_codegen_ast.specs.ExprPhrases.{expr_at}
@@ -25,8 +26,13 @@ empty_stmt n = mark (codes ";")
 unfoldable pub expr_stmt : {X : Type 0} → (X → Role → Phrase) → ExprStmt X → Phrase
 expr_stmt f n = expr_at f n.expr > mark (codes ";")
 
+-- section 14.16
+unfoldable pub debugger_stmt : DebuggerStmt → Phrase
+debugger_stmt n = word (codes "debugger") > mark (codes ";")
+
 unfoldable pub stmt : {X : Type 0} → (X → Role → Phrase) → Stmt X → Phrase
 stmt f (stmts.Empty n) = empty_stmt n
+stmt f (stmts.Debugger n) = debugger_stmt n
 stmt f (stmts.Expr n) = expr_stmt f n
 -- what isn't printed yet
 stmt f n = Never

@@ -1,15 +1,24 @@
 //! Statements and programs.
 
 ghost use Rattle.std.specs.Prelude.{◌≡◌};
-ghost use Rattle.swc_ecma_codegen_ast.specs.StmtPhrases.{empty_stmt, expr_stmt, stmt, script, program};
+ghost use Rattle.swc_ecma_codegen_ast.specs.StmtPhrases.{empty_stmt, debugger_stmt, expr_stmt, stmt, script, program};
 
 use crate::forms::{Fits, WellFormed, all_well_formed};
-use swc_ecma_codegen_tree::{EmptyStmt, ExprStmt, Program, Script, Stmt};
+use swc_ecma_codegen_tree::{DebuggerStmt, EmptyStmt, ExprStmt, Program, Script, Stmt};
 
 impl WellFormed for EmptyStmt {
     ghost phrase = { empty_stmt };
 
     #[tactic(auto, unfolding(swc_ecma_codegen_ast::specs::StmtPhrases::empty_stmt, swc_ecma_codegen_ast::specs::Phrases::is_possible))]
+    fn is_well_formed(&self) -> bool {
+        true
+    }
+}
+
+impl WellFormed for DebuggerStmt {
+    ghost phrase = { debugger_stmt };
+
+    #[tactic(auto, unfolding(swc_ecma_codegen_ast::specs::StmtPhrases::debugger_stmt, swc_ecma_codegen_ast::specs::Phrases::is_possible))]
     fn is_well_formed(&self) -> bool {
         true
     }
@@ -31,6 +40,7 @@ impl<N: Fits> WellFormed for Stmt<N> {
     fn is_well_formed(&self) -> bool {
         match self {
             Stmt::Empty(node) => node.is_well_formed(),
+            Stmt::Debugger(node) => node.is_well_formed(),
             Stmt::Expr(node) => node.is_well_formed(),
             _ => false,
         }

@@ -32,6 +32,7 @@ use Rattle.swc_ecma_codegen_tree.specs.declared.exprs.ParenExpr.{ParenExpr}
 use Rattle.swc_ecma_codegen_tree.specs.declared.stmts.Stmt.{Stmt}
 use Rattle.swc_ecma_codegen_tree.specs.declared.stmts.Stmt.TheVariants as stmts
 use Rattle.swc_ecma_codegen_tree.specs.declared.stmts.EmptyStmt.{EmptyStmt}
+use Rattle.swc_ecma_codegen_tree.specs.declared.stmts.DebuggerStmt.{DebuggerStmt}
 use Rattle.swc_ecma_codegen_tree.specs.declared.stmts.ExprStmt.{ExprStmt}
 use Rattle.swc_ecma_codegen_tree.specs.declared.programs.Program.{Program}
 use Rattle.swc_ecma_codegen_tree.specs.declared.programs.Program.TheVariants as programs
@@ -150,11 +151,15 @@ expr_form m n = nothing
 abbrev pub empty_stmt_form : EmptyStmt → Form
 empty_stmt_form n = fields (field (codes "span") (span_form n.span) no_fields)
 
+abbrev pub debugger_stmt_form : DebuggerStmt → Form
+debugger_stmt_form n = fields (field (codes "span") (span_form n.span) no_fields)
+
 abbrev pub expr_stmt_form : {X : Type 0} → (X → Sort → Form) → ExprStmt X → Form
 expr_stmt_form m n = fields (field (codes "span") (span_form n.span) (field (codes "expr") (expr_link m n.expr) no_fields))
 
 abbrev pub stmt_form : {X : Type 0} → (X → Sort → Form) → Stmt X → Form
 stmt_form m (stmts.Empty n) = variant (codes "Empty") (empty_stmt_form n)
+stmt_form m (stmts.Debugger n) = variant (codes "Debugger") (debugger_stmt_form n)
 stmt_form m (stmts.Expr n) = variant (codes "Expr") (expr_stmt_form m n)
 -- what isn't read yet
 stmt_form m n = nothing

@@ -3,7 +3,7 @@
 ghost use Rattle.std.specs.Prelude.{IfOk};
 ghost use Rattle.serde_json.specs.View.{view};
 ghost use Rattle.swc_ecma_codegen_json.specs.Forms.{HasForm};
-ghost use Rattle.swc_ecma_codegen_json.specs.NodeForms.{expr_stmt_form, stmt_form, empty_stmt_form};
+ghost use Rattle.swc_ecma_codegen_json.specs.NodeForms.{expr_stmt_form, stmt_form, empty_stmt_form, debugger_stmt_form};
 ghost use Rattle.swc_ecma_codegen_json.specs.Readers.{ReadsBelow, MakesNodes};
 
 use crate::fields::member;
@@ -25,7 +25,7 @@ pub fn read_stmt<N: Formed + Drop, F: Fn(Sort, &Value) -> Read<N>>(
     ensures { IfOk result (λ n. HasForm (stmt_form N.form n) (view json.now)) }
 {
     read_enum!(alloc, json, make => Stmt {
-        Empty: read_empty_stmt, Expr: node read_expr_stmt,
+        Empty: read_empty_stmt, Debugger: read_debugger_stmt, Expr: node read_expr_stmt,
     })
 }
 
@@ -33,6 +33,12 @@ fn read_empty_stmt(alloc: Global, json: &Value) -> Read<EmptyStmt>
     ensures { IfOk result (λ n. HasForm (empty_stmt_form n) (view json.now)) }
 {
     read_leaf!(alloc, json => EmptyStmt { span: span })
+}
+
+fn read_debugger_stmt(alloc: Global, json: &Value) -> Read<DebuggerStmt>
+    ensures { IfOk result (λ n. HasForm (debugger_stmt_form n) (view json.now)) }
+{
+    read_leaf!(alloc, json => DebuggerStmt { span: span })
 }
 
 fn read_expr_stmt<N: Formed + Drop, F: Fn(Sort, &Value) -> Read<N>>(

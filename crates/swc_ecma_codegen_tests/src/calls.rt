@@ -21,8 +21,8 @@ use swc_ecma_codegen_common::{AssignOp, BinaryOp, BytePos, DUMMY_SP, Error, Unar
 use swc_ecma_codegen_spans::{SpanEnds, Spanned};
 use swc_ecma_codegen_text_writer::JsWriter;
 use swc_ecma_codegen_tree::{
-    AnyNode, DebuggerStmt, EmptyStmt, Expr, ExprBox, Ident, MemberExpr, MemberProp, Module,
-    Program, Script, Stmt, StmtBox,
+    AnyNode, EmptyStmt, Expr, ExprBox, Ident, MemberExpr, MemberProp, Module,
+    Program, ReturnStmt, Script, Stmt, StmtBox,
 };
 
 /// Whether a node has this text by `to_code`.
@@ -327,11 +327,12 @@ fn modules_and_hashbangs_are_refused(rt: HostRuntime) -> Result<(), Fail> {
 }
 
 /// The text of `a` and then a statement that isn't printed yet, as far as it goes.
-fn text_before_debugger(alloc: Global) -> Result<(bool, Vec<u8>), Error> {
+fn text_before_return(alloc: Global) -> Result<(bool, Vec<u8>), Error> {
     let mut tree = program(alloc, &[A])?;
     if let Program::Script(script) = &mut tree {
-        let debugger = Stmt::Debugger(DebuggerStmt { span: DUMMY_SP });
-        script.body.push(StmtBox::new(alloc, debugger)?)?;
+        let arg = None;
+        let next = Stmt::Return(ReturnStmt { span: DUMMY_SP, arg });
+        script.body.push(StmtBox::new(alloc, next)?)?;
     }
     let wr = JsWriter::new(alloc, &NoSource, "\n", Vec::new(alloc), None);
     let mut emitter = Emitter::new(alloc, settings(true), &NoSource, None::<CommentMaps>, wr);
@@ -341,7 +342,7 @@ fn text_before_debugger(alloc: Global) -> Result<(bool, Vec<u8>), Error> {
 
 #[test]
 fn what_is_not_printed_yet_is_refused_before_its_first_token(rt: HostRuntime) -> Result<(), Fail> {
-    let (refused, text) = text_before_debugger(rt.alloc())?;
+    let (refused, text) = text_before_return(rt.alloc())?;
     assert!(rt; refused);
     assert_eq!(rt; text.as_slice(), b"a;".as_slice());
     Ok(())
