@@ -7,12 +7,14 @@ ghost use Rattle.swc_ecma_codegen_util.specs.Starts.{is_word_op as is_word_unary
 ghost use Rattle.swc_ecma_codegen.specs.View.{state_of};
 
 use crate::emitter::Emitter;
+use crate::marks::{binary_mark, unary_mark, update_mark};
 use crate::nodes::{AskEnds, AskKind, AskSpace, AskStarts, Asked, EmitAt, Held, Place};
 use crate::operands::{is_word_op, operand_space, space_after};
 use crate::places::expr_place;
 use swc_ecma_codegen_ast::comments::Comments;
 use swc_ecma_codegen_ast::mapper::SourceMapper;
 use swc_ecma_codegen_common::{Answer, BinaryOp, Span, UnaryOp};
+use swc_ecma_codegen_literals::Punctuator;
 use swc_ecma_codegen_text_writer::WriteJs;
 use swc_ecma_codegen_tree::{
     BinExpr, ComputedPropName, CondExpr, Expr, Ident, IdentName, MemberExpr, MemberProp, ParenExpr,
@@ -114,9 +116,9 @@ impl<N: Held> EmitAt for ComputedPropName<N> {
         place: Place,
     ) -> Answer {
         e.start_of(self.span)?;
-        e.punct("[")?;
+        e.punct(Punctuator::LeftBracket)?;
         self.expr.held().emit_at(e, Place::Plain)?;
-        e.punct("]")?;
+        e.punct(Punctuator::RightBracket)?;
         e.end_of(self.span)?;
         Ok(())
     }
@@ -133,9 +135,9 @@ impl<N: Held> EmitAt for CondExpr<N> {
     ) -> Answer {
         e.opened(self.span)?;
         self.test.held().emit_at(e, Place::Plain)?;
-        e.spaced_punct("?")?;
+        e.spaced_punct(Punctuator::Question)?;
         self.cons.held().emit_at(e, Place::Plain)?;
-        e.spaced_punct(":")?;
+        e.spaced_punct(Punctuator::Colon)?;
         self.alt.held().emit_at(e, Place::Plain)
     }
 }
@@ -183,11 +185,11 @@ impl<N: Held> EmitAt for UpdateExpr<N> {
     ) -> Answer {
         e.opened(self.span)?;
         if self.prefix {
-            e.operator(self.op.as_str())?;
+            e.operator(update_mark(self.op))?;
             self.arg.held().emit_at(e, Place::Plain)?;
         } else {
             self.arg.held().emit_at(e, Place::Plain)?;
-            e.operator(self.op.as_str())?;
+            e.operator(update_mark(self.op))?;
         }
         Ok(())
     }
@@ -204,10 +206,10 @@ impl<N: Held> EmitAt for ParenExpr<N> {
     ) -> Answer {
         e.commit_pending_semi()?;
         e.opened(self.span)?;
-        e.punct("(")?;
+        e.punct(Punctuator::LeftParenthesis)?;
         self.expr.held().emit_at(e, Place::Plain)?;
         e.last_of(self.span)?;
-        e.punct(")")?;
+        e.punct(Punctuator::RightParenthesis)?;
         Ok(())
     }
 }
@@ -262,7 +264,7 @@ impl<W: WriteJs, S: SourceMapper, C: Comments> Emitter<'_, W, S, C> {
         match prop {
             MemberProp::Ident(name) => {
                 self.comments_before(name.span.lo)?;
-                self.punct(".")?;
+                self.punct(Punctuator::Dot)?;
                 name.emit_at(self, Place::Plain)
             }
             MemberProp::Computed(name) => name.emit_at(self, Place::Plain),
@@ -283,15 +285,14 @@ impl<W: WriteJs, S: SourceMapper, C: Comments> Emitter<'_, W, S, C> {
     }
 
     /// Writes a binary operator.
-    #[tactic(auto, unfolding(crate::specs::Exprs::binary_op))]
+    #[tactic(auto, using(crate::proofs::OperatorLaws::marked_binary, crate::proofs::OperatorLaws::worded_binary))]
     fn binary_op(&mut self, op: BinaryOp) -> Answer
         ensures items { Emits (binary_op op) (state_of W.sheet self.old) (state_of W.sheet self.new) result }
         ensures level { OnOk result ((W.sheet self.new.wr).indentation ≡ (W.sheet self.old.wr).indentation) }
     {
-        if is_word_op(op) {
-            self.word_operator(op.as_str())
-        } else {
-            self.operator(op.as_str())
+        match binary_mark(op) {
+            Some(mark) => self.operator(mark),
+            None => self.word_operator(op.as_str()),
         }
     }
 
@@ -309,15 +310,14 @@ impl<W: WriteJs, S: SourceMapper, C: Comments> Emitter<'_, W, S, C> {
     }
 
     /// Writes a unary operator.
-    #[tactic(auto, unfolding(crate::specs::Exprs::unary_op))]
+    #[tactic(auto, using(crate::proofs::OperatorLaws::marked_unary, crate::proofs::OperatorLaws::worded_unary))]
     fn unary_op(&mut self, op: UnaryOp) -> Answer
         ensures items { Emits (unary_op op) (state_of W.sheet self.old) (state_of W.sheet self.new) result }
         ensures level { OnOk result ((W.sheet self.new.wr).indentation ≡ (W.sheet self.old.wr).indentation) }
     {
-        if is_word_unary(op) {
-            self.keyword(None, op.as_str())
-        } else {
-            self.punct(op.as_str())
+        match unary_mark(op) {
+            Some(mark) => self.punct(mark),
+            None => self.keyword(None, op.as_str()),
         }
     }
 

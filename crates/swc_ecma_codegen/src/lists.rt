@@ -12,6 +12,7 @@ use crate::nodes::{EmitAt, Place};
 use swc_ecma_codegen_ast::comments::Comments;
 use swc_ecma_codegen_ast::mapper::SourceMapper;
 use swc_ecma_codegen_common::Answer;
+use swc_ecma_codegen_literals::Punctuator;
 use swc_ecma_codegen_text_writer::WriteJs;
 use swc_ecma_codegen_tree::{ExprBox, StmtBox};
 
@@ -23,7 +24,7 @@ impl<W: WriteJs, S: SourceMapper, C: Comments> Emitter<'_, W, S, C> {
         ensures level { OnOk result ((W.sheet self.new.wr).indentation ≡ (W.sheet self.old.wr).indentation) }
     {
         if !first {
-            self.punct(",")?;
+            self.punct(Punctuator::Comma)?;
             self.formatting_space()?;
         }
         Ok(())

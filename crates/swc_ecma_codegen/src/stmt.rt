@@ -12,6 +12,7 @@ use crate::places::stmt_place;
 use swc_ecma_codegen_ast::comments::Comments;
 use swc_ecma_codegen_ast::mapper::SourceMapper;
 use swc_ecma_codegen_common::{Answer, Span};
+use swc_ecma_codegen_literals::Punctuator;
 use swc_ecma_codegen_spans::Spanned;
 use swc_ecma_codegen_text_writer::WriteJs;
 use swc_ecma_codegen_tree::{DebuggerStmt, EmptyStmt, ExprStmt, Program, Script, Stmt, StmtBox};
@@ -63,7 +64,7 @@ impl EmitAt for EmptyStmt {
         place: Place,
     ) -> Answer {
         e.leading_comments(self.span.lo)?;
-        e.punct(";")?;
+        e.punct(Punctuator::Semicolon)?;
         Ok(())
     }
 }

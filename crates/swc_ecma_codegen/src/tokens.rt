@@ -1,6 +1,8 @@
 //! Calls of the lower emitter.
 
-ghost use Rattle.std.specs.Prelude.{◌≡◌, Option, OnOk};
+ghost use Rattle.std.specs.Prelude.{◌≡◌, Option, OnOk, true};
+ghost use Rattle.swc_ecma_codegen_literals.specs.Punctuators.{spelling};
+ghost use Rattle.swc_ecma_codegen_base.specs.Starts.{begins_letter};
 ghost use Rattle.swc_ecma_codegen_base.specs.Run.{Emits};
 ghost use Rattle.swc_ecma_codegen_base.specs.Words.{keyword, operator, word_operator, punct, semi, space, formatting_space, formatting_line, commit_pending_semi, position, position_before, start_of, end_of, last_of, leading_comments, trailing_comments, name};
 ghost use Rattle.swc_ecma_codegen.specs.Exprs.{blank, space_if, spaced_punct, opened, comments_before};
@@ -12,6 +14,7 @@ use crate::emitter::Emitter;
 use swc_ecma_codegen_ast::comments::Comments;
 use swc_ecma_codegen_base::Unprintable;
 use swc_ecma_codegen_common::{Answer, BytePos, Span};
+use swc_ecma_codegen_literals::Punctuator;
 use swc_ecma_codegen_text_writer::WriteJs;
 
 impl<W: WriteJs, S, C: Comments> Emitter<'_, W, S, C> {
@@ -27,6 +30,7 @@ impl<W: WriteJs, S, C: Comments> Emitter<'_, W, S, C> {
 
     /// Writes a keyword.
     pub(crate) fn keyword(&mut self, span: Option<Span>, text: &'static str) -> Answer
+        requires { begins_letter text.now ≡ true }
         ensures items { Emits (keyword span text.now) (state_of W.sheet self.old) (state_of W.sheet self.new) result }
         ensures level { OnOk result ((W.sheet self.new.wr).indentation ≡ (W.sheet self.old.wr).indentation) }
     {
@@ -34,15 +38,16 @@ impl<W: WriteJs, S, C: Comments> Emitter<'_, W, S, C> {
     }
 
     /// Writes an operator that is a punctuator.
-    pub(crate) fn operator(&mut self, text: &'static str) -> Answer
-        ensures items { Emits (operator text.now) (state_of W.sheet self.old) (state_of W.sheet self.new) result }
+    pub(crate) fn operator(&mut self, mark: Punctuator) -> Answer
+        ensures items { Emits (operator (spelling mark)) (state_of W.sheet self.old) (state_of W.sheet self.new) result }
         ensures level { OnOk result ((W.sheet self.new.wr).indentation ≡ (W.sheet self.old.wr).indentation) }
     {
-        self.lower.operator(&self.cfg, &mut self.wr, text)
+        self.lower.operator(&self.cfg, &mut self.wr, mark)
     }
 
     /// Writes an operator that is a word.
     pub(crate) fn word_operator(&mut self, text: &'static str) -> Answer
+        requires { begins_letter text.now ≡ true }
         ensures items { Emits (word_operator text.now) (state_of W.sheet self.old) (state_of W.sheet self.new) result }
         ensures level { OnOk result ((W.sheet self.new.wr).indentation ≡ (W.sheet self.old.wr).indentation) }
     {
@@ -50,11 +55,11 @@ impl<W: WriteJs, S, C: Comments> Emitter<'_, W, S, C> {
     }
 
     /// Writes a punctuator.
-    pub(crate) fn punct(&mut self, text: &'static str) -> Answer
-        ensures items { Emits (punct text.now) (state_of W.sheet self.old) (state_of W.sheet self.new) result }
+    pub(crate) fn punct(&mut self, mark: Punctuator) -> Answer
+        ensures items { Emits (punct (spelling mark)) (state_of W.sheet self.old) (state_of W.sheet self.new) result }
         ensures level { OnOk result ((W.sheet self.new.wr).indentation ≡ (W.sheet self.old.wr).indentation) }
     {
-        self.lower.punct(&self.cfg, &mut self.wr, text)
+        self.lower.punct(&self.cfg, &mut self.wr, mark)
     }
 
     /// Writes a semicolon that may be left out where it isn't needed.
@@ -190,12 +195,12 @@ impl<W: WriteJs, S, C: Comments> Emitter<'_, W, S, C> {
 
     /// Writes a punctuator between two blanks, as ` ? `; the blanks aren't written where the settings are to minify.
     #[tactic(auto, unfolding(crate::specs::Exprs::spaced_punct))]
-    pub(crate) fn spaced_punct(&mut self, text: &'static str) -> Answer
-        ensures items { Emits (spaced_punct text.now) (state_of W.sheet self.old) (state_of W.sheet self.new) result }
+    pub(crate) fn spaced_punct(&mut self, mark: Punctuator) -> Answer
+        ensures items { Emits (spaced_punct (spelling mark)) (state_of W.sheet self.old) (state_of W.sheet self.new) result }
         ensures level { OnOk result ((W.sheet self.new.wr).indentation ≡ (W.sheet self.old.wr).indentation) }
     {
         self.formatting_space()?;
-        self.punct(text)?;
+        self.punct(mark)?;
         self.formatting_space()?;
         Ok(())
     }

@@ -9,9 +9,10 @@ ghost use Rattle.swc_ecma_codegen_base.specs.Written.{ReadsSoFar, name_tokens};
 ghost use Rattle.swc_ecma_codegen_base.specs.View.{state_of};
 
 use crate::LowerEmitter;
+use crate::starts::StartClass;
 use swc_ecma_codegen_ast::comments::Comments;
 use swc_ecma_codegen_common::{Answer, Refusal, Span};
-use swc_ecma_codegen_literals::valid_name;
+use swc_ecma_codegen_literals::{Punctuator, holds_backslash, valid_name};
 use swc_ecma_codegen_text_writer::WriteJs;
 use swc_ecma_codegen_util::config::Config;
 
@@ -22,9 +23,8 @@ impl LowerEmitter {
         ensures items { Emits (symbol span text.now) (state_of cfg.now (W.sheet wr.old) self.old) (state_of cfg.now (W.sheet wr.new) self.new) result }
         ensures level { OnOk result ((W.sheet wr.new).indentation ≡ (W.sheet wr.old).indentation) }
     {
-        self.guard(cfg, wr, text)?;
+        self.guard(cfg, wr, text, StartClass::of_text(text))?;
         self.position(cfg, wr, span.lo)?;
-        self.guard(cfg, wr, text)?;
         self.put_symbol(cfg, wr, text)?;
         Ok(())
     }
@@ -43,6 +43,9 @@ impl LowerEmitter {
     {
         if self.failed {
             return Err(Refusal::Failed);
+        }
+        if !holds_backslash(name) {
+            return self.symbol(cfg, wr, span, name);
         }
         match valid_name(self.alloc, name) {
             Ok(text) => self.symbol(cfg, wr, span, &text),
@@ -72,7 +75,7 @@ impl LowerEmitter {
         ensures level { OnOk result ((W.sheet wr.new).indentation ≡ (W.sheet wr.old).indentation) }
     {
         if optional {
-            self.punct(cfg, wr, "?")?;
+            self.punct(cfg, wr, Punctuator::Question)?;
         }
         Ok(())
     }

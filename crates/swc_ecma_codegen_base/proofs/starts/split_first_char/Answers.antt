@@ -2,7 +2,7 @@ use Rattle.std.proofs.Common.{◌≡◌, ◌++◌, encode_utf8, sym, ap, ◌∙�
 use Rattle.std.proofs.lemmas.List.{nil_from_length}
 use Rattle.std.proofs.lemmas.Str.{chars_past_char, chars-nil}
 use Rattle.std.specs.Str.{chars}
-use Rattle.swc_ecma_codegen_base.proofs.guard.split_first_char.Goals as goal
+use Rattle.swc_ecma_codegen_base.proofs.starts.split_first_char.Goals as goal
 
 pub returns-in-Some : goal.returns-in-Some
 returns-in-Some c =

@@ -1,6 +1,6 @@
 use Rattle.std.proofs.Common.{sym, ap, ◌∙◌}
 use Rattle.swc_ecma_codegen_ast.specs.Chars.{begins_digit, is_digit}
-use Rattle.swc_ecma_codegen_base.proofs.guard.begins_digit.Goals as goal
+use Rattle.swc_ecma_codegen_base.proofs.starts.begins_digit.Goals as goal
 
 pub returns-in-Some : goal.returns-in-Some
 unfolding begins_digit is_digit
