@@ -1,6 +1,6 @@
 -- What is done where a setting says so.
 use Rattle.std.proofs.Common.{◌≡◌, true, false, cond, Result, Ok, Err, ap}
-use Rattle.swc_ecma_codegen_common.specs.declared.errors.Error.{Error}
+use Rattle.swc_ecma_codegen_common.specs.declared.errors.Refusal.{Refusal}
 use Rattle.swc_ecma_codegen_base.specs.Run.{Env, Plan, State, Emits}
 use Rattle.swc_ecma_codegen_base.specs.Words.{commit_pending_semi}
 use Rattle.swc_ecma_codegen_base.proofs.Emitting.{follows_same}
@@ -19,6 +19,6 @@ pub kept_back : (a : State) → a.env.config.omit_last_semi ≡ true → Emits l
 kept_back a h rest c r k = follows_same (last_semi rest) rest a c r (kept_same rest a.env h) k
 
 -- it is written
-pub committed : (a b : State) (r : Result (Unit {0}) Error) → a.env.config.omit_last_semi ≡ false → Emits commit_pending_semi a b r → Emits last_semi a b r
+pub committed : (a b : State) (r : Result (Unit {0}) Refusal) → a.env.config.omit_last_semi ≡ false → Emits commit_pending_semi a b r → Emits last_semi a b r
 committed a b (Ok u) h k = λ rest c r f. follows_same (last_semi rest) (commit_pending_semi rest) a c r (committed_same rest a.env h) (k rest c r f)
 committed a b (Err e) h k = λ rest. follows_same (last_semi rest) (commit_pending_semi rest) a b (Err e) (committed_same rest a.env h) (k rest)

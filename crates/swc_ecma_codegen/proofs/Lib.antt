@@ -12,3 +12,4 @@ pub mod TreeReads
 pub mod LinkLaws
 pub mod TreeMade
 pub mod FirstTokens
+pub mod OperatorLaws

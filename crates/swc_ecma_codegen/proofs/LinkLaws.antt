@@ -1,6 +1,8 @@
 -- What is written of what a link holds, by its sort, and what it reads as.
 use Rattle.std.proofs.Common.{◌≡◌, true, refl, ap, ◌∙◌, subst, Option, Some, None, Result, OnOk}
 use Rattle.swc_ecma_codegen_common.specs.declared.errors.Error.{Error}
+use Rattle.swc_ecma_codegen_common.specs.declared.errors.Refusal.{Refusal}
+use Rattle.swc_ecma_codegen_common.specs.Refusals.{in_short}
 use Rattle.swc_ecma_codegen_tree.specs.declared.links.AnyNode.{AnyNode}
 use Rattle.swc_ecma_codegen_tree.specs.declared.links.AnyNode.TheOpen as nodes
 use Rattle.swc_ecma_codegen_tree.specs.declared.links.AnyNode.TheVariants as whole
@@ -44,12 +46,12 @@ unfolding if_some_at
 none_written items o h = ap (λ z. if_some_at items z Plain) h ∙ (λ i. λ rest. rest)
 
 -- what is done of one is done of the other
-pub follows_part : (p q : Part) (a b : State) (r : Result (Unit {0}) Error) → p ≡ q → Follows (p nothing) a b r → Follows (q nothing) a b r
+pub follows_part : (p q : Part) (a b : State) (r : Result (Unit {0}) Refusal) → p ≡ q → Follows (p nothing) a b r → Follows (q nothing) a b r
 follows_part p q a b r e h = subst (λ z. Follows (z nothing) a b r) e h
 
 -- ---- what it reads as
 
-pub member_reads : (n : AnyNode) (m : MemberExpr AnyNode) (a b : State) (r : Result (Unit {0}) Error) → n ≡ whole.MemberExpr m → is_possible (member_expr phrase m) ≡ true → IsNew a → Follows (any_items n Plain nothing) a b r → OnOk r (AddsReading (member_expr phrase m) a.sheet.text b.sheet.text)
+pub member_reads : (n : AnyNode) (m : MemberExpr AnyNode) (a b : State) (r : Result (Unit {0}) Error) → n ≡ whole.MemberExpr m → is_possible (member_expr phrase m) ≡ true → IsNew a → Follows (any_items n Plain nothing) a b (in_short r) → OnOk r (AddsReading (member_expr phrase m) a.sheet.text b.sheet.text)
 unfolding node_phrase
 member_reads n m a b r h w s k =
     let e : phrase n MemberExpression ≡ node_phrase phrase (nodes.MemberExpr m) MemberExpression = ap (λ z. phrase z MemberExpression) h ∙ phrase_member_expr m MemberExpression in

@@ -2,6 +2,7 @@
 use Rattle.std.proofs.Common.{◌≡◌, inl, ℕ, ◌^◌, ◌<◌, true, false, [], refl, sym, ◌∙◌, subst, List, ◌∷◌, Option, Some, Result, None, IsOk, arith}
 use Rattle.std.proofs.lemmas.Bool.{true≢false}
 use Rattle.swc_ecma_codegen_common.specs.declared.errors.Error.{Error}
+use Rattle.swc_ecma_codegen_common.specs.Refusals.{in_short}
 use Rattle.swc_ecma_codegen_common.specs.declared.errors.Error.TheVariants.{Writer, OutOfMemory, UnsupportedNode, BadShape, NameOutOfTarget, PositionTooLarge, Failed}
 use Rattle.swc_ecma_codegen_tree.specs.declared.links.AnyNode.{AnyNode}
 use Rattle.swc_ecma_codegen_tree.specs.declared.programs.Program.{Program}
@@ -11,10 +12,11 @@ use Rattle.swc_ecma_codegen_ast.specs.TreePhrases.{program_phrase}
 use Rattle.swc_ecma_codegen_util.specs.declared.config.Config.{Config}
 use Rattle.swc_ecma_codegen_util.specs.Defaults.{default_config}
 use Rattle.swc_ecma_codegen_text_writer.specs.View.{new_sheet}
-use Rattle.swc_ecma_codegen_base.specs.Run.{Env, Part, State, nothing, refusal_of, Follows, HasCause, start, steps_in}
-use Rattle.swc_ecma_codegen_base.specs.declared.refusals.Refusal.{Refusal}
+use Rattle.swc_ecma_codegen_base.specs.Run.{Env, Part, State, nothing, unprintable_in, Follows, HasCause, start, steps_in}
+use Rattle.swc_ecma_codegen_base.specs.declared.refusals.Unprintable.{Unprintable}
 use Rattle.swc_ecma_codegen_base.specs.Ready.{token_count, IsPlainTree, IsReady}
 use Rattle.swc_ecma_codegen_base.specs.Written.{ReadsAs}
+use Rattle.swc_ecma_codegen_base.proofs.Short.{is_ok_in_short}
 use Rattle.swc_ecma_codegen_base.proofs.Phrased.{Prints, steps_read, whole_reads}
 use Rattle.swc_ecma_codegen_base.proofs.Made.{plain_made, printable, within}
 use Rattle.swc_ecma_codegen.specs.Programs as programs
@@ -27,13 +29,13 @@ part_prints : (n : Root) (p : Part) (env : Env) → env.keeps_invalid ≡ false 
 part_prints n p env e same = subst (λ z. Prints env z (root_phrase n)) (sym same) (root_prints env e n)
 
 -- whatever the root is, and whatever refers to it
-pub root_made : (n : Root) (p : Part) (a b : State) (r : Result (Unit {0}) Error) → p ≡ root_items n → IsPlainTree (root_phrase n) a.sheet.indentation → IsReady a → b.sheet.faults ≡ a.sheet.faults → Follows (p nothing) a b r → IsOk r
-root_made n p a b r same t s e h = plain_made p (root_phrase n) a b r (part_prints n p a.env s.leaves_out same) t s e h
+pub root_made : (n : Root) (p : Part) (a b : State) (r : Result (Unit {0}) Error) → p ≡ root_items n → IsPlainTree (root_phrase n) a.sheet.indentation → IsReady a → b.sheet.faults ≡ a.sheet.faults → Follows (p nothing) a b (in_short r) → IsOk r
+root_made n p a b r same t s e h = is_ok_in_short r (plain_made p (root_phrase n) a b (in_short r) (part_prints n p a.env s.leaves_out same) t s e h)
 
-pub script_made : (n : Script AnyNode) (a b : State) (r : Result (Unit {0}) Error) → IsPlainTree (program_phrase (a_script n)) a.sheet.indentation → IsReady a → b.sheet.faults ≡ a.sheet.faults → Follows (programs.script any_items n nothing) a b r → IsOk r
+pub script_made : (n : Script AnyNode) (a b : State) (r : Result (Unit {0}) Error) → IsPlainTree (program_phrase (a_script n)) a.sheet.indentation → IsReady a → b.sheet.faults ≡ a.sheet.faults → Follows (programs.script any_items n nothing) a b (in_short r) → IsOk r
 script_made n a b r t s e h = root_made (OfScript n) _ a b r refl t s e h
 
-pub program_made : (n : Program AnyNode) (a b : State) (r : Result (Unit {0}) Error) → IsPlainTree (program_phrase n) a.sheet.indentation → IsReady a → b.sheet.faults ≡ a.sheet.faults → Follows (programs.program any_items n nothing) a b r → IsOk r
+pub program_made : (n : Program AnyNode) (a b : State) (r : Result (Unit {0}) Error) → IsPlainTree (program_phrase n) a.sheet.indentation → IsReady a → b.sheet.faults ≡ a.sheet.faults → Follows (programs.program any_items n nothing) a b (in_short r) → IsOk r
 program_made n a b r t s e h = root_made (OfProgram n) _ a b r refl t s e h
 
 -- a new emitter over a new writer
@@ -47,10 +49,10 @@ code_reads n p same w =
     let a : State = start default_config blank_sheet in
     whole_reads (root_phrase n) (text_of p) (steps_read p (root_phrase n) a (new_is_new default_config [] (10 ∷ []) (inl refl)) (part_prints n p a.env refl same) w)
 
-root_printable : (n : Root) (p : Part) → p ≡ root_items n → is_well_formed_root n ≡ true → refusal_of (steps_in p (start default_config blank_sheet)) ≡ None
+root_printable : (n : Root) (p : Part) → p ≡ root_items n → is_well_formed_root n ≡ true → unprintable_in (steps_in p (start default_config blank_sheet)) ≡ None
 root_printable n p same w = let a : State = start default_config blank_sheet in printable p (root_phrase n) a.env (part_prints n p a.env refl same) w
 
-no_refusal : (r : Refusal) → ◌≡◌ {A = Option Refusal} (Some r) None → ⊥
+no_refusal : (r : Unprintable) → ◌≡◌ {A = Option Unprintable} (Some r) None → ⊥
 no_refusal r h = absurd (cc)
 
 -- of a well-formed tree memory alone can be wanting, besides the writer

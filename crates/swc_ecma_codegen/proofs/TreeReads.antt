@@ -1,6 +1,7 @@
 -- What an emission of a well-formed tree adds to a text reads as one of the tree's token lists.
 use Rattle.std.proofs.Common.{◌≡◌, ℕ, true, false, List, refl, sym, subst, Result, OnOk}
 use Rattle.swc_ecma_codegen_common.specs.declared.errors.Error.{Error}
+use Rattle.swc_ecma_codegen_common.specs.Refusals.{in_short}
 use Rattle.swc_ecma_codegen_tree.specs.declared.links.AnyNode.{AnyNode}
 use Rattle.swc_ecma_codegen_tree.specs.declared.programs.Program.{Program}
 use Rattle.swc_ecma_codegen_tree.specs.declared.programs.Program.TheVariants.{Script as a_script}
@@ -12,6 +13,7 @@ use Rattle.swc_ecma_codegen_text_writer.specs.View.{new_sheet}
 use Rattle.swc_ecma_codegen_base.specs.Run.{Env, Part, State, nothing, Follows, start, remakes_name, steps_of, steps_in}
 use Rattle.swc_ecma_codegen_base.specs.Escapes.{escapes_name}
 use Rattle.swc_ecma_codegen_base.specs.Written.{IsLineEnd, IsNew, AddsReading, all_indent, is_indent}
+use Rattle.swc_ecma_codegen_base.proofs.Short.{on_ok_in_short}
 use Rattle.swc_ecma_codegen_base.proofs.Phrased.{Prints, printed_reads, printed_remakes}
 use Rattle.swc_ecma_codegen.specs.declared.nodes.Place.TheVariants.{Plain}
 use Rattle.swc_ecma_codegen.specs.Programs as programs
@@ -30,13 +32,13 @@ root_prints env e (OfProgram n) = program_prints (known env e) n
 root_prints env e (OfLink n role) = prints env e n Plain role
 
 -- whatever the root is, and whatever refers to it
-pub root_reads : (n : Root) (p : Part) (a b : State) (r : Result (Unit {0}) Error) → p ≡ root_items n → is_well_formed_root n ≡ true → IsNew a → Follows (p nothing) a b r → OnOk r (AddsReading (root_phrase n) a.sheet.text b.sheet.text)
-root_reads n p a b r same w s h = printed_reads p (root_phrase n) a b r s (subst (λ z. Prints a.env z (root_phrase n)) (sym same) (root_prints a.env s.leaves_out n)) w h
+pub root_reads : (n : Root) (p : Part) (a b : State) (r : Result (Unit {0}) Error) → p ≡ root_items n → is_well_formed_root n ≡ true → IsNew a → Follows (p nothing) a b (in_short r) → OnOk r (AddsReading (root_phrase n) a.sheet.text b.sheet.text)
+root_reads n p a b r same w s h = on_ok_in_short _ r (printed_reads p (root_phrase n) a b (in_short r) s (subst (λ z. Prints a.env z (root_phrase n)) (sym same) (root_prints a.env s.leaves_out n)) w h)
 
-pub script_reads : (n : Script AnyNode) (a b : State) (r : Result (Unit {0}) Error) → is_well_formed (a_script n) ≡ true → IsNew a → Follows (programs.script any_items n nothing) a b r → OnOk r (AddsReading (program_phrase (a_script n)) a.sheet.text b.sheet.text)
+pub script_reads : (n : Script AnyNode) (a b : State) (r : Result (Unit {0}) Error) → is_well_formed (a_script n) ≡ true → IsNew a → Follows (programs.script any_items n nothing) a b (in_short r) → OnOk r (AddsReading (program_phrase (a_script n)) a.sheet.text b.sheet.text)
 script_reads n a b r w s h = root_reads (OfScript n) _ a b r refl w s h
 
-pub program_reads : (n : Program AnyNode) (a b : State) (r : Result (Unit {0}) Error) → is_well_formed n ≡ true → IsNew a → Follows (programs.program any_items n nothing) a b r → OnOk r (AddsReading (program_phrase n) a.sheet.text b.sheet.text)
+pub program_reads : (n : Program AnyNode) (a b : State) (r : Result (Unit {0}) Error) → is_well_formed n ≡ true → IsNew a → Follows (programs.program any_items n nothing) a b (in_short r) → OnOk r (AddsReading (program_phrase n) a.sheet.text b.sheet.text)
 program_reads n a b r w s h = root_reads (OfProgram n) _ a b r refl w s h
 
 -- which names are made anew

@@ -1,13 +1,13 @@
 -- Lists of nodes.
 use Rattle.std.specs.Prelude.{Bool, false, if◌then◌else◌, List, [], ◌∷◌, Option, Some, None, codes}
 use Rattle.swc_ecma_codegen_base.specs.Run.{Part, refuse}
-use Rattle.swc_ecma_codegen_base.specs.declared.refusals.Refusal.TheVariants as refusals
+use Rattle.swc_ecma_codegen_base.specs.declared.refusals.Unprintable.TheVariants as unprintable
 use Rattle.swc_ecma_codegen.specs.declared.nodes.Place.{Place}
 use Rattle.swc_ecma_codegen_base.specs.Words.{punct, formatting_space}
 
 -- a node that isn't printed yet
 unfoldable pub unsupported : Part
-unsupported rest = refuse refusals.UnsupportedNode rest
+unsupported rest = refuse unprintable.UnsupportedNode rest
 
 -- a comma and a blank, except before the first
 unfoldable pub comma : Bool → Part

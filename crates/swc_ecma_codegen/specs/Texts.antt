@@ -2,6 +2,7 @@
 use Rattle.std.specs.Prelude.{ℕ, List, [], ◌∷◌}
 use Rattle.swc_ecma_codegen_common.specs.declared.errors.Error.{Error}
 use Rattle.swc_ecma_codegen_common.specs.declared.errors.Error.TheVariants.{Writer}
+use Rattle.swc_ecma_codegen_common.specs.Refusals.{reason_of}
 use Rattle.swc_ecma_codegen_util.specs.Defaults.{default_config}
 use Rattle.swc_ecma_codegen_text_writer.specs.Sheet.{Sheet}
 use Rattle.swc_ecma_codegen_text_writer.specs.View.{new_sheet}
@@ -22,4 +23,4 @@ IsOfWriter e = ⊥
 
 -- an emission of a part from a state gives cause for an error
 abbrev pub GivesCause : Part → State → Error → Type 0
-GivesCause part a error = (b : State) × HasCause (steps_in part a) error a b
+GivesCause part a error = (b : State) × HasCause (steps_in part a) (reason_of error) a b

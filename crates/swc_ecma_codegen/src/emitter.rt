@@ -1,6 +1,7 @@
 //! The emitter.
 
 ghost use Rattle.std.specs.Prelude.{◌≡◌, ◌≢◌, false, true, IsTrue, is_none, IfErr, OnErr, OnOk, Err, IsOk};
+ghost use Rattle.swc_ecma_codegen_common.specs.Refusals.{in_short, reason_of};
 ghost use Rattle.swc_ecma_codegen_text_writer.specs.Told.{IsFront};
 ghost use Rattle.swc_ecma_codegen_base.specs.Run.{Follows, HasCause, IsUnhindered, nothing, printed, remakes_name, steps_in, steps_of, start};
 
@@ -9,7 +10,7 @@ use std::alloc::Global;
 use swc_ecma_codegen_ast::comments::Comments;
 use swc_ecma_codegen_ast::mapper::SourceMapper;
 use swc_ecma_codegen_base::LowerEmitter;
-use swc_ecma_codegen_common::{Error, Result};
+use swc_ecma_codegen_common::{Answer, Error, Result};
 use swc_ecma_codegen_text_writer::WriteJs;
 use swc_ecma_codegen_tree::{Program, Script};
 use swc_ecma_codegen_util::config::Config;
@@ -61,11 +62,11 @@ impl<'a, W: WriteJs, S: SourceMapper, C: Comments> Emitter<'a, W, S, C> {
     #[tactic(auto, using(swc_ecma_codegen_base::proofs::Emitting::emits_nothing, swc_ecma_codegen_base::proofs::Fronts::follows_failed, swc_ecma_codegen_base::proofs::Fronts::follows_front, swc_ecma_codegen_base::proofs::Fronts::follows_marked, swc_ecma_codegen_base::proofs::Fronts::follows_cause, swc_ecma_codegen_base::proofs::Fronts::follows_succeeds))]
     pub(crate) fn emit<T: EmitAt>(&mut self, node: &T) -> Result
         // The steps of the tree are made, and it comes to no node that can't be printed; or it halts.
-        ensures items { Follows (T.items node.now Plain nothing) (state_of W.sheet self.old) (state_of W.sheet self.new) result }
+        ensures items { Follows (T.items node.now Plain nothing) (state_of W.sheet self.old) (state_of W.sheet self.new) (in_short result) }
         // What is out is a beginning of the text of these steps.
         ensures front { IsFront (W.sheet self.new.wr).text (printed (T.items node.now Plain) (state_of W.sheet self.old)).sheet.text }
         // It is refused only for the cause that the error names.
-        ensures cause { IfErr result (λ error. HasCause (steps_in (T.items node.now Plain) (state_of W.sheet self.old)) error (state_of W.sheet self.old) (state_of W.sheet self.new)) }
+        ensures cause { IfErr result (λ error. HasCause (steps_in (T.items node.now Plain) (state_of W.sheet self.old)) (reason_of error) (state_of W.sheet self.old) (state_of W.sheet self.new)) }
         // Where nothing stands in its way, it is made.
         ensures succeeds { IsUnhindered (steps_in (T.items node.now Plain) (state_of W.sheet self.old)) (state_of W.sheet self.old) (state_of W.sheet self.new) → IsOk result }
         ensures marked { OnErr result ((state_of W.sheet self.new).failed ≡ true) }
@@ -76,21 +77,33 @@ impl<'a, W: WriteJs, S: SourceMapper, C: Comments> Emitter<'a, W, S, C> {
         if self.lower.is_failed() {
             return Err(Error::Failed);
         }
-        node.emit_at(self, Place::Plain)?;
-        Ok(())
+        let answer = node.emit_at(self, Place::Plain);
+        self.answer(answer)
+    }
+
+    /// An answer, with the error that the writer gave.
+    fn answer(&mut self, answer: Answer) -> Result
+        ensures answer { in_short result ≡ answer }
+        ensures state { state_of W.sheet self.new ≡ state_of W.sheet self.old }
+        ensures wr { self.new.wr ≡ self.old.wr }
+    {
+        match answer {
+            Ok(()) => Ok(()),
+            Err(refusal) => Err(self.lower.error(refusal)),
+        }
     }
 
     /// Prints a program. swc's `emit_program`.
     #[tactic(auto, using(crate::proofs::TreeReads::program_reads, crate::proofs::TreeMade::program_made, swc_ecma_codegen_base::proofs::Made::ready_after, swc_ecma_codegen_base::proofs::Phrased::never_out_of_memory))]
     pub fn emit_program(&mut self, node: &Program) -> Result
         // The steps of the tree are made, and it comes to no node that can't be printed; or it halts.
-        ensures items { Follows (program any_items node.now nothing) (state_of W.sheet self.old) (state_of W.sheet self.new) result }
+        ensures items { Follows (program any_items node.now nothing) (state_of W.sheet self.old) (state_of W.sheet self.new) (in_short result) }
         // What a new emitter adds to the text, of a well-formed tree, reads as one of the tree's token lists.
         ensures reads { is_well_formed node.now ≡ true → IsNew (state_of W.sheet self.old) → OnOk result (AddsReading (program_phrase node.now) (W.sheet self.old.wr).text (W.sheet self.new.wr).text) }
         // What is out is a beginning of the text of these steps.
         ensures front { IsFront (W.sheet self.new.wr).text (printed (program any_items node.now) (state_of W.sheet self.old)).sheet.text }
         // It is refused only for the cause that the error names.
-        ensures cause { IfErr result (λ error. HasCause (steps_in (program any_items node.now) (state_of W.sheet self.old)) error (state_of W.sheet self.old) (state_of W.sheet self.new)) }
+        ensures cause { IfErr result (λ error. HasCause (steps_in (program any_items node.now) (state_of W.sheet self.old)) (reason_of error) (state_of W.sheet self.old) (state_of W.sheet self.new)) }
         // Where no name is made anew, and no call of the writer takes memory, none is wanting.
         ensures no_memory { remakes_name (steps_of (steps_in (program any_items node.now) (state_of W.sheet self.old))) ≡ false → (W.sheet self.old.wr).takes_memory ≡ false → result ≢ Err Error.OutOfMemory }
         // Where nothing stands in its way, it is made.
@@ -112,13 +125,13 @@ impl<'a, W: WriteJs, S: SourceMapper, C: Comments> Emitter<'a, W, S, C> {
     #[tactic(auto, using(crate::proofs::TreeReads::script_reads, crate::proofs::TreeMade::script_made, swc_ecma_codegen_base::proofs::Made::ready_after, swc_ecma_codegen_base::proofs::Phrased::never_out_of_memory))]
     pub fn emit_script(&mut self, node: &Script) -> Result
         // The steps of the tree are made, and it comes to no node that can't be printed; or it halts.
-        ensures items { Follows (script any_items node.now nothing) (state_of W.sheet self.old) (state_of W.sheet self.new) result }
+        ensures items { Follows (script any_items node.now nothing) (state_of W.sheet self.old) (state_of W.sheet self.new) (in_short result) }
         // What a new emitter adds to the text, of a well-formed tree, reads as one of the tree's token lists.
         ensures reads { is_well_formed (Program.Script node.now) ≡ true → IsNew (state_of W.sheet self.old) → OnOk result (AddsReading (program_phrase (Program.Script node.now)) (W.sheet self.old.wr).text (W.sheet self.new.wr).text) }
         // What is out is a beginning of the text of these steps.
         ensures front { IsFront (W.sheet self.new.wr).text (printed (script any_items node.now) (state_of W.sheet self.old)).sheet.text }
         // It is refused only for the cause that the error names.
-        ensures cause { IfErr result (λ error. HasCause (steps_in (script any_items node.now) (state_of W.sheet self.old)) error (state_of W.sheet self.old) (state_of W.sheet self.new)) }
+        ensures cause { IfErr result (λ error. HasCause (steps_in (script any_items node.now) (state_of W.sheet self.old)) (reason_of error) (state_of W.sheet self.old) (state_of W.sheet self.new)) }
         // Where no name is made anew, and no call of the writer takes memory, none is wanting.
         ensures no_memory { remakes_name (steps_of (steps_in (script any_items node.now) (state_of W.sheet self.old))) ≡ false → (W.sheet self.old.wr).takes_memory ≡ false → result ≢ Err Error.OutOfMemory }
         // Where nothing stands in its way, it is made.

@@ -7,12 +7,14 @@ ghost use Rattle.swc_ecma_codegen_util.specs.Starts.{is_word_op as is_word_unary
 ghost use Rattle.swc_ecma_codegen.specs.View.{state_of};
 
 use crate::emitter::Emitter;
+use crate::marks::{binary_mark, unary_mark, update_mark};
 use crate::nodes::{AskEnds, AskKind, AskSpace, AskStarts, Asked, EmitAt, Held, Place};
 use crate::operands::{is_word_op, operand_space, space_after};
 use crate::places::expr_place;
 use swc_ecma_codegen_ast::comments::Comments;
 use swc_ecma_codegen_ast::mapper::SourceMapper;
-use swc_ecma_codegen_common::{BinaryOp, Result, Span, UnaryOp};
+use swc_ecma_codegen_common::{Answer, BinaryOp, Span, UnaryOp};
+use swc_ecma_codegen_literals::Punctuator;
 use swc_ecma_codegen_text_writer::WriteJs;
 use swc_ecma_codegen_tree::{
     BinExpr, ComputedPropName, CondExpr, Expr, Ident, IdentName, MemberExpr, MemberProp, ParenExpr,
@@ -38,7 +40,7 @@ impl<N: Held> EmitAt for Expr<N> {
         &self,
         e: &mut Emitter<'_, W, S, C>,
         place: Place,
-    ) -> Result {
+    ) -> Answer {
         match self {
             Expr::This(node) => node.emit_at(e, place)?,
             Expr::Unary(node) => node.emit_at(e, place)?,
@@ -64,7 +66,7 @@ impl<N: Held> EmitAt for MemberExpr<N> {
         &self,
         e: &mut Emitter<'_, W, S, C>,
         place: Place,
-    ) -> Result {
+    ) -> Answer {
         e.opened(self.span)?;
         self.obj.held().emit_at(e, Place::Plain)?;
         e.member_prop(&self.prop)?;
@@ -81,7 +83,7 @@ impl<N: Held> EmitAt for BinExpr<N> {
         &self,
         e: &mut Emitter<'_, W, S, C>,
         place: Place,
-    ) -> Result {
+    ) -> Answer {
         e.bin_opened(place, self.span)?;
         self.left.held().emit_at(e, Place::LeftOperand)?;
         e.bin_trailing(self)?;
@@ -97,7 +99,7 @@ impl<N: Held> EmitAt for SeqExpr<N> {
         &self,
         e: &mut Emitter<'_, W, S, C>,
         place: Place,
-    ) -> Result {
+    ) -> Answer {
         e.opened(self.span)?;
         e.exprs(&self.exprs)?;
         Ok(())
@@ -112,11 +114,11 @@ impl<N: Held> EmitAt for ComputedPropName<N> {
         &self,
         e: &mut Emitter<'_, W, S, C>,
         place: Place,
-    ) -> Result {
+    ) -> Answer {
         e.start_of(self.span)?;
-        e.punct("[")?;
+        e.punct(Punctuator::LeftBracket)?;
         self.expr.held().emit_at(e, Place::Plain)?;
-        e.punct("]")?;
+        e.punct(Punctuator::RightBracket)?;
         e.end_of(self.span)?;
         Ok(())
     }
@@ -130,12 +132,12 @@ impl<N: Held> EmitAt for CondExpr<N> {
         &self,
         e: &mut Emitter<'_, W, S, C>,
         place: Place,
-    ) -> Result {
+    ) -> Answer {
         e.opened(self.span)?;
         self.test.held().emit_at(e, Place::Plain)?;
-        e.spaced_punct("?")?;
+        e.spaced_punct(Punctuator::Question)?;
         self.cons.held().emit_at(e, Place::Plain)?;
-        e.spaced_punct(":")?;
+        e.spaced_punct(Punctuator::Colon)?;
         self.alt.held().emit_at(e, Place::Plain)
     }
 }
@@ -148,7 +150,7 @@ impl EmitAt for ThisExpr {
         &self,
         e: &mut Emitter<'_, W, S, C>,
         place: Place,
-    ) -> Result {
+    ) -> Answer {
         e.leading_comments(self.span.lo)?;
         e.keyword(Some(self.span), "this")?;
         Ok(())
@@ -163,7 +165,7 @@ impl<N: Held> EmitAt for UnaryExpr<N> {
         &self,
         e: &mut Emitter<'_, W, S, C>,
         place: Place,
-    ) -> Result {
+    ) -> Answer {
         e.opened(self.span)?;
         e.unary_op(self.op)?;
         e.unary_gap(self.op, self.arg.held())?;
@@ -180,14 +182,14 @@ impl<N: Held> EmitAt for UpdateExpr<N> {
         &self,
         e: &mut Emitter<'_, W, S, C>,
         place: Place,
-    ) -> Result {
+    ) -> Answer {
         e.opened(self.span)?;
         if self.prefix {
-            e.operator(self.op.as_str())?;
+            e.operator(update_mark(self.op))?;
             self.arg.held().emit_at(e, Place::Plain)?;
         } else {
             self.arg.held().emit_at(e, Place::Plain)?;
-            e.operator(self.op.as_str())?;
+            e.operator(update_mark(self.op))?;
         }
         Ok(())
     }
@@ -201,13 +203,13 @@ impl<N: Held> EmitAt for ParenExpr<N> {
         &self,
         e: &mut Emitter<'_, W, S, C>,
         place: Place,
-    ) -> Result {
+    ) -> Answer {
         e.commit_pending_semi()?;
         e.opened(self.span)?;
-        e.punct("(")?;
+        e.punct(Punctuator::LeftParenthesis)?;
         self.expr.held().emit_at(e, Place::Plain)?;
         e.last_of(self.span)?;
-        e.punct(")")?;
+        e.punct(Punctuator::RightParenthesis)?;
         Ok(())
     }
 }
@@ -220,7 +222,7 @@ impl EmitAt for Ident {
         &self,
         e: &mut Emitter<'_, W, S, C>,
         place: Place,
-    ) -> Result {
+    ) -> Answer {
         e.name(self.span, &self.sym, self.optional)?;
         Ok(())
     }
@@ -234,7 +236,7 @@ impl EmitAt for IdentName {
         &self,
         e: &mut Emitter<'_, W, S, C>,
         place: Place,
-    ) -> Result {
+    ) -> Answer {
         e.name(self.span, &self.sym, false)?;
         Ok(())
     }
@@ -243,7 +245,7 @@ impl EmitAt for IdentName {
 impl<W: WriteJs, S: SourceMapper, C: Comments> Emitter<'_, W, S, C> {
     /// Writes the comments after an expression.
     #[tactic(auto, unfolding(crate::specs::Exprs::expr_closed))]
-    fn expr_closed(&mut self, inner: bool, span: Span) -> Result
+    fn expr_closed(&mut self, inner: bool, span: Span) -> Answer
         ensures items { Emits (expr_closed inner span) (state_of W.sheet self.old) (state_of W.sheet self.new) result }
         ensures level { OnOk result ((W.sheet self.new.wr).indentation ≡ (W.sheet self.old.wr).indentation) }
     {
@@ -255,14 +257,14 @@ impl<W: WriteJs, S: SourceMapper, C: Comments> Emitter<'_, W, S, C> {
 
     /// Writes `.b` or `[b]`.
     #[tactic(auto, unfolding(crate::specs::Exprs::member_prop))]
-    fn member_prop<N: Held>(&mut self, prop: &MemberProp<N>) -> Result
+    fn member_prop<N: Held>(&mut self, prop: &MemberProp<N>) -> Answer
         ensures items { Emits (member_prop N.items prop.now) (state_of W.sheet self.old) (state_of W.sheet self.new) result }
         ensures level { OnOk result ((W.sheet self.new.wr).indentation ≡ (W.sheet self.old.wr).indentation) }
     {
         match prop {
             MemberProp::Ident(name) => {
                 self.comments_before(name.span.lo)?;
-                self.punct(".")?;
+                self.punct(Punctuator::Dot)?;
                 name.emit_at(self, Place::Plain)
             }
             MemberProp::Computed(name) => name.emit_at(self, Place::Plain),
@@ -272,7 +274,7 @@ impl<W: WriteJs, S: SourceMapper, C: Comments> Emitter<'_, W, S, C> {
 
     /// Writes the comments before a binary expression and its start, unless it is an inner left operand.
     #[tactic(auto, unfolding(crate::specs::Exprs::bin_opened))]
-    fn bin_opened(&mut self, place: Place, span: Span) -> Result
+    fn bin_opened(&mut self, place: Place, span: Span) -> Answer
         ensures items { Emits (bin_opened place span) (state_of W.sheet self.old) (state_of W.sheet self.new) result }
         ensures level { OnOk result ((W.sheet self.new.wr).indentation ≡ (W.sheet self.old.wr).indentation) }
     {
@@ -283,21 +285,20 @@ impl<W: WriteJs, S: SourceMapper, C: Comments> Emitter<'_, W, S, C> {
     }
 
     /// Writes a binary operator.
-    #[tactic(auto, unfolding(crate::specs::Exprs::binary_op))]
-    fn binary_op(&mut self, op: BinaryOp) -> Result
+    #[tactic(auto, using(crate::proofs::OperatorLaws::marked_binary, crate::proofs::OperatorLaws::worded_binary))]
+    fn binary_op(&mut self, op: BinaryOp) -> Answer
         ensures items { Emits (binary_op op) (state_of W.sheet self.old) (state_of W.sheet self.new) result }
         ensures level { OnOk result ((W.sheet self.new.wr).indentation ≡ (W.sheet self.old.wr).indentation) }
     {
-        if is_word_op(op) {
-            self.word_operator(op.as_str())
-        } else {
-            self.operator(op.as_str())
+        match binary_mark(op) {
+            Some(mark) => self.operator(mark),
+            None => self.word_operator(op.as_str()),
         }
     }
 
     /// Writes the operator and the right operand. swc's `emit_bin_expr_trailing`.
     #[tactic(auto, unfolding(crate::specs::Exprs::bin_trailing))]
-    fn bin_trailing<N: Held>(&mut self, node: &BinExpr<N>) -> Result
+    fn bin_trailing<N: Held>(&mut self, node: &BinExpr<N>) -> Answer
         ensures items { Emits (bin_trailing N.answers N.items node.now) (state_of W.sheet self.old) (state_of W.sheet self.new) result }
         ensures level { OnOk result ((W.sheet self.new.wr).indentation ≡ (W.sheet self.old.wr).indentation) }
     {
@@ -309,21 +310,20 @@ impl<W: WriteJs, S: SourceMapper, C: Comments> Emitter<'_, W, S, C> {
     }
 
     /// Writes a unary operator.
-    #[tactic(auto, unfolding(crate::specs::Exprs::unary_op))]
-    fn unary_op(&mut self, op: UnaryOp) -> Result
+    #[tactic(auto, using(crate::proofs::OperatorLaws::marked_unary, crate::proofs::OperatorLaws::worded_unary))]
+    fn unary_op(&mut self, op: UnaryOp) -> Answer
         ensures items { Emits (unary_op op) (state_of W.sheet self.old) (state_of W.sheet self.new) result }
         ensures level { OnOk result ((W.sheet self.new.wr).indentation ≡ (W.sheet self.old.wr).indentation) }
     {
-        if is_word_unary(op) {
-            self.keyword(None, op.as_str())
-        } else {
-            self.punct(op.as_str())
+        match unary_mark(op) {
+            Some(mark) => self.punct(mark),
+            None => self.keyword(None, op.as_str()),
         }
     }
 
     /// Writes what stands between a unary operator and its operand.
     #[tactic(auto, unfolding(crate::specs::Exprs::unary_gap))]
-    fn unary_gap<N: Asked>(&mut self, op: UnaryOp, arg: &N) -> Result
+    fn unary_gap<N: Asked>(&mut self, op: UnaryOp, arg: &N) -> Answer
         ensures items { Emits (unary_gap op (N.answers arg.now)) (state_of W.sheet self.old) (state_of W.sheet self.new) result }
         ensures level { OnOk result ((W.sheet self.new.wr).indentation ≡ (W.sheet self.old.wr).indentation) }
     {

@@ -12,7 +12,7 @@ use crate::nodes::{
 use crate::operands::{Operand, OperandKind, SpaceBefore};
 use swc_ecma_codegen_ast::comments::Comments;
 use swc_ecma_codegen_ast::mapper::SourceMapper;
-use swc_ecma_codegen_common::{BinaryOp, Result, Span};
+use swc_ecma_codegen_common::{Answer, BinaryOp, Span};
 use swc_ecma_codegen_spans::Spanned;
 use swc_ecma_codegen_text_writer::WriteJs;
 use swc_ecma_codegen_tree::AnyNode;
@@ -67,7 +67,7 @@ impl EmitAt for AnyNode {
         &self,
         e: &mut Emitter<'_, W, S, C>,
         place: Place,
-    ) -> Result {
+    ) -> Answer {
         match self {
             AnyNode::Expr(node) => node.emit_at(e, place),
             AnyNode::Stmt(node) => node.emit_at(e, place),

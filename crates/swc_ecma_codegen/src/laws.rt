@@ -5,6 +5,7 @@
 //! the start of a comment, nor `a - -b` as a decrement.
 
 ghost use Rattle.std.specs.Prelude.{◌≡◌, ℕ, true, false, List, ◌∷◌, OnOk};
+ghost use Rattle.swc_ecma_codegen_common.specs.Refusals.{in_short};
 ghost use Rattle.swc_ecma_codegen_util.specs.declared.config.Config.{Config};
 ghost use Rattle.swc_ecma_codegen_ast.specs.Tokens.{Token};
 ghost use Rattle.swc_ecma_codegen_ast.specs.Phrases.{Generates, is_possible};
@@ -47,7 +48,7 @@ pub fn emitted_expr_reads<W: WriteJs, S: SourceMapper, C: Comments>(
     e: &mut Emitter<'_, W, S, C>,
 ) -> Result
     // It is what `emit_with` does.
-    ensures items { Follows (expr_items any_answers any_items expr.now Plain nothing) (state_of W.sheet e.old) (state_of W.sheet e.new) result }
+    ensures items { Follows (expr_items any_answers any_items expr.now Plain nothing) (state_of W.sheet e.old) (state_of W.sheet e.new) (in_short result) }
     ensures reads { is_possible (expr_phrase expr.now) ≡ true → IsNew (state_of W.sheet e.old) → OnOk result (AddsReading (expr_phrase expr.now) (W.sheet e.old.wr).text (W.sheet e.new.wr).text) }
 {
     expr.emit_with(e)
@@ -59,7 +60,7 @@ pub fn emitted_stmt_reads<W: WriteJs, S: SourceMapper, C: Comments>(
     e: &mut Emitter<'_, W, S, C>,
 ) -> Result
     // It is what `emit_with` does.
-    ensures items { Follows (stmt_items any_answers any_items stmt.now nothing) (state_of W.sheet e.old) (state_of W.sheet e.new) result }
+    ensures items { Follows (stmt_items any_answers any_items stmt.now nothing) (state_of W.sheet e.old) (state_of W.sheet e.new) (in_short result) }
     ensures reads { is_possible (stmt_phrase stmt.now) ≡ true → IsNew (state_of W.sheet e.old) → OnOk result (AddsReading (stmt_phrase stmt.now) (W.sheet e.old.wr).text (W.sheet e.new.wr).text) }
 {
     stmt.emit_with(e)

@@ -11,19 +11,20 @@ use crate::emitter::Emitter;
 use crate::nodes::{EmitAt, Place};
 use swc_ecma_codegen_ast::comments::Comments;
 use swc_ecma_codegen_ast::mapper::SourceMapper;
-use swc_ecma_codegen_common::Result;
+use swc_ecma_codegen_common::Answer;
+use swc_ecma_codegen_literals::Punctuator;
 use swc_ecma_codegen_text_writer::WriteJs;
 use swc_ecma_codegen_tree::{ExprBox, StmtBox};
 
 impl<W: WriteJs, S: SourceMapper, C: Comments> Emitter<'_, W, S, C> {
     /// Writes a comma and a blank, except before the first.
     #[tactic(auto, unfolding(crate::specs::Lists::comma))]
-    fn comma(&mut self, first: bool) -> Result
+    fn comma(&mut self, first: bool) -> Answer
         ensures items { Emits (comma first) (state_of W.sheet self.old) (state_of W.sheet self.new) result }
         ensures level { OnOk result ((W.sheet self.new.wr).indentation ≡ (W.sheet self.old.wr).indentation) }
     {
         if !first {
-            self.punct(",")?;
+            self.punct(Punctuator::Comma)?;
             self.formatting_space()?;
         }
         Ok(())
@@ -31,7 +32,7 @@ impl<W: WriteJs, S: SourceMapper, C: Comments> Emitter<'_, W, S, C> {
 
     /// Writes expressions, with commas between.
     #[tactic(auto, using(crate::proofs::Steps::listed_next), unfolding(crate::specs::Lists::listed))]
-    pub(crate) fn exprs<N: EmitAt>(&mut self, nodes: &[ExprBox<N>]) -> Result
+    pub(crate) fn exprs<N: EmitAt>(&mut self, nodes: &[ExprBox<N>]) -> Answer
         ensures items { Emits (listed (held N.items) true nodes.now) (state_of W.sheet self.old) (state_of W.sheet self.new) result }
         ensures level { OnOk result ((W.sheet self.new.wr).indentation ≡ (W.sheet self.old.wr).indentation) }
     {
@@ -46,7 +47,7 @@ impl<W: WriteJs, S: SourceMapper, C: Comments> Emitter<'_, W, S, C> {
 
     /// Writes statements, one after another.
     #[tactic(auto, using(crate::proofs::Steps::in_order_next), unfolding(crate::specs::Lists::in_order))]
-    pub(crate) fn stmts<N: EmitAt>(&mut self, nodes: &[StmtBox<N>]) -> Result
+    pub(crate) fn stmts<N: EmitAt>(&mut self, nodes: &[StmtBox<N>]) -> Answer
         ensures items { Emits (in_order (held_stmt N.items) nodes.now) (state_of W.sheet self.old) (state_of W.sheet self.new) result }
         ensures level { OnOk result ((W.sheet self.new.wr).indentation ≡ (W.sheet self.old.wr).indentation) }
     {

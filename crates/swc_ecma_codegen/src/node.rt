@@ -1,6 +1,7 @@
 //! Whatever can be printed.
 
 ghost use Rattle.std.specs.Prelude.{◌≡◌, ◌≢◌, true, false, IfErr, OnErr, OnOk, Err, IsOk};
+ghost use Rattle.swc_ecma_codegen_common.specs.Refusals.{in_short, reason_of};
 ghost use Rattle.swc_ecma_codegen_text_writer.specs.Told.{IsFront};
 ghost use Rattle.swc_ecma_codegen_base.specs.Run.{Part, Follows, HasCause, IsUnhindered, nothing, printed, remakes_name, steps_in, steps_of};
 ghost use Rattle.swc_ecma_codegen_base.specs.Written.{IsNew, AddsReading};
@@ -14,7 +15,7 @@ use crate::emitter::Emitter;
 use crate::nodes::{EmitAt, Place};
 use swc_ecma_codegen_ast::comments::Comments;
 use swc_ecma_codegen_ast::mapper::SourceMapper;
-use swc_ecma_codegen_common::{Error, Result};
+use swc_ecma_codegen_common::{Answer, Error, Result};
 use swc_ecma_codegen_spans::Spanned;
 use swc_ecma_codegen_text_writer::WriteJs;
 use swc_ecma_codegen_tree::{ExprBox, MemberExprBox, StmtBox};
@@ -29,13 +30,13 @@ pub trait Node: Spanned {
         e: &mut Emitter<'_, W, S, C>,
     ) -> Result
         // The steps of the tree are made, and it comes to no node that can't be printed; or it halts.
-        ensures items { Follows (part self.now nothing) (state_of W.sheet e.old) (state_of W.sheet e.new) result }
+        ensures items { Follows (part self.now nothing) (state_of W.sheet e.old) (state_of W.sheet e.new) (in_short result) }
         // What a new emitter adds to the text, of a well-formed tree, reads as one of the tree's token lists.
         ensures reads { (root : Root) → part self.now ≡ root_items root → is_well_formed_root root ≡ true → IsNew (state_of W.sheet e.old) → OnOk result (AddsReading (root_phrase root) (W.sheet e.old.wr).text (W.sheet e.new.wr).text) }
         // What is out is a beginning of the text of these steps.
         ensures front { IsFront (W.sheet e.new.wr).text (printed (part self.now) (state_of W.sheet e.old)).sheet.text }
         // It is refused only for the cause that the error names.
-        ensures cause { IfErr result (λ error. HasCause (steps_in (part self.now) (state_of W.sheet e.old)) error (state_of W.sheet e.old) (state_of W.sheet e.new)) }
+        ensures cause { IfErr result (λ error. HasCause (steps_in (part self.now) (state_of W.sheet e.old)) (reason_of error) (state_of W.sheet e.old) (state_of W.sheet e.new)) }
         // Where no name is made anew, and no call of the writer takes memory, none is wanting.
         ensures no_memory { remakes_name (steps_of (steps_in (part self.now) (state_of W.sheet e.old))) ≡ false → (W.sheet e.old.wr).takes_memory ≡ false → result ≢ Err Error.OutOfMemory }
         // Where nothing stands in its way, it is made.
@@ -69,7 +70,7 @@ impl<T: EmitAt> EmitAt for &T {
         &self,
         e: &mut Emitter<'_, W, S, C>,
         place: Place,
-    ) -> Result {
+    ) -> Answer {
         (**self).emit_at(e, place)
     }
 }
@@ -81,7 +82,7 @@ impl<T: EmitAt> EmitAt for Box<T> {
         &self,
         e: &mut Emitter<'_, W, S, C>,
         place: Place,
-    ) -> Result {
+    ) -> Answer {
         (**self).emit_at(e, place)
     }
 }
@@ -94,7 +95,7 @@ impl<T: EmitAt> EmitAt for Option<T> {
         &self,
         e: &mut Emitter<'_, W, S, C>,
         place: Place,
-    ) -> Result {
+    ) -> Answer {
         match self {
             Some(node) => node.emit_at(e, place),
             None => Ok(()),
@@ -109,7 +110,7 @@ impl<N: EmitAt> EmitAt for ExprBox<N> {
         &self,
         e: &mut Emitter<'_, W, S, C>,
         place: Place,
-    ) -> Result {
+    ) -> Answer {
         self.held().emit_at(e, place)
     }
 }
@@ -121,7 +122,7 @@ impl<N: EmitAt> EmitAt for StmtBox<N> {
         &self,
         e: &mut Emitter<'_, W, S, C>,
         place: Place,
-    ) -> Result {
+    ) -> Answer {
         self.held().emit_at(e, place)
     }
 }
@@ -133,7 +134,7 @@ impl<N: EmitAt> EmitAt for MemberExprBox<N> {
         &self,
         e: &mut Emitter<'_, W, S, C>,
         place: Place,
-    ) -> Result {
+    ) -> Answer {
         self.held().emit_at(e, place)
     }
 }

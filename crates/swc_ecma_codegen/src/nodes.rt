@@ -10,7 +10,7 @@ use crate::emitter::Emitter;
 use crate::operands::OperandKind;
 use swc_ecma_codegen_ast::comments::Comments;
 use swc_ecma_codegen_ast::mapper::SourceMapper;
-use swc_ecma_codegen_common::{BinaryOp, Result, Span};
+use swc_ecma_codegen_common::{Answer, BinaryOp, Span};
 use swc_ecma_codegen_text_writer::WriteJs;
 
 /// Where a node stands in the one above it.
@@ -69,7 +69,7 @@ pub trait EmitAt {
         &self,
         e: &mut Emitter<'_, W, S, C>,
         place: Place,
-    ) -> Result
+    ) -> Answer
         ensures items { Emits (items self.now place) (state_of W.sheet e.old) (state_of W.sheet e.new) result }
         ensures level { OnOk result ((W.sheet e.new.wr).indentation ≡ (W.sheet e.old.wr).indentation) };
 }

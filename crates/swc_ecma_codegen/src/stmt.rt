@@ -11,7 +11,8 @@ use crate::nodes::{EmitAt, Held, Place};
 use crate::places::stmt_place;
 use swc_ecma_codegen_ast::comments::Comments;
 use swc_ecma_codegen_ast::mapper::SourceMapper;
-use swc_ecma_codegen_common::{Result, Span};
+use swc_ecma_codegen_common::{Answer, Span};
+use swc_ecma_codegen_literals::Punctuator;
 use swc_ecma_codegen_spans::Spanned;
 use swc_ecma_codegen_text_writer::WriteJs;
 use swc_ecma_codegen_tree::{EmptyStmt, ExprStmt, Program, Script, Stmt, StmtBox};
@@ -24,7 +25,7 @@ impl<N: Held> EmitAt for Stmt<N> {
         &self,
         e: &mut Emitter<'_, W, S, C>,
         place: Place,
-    ) -> Result {
+    ) -> Answer {
         match self {
             Stmt::Empty(node) => node.emit_at(e, Place::Plain)?,
             Stmt::Expr(node) => node.emit_at(e, Place::Plain)?,
@@ -44,7 +45,7 @@ impl<N: Held> EmitAt for ExprStmt<N> {
         &self,
         e: &mut Emitter<'_, W, S, C>,
         place: Place,
-    ) -> Result {
+    ) -> Answer {
         e.leading_comments(self.span.lo)?;
         self.expr.held().emit_at(e, Place::Plain)?;
         e.semi()?;
@@ -60,9 +61,9 @@ impl EmitAt for EmptyStmt {
         &self,
         e: &mut Emitter<'_, W, S, C>,
         place: Place,
-    ) -> Result {
+    ) -> Answer {
         e.leading_comments(self.span.lo)?;
-        e.punct(";")?;
+        e.punct(Punctuator::Semicolon)?;
         Ok(())
     }
 }
@@ -75,7 +76,7 @@ impl<N: Held> EmitAt for Script<N> {
         &self,
         e: &mut Emitter<'_, W, S, C>,
         place: Place,
-    ) -> Result {
+    ) -> Answer {
         if self.shebang.is_some() {
             return e.unsupported();
         }
@@ -96,7 +97,7 @@ impl<N: Held> EmitAt for Program<N> {
         &self,
         e: &mut Emitter<'_, W, S, C>,
         place: Place,
-    ) -> Result {
+    ) -> Answer {
         match self {
             Program::Script(node) => node.emit_at(e, Place::Plain),
             _ => e.unsupported(),
@@ -107,7 +108,7 @@ impl<N: Held> EmitAt for Program<N> {
 impl<W: WriteJs, S: SourceMapper, C: Comments> Emitter<'_, W, S, C> {
     /// Records the start of a program without statements.
     #[tactic(auto, unfolding(crate::specs::Programs::start_if_empty))]
-    fn start_if_empty<N>(&mut self, body: &[StmtBox<N>], span: Span) -> Result
+    fn start_if_empty<N>(&mut self, body: &[StmtBox<N>], span: Span) -> Answer
         ensures items { Emits (start_if_empty body.now span) (state_of W.sheet self.old) (state_of W.sheet self.new) result }
         ensures level { OnOk result ((W.sheet self.new.wr).indentation ≡ (W.sheet self.old.wr).indentation) }
     {

@@ -1,6 +1,8 @@
 //! Calls of the lower emitter.
 
-ghost use Rattle.std.specs.Prelude.{◌≡◌, Option, OnOk};
+ghost use Rattle.std.specs.Prelude.{◌≡◌, Option, OnOk, true};
+ghost use Rattle.swc_ecma_codegen_literals.specs.Punctuators.{spelling};
+ghost use Rattle.swc_ecma_codegen_base.specs.Starts.{begins_letter};
 ghost use Rattle.swc_ecma_codegen_base.specs.Run.{Emits};
 ghost use Rattle.swc_ecma_codegen_base.specs.Words.{keyword, operator, word_operator, punct, semi, space, formatting_space, formatting_line, commit_pending_semi, position, position_before, start_of, end_of, last_of, leading_comments, trailing_comments, name};
 ghost use Rattle.swc_ecma_codegen.specs.Exprs.{blank, space_if, spaced_punct, opened, comments_before};
@@ -10,23 +12,25 @@ ghost use Rattle.swc_ecma_codegen.specs.View.{state_of};
 
 use crate::emitter::Emitter;
 use swc_ecma_codegen_ast::comments::Comments;
-use swc_ecma_codegen_base::Refusal;
-use swc_ecma_codegen_common::{BytePos, Result, Span};
+use swc_ecma_codegen_base::Unprintable;
+use swc_ecma_codegen_common::{Answer, BytePos, Span};
+use swc_ecma_codegen_literals::Punctuator;
 use swc_ecma_codegen_text_writer::WriteJs;
 
 impl<W: WriteJs, S, C: Comments> Emitter<'_, W, S, C> {
     /// Comes to a node that isn't printed yet.
     #[tactic(auto, unfolding(crate::specs::Lists::unsupported))]
-    pub(crate) fn unsupported(&mut self) -> Result
+    pub(crate) fn unsupported(&mut self) -> Answer
         ensures items { Emits unsupported (state_of W.sheet self.old) (state_of W.sheet self.new) result }
         ensures level { OnOk result ((W.sheet self.new.wr).indentation ≡ (W.sheet self.old.wr).indentation) }
     {
         self.lower
-            .refuse(&self.cfg, &self.wr, Refusal::UnsupportedNode)
+            .refuse(&self.cfg, &self.wr, Unprintable::UnsupportedNode)
     }
 
     /// Writes a keyword.
-    pub(crate) fn keyword(&mut self, span: Option<Span>, text: &'static str) -> Result
+    pub(crate) fn keyword(&mut self, span: Option<Span>, text: &'static str) -> Answer
+        requires { begins_letter text.now ≡ true }
         ensures items { Emits (keyword span text.now) (state_of W.sheet self.old) (state_of W.sheet self.new) result }
         ensures level { OnOk result ((W.sheet self.new.wr).indentation ≡ (W.sheet self.old.wr).indentation) }
     {
@@ -34,15 +38,16 @@ impl<W: WriteJs, S, C: Comments> Emitter<'_, W, S, C> {
     }
 
     /// Writes an operator that is a punctuator.
-    pub(crate) fn operator(&mut self, text: &'static str) -> Result
-        ensures items { Emits (operator text.now) (state_of W.sheet self.old) (state_of W.sheet self.new) result }
+    pub(crate) fn operator(&mut self, mark: Punctuator) -> Answer
+        ensures items { Emits (operator (spelling mark)) (state_of W.sheet self.old) (state_of W.sheet self.new) result }
         ensures level { OnOk result ((W.sheet self.new.wr).indentation ≡ (W.sheet self.old.wr).indentation) }
     {
-        self.lower.operator(&self.cfg, &mut self.wr, text)
+        self.lower.operator(&self.cfg, &mut self.wr, mark)
     }
 
     /// Writes an operator that is a word.
-    pub(crate) fn word_operator(&mut self, text: &'static str) -> Result
+    pub(crate) fn word_operator(&mut self, text: &'static str) -> Answer
+        requires { begins_letter text.now ≡ true }
         ensures items { Emits (word_operator text.now) (state_of W.sheet self.old) (state_of W.sheet self.new) result }
         ensures level { OnOk result ((W.sheet self.new.wr).indentation ≡ (W.sheet self.old.wr).indentation) }
     {
@@ -50,15 +55,15 @@ impl<W: WriteJs, S, C: Comments> Emitter<'_, W, S, C> {
     }
 
     /// Writes a punctuator.
-    pub(crate) fn punct(&mut self, text: &'static str) -> Result
-        ensures items { Emits (punct text.now) (state_of W.sheet self.old) (state_of W.sheet self.new) result }
+    pub(crate) fn punct(&mut self, mark: Punctuator) -> Answer
+        ensures items { Emits (punct (spelling mark)) (state_of W.sheet self.old) (state_of W.sheet self.new) result }
         ensures level { OnOk result ((W.sheet self.new.wr).indentation ≡ (W.sheet self.old.wr).indentation) }
     {
-        self.lower.punct(&self.cfg, &mut self.wr, text)
+        self.lower.punct(&self.cfg, &mut self.wr, mark)
     }
 
     /// Writes a semicolon that may be left out where it isn't needed.
-    pub(crate) fn semi(&mut self) -> Result
+    pub(crate) fn semi(&mut self) -> Answer
         ensures items { Emits (semi) (state_of W.sheet self.old) (state_of W.sheet self.new) result }
         ensures level { OnOk result ((W.sheet self.new.wr).indentation ≡ (W.sheet self.old.wr).indentation) }
     {
@@ -66,7 +71,7 @@ impl<W: WriteJs, S, C: Comments> Emitter<'_, W, S, C> {
     }
 
     /// Writes a blank.
-    pub(crate) fn space(&mut self) -> Result
+    pub(crate) fn space(&mut self) -> Answer
         ensures items { Emits (space) (state_of W.sheet self.old) (state_of W.sheet self.new) result }
         ensures level { OnOk result ((W.sheet self.new.wr).indentation ≡ (W.sheet self.old.wr).indentation) }
     {
@@ -74,7 +79,7 @@ impl<W: WriteJs, S, C: Comments> Emitter<'_, W, S, C> {
     }
 
     /// Writes a blank, unless the settings are to minify.
-    pub(crate) fn formatting_space(&mut self) -> Result
+    pub(crate) fn formatting_space(&mut self) -> Answer
         ensures items { Emits (formatting_space) (state_of W.sheet self.old) (state_of W.sheet self.new) result }
         ensures level { OnOk result ((W.sheet self.new.wr).indentation ≡ (W.sheet self.old.wr).indentation) }
     {
@@ -82,7 +87,7 @@ impl<W: WriteJs, S, C: Comments> Emitter<'_, W, S, C> {
     }
 
     /// Ends the line, unless the settings are to minify.
-    pub(crate) fn formatting_line(&mut self) -> Result
+    pub(crate) fn formatting_line(&mut self) -> Answer
         ensures items { Emits (formatting_line) (state_of W.sheet self.old) (state_of W.sheet self.new) result }
         ensures level { OnOk result ((W.sheet self.new.wr).indentation ≡ (W.sheet self.old.wr).indentation) }
     {
@@ -90,7 +95,7 @@ impl<W: WriteJs, S, C: Comments> Emitter<'_, W, S, C> {
     }
 
     /// Writes a semicolon that is held back.
-    pub(crate) fn commit_pending_semi(&mut self) -> Result
+    pub(crate) fn commit_pending_semi(&mut self) -> Answer
         ensures items { Emits (commit_pending_semi) (state_of W.sheet self.old) (state_of W.sheet self.new) result }
         ensures level { OnOk result ((W.sheet self.new.wr).indentation ≡ (W.sheet self.old.wr).indentation) }
     {
@@ -98,7 +103,7 @@ impl<W: WriteJs, S, C: Comments> Emitter<'_, W, S, C> {
     }
 
     /// Records a position, unless it is none.
-    pub(crate) fn position(&mut self, pos: BytePos) -> Result
+    pub(crate) fn position(&mut self, pos: BytePos) -> Answer
         ensures items { Emits (position pos) (state_of W.sheet self.old) (state_of W.sheet self.new) result }
         ensures level { OnOk result ((W.sheet self.new.wr).indentation ≡ (W.sheet self.old.wr).indentation) }
     {
@@ -106,7 +111,7 @@ impl<W: WriteJs, S, C: Comments> Emitter<'_, W, S, C> {
     }
 
     /// Records the position before one, unless that one is none.
-    pub(crate) fn position_before(&mut self, pos: BytePos) -> Result
+    pub(crate) fn position_before(&mut self, pos: BytePos) -> Answer
         ensures items { Emits (position_before pos) (state_of W.sheet self.old) (state_of W.sheet self.new) result }
         ensures level { OnOk result ((W.sheet self.new.wr).indentation ≡ (W.sheet self.old.wr).indentation) }
     {
@@ -114,7 +119,7 @@ impl<W: WriteJs, S, C: Comments> Emitter<'_, W, S, C> {
     }
 
     /// Records where a node begins.
-    pub(crate) fn start_of(&mut self, span: Span) -> Result
+    pub(crate) fn start_of(&mut self, span: Span) -> Answer
         ensures items { Emits (start_of span) (state_of W.sheet self.old) (state_of W.sheet self.new) result }
         ensures level { OnOk result ((W.sheet self.new.wr).indentation ≡ (W.sheet self.old.wr).indentation) }
     {
@@ -122,7 +127,7 @@ impl<W: WriteJs, S, C: Comments> Emitter<'_, W, S, C> {
     }
 
     /// Records where a node ends.
-    pub(crate) fn end_of(&mut self, span: Span) -> Result
+    pub(crate) fn end_of(&mut self, span: Span) -> Answer
         ensures items { Emits (end_of span) (state_of W.sheet self.old) (state_of W.sheet self.new) result }
         ensures level { OnOk result ((W.sheet self.new.wr).indentation ≡ (W.sheet self.old.wr).indentation) }
     {
@@ -130,7 +135,7 @@ impl<W: WriteJs, S, C: Comments> Emitter<'_, W, S, C> {
     }
 
     /// Records where a node's last character stands.
-    pub(crate) fn last_of(&mut self, span: Span) -> Result
+    pub(crate) fn last_of(&mut self, span: Span) -> Answer
         ensures items { Emits (last_of span) (state_of W.sheet self.old) (state_of W.sheet self.new) result }
         ensures level { OnOk result ((W.sheet self.new.wr).indentation ≡ (W.sheet self.old.wr).indentation) }
     {
@@ -138,7 +143,7 @@ impl<W: WriteJs, S, C: Comments> Emitter<'_, W, S, C> {
     }
 
     /// Writes the comments that stand before a position.
-    pub(crate) fn leading_comments(&mut self, pos: BytePos) -> Result
+    pub(crate) fn leading_comments(&mut self, pos: BytePos) -> Answer
         ensures items { Emits (leading_comments pos) (state_of W.sheet self.old) (state_of W.sheet self.new) result }
         ensures level { OnOk result ((W.sheet self.new.wr).indentation ≡ (W.sheet self.old.wr).indentation) }
     {
@@ -147,7 +152,7 @@ impl<W: WriteJs, S, C: Comments> Emitter<'_, W, S, C> {
     }
 
     /// Writes the comments that stand after a position.
-    pub(crate) fn trailing_comments(&mut self, pos: BytePos, prefix_space: bool) -> Result
+    pub(crate) fn trailing_comments(&mut self, pos: BytePos, prefix_space: bool) -> Answer
         ensures items { Emits (trailing_comments prefix_space pos) (state_of W.sheet self.old) (state_of W.sheet self.new) result }
         ensures level { OnOk result ((W.sheet self.new.wr).indentation ≡ (W.sheet self.old.wr).indentation) }
     {
@@ -156,7 +161,7 @@ impl<W: WriteJs, S, C: Comments> Emitter<'_, W, S, C> {
     }
 
     /// Writes a name with its comments.
-    pub(crate) fn name(&mut self, span: Span, sym: &str, optional: bool) -> Result
+    pub(crate) fn name(&mut self, span: Span, sym: &str, optional: bool) -> Answer
         ensures items { Emits (name span sym.now optional) (state_of W.sheet self.old) (state_of W.sheet self.new) result }
         ensures level { OnOk result ((W.sheet self.new.wr).indentation ≡ (W.sheet self.old.wr).indentation) }
     {
@@ -165,7 +170,7 @@ impl<W: WriteJs, S, C: Comments> Emitter<'_, W, S, C> {
 
     /// Writes a blank where one is needed, else what the settings want.
     #[tactic(auto, unfolding(crate::specs::Exprs::blank))]
-    pub(crate) fn blank(&mut self, needed: bool) -> Result
+    pub(crate) fn blank(&mut self, needed: bool) -> Answer
         ensures items { Emits (blank needed) (state_of W.sheet self.old) (state_of W.sheet self.new) result }
         ensures level { OnOk result ((W.sheet self.new.wr).indentation ≡ (W.sheet self.old.wr).indentation) }
     {
@@ -178,7 +183,7 @@ impl<W: WriteJs, S, C: Comments> Emitter<'_, W, S, C> {
 
     /// Writes a blank where one is needed.
     #[tactic(auto, unfolding(crate::specs::Exprs::space_if))]
-    pub(crate) fn space_if(&mut self, needed: bool) -> Result
+    pub(crate) fn space_if(&mut self, needed: bool) -> Answer
         ensures items { Emits (space_if needed) (state_of W.sheet self.old) (state_of W.sheet self.new) result }
         ensures level { OnOk result ((W.sheet self.new.wr).indentation ≡ (W.sheet self.old.wr).indentation) }
     {
@@ -190,19 +195,19 @@ impl<W: WriteJs, S, C: Comments> Emitter<'_, W, S, C> {
 
     /// Writes a punctuator between two blanks, as ` ? `; the blanks aren't written where the settings are to minify.
     #[tactic(auto, unfolding(crate::specs::Exprs::spaced_punct))]
-    pub(crate) fn spaced_punct(&mut self, text: &'static str) -> Result
-        ensures items { Emits (spaced_punct text.now) (state_of W.sheet self.old) (state_of W.sheet self.new) result }
+    pub(crate) fn spaced_punct(&mut self, mark: Punctuator) -> Answer
+        ensures items { Emits (spaced_punct (spelling mark)) (state_of W.sheet self.old) (state_of W.sheet self.new) result }
         ensures level { OnOk result ((W.sheet self.new.wr).indentation ≡ (W.sheet self.old.wr).indentation) }
     {
         self.formatting_space()?;
-        self.punct(text)?;
+        self.punct(mark)?;
         self.formatting_space()?;
         Ok(())
     }
 
     /// Writes the comments before a node, and records its start.
     #[tactic(auto, unfolding(crate::specs::Exprs::opened))]
-    pub(crate) fn opened(&mut self, span: Span) -> Result
+    pub(crate) fn opened(&mut self, span: Span) -> Answer
         ensures items { Emits (opened span) (state_of W.sheet self.old) (state_of W.sheet self.new) result }
         ensures level { OnOk result ((W.sheet self.new.wr).indentation ≡ (W.sheet self.old.wr).indentation) }
     {
@@ -213,7 +218,7 @@ impl<W: WriteJs, S, C: Comments> Emitter<'_, W, S, C> {
 
     /// Writes the comments at the position before one.
     #[tactic(auto, unfolding(crate::specs::Exprs::comments_before))]
-    pub(crate) fn comments_before(&mut self, pos: BytePos) -> Result
+    pub(crate) fn comments_before(&mut self, pos: BytePos) -> Answer
         ensures items { Emits (comments_before pos) (state_of W.sheet self.old) (state_of W.sheet self.new) result }
         ensures level { OnOk result ((W.sheet self.new.wr).indentation ≡ (W.sheet self.old.wr).indentation) }
     {
@@ -225,7 +230,7 @@ impl<W: WriteJs, S, C: Comments> Emitter<'_, W, S, C> {
 
     /// Writes a semicolon that is held back at the end, unless the settings leave it out.
     #[tactic(auto, unfolding(crate::specs::Programs::last_semi), using(crate::proofs::Asked::kept_back, crate::proofs::Asked::committed))]
-    pub(crate) fn last_semi(&mut self) -> Result
+    pub(crate) fn last_semi(&mut self) -> Answer
         ensures items { Emits (last_semi) (state_of W.sheet self.old) (state_of W.sheet self.new) result }
         ensures level { OnOk result ((W.sheet self.new.wr).indentation ≡ (W.sheet self.old.wr).indentation) }
     {

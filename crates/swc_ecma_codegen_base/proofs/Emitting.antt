@@ -1,12 +1,12 @@
 -- Steps that are made, and steps that are refused.
 use Rattle.std.proofs.Common.{◌≡◌, true, false, cond, [], ◌∷◌, Result, Ok, Err, None, refl, sym, ◌∙◌, ap, subst}
 use Rattle.std.specs.Str.{chars}
-use Rattle.swc_ecma_codegen_common.specs.declared.errors.Error.{Error}
-use Rattle.swc_ecma_codegen_common.specs.declared.errors.Error.TheVariants.{Failed}
+use Rattle.swc_ecma_codegen_common.specs.declared.errors.Refusal.{Refusal}
+use Rattle.swc_ecma_codegen_common.specs.declared.errors.Refusal.TheVariants.{Failed}
 use Rattle.swc_ecma_codegen_ast.specs.GapRules.{fuses, Apart}
 use Rattle.swc_ecma_codegen_text_writer.specs.Sheet.{Space, effect}
-use Rattle.swc_ecma_codegen_base.specs.declared.refusals.Refusal.{Refusal}
-use Rattle.swc_ecma_codegen_base.specs.Run.{Env, Plan, Part, State, Step, Guard, Token, Plain, Steps, next, IsRefused, Halts, earlier, stopped, reached, Follows, run, steps_of, error_of, refusal_of, put, step, refuse, nothing, when_minified}
+use Rattle.swc_ecma_codegen_base.specs.declared.refusals.Unprintable.{Unprintable}
+use Rattle.swc_ecma_codegen_base.specs.Run.{Env, Plan, Part, State, Step, Guard, Token, Plain, Steps, next, IsRefused, Halts, earlier, stopped, reached, Follows, run, steps_of, refusal_of, unprintable_in, put, step, refuse, nothing, when_minified}
 
 -- an earlier refusal is not forgotten
 pub put_failed : (x : Step) (s : State) → (put x s).failed ≡ s.failed
@@ -23,20 +23,20 @@ put_env (Token kind x) s = refl
 put_env (Plain x) s = refl
 put_env x s = refl
 
-halts_later : (x : Step) {xs : Steps} {e : Error} {a b : State} → a.failed ≡ false → Halts xs e (put x a) b → Halts (next x xs) e a b
-unfolding run steps_of refusal_of
+halts_later : (x : Step) {xs : Steps} {e : Refusal} {a b : State} → a.failed ≡ false → Halts xs e (put x a) b → Halts (next x xs) e a b
+unfolding run steps_of unprintable_in
 halts_later x {a = a} f (earlier h k eq) = absurd (let z : true ≡ false = sym h ∙ put_failed x a ∙ f in cc)
 halts_later x f (stopped h) = stopped (record { front = x ∷ h.front; step = h.step; rest = h.rest; split = ap (λ zs. x ∷ zs) h.split; fresh = f; marked = h.marked; refuses = h.refuses })
 halts_later x f (reached r h k eq m) = reached r f k eq m
 
 -- a step that is made, and then the rest
-pub follows_step : (x : Step) (rest : Plan) (a c : State) (r : Result (Unit {0}) Error) → a.failed ≡ false → Follows rest (put x a) c r → Follows (step x rest) a c r
-unfolding Follows step run steps_of refusal_of
-follows_step x rest a c (Ok u) f h = let P : Env → Type 0 = λ v. (refusal_of (rest v) ≡ None) × (c ≡ run (steps_of (rest v)) (put x a)) in subst P (put_env x a) h
+pub follows_step : (x : Step) (rest : Plan) (a c : State) (r : Result (Unit {0}) Refusal) → a.failed ≡ false → Follows rest (put x a) c r → Follows (step x rest) a c r
+unfolding Follows step run steps_of unprintable_in
+follows_step x rest a c (Ok u) f h = let P : Env → Type 0 = λ v. (unprintable_in (rest v) ≡ None) × (c ≡ run (steps_of (rest v)) (put x a)) in subst P (put_env x a) h
 follows_step x rest a c (Err e) f h = let P : Env → Type 0 = λ v. Halts (rest v) e (put x a) c in halts_later x f (subst P (put_env x a) h)
 
 -- a step that is made
-pub emits_step : (x : Step) (a b : State) → a.failed ≡ false → b ≡ put x a → (rest : Plan) (c : State) (r : Result (Unit {0}) Error) → Follows rest b c r → Follows (step x rest) a c r
+pub emits_step : (x : Step) (a b : State) → a.failed ≡ false → b ≡ put x a → (rest : Plan) (c : State) (r : Result (Unit {0}) Refusal) → Follows rest b c r → Follows (step x rest) a c r
 emits_step x a b f eq rest c r h = follows_step x rest a c r f (let P : State → Type 0 = λ s. Follows rest s c r in subst P eq h)
 
 -- a plan of an emitter that was refused before
@@ -45,24 +45,24 @@ unfolding Follows
 emits_failed p a h = earlier h refl refl
 
 -- a step that is refused
-pub emits_refused : (x : Step) (e : Error) (a b : State) → a.failed ≡ false → b ≡ record a { sheet = b.sheet; failed = true } → IsRefused x e a b.sheet → (rest : Plan) → Follows (step x rest) a b (Err e)
+pub emits_refused : (x : Step) (e : Refusal) (a b : State) → a.failed ≡ false → b ≡ record a { sheet = b.sheet; failed = true } → IsRefused x e a b.sheet → (rest : Plan) → Follows (step x rest) a b (Err e)
 unfolding Follows step run steps_of
 emits_refused x e a b f eq h rest = stopped (record { front = []; step = x; rest = steps_of (rest a.env); split = refl; fresh = f; marked = eq; refuses = h })
 
 -- a node that can't be printed
-pub emits_refusal : (r : Refusal) (e : Error) (a b : State) → a.failed ≡ false → e ≡ error_of r → b ≡ record a { failed = true } → (rest : Plan) → Follows (refuse r rest) a b (Err e)
-unfolding Follows refuse refusal_of steps_of run
+pub emits_refusal : (r : Unprintable) (e : Refusal) (a b : State) → a.failed ≡ false → e ≡ refusal_of r → b ≡ record a { failed = true } → (rest : Plan) → Follows (refuse r rest) a b (Err e)
+unfolding Follows refuse unprintable_in steps_of run
 emits_refusal r e a b h eq k rest = reached r h refl eq k
 
 -- nothing is left
 pub emits_nothing : (a : State) → Follows nothing a a (Ok tt)
-unfolding Follows nothing run steps_of refusal_of
+unfolding Follows nothing run steps_of unprintable_in
 emits_nothing a = (refl, refl)
 
 -- what a plan follows depends only on its steps
-pub follows_same : (p q : Plan) (a c : State) (r : Result (Unit {0}) Error) → p a.env ≡ q a.env → Follows q a c r → Follows p a c r
+pub follows_same : (p q : Plan) (a c : State) (r : Result (Unit {0}) Refusal) → p a.env ≡ q a.env → Follows q a c r → Follows p a c r
 unfolding Follows
-follows_same p q a c (Ok u) e h = let P : Steps → Type 0 = λ xs. (refusal_of xs ≡ None) × (c ≡ run (steps_of xs) a) in subst P (sym e) h
+follows_same p q a c (Ok u) e h = let P : Steps → Type 0 = λ xs. (unprintable_in xs ≡ None) × (c ≡ run (steps_of xs) a) in subst P (sym e) h
 follows_same p q a c (Err x) e h = let P : Steps → Type 0 = λ xs. Halts xs x a c in subst P (sym e) h
 
 pub minified_same : (part other : Part) (rest : Plan) (env : Env) → env.config.minify ≡ true → when_minified part other rest env ≡ part rest env

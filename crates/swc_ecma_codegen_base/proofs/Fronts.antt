@@ -1,16 +1,16 @@
 -- What is out after a refusal, and why.
 use Rattle.std.proofs.Common.{◌≡◌, ℕ, Bool, true, false, ◌||◌, cond, List, [], ◌∷◌, ◌++◌, Result, Ok, Err, OnErr, IfErr, IsOk, Some, refl, sym, ◌∙◌, ap, subst, arith}
 use Rattle.std.specs.Str.{chars}
-use Rattle.swc_ecma_codegen_common.specs.declared.errors.Error.{Error}
-use Rattle.swc_ecma_codegen_common.specs.declared.errors.Error.TheVariants.{Writer, OutOfMemory, UnsupportedNode, BadShape, NameOutOfTarget, PositionTooLarge, Failed}
+use Rattle.swc_ecma_codegen_common.specs.declared.errors.Refusal.{Refusal}
+use Rattle.swc_ecma_codegen_common.specs.declared.errors.Refusal.TheVariants.{Writer, OutOfMemory, UnsupportedNode, BadShape, NameOutOfTarget, PositionTooLarge, Failed}
 use Rattle.swc_ecma_codegen_ast.specs.GapRules.{fuses, Apart}
 use Rattle.swc_ecma_codegen_text_writer.specs.Told.{IsFront, Rises}
 use Rattle.swc_ecma_codegen_text_writer.specs.Sheet.{Item, Space, Deeper, Sheet, effect, Causes, Refuses, earlier, stopped}
 use Rattle.swc_ecma_codegen_text_writer.proofs.Sheets.{front_refl, front_trans, effect_grows, effect_refused, effect_faults, effect_takes_memory, effect_whole}
-use Rattle.swc_ecma_codegen_base.specs.declared.refusals.Refusal.{Refusal}
-use Rattle.swc_ecma_codegen_base.specs.declared.refusals.Refusal.TheVariants as refusals
+use Rattle.swc_ecma_codegen_base.specs.declared.refusals.Unprintable.{Unprintable}
+use Rattle.swc_ecma_codegen_base.specs.declared.refusals.Unprintable.TheVariants as unprintable
 use Rattle.swc_ecma_codegen_base.specs.Run as run
-use Rattle.swc_ecma_codegen_base.specs.Run.{State, Step, Guard, Token, Plain, Remake, put, run, IsRefused, Steps, steps_of, refusal_of, error_of, Stops, Halts, reached, Plan, Follows, remakes_name, has_backslash, deepens, HasCause, IsUnhindered}
+use Rattle.swc_ecma_codegen_base.specs.Run.{State, Step, Guard, Token, Plain, Remake, put, run, IsRefused, Steps, steps_of, unprintable_in, refusal_of, Stops, Halts, reached, Plan, Follows, remakes_name, has_backslash, deepens, HasCause, IsUnhindered}
 
 -- ---- what steps do to a sheet
 
@@ -49,18 +49,18 @@ run_append (x ∷ xs) ys a = run_append xs ys (put x a)
 
 -- ---- a refused step
 
-refuses_front : {x : Item} {e : Error} (old new : Sheet) → Refuses x e old new → IsFront new.text (effect x old).text
+refuses_front : {x : Item} {e : Refusal} (old new : Sheet) → Refuses x e old new → IsFront new.text (effect x old).text
 refuses_front {x = x} old new (earlier h k eq) = let P : Sheet → Type 0 = λ s. IsFront s.text (effect x old).text in subst P (sym eq) (effect_grows x old)
 refuses_front old new (stopped h k s) = s.front
 
-refused_front : (x : Step) (e : Error) (a : State) (new : Sheet) → IsRefused x e a new → IsFront new.text (put x a).sheet.text
+refused_front : (x : Step) (e : Refusal) (a : State) (new : Sheet) → IsRefused x e a new → IsFront new.text (put x a).sheet.text
 unfolding IsRefused put
 refused_front (Guard t) e a new h = let P : Bool → Type 0 = λ b. IsFront new.text (cond b (record a { sheet = effect Space a.sheet; last = Apart }) a).sheet.text in subst P (sym h.0) (refuses_front a.sheet new h.1)
 refused_front (Token kind x) e a new h = refuses_front a.sheet new h
 refused_front (Plain x) e a new h = refuses_front a.sheet new h
 refused_front (Remake name) e a new h = let P : Sheet → Type 0 = λ s. IsFront s.text a.sheet.text in subst P (sym h.2) (front_refl a.sheet.text)
 
-stops_front : (xs : List Step) (e : Error) (a b : State) → Stops xs e a b → IsFront b.sheet.text (run xs a).sheet.text
+stops_front : (xs : List Step) (e : Refusal) (a b : State) → Stops xs e a b → IsFront b.sheet.text (run xs a).sheet.text
 unfolding run
 stops_front xs e a b h =
     let there : State = run h.front a in
@@ -69,7 +69,7 @@ stops_front xs e a b h =
     (front_trans _ _ _ (refused_front h.step e there b.sheet h.refuses) (run_grows h.rest (put h.step there)))
 
 -- what is out is a beginning of the text of the steps
-pub follows_front : (p : Plan) (a b : State) (r : Result (Unit {0}) Error) → Follows p a b r → IsFront b.sheet.text (run (steps_of (p a.env)) a).sheet.text
+pub follows_front : (p : Plan) (a b : State) (r : Result (Unit {0}) Refusal) → Follows p a b r → IsFront b.sheet.text (run (steps_of (p a.env)) a).sheet.text
 unfolding Follows
 follows_front p a b (Ok u) h = let P : State → Type 0 = λ s. IsFront b.sheet.text s.sheet.text in subst P h.1 (front_refl b.sheet.text)
 follows_front p a b (Err e) (run.earlier h k eq) = let P : State → Type 0 = λ s. IsFront s.sheet.text (run (steps_of (p a.env)) a).sheet.text in subst P (sym eq) (run_grows (steps_of (p a.env)) a)
@@ -77,12 +77,12 @@ follows_front p a b (Err e) (run.stopped h) = stops_front (steps_of (p a.env)) e
 follows_front p a b (Err e) (reached r h k q eq) = let P : State → Type 0 = λ s. IsFront s.sheet.text (run (steps_of (p a.env)) a).sheet.text in subst P (sym eq) (front_refl (run (steps_of (p a.env)) a).sheet.text)
 
 -- a refusal leaves its mark
-halts_marked : (xs : Steps) (e : Error) (a b : State) → Halts xs e a b → b.failed ≡ true
+halts_marked : (xs : Steps) (e : Refusal) (a b : State) → Halts xs e a b → b.failed ≡ true
 halts_marked xs e a b (run.earlier h k eq) = ap (λ (s : State). s.failed) eq ∙ h
 halts_marked xs e a b (run.stopped h) = ap (λ (s : State). s.failed) h.marked
 halts_marked xs e a b (reached r h k q eq) = ap (λ (s : State). s.failed) eq
 
-pub follows_marked : (p : Plan) (a b : State) (r : Result (Unit {0}) Error) → Follows p a b r → OnErr r (b.failed ≡ true)
+pub follows_marked : (p : Plan) (a b : State) (r : Result (Unit {0}) Refusal) → Follows p a b r → OnErr r (b.failed ≡ true)
 unfolding Follows
 follows_marked p a b (Ok u) h = tt
 follows_marked p a b (Err e) h = halts_marked (p a.env) e a b h
@@ -107,16 +107,16 @@ remakes-append (Token kind x ∷ xs) name rest h = remakes-append xs name rest h
 remakes-append (Plain x ∷ xs) name rest h = remakes-append xs name rest h
 
 -- a call that is refused after some steps
-call_cause : (xs : Steps) (front : List Step) (step : Step) (rest : List Step) (x : Item) (e : Error) (a b : State) → steps_of xs ≡ front ++ (step ∷ rest) → (x ≡ Deeper → deepens step) → Refuses x e (run front a).sheet b.sheet → HasCause xs e a b
+call_cause : (xs : Steps) (front : List Step) (step : Step) (rest : List Step) (x : Item) (e : Refusal) (a b : State) → steps_of xs ≡ front ++ (step ∷ rest) → (x ≡ Deeper → deepens step) → Refuses x e (run front a).sheet b.sheet → HasCause xs e a b
 unfolding HasCause Causes
-call_cause xs front step rest x (Writer w) a b split deep (earlier h k eq) = absurd (cc)
+call_cause xs front step rest x Writer a b split deep (earlier h k eq) = absurd (cc)
 call_cause xs front step rest x OutOfMemory a b split deep (earlier h k eq) = absurd (cc)
 call_cause xs front step rest x UnsupportedNode a b split deep (earlier h k eq) = absurd (cc)
 call_cause xs front step rest x BadShape a b split deep (earlier h k eq) = absurd (cc)
 call_cause xs front step rest x NameOutOfTarget a b split deep (earlier h k eq) = absurd (cc)
 call_cause xs front step rest x PositionTooLarge a b split deep (earlier h k eq) = absurd (cc)
 call_cause xs front step rest x Failed a b split deep (earlier h k eq) = or_right a.failed a.sheet.refused (sym (run_sheet (λ s. s.refused) effect_refused front a) ∙ h)
-call_cause xs front step rest x (Writer w) a b split deep (stopped h k s) = let P : ℕ → Type 0 = λ n. Rises n b.sheet.faults in subst P (run_sheet (λ z. z.faults) effect_faults front a) k
+call_cause xs front step rest x Writer a b split deep (stopped h k s) = let P : ℕ → Type 0 = λ n. Rises n b.sheet.faults in subst P (run_sheet (λ z. z.faults) effect_faults front a) k
 call_cause xs front step rest x OutOfMemory a b split deep (stopped h k s) = or_left a.sheet.takes_memory (remakes_name (steps_of xs)) (sym (run_sheet (λ z. z.takes_memory) effect_takes_memory front a) ∙ k)
 call_cause xs front step rest x UnsupportedNode a b split deep (stopped h k s) = absurd k
 call_cause xs front step rest x BadShape a b split deep (stopped h k s) = absurd k
@@ -127,29 +127,29 @@ call_cause xs front step rest x Failed a b split deep (stopped h k s) = absurd k
 space_no_deeper : {P : Type 0} → ◌≡◌ {A = Item} Space Deeper → P
 space_no_deeper h = absurd (cc)
 
-refused_cause : (xs : Steps) (front : List Step) (x : Step) (rest : List Step) (e : Error) (a b : State) → steps_of xs ≡ front ++ (x ∷ rest) → IsRefused x e (run front a) b.sheet → HasCause xs e a b
+refused_cause : (xs : Steps) (front : List Step) (x : Step) (rest : List Step) (e : Refusal) (a b : State) → steps_of xs ≡ front ++ (x ∷ rest) → IsRefused x e (run front a) b.sheet → HasCause xs e a b
 unfolding IsRefused deepens HasCause
 refused_cause xs front (Guard t) rest e a b split h = call_cause xs front (Guard t) rest Space e a b split space_no_deeper h.1
 refused_cause xs front (Token kind x) rest e a b split h = call_cause xs front (Token kind x) rest x e a b split (λ d. d) h
 refused_cause xs front (Plain x) rest e a b split h = call_cause xs front (Plain x) rest x e a b split (λ d. d) h
 refused_cause xs front (Remake name) rest e a b split h =
-    let P : Error → Type 0 = λ z. HasCause xs z a b in
+    let P : Refusal → Type 0 = λ z. HasCause xs z a b in
     subst P (sym h.0) (or_right a.sheet.takes_memory (remakes_name (steps_of xs)) (ap remakes_name split ∙ remakes-append front name rest h.1))
 
-reached_cause : (xs : Steps) (r : Refusal) (a b : State) → refusal_of xs ≡ Some r → b ≡ record (run (steps_of xs) a) { failed = true } → HasCause xs (error_of r) a b
-unfolding HasCause error_of
-reached_cause xs refusals.UnsupportedNode a b h k = record { refusal = h; made = k }
-reached_cause xs refusals.BadShape a b h k = record { refusal = h; made = k }
-reached_cause xs refusals.NameOutOfTarget a b h k = record { refusal = h; made = k }
+reached_cause : (xs : Steps) (r : Unprintable) (a b : State) → unprintable_in xs ≡ Some r → b ≡ record (run (steps_of xs) a) { failed = true } → HasCause xs (refusal_of r) a b
+unfolding HasCause refusal_of
+reached_cause xs unprintable.UnsupportedNode a b h k = record { refusal = h; made = k }
+reached_cause xs unprintable.BadShape a b h k = record { refusal = h; made = k }
+reached_cause xs unprintable.NameOutOfTarget a b h k = record { refusal = h; made = k }
 
-halts_cause : (xs : Steps) (e : Error) (a b : State) → Halts xs e a b → HasCause xs e a b
+halts_cause : (xs : Steps) (e : Refusal) (a b : State) → Halts xs e a b → HasCause xs e a b
 unfolding HasCause
-halts_cause xs e a b (run.earlier h k eq) = let P : Error → Type 0 = λ z. HasCause xs z a b in subst P (sym k) (or_left a.failed a.sheet.refused h)
+halts_cause xs e a b (run.earlier h k eq) = let P : Refusal → Type 0 = λ z. HasCause xs z a b in subst P (sym k) (or_left a.failed a.sheet.refused h)
 halts_cause xs e a b (run.stopped h) = refused_cause xs h.front h.step h.rest e a b h.split h.refuses
-halts_cause xs e a b (reached r h k q eq) = let P : Error → Type 0 = λ z. HasCause xs z a b in subst P (sym q) (reached_cause xs r a b k eq)
+halts_cause xs e a b (reached r h k q eq) = let P : Refusal → Type 0 = λ z. HasCause xs z a b in subst P (sym q) (reached_cause xs r a b k eq)
 
 -- an emission is refused only for the cause that its error names
-pub follows_cause : (p : Plan) (a b : State) (r : Result (Unit {0}) Error) → Follows p a b r → IfErr r (λ e. HasCause (p a.env) e a b)
+pub follows_cause : (p : Plan) (a b : State) (r : Result (Unit {0}) Refusal) → Follows p a b r → IfErr r (λ e. HasCause (p a.env) e a b)
 unfolding Follows
 follows_cause p a b (Ok u) h = tt
 follows_cause p a b (Err e) h = halts_cause (p a.env) e a b h
@@ -159,9 +159,9 @@ follows_cause p a b (Err e) h = halts_cause (p a.env) e a b h
 true_is_not_false : (b : Bool) → b ≡ true → b ≡ false → ⊥
 true_is_not_false b h k = let z : true ≡ false = sym h ∙ k in absurd (cc)
 
-unhindered_cause : (xs : Steps) (e : Error) (a b : State) → IsUnhindered xs a b → HasCause xs e a b → ⊥
+unhindered_cause : (xs : Steps) (e : Refusal) (a b : State) → IsUnhindered xs a b → HasCause xs e a b → ⊥
 unfolding HasCause
-unhindered_cause xs (Writer w) a b u h = omega (arith, h, u.no_fault, u.can_count)
+unhindered_cause xs Writer a b u h = omega (arith, h, u.no_fault, u.can_count)
 unhindered_cause xs OutOfMemory a b u h = true_is_not_false _ h u.no_memory
 unhindered_cause xs UnsupportedNode a b u h = let z = sym h.refusal ∙ u.printable in absurd (cc)
 unhindered_cause xs BadShape a b u h = let z = sym h.refusal ∙ u.printable in absurd (cc)
@@ -170,7 +170,7 @@ unhindered_cause xs PositionTooLarge a b u h = u.within h
 unhindered_cause xs Failed a b u h = true_is_not_false _ h u.fresh
 
 -- where nothing stands in its way, an emission is made
-pub follows_succeeds : (p : Plan) (a b : State) (r : Result (Unit {0}) Error) → Follows p a b r → IsUnhindered (p a.env) a b → IsOk r
+pub follows_succeeds : (p : Plan) (a b : State) (r : Result (Unit {0}) Refusal) → Follows p a b r → IsUnhindered (p a.env) a b → IsOk r
 follows_succeeds p a b (Ok u) h k = refl
 follows_succeeds p a b (Err e) h k = absurd (unhindered_cause (p a.env) e a b k (follows_cause p a b (Err e) h))
 
@@ -179,6 +179,6 @@ pub follows_failed : (p : Plan) (a : State) → a.failed ≡ true → Follows p 
 unfolding Follows
 follows_failed p a h = run.earlier h refl refl
 
-pub on_err : {P : Type 0} (r : Result (Unit {0}) Error) → P → OnErr r P
+pub on_err : {P : Type 0} (r : Result (Unit {0}) Refusal) → P → OnErr r P
 on_err (Ok u) h = tt
 on_err (Err e) h = h

@@ -1,9 +1,14 @@
 pub mod Emitting
+pub mod Short
 pub mod Calls
 pub mod Spelled
 pub mod Fronts
 pub mod Levels
-pub mod Fusing
+pub mod Strangers
+pub mod Starting
+pub mod Entries
+pub mod Afters
+pub mod Marks
 pub mod Indented
 pub mod Written
 pub mod Printed

@@ -2,11 +2,13 @@
 use Rattle.std.proofs.Common.{◌≡◌, ◌+◌, ◌^◌, ◌<◌, true, false, List, [], ◌∷◌, ◌++◌, length, length-append, Result, Ok, Err, None, Option, Some, OnOk, IsOk, refl, sym, ap, ◌∙◌, subst, arith}
 use Rattle.std.proofs.lemmas.Bool.{or_from, true≢false}
 use Rattle.swc_ecma_codegen_common.specs.declared.errors.Error.{Error}
-use Rattle.swc_ecma_codegen_base.specs.declared.refusals.Refusal.{Refusal}
+use Rattle.swc_ecma_codegen_common.specs.declared.errors.Refusal.{Refusal}
+use Rattle.swc_ecma_codegen_common.specs.Refusals.{in_short}
+use Rattle.swc_ecma_codegen_base.specs.declared.refusals.Unprintable.{Unprintable}
 use Rattle.swc_ecma_codegen_text_writer.proofs.Sheets.{effect_refused, effect_faults, effect_takes_memory}
 use Rattle.swc_ecma_codegen_ast.specs.Tokens.{Token as LexicalToken}
 use Rattle.swc_ecma_codegen_ast.specs.Phrases.{Phrase, Never, Nothing, One, NameOf, Then, Generates, is_possible}
-use Rattle.swc_ecma_codegen_base.specs.Run.{Env, Plan, Part, Step, State, done, run, steps_of, refusal_of, nothing, Follows, PassesLimit, IsUnhindered, earlier, stopped, reached}
+use Rattle.swc_ecma_codegen_base.specs.Run.{Env, Plan, Part, Step, State, done, run, steps_of, unprintable_in, nothing, Follows, PassesLimit, IsUnhindered, earlier, stopped, reached}
 use Rattle.swc_ecma_codegen_base.specs.Ready.{token_count, IsPlainTree, IsReady}
 use Rattle.swc_ecma_codegen_base.proofs.Emitting.{put_failed, put_env}
 use Rattle.swc_ecma_codegen_base.proofs.Fronts.{run_sheet, follows_succeeds}
@@ -28,15 +30,15 @@ counted (Then a b) ts g =
     omega (arith, h, k, e, length-append g.0 g.1)
 
 -- these steps come to an end
-comes_to_end : (xs : List Step) → refusal_of (chain xs done) ≡ None
-unfolding chain refusal_of
+comes_to_end : (xs : List Step) → unprintable_in (chain xs done) ≡ None
+unfolding chain unprintable_in
 comes_to_end [] = refl
 comes_to_end (x ∷ xs) = comes_to_end xs
 
 -- each node of a well-formed tree can be printed
-pub printable : (p : Part) (f : Phrase) (env : Env) → Prints env p f → is_possible f ≡ true → refusal_of (p nothing env) ≡ None
+pub printable : (p : Part) (f : Phrase) (env : Env) → Prints env p f → is_possible f ≡ true → unprintable_in (p nothing env) ≡ None
 unfolding nothing
-printable p f env prints w = let h = prints.where_possible w in ap refusal_of (h.writes.is_steps nothing) ∙ comes_to_end h.writes.steps
+printable p f env prints w = let h = prints.where_possible w in ap unprintable_in (h.writes.is_steps nothing) ∙ comes_to_end h.writes.steps
 
 -- and with room for as many levels as tokens it comes to no limit
 pub within : (p : Part) (f : Phrase) (a : State) → Prints a.env p f → is_possible f ≡ true → a.sheet.indentation + token_count f < 2 ^ 32 → PassesLimit (steps_of (p nothing a.env)) a → ⊥
@@ -60,7 +62,7 @@ plain_unhindered p f a b prints t s e = record {
   printable = printable p f a.env prints t.well_formed;
 }
 
-pub plain_made : (p : Part) (f : Phrase) (a b : State) (r : Result (Unit {0}) Error) → Prints a.env p f → IsPlainTree f a.sheet.indentation → IsReady a → b.sheet.faults ≡ a.sheet.faults → Follows (p nothing) a b r → IsOk r
+pub plain_made : (p : Part) (f : Phrase) (a b : State) (r : Result (Unit {0}) Refusal) → Prints a.env p f → IsPlainTree f a.sheet.indentation → IsReady a → b.sheet.faults ≡ a.sheet.faults → Follows (p nothing) a b r → IsOk r
 plain_made p f a b r prints t s e h = follows_succeeds (p nothing) a b r h (plain_unhindered p f a b prints t s e)
 
 -- ---- what is left after it
@@ -88,7 +90,7 @@ run_ready xs a s =
     }
 
 -- an emission that was made leaves it ready for the next
-pub ready_after : (p : Plan) (a b : State) (r : Result (Unit {0}) Error) → Follows p a b r → OnOk r (IsReady a → IsReady b)
+pub ready_after : (p : Plan) (a b : State) (r : Result (Unit {0}) Error) → Follows p a b (in_short r) → OnOk r (IsReady a → IsReady b)
 unfolding Follows
 ready_after p a b (Ok u) h = λ s. subst IsReady (sym h.1) (run_ready (steps_of (p a.env)) a s)
 ready_after p a b (Err e) h = tt
@@ -99,20 +101,20 @@ no_split : (front : List Step) (x : Step) (rest : List Step) → ◌≡◌ {A = 
 no_split [] x rest h = absurd (cc)
 no_split (y ∷ front) x rest h = absurd (cc)
 
-no_refusal : (r : Refusal) → ◌≡◌ {A = Option Refusal} None (Some r) → ⊥
+no_refusal : (r : Unprintable) → ◌≡◌ {A = Option Unprintable} None (Some r) → ⊥
 no_refusal r h = absurd (cc)
 
 -- where nothing is to be done, nothing changes
-pub nothing_changes : (a b : State) (r : Result (Unit {0}) Error) → Follows nothing a b r → b ≡ a
-unfolding Follows nothing run steps_of refusal_of
+pub nothing_changes : (a b : State) (r : Result (Unit {0}) Refusal) → Follows nothing a b r → b ≡ a
+unfolding Follows nothing run steps_of unprintable_in
 nothing_changes a b (Ok u) h = h.1
 nothing_changes a b (Err e) (earlier h k m) = m
 nothing_changes a b (Err e) (stopped h) = absurd (no_split h.front h.step h.rest h.split)
 nothing_changes a b (Err e) (reached r h k q m) = absurd (no_refusal r k)
 
 -- and it is refused only for an earlier refusal
-pub nothing_made : (a b : State) (r : Result (Unit {0}) Error) → Follows nothing a b r → a.failed ≡ false → IsOk r
-unfolding Follows nothing steps_of refusal_of
+pub nothing_made : (a b : State) (r : Result (Unit {0}) Error) → Follows nothing a b (in_short r) → a.failed ≡ false → IsOk r
+unfolding Follows nothing steps_of unprintable_in
 nothing_made a b (Ok u) h f = refl
 nothing_made a b (Err e) (earlier h k m) f = absurd (true≢false (sym h ∙ f))
 nothing_made a b (Err e) (stopped h) f = absurd (no_split h.front h.step h.rest h.split)

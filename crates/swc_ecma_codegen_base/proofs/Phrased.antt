@@ -3,7 +3,9 @@ use Rattle.std.proofs.Common.{◌≡◌, ◌≢◌, ℕ, Bool, true, false, cond
 use Rattle.std.specs.Str.{chars, is_utf8}
 use Rattle.std.proofs.lemmas.Bool.{and_parts, or_from, true≢false}
 use Rattle.swc_ecma_codegen_common.specs.declared.errors.Error.{Error}
-use Rattle.swc_ecma_codegen_common.specs.declared.errors.Error.TheVariants.{OutOfMemory}
+use Rattle.swc_ecma_codegen_common.specs.declared.errors.Error.TheVariants as errors
+use Rattle.swc_ecma_codegen_common.specs.declared.errors.Refusal.{Refusal}
+use Rattle.swc_ecma_codegen_common.specs.Refusals.{in_short}
 use Rattle.swc_ecma_codegen_common.specs.declared.positions.Span.{Span}
 use Rattle.swc_ecma_codegen_ast.specs.declared.kinds.Kind.TheVariants.{Word, Name, Punctuator}
 use Rattle.swc_ecma_codegen_ast.specs.Tokens as lexical
@@ -196,7 +198,7 @@ steps_read p f a n prints w =
 pub whole_reads : (f : Phrase) (text : List ℕ) → AddsReading f [] text → ReadsAs f text
 whole_reads f text h = subst (λ z. ReadsAs f z) (sym h.is_added) h.reading
 
-pub printed_reads : (p : Part) (f : Phrase) (a b : State) (r : Result (Unit {0}) Error) → IsNew a → Prints a.env p f → is_possible f ≡ true → Follows (p nothing) a b r → OnOk r (AddsReading f a.sheet.text b.sheet.text)
+pub printed_reads : (p : Part) (f : Phrase) (a b : State) (r : Result (Unit {0}) Refusal) → IsNew a → Prints a.env p f → is_possible f ≡ true → Follows (p nothing) a b r → OnOk r (AddsReading f a.sheet.text b.sheet.text)
 unfolding Follows
 printed_reads p f a b (Ok u) n prints w k = let P : State → Type 0 = λ z. AddsReading f a.sheet.text z.sheet.text in subst P (sym k.1) (steps_read p f a n prints w)
 printed_reads p f a b (Err e) n prints w k = tt
@@ -209,9 +211,9 @@ printed_remakes p f env prints w =
     ap (λ z. remakes_name (steps_of z)) (h.writes.is_steps nothing) ∙ ap remakes_name (steps_of_chain h.writes.steps) ∙ h.writes.remakes
 
 -- an emission without calls that take memory, and without such a name, isn't refused for want of memory
-pub never_out_of_memory : (p : Part) (a b : State) (r : Result (Unit {0}) Error) → remakes_name (steps_of (p nothing a.env)) ≡ false → a.sheet.takes_memory ≡ false → Follows (p nothing) a b r → r ≢ Err OutOfMemory
+pub never_out_of_memory : (p : Part) (a b : State) (r : Result (Unit {0}) Error) → remakes_name (steps_of (p nothing a.env)) ≡ false → a.sheet.takes_memory ≡ false → Follows (p nothing) a b (in_short r) → r ≢ Err errors.OutOfMemory
 unfolding HasCause
 never_out_of_memory p a b r plain t h e =
-    let P : Result (Unit {0}) Error → Type 0 = λ z. IfErr z (λ x. HasCause (p nothing a.env) x a b) in
-    let k : (a.sheet.takes_memory || remakes_name (steps_of (p nothing a.env))) ≡ true = subst P e (follows_cause (p nothing) a b r h) in
+    let P : Result (Unit {0}) Refusal → Type 0 = λ z. IfErr z (λ x. HasCause (p nothing a.env) x a b) in
+    let k : (a.sheet.takes_memory || remakes_name (steps_of (p nothing a.env))) ≡ true = subst P (ap in_short e) (follows_cause (p nothing) a b (in_short r) h) in
     true≢false (sym k ∙ or_from _ _ t plain)

@@ -10,13 +10,13 @@ use Rattle.swc_ecma_codegen_ast.specs.Tokens.{token_of}
 use Rattle.swc_ecma_codegen_text_writer.specs.Sheet.{Semi, Space, Keyword, Operator, Line, Symbol, Punct, Position, Commit, effect}
 use Rattle.swc_ecma_codegen_ast.specs.ValidNames.{turned}
 use Rattle.swc_ecma_codegen_base.specs.Run.{Env, Plan, Part, State, Step, Guard, Token, Plain, Remake, Steps, next, put, run, step, spelling, text_of, after_token, after_plain, when_minified, no_part, has_backslash, remakes_name}
-use Rattle.swc_ecma_codegen_base.specs.Words.{keyword, operator, word_operator, punct, semi, space, formatting_space, line_end, formatting_line, commit_pending_semi, position, position_before, start_of, leading_comments, trailing_comments, symbol, valid_symbol, name_text}
+use Rattle.swc_ecma_codegen_base.specs.Words.{keyword, operator, word_operator, punct, semi, space, formatting_space, line_end, formatting_line, commit_pending_semi, position, position_before, leading_comments, trailing_comments, symbol, valid_symbol, name_text}
 use Rattle.swc_ecma_codegen_base.specs.Written.{AtRest}
 use Rattle.swc_ecma_codegen_base.proofs.Emitting.{minified_same, pretty_same}
 use Rattle.swc_ecma_codegen_base.proofs.Fronts.{run_append}
 use Rattle.swc_ecma_codegen_base.proofs.Levels.{levels, rise, levels_append}
 use Rattle.swc_ecma_codegen_base.proofs.Spelled.{valid_same}
-use Rattle.swc_ecma_codegen_base.proofs.Written.{Lays, lays_then, lays_nothing, lays_blank, lays_line, lays_guard, lays_token, Spelled, own_put}
+use Rattle.swc_ecma_codegen_base.proofs.Written.{Lays, lays_then, lays_nothing, lays_blank, lays_line, lays_token, Spelled, own_put}
 
 -- some steps, and then more
 unfoldable pub chain : List Step → Steps → Steps
@@ -164,20 +164,28 @@ writes_trailing env b pos = writes_nothing env
 
 -- ---- names
 
-writes_guard : (env : Env) (t : List ℕ) → Writes env (step (Guard t)) []
-unfolding remakes_name levels
-writes_guard env t = writes_step env (Guard t) [] (λ s r. lays_guard t s r) (omega arith)
-
 name_token : (env : Env) (t : List ℕ) → Spelled Name t → Writes env (λ rest. step (Guard t) (step (Token Name (Symbol dummy_span t)) rest)) (token_of Name (spelling Name t) ∷ [])
 unfolding put effect text_of after_token own_put remakes_name levels rise
 name_token env t p = writes_two env (Guard t) (Token Name (Symbol dummy_span t)) _ (λ s r. lays_token Name t s p r) (omega arith)
 
--- the position of a name has the blank that is due before it
+-- with a position, which stands after the blank that is due
+placed_token : (env : Env) (pos : BytePos) (t : List ℕ) → Spelled Name t → Writes env (λ rest. step (Guard t) (step (Plain (Position pos)) (step (Token Name (Symbol dummy_span t)) rest))) (token_of Name (spelling Name t) ∷ [])
+unfolding step chain run put effect text_of after_token after_plain own_put remakes_name levels rise
+placed_token env pos t p = record {
+  steps = Guard t ∷ Plain (Position pos) ∷ Token Name (Symbol dummy_span t) ∷ [];
+  is_steps = λ rest. refl;
+  lays = λ s r. lays_token Name t s p r;
+  remakes = refl;
+  deep = omega arith;
+}
+
+symbol_at : (env : Env) (pos : BytePos) (b : Bool) (t : List ℕ) → Spelled Name t → Writes env (λ rest. step (Guard t) (cond b (step (Token Name (Symbol dummy_span t)) rest) (step (Plain (Position pos)) (step (Token Name (Symbol dummy_span t)) rest)))) (token_of Name (spelling Name t) ∷ [])
+symbol_at env pos true t p = name_token env t p
+symbol_at env pos false t p = placed_token env pos t p
+
 pub writes_symbol : (env : Env) (span : Span) (t : List ℕ) → Spelled Name t → Writes env (symbol span t) (token_of Name (spelling Name t) ∷ [])
-unfolding symbol
-writes_symbol env span t p =
-    writes_then env (step (Guard t)) (λ rest. start_of span (step (Guard t) (step (Token Name (Symbol dummy_span t)) rest))) [] (token_of Name (spelling Name t) ∷ []) (writes_guard env t)
-    (writes_then env (position span.lo) (λ rest. step (Guard t) (step (Token Name (Symbol dummy_span t)) rest)) [] (token_of Name (spelling Name t) ∷ []) (writes_position env span.lo) (name_token env t p))
+unfolding symbol position
+writes_symbol env span t p = symbol_at env span.lo (span.lo.0 == 0) t p
 
 pub writes_name_text : (env : Env) (span : Span) (bytes : List ℕ) → env.keeps_invalid ≡ false → Spelled Name (turned bytes) → Makes env (name_text span bytes) (token_of Name (spelling Name (turned bytes)) ∷ []) (has_backslash bytes)
 unfolding valid_symbol put remakes_name levels

@@ -5,3 +5,5 @@ pub mod View
 pub mod Written
 pub mod Escapes
 pub mod Ready
+pub mod Starts
+pub mod Classes

@@ -1,8 +1,8 @@
 -- What an emission does: its steps, where each leads, and how it stops.
 use Rattle.std.specs.Prelude.{◌≡◌, ℕ, ◌<◌, ◌-◌, ◌^◌, Bool, true, false, ◌||◌, if◌then◌else◌, List, [], ◌∷◌, ◌++◌, codes, Option, Some, None, Result, Ok, Err}
 use Rattle.std.specs.Str.{chars}
-use Rattle.swc_ecma_codegen_common.specs.declared.errors.Error.{Error}
-use Rattle.swc_ecma_codegen_common.specs.declared.errors.Error.TheVariants.{Writer, OutOfMemory, UnsupportedNode, BadShape, NameOutOfTarget, PositionTooLarge, Failed}
+use Rattle.swc_ecma_codegen_common.specs.declared.errors.Refusal.{Refusal}
+use Rattle.swc_ecma_codegen_common.specs.declared.errors.Refusal.TheVariants.{Writer, OutOfMemory, UnsupportedNode, BadShape, NameOutOfTarget, PositionTooLarge, Failed}
 use Rattle.swc_ecma_codegen_util.specs.declared.config.Config.{Config}
 use Rattle.swc_ecma_codegen_ast.specs.declared.kinds.Kind.{Kind}
 use Rattle.swc_ecma_codegen_ast.specs.declared.kinds.Kind.TheVariants.{Punctuator}
@@ -10,8 +10,8 @@ use Rattle.swc_ecma_codegen_ast.specs.GapRules.{Last, Start, Apart, fuses, last_
 use Rattle.swc_ecma_codegen_text_writer.specs.Sheet.{Item, Semi, Space, Keyword, Operator, Param, Property, Line, Lit, Comment, StrLit, Str, Symbol, Punct, Position, Commit, Deeper, Shallower, Sheet, effect, Refuses}
 use Rattle.swc_ecma_codegen_text_writer.specs.Told.{Rises}
 use Rattle.swc_ecma_codegen_literals.specs.ValidNames.{has_byte}
-use Rattle.swc_ecma_codegen_base.specs.declared.refusals.Refusal.{Refusal}
-use Rattle.swc_ecma_codegen_base.specs.declared.refusals.Refusal.TheVariants as refusals
+use Rattle.swc_ecma_codegen_base.specs.declared.refusals.Unprintable.{Unprintable}
+use Rattle.swc_ecma_codegen_base.specs.declared.refusals.Unprintable.TheVariants as unprintable
 
 -- a step of an emission
 pub data Step : Type 0 where
@@ -89,22 +89,22 @@ abbrev pub has_backslash : List ℕ → Bool
 has_backslash name = has_byte 92 name
 
 -- a step is refused: its call of the writer is, or memory for a name with a backslash
-unfoldable pub IsRefused : Step → Error → State → Sheet → Type 0
+unfoldable pub IsRefused : Step → Refusal → State → Sheet → Type 0
 IsRefused (Guard t) e a new = (fuses a.last (chars t) ≡ true) × Refuses Space e a.sheet new
 IsRefused (Token kind x) e a new = Refuses x e a.sheet new
 IsRefused (Plain x) e a new = Refuses x e a.sheet new
 IsRefused (Remake name) e a new = (e ≡ OutOfMemory) × (has_backslash name ≡ true) × (new ≡ a.sheet)
 
 -- the error that a node that can't be printed is refused with
-unfoldable pub error_of : Refusal → Error
-error_of refusals.UnsupportedNode = UnsupportedNode
-error_of refusals.BadShape = BadShape
-error_of refusals.NameOutOfTarget = NameOutOfTarget
+unfoldable pub refusal_of : Unprintable → Refusal
+refusal_of unprintable.UnsupportedNode = UnsupportedNode
+refusal_of unprintable.BadShape = BadShape
+refusal_of unprintable.NameOutOfTarget = NameOutOfTarget
 
 -- The steps that a tree asks for: they come to an end, or to a node that can't be printed.
 pub data Steps : Type 0 where
   done : Steps
-  refused : Refusal → Steps
+  refused : Unprintable → Steps
   next : Step → Steps → Steps
 
 -- the steps, up to the end or to the node that can't be printed
@@ -114,13 +114,13 @@ steps_of (refused e) = []
 steps_of (next x xs) = x ∷ steps_of xs
 
 -- why they go no further than that, if for a reason
-unfoldable pub refusal_of : Steps → Option Refusal
-refusal_of done = None
-refusal_of (refused e) = Some e
-refusal_of (next x xs) = refusal_of xs
+unfoldable pub unprintable_in : Steps → Option Unprintable
+unprintable_in done = None
+unprintable_in (refused e) = Some e
+unprintable_in (next x xs) = unprintable_in xs
 
 -- one of these steps is refused, and those before it are made
-pub record Stops (xs : List Step) (e : Error) (a b : State) : Type 0 where
+pub record Stops (xs : List Step) (e : Refusal) (a b : State) : Type 0 where
   pub front : List Step
   pub step : Step
   pub rest : List Step
@@ -131,10 +131,10 @@ pub record Stops (xs : List Step) (e : Error) (a b : State) : Type 0 where
 
 -- Nothing is done, since an earlier call was refused; or one of the steps is refused, and those before it are made;
 -- or all steps before a node that can't be printed are made, and no other.
-pub data Halts (xs : Steps) (e : Error) (a b : State) : Type 0 where
+pub data Halts (xs : Steps) (e : Refusal) (a b : State) : Type 0 where
   earlier : a.failed ≡ true → e ≡ Failed → b ≡ a → Halts xs e a b
   stopped : Stops (steps_of xs) e a b → Halts xs e a b
-  reached : (r : Refusal) → a.failed ≡ false → refusal_of xs ≡ Some r → e ≡ error_of r → b ≡ record (run (steps_of xs) a) { failed = true } → Halts xs e a b
+  reached : (r : Unprintable) → a.failed ≡ false → unprintable_in xs ≡ Some r → e ≡ refusal_of r → b ≡ record (run (steps_of xs) a) { failed = true } → Halts xs e a b
 
 -- What is to be done.
 abbrev pub Plan : Type 0
@@ -148,25 +148,25 @@ unfoldable pub nothing : Plan
 nothing env = done
 
 -- All steps of a plan are made, and it comes to no node that can't be printed; or it halts.
-unfoldable pub Follows : Plan → State → State → Result (Unit {0}) Error → Type 0
-Follows p a b (Ok _) = (refusal_of (p a.env) ≡ None) × (b ≡ run (steps_of (p a.env)) a)
+unfoldable pub Follows : Plan → State → State → Result (Unit {0}) Refusal → Type 0
+Follows p a b (Ok _) = (unprintable_in (p a.env) ≡ None) × (b ≡ run (steps_of (p a.env)) a)
 Follows p a b (Err e) = Halts (p a.env) e a b
 
 -- A part of a plan is done: what goes on after it goes on from b. Where it is refused, all that goes on so is.
-abbrev pub Emits : Part → State → State → Result (Unit {0}) Error → Type 0
-Emits part a b (Ok _) = (rest : Plan) (c : State) (r : Result (Unit {0}) Error) → Follows rest b c r → Follows (part rest) a c r
+abbrev pub Emits : Part → State → State → Result (Unit {0}) Refusal → Type 0
+Emits part a b (Ok _) = (rest : Plan) (c : State) (r : Result (Unit {0}) Refusal) → Follows rest b c r → Follows (part rest) a c r
 Emits part a b (Err e) = (rest : Plan) → Follows (part rest) a b (Err e)
 
 -- What goes on after a rest, now, goes on after the whole, from the start: a loop has come so far.
 abbrev pub Continues : Part → State → Part → State → Type 0
-Continues remaining now whole start = (rest : Plan) (c : State) (r : Result (Unit {0}) Error) → Follows (remaining rest) now c r → Follows (whole rest) start c r
+Continues remaining now whole start = (rest : Plan) (c : State) (r : Result (Unit {0}) Refusal) → Follows (remaining rest) now c r → Follows (whole rest) start c r
 
 -- one step
 unfoldable pub step : Step → Part
 step x rest env = next x (rest env)
 
 -- a node that can't be printed, whatever comes after it
-unfoldable pub refuse : Refusal → Part
+unfoldable pub refuse : Unprintable → Part
 refuse r rest env = refused r
 
 -- one part, where the settings are to minify, else another
@@ -202,19 +202,19 @@ pub record PassesLimit (xs : List Step) (a : State) : Type 0 where
   pub at_limit : (run front a).sheet.indentation ≡ 2 ^ 32 - 1
 
 -- The steps come to a node that can't be printed, and all before it are made.
-pub record IsReached (xs : Steps) (r : Refusal) (a b : State) : Type 0 where
-  pub refusal : refusal_of xs ≡ Some r
+pub record IsReached (xs : Steps) (r : Unprintable) (a b : State) : Type 0 where
+  pub refusal : unprintable_in xs ≡ Some r
   pub made : b ≡ record (run (steps_of xs) a) { failed = true }
 
 -- An emission is refused only for the cause that its error names.
-unfoldable pub HasCause : Steps → Error → State → State → Type 0
-HasCause xs (Writer w) a b = Rises a.sheet.faults b.sheet.faults
+unfoldable pub HasCause : Steps → Refusal → State → State → Type 0
+HasCause xs Writer a b = Rises a.sheet.faults b.sheet.faults
 HasCause xs OutOfMemory a b = (a.sheet.takes_memory || remakes_name (steps_of xs)) ≡ true
 HasCause xs PositionTooLarge a b = PassesLimit (steps_of xs) a
 HasCause xs Failed a b = (a.failed || a.sheet.refused) ≡ true
-HasCause xs UnsupportedNode a b = IsReached xs refusals.UnsupportedNode a b
-HasCause xs BadShape a b = IsReached xs refusals.BadShape a b
-HasCause xs NameOutOfTarget a b = IsReached xs refusals.NameOutOfTarget a b
+HasCause xs UnsupportedNode a b = IsReached xs unprintable.UnsupportedNode a b
+HasCause xs BadShape a b = IsReached xs unprintable.BadShape a b
+HasCause xs NameOutOfTarget a b = IsReached xs unprintable.NameOutOfTarget a b
 
 -- Nothing stands in the way of an emission: nothing was refused before, the writer counts no fault and its count isn't
 -- at its last value, neither it nor a name asks for memory, the indentation stays in its limit, and each node can be
@@ -225,7 +225,7 @@ pub record IsUnhindered (xs : Steps) (a b : State) : Type 0 where
   pub can_count : a.sheet.faults < 2 ^ 64 - 1
   pub no_memory : (a.sheet.takes_memory || remakes_name (steps_of xs)) ≡ false
   pub within : PassesLimit (steps_of xs) a → ⊥
-  pub printable : refusal_of xs ≡ None
+  pub printable : unprintable_in xs ≡ None
 
 -- the steps of a part that nothing comes after
 abbrev pub steps_in : Part → State → Steps

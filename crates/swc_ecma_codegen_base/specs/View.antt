@@ -11,4 +11,4 @@ env_of config sheet = record { config = config; keeps_invalid = sheet.keeps_inva
 
 -- where a lower emitter stands, over a sheet and under some settings
 abbrev pub state_of : Config → Sheet → LowerEmitter → State
-state_of config sheet e = record { env = env_of config sheet; sheet = sheet; last = last_at e.last; failed = e.failed }
+state_of config sheet e = record { env = env_of config sheet; sheet = sheet; last = last_at e.token.value; failed = e.failed }

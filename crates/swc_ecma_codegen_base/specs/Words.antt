@@ -73,9 +73,9 @@ leading_comments pos rest = rest
 unfoldable pub trailing_comments : Bool → BytePos → Part
 trailing_comments prefix_space pos rest = rest
 
--- A name by a text: its position is recorded, with the blank that is due before it.
+-- A name by a text: its position is recorded after the blank that is due before it.
 unfoldable pub symbol : Span → List ℕ → Part
-symbol span t rest = step (Guard t) (start_of span (step (Guard t) (step (Token Name (Symbol dummy_span t)) rest)))
+symbol span t rest = step (Guard t) (start_of span (step (Token Name (Symbol dummy_span t)) rest))
 
 -- A name in which U+0000 after a backslash is left out.
 unfoldable pub valid_symbol : Span → List ℕ → Part

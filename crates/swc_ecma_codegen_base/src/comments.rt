@@ -7,7 +7,7 @@ ghost use Rattle.swc_ecma_codegen_base.specs.View.{state_of};
 
 use crate::LowerEmitter;
 use swc_ecma_codegen_ast::comments::Comments;
-use swc_ecma_codegen_common::{BytePos, Result};
+use swc_ecma_codegen_common::{Answer, BytePos};
 use swc_ecma_codegen_text_writer::WriteJs;
 use swc_ecma_codegen_util::config::Config;
 
@@ -20,7 +20,7 @@ impl LowerEmitter {
         comments: &Option<C>,
         wr: &mut W,
         pos: BytePos,
-    ) -> Result
+    ) -> Answer
         requires { IsNone comments.now }
         ensures items { Emits (leading_comments pos) (state_of cfg.now (W.sheet wr.old) self.old) (state_of cfg.now (W.sheet wr.new) self.new) result }
         ensures level { OnOk result ((W.sheet wr.new).indentation ≡ (W.sheet wr.old).indentation) }
@@ -40,7 +40,7 @@ impl LowerEmitter {
         wr: &mut W,
         pos: BytePos,
         prefix_space: bool,
-    ) -> Result
+    ) -> Answer
         requires { IsNone comments.now }
         ensures items { Emits (trailing_comments prefix_space pos) (state_of cfg.now (W.sheet wr.old) self.old) (state_of cfg.now (W.sheet wr.new) self.new) result }
         ensures level { OnOk result ((W.sheet wr.new).indentation ≡ (W.sheet wr.old).indentation) }

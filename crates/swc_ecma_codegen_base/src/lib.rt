@@ -2,36 +2,53 @@
 #![tactic(auto)]
 
 ghost use Rattle.std.specs.Prelude.{◌≡◌, false};
+ghost use Rattle.swc_ecma_codegen_common.specs.Refusals.{reason_of};
+ghost use Rattle.swc_ecma_codegen_base.specs.Last.{class_of};
 
 mod comments;
 mod guard;
+mod last;
 pub mod laws;
 mod names;
 mod refusals;
+mod starts;
 mod tokens;
 
-pub use crate::guard::Last;
-pub use crate::refusals::Refusal;
+pub use crate::guard::blank_due;
+pub use crate::last::Last;
+pub use crate::refusals::Unprintable;
+pub use crate::starts::StartClass;
 use std::alloc::Global;
+use std::io;
+use std::snapshot::Snapshot;
+use swc_ecma_codegen_common::{Error, Refusal};
+use swc_ecma_codegen_literals::TokenClass;
 
-/// What an emission keeps from one call to the next: the allocator, the last token, and whether a call was refused.
+/// What an emission keeps from one call to the next: the allocator, the class of the last token, whether a call was
+/// refused, and the error that the writer gave. Proofs see the last token itself.
 #[derive(Drop)]
 pub struct LowerEmitter {
     alloc: Global,
-    last: Last,
+    last: TokenClass,
+    token: Snapshot<Last>,
     failed: bool,
+    fault: Option<io::Error>,
+    ghost class: { class_of token.value ≡ last },
 }
 
 impl LowerEmitter {
     /// One that has written nothing.
+    #[tactic(auto, unfolding(crate::specs::Last::class_of))]
     pub fn new(alloc: Global) -> LowerEmitter
-        ensures last { result.last ≡ Last.Start }
+        ensures token { result.token.value ≡ Last.Start }
         ensures failed { result.failed ≡ false }
     {
         LowerEmitter {
             alloc,
-            last: Last::Start,
+            last: TokenClass::Rest,
+            token: Snapshot::of(&Last::Start),
             failed: false,
+            fault: None,
         }
     }
 
@@ -40,5 +57,14 @@ impl LowerEmitter {
         ensures { result ≡ self.now.failed }
     {
         self.failed
+    }
+
+    /// The error of a refusal, with the one that the writer gave.
+    pub fn error(&mut self, refusal: Refusal) -> Error
+        ensures reason { reason_of result ≡ refusal }
+        ensures token { self.new.token.value ≡ self.old.token.value }
+        ensures failed { self.new.failed ≡ self.old.failed }
+    {
+        refusal.with_fault(self.fault.take())
     }
 }

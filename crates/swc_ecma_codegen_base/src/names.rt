@@ -9,22 +9,22 @@ ghost use Rattle.swc_ecma_codegen_base.specs.Written.{ReadsSoFar, name_tokens};
 ghost use Rattle.swc_ecma_codegen_base.specs.View.{state_of};
 
 use crate::LowerEmitter;
+use crate::starts::StartClass;
 use swc_ecma_codegen_ast::comments::Comments;
-use swc_ecma_codegen_common::{Error, Result, Span};
-use swc_ecma_codegen_literals::valid_name;
+use swc_ecma_codegen_common::{Answer, Refusal, Span};
+use swc_ecma_codegen_literals::{Punctuator, holds_backslash, valid_name};
 use swc_ecma_codegen_text_writer::WriteJs;
 use swc_ecma_codegen_util::config::Config;
 
 impl LowerEmitter {
     /// Writes a name by a text, and records its position.
     #[tactic(auto, unfolding(crate::specs::Words::symbol))]
-    fn symbol<W: WriteJs>(&mut self, cfg: &Config, wr: &mut W, span: Span, text: &str) -> Result
+    fn symbol<W: WriteJs>(&mut self, cfg: &Config, wr: &mut W, span: Span, text: &str) -> Answer
         ensures items { Emits (symbol span text.now) (state_of cfg.now (W.sheet wr.old) self.old) (state_of cfg.now (W.sheet wr.new) self.new) result }
         ensures level { OnOk result ((W.sheet wr.new).indentation ≡ (W.sheet wr.old).indentation) }
     {
-        self.guard(cfg, wr, text)?;
+        self.guard(cfg, wr, text, StartClass::of_text(text))?;
         self.position(cfg, wr, span.lo)?;
-        self.guard(cfg, wr, text)?;
         self.put_symbol(cfg, wr, text)?;
         Ok(())
     }
@@ -37,25 +37,28 @@ impl LowerEmitter {
         wr: &mut W,
         span: Span,
         name: &str,
-    ) -> Result
+    ) -> Answer
         ensures items { Emits (valid_symbol span name.now) (state_of cfg.now (W.sheet wr.old) self.old) (state_of cfg.now (W.sheet wr.new) self.new) result }
         ensures level { OnOk result ((W.sheet wr.new).indentation ≡ (W.sheet wr.old).indentation) }
     {
         if self.failed {
-            return Err(Error::Failed);
+            return Err(Refusal::Failed);
+        }
+        if !holds_backslash(name) {
+            return self.symbol(cfg, wr, span, name);
         }
         match valid_name(self.alloc, name) {
             Ok(text) => self.symbol(cfg, wr, span, &text),
             Err(error) => {
                 self.failed = true;
-                Err(error)
+                Err(error.refusal())
             }
         }
     }
 
     /// Writes the text of a name, as the writer takes names.
     #[tactic(auto, unfolding(crate::specs::Words::name_text))]
-    fn name_text<W: WriteJs>(&mut self, cfg: &Config, wr: &mut W, span: Span, sym: &str) -> Result
+    fn name_text<W: WriteJs>(&mut self, cfg: &Config, wr: &mut W, span: Span, sym: &str) -> Answer
         ensures items { Emits (name_text span sym.now) (state_of cfg.now (W.sheet wr.old) self.old) (state_of cfg.now (W.sheet wr.new) self.new) result }
         ensures level { OnOk result ((W.sheet wr.new).indentation ≡ (W.sheet wr.old).indentation) }
     {
@@ -67,12 +70,12 @@ impl LowerEmitter {
 
     /// Writes `?` after an optional name.
     #[tactic(auto, unfolding(crate::specs::Words::question))]
-    fn question<W: WriteJs>(&mut self, cfg: &Config, wr: &mut W, optional: bool) -> Result
+    fn question<W: WriteJs>(&mut self, cfg: &Config, wr: &mut W, optional: bool) -> Answer
         ensures items { Emits (question optional) (state_of cfg.now (W.sheet wr.old) self.old) (state_of cfg.now (W.sheet wr.new) self.new) result }
         ensures level { OnOk result ((W.sheet wr.new).indentation ≡ (W.sheet wr.old).indentation) }
     {
         if optional {
-            self.punct(cfg, wr, "?")?;
+            self.punct(cfg, wr, Punctuator::Question)?;
         }
         Ok(())
     }
@@ -87,7 +90,7 @@ impl LowerEmitter {
         span: Span,
         sym: &str,
         optional: bool,
-    ) -> Result
+    ) -> Answer
         requires { IsNone comments.now }
         ensures items { Emits (name span sym.now optional) (state_of cfg.now (W.sheet wr.old) self.old) (state_of cfg.now (W.sheet wr.new) self.new) result }
         // The text reads as the tokens so far and the name, whatever follows that doesn't fuse.

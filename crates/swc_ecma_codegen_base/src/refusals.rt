@@ -1,17 +1,17 @@
 //! Nodes that can't be printed.
 
 ghost use Rattle.std.specs.Prelude.{◌≡◌};
-ghost use Rattle.swc_ecma_codegen_base.specs.Run.{Emits, refuse, error_of};
+ghost use Rattle.swc_ecma_codegen_base.specs.Run.{Emits, refuse, refusal_of};
 ghost use Rattle.swc_ecma_codegen_base.specs.View.{state_of};
 
 use crate::LowerEmitter;
-use swc_ecma_codegen_common::{Error, Result};
+use swc_ecma_codegen_common::{Answer, Refusal};
 use swc_ecma_codegen_text_writer::WriteJs;
 use swc_ecma_codegen_util::config::Config;
 
 /// Why a node can't be printed.
 #[derive(Debug, Clone, Copy, PartialEq, Eq)]
-pub enum Refusal {
+pub enum Unprintable {
     /// A node that has no text.
     UnsupportedNode,
     /// A tree whose shape has no text.
@@ -20,15 +20,15 @@ pub enum Refusal {
     NameOutOfTarget,
 }
 
-impl Refusal {
-    #[tactic(auto, unfolding(crate::specs::Run::error_of))]
-    fn error(self) -> Error
-        ensures { result ≡ error_of self }
+impl Unprintable {
+    #[tactic(auto, unfolding(crate::specs::Run::refusal_of))]
+    fn refusal(self) -> Refusal
+        ensures { result ≡ refusal_of self }
     {
         match self {
-            Refusal::UnsupportedNode => Error::UnsupportedNode,
-            Refusal::BadShape => Error::BadShape,
-            Refusal::NameOutOfTarget => Error::NameOutOfTarget,
+            Unprintable::UnsupportedNode => Refusal::UnsupportedNode,
+            Unprintable::BadShape => Refusal::BadShape,
+            Unprintable::NameOutOfTarget => Refusal::NameOutOfTarget,
         }
     }
 }
@@ -36,15 +36,15 @@ impl Refusal {
 impl LowerEmitter {
     /// Comes to a node that can't be printed: nothing more is written.
     #[tactic(auto, using(crate::proofs::Emitting::emits_refusal, crate::proofs::Emitting::emits_failed))]
-    pub fn refuse<W: WriteJs>(&mut self, cfg: &Config, wr: &W, refusal: Refusal) -> Result
-        ensures items { Emits (refuse refusal) (state_of cfg.now (W.sheet wr.now) self.old) (state_of cfg.now (W.sheet wr.now) self.new) result }
+    pub fn refuse<W: WriteJs>(&mut self, cfg: &Config, wr: &W, why: Unprintable) -> Answer
+        ensures items { Emits (refuse why) (state_of cfg.now (W.sheet wr.now) self.old) (state_of cfg.now (W.sheet wr.now) self.new) result }
     {
         let _ = cfg;
         let _ = wr;
         if self.failed {
-            return Err(Error::Failed);
+            return Err(Refusal::Failed);
         }
         self.failed = true;
-        Err(refusal.error())
+        Err(why.refusal())
     }
 }

@@ -1,55 +1,104 @@
 //! One call of the writer, and the blank that is due before it.
 
 ghost use Rattle.std.specs.Prelude.{◌≡◌, ℕ, None, OnOk, OnErr, Option, List, [], ◌∷◌, ◌++◌, codes, true, false};
+ghost use Rattle.std.specs.Str.{chars};
+ghost use Rattle.swc_ecma_codegen_common.specs.Refusals.{in_short};
+ghost use Rattle.swc_ecma_codegen_literals.specs.Punctuators.{spelling};
+ghost use Rattle.swc_ecma_codegen_base.specs.Starts.{begins_letter, start_class};
 ghost use Rattle.swc_ecma_codegen_spans.specs.Spans.{dummy_span};
 ghost use Rattle.swc_ecma_codegen_text_writer.specs.Sheet.{Semi, Keyword, Operator, Symbol, Punct, Position};
-ghost use Rattle.swc_ecma_codegen_ast.specs.declared.kinds.Kind.TheVariants.{Word, Name, Punctuator};
+ghost use Rattle.swc_ecma_codegen_ast.specs.declared.kinds.Kind.TheVariants as kind;
 ghost use Rattle.swc_ecma_codegen_ast.specs.Tokens as lexical;
 ghost use Rattle.swc_ecma_codegen_base.specs.Run.{Emits, step, Guard, Token, Plain};
 ghost use Rattle.swc_ecma_codegen_base.specs.Words.{keyword, operator, word_operator, punct, semi, space, formatting_space, formatting_line, line_end, commit_pending_semi, position, position_before};
-ghost use Rattle.swc_ecma_codegen_base.specs.Written.{IsWord, IsMark, ReadsSoFar};
+ghost use Rattle.swc_ecma_codegen_base.specs.Written.{IsWord, ReadsSoFar};
 ghost use Rattle.swc_ecma_codegen_base.specs.View.{state_of};
 
 use crate::LowerEmitter;
-use crate::guard::Last;
-use swc_ecma_codegen_common::{BytePos, DUMMY_SP, Error, Result, Span};
+use crate::guard::blank_due;
+use crate::last::Last;
+use crate::starts::StartClass;
+use std::snapshot::Snapshot;
+use swc_ecma_codegen_common::{Answer, BytePos, DUMMY_SP, Refusal, Result, Span};
+use swc_ecma_codegen_literals::Punctuator;
 use swc_ecma_codegen_text_writer::WriteJs;
 use swc_ecma_codegen_util::config::Config;
 
 impl LowerEmitter {
-    /// What a call of the writer answered is noted, and passed on.
-    fn settle(&mut self, answer: Result, last: Last) -> Result
-        ensures same { result ≡ answer }
-        ensures ok { OnOk answer (self.new ≡ record self.old { last = last }) }
-        ensures err { OnErr answer (self.new ≡ record self.old { failed = true }) }
+    /// What a call of the writer that leaves the last token answered is passed on in short.
+    fn keep(&mut self, answer: Result) -> Answer
+        ensures same { result ≡ in_short answer }
+        ensures token { self.new.token.value ≡ self.old.token.value }
+        ensures ok { OnOk result (self.new.failed ≡ self.old.failed) }
+        ensures err { OnErr result (self.new.failed ≡ true) }
     {
         match answer {
-            Ok(()) => {
-                self.last = last;
-                Ok(())
-            }
+            Ok(()) => Ok(()),
             Err(error) => {
+                let refusal = error.refusal();
                 self.failed = true;
-                Err(error)
+                self.fault = error.into_fault();
+                Err(refusal)
             }
         }
     }
 
-    /// Writes a blank where the last token and `text` would fuse.
-    #[tactic(auto, using(crate::proofs::Emitting::emits_failed, crate::proofs::Calls::guarded, crate::proofs::Calls::passed, crate::proofs::Calls::level))]
-    pub(crate) fn guard<W: WriteJs>(&mut self, cfg: &Config, wr: &mut W, text: &str) -> Result
+    /// What a call of the writer answered is noted, with the last token, and passed on in short.
+    fn settle(&mut self, answer: Result, last: Last) -> Answer
+        ensures same { result ≡ in_short answer }
+        ensures ok { OnOk result ((self.new.token.value ≡ last) × (self.new.failed ≡ self.old.failed)) }
+        ensures err { OnErr result ((self.new.token.value ≡ self.old.token.value) × (self.new.failed ≡ true)) }
+    {
+        self.keep(answer)?;
+        self.last = last.class();
+        self.token = Snapshot::of(&last);
+        Ok(())
+    }
+
+    /// Writes a blank where the last token and `text`, which begins so, would fuse.
+    #[tactic(auto, using(crate::proofs::Emitting::emits_failed, crate::proofs::Calls::level))]
+    pub(crate) fn guard<W: WriteJs>(
+        &mut self,
+        cfg: &Config,
+        wr: &mut W,
+        text: &str,
+        next: StartClass,
+    ) -> Answer
+        requires { start_class (chars text.now) ≡ next }
         ensures items { Emits (step (Guard text.now)) (state_of cfg.now (W.sheet wr.old) self.old) (state_of cfg.now (W.sheet wr.new) self.new) result }
         ensures level { OnOk result ((W.sheet wr.new).indentation ≡ (W.sheet wr.old).indentation) }
         ensures fresh { OnOk result (self.new.failed ≡ false) }
     {
+        let _ = cfg;
+        let _ = text;
         if self.failed {
-            return Err(Error::Failed);
+            return Err(Refusal::Failed);
         }
-        if !self.last.fuses(text) {
+        if !blank_due(self.last, next) {
             return Ok(());
         }
         let answer = wr.write_space();
         self.settle(answer, Last::Apart)
+    }
+
+    /// The same before a punctuator.
+    fn guard_mark<W: WriteJs>(&mut self, cfg: &Config, wr: &mut W, mark: Punctuator) -> Answer
+        ensures items { Emits (step (Guard (spelling mark))) (state_of cfg.now (W.sheet wr.old) self.old) (state_of cfg.now (W.sheet wr.new) self.new) result }
+        ensures level { OnOk result ((W.sheet wr.new).indentation ≡ (W.sheet wr.old).indentation) }
+        ensures fresh { OnOk result (self.new.failed ≡ false) }
+    {
+        self.guard(cfg, wr, mark.as_str(), StartClass::of_mark(mark))
+    }
+
+    /// The same before a word of the grammar.
+    #[tactic(auto, using(crate::proofs::Starting::letter_start))]
+    fn guard_word<W: WriteJs>(&mut self, cfg: &Config, wr: &mut W, word: &'static str) -> Answer
+        requires { begins_letter word.now ≡ true }
+        ensures items { Emits (step (Guard word.now)) (state_of cfg.now (W.sheet wr.old) self.old) (state_of cfg.now (W.sheet wr.new) self.new) result }
+        ensures level { OnOk result ((W.sheet wr.new).indentation ≡ (W.sheet wr.old).indentation) }
+        ensures fresh { OnOk result (self.new.failed ≡ false) }
+    {
+        self.guard(cfg, wr, word, StartClass::NameCharacter)
     }
 
     /// The call of a keyword.
@@ -59,9 +108,9 @@ impl LowerEmitter {
         wr: &mut W,
         span: Option<Span>,
         text: &'static str,
-    ) -> Result
+    ) -> Answer
         requires { self.old.failed ≡ false }
-        ensures items { Emits (step (Token Word (Keyword span text.now))) (state_of cfg.now (W.sheet wr.old) self.old) (state_of cfg.now (W.sheet wr.new) self.new) result }
+        ensures items { Emits (step (Token kind.Word (Keyword span text.now))) (state_of cfg.now (W.sheet wr.old) self.old) (state_of cfg.now (W.sheet wr.new) self.new) result }
         ensures level { OnOk result ((W.sheet wr.new).indentation ≡ (W.sheet wr.old).indentation) }
     {
         let _ = cfg;
@@ -70,14 +119,14 @@ impl LowerEmitter {
     }
 
     /// The call of an operator that is a punctuator.
-    fn put_operator<W: WriteJs>(&mut self, cfg: &Config, wr: &mut W, text: &'static str) -> Result
+    fn put_operator<W: WriteJs>(&mut self, cfg: &Config, wr: &mut W, mark: Punctuator) -> Answer
         requires { self.old.failed ≡ false }
-        ensures items { Emits (step (Token Punctuator (Operator None text.now))) (state_of cfg.now (W.sheet wr.old) self.old) (state_of cfg.now (W.sheet wr.new) self.new) result }
+        ensures items { Emits (step (Token kind.Punctuator (Operator None (spelling mark)))) (state_of cfg.now (W.sheet wr.old) self.old) (state_of cfg.now (W.sheet wr.new) self.new) result }
         ensures level { OnOk result ((W.sheet wr.new).indentation ≡ (W.sheet wr.old).indentation) }
     {
         let _ = cfg;
-        let last = self.last.then_punct(text);
-        let answer = wr.write_operator(None, text);
+        let last = Last::after(self.last, mark);
+        let answer = wr.write_operator(None, mark.as_str());
         self.settle(answer, last)
     }
 
@@ -87,9 +136,9 @@ impl LowerEmitter {
         cfg: &Config,
         wr: &mut W,
         text: &'static str,
-    ) -> Result
+    ) -> Answer
         requires { self.old.failed ≡ false }
-        ensures items { Emits (step (Token Word (Operator None text.now))) (state_of cfg.now (W.sheet wr.old) self.old) (state_of cfg.now (W.sheet wr.new) self.new) result }
+        ensures items { Emits (step (Token kind.Word (Operator None text.now))) (state_of cfg.now (W.sheet wr.old) self.old) (state_of cfg.now (W.sheet wr.new) self.new) result }
         ensures level { OnOk result ((W.sheet wr.new).indentation ≡ (W.sheet wr.old).indentation) }
     {
         let _ = cfg;
@@ -98,33 +147,33 @@ impl LowerEmitter {
     }
 
     /// The call of a punctuator.
-    fn put_punct<W: WriteJs>(&mut self, cfg: &Config, wr: &mut W, text: &'static str) -> Result
+    fn put_punct<W: WriteJs>(&mut self, cfg: &Config, wr: &mut W, mark: Punctuator) -> Answer
         requires { self.old.failed ≡ false }
-        ensures items { Emits (step (Token Punctuator (Punct None text.now))) (state_of cfg.now (W.sheet wr.old) self.old) (state_of cfg.now (W.sheet wr.new) self.new) result }
+        ensures items { Emits (step (Token kind.Punctuator (Punct None (spelling mark)))) (state_of cfg.now (W.sheet wr.old) self.old) (state_of cfg.now (W.sheet wr.new) self.new) result }
         ensures level { OnOk result ((W.sheet wr.new).indentation ≡ (W.sheet wr.old).indentation) }
     {
         let _ = cfg;
-        let last = self.last.then_punct(text);
-        let answer = wr.write_punct(None, text);
+        let last = Last::after(self.last, mark);
+        let answer = wr.write_punct(None, mark.as_str());
         self.settle(answer, last)
     }
 
     /// The call of a semicolon.
-    fn put_semi<W: WriteJs>(&mut self, cfg: &Config, wr: &mut W) -> Result
+    fn put_semi<W: WriteJs>(&mut self, cfg: &Config, wr: &mut W) -> Answer
         requires { self.old.failed ≡ false }
-        ensures items { Emits (step (Token Punctuator (Semi None))) (state_of cfg.now (W.sheet wr.old) self.old) (state_of cfg.now (W.sheet wr.new) self.new) result }
+        ensures items { Emits (step (Token kind.Punctuator (Semi None))) (state_of cfg.now (W.sheet wr.old) self.old) (state_of cfg.now (W.sheet wr.new) self.new) result }
         ensures level { OnOk result ((W.sheet wr.new).indentation ≡ (W.sheet wr.old).indentation) }
     {
         let _ = cfg;
-        let last = self.last.then_punct(";");
+        let last = Last::after(self.last, Punctuator::Semicolon);
         let answer = wr.write_semi(None);
         self.settle(answer, last)
     }
 
     /// The call of a name.
-    pub(crate) fn put_symbol<W: WriteJs>(&mut self, cfg: &Config, wr: &mut W, text: &str) -> Result
+    pub(crate) fn put_symbol<W: WriteJs>(&mut self, cfg: &Config, wr: &mut W, text: &str) -> Answer
         requires { self.old.failed ≡ false }
-        ensures items { Emits (step (Token Name (Symbol dummy_span text.now))) (state_of cfg.now (W.sheet wr.old) self.old) (state_of cfg.now (W.sheet wr.new) self.new) result }
+        ensures items { Emits (step (Token kind.Name (Symbol dummy_span text.now))) (state_of cfg.now (W.sheet wr.old) self.old) (state_of cfg.now (W.sheet wr.new) self.new) result }
         ensures level { OnOk result ((W.sheet wr.new).indentation ≡ (W.sheet wr.old).indentation) }
     {
         let _ = cfg;
@@ -140,27 +189,28 @@ impl LowerEmitter {
         wr: &mut W,
         span: Option<Span>,
         word: &'static str,
-    ) -> Result
+    ) -> Answer
+        requires { begins_letter word.now ≡ true }
         ensures items { Emits (keyword span word.now) (state_of cfg.now (W.sheet wr.old) self.old) (state_of cfg.now (W.sheet wr.new) self.new) result }
         // The text reads as the tokens so far and this one, whatever follows that doesn't fuse.
         ensures reads { (text_before : List ℕ) (tokens : List lexical.Token) → IsWord word.now → ReadsSoFar text_before tokens (state_of cfg.now (W.sheet wr.old) self.old) → OnOk result (ReadsSoFar text_before (tokens ++ lexical.word word.now ∷ []) (state_of cfg.now (W.sheet wr.new) self.new)) }
         ensures level { OnOk result ((W.sheet wr.new).indentation ≡ (W.sheet wr.old).indentation) }
     {
-        self.guard(cfg, wr, word)?;
+        self.guard_word(cfg, wr, word)?;
         self.put_keyword(cfg, wr, span, word)?;
         Ok(())
     }
 
     /// Writes an operator that is a punctuator.
     #[tactic(auto, unfolding(crate::specs::Words::operator))]
-    pub fn operator<W: WriteJs>(&mut self, cfg: &Config, wr: &mut W, text: &'static str) -> Result
-        ensures items { Emits (operator text.now) (state_of cfg.now (W.sheet wr.old) self.old) (state_of cfg.now (W.sheet wr.new) self.new) result }
+    pub fn operator<W: WriteJs>(&mut self, cfg: &Config, wr: &mut W, mark: Punctuator) -> Answer
+        ensures items { Emits (operator (spelling mark)) (state_of cfg.now (W.sheet wr.old) self.old) (state_of cfg.now (W.sheet wr.new) self.new) result }
         // The text reads as the tokens so far and this one, whatever follows that doesn't fuse.
-        ensures reads { (text_before : List ℕ) (tokens : List lexical.Token) → IsMark text.now → ReadsSoFar text_before tokens (state_of cfg.now (W.sheet wr.old) self.old) → OnOk result (ReadsSoFar text_before (tokens ++ lexical.punctuator text.now ∷ []) (state_of cfg.now (W.sheet wr.new) self.new)) }
+        ensures reads { (text_before : List ℕ) (tokens : List lexical.Token) → ReadsSoFar text_before tokens (state_of cfg.now (W.sheet wr.old) self.old) → OnOk result (ReadsSoFar text_before (tokens ++ lexical.punctuator (spelling mark) ∷ []) (state_of cfg.now (W.sheet wr.new) self.new)) }
         ensures level { OnOk result ((W.sheet wr.new).indentation ≡ (W.sheet wr.old).indentation) }
     {
-        self.guard(cfg, wr, text)?;
-        self.put_operator(cfg, wr, text)?;
+        self.guard_mark(cfg, wr, mark)?;
+        self.put_operator(cfg, wr, mark)?;
         Ok(())
     }
 
@@ -171,100 +221,100 @@ impl LowerEmitter {
         cfg: &Config,
         wr: &mut W,
         text: &'static str,
-    ) -> Result
+    ) -> Answer
+        requires { begins_letter text.now ≡ true }
         ensures items { Emits (word_operator text.now) (state_of cfg.now (W.sheet wr.old) self.old) (state_of cfg.now (W.sheet wr.new) self.new) result }
         // The text reads as the tokens so far and this one, whatever follows that doesn't fuse.
         ensures reads { (text_before : List ℕ) (tokens : List lexical.Token) → IsWord text.now → ReadsSoFar text_before tokens (state_of cfg.now (W.sheet wr.old) self.old) → OnOk result (ReadsSoFar text_before (tokens ++ lexical.word text.now ∷ []) (state_of cfg.now (W.sheet wr.new) self.new)) }
         ensures level { OnOk result ((W.sheet wr.new).indentation ≡ (W.sheet wr.old).indentation) }
     {
-        self.guard(cfg, wr, text)?;
+        self.guard_word(cfg, wr, text)?;
         self.put_word_operator(cfg, wr, text)?;
         Ok(())
     }
 
     /// Writes a punctuator.
     #[tactic(auto, unfolding(crate::specs::Words::punct))]
-    pub fn punct<W: WriteJs>(&mut self, cfg: &Config, wr: &mut W, text: &'static str) -> Result
-        ensures items { Emits (punct text.now) (state_of cfg.now (W.sheet wr.old) self.old) (state_of cfg.now (W.sheet wr.new) self.new) result }
+    pub fn punct<W: WriteJs>(&mut self, cfg: &Config, wr: &mut W, mark: Punctuator) -> Answer
+        ensures items { Emits (punct (spelling mark)) (state_of cfg.now (W.sheet wr.old) self.old) (state_of cfg.now (W.sheet wr.new) self.new) result }
         // The text reads as the tokens so far and this one, whatever follows that doesn't fuse.
-        ensures reads { (text_before : List ℕ) (tokens : List lexical.Token) → IsMark text.now → ReadsSoFar text_before tokens (state_of cfg.now (W.sheet wr.old) self.old) → OnOk result (ReadsSoFar text_before (tokens ++ lexical.punctuator text.now ∷ []) (state_of cfg.now (W.sheet wr.new) self.new)) }
+        ensures reads { (text_before : List ℕ) (tokens : List lexical.Token) → ReadsSoFar text_before tokens (state_of cfg.now (W.sheet wr.old) self.old) → OnOk result (ReadsSoFar text_before (tokens ++ lexical.punctuator (spelling mark) ∷ []) (state_of cfg.now (W.sheet wr.new) self.new)) }
         ensures level { OnOk result ((W.sheet wr.new).indentation ≡ (W.sheet wr.old).indentation) }
     {
-        self.guard(cfg, wr, text)?;
-        self.put_punct(cfg, wr, text)?;
+        self.guard_mark(cfg, wr, mark)?;
+        self.put_punct(cfg, wr, mark)?;
         Ok(())
     }
 
     /// Writes a semicolon that may be left out where it isn't needed.
     #[tactic(auto, unfolding(crate::specs::Words::semi))]
-    pub fn semi<W: WriteJs>(&mut self, cfg: &Config, wr: &mut W) -> Result
+    pub fn semi<W: WriteJs>(&mut self, cfg: &Config, wr: &mut W) -> Answer
         ensures items { Emits (semi) (state_of cfg.now (W.sheet wr.old) self.old) (state_of cfg.now (W.sheet wr.new) self.new) result }
         // The text reads as the tokens so far and this one, whatever follows that doesn't fuse.
         ensures reads { (text_before : List ℕ) (tokens : List lexical.Token) → ReadsSoFar text_before tokens (state_of cfg.now (W.sheet wr.old) self.old) → OnOk result (ReadsSoFar text_before (tokens ++ lexical.punctuator (codes ";") ∷ []) (state_of cfg.now (W.sheet wr.new) self.new)) }
         ensures level { OnOk result ((W.sheet wr.new).indentation ≡ (W.sheet wr.old).indentation) }
     {
-        self.guard(cfg, wr, ";")?;
+        self.guard_mark(cfg, wr, Punctuator::Semicolon)?;
         self.put_semi(cfg, wr)?;
         Ok(())
     }
 
     /// Writes a blank.
-    pub fn space<W: WriteJs>(&mut self, cfg: &Config, wr: &mut W) -> Result
+    pub fn space<W: WriteJs>(&mut self, cfg: &Config, wr: &mut W) -> Answer
         ensures items { Emits (space) (state_of cfg.now (W.sheet wr.old) self.old) (state_of cfg.now (W.sheet wr.new) self.new) result }
         ensures level { OnOk result ((W.sheet wr.new).indentation ≡ (W.sheet wr.old).indentation) }
     {
         let _ = cfg;
         if self.failed {
-            return Err(Error::Failed);
+            return Err(Refusal::Failed);
         }
         let answer = wr.write_space();
         self.settle(answer, Last::Apart)
     }
 
     /// Ends the line, unless at a line's start.
-    pub fn line<W: WriteJs>(&mut self, cfg: &Config, wr: &mut W) -> Result
+    pub fn line<W: WriteJs>(&mut self, cfg: &Config, wr: &mut W) -> Answer
         ensures items { Emits (line_end) (state_of cfg.now (W.sheet wr.old) self.old) (state_of cfg.now (W.sheet wr.new) self.new) result }
         ensures level { OnOk result ((W.sheet wr.new).indentation ≡ (W.sheet wr.old).indentation) }
     {
         let _ = cfg;
         if self.failed {
-            return Err(Error::Failed);
+            return Err(Refusal::Failed);
         }
         let answer = wr.write_line();
         self.settle(answer, Last::Apart)
     }
 
     /// Writes a semicolon that is held back.
-    pub fn commit_pending_semi<W: WriteJs>(&mut self, cfg: &Config, wr: &mut W) -> Result
+    pub fn commit_pending_semi<W: WriteJs>(&mut self, cfg: &Config, wr: &mut W) -> Answer
         ensures items { Emits (commit_pending_semi) (state_of cfg.now (W.sheet wr.old) self.old) (state_of cfg.now (W.sheet wr.new) self.new) result }
         ensures level { OnOk result ((W.sheet wr.new).indentation ≡ (W.sheet wr.old).indentation) }
     {
         let _ = cfg;
         if self.failed {
-            return Err(Error::Failed);
+            return Err(Refusal::Failed);
         }
-        let last = self.last;
         let answer = wr.commit_pending_semi();
-        self.settle(answer, last)
+        self.keep(answer)
     }
 
     /// Records a position.
-    fn record<W: WriteJs>(&mut self, cfg: &Config, wr: &mut W, pos: BytePos) -> Result
+    fn record<W: WriteJs>(&mut self, cfg: &Config, wr: &mut W, pos: BytePos) -> Answer
         ensures items { Emits (step (Plain (Position pos))) (state_of cfg.now (W.sheet wr.old) self.old) (state_of cfg.now (W.sheet wr.new) self.new) result }
         ensures level { OnOk result ((W.sheet wr.new).indentation ≡ (W.sheet wr.old).indentation) }
+        ensures fresh { OnOk result (self.new.failed ≡ false) }
     {
         let _ = cfg;
         if self.failed {
-            return Err(Error::Failed);
+            return Err(Refusal::Failed);
         }
-        let last = self.last;
         let answer = wr.add_srcmap(pos);
-        self.settle(answer, last)
+        self.keep(answer)
     }
 
     /// Writes a blank, unless the settings are to minify.
     #[tactic(auto, unfolding(crate::specs::Words::formatting_space), using(crate::proofs::Calls::skipped, crate::proofs::Calls::not_skipped))]
-    pub fn formatting_space<W: WriteJs>(&mut self, cfg: &Config, wr: &mut W) -> Result
+    pub fn formatting_space<W: WriteJs>(&mut self, cfg: &Config, wr: &mut W) -> Answer
         ensures items { Emits formatting_space (state_of cfg.now (W.sheet wr.old) self.old) (state_of cfg.now (W.sheet wr.new) self.new) result }
         ensures level { OnOk result ((W.sheet wr.new).indentation ≡ (W.sheet wr.old).indentation) }
     {
@@ -276,7 +326,7 @@ impl LowerEmitter {
 
     /// Ends the line, unless the settings are to minify.
     #[tactic(auto, unfolding(crate::specs::Words::formatting_line), using(crate::proofs::Calls::skipped, crate::proofs::Calls::not_skipped))]
-    pub fn formatting_line<W: WriteJs>(&mut self, cfg: &Config, wr: &mut W) -> Result
+    pub fn formatting_line<W: WriteJs>(&mut self, cfg: &Config, wr: &mut W) -> Answer
         ensures items { Emits formatting_line (state_of cfg.now (W.sheet wr.old) self.old) (state_of cfg.now (W.sheet wr.new) self.new) result }
         ensures level { OnOk result ((W.sheet wr.new).indentation ≡ (W.sheet wr.old).indentation) }
     {
@@ -288,9 +338,10 @@ impl LowerEmitter {
 
     /// Records a position, unless it is none.
     #[tactic(auto, unfolding(crate::specs::Words::position))]
-    pub fn position<W: WriteJs>(&mut self, cfg: &Config, wr: &mut W, pos: BytePos) -> Result
+    pub fn position<W: WriteJs>(&mut self, cfg: &Config, wr: &mut W, pos: BytePos) -> Answer
         ensures items { Emits (position pos) (state_of cfg.now (W.sheet wr.old) self.old) (state_of cfg.now (W.sheet wr.new) self.new) result }
         ensures level { OnOk result ((W.sheet wr.new).indentation ≡ (W.sheet wr.old).indentation) }
+        ensures fresh { self.old.failed ≡ false → OnOk result (self.new.failed ≡ false) }
     {
         if pos.0 == 0 {
             return Ok(());
@@ -300,7 +351,7 @@ impl LowerEmitter {
 
     /// Records the position before one, unless that one is none.
     #[tactic(auto, unfolding(crate::specs::Words::position_before))]
-    pub fn position_before<W: WriteJs>(&mut self, cfg: &Config, wr: &mut W, pos: BytePos) -> Result
+    pub fn position_before<W: WriteJs>(&mut self, cfg: &Config, wr: &mut W, pos: BytePos) -> Answer
         ensures items { Emits (position_before pos) (state_of cfg.now (W.sheet wr.old) self.old) (state_of cfg.now (W.sheet wr.new) self.new) result }
         ensures level { OnOk result ((W.sheet wr.new).indentation ≡ (W.sheet wr.old).indentation) }
     {

@@ -9,7 +9,7 @@ mod positions;
 mod versions;
 
 pub use crate::decimals::Decimal;
-pub use crate::errors::{Error, Result};
+pub use crate::errors::{Answer, Error, Refusal, Result};
 pub use crate::operators::{AssignOp, BinaryOp, UnaryOp, UpdateOp};
 pub use crate::positions::{BytePos, DUMMY_SP, LineCol, Span};
 pub use crate::versions::EsVersion;

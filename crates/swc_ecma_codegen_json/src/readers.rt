@@ -117,11 +117,11 @@ fn read_node<R: ReadNodes>(alloc: Global, sort: Sort, json: &Value) -> Read<AnyN
     let make = |sort: Sort, part: &Value| -> Read<AnyNode>
         ensures { IfOk result (λ n. HasForm (any_form n sort) (view part.now)) }
     { read_node::<R>(alloc, sort, part) };
-    Ok(match sort {
-        Sort::Expr => AnyNode::Expr(R::read_expr(alloc, json, &make)?),
-        Sort::Stmt => AnyNode::Stmt(R::read_stmt(alloc, json, &make)?),
-        Sort::MemberExpr => AnyNode::MemberExpr(R::read_member_expr(alloc, json, &make)?),
-    })
+    match sort {
+        Sort::Expr => Ok(AnyNode::Expr(R::read_expr(alloc, json, &make)?)),
+        Sort::Stmt => Ok(AnyNode::Stmt(R::read_stmt(alloc, json, &make)?)),
+        Sort::MemberExpr => Ok(AnyNode::MemberExpr(R::read_member_expr(alloc, json, &make)?)),
+    }
 }
 
 /// Reads a program by the readers `R`.

@@ -24,3 +24,4 @@ pub mod TemplateCooks
 pub mod TemplateParts
 pub mod TemplatePieces
 pub mod TemplateReads
+pub mod Integers

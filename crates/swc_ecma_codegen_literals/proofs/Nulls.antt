@@ -1,5 +1,6 @@
 -- A text up to a backslash with U+0000 after it, and what follows.
-use Rattle.std.proofs.Common.{◌≡◌, ℕ, zero, suc, ◌+◌, ◌-◌, ◌<◌, ◌≤◌, Bool, true, false, List, [], ◌∷◌, ◌++◌, ◌&&◌, ◌==◌, length, take, drop, slice_index, refl, sym, ap, ◌∙◌, subst, arith, if◌then◌else◌, length-append, length-drop, append_assoc}
+use Rattle.std.proofs.Common.{◌≡◌, ℕ, zero, suc, ◌+◌, ◌-◌, ◌<◌, ◌≤◌, Bool, true, false, List, [], ◌∷◌, ◌++◌, ◌&&◌, ◌==◌, length, take, drop, slice_index, refl, sym, ap, ◌∙◌, subst, arith, if◌then◌else◌, cond, nat_eq, ◌||◌, length-append, length-drop, append_assoc}
+use Rattle.std.specs.List.{list_any}
 use Rattle.std.proofs.lemmas.Bool.{false≢true, eqb-true, eq-eqb, and_parts, and_from, false_from_ne_true}
 use Rattle.std.proofs.lemmas.List.{length-take-le}
 use Rattle.std.proofs.lemmas.Str.{IsCharBoundary-after_ascii}
@@ -7,6 +8,12 @@ use Rattle.std.specs.Str.{IsUtf8, IsCharBoundary}
 use Rattle.memchr.specs.Find.{OccursAt, Nowhere, NoneBefore}
 use Rattle.swc_ecma_codegen_ast.specs.ValidNames.{turned_after, turned}
 use Rattle.swc_ecma_codegen_literals.specs.ValidNames.{has_byte}
+
+-- a search for a byte
+pub contained : (b : ℕ) (xs : List ℕ) → list_any (λ x. nat_eq x b) xs ≡ has_byte b xs
+unfolding has_byte
+contained b [] = refl
+contained b (x ∷ xs) = elim (x == b) as (λ z. (z || list_any (λ y. nat_eq y b) xs) ≡ cond z true (has_byte b xs)) [ true ↦ refl | false ↦ contained b xs ]
 
 abbrev pub needle : List ℕ
 needle = 92 ∷ 0 ∷ []

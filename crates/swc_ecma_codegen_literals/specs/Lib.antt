@@ -4,3 +4,5 @@ pub mod NumberTexts
 pub mod StringTexts
 pub mod TemplateTexts
 pub mod ValidNames
+pub mod Punctuators
+pub mod Integers

@@ -1,17 +1,21 @@
 //! The spellings of names, strings, templates and numbers.
 #![tactic(auto)]
 
+mod classes;
 mod escapes;
 mod idents;
 mod names;
 mod numbers;
+mod punctuators;
 mod scripts;
 mod strings;
 mod templates;
 
+pub use crate::classes::{TokenClass, number_class};
 pub use crate::idents::ascii_only_ident;
-pub use crate::names::valid_name;
+pub use crate::names::{holds_backslash, valid_name};
 pub use crate::numbers::{minified_number, plain_number};
+pub use crate::punctuators::Punctuator;
 pub use crate::scripts::quoted_for_inline_script;
 pub use crate::strings::quoted_utf16;
 pub use crate::templates::template_from_raw;

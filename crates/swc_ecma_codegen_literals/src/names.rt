@@ -12,6 +12,13 @@ use std::alloc::Global;
 use std::borrow::CowStr;
 use swc_ecma_codegen_common::Error;
 
+/// Whether a name holds a backslash: `valid_name` lends any other as it is.
+pub fn holds_backslash(name: &str) -> bool
+    ensures { result ≡ has_byte 92 name.now }
+{
+    name.as_bytes().contains(&b'\\')
+}
+
 /// The name that is written for `name`, where a parser put U+0000 after a backslash to mark a name that is invalid:
 /// each such U+0000 is left out, from left to right. `Error::OutOfMemory` where there is one and no room for the new
 /// text; a name without one is lent as it is.

@@ -62,8 +62,16 @@ use Rattle.swc_ecma_codegen_tree.specs.declared.ts_decls.TsNamespaceBody.TheVari
 use Rattle.swc_ecma_codegen_tree.specs.declared.ts_types.TsType.TheVariants as ts_types
 use Rattle.swc_ecma_codegen_tree.specs.declared.ts_members.TsTypeElement.TheVariants as ts_type_elements
 use Rattle.swc_ecma_codegen_tree.specs.declared.ts_types.TsUnionOrIntersectionType.TheVariants as ts_union_or_intersection_types
+use Rattle.swc_ecma_codegen_tree.specs.declared.parts.ExprPart.{ExprPart}
+use Rattle.swc_ecma_codegen_tree.specs.declared.parts.ExprPart.TheVariants as expr_parts
+use Rattle.swc_ecma_codegen_tree.specs.declared.parts.StmtPart.{StmtPart}
+use Rattle.swc_ecma_codegen_tree.specs.declared.parts.StmtPart.TheVariants as stmt_parts
+use Rattle.swc_ecma_codegen_tree.specs.declared.parts.JSXPart.{JSXPart}
+use Rattle.swc_ecma_codegen_tree.specs.declared.parts.JSXPart.TheVariants as jsx_parts
+use Rattle.swc_ecma_codegen_tree.specs.declared.parts.TsPart.{TsPart}
+use Rattle.swc_ecma_codegen_tree.specs.declared.parts.TsPart.TheVariants as ts_parts
 use Rattle.std.specs.Box.{with_value}
-use Rattle.swc_ecma_codegen_spans.specs.Spans.{assign_prop_span, assign_target_pat_span, assign_target_span, binding_ident_span, class_decl_span, class_expr_span, class_member_span, decl_span, expr_span, fn_decl_span, fn_expr_span, jsx_attr_value_span, jsx_element_child_span, jsx_member_expr_span, jsx_namespaced_name_span, jsx_object_span, key_value_prop_span, lit_span, method_prop_span, module_decl_span, module_item_span, pat_span, prop_name_span, prop_span, simple_assign_target_span, stmt_span, ts_entity_name_span, ts_fn_or_constructor_type_span, ts_fn_param_span, ts_namespace_body_span, ts_type_element_span, ts_type_span, ts_union_or_intersection_type_span, node_span, any_span}
+use Rattle.swc_ecma_codegen_spans.specs.Spans.{assign_prop_span, assign_target_pat_span, assign_target_span, binding_ident_span, class_decl_span, class_expr_span, class_member_span, decl_span, expr_span, fn_decl_span, fn_expr_span, jsx_attr_value_span, jsx_element_child_span, jsx_member_expr_span, jsx_namespaced_name_span, jsx_object_span, key_value_prop_span, lit_span, method_prop_span, module_decl_span, module_item_span, pat_span, prop_name_span, prop_span, simple_assign_target_span, stmt_span, ts_entity_name_span, ts_fn_or_constructor_type_span, ts_fn_param_span, ts_namespace_body_span, ts_type_element_span, ts_type_span, ts_union_or_intersection_type_span, node_span, any_span, expr_part_span, stmt_part_span, jsx_part_span, ts_part_span}
 
 known_of : AnyNode-F AnyNode → AnyNode-F Span
 known_of = map-AnyNode AnyNode Span any_span
@@ -131,8 +139,8 @@ stmt_known (stmts.ForOf n) = refl
 stmt_known (stmts.Decl n) = refl
 stmt_known (stmts.Expr n) = refl
 
-pat_known : (n : Pat AnyNode) → node_span (λ known. known) (known_of (nodes.Pat n)) ≡ pat_span any_span n
-unfolding node_span known_of pat_span binding_ident_span
+pat_known : (n : Pat AnyNode) → node_span (λ known. known) (known_of (nodes.ExprPart (expr_parts.Pat n))) ≡ pat_span any_span n
+unfolding node_span known_of expr_part_span pat_span binding_ident_span
 pat_known (pats.Ident n) = refl
 pat_known (pats.Array n) = refl
 pat_known (pats.Rest n) = refl
@@ -141,8 +149,8 @@ pat_known (pats.Assign n) = refl
 pat_known (pats.Invalid n) = refl
 pat_known (pats.Expr n) = refl
 
-ts_type_known : (b : (Box (TsType AnyNode) Global)) (n : TsType AnyNode) → node_span (λ known. known) (known_of (nodes.TsType (with_value b n))) ≡ ts_type_span n
-unfolding node_span known_of ts_type_span ts_fn_or_constructor_type_span ts_union_or_intersection_type_span
+ts_type_known : (b : (Box (TsType AnyNode) Global)) (n : TsType AnyNode) → node_span (λ known. known) (known_of (nodes.TsPart (ts_parts.TsType (with_value b n)))) ≡ ts_type_span n
+unfolding node_span known_of ts_part_span ts_type_span ts_fn_or_constructor_type_span ts_union_or_intersection_type_span
 ts_type_known b (ts_types.TsKeywordType n) = refl
 ts_type_known b (ts_types.TsThisType n) = refl
 ts_type_known b (ts_types.TsFnOrConstructorType (ts_fn_or_constructor_types.TsFnType n)) = refl
@@ -166,56 +174,56 @@ ts_type_known b (ts_types.TsLitType n) = refl
 ts_type_known b (ts_types.TsTypePredicate n) = refl
 ts_type_known b (ts_types.TsImportType n) = refl
 
-jsx_element_child_known : (n : JSXElementChild AnyNode) → node_span (λ known. known) (known_of (nodes.JSXElementChild n)) ≡ jsx_element_child_span any_span n
-unfolding node_span known_of jsx_element_child_span
+jsx_element_child_known : (n : JSXElementChild AnyNode) → node_span (λ known. known) (known_of (nodes.JSXPart (jsx_parts.JSXElementChild n))) ≡ jsx_element_child_span any_span n
+unfolding node_span known_of jsx_part_span jsx_element_child_span
 jsx_element_child_known (jsx_element_childs.JSXText n) = refl
 jsx_element_child_known (jsx_element_childs.JSXExprContainer n) = refl
 jsx_element_child_known (jsx_element_childs.JSXSpreadChild n) = refl
 jsx_element_child_known (jsx_element_childs.JSXElement n) = refl
 jsx_element_child_known (jsx_element_childs.JSXFragment n) = refl
 
-jsx_attr_value_known : (n : JSXAttrValue AnyNode) → node_span (λ known. known) (known_of (nodes.JSXAttrValue n)) ≡ jsx_attr_value_span any_span n
-unfolding node_span known_of jsx_attr_value_span lit_span
-jsx_attr_value_known (jsx_attr_values.Lit n) = refl
-jsx_attr_value_known (jsx_attr_values.JSXExprContainer n) = refl
-jsx_attr_value_known (jsx_attr_values.JSXElement n) = refl
-jsx_attr_value_known (jsx_attr_values.JSXFragment n) = refl
+jsx_attr_value_known : (b : (Box (JSXAttrValue AnyNode) Global)) (n : JSXAttrValue AnyNode) → node_span (λ known. known) (known_of (nodes.JSXPart (jsx_parts.JSXAttrValue (with_value b n)))) ≡ jsx_attr_value_span any_span n
+unfolding node_span known_of jsx_part_span jsx_attr_value_span lit_span
+jsx_attr_value_known b (jsx_attr_values.Lit n) = refl
+jsx_attr_value_known b (jsx_attr_values.JSXExprContainer n) = refl
+jsx_attr_value_known b (jsx_attr_values.JSXElement n) = refl
+jsx_attr_value_known b (jsx_attr_values.JSXFragment n) = refl
 
-ts_namespace_body_known : (n : TsNamespaceBody AnyNode) → node_span (λ known. known) (known_of (nodes.TsNamespaceBody n)) ≡ ts_namespace_body_span n
-unfolding node_span known_of ts_namespace_body_span
+ts_namespace_body_known : (n : TsNamespaceBody AnyNode) → node_span (λ known. known) (known_of (nodes.TsPart (ts_parts.TsNamespaceBody n))) ≡ ts_namespace_body_span n
+unfolding node_span known_of ts_part_span ts_namespace_body_span
 ts_namespace_body_known (ts_namespace_bodys.TsModuleBlock n) = refl
 ts_namespace_body_known (ts_namespace_bodys.TsNamespaceDecl n) = refl
 
-ts_type_ann_known : (n : TsTypeAnn AnyNode) → node_span (λ known. known) (known_of (nodes.TsTypeAnn n)) ≡ n.span
-unfolding node_span known_of
+ts_type_ann_known : (n : TsTypeAnn AnyNode) → node_span (λ known. known) (known_of (nodes.TsPart (ts_parts.TsTypeAnn n))) ≡ n.span
+unfolding node_span known_of ts_part_span
 ts_type_ann_known n = refl
 
-ts_type_param_decl_known : (n : TsTypeParamDecl AnyNode) → node_span (λ known. known) (known_of (nodes.TsTypeParamDecl n)) ≡ n.span
-unfolding node_span known_of
+ts_type_param_decl_known : (n : TsTypeParamDecl AnyNode) → node_span (λ known. known) (known_of (nodes.TsPart (ts_parts.TsTypeParamDecl n))) ≡ n.span
+unfolding node_span known_of ts_part_span
 ts_type_param_decl_known n = refl
 
-ts_type_param_instantiation_known : (n : TsTypeParamInstantiation AnyNode) → node_span (λ known. known) (known_of (nodes.TsTypeParamInstantiation n)) ≡ n.span
-unfolding node_span known_of
+ts_type_param_instantiation_known : (n : TsTypeParamInstantiation AnyNode) → node_span (λ known. known) (known_of (nodes.TsPart (ts_parts.TsTypeParamInstantiation n))) ≡ n.span
+unfolding node_span known_of ts_part_span
 ts_type_param_instantiation_known n = refl
 
-function_known : (b : (Box (Function AnyNode) Global)) (n : Function AnyNode) → node_span (λ known. known) (known_of (nodes.Function (with_value b n))) ≡ n.span
-unfolding node_span known_of
+function_known : (b : (Box (Function AnyNode) Global)) (n : Function AnyNode) → node_span (λ known. known) (known_of (nodes.StmtPart (stmt_parts.Function (with_value b n)))) ≡ n.span
+unfolding node_span known_of stmt_part_span
 function_known b n = refl
 
-class_known : (b : (Box (Class AnyNode) Global)) (n : Class AnyNode) → node_span (λ known. known) (known_of (nodes.Class (with_value b n))) ≡ n.span
-unfolding node_span known_of
+class_known : (b : (Box (Class AnyNode) Global)) (n : Class AnyNode) → node_span (λ known. known) (known_of (nodes.StmtPart (stmt_parts.Class (with_value b n)))) ≡ n.span
+unfolding node_span known_of stmt_part_span
 class_known b n = refl
 
-tpl_known : (n : Tpl AnyNode) → node_span (λ known. known) (known_of (nodes.Tpl n)) ≡ n.span
-unfolding node_span known_of
+tpl_known : (n : Tpl AnyNode) → node_span (λ known. known) (known_of (nodes.ExprPart (expr_parts.Tpl n))) ≡ n.span
+unfolding node_span known_of expr_part_span
 tpl_known n = refl
 
-block_stmt_known : (n : BlockStmt AnyNode) → node_span (λ known. known) (known_of (nodes.BlockStmt n)) ≡ n.span
-unfolding node_span known_of
+block_stmt_known : (n : BlockStmt AnyNode) → node_span (λ known. known) (known_of (nodes.StmtPart (stmt_parts.BlockStmt n))) ≡ n.span
+unfolding node_span known_of stmt_part_span
 block_stmt_known n = refl
 
-decl_known : (b : (Box (Decl AnyNode) Global)) (n : Decl AnyNode) → node_span (λ known. known) (known_of (nodes.Decl (with_value b n))) ≡ decl_span any_span n
-unfolding node_span known_of decl_span class_decl_span fn_decl_span
+decl_known : (b : (Box (Decl AnyNode) Global)) (n : Decl AnyNode) → node_span (λ known. known) (known_of (nodes.StmtPart (stmt_parts.Decl (with_value b n)))) ≡ decl_span any_span n
+unfolding node_span known_of stmt_part_span decl_span class_decl_span fn_decl_span
 decl_known b (decls.Class n) = refl
 decl_known b (decls.Fn n) = refl
 decl_known b (decls.Var n) = refl
@@ -225,13 +233,13 @@ decl_known b (decls.TsTypeAlias n) = refl
 decl_known b (decls.TsEnum n) = refl
 decl_known b (decls.TsModule n) = refl
 
-module_item_known : (n : ModuleItem AnyNode) → node_span (λ known. known) (known_of (nodes.ModuleItem n)) ≡ module_item_span any_span n
-unfolding node_span known_of module_item_span
+module_item_known : (n : ModuleItem AnyNode) → node_span (λ known. known) (known_of (nodes.StmtPart (stmt_parts.ModuleItem n))) ≡ module_item_span any_span n
+unfolding node_span known_of stmt_part_span module_item_span
 module_item_known (module_items.ModuleDecl n) = refl
 module_item_known (module_items.Stmt n) = refl
 
-module_decl_known : (b : (Box (ModuleDecl AnyNode) Global)) (n : ModuleDecl AnyNode) → node_span (λ known. known) (known_of (nodes.ModuleDecl (with_value b n))) ≡ module_decl_span n
-unfolding node_span known_of module_decl_span
+module_decl_known : (b : (Box (ModuleDecl AnyNode) Global)) (n : ModuleDecl AnyNode) → node_span (λ known. known) (known_of (nodes.StmtPart (stmt_parts.ModuleDecl (with_value b n)))) ≡ module_decl_span n
+unfolding node_span known_of stmt_part_span module_decl_span
 module_decl_known b (module_decls.Import n) = refl
 module_decl_known b (module_decls.ExportDecl n) = refl
 module_decl_known b (module_decls.ExportNamed n) = refl
@@ -242,31 +250,31 @@ module_decl_known b (module_decls.TsImportEquals n) = refl
 module_decl_known b (module_decls.TsExportAssignment n) = refl
 module_decl_known b (module_decls.TsNamespaceExport n) = refl
 
-object_lit_known : (n : ObjectLit AnyNode) → node_span (λ known. known) (known_of (nodes.ObjectLit n)) ≡ n.span
-unfolding node_span known_of
+object_lit_known : (n : ObjectLit AnyNode) → node_span (λ known. known) (known_of (nodes.ExprPart (expr_parts.ObjectLit n))) ≡ n.span
+unfolding node_span known_of expr_part_span
 object_lit_known n = refl
 
-prop_name_known : (n : PropName AnyNode) → node_span (λ known. known) (known_of (nodes.PropName n)) ≡ prop_name_span n
-unfolding node_span known_of prop_name_span
+prop_name_known : (n : PropName AnyNode) → node_span (λ known. known) (known_of (nodes.ExprPart (expr_parts.PropName n))) ≡ prop_name_span n
+unfolding node_span known_of expr_part_span prop_name_span
 prop_name_known (prop_names.Ident n) = refl
 prop_name_known (prop_names.Str n) = refl
 prop_name_known (prop_names.Num n) = refl
 prop_name_known (prop_names.BigInt n) = refl
 prop_name_known (prop_names.Computed n) = refl
 
-var_decl_known : (n : VarDecl AnyNode) → node_span (λ known. known) (known_of (nodes.VarDecl n)) ≡ n.span
-unfolding node_span known_of
+var_decl_known : (n : VarDecl AnyNode) → node_span (λ known. known) (known_of (nodes.StmtPart (stmt_parts.VarDecl n))) ≡ n.span
+unfolding node_span known_of stmt_part_span
 var_decl_known n = refl
 
-ts_fn_param_known : (n : TsFnParam AnyNode) → node_span (λ known. known) (known_of (nodes.TsFnParam n)) ≡ ts_fn_param_span n
-unfolding node_span known_of ts_fn_param_span binding_ident_span
+ts_fn_param_known : (n : TsFnParam AnyNode) → node_span (λ known. known) (known_of (nodes.TsPart (ts_parts.TsFnParam n))) ≡ ts_fn_param_span n
+unfolding node_span known_of ts_part_span ts_fn_param_span binding_ident_span
 ts_fn_param_known (ts_fn_params.Ident n) = refl
 ts_fn_param_known (ts_fn_params.Array n) = refl
 ts_fn_param_known (ts_fn_params.Rest n) = refl
 ts_fn_param_known (ts_fn_params.Object n) = refl
 
-class_member_known : (b : (Box (ClassMember AnyNode) Global)) (n : ClassMember AnyNode) → node_span (λ known. known) (known_of (nodes.ClassMember (with_value b n))) ≡ class_member_span n
-unfolding node_span known_of class_member_span
+class_member_known : (b : (Box (ClassMember AnyNode) Global)) (n : ClassMember AnyNode) → node_span (λ known. known) (known_of (nodes.StmtPart (stmt_parts.ClassMember (with_value b n)))) ≡ class_member_span n
+unfolding node_span known_of stmt_part_span class_member_span
 class_member_known b (class_members.Constructor n) = refl
 class_member_known b (class_members.Method n) = refl
 class_member_known b (class_members.PrivateMethod n) = refl
@@ -277,16 +285,16 @@ class_member_known b (class_members.Empty n) = refl
 class_member_known b (class_members.StaticBlock n) = refl
 class_member_known b (class_members.AutoAccessor n) = refl
 
-jsx_element_known : (b : (Box (JSXElement AnyNode) Global)) (n : JSXElement AnyNode) → node_span (λ known. known) (known_of (nodes.JSXElement (with_value b n))) ≡ n.span
-unfolding node_span known_of
+jsx_element_known : (b : (Box (JSXElement AnyNode) Global)) (n : JSXElement AnyNode) → node_span (λ known. known) (known_of (nodes.JSXPart (jsx_parts.JSXElement (with_value b n)))) ≡ n.span
+unfolding node_span known_of jsx_part_span
 jsx_element_known b n = refl
 
-jsx_fragment_known : (n : JSXFragment AnyNode) → node_span (λ known. known) (known_of (nodes.JSXFragment n)) ≡ n.span
-unfolding node_span known_of
+jsx_fragment_known : (n : JSXFragment AnyNode) → node_span (λ known. known) (known_of (nodes.JSXPart (jsx_parts.JSXFragment n))) ≡ n.span
+unfolding node_span known_of jsx_part_span
 jsx_fragment_known n = refl
 
-ts_type_element_known : (n : TsTypeElement AnyNode) → node_span (λ known. known) (known_of (nodes.TsTypeElement n)) ≡ ts_type_element_span n
-unfolding node_span known_of ts_type_element_span
+ts_type_element_known : (n : TsTypeElement AnyNode) → node_span (λ known. known) (known_of (nodes.TsPart (ts_parts.TsTypeElement n))) ≡ ts_type_element_span n
+unfolding node_span known_of ts_part_span ts_type_element_span
 ts_type_element_known (ts_type_elements.TsCallSignatureDecl n) = refl
 ts_type_element_known (ts_type_elements.TsConstructSignatureDecl n) = refl
 ts_type_element_known (ts_type_elements.TsPropertySignature n) = refl
@@ -295,8 +303,8 @@ ts_type_element_known (ts_type_elements.TsSetterSignature n) = refl
 ts_type_element_known (ts_type_elements.TsMethodSignature n) = refl
 ts_type_element_known (ts_type_elements.TsIndexSignature n) = refl
 
-prop_known : (n : Prop AnyNode) → node_span (λ known. known) (known_of (nodes.Prop n)) ≡ prop_span any_span n
-unfolding node_span known_of prop_span key_value_prop_span assign_prop_span method_prop_span
+prop_known : (n : Prop AnyNode) → node_span (λ known. known) (known_of (nodes.ExprPart (expr_parts.Prop n))) ≡ prop_span any_span n
+unfolding node_span known_of expr_part_span prop_span key_value_prop_span assign_prop_span method_prop_span
 prop_known (props.Shorthand n) = refl
 prop_known (props.KeyValue n) = refl
 prop_known (props.Assign n) = refl
@@ -308,12 +316,12 @@ member_expr_known : (n : MemberExpr AnyNode) → node_span (λ known. known) (kn
 unfolding node_span known_of
 member_expr_known n = refl
 
-opt_call_known : (n : OptCall AnyNode) → node_span (λ known. known) (known_of (nodes.OptCall n)) ≡ n.span
-unfolding node_span known_of
+opt_call_known : (n : OptCall AnyNode) → node_span (λ known. known) (known_of (nodes.ExprPart (expr_parts.OptCall n))) ≡ n.span
+unfolding node_span known_of expr_part_span
 opt_call_known n = refl
 
-assign_target_known : (n : AssignTarget AnyNode) → node_span (λ known. known) (known_of (nodes.AssignTarget n)) ≡ assign_target_span any_span n
-unfolding node_span known_of assign_target_span simple_assign_target_span binding_ident_span assign_target_pat_span
+assign_target_known : (n : AssignTarget AnyNode) → node_span (λ known. known) (known_of (nodes.ExprPart (expr_parts.AssignTarget n))) ≡ assign_target_span any_span n
+unfolding node_span known_of expr_part_span assign_target_span simple_assign_target_span binding_ident_span assign_target_pat_span
 assign_target_known (assign_targets.Simple (simple_assign_targets.Ident n)) = refl
 assign_target_known (assign_targets.Simple (simple_assign_targets.Member n)) = refl
 assign_target_known (assign_targets.Simple (simple_assign_targets.SuperProp n)) = refl
@@ -329,49 +337,65 @@ assign_target_known (assign_targets.Pat (assign_target_pats.Array n)) = refl
 assign_target_known (assign_targets.Pat (assign_target_pats.Object n)) = refl
 assign_target_known (assign_targets.Pat (assign_target_pats.Invalid n)) = refl
 
-ts_entity_name_known : (n : TsEntityName AnyNode) → node_span (λ known. known) (known_of (nodes.TsEntityName n)) ≡ ts_entity_name_span n
-unfolding node_span known_of ts_entity_name_span
+ts_entity_name_known : (n : TsEntityName AnyNode) → node_span (λ known. known) (known_of (nodes.TsPart (ts_parts.TsEntityName n))) ≡ ts_entity_name_span n
+unfolding node_span known_of ts_part_span ts_entity_name_span
 ts_entity_name_known (ts_entity_names.TsQualifiedName n) = refl
 ts_entity_name_known (ts_entity_names.Ident n) = refl
 
-jsx_object_known : (n : JSXObject AnyNode) → node_span (λ known. known) (known_of (nodes.JSXObject n)) ≡ jsx_object_span any_span n
-unfolding node_span known_of jsx_object_span jsx_member_expr_span
+jsx_object_known : (n : JSXObject AnyNode) → node_span (λ known. known) (known_of (nodes.JSXPart (jsx_parts.JSXObject n))) ≡ jsx_object_span any_span n
+unfolding node_span known_of jsx_part_span jsx_object_span jsx_member_expr_span
 jsx_object_known (jsx_objects.JSXMemberExpr n) = refl
 jsx_object_known (jsx_objects.Ident n) = refl
+
+expr_part_known : (n : ExprPart AnyNode) → node_span (λ known. known) (known_of (nodes.ExprPart n)) ≡ expr_part_span any_span n
+unfolding node_span known_of expr_part_span
+expr_part_known (expr_parts.Pat n) = pat_known n
+expr_part_known (expr_parts.Tpl n) = tpl_known n
+expr_part_known (expr_parts.ObjectLit n) = object_lit_known n
+expr_part_known (expr_parts.PropName n) = prop_name_known n
+expr_part_known (expr_parts.Prop n) = prop_known n
+expr_part_known (expr_parts.OptCall n) = opt_call_known n
+expr_part_known (expr_parts.AssignTarget n) = assign_target_known n
+
+stmt_part_known : (n : StmtPart AnyNode) → node_span (λ known. known) (known_of (nodes.StmtPart n)) ≡ stmt_part_span any_span n
+unfolding node_span known_of stmt_part_span
+stmt_part_known (stmt_parts.Function n) = function_known n n.value
+stmt_part_known (stmt_parts.Class n) = class_known n n.value
+stmt_part_known (stmt_parts.BlockStmt n) = block_stmt_known n
+stmt_part_known (stmt_parts.Decl n) = decl_known n n.value
+stmt_part_known (stmt_parts.ModuleItem n) = module_item_known n
+stmt_part_known (stmt_parts.ModuleDecl n) = module_decl_known n n.value
+stmt_part_known (stmt_parts.VarDecl n) = var_decl_known n
+stmt_part_known (stmt_parts.ClassMember n) = class_member_known n n.value
+
+jsx_part_known : (n : JSXPart AnyNode) → node_span (λ known. known) (known_of (nodes.JSXPart n)) ≡ jsx_part_span any_span n
+unfolding node_span known_of jsx_part_span
+jsx_part_known (jsx_parts.JSXElementChild n) = jsx_element_child_known n
+jsx_part_known (jsx_parts.JSXAttrValue n) = jsx_attr_value_known n n.value
+jsx_part_known (jsx_parts.JSXElement n) = jsx_element_known n n.value
+jsx_part_known (jsx_parts.JSXFragment n) = jsx_fragment_known n
+jsx_part_known (jsx_parts.JSXObject n) = jsx_object_known n
+
+ts_part_known : (n : TsPart AnyNode) → node_span (λ known. known) (known_of (nodes.TsPart n)) ≡ ts_part_span any_span n
+unfolding node_span known_of ts_part_span
+ts_part_known (ts_parts.TsType n) = ts_type_known n n.value
+ts_part_known (ts_parts.TsNamespaceBody n) = ts_namespace_body_known n
+ts_part_known (ts_parts.TsTypeAnn n) = ts_type_ann_known n
+ts_part_known (ts_parts.TsTypeParamDecl n) = ts_type_param_decl_known n
+ts_part_known (ts_parts.TsTypeParamInstantiation n) = ts_type_param_instantiation_known n
+ts_part_known (ts_parts.TsFnParam n) = ts_fn_param_known n
+ts_part_known (ts_parts.TsTypeElement n) = ts_type_element_known n
+ts_part_known (ts_parts.TsEntityName n) = ts_entity_name_known n
 
 layer_known : (n : AnyNode-F AnyNode) → node_span (λ known. known) (known_of n) ≡ node_span any_span n
 unfolding node_span known_of
 layer_known (nodes.Expr n) = expr_known n
 layer_known (nodes.Stmt n) = stmt_known n
-layer_known (nodes.Pat n) = pat_known n
-layer_known (nodes.TsType n) = ts_type_known n n.value
-layer_known (nodes.JSXElementChild n) = jsx_element_child_known n
-layer_known (nodes.JSXAttrValue n) = jsx_attr_value_known n
-layer_known (nodes.TsNamespaceBody n) = ts_namespace_body_known n
-layer_known (nodes.TsTypeAnn n) = ts_type_ann_known n
-layer_known (nodes.TsTypeParamDecl n) = ts_type_param_decl_known n
-layer_known (nodes.TsTypeParamInstantiation n) = ts_type_param_instantiation_known n
-layer_known (nodes.Function n) = function_known n n.value
-layer_known (nodes.Class n) = class_known n n.value
-layer_known (nodes.Tpl n) = tpl_known n
-layer_known (nodes.BlockStmt n) = block_stmt_known n
-layer_known (nodes.Decl n) = decl_known n n.value
-layer_known (nodes.ModuleItem n) = module_item_known n
-layer_known (nodes.ModuleDecl n) = module_decl_known n n.value
-layer_known (nodes.ObjectLit n) = object_lit_known n
-layer_known (nodes.PropName n) = prop_name_known n
-layer_known (nodes.VarDecl n) = var_decl_known n
-layer_known (nodes.TsFnParam n) = ts_fn_param_known n
-layer_known (nodes.ClassMember n) = class_member_known n n.value
-layer_known (nodes.JSXElement n) = jsx_element_known n n.value
-layer_known (nodes.JSXFragment n) = jsx_fragment_known n
-layer_known (nodes.TsTypeElement n) = ts_type_element_known n
-layer_known (nodes.Prop n) = prop_known n
 layer_known (nodes.MemberExpr n) = member_expr_known n
-layer_known (nodes.OptCall n) = opt_call_known n
-layer_known (nodes.AssignTarget n) = assign_target_known n
-layer_known (nodes.TsEntityName n) = ts_entity_name_known n
-layer_known (nodes.JSXObject n) = jsx_object_known n
+layer_known (nodes.ExprPart n) = expr_part_known n
+layer_known (nodes.StmtPart n) = stmt_part_known n
+layer_known (nodes.JSXPart n) = jsx_part_known n
+layer_known (nodes.TsPart n) = ts_part_known n
 
 span_of_layer : (n : AnyNode-F AnyNode) → any_span (roll-AnyNode n) ≡ node_span any_span n
 unfolding any_span known_of
@@ -385,118 +409,22 @@ pub any_span_stmt : (n : Stmt AnyNode) → any_span (whole.Stmt n) ≡ stmt_span
 unfolding node_span
 any_span_stmt n = ap any_span (sym (whole.rolls-Stmt n)) ∙ span_of_layer (nodes.Stmt n)
 
-pub any_span_pat : (n : Pat AnyNode) → any_span (whole.Pat n) ≡ pat_span any_span n
-unfolding node_span
-any_span_pat n = ap any_span (sym (whole.rolls-Pat n)) ∙ span_of_layer (nodes.Pat n)
-
-pub any_span_ts_type : (n : Box (TsType AnyNode) Global) → any_span (whole.TsType n) ≡ ts_type_span n.value
-unfolding node_span
-any_span_ts_type n = ap any_span (sym (whole.rolls-TsType n)) ∙ span_of_layer (nodes.TsType n)
-
-pub any_span_jsx_element_child : (n : JSXElementChild AnyNode) → any_span (whole.JSXElementChild n) ≡ jsx_element_child_span any_span n
-unfolding node_span
-any_span_jsx_element_child n = ap any_span (sym (whole.rolls-JSXElementChild n)) ∙ span_of_layer (nodes.JSXElementChild n)
-
-pub any_span_jsx_attr_value : (n : JSXAttrValue AnyNode) → any_span (whole.JSXAttrValue n) ≡ jsx_attr_value_span any_span n
-unfolding node_span
-any_span_jsx_attr_value n = ap any_span (sym (whole.rolls-JSXAttrValue n)) ∙ span_of_layer (nodes.JSXAttrValue n)
-
-pub any_span_ts_namespace_body : (n : TsNamespaceBody AnyNode) → any_span (whole.TsNamespaceBody n) ≡ ts_namespace_body_span n
-unfolding node_span
-any_span_ts_namespace_body n = ap any_span (sym (whole.rolls-TsNamespaceBody n)) ∙ span_of_layer (nodes.TsNamespaceBody n)
-
-pub any_span_ts_type_ann : (n : TsTypeAnn AnyNode) → any_span (whole.TsTypeAnn n) ≡ n.span
-unfolding node_span
-any_span_ts_type_ann n = ap any_span (sym (whole.rolls-TsTypeAnn n)) ∙ span_of_layer (nodes.TsTypeAnn n)
-
-pub any_span_ts_type_param_decl : (n : TsTypeParamDecl AnyNode) → any_span (whole.TsTypeParamDecl n) ≡ n.span
-unfolding node_span
-any_span_ts_type_param_decl n = ap any_span (sym (whole.rolls-TsTypeParamDecl n)) ∙ span_of_layer (nodes.TsTypeParamDecl n)
-
-pub any_span_ts_type_param_instantiation : (n : TsTypeParamInstantiation AnyNode) → any_span (whole.TsTypeParamInstantiation n) ≡ n.span
-unfolding node_span
-any_span_ts_type_param_instantiation n = ap any_span (sym (whole.rolls-TsTypeParamInstantiation n)) ∙ span_of_layer (nodes.TsTypeParamInstantiation n)
-
-pub any_span_function : (n : Box (Function AnyNode) Global) → any_span (whole.Function n) ≡ n.value.span
-unfolding node_span
-any_span_function n = ap any_span (sym (whole.rolls-Function n)) ∙ span_of_layer (nodes.Function n)
-
-pub any_span_class : (n : Box (Class AnyNode) Global) → any_span (whole.Class n) ≡ n.value.span
-unfolding node_span
-any_span_class n = ap any_span (sym (whole.rolls-Class n)) ∙ span_of_layer (nodes.Class n)
-
-pub any_span_tpl : (n : Tpl AnyNode) → any_span (whole.Tpl n) ≡ n.span
-unfolding node_span
-any_span_tpl n = ap any_span (sym (whole.rolls-Tpl n)) ∙ span_of_layer (nodes.Tpl n)
-
-pub any_span_block_stmt : (n : BlockStmt AnyNode) → any_span (whole.BlockStmt n) ≡ n.span
-unfolding node_span
-any_span_block_stmt n = ap any_span (sym (whole.rolls-BlockStmt n)) ∙ span_of_layer (nodes.BlockStmt n)
-
-pub any_span_decl : (n : Box (Decl AnyNode) Global) → any_span (whole.Decl n) ≡ decl_span any_span n.value
-unfolding node_span
-any_span_decl n = ap any_span (sym (whole.rolls-Decl n)) ∙ span_of_layer (nodes.Decl n)
-
-pub any_span_module_item : (n : ModuleItem AnyNode) → any_span (whole.ModuleItem n) ≡ module_item_span any_span n
-unfolding node_span
-any_span_module_item n = ap any_span (sym (whole.rolls-ModuleItem n)) ∙ span_of_layer (nodes.ModuleItem n)
-
-pub any_span_module_decl : (n : Box (ModuleDecl AnyNode) Global) → any_span (whole.ModuleDecl n) ≡ module_decl_span n.value
-unfolding node_span
-any_span_module_decl n = ap any_span (sym (whole.rolls-ModuleDecl n)) ∙ span_of_layer (nodes.ModuleDecl n)
-
-pub any_span_object_lit : (n : ObjectLit AnyNode) → any_span (whole.ObjectLit n) ≡ n.span
-unfolding node_span
-any_span_object_lit n = ap any_span (sym (whole.rolls-ObjectLit n)) ∙ span_of_layer (nodes.ObjectLit n)
-
-pub any_span_prop_name : (n : PropName AnyNode) → any_span (whole.PropName n) ≡ prop_name_span n
-unfolding node_span
-any_span_prop_name n = ap any_span (sym (whole.rolls-PropName n)) ∙ span_of_layer (nodes.PropName n)
-
-pub any_span_var_decl : (n : VarDecl AnyNode) → any_span (whole.VarDecl n) ≡ n.span
-unfolding node_span
-any_span_var_decl n = ap any_span (sym (whole.rolls-VarDecl n)) ∙ span_of_layer (nodes.VarDecl n)
-
-pub any_span_ts_fn_param : (n : TsFnParam AnyNode) → any_span (whole.TsFnParam n) ≡ ts_fn_param_span n
-unfolding node_span
-any_span_ts_fn_param n = ap any_span (sym (whole.rolls-TsFnParam n)) ∙ span_of_layer (nodes.TsFnParam n)
-
-pub any_span_class_member : (n : Box (ClassMember AnyNode) Global) → any_span (whole.ClassMember n) ≡ class_member_span n.value
-unfolding node_span
-any_span_class_member n = ap any_span (sym (whole.rolls-ClassMember n)) ∙ span_of_layer (nodes.ClassMember n)
-
-pub any_span_jsx_element : (n : Box (JSXElement AnyNode) Global) → any_span (whole.JSXElement n) ≡ n.value.span
-unfolding node_span
-any_span_jsx_element n = ap any_span (sym (whole.rolls-JSXElement n)) ∙ span_of_layer (nodes.JSXElement n)
-
-pub any_span_jsx_fragment : (n : JSXFragment AnyNode) → any_span (whole.JSXFragment n) ≡ n.span
-unfolding node_span
-any_span_jsx_fragment n = ap any_span (sym (whole.rolls-JSXFragment n)) ∙ span_of_layer (nodes.JSXFragment n)
-
-pub any_span_ts_type_element : (n : TsTypeElement AnyNode) → any_span (whole.TsTypeElement n) ≡ ts_type_element_span n
-unfolding node_span
-any_span_ts_type_element n = ap any_span (sym (whole.rolls-TsTypeElement n)) ∙ span_of_layer (nodes.TsTypeElement n)
-
-pub any_span_prop : (n : Prop AnyNode) → any_span (whole.Prop n) ≡ prop_span any_span n
-unfolding node_span
-any_span_prop n = ap any_span (sym (whole.rolls-Prop n)) ∙ span_of_layer (nodes.Prop n)
-
 pub any_span_member_expr : (n : MemberExpr AnyNode) → any_span (whole.MemberExpr n) ≡ n.span
 unfolding node_span
 any_span_member_expr n = ap any_span (sym (whole.rolls-MemberExpr n)) ∙ span_of_layer (nodes.MemberExpr n)
 
-pub any_span_opt_call : (n : OptCall AnyNode) → any_span (whole.OptCall n) ≡ n.span
+pub any_span_expr_part : (n : ExprPart AnyNode) → any_span (whole.ExprPart n) ≡ expr_part_span any_span n
 unfolding node_span
-any_span_opt_call n = ap any_span (sym (whole.rolls-OptCall n)) ∙ span_of_layer (nodes.OptCall n)
+any_span_expr_part n = ap any_span (sym (whole.rolls-ExprPart n)) ∙ span_of_layer (nodes.ExprPart n)
 
-pub any_span_assign_target : (n : AssignTarget AnyNode) → any_span (whole.AssignTarget n) ≡ assign_target_span any_span n
+pub any_span_stmt_part : (n : StmtPart AnyNode) → any_span (whole.StmtPart n) ≡ stmt_part_span any_span n
 unfolding node_span
-any_span_assign_target n = ap any_span (sym (whole.rolls-AssignTarget n)) ∙ span_of_layer (nodes.AssignTarget n)
+any_span_stmt_part n = ap any_span (sym (whole.rolls-StmtPart n)) ∙ span_of_layer (nodes.StmtPart n)
 
-pub any_span_ts_entity_name : (n : TsEntityName AnyNode) → any_span (whole.TsEntityName n) ≡ ts_entity_name_span n
+pub any_span_jsx_part : (n : JSXPart AnyNode) → any_span (whole.JSXPart n) ≡ jsx_part_span any_span n
 unfolding node_span
-any_span_ts_entity_name n = ap any_span (sym (whole.rolls-TsEntityName n)) ∙ span_of_layer (nodes.TsEntityName n)
+any_span_jsx_part n = ap any_span (sym (whole.rolls-JSXPart n)) ∙ span_of_layer (nodes.JSXPart n)
 
-pub any_span_jsx_object : (n : JSXObject AnyNode) → any_span (whole.JSXObject n) ≡ jsx_object_span any_span n
+pub any_span_ts_part : (n : TsPart AnyNode) → any_span (whole.TsPart n) ≡ ts_part_span any_span n
 unfolding node_span
-any_span_jsx_object n = ap any_span (sym (whole.rolls-JSXObject n)) ∙ span_of_layer (nodes.JSXObject n)
+any_span_ts_part n = ap any_span (sym (whole.rolls-TsPart n)) ∙ span_of_layer (nodes.TsPart n)

@@ -116,6 +116,14 @@ use Rattle.swc_ecma_codegen_tree.specs.declared.ts_decls.TsModuleRef.{TsModuleRe
 use Rattle.swc_ecma_codegen_tree.specs.declared.ts_decls.TsModuleRef.TheVariants as ts_module_refs
 use Rattle.swc_ecma_codegen_tree.specs.declared.ts_types.TsType.{TsType}
 use Rattle.swc_ecma_codegen_tree.specs.declared.ts_types.TsType.TheVariants as ts_types
+use Rattle.swc_ecma_codegen_tree.specs.declared.parts.ExprPart.{ExprPart}
+use Rattle.swc_ecma_codegen_tree.specs.declared.parts.ExprPart.TheVariants as expr_parts
+use Rattle.swc_ecma_codegen_tree.specs.declared.parts.StmtPart.{StmtPart}
+use Rattle.swc_ecma_codegen_tree.specs.declared.parts.StmtPart.TheVariants as stmt_parts
+use Rattle.swc_ecma_codegen_tree.specs.declared.parts.JSXPart.{JSXPart}
+use Rattle.swc_ecma_codegen_tree.specs.declared.parts.JSXPart.TheVariants as jsx_parts
+use Rattle.swc_ecma_codegen_tree.specs.declared.parts.TsPart.{TsPart}
+use Rattle.swc_ecma_codegen_tree.specs.declared.parts.TsPart.TheVariants as ts_parts
 
 -- no place
 abbrev pub dummy_span : Span
@@ -516,39 +524,52 @@ ts_type_span (ts_types.TsLitType n) = n.span
 ts_type_span (ts_types.TsTypePredicate n) = n.span
 ts_type_span (ts_types.TsImportType n) = n.span
 
+-- what a link holds besides expressions, statements and member expressions stands where its value does
+unfoldable pub expr_part_span : {X : Type 0} → (X → Span) → ExprPart X → Span
+expr_part_span f (expr_parts.Pat n) = pat_span f n
+expr_part_span f (expr_parts.Tpl n) = n.span
+expr_part_span f (expr_parts.ObjectLit n) = n.span
+expr_part_span f (expr_parts.PropName n) = prop_name_span n
+expr_part_span f (expr_parts.Prop n) = prop_span f n
+expr_part_span f (expr_parts.OptCall n) = n.span
+expr_part_span f (expr_parts.AssignTarget n) = assign_target_span f n
+
+unfoldable pub stmt_part_span : {X : Type 0} → (X → Span) → StmtPart X → Span
+stmt_part_span f (stmt_parts.Function n) = n.value.span
+stmt_part_span f (stmt_parts.Class n) = n.value.span
+stmt_part_span f (stmt_parts.BlockStmt n) = n.span
+stmt_part_span f (stmt_parts.Decl n) = decl_span f n.value
+stmt_part_span f (stmt_parts.ModuleItem n) = module_item_span f n
+stmt_part_span f (stmt_parts.ModuleDecl n) = module_decl_span n.value
+stmt_part_span f (stmt_parts.VarDecl n) = n.span
+stmt_part_span f (stmt_parts.ClassMember n) = class_member_span n.value
+
+unfoldable pub jsx_part_span : {X : Type 0} → (X → Span) → JSXPart X → Span
+jsx_part_span f (jsx_parts.JSXElementChild n) = jsx_element_child_span f n
+jsx_part_span f (jsx_parts.JSXAttrValue n) = jsx_attr_value_span f n.value
+jsx_part_span f (jsx_parts.JSXElement n) = n.value.span
+jsx_part_span f (jsx_parts.JSXFragment n) = n.span
+jsx_part_span f (jsx_parts.JSXObject n) = jsx_object_span f n
+
+unfoldable pub ts_part_span : {X : Type 0} → (X → Span) → TsPart X → Span
+ts_part_span f (ts_parts.TsType n) = ts_type_span n.value
+ts_part_span f (ts_parts.TsNamespaceBody n) = ts_namespace_body_span n
+ts_part_span f (ts_parts.TsTypeAnn n) = n.span
+ts_part_span f (ts_parts.TsTypeParamDecl n) = n.span
+ts_part_span f (ts_parts.TsTypeParamInstantiation n) = n.span
+ts_part_span f (ts_parts.TsFnParam n) = ts_fn_param_span n
+ts_part_span f (ts_parts.TsTypeElement n) = ts_type_element_span n
+ts_part_span f (ts_parts.TsEntityName n) = ts_entity_name_span n
+
 -- one node, where f says where what its links hold stands
 unfoldable pub node_span : {X : Type 0} → (X → Span) → AnyNode-F X → Span
 node_span f (nodes.Expr n) = expr_span f n
 node_span f (nodes.Stmt n) = stmt_span f n
-node_span f (nodes.Pat n) = pat_span f n
-node_span f (nodes.TsType n) = ts_type_span n.value
-node_span f (nodes.JSXElementChild n) = jsx_element_child_span f n
-node_span f (nodes.JSXAttrValue n) = jsx_attr_value_span f n
-node_span f (nodes.TsNamespaceBody n) = ts_namespace_body_span n
-node_span f (nodes.TsTypeAnn n) = n.span
-node_span f (nodes.TsTypeParamDecl n) = n.span
-node_span f (nodes.TsTypeParamInstantiation n) = n.span
-node_span f (nodes.Function n) = n.value.span
-node_span f (nodes.Class n) = n.value.span
-node_span f (nodes.Tpl n) = n.span
-node_span f (nodes.BlockStmt n) = n.span
-node_span f (nodes.Decl n) = decl_span f n.value
-node_span f (nodes.ModuleItem n) = module_item_span f n
-node_span f (nodes.ModuleDecl n) = module_decl_span n.value
-node_span f (nodes.ObjectLit n) = n.span
-node_span f (nodes.PropName n) = prop_name_span n
-node_span f (nodes.VarDecl n) = n.span
-node_span f (nodes.TsFnParam n) = ts_fn_param_span n
-node_span f (nodes.ClassMember n) = class_member_span n.value
-node_span f (nodes.JSXElement n) = n.value.span
-node_span f (nodes.JSXFragment n) = n.span
-node_span f (nodes.TsTypeElement n) = ts_type_element_span n
-node_span f (nodes.Prop n) = prop_span f n
 node_span f (nodes.MemberExpr n) = n.span
-node_span f (nodes.OptCall n) = n.span
-node_span f (nodes.AssignTarget n) = assign_target_span f n
-node_span f (nodes.TsEntityName n) = ts_entity_name_span n
-node_span f (nodes.JSXObject n) = jsx_object_span f n
+node_span f (nodes.ExprPart n) = expr_part_span f n
+node_span f (nodes.StmtPart n) = stmt_part_span f n
+node_span f (nodes.JSXPart n) = jsx_part_span f n
+node_span f (nodes.TsPart n) = ts_part_span f n
 
 -- a whole node
 unfoldable pub any_span : AnyNode → Span

@@ -1,15 +1,16 @@
 //! Where what links hold stands.
 
-ghost use Rattle.swc_ecma_codegen_spans.specs.Spans.{any_span};
+ghost use Rattle.swc_ecma_codegen_spans.specs.Spans.{any_span, expr_part_span, jsx_part_span, stmt_part_span, ts_part_span};
 
 use crate::spanned::Spanned;
 use swc_ecma_codegen_common::Span;
 use swc_ecma_codegen_tree::{
-    AnyNode, AssignTargetBox, BlockStmtBox, ClassBox, ClassMemberBox, DeclBox, ExprBox,
+    AnyNode, AssignTargetBox, BlockStmtBox, ClassBox, ClassMemberBox, DeclBox, ExprBox, ExprPart,
     FunctionBox, JSXAttrValueBox, JSXElementBox, JSXElementChildBox, JSXFragmentBox, JSXObjectBox,
-    MemberExprBox, ModuleDeclBox, ModuleItemBox, ObjectLitBox, OptCallBox, PatBox, PropBox,
-    PropNameBox, StmtBox, TplBox, TsEntityNameBox, TsFnParamBox, TsNamespaceBodyBox, TsTypeAnnBox,
-    TsTypeBox, TsTypeElementBox, TsTypeParamDeclBox, TsTypeParamInstantiationBox, VarDeclBox,
+    JSXPart, MemberExprBox, ModuleDeclBox, ModuleItemBox, ObjectLitBox, OptCallBox, PatBox,
+    PropBox, PropNameBox, StmtBox, StmtPart, TplBox, TsEntityNameBox, TsFnParamBox,
+    TsNamespaceBodyBox, TsPart, TsTypeAnnBox, TsTypeBox, TsTypeElementBox, TsTypeParamDeclBox,
+    TsTypeParamInstantiationBox, VarDeclBox,
 };
 
 impl<N: Spanned> Spanned for ExprBox<N> {
@@ -260,44 +261,88 @@ impl<N: Spanned> Spanned for JSXObjectBox<N> {
     }
 }
 
+impl<N: Spanned> Spanned for ExprPart<N> {
+    ghost place = { expr_part_span N.place };
+
+    #[tactic(auto, unfolding(crate::specs::Spans::expr_part_span))]
+    fn span(&self) -> Span {
+        match self {
+            ExprPart::Pat(node) => node.span(),
+            ExprPart::Tpl(node) => node.span(),
+            ExprPart::ObjectLit(node) => node.span(),
+            ExprPart::PropName(node) => node.span(),
+            ExprPart::Prop(node) => node.span(),
+            ExprPart::OptCall(node) => node.span(),
+            ExprPart::AssignTarget(node) => node.span(),
+        }
+    }
+}
+
+impl<N: Spanned> Spanned for StmtPart<N> {
+    ghost place = { stmt_part_span N.place };
+
+    #[tactic(auto, unfolding(crate::specs::Spans::stmt_part_span))]
+    fn span(&self) -> Span {
+        match self {
+            StmtPart::Function(node) => node.span(),
+            StmtPart::Class(node) => node.span(),
+            StmtPart::BlockStmt(node) => node.span(),
+            StmtPart::Decl(node) => node.span(),
+            StmtPart::ModuleItem(node) => node.span(),
+            StmtPart::ModuleDecl(node) => node.span(),
+            StmtPart::VarDecl(node) => node.span(),
+            StmtPart::ClassMember(node) => node.span(),
+        }
+    }
+}
+
+impl<N: Spanned> Spanned for JSXPart<N> {
+    ghost place = { jsx_part_span N.place };
+
+    #[tactic(auto, unfolding(crate::specs::Spans::jsx_part_span))]
+    fn span(&self) -> Span {
+        match self {
+            JSXPart::JSXElementChild(node) => node.span(),
+            JSXPart::JSXAttrValue(node) => node.span(),
+            JSXPart::JSXElement(node) => node.span(),
+            JSXPart::JSXFragment(node) => node.span(),
+            JSXPart::JSXObject(node) => node.span(),
+        }
+    }
+}
+
+impl<N: Spanned> Spanned for TsPart<N> {
+    ghost place = { ts_part_span N.place };
+
+    #[tactic(auto, unfolding(crate::specs::Spans::ts_part_span))]
+    fn span(&self) -> Span {
+        match self {
+            TsPart::TsType(node) => node.span(),
+            TsPart::TsNamespaceBody(node) => node.span(),
+            TsPart::TsTypeAnn(node) => node.span(),
+            TsPart::TsTypeParamDecl(node) => node.span(),
+            TsPart::TsTypeParamInstantiation(node) => node.span(),
+            TsPart::TsFnParam(node) => node.span(),
+            TsPart::TsTypeElement(node) => node.span(),
+            TsPart::TsEntityName(node) => node.span(),
+        }
+    }
+}
+
 impl Spanned for AnyNode {
     ghost place = { any_span };
 
-    #[tactic(auto, using(crate::proofs::Places::any_span_expr, crate::proofs::Places::any_span_stmt, crate::proofs::Places::any_span_pat, crate::proofs::Places::any_span_ts_type, crate::proofs::Places::any_span_jsx_element_child, crate::proofs::Places::any_span_jsx_attr_value, crate::proofs::Places::any_span_ts_namespace_body, crate::proofs::Places::any_span_ts_type_ann, crate::proofs::Places::any_span_ts_type_param_decl, crate::proofs::Places::any_span_ts_type_param_instantiation, crate::proofs::Places::any_span_function, crate::proofs::Places::any_span_class, crate::proofs::Places::any_span_tpl, crate::proofs::Places::any_span_block_stmt, crate::proofs::Places::any_span_decl, crate::proofs::Places::any_span_module_item, crate::proofs::Places::any_span_module_decl, crate::proofs::Places::any_span_object_lit, crate::proofs::Places::any_span_prop_name, crate::proofs::Places::any_span_var_decl, crate::proofs::Places::any_span_ts_fn_param, crate::proofs::Places::any_span_class_member, crate::proofs::Places::any_span_jsx_element, crate::proofs::Places::any_span_jsx_fragment, crate::proofs::Places::any_span_ts_type_element, crate::proofs::Places::any_span_prop, crate::proofs::Places::any_span_member_expr, crate::proofs::Places::any_span_opt_call, crate::proofs::Places::any_span_assign_target, crate::proofs::Places::any_span_ts_entity_name, crate::proofs::Places::any_span_jsx_object))]
+    #[tactic(auto, using(crate::proofs::Places::any_span_expr, crate::proofs::Places::any_span_stmt, crate::proofs::Places::any_span_member_expr, crate::proofs::Places::any_span_expr_part, crate::proofs::Places::any_span_stmt_part, crate::proofs::Places::any_span_jsx_part, crate::proofs::Places::any_span_ts_part))]
     #[cycle(span)]
     fn span(&self) -> Span {
         match self {
             AnyNode::Expr(node) => node.span(),
             AnyNode::Stmt(node) => node.span(),
-            AnyNode::Pat(node) => node.span(),
-            AnyNode::TsType(node) => node.span(),
-            AnyNode::JSXElementChild(node) => node.span(),
-            AnyNode::JSXAttrValue(node) => node.span(),
-            AnyNode::TsNamespaceBody(node) => node.span(),
-            AnyNode::TsTypeAnn(node) => node.span(),
-            AnyNode::TsTypeParamDecl(node) => node.span(),
-            AnyNode::TsTypeParamInstantiation(node) => node.span(),
-            AnyNode::Function(node) => node.span(),
-            AnyNode::Class(node) => node.span(),
-            AnyNode::Tpl(node) => node.span(),
-            AnyNode::BlockStmt(node) => node.span(),
-            AnyNode::Decl(node) => node.span(),
-            AnyNode::ModuleItem(node) => node.span(),
-            AnyNode::ModuleDecl(node) => node.span(),
-            AnyNode::ObjectLit(node) => node.span(),
-            AnyNode::PropName(node) => node.span(),
-            AnyNode::VarDecl(node) => node.span(),
-            AnyNode::TsFnParam(node) => node.span(),
-            AnyNode::ClassMember(node) => node.span(),
-            AnyNode::JSXElement(node) => node.span(),
-            AnyNode::JSXFragment(node) => node.span(),
-            AnyNode::TsTypeElement(node) => node.span(),
-            AnyNode::Prop(node) => node.span(),
             AnyNode::MemberExpr(node) => node.span(),
-            AnyNode::OptCall(node) => node.span(),
-            AnyNode::AssignTarget(node) => node.span(),
-            AnyNode::TsEntityName(node) => node.span(),
-            AnyNode::JSXObject(node) => node.span(),
+            AnyNode::ExprPart(node) => node.span(),
+            AnyNode::StmtPart(node) => node.span(),
+            AnyNode::JSXPart(node) => node.span(),
+            AnyNode::TsPart(node) => node.span(),
         }
     }
 }

@@ -1,6 +1,6 @@
 //! Each public call once.
 
-use crate::trees::{Step, bytes_of, program, settings};
+use crate::trees::{Links, Printed, Step, bytes_of, program, program_of, settings};
 use std::alloc::Global;
 use std::mem::size_of;
 use std::test::Fail;
@@ -31,7 +31,7 @@ fn prints<N: Node>(alloc: Global, node: &N, text: &str) -> Result<bool, Error> {
 }
 
 /// Whether the part of a member after its object has this text.
-fn prints_prop(alloc: Global, node: &MemberExpr, text: &str) -> Result<bool, Error> {
+fn prints_prop<N: Printed>(alloc: Global, node: &MemberExpr<N>, text: &str) -> Result<bool, Error> {
     match &node.prop {
         MemberProp::Ident(name) => prints(alloc, name, text),
         MemberProp::Computed(name) => prints(alloc, name, text),
@@ -40,7 +40,7 @@ fn prints_prop(alloc: Global, node: &MemberExpr, text: &str) -> Result<bool, Err
 }
 
 /// Whether the node in an expression has this text.
-fn prints_node(alloc: Global, expr: &Expr, text: &str) -> Result<bool, Error> {
+fn prints_node<N: Printed>(alloc: Global, expr: &Expr<N>, text: &str) -> Result<bool, Error> {
     match expr {
         Expr::This(node) => prints(alloc, node, text),
         Expr::Unary(node) => prints(alloc, node, text),
@@ -55,7 +55,7 @@ fn prints_node(alloc: Global, expr: &Expr, text: &str) -> Result<bool, Error> {
     }
 }
 
-fn script_of(tree: &Program) -> Option<&Script> {
+fn script_of<N>(tree: &Program<N>) -> Option<&Script<N>> {
     match tree {
         Program::Script(script) => Some(script),
         Program::Module(_) => None,
@@ -63,7 +63,7 @@ fn script_of(tree: &Program) -> Option<&Script> {
 }
 
 /// The first statement.
-fn statement_of(tree: &Program) -> Option<&Stmt> {
+fn statement_of<N: Links>(tree: &Program<N>) -> Option<&Stmt<N>> {
     match script_of(tree)?.body.first() {
         Some(link) => link.get(),
         None => None,
@@ -71,21 +71,29 @@ fn statement_of(tree: &Program) -> Option<&Stmt> {
 }
 
 /// The expression of the first statement.
-fn expr_of(tree: &Program) -> Option<&Expr> {
+fn expr_of<N: Links>(tree: &Program<N>) -> Option<&Expr<N>> {
     match statement_of(tree) {
         Some(Stmt::Expr(node)) => node.expr.get(),
         _ => None,
     }
 }
 
-/// Whether the node that the steps make has this text.
-fn makes_node(alloc: Global, steps: &[Step], text: &str) -> Result<bool, Error> {
-    let tree = program(alloc, steps)?;
-    let answer = match expr_of(&tree) {
+/// Whether the expression of a program has this text.
+fn prints_expr_of<N: Printed>(alloc: Global, tree: &Program<N>, text: &str) -> Result<bool, Error> {
+    match expr_of(tree) {
         Some(expr) => prints_node(alloc, expr, text),
         None => Ok(false),
-    };
-    answer
+    }
+}
+
+/// Whether the node that the steps make has this text.
+fn makes<N: Printed>(alloc: Global, steps: &[Step], text: &str) -> Result<bool, Error> {
+    let tree = program_of::<N>(alloc, steps)?;
+    prints_expr_of(alloc, &tree, text)
+}
+
+fn makes_node(alloc: Global, steps: &[Step], text: &str) -> Result<bool, Error> {
+    makes::<AnyNode>(alloc, steps, text)
 }
 
 const A: Step = Step::Name("a");
@@ -109,7 +117,7 @@ fn each_type_of_expression(rt: HostRuntime) -> Result<(), Fail> {
 }
 
 /// Whether links, references, boxes and options have the text of what they hold.
-fn prints_through(alloc: Global, tree: &Program) -> Result<bool, Error> {
+fn prints_through<N: Printed>(alloc: Global, tree: &Program<N>) -> Result<bool, Error> {
     let text = "a.b;\n";
     let Some(script) = script_of(tree) else {
         return Ok(false);
@@ -128,7 +136,7 @@ fn prints_through(alloc: Global, tree: &Program) -> Result<bool, Error> {
 }
 
 /// Whether the parts of a member have these texts, by themselves and as seen through their links.
-fn prints_member(alloc: Global, tree: &Program) -> Result<bool, Error> {
+fn prints_member<N: Printed>(alloc: Global, tree: &Program<N>) -> Result<bool, Error> {
     match expr_of(tree) {
         Some(Expr::Member(link)) => match link.get() {
             Some(node) => {
@@ -289,16 +297,9 @@ fn assignment_operators(rt: HostRuntime) {
     }
 }
 
-/// How a program is refused, which isn't well-formed.
-fn refusal(alloc: Global, program: Program) -> Option<Error> {
-    match to_code(alloc, &program) {
-        Err(error) if !is_well_formed(&program) => Some(error),
-        _ => None,
-    }
-}
-
-fn is_unsupported(alloc: Global, program: Program) -> bool {
-    matches!(refusal(alloc, program), Some(Error::UnsupportedNode))
+/// Whether a program isn't well-formed and is refused as one that isn't printed yet.
+fn is_unsupported(alloc: Global, program: &Program) -> bool {
+    matches!(to_code(alloc, program), Err(Error::UnsupportedNode)) && !is_well_formed(program)
 }
 
 #[test]
@@ -310,13 +311,13 @@ fn modules_and_hashbangs_are_refused(rt: HostRuntime) -> Result<(), Fail> {
         body: Vec::new(alloc),
         shebang: None,
     };
-    assert!(rt; is_unsupported(alloc, Program::Module(module)));
+    assert!(rt; is_unsupported(alloc, &Program::Module(module)));
     let shebang = Some(String::from_str(alloc, "a")?);
     let body = Vec::new(alloc);
     assert!(rt;
         is_unsupported(
             alloc,
-            Program::Script(Script {
+            &Program::Script(Script {
                 span,
                 body,
                 shebang

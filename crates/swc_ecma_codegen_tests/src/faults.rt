@@ -66,6 +66,22 @@ impl Write for InterruptedOnce {
     }
 }
 
+/// Fails with an error code of the operating system.
+#[derive(Drop)]
+struct Coded {
+    code: i32,
+}
+
+impl Write for Coded {
+    fn write(&mut self, _buf: &[u8]) -> io::Result<usize> {
+        Err(io::Error::from_raw_os_error(self.code))
+    }
+
+    fn flush(&mut self) -> io::Result<()> {
+        Ok(())
+    }
+}
+
 /// What an emission answered, what the next one did, and one of nothing after them.
 #[derive(Drop)]
 struct Answers {
@@ -115,6 +131,13 @@ fn interrupted(alloc: Global, tree: &Program) -> (Answers, u64) {
     (answers, wr.into_inner().calls)
 }
 
+/// The answers over a writer that fails with a code.
+fn with_code(alloc: Global, tree: &Program, code: i32) -> Answers {
+    let wr = JsWriter::new(alloc, &NoSource, "\n", Coded { code }, None);
+    let (answers, _wr) = emit_thrice(alloc, tree, wr);
+    answers
+}
+
 /// The tree of `a - -b * c`.
 const DIFFERENCE: [Step; 6] = [
     Step::Name("a"),
@@ -128,6 +151,13 @@ const DIFFERENCE: [Step; 6] = [
 fn kind_of(answer: &Answer) -> Option<ErrorKind> {
     match answer {
         Err(Error::Writer(error)) => Some(error.kind()),
+        _ => None,
+    }
+}
+
+fn code_of(answer: &Answer) -> Option<i32> {
+    match answer {
+        Err(Error::Writer(error)) => error.raw_os_error(),
         _ => None,
     }
 }
@@ -169,5 +199,19 @@ fn one_byte_a_call_and_interrupted_once(rt: HostRuntime) -> Result<(), Fail> {
     assert_eq!(rt; kind_of(&answers.first), Some(ErrorKind::Interrupted));
     assert!(rt; is_failed(&answers.second) && is_failed(&answers.nothing));
     assert_eq!(rt; calls, 2);
+    Ok(())
+}
+
+#[test]
+fn the_error_of_the_writer_comes_out(rt: HostRuntime) -> Result<(), Fail> {
+    let alloc = rt.alloc();
+    let tree = program(alloc, &DIFFERENCE)?;
+    for code in [2, 5, 28, 32] {
+        let answers = with_code(alloc, &tree, code);
+        assert_eq!(rt; code_of(&answers.first), Some(code));
+        let kind = io::Error::from_raw_os_error(code).kind();
+        assert_eq!(rt; kind_of(&answers.first), Some(kind));
+        assert!(rt; is_failed(&answers.second) && is_failed(&answers.nothing));
+    }
     Ok(())
 }

@@ -3,15 +3,17 @@
 ghost use Rattle.std.specs.Prelude.{◌≡◌, false};
 
 use std::alloc::Global;
+use swc_ecma_codegen::nodes::Held;
 use swc_ecma_codegen::{Config, Emitter, is_well_formed, to_code};
 use swc_ecma_codegen_ast::comments::CommentMaps;
 use swc_ecma_codegen_ast::mapper::NoSource;
 use swc_ecma_codegen_common::{BinaryOp, DUMMY_SP, Error, EsVersion, UnaryOp, UpdateOp};
+use swc_ecma_codegen_spans::Spanned;
 use swc_ecma_codegen_text_writer::JsWriter;
 use swc_ecma_codegen_tree::{
-    BinExpr, ComputedPropName, CondExpr, Expr, ExprBox, ExprStmt, Ident, IdentName, MemberExpr,
-    MemberExprBox, MemberProp, ParenExpr, Program, Script, SeqExpr, Stmt, StmtBox, ThisExpr,
-    UnaryExpr, UpdateExpr,
+    BinExpr, ComputedPropName, CondExpr, Expr, ExprBox, ExprStmt, Holds, Ident, IdentName,
+    MemberExpr, MemberExprBox, MemberProp, ParenExpr, Program, Script, SeqExpr, Stmt, StmtBox,
+    ThisExpr, UnaryExpr, UpdateExpr,
 };
 
 /// A step in the making of an expression, after the steps of its operands: `a`, `b`, `+` for `a + b`.
@@ -30,141 +32,191 @@ pub(crate) enum Step {
     Index,
 }
 
+/// Whatever links hold. The trees are made for any of it, which costs a check less than to make them for `AnyNode`.
+pub(crate) trait Links: Holds<Expr<Self>> + Holds<MemberExpr<Self>> + Holds<Stmt<Self>> + Drop {}
+
+impl<N: Holds<Expr<N>> + Holds<MemberExpr<N>> + Holds<Stmt<N>> + Drop> Links for N {}
+
+/// Whatever links hold that can be printed.
+pub(crate) trait Printed: Links + Held + Spanned {}
+
+impl<N: Links + Held + Spanned> Printed for N {}
+
 /// The last operand that was made.
-fn operand(alloc: Global, made: &mut Vec<Expr>) -> Result<ExprBox, Error> {
-    match made.pop() {
-        Some(expr) => Ok(ExprBox::new(alloc, expr)?),
-        None => Err(Error::BadShape),
-    }
+fn operand<N: Links>(made: &mut Vec<ExprBox<N>>) -> Result<ExprBox<N>, Error> {
+    made.pop().ok_or(Error::BadShape)
 }
 
-fn name(alloc: Global, sym: &str) -> Result<Expr, Error> {
-    Ok(Expr::Ident(Ident {
-        span: DUMMY_SP,
-        sym: String::from_str(alloc, sym)?,
-        optional: false,
-    }))
+fn name<N: Links>(alloc: Global, sym: &str) -> Result<ExprBox<N>, Error> {
+    let sym = String::from_str(alloc, sym)?;
+    let (span, optional) = (DUMMY_SP, false);
+    Ok(ExprBox::new(
+        alloc,
+        Expr::Ident(Ident {
+            span,
+            sym,
+            optional,
+        }),
+    )?)
 }
 
-fn update(op: UpdateOp, prefix: bool, arg: ExprBox) -> Expr {
-    Expr::Update(UpdateExpr {
-        span: DUMMY_SP,
-        op,
-        prefix,
-        arg,
-    })
+fn unary<N: Links>(alloc: Global, op: UnaryOp, arg: ExprBox<N>) -> Result<ExprBox<N>, Error> {
+    let span = DUMMY_SP;
+    Ok(ExprBox::new(alloc, Expr::Unary(UnaryExpr { span, op, arg }))?)
 }
 
-fn binary(alloc: Global, op: BinaryOp, made: &mut Vec<Expr>) -> Result<Expr, Error> {
-    let right = operand(alloc, made)?;
-    let left = operand(alloc, made)?;
-    Ok(Expr::Bin(BinExpr {
-        span: DUMMY_SP,
-        op,
-        left,
-        right,
-    }))
+fn update<N: Links>(
+    alloc: Global,
+    op: UpdateOp,
+    prefix: bool,
+    arg: ExprBox<N>,
+) -> Result<ExprBox<N>, Error> {
+    let span = DUMMY_SP;
+    Ok(ExprBox::new(
+        alloc,
+        Expr::Update(UpdateExpr {
+            span,
+            op,
+            prefix,
+            arg,
+        }),
+    )?)
 }
 
-fn choice(alloc: Global, made: &mut Vec<Expr>) -> Result<Expr, Error> {
-    let alt = operand(alloc, made)?;
-    let cons = operand(alloc, made)?;
-    let test = operand(alloc, made)?;
-    Ok(Expr::Cond(CondExpr {
-        span: DUMMY_SP,
-        test,
-        cons,
-        alt,
-    }))
+fn binary<N: Links>(
+    alloc: Global,
+    op: BinaryOp,
+    made: &mut Vec<ExprBox<N>>,
+) -> Result<ExprBox<N>, Error> {
+    let right = operand(made)?;
+    let left = operand(made)?;
+    let span = DUMMY_SP;
+    Ok(ExprBox::new(
+        alloc,
+        Expr::Bin(BinExpr {
+            span,
+            op,
+            left,
+            right,
+        }),
+    )?)
+}
+
+fn parenthesized<N: Links>(alloc: Global, expr: ExprBox<N>) -> Result<ExprBox<N>, Error> {
+    let span = DUMMY_SP;
+    Ok(ExprBox::new(alloc, Expr::Paren(ParenExpr { span, expr }))?)
+}
+
+fn choice<N: Links>(alloc: Global, made: &mut Vec<ExprBox<N>>) -> Result<ExprBox<N>, Error> {
+    let alt = operand(made)?;
+    let cons = operand(made)?;
+    let test = operand(made)?;
+    let span = DUMMY_SP;
+    Ok(ExprBox::new(
+        alloc,
+        Expr::Cond(CondExpr {
+            span,
+            test,
+            cons,
+            alt,
+        }),
+    )?)
 }
 
 /// `a, b`
-fn sequence(alloc: Global, made: &mut Vec<Expr>) -> Result<Expr, Error> {
-    let last = operand(alloc, made)?;
-    let first = operand(alloc, made)?;
+fn sequence<N: Links>(alloc: Global, made: &mut Vec<ExprBox<N>>) -> Result<ExprBox<N>, Error> {
+    let last = operand(made)?;
+    let first = operand(made)?;
     let mut exprs = Vec::new(alloc);
     exprs.push(first)?;
     exprs.push(last)?;
-    Ok(Expr::Seq(SeqExpr {
-        span: DUMMY_SP,
-        exprs,
-    }))
-}
-
-fn member(alloc: Global, prop: MemberProp, made: &mut Vec<Expr>) -> Result<Expr, Error> {
-    let obj = operand(alloc, made)?;
     let span = DUMMY_SP;
-    Ok(Expr::Member(MemberExprBox::new(alloc, MemberExpr { span, obj, prop })?))
+    Ok(ExprBox::new(alloc, Expr::Seq(SeqExpr { span, exprs }))?)
 }
 
-fn property(alloc: Global, sym: &str) -> Result<MemberProp, Error> {
-    Ok(MemberProp::Ident(IdentName {
-        span: DUMMY_SP,
-        sym: String::from_str(alloc, sym)?,
-    }))
-}
-
-fn index(alloc: Global, made: &mut Vec<Expr>) -> Result<MemberProp, Error> {
-    Ok(MemberProp::Computed(ComputedPropName {
-        span: DUMMY_SP,
-        expr: operand(alloc, made)?,
-    }))
-}
-
-fn make(alloc: Global, step: Step, made: &mut Vec<Expr>) -> Result<Expr, Error> {
+fn member<N: Links>(
+    alloc: Global,
+    prop: MemberProp<N>,
+    made: &mut Vec<ExprBox<N>>,
+) -> Result<ExprBox<N>, Error> {
+    let obj = operand(made)?;
     let span = DUMMY_SP;
+    let member = MemberExprBox::new(alloc, MemberExpr { span, obj, prop })?;
+    Ok(ExprBox::new(alloc, Expr::Member(member))?)
+}
+
+/// `a.b`
+fn with_name<N: Links>(
+    alloc: Global,
+    sym: &str,
+    made: &mut Vec<ExprBox<N>>,
+) -> Result<ExprBox<N>, Error> {
+    let sym = String::from_str(alloc, sym)?;
+    let span = DUMMY_SP;
+    member(alloc, MemberProp::Ident(IdentName { span, sym }), made)
+}
+
+/// `a[b]`
+fn with_index<N: Links>(alloc: Global, made: &mut Vec<ExprBox<N>>) -> Result<ExprBox<N>, Error> {
+    let expr = operand(made)?;
+    let span = DUMMY_SP;
+    member(
+        alloc,
+        MemberProp::Computed(ComputedPropName { span, expr }),
+        made,
+    )
+}
+
+fn make<N: Links>(
+    alloc: Global,
+    step: Step,
+    made: &mut Vec<ExprBox<N>>,
+) -> Result<ExprBox<N>, Error> {
     match step {
         Step::Name(sym) => name(alloc, sym),
-        Step::This => Ok(Expr::This(ThisExpr { span })),
-        Step::Unary(op) => {
-            let arg = operand(alloc, made)?;
-            Ok(Expr::Unary(UnaryExpr { span, op, arg }))
-        }
-        Step::Prefix(op) => Ok(update(op, true, operand(alloc, made)?)),
-        Step::Postfix(op) => Ok(update(op, false, operand(alloc, made)?)),
+        Step::This => Ok(ExprBox::new(alloc, Expr::This(ThisExpr { span: DUMMY_SP }))?),
+        Step::Unary(op) => unary(alloc, op, operand(made)?),
+        Step::Prefix(op) => update(alloc, op, true, operand(made)?),
+        Step::Postfix(op) => update(alloc, op, false, operand(made)?),
         Step::Bin(op) => binary(alloc, op, made),
-        Step::Paren => {
-            let expr = operand(alloc, made)?;
-            Ok(Expr::Paren(ParenExpr { span, expr }))
-        }
+        Step::Paren => parenthesized(alloc, operand(made)?),
         Step::Cond => choice(alloc, made),
         Step::Seq => sequence(alloc, made),
-        Step::Member(sym) => member(alloc, property(alloc, sym)?, made),
-        Step::Index => {
-            let prop = index(alloc, made)?;
-            member(alloc, prop, made)
-        }
+        Step::Member(sym) => with_name(alloc, sym, made),
+        Step::Index => with_index(alloc, made),
     }
 }
 
-fn expr(alloc: Global, steps: &[Step]) -> Result<Expr, Error> {
+fn expr<N: Links>(alloc: Global, steps: &[Step]) -> Result<ExprBox<N>, Error> {
     let mut made = Vec::new(alloc);
     for step in steps {
         let next = make(alloc, *step, &mut made)?;
         made.push(next)?;
     }
-    match made.pop() {
-        Some(expr) => Ok(expr),
-        None => Err(Error::BadShape),
-    }
+    operand(&mut made)
 }
 
-fn statement(alloc: Global, steps: &[Step]) -> Result<StmtBox, Error> {
-    let expr = ExprBox::new(alloc, expr(alloc, steps)?)?;
+fn statement<N: Links>(alloc: Global, steps: &[Step]) -> Result<StmtBox<N>, Error> {
+    let expr = expr(alloc, steps)?;
     let span = DUMMY_SP;
     Ok(StmtBox::new(alloc, Stmt::Expr(ExprStmt { span, expr }))?)
 }
 
 /// The program of one statement.
-pub(crate) fn program(alloc: Global, steps: &[Step]) -> Result<Program, Error> {
+pub(crate) fn program_of<N: Links>(alloc: Global, steps: &[Step]) -> Result<Program<N>, Error> {
     let mut body = Vec::new(alloc);
     body.push(statement(alloc, steps)?)?;
-    let span = DUMMY_SP;
+    let (span, shebang) = (DUMMY_SP, None);
     Ok(Program::Script(Script {
         span,
         body,
-        shebang: None,
+        shebang,
     }))
+}
+
+/// The same, as a caller has it.
+pub(crate) fn program(alloc: Global, steps: &[Step]) -> Result<Program, Error> {
+    program_of(alloc, steps)
 }
 
 /// The settings of these tests.
@@ -196,25 +248,32 @@ pub(crate) fn bytes_of(
 
 /// The text by `to_code`, and the bytes without blanks, of a tree that is well-formed.
 pub(crate) fn texts(alloc: Global, steps: &[Step]) -> Result<(String, Vec<u8>), Error> {
-    let program = program(alloc, steps)?;
-    if !is_well_formed(&program) {
-        return Err(Error::BadShape);
-    }
-    texts_of(alloc, program)
+    texts_where(alloc, steps, true)
 }
 
 /// The same of one that isn't.
 pub(crate) fn texts_malformed(alloc: Global, steps: &[Step]) -> Result<(String, Vec<u8>), Error> {
-    let program = program(alloc, steps)?;
-    if is_well_formed(&program) {
-        return Err(Error::BadShape);
-    }
-    texts_of(alloc, program)
+    texts_where(alloc, steps, false)
 }
 
-/// The text by `to_code`, and the bytes without blanks.
-fn texts_of(alloc: Global, program: Program) -> Result<(String, Vec<u8>), Error> {
-    let code = to_code(alloc, &program);
-    let minified = bytes_of(alloc, &program, true, "\n");
-    Ok((code?, minified?))
+fn texts_where(
+    alloc: Global,
+    steps: &[Step],
+    well_formed: bool,
+) -> Result<(String, Vec<u8>), Error> {
+    let program = program(alloc, steps)?;
+    texts_of(alloc, &program, well_formed)
+}
+
+/// The text by `to_code`, and the bytes without blanks, once the answer whether it is well-formed is the one that is wanted.
+fn texts_of(
+    alloc: Global,
+    program: &Program,
+    well_formed: bool,
+) -> Result<(String, Vec<u8>), Error> {
+    if is_well_formed(program) != well_formed {
+        return Err(Error::BadShape);
+    }
+    let code = to_code(alloc, program)?;
+    Ok((code, bytes_of(alloc, program, true, "\n")?))
 }

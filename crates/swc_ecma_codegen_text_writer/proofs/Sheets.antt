@@ -1,7 +1,7 @@
 -- What calls do to a sheet, and what they leave alone.
 use Rattle.std.proofs.Common.{◌≡◌, ℕ, ◌+◌, ◌-◌, Bool, true, false, List, [], ◌∷◌, ◌++◌, refl, sym, ◌∙◌, ap, append_assoc, append-nil, cond, codes, subst, Result, Ok, Err}
 use Rattle.std.specs.List.{repeat}
-use Rattle.swc_ecma_codegen_common.specs.declared.errors.Error.{Error}
+use Rattle.swc_ecma_codegen_common.specs.declared.errors.Refusal.{Refusal}
 use Rattle.swc_ecma_codegen_text_writer.specs.Told.{IsFront}
 use Rattle.swc_ecma_codegen_text_writer.specs.Sheet.{Sheet, Item, Semi, Space, Keyword, Operator, Param, Property, Line, Lit, Comment, StrLit, Str, Symbol, Punct, Position, Commit, Deeper, Shallower, appended, indented, started, written, ended, effect, effects, Refuses, earlier, stopped, Writes}
 
@@ -259,28 +259,28 @@ effects_whole xs s = (effects_same xs s).whole
 -- ---- refused calls
 
 -- what is out stays out
-pub refuses_grows : (x : Item) (e : Error) (a b : Sheet) → Refuses x e a b → IsFront a.text b.text
+pub refuses_grows : (x : Item) (e : Refusal) (a b : Sheet) → Refuses x e a b → IsFront a.text b.text
 refuses_grows x e a b (earlier h k m) = ([], ap (λ (s : Sheet). s.text) m ∙ sym (append-nil a.text))
 refuses_grows x e a b (stopped h k m) = m.grows
 
 -- what is out is a beginning of what the call would have written
-pub refuses_front : (x : Item) (e : Error) (a b : Sheet) → Refuses x e a b → IsFront b.text (effect x a).text
+pub refuses_front : (x : Item) (e : Refusal) (a b : Sheet) → Refuses x e a b → IsFront b.text (effect x a).text
 refuses_front x e a b (earlier h k m) =
     let P : Sheet → Type 0 = λ s. IsFront s.text (effect x a).text in subst P (sym m) (effect_grows x a)
 refuses_front x e a b (stopped h k m) = m.front
 
 -- the writer has its mark from then on
-pub refuses_refused : (x : Item) (e : Error) (a b : Sheet) → Refuses x e a b → b.refused ≡ true
+pub refuses_refused : (x : Item) (e : Refusal) (a b : Sheet) → Refuses x e a b → b.refused ≡ true
 refuses_refused x e a b (earlier h k m) = ap (λ (s : Sheet). s.refused) m ∙ h
 refuses_refused x e a b (stopped h k m) = ap (λ (s : Sheet). s.refused) m.same
 
 -- the depth stays
-pub refuses_indentation : (x : Item) (e : Error) (a b : Sheet) → Refuses x e a b → b.indentation ≡ a.indentation
+pub refuses_indentation : (x : Item) (e : Refusal) (a b : Sheet) → Refuses x e a b → b.indentation ≡ a.indentation
 refuses_indentation x e a b (earlier h k m) = ap (λ (s : Sheet). s.indentation) m
 refuses_indentation x e a b (stopped h k m) = ap (λ (s : Sheet). s.indentation) m.same
 
 -- a call that is no change of the depth leaves it, refused or not
-pub writes_indentation : (x : Item) (a b : Sheet) (r : Result (Unit {0}) Error) → depth x a.indentation ≡ a.indentation → Writes x a b r → b.indentation ≡ a.indentation
+pub writes_indentation : (x : Item) (a b : Sheet) (r : Result (Unit {0}) Refusal) → depth x a.indentation ≡ a.indentation → Writes x a b r → b.indentation ≡ a.indentation
 unfolding Writes
 writes_indentation x a b (Ok u) h k = ap (λ (s : Sheet). s.indentation) k.1 ∙ effect_indentation x a ∙ h
 writes_indentation x a b (Err e) h k = refuses_indentation x e a b k

@@ -1,8 +1,8 @@
 -- Sheets on the way to others.
 use Rattle.std.proofs.Common.{◌≡◌, ℕ, ◌+◌, ◌-◌, ◌^◌, ◌<◌, ◌≤◌, Bool, true, false, List, [], ◌∷◌, ◌++◌, length, refl, sym, ◌∙◌, ap, subst, append_assoc, arith, append-nil, zero, suc, Result, Ok, Err, cond}
 use Rattle.std.specs.List.{repeat}
-use Rattle.swc_ecma_codegen_common.specs.declared.errors.Error.{Error}
-use Rattle.swc_ecma_codegen_common.specs.declared.errors.Error.TheVariants.{Writer, OutOfMemory, UnsupportedNode, BadShape, NameOutOfTarget, PositionTooLarge, Failed}
+use Rattle.swc_ecma_codegen_common.specs.declared.errors.Refusal.{Refusal}
+use Rattle.swc_ecma_codegen_common.specs.declared.errors.Refusal.TheVariants.{Writer, OutOfMemory, UnsupportedNode, BadShape, NameOutOfTarget, PositionTooLarge, Failed}
 use Rattle.swc_ecma_codegen_text_writer.specs.Told.{IsFront}
 use Rattle.swc_ecma_codegen_text_writer.specs.Sheet.{Sheet, Item, Causes, earlier, stopped, Writes, appended, indented, started, written, ended, effect, Line, Deeper}
 use Rattle.swc_ecma_codegen_text_writer.specs.View.{Counted, Halted, Reaches}
@@ -68,9 +68,9 @@ started_alike s =
     elim s.at_line_start as (λ b. Alike s (cond b (record (indented s.indentation s) { at_line_start = false }) s))
     [ true ↦ record { grows = front_append s.text (repeat s.indentation s.indent_text); same = refl } | false ↦ alike_refl s ]
 
-counted_alike : (e : Error) (a b c : Sheet) → a.faults ≡ b.faults → Counted e b c → Counted e a c
+counted_alike : (e : Refusal) (a b c : Sheet) → a.faults ≡ b.faults → Counted e b c → Counted e a c
 unfolding Counted
-counted_alike (Writer e) a b c h k = rw h k
+counted_alike Writer a b c h k = rw h k
 counted_alike OutOfMemory a b c h k = k
 counted_alike UnsupportedNode a b c h k = k
 counted_alike BadShape a b c h k = k
@@ -79,7 +79,7 @@ counted_alike PositionTooLarge a b c h k = k
 counted_alike Failed a b c h k = k
 
 -- a failure on a part of the way is one on the way
-pub halted_on : (e : Error) (goal next a b c : Sheet) → Alike a b → IsFront next.text goal.text → Halted e next b c → Halted e goal a c
+pub halted_on : (e : Refusal) (goal next a b c : Sheet) → Alike a b → IsFront next.text goal.text → Halted e next b c → Halted e goal a c
 halted_on e goal next a b c h k s =
     record {
       cause = counted_alike e a b c (ap (λ (x : Sheet). x.faults) (sym h.same)) s.cause;
@@ -91,7 +91,7 @@ halted_on e goal next a b c h k s =
     }
 
 -- one copy of the indentation failed
-pub indent_halted : (e : Error) (n m : ℕ) (a c : Sheet) → n < m → Halted e (appended a.indent_text (indented n a)) (indented n a) c → Halted e (indented m a) a c
+pub indent_halted : (e : Refusal) (n m : ℕ) (a c : Sheet) → n < m → Halted e (appended a.indent_text (indented n a)) (indented n a) c → Halted e (indented m a) a c
 indent_halted e n m a c h s =
     let f : IsFront (appended a.indent_text (indented n a)).text (indented m a).text =
     (let P : Sheet → Type 0 = λ x. IsFront x.text (indented m a).text in
@@ -108,18 +108,18 @@ unfolding started
 started_false s h = ap (λ b. cond b (record (indented s.indentation s) { at_line_start = false }) s) h
 
 -- the indentation of a line failed
-pub start_halted : (e : Error) (a c : Sheet) → a.at_line_start ≡ true → Halted e (indented a.indentation a) a c → Halted e (started a) a c
+pub start_halted : (e : Refusal) (a c : Sheet) → a.at_line_start ≡ true → Halted e (indented a.indentation a) a c → Halted e (started a) a c
 start_halted e a c h s =
     let f : IsFront (indented a.indentation a).text (started a).text =
     (let P : Sheet → Type 0 = λ x. IsFront (indented a.indentation a).text x.text in subst P (sym (started_true a h)) (front_refl _)) in
     halted_on e (started a) (indented a.indentation a) a a c (alike_refl a) f s
 
 -- the first part of a way failed
-pub first_halted : (e : Error) (t : List ℕ) (a c : Sheet) → Halted e (started a) a c → Halted e (appended t (started a)) a c
+pub first_halted : (e : Refusal) (t : List ℕ) (a c : Sheet) → Halted e (started a) a c → Halted e (appended t (started a)) a c
 first_halted e t a c s = halted_on e (appended t (started a)) (started a) a a c (alike_refl a) (appended_grows t (started a)) s
 
 -- the second part of a way, from where the first has led
-pub reaches_on : (goal a b c : Sheet) (r : Result (Unit {0}) Error) → Alike a b → Reaches goal b c r → Reaches goal a c r
+pub reaches_on : (goal a b c : Sheet) (r : Result (Unit {0}) Refusal) → Alike a b → Reaches goal b c r → Reaches goal a c r
 unfolding Reaches
 reaches_on goal a b c (Ok u) h k = k
 reaches_on goal a b c (Err e) h k = halted_on e goal goal a b c h (front_refl goal.text) k
@@ -152,9 +152,9 @@ pub writes_ok : (x : Item) (a b : Sheet) → a.refused ≡ false → b ≡ effec
 unfolding Writes
 writes_ok x a b h k = (h, k)
 
-causes_counted : (x : Item) (e : Error) (a b : Sheet) → Counted e a b → Causes x e a b
+causes_counted : (x : Item) (e : Refusal) (a b : Sheet) → Counted e a b → Causes x e a b
 unfolding Counted Causes
-causes_counted x (Writer e) a b h = h
+causes_counted x Writer a b h = h
 causes_counted x OutOfMemory a b h = absurd h
 causes_counted x UnsupportedNode a b h = h
 causes_counted x BadShape a b h = h
@@ -163,12 +163,12 @@ causes_counted x PositionTooLarge a b h = absurd h
 causes_counted x Failed a b h = h
 
 -- a failure on the way to a call's sheet refuses the call
-pub writes_halted : (x : Item) (e : Error) (a b : Sheet) → a.refused ≡ false → Halted e (effect x a) a b → Writes x a b (Err e)
+pub writes_halted : (x : Item) (e : Refusal) (a b : Sheet) → a.refused ≡ false → Halted e (effect x a) a b → Writes x a b (Err e)
 unfolding Writes
 writes_halted x e a b h k = stopped h (causes_counted x e a b k.cause) k.stopped
 
 -- a call is a way to its sheet
-pub writes_reached : (x : Item) (a b : Sheet) (r : Result (Unit {0}) Error) → a.refused ≡ false → Reaches (effect x a) a b r → Writes x a b r
+pub writes_reached : (x : Item) (a b : Sheet) (r : Result (Unit {0}) Refusal) → a.refused ≡ false → Reaches (effect x a) a b r → Writes x a b r
 unfolding Reaches Writes
 writes_reached x a b (Ok u) h k = (h, k)
 writes_reached x a b (Err e) h k = writes_halted x e a b h k
@@ -182,7 +182,7 @@ unfolding effect ended
 line_false s h = sym (ap (λ b. cond b s (record (appended s.line_end s) { at_line_start = true })) h)
 
 -- the line's end failed
-pub line_halted : (e : Error) (a c : Sheet) → a.refused ≡ false → a.at_line_start ≡ false → Halted e (appended a.line_end a) a c → Writes Line a c (Err e)
+pub line_halted : (e : Refusal) (a c : Sheet) → a.refused ≡ false → a.at_line_start ≡ false → Halted e (appended a.line_end a) a c → Writes Line a c (Err e)
 line_halted e a c r h s =
     let f : IsFront (appended a.line_end a).text (effect Line a).text =
     (let P : Sheet → Type 0 = λ x. IsFront (appended a.line_end a).text x.text in subst P (line_false a h) (front_refl _)) in

@@ -1,8 +1,8 @@
 -- What a writer has written, and what each call does to that.
 use Rattle.std.specs.Prelude.{◌≡◌, ℕ, ◌+◌, ◌-◌, ◌^◌, Bool, true, false, List, [], ◌∷◌, ◌++◌, codes, if◌then◌else◌, Option, Result, Ok, Err}
 use Rattle.std.specs.List.{repeat}
-use Rattle.swc_ecma_codegen_common.specs.declared.errors.Error.{Error}
-use Rattle.swc_ecma_codegen_common.specs.declared.errors.Error.TheVariants.{Writer, OutOfMemory, UnsupportedNode, BadShape, NameOutOfTarget, PositionTooLarge, Failed}
+use Rattle.swc_ecma_codegen_common.specs.declared.errors.Refusal.{Refusal}
+use Rattle.swc_ecma_codegen_common.specs.declared.errors.Refusal.TheVariants.{Writer, OutOfMemory, UnsupportedNode, BadShape, NameOutOfTarget, PositionTooLarge, Failed}
 use Rattle.swc_ecma_codegen_common.specs.declared.positions.BytePos.{BytePos}
 use Rattle.swc_ecma_codegen_common.specs.declared.positions.Span.{Span}
 use Rattle.swc_ecma_codegen_text_writer.specs.Told.{Rises, IsFront}
@@ -89,8 +89,8 @@ effect Deeper s = record s { indentation = s.indentation + 1 }
 effect Shallower s = record s { indentation = s.indentation - 1 }
 
 -- A call is refused only for the cause that its error names.
-unfoldable pub Causes : Item → Error → Sheet → Sheet → Type 0
-Causes x (Writer e) old new = Rises old.faults new.faults
+unfoldable pub Causes : Item → Refusal → Sheet → Sheet → Type 0
+Causes x Writer old new = Rises old.faults new.faults
 Causes x OutOfMemory old new = old.takes_memory ≡ true
 Causes x UnsupportedNode old new = ⊥
 Causes x BadShape old new = ⊥
@@ -105,12 +105,12 @@ pub record Stopped (goal old new : Sheet) : Type 0 where
   pub same : new ≡ record old { text = new.text; whole = new.whole; at_line_start = new.at_line_start; faults = new.faults; refused = true }
 
 -- A call is refused since an earlier one was, and does nothing; or it is stopped, for the cause that its error names.
-pub data Refuses (x : Item) (e : Error) (old new : Sheet) : Type 0 where
+pub data Refuses (x : Item) (e : Refusal) (old new : Sheet) : Type 0 where
   earlier : old.refused ≡ true → e ≡ Failed → new ≡ old → Refuses x e old new
   stopped : old.refused ≡ false → Causes x e old new → Stopped (effect x old) old new → Refuses x e old new
 
 -- What a call does: its effect where it answers `Ok`, else it was refused.
-unfoldable pub Writes : Item → Sheet → Sheet → Result (Unit {0}) Error → Type 0
+unfoldable pub Writes : Item → Sheet → Sheet → Result (Unit {0}) Refusal → Type 0
 Writes x old new (Ok _) = (old.refused ≡ false) × (new ≡ effect x old)
 Writes x old new (Err e) = Refuses x e old new
 

@@ -3,8 +3,9 @@
 use crate::WriteJs;
 use crate::outlet::Outlet;
 use std::alloc::Global;
+use std::io;
 use std::io::Write;
-use swc_ecma_codegen_common::{BytePos, Error, LineCol, Result, Span};
+use swc_ecma_codegen_common::{Answer, BytePos, LineCol, Refusal, Result, Span};
 
 const DEFAULT_INDENT: &str = "    ";
 
@@ -26,11 +27,13 @@ pub struct JsWriter<'a, W: Write> {
     indent: u32,
     line_start: bool,
     failed: bool,
+    fault: Option<io::Error>,
 }
 
 impl<'a, W: Write> JsWriter<'a, W> {
     ghost use Rattle.std.specs.Prelude.{◌≡◌, ◌<◌, true, false, IsSome, None};
     ghost use Rattle.std.specs.Str.{is_utf8};
+    ghost use Rattle.swc_ecma_codegen_common.specs.Refusals.{in_short};
     ghost use Rattle.swc_ecma_codegen_text_writer.specs.Told.{told};
     ghost use Rattle.swc_ecma_codegen_text_writer.specs.Sheet.{Writes, Deeper, Shallower, Line, appended, indented, started};
     ghost use Rattle.swc_ecma_codegen_text_writer.specs.View.{sheet_of, new_sheet, Tells, Reaches, WritesText, WritesNothing};
@@ -58,6 +61,7 @@ impl<'a, W: Write> JsWriter<'a, W> {
             indent: 0,
             line_start: true,
             failed: false,
+            fault: None,
         }
     }
 
@@ -85,6 +89,7 @@ impl<'a, W: Write> JsWriter<'a, W> {
             indent: _,
             line_start: _,
             failed: _,
+            fault: _,
         } = self;
         outlet.into_inner()
     }
@@ -97,7 +102,7 @@ impl<'a, W: Write> JsWriter<'a, W> {
     }
 
     /// Sends a text out as it is.
-    fn send(&mut self, text: &str) -> Result
+    fn send(&mut self, text: &str) -> Answer
         requires { (sheet_of self.old).refused ≡ false }
         ensures { Reaches (appended text.now (sheet_of self.old)) (sheet_of self.old) (sheet_of self.new) result }
     {
@@ -105,13 +110,14 @@ impl<'a, W: Write> JsWriter<'a, W> {
             Ok(()) => Ok(()),
             Err(error) => {
                 self.failed = true;
-                Err(Error::Writer(error))
+                self.fault = Some(error);
+                Err(Refusal::Writer)
             }
         }
     }
 
     /// Sends the indentation of a line.
-    fn indent(&mut self) -> Result
+    fn indent(&mut self) -> Answer
         requires { (sheet_of self.old).refused ≡ false }
         ensures { Reaches (indented (sheet_of self.old).indentation (sheet_of self.old)) (sheet_of self.old) (sheet_of self.new) result }
     {
@@ -123,7 +129,7 @@ impl<'a, W: Write> JsWriter<'a, W> {
     }
 
     /// Sends the indentation, at a line's start.
-    fn start_line(&mut self) -> Result
+    fn start_line(&mut self) -> Answer
         requires { (sheet_of self.old).refused ≡ false }
         ensures { Reaches (started (sheet_of self.old)) (sheet_of self.old) (sheet_of self.new) result }
     {
@@ -135,7 +141,7 @@ impl<'a, W: Write> JsWriter<'a, W> {
     }
 
     /// Writes a text that isn't empty.
-    fn put(&mut self, text: &str) -> Result
+    fn put(&mut self, text: &str) -> Answer
         requires { (sheet_of self.old).refused ≡ false }
         ensures { Reaches (appended text.now (started (sheet_of self.old))) (sheet_of self.old) (sheet_of self.new) result }
     {
@@ -144,11 +150,11 @@ impl<'a, W: Write> JsWriter<'a, W> {
     }
 
     /// Writes a text, after the indentation at a line's start.
-    fn write(&mut self, text: &str) -> Result
+    fn write(&mut self, text: &str) -> Answer
         ensures { WritesText text.now (sheet_of self.old) (sheet_of self.new) result }
     {
         if self.failed {
-            return Err(Error::Failed);
+            return Err(Refusal::Failed);
         }
         if text.is_empty() {
             return Ok(());
@@ -157,11 +163,11 @@ impl<'a, W: Write> JsWriter<'a, W> {
     }
 
     /// Writes the line's end, unless at a line's start.
-    fn end_line(&mut self) -> Result
+    fn end_line(&mut self) -> Answer
         ensures { Writes Line (sheet_of self.old) (sheet_of self.new) result }
     {
         if self.failed {
-            return Err(Error::Failed);
+            return Err(Refusal::Failed);
         }
         if !self.line_start {
             self.send(self.new_line)?;
@@ -171,16 +177,16 @@ impl<'a, W: Write> JsWriter<'a, W> {
     }
 
     /// One level more.
-    fn deepen(&mut self) -> Result
+    fn deepen(&mut self) -> Answer
         ensures { Writes Deeper (sheet_of self.old) (sheet_of self.new) result }
     {
         if self.failed {
-            return Err(Error::Failed);
+            return Err(Refusal::Failed);
         }
         let indent = self.indent;
         if indent == u32::MAX {
             self.failed = true;
-            return Err(Error::PositionTooLarge);
+            return Err(Refusal::PositionTooLarge);
         }
         self.indent = indent + 1;
         Ok(())
@@ -188,25 +194,37 @@ impl<'a, W: Write> JsWriter<'a, W> {
 
     /// One level less.
     #[tactic(auto, unfolding(crate::specs::View::sheet_of))]
-    fn shallow(&mut self) -> Result
+    fn shallow(&mut self) -> Answer
         requires { 0 < (sheet_of self.old).indentation }
         ensures { Writes Shallower (sheet_of self.old) (sheet_of self.new) result }
     {
         if self.failed {
-            return Err(Error::Failed);
+            return Err(Refusal::Failed);
         }
         self.indent -= 1;
         Ok(())
     }
 
     /// Does nothing, for a call that has nothing to do here.
-    fn nothing(&mut self) -> Result
+    fn nothing(&mut self) -> Answer
         ensures { WritesNothing (sheet_of self.old) (sheet_of self.new) result }
     {
         if self.failed {
-            return Err(Error::Failed);
+            return Err(Refusal::Failed);
         }
         Ok(())
+    }
+
+    /// The answer of a call, with the error that the writer under it gave.
+    #[tactic(auto, unfolding(crate::specs::View::sheet_of))]
+    fn answer(&mut self, answer: Answer) -> Result
+        ensures answer { in_short result ≡ answer }
+        ensures same { sheet_of self.new ≡ sheet_of self.old }
+    {
+        match answer {
+            Ok(()) => Ok(()),
+            Err(refusal) => Err(refusal.with_fault(self.fault.take())),
+        }
     }
 }
 
@@ -216,75 +234,90 @@ impl<W: Write> WriteJs for JsWriter<'_, W> {
     ghost sheet = { sheet_of };
 
     fn increase_indent(&mut self) -> Result {
-        self.deepen()
+        let answer = self.deepen();
+        self.answer(answer)
     }
 
     fn decrease_indent(&mut self) -> Result {
-        self.shallow()
+        let answer = self.shallow();
+        self.answer(answer)
     }
 
     #[tactic(auto, unfolding(crate::specs::Sheet::effect))]
     fn write_semi(&mut self, _span: Option<Span>) -> Result {
-        self.write(";")
+        let answer = self.write(";");
+        self.answer(answer)
     }
 
     #[tactic(auto, unfolding(crate::specs::Sheet::effect))]
     fn write_space(&mut self) -> Result {
-        self.write(" ")
+        let answer = self.write(" ");
+        self.answer(answer)
     }
 
     #[tactic(auto, unfolding(crate::specs::Sheet::effect))]
     fn write_keyword(&mut self, _span: Option<Span>, s: &'static str) -> Result {
-        self.write(s)
+        let answer = self.write(s);
+        self.answer(answer)
     }
 
     #[tactic(auto, unfolding(crate::specs::Sheet::effect))]
     fn write_operator(&mut self, _span: Option<Span>, s: &str) -> Result {
-        self.write(s)
+        let answer = self.write(s);
+        self.answer(answer)
     }
 
     #[tactic(auto, unfolding(crate::specs::Sheet::effect))]
     fn write_param(&mut self, s: &str) -> Result {
-        self.write(s)
+        let answer = self.write(s);
+        self.answer(answer)
     }
 
     #[tactic(auto, unfolding(crate::specs::Sheet::effect))]
     fn write_property(&mut self, s: &str) -> Result {
-        self.write(s)
+        let answer = self.write(s);
+        self.answer(answer)
     }
 
     fn write_line(&mut self) -> Result {
-        self.end_line()
+        let answer = self.end_line();
+        self.answer(answer)
     }
 
     #[tactic(auto, unfolding(crate::specs::Sheet::effect))]
     fn write_lit(&mut self, _span: Span, s: &str) -> Result {
-        self.write(s)
+        let answer = self.write(s);
+        self.answer(answer)
     }
 
     #[tactic(auto, unfolding(crate::specs::Sheet::effect))]
     fn write_comment(&mut self, s: &str) -> Result {
-        self.write(s)
+        let answer = self.write(s);
+        self.answer(answer)
     }
 
     #[tactic(auto, unfolding(crate::specs::Sheet::effect))]
     fn write_str_lit(&mut self, _span: Span, s: &str) -> Result {
-        self.write(s)
+        let answer = self.write(s);
+        self.answer(answer)
     }
 
     #[tactic(auto, unfolding(crate::specs::Sheet::effect))]
     fn write_str(&mut self, s: &str) -> Result {
-        self.write(s)
+        let answer = self.write(s);
+        self.answer(answer)
     }
 
     #[tactic(auto, unfolding(crate::specs::Sheet::effect))]
     fn write_symbol(&mut self, _span: Span, s: &str) -> Result {
-        self.write(s)
+        let answer = self.write(s);
+        self.answer(answer)
     }
 
     #[tactic(auto, unfolding(crate::specs::Sheet::effect))]
     fn write_punct(&mut self, _span: Option<Span>, s: &'static str) -> Result {
-        self.write(s)
+        let answer = self.write(s);
+        self.answer(answer)
     }
 
     #[tactic(auto, unfolding(crate::specs::View::sheet_of))]
@@ -294,12 +327,14 @@ impl<W: Write> WriteJs for JsWriter<'_, W> {
 
     #[tactic(auto, unfolding(crate::specs::Sheet::effect))]
     fn add_srcmap(&mut self, _pos: BytePos) -> Result {
-        self.nothing()
+        let answer = self.nothing();
+        self.answer(answer)
     }
 
     #[tactic(auto, unfolding(crate::specs::Sheet::effect))]
     fn commit_pending_semi(&mut self) -> Result {
-        self.nothing()
+        let answer = self.nothing();
+        self.answer(answer)
     }
 
     #[tactic(auto, unfolding(crate::specs::View::sheet_of))]

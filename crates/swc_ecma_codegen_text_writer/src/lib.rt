@@ -2,6 +2,7 @@
 #![tactic(auto)]
 
 ghost use Rattle.std.specs.Prelude.{◌≡◌, ◌<◌};
+ghost use Rattle.swc_ecma_codegen_common.specs.Refusals.{in_short};
 ghost use Rattle.swc_ecma_codegen_text_writer.specs.Sheet.{Sheet, Writes, Semi, Space, Keyword, Operator, Param, Property, Line, Lit, Comment, StrLit, Str, Symbol, Punct, Position, Commit, Deeper, Shallower};
 
 mod basic_impl;
@@ -22,64 +23,64 @@ pub trait WriteJs {
 
     /// One level of indentation more, for lines that begin from now on.
     fn increase_indent(&mut self) -> Result
-        ensures { Writes Deeper (sheet self.old) (sheet self.new) result };
+        ensures { Writes Deeper (sheet self.old) (sheet self.new) (in_short result) };
 
     /// One level of indentation less.
     fn decrease_indent(&mut self) -> Result
         requires { 0 < (sheet self.old).indentation }
-        ensures { Writes Shallower (sheet self.old) (sheet self.new) result };
+        ensures { Writes Shallower (sheet self.old) (sheet self.new) (in_short result) };
 
     /// Writes `;`, which a writer that holds semicolons may leave out where it isn't needed.
     fn write_semi(&mut self, span: Option<Span>) -> Result
-        ensures { Writes (Semi span) (sheet self.old) (sheet self.new) result };
+        ensures { Writes (Semi span) (sheet self.old) (sheet self.new) (in_short result) };
 
     /// Writes a blank.
     fn write_space(&mut self) -> Result
-        ensures { Writes Space (sheet self.old) (sheet self.new) result };
+        ensures { Writes Space (sheet self.old) (sheet self.new) (in_short result) };
 
     /// Writes a keyword.
     fn write_keyword(&mut self, span: Option<Span>, s: &'static str) -> Result
-        ensures { Writes (Keyword span s.now) (sheet self.old) (sheet self.new) result };
+        ensures { Writes (Keyword span s.now) (sheet self.old) (sheet self.new) (in_short result) };
 
     /// Writes an operator.
     fn write_operator(&mut self, span: Option<Span>, s: &str) -> Result
-        ensures { Writes (Operator span s.now) (sheet self.old) (sheet self.new) result };
+        ensures { Writes (Operator span s.now) (sheet self.old) (sheet self.new) (in_short result) };
 
     /// Writes a parameter.
     fn write_param(&mut self, s: &str) -> Result
-        ensures { Writes (Param s.now) (sheet self.old) (sheet self.new) result };
+        ensures { Writes (Param s.now) (sheet self.old) (sheet self.new) (in_short result) };
 
     /// Writes a property.
     fn write_property(&mut self, s: &str) -> Result
-        ensures { Writes (Property s.now) (sheet self.old) (sheet self.new) result };
+        ensures { Writes (Property s.now) (sheet self.old) (sheet self.new) (in_short result) };
 
     /// Ends the line, unless at a line's start.
     fn write_line(&mut self) -> Result
-        ensures { Writes Line (sheet self.old) (sheet self.new) result };
+        ensures { Writes Line (sheet self.old) (sheet self.new) (in_short result) };
 
     /// Writes a literal, or a part of one.
     fn write_lit(&mut self, span: Span, s: &str) -> Result
-        ensures { Writes (Lit span s.now) (sheet self.old) (sheet self.new) result };
+        ensures { Writes (Lit span s.now) (sheet self.old) (sheet self.new) (in_short result) };
 
     /// Writes a comment, or a part of one.
     fn write_comment(&mut self, s: &str) -> Result
-        ensures { Writes (Comment s.now) (sheet self.old) (sheet self.new) result };
+        ensures { Writes (Comment s.now) (sheet self.old) (sheet self.new) (in_short result) };
 
     /// Writes a string.
     fn write_str_lit(&mut self, span: Span, s: &str) -> Result
-        ensures { Writes (StrLit span s.now) (sheet self.old) (sheet self.new) result };
+        ensures { Writes (StrLit span s.now) (sheet self.old) (sheet self.new) (in_short result) };
 
     /// Writes a text as it is.
     fn write_str(&mut self, s: &str) -> Result
-        ensures { Writes (Str s.now) (sheet self.old) (sheet self.new) result };
+        ensures { Writes (Str s.now) (sheet self.old) (sheet self.new) (in_short result) };
 
     /// Writes a name.
     fn write_symbol(&mut self, span: Span, s: &str) -> Result
-        ensures { Writes (Symbol span s.now) (sheet self.old) (sheet self.new) result };
+        ensures { Writes (Symbol span s.now) (sheet self.old) (sheet self.new) (in_short result) };
 
     /// Writes a punctuator.
     fn write_punct(&mut self, span: Option<Span>, s: &'static str) -> Result
-        ensures { Writes (Punct span s.now) (sheet self.old) (sheet self.new) result };
+        ensures { Writes (Punct span s.now) (sheet self.old) (sheet self.new) (in_short result) };
 
     /// Whether it keeps positions.
     fn care_about_srcmap(&self) -> bool
@@ -87,11 +88,11 @@ pub trait WriteJs {
 
     /// Records that what is written next stands at `pos` in its source text.
     fn add_srcmap(&mut self, pos: BytePos) -> Result
-        ensures { Writes (Position pos) (sheet self.old) (sheet self.new) result };
+        ensures { Writes (Position pos) (sheet self.old) (sheet self.new) (in_short result) };
 
     /// Writes a semicolon that is held back.
     fn commit_pending_semi(&mut self) -> Result
-        ensures { Writes Commit (sheet self.old) (sheet self.new) result };
+        ensures { Writes Commit (sheet self.old) (sheet self.new) (in_short result) };
 
     /// Whether names keep U+0000 after a backslash.
     fn can_ignore_invalid_unicodes(&mut self) -> bool

@@ -121,7 +121,7 @@ fn texts_of_errors(rt: HostRuntime) -> Result<(), Fail> {
 /// Whether a link to `this` gives it back.
 fn expr_comes_back(alloc: Global) -> Result<bool, AllocError> {
     let span = place(3, 7);
-    let link = ExprBox::new(alloc, Expr::This(ThisExpr { span }))?;
+    let link: ExprBox = ExprBox::new(alloc, Expr::This(ThisExpr { span }))?;
     let seen = matches!(link.get(), Some(Expr::This(_))) && link.held().span() == span;
     let seen = seen && link.span() == span;
     match link.into_inner() {
@@ -136,7 +136,7 @@ fn expr_comes_back(alloc: Global) -> Result<bool, AllocError> {
 /// Whether a link to `;` gives it back.
 fn stmt_comes_back(alloc: Global) -> Result<bool, AllocError> {
     let span = place(3, 4);
-    let link = StmtBox::new(alloc, Stmt::Empty(EmptyStmt { span }))?;
+    let link: StmtBox = StmtBox::new(alloc, Stmt::Empty(EmptyStmt { span }))?;
     let seen = matches!(link.get(), Some(Stmt::Empty(_))) && link.held().span() == span;
     let seen = seen && link.span() == span;
     match link.into_inner() {
@@ -157,7 +157,7 @@ fn member_comes_back(alloc: Global) -> Result<bool, AllocError> {
         sym,
     });
     let obj = ExprBox::new(alloc, Expr::This(ThisExpr { span: place(3, 7) }))?;
-    let link = MemberExprBox::new(alloc, MemberExpr { span, obj, prop })?;
+    let link: MemberExprBox = MemberExprBox::new(alloc, MemberExpr { span, obj, prop })?;
     let seen = link
         .get()
         .is_some_and(|node| node.prop.span() == place(8, 9));

@@ -1,10 +1,14 @@
 //! Links to expressions, patterns and their parts.
 
-ghost use Rattle.std.specs.Prelude.{◌≡◌, IfOk};
-ghost use Rattle.std.specs.Option.{option_copied};
+ghost use Rattle.std.specs.Prelude.{◌≡◌, IfOk, Some};
+ghost use Rattle.std.specs.Option.{option_and_then, option_copied};
+ghost use Rattle.swc_ecma_codegen_tree.specs.Held.{pat_in, tpl_in, object_lit_in, prop_name_in, prop_in, opt_call_in, assign_target_in};
 
-use crate::exprs::{Expr, MemberExpr};
-use crate::links::{AnyNode, Holds};
+use crate::exprs::{Expr, MemberExpr, ObjectLit, OptCall, Prop, PropName, Tpl};
+use crate::holds::{Holds, hold_in_part, into_node_in_part, node_in_part};
+use crate::links::AnyNode;
+use crate::parts::ExprPart;
+use crate::pats::{AssignTarget, Pat};
 use std::alloc::{AllocError, Global};
 
 /// A link to an expression, as `Box<Expr>` in swc.
@@ -38,16 +42,14 @@ impl<N: Drop> ExprBox<N> {
     }
 }
 
-impl ExprBox<AnyNode> {
-    /// A link to `expr`. Where memory is refused, `expr` is let go.
-    pub fn new(alloc: Global, expr: Expr) -> Result<ExprBox, AllocError>
-        ensures { IfOk result (λ link. link.node.value ≡ AnyNode.Expr expr) }
+impl<N: Holds<Expr<N>> + Drop> ExprBox<N> {
+    /// A link to `node`. Where memory is refused, `node` is let go.
+    pub fn new(alloc: Global, node: Expr<N>) -> Result<ExprBox<N>, AllocError>
+        ensures { IfOk result (λ link. N.node_in link.node.value ≡ Some node) }
     {
-        ExprBox::holding(alloc, AnyNode::Expr(expr))
+        ExprBox::holding(alloc, N::hold(alloc, node)?)
     }
-}
 
-impl<N: Holds<Expr<N>>> ExprBox<N> {
     /// The node that is linked to.
     pub fn get(&self) -> Option<&Expr<N>>
         ensures { option_copied result ≡ N.node_in self.now.node.value }
@@ -55,12 +57,12 @@ impl<N: Holds<Expr<N>>> ExprBox<N> {
         self.node.node()
     }
 
-    /// The node that is linked to, taken out.
+    /// The node that is linked to, taken out. What else is held is let go.
     pub fn into_inner(self) -> Option<Expr<N>>
         ensures { result ≡ N.node_in self.node.value }
     {
         let ExprBox { node } = self;
-        Box::into_inner(node).into_node()
+        Box::into_inner(node).into_node().ok()
     }
 }
 
@@ -95,6 +97,30 @@ impl<N: Drop> PatBox<N> {
     }
 }
 
+impl<N: Holds<ExprPart<N>> + Drop> PatBox<N> {
+    /// A link to `node`. Where memory is refused, `node` is let go.
+    pub fn new(alloc: Global, node: Pat<N>) -> Result<PatBox<N>, AllocError>
+        ensures { IfOk result (λ link. option_and_then pat_in (N.node_in link.node.value) ≡ Some node) }
+    {
+        PatBox::holding(alloc, hold_in_part::<ExprPart<N>, Pat<N>, N>(alloc, node)?)
+    }
+
+    /// The node that is linked to.
+    pub fn get(&self) -> Option<&Pat<N>>
+        ensures { option_copied result ≡ option_and_then pat_in (N.node_in self.now.node.value) }
+    {
+        node_in_part::<ExprPart<N>, Pat<N>, N>(&self.node)
+    }
+
+    /// The node that is linked to, taken out. What else is held is let go.
+    pub fn into_inner(self) -> Option<Pat<N>>
+        ensures { result ≡ option_and_then pat_in (N.node_in self.node.value) }
+    {
+        let PatBox { node } = self;
+        into_node_in_part::<ExprPart<N>, Pat<N>, N>(Box::into_inner(node))
+    }
+}
+
 /// A link to a template, as `Box<Tpl>` in swc.
 pub struct TplBox<N = AnyNode> {
     node: Box<N>,
@@ -123,6 +149,30 @@ impl<N: Drop> TplBox<N> {
         Ok(TplBox {
             node: Box::new(alloc, node)?,
         })
+    }
+}
+
+impl<N: Holds<ExprPart<N>> + Drop> TplBox<N> {
+    /// A link to `node`. Where memory is refused, `node` is let go.
+    pub fn new(alloc: Global, node: Tpl<N>) -> Result<TplBox<N>, AllocError>
+        ensures { IfOk result (λ link. option_and_then tpl_in (N.node_in link.node.value) ≡ Some node) }
+    {
+        TplBox::holding(alloc, hold_in_part::<ExprPart<N>, Tpl<N>, N>(alloc, node)?)
+    }
+
+    /// The node that is linked to.
+    pub fn get(&self) -> Option<&Tpl<N>>
+        ensures { option_copied result ≡ option_and_then tpl_in (N.node_in self.now.node.value) }
+    {
+        node_in_part::<ExprPart<N>, Tpl<N>, N>(&self.node)
+    }
+
+    /// The node that is linked to, taken out. What else is held is let go.
+    pub fn into_inner(self) -> Option<Tpl<N>>
+        ensures { result ≡ option_and_then tpl_in (N.node_in self.node.value) }
+    {
+        let TplBox { node } = self;
+        into_node_in_part::<ExprPart<N>, Tpl<N>, N>(Box::into_inner(node))
     }
 }
 
@@ -157,6 +207,33 @@ impl<N: Drop> ObjectLitBox<N> {
     }
 }
 
+impl<N: Holds<ExprPart<N>> + Drop> ObjectLitBox<N> {
+    /// A link to `node`. Where memory is refused, `node` is let go.
+    pub fn new(alloc: Global, node: ObjectLit<N>) -> Result<ObjectLitBox<N>, AllocError>
+        ensures { IfOk result (λ link. option_and_then object_lit_in (N.node_in link.node.value) ≡ Some node) }
+    {
+        ObjectLitBox::holding(
+            alloc,
+            hold_in_part::<ExprPart<N>, ObjectLit<N>, N>(alloc, node)?,
+        )
+    }
+
+    /// The node that is linked to.
+    pub fn get(&self) -> Option<&ObjectLit<N>>
+        ensures { option_copied result ≡ option_and_then object_lit_in (N.node_in self.now.node.value) }
+    {
+        node_in_part::<ExprPart<N>, ObjectLit<N>, N>(&self.node)
+    }
+
+    /// The node that is linked to, taken out. What else is held is let go.
+    pub fn into_inner(self) -> Option<ObjectLit<N>>
+        ensures { result ≡ option_and_then object_lit_in (N.node_in self.node.value) }
+    {
+        let ObjectLitBox { node } = self;
+        into_node_in_part::<ExprPart<N>, ObjectLit<N>, N>(Box::into_inner(node))
+    }
+}
+
 /// A link to a property's name, as `Box<PropName>` in swc.
 pub struct PropNameBox<N = AnyNode> {
     node: Box<N>,
@@ -185,6 +262,33 @@ impl<N: Drop> PropNameBox<N> {
         Ok(PropNameBox {
             node: Box::new(alloc, node)?,
         })
+    }
+}
+
+impl<N: Holds<ExprPart<N>> + Drop> PropNameBox<N> {
+    /// A link to `node`. Where memory is refused, `node` is let go.
+    pub fn new(alloc: Global, node: PropName<N>) -> Result<PropNameBox<N>, AllocError>
+        ensures { IfOk result (λ link. option_and_then prop_name_in (N.node_in link.node.value) ≡ Some node) }
+    {
+        PropNameBox::holding(
+            alloc,
+            hold_in_part::<ExprPart<N>, PropName<N>, N>(alloc, node)?,
+        )
+    }
+
+    /// The node that is linked to.
+    pub fn get(&self) -> Option<&PropName<N>>
+        ensures { option_copied result ≡ option_and_then prop_name_in (N.node_in self.now.node.value) }
+    {
+        node_in_part::<ExprPart<N>, PropName<N>, N>(&self.node)
+    }
+
+    /// The node that is linked to, taken out. What else is held is let go.
+    pub fn into_inner(self) -> Option<PropName<N>>
+        ensures { result ≡ option_and_then prop_name_in (N.node_in self.node.value) }
+    {
+        let PropNameBox { node } = self;
+        into_node_in_part::<ExprPart<N>, PropName<N>, N>(Box::into_inner(node))
     }
 }
 
@@ -219,6 +323,30 @@ impl<N: Drop> PropBox<N> {
     }
 }
 
+impl<N: Holds<ExprPart<N>> + Drop> PropBox<N> {
+    /// A link to `node`. Where memory is refused, `node` is let go.
+    pub fn new(alloc: Global, node: Prop<N>) -> Result<PropBox<N>, AllocError>
+        ensures { IfOk result (λ link. option_and_then prop_in (N.node_in link.node.value) ≡ Some node) }
+    {
+        PropBox::holding(alloc, hold_in_part::<ExprPart<N>, Prop<N>, N>(alloc, node)?)
+    }
+
+    /// The node that is linked to.
+    pub fn get(&self) -> Option<&Prop<N>>
+        ensures { option_copied result ≡ option_and_then prop_in (N.node_in self.now.node.value) }
+    {
+        node_in_part::<ExprPart<N>, Prop<N>, N>(&self.node)
+    }
+
+    /// The node that is linked to, taken out. What else is held is let go.
+    pub fn into_inner(self) -> Option<Prop<N>>
+        ensures { result ≡ option_and_then prop_in (N.node_in self.node.value) }
+    {
+        let PropBox { node } = self;
+        into_node_in_part::<ExprPart<N>, Prop<N>, N>(Box::into_inner(node))
+    }
+}
+
 /// A link to a member expression, as `Box<MemberExpr>` in swc.
 pub struct MemberExprBox<N = AnyNode> {
     node: Box<N>,
@@ -250,16 +378,14 @@ impl<N: Drop> MemberExprBox<N> {
     }
 }
 
-impl MemberExprBox<AnyNode> {
-    /// A link to `member_expr`. Where memory is refused, `member_expr` is let go.
-    pub fn new(alloc: Global, member_expr: MemberExpr) -> Result<MemberExprBox, AllocError>
-        ensures { IfOk result (λ link. link.node.value ≡ AnyNode.MemberExpr member_expr) }
+impl<N: Holds<MemberExpr<N>> + Drop> MemberExprBox<N> {
+    /// A link to `node`. Where memory is refused, `node` is let go.
+    pub fn new(alloc: Global, node: MemberExpr<N>) -> Result<MemberExprBox<N>, AllocError>
+        ensures { IfOk result (λ link. N.node_in link.node.value ≡ Some node) }
     {
-        MemberExprBox::holding(alloc, AnyNode::MemberExpr(member_expr))
+        MemberExprBox::holding(alloc, N::hold(alloc, node)?)
     }
-}
 
-impl<N: Holds<MemberExpr<N>>> MemberExprBox<N> {
     /// The node that is linked to.
     pub fn get(&self) -> Option<&MemberExpr<N>>
         ensures { option_copied result ≡ N.node_in self.now.node.value }
@@ -267,12 +393,12 @@ impl<N: Holds<MemberExpr<N>>> MemberExprBox<N> {
         self.node.node()
     }
 
-    /// The node that is linked to, taken out.
+    /// The node that is linked to, taken out. What else is held is let go.
     pub fn into_inner(self) -> Option<MemberExpr<N>>
         ensures { result ≡ N.node_in self.node.value }
     {
         let MemberExprBox { node } = self;
-        Box::into_inner(node).into_node()
+        Box::into_inner(node).into_node().ok()
     }
 }
 
@@ -307,6 +433,33 @@ impl<N: Drop> OptCallBox<N> {
     }
 }
 
+impl<N: Holds<ExprPart<N>> + Drop> OptCallBox<N> {
+    /// A link to `node`. Where memory is refused, `node` is let go.
+    pub fn new(alloc: Global, node: OptCall<N>) -> Result<OptCallBox<N>, AllocError>
+        ensures { IfOk result (λ link. option_and_then opt_call_in (N.node_in link.node.value) ≡ Some node) }
+    {
+        OptCallBox::holding(
+            alloc,
+            hold_in_part::<ExprPart<N>, OptCall<N>, N>(alloc, node)?,
+        )
+    }
+
+    /// The node that is linked to.
+    pub fn get(&self) -> Option<&OptCall<N>>
+        ensures { option_copied result ≡ option_and_then opt_call_in (N.node_in self.now.node.value) }
+    {
+        node_in_part::<ExprPart<N>, OptCall<N>, N>(&self.node)
+    }
+
+    /// The node that is linked to, taken out. What else is held is let go.
+    pub fn into_inner(self) -> Option<OptCall<N>>
+        ensures { result ≡ option_and_then opt_call_in (N.node_in self.node.value) }
+    {
+        let OptCallBox { node } = self;
+        into_node_in_part::<ExprPart<N>, OptCall<N>, N>(Box::into_inner(node))
+    }
+}
+
 /// A link to what is assigned to, as `Box<AssignTarget>` in swc.
 pub struct AssignTargetBox<N = AnyNode> {
     node: Box<N>,
@@ -335,5 +488,32 @@ impl<N: Drop> AssignTargetBox<N> {
         Ok(AssignTargetBox {
             node: Box::new(alloc, node)?,
         })
+    }
+}
+
+impl<N: Holds<ExprPart<N>> + Drop> AssignTargetBox<N> {
+    /// A link to `node`. Where memory is refused, `node` is let go.
+    pub fn new(alloc: Global, node: AssignTarget<N>) -> Result<AssignTargetBox<N>, AllocError>
+        ensures { IfOk result (λ link. option_and_then assign_target_in (N.node_in link.node.value) ≡ Some node) }
+    {
+        AssignTargetBox::holding(
+            alloc,
+            hold_in_part::<ExprPart<N>, AssignTarget<N>, N>(alloc, node)?,
+        )
+    }
+
+    /// The node that is linked to.
+    pub fn get(&self) -> Option<&AssignTarget<N>>
+        ensures { option_copied result ≡ option_and_then assign_target_in (N.node_in self.now.node.value) }
+    {
+        node_in_part::<ExprPart<N>, AssignTarget<N>, N>(&self.node)
+    }
+
+    /// The node that is linked to, taken out. What else is held is let go.
+    pub fn into_inner(self) -> Option<AssignTarget<N>>
+        ensures { result ≡ option_and_then assign_target_in (N.node_in self.node.value) }
+    {
+        let AssignTargetBox { node } = self;
+        into_node_in_part::<ExprPart<N>, AssignTarget<N>, N>(Box::into_inner(node))
     }
 }

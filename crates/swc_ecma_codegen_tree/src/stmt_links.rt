@@ -1,10 +1,16 @@
 //! Links to statements, declarations, classes and items of modules.
 
-ghost use Rattle.std.specs.Prelude.{◌≡◌, IfOk};
-ghost use Rattle.std.specs.Option.{option_copied};
+ghost use Rattle.std.specs.Prelude.{◌≡◌, IfOk, Some};
+ghost use Rattle.std.specs.Option.{option_and_then, option_copied};
+ghost use Rattle.swc_ecma_codegen_tree.specs.Held.{function_in, class_in, block_stmt_in, decl_in, module_item_in, module_decl_in, var_decl_in, class_member_in};
 
-use crate::links::{AnyNode, Holds};
-use crate::stmts::Stmt;
+use crate::classes::{Class, ClassMember};
+use crate::decls::{Decl, Function, VarDecl};
+use crate::holds::{Holds, hold_in_part, into_node_in_part, node_in_part};
+use crate::links::AnyNode;
+use crate::parts::StmtPart;
+use crate::programs::{ModuleDecl, ModuleItem};
+use crate::stmts::{BlockStmt, Stmt};
 use std::alloc::{AllocError, Global};
 
 /// A link to a statement, as `Box<Stmt>` in swc.
@@ -38,16 +44,14 @@ impl<N: Drop> StmtBox<N> {
     }
 }
 
-impl StmtBox<AnyNode> {
-    /// A link to `stmt`. Where memory is refused, `stmt` is let go.
-    pub fn new(alloc: Global, stmt: Stmt) -> Result<StmtBox, AllocError>
-        ensures { IfOk result (λ link. link.node.value ≡ AnyNode.Stmt stmt) }
+impl<N: Holds<Stmt<N>> + Drop> StmtBox<N> {
+    /// A link to `node`. Where memory is refused, `node` is let go.
+    pub fn new(alloc: Global, node: Stmt<N>) -> Result<StmtBox<N>, AllocError>
+        ensures { IfOk result (λ link. N.node_in link.node.value ≡ Some node) }
     {
-        StmtBox::holding(alloc, AnyNode::Stmt(stmt))
+        StmtBox::holding(alloc, N::hold(alloc, node)?)
     }
-}
 
-impl<N: Holds<Stmt<N>>> StmtBox<N> {
     /// The node that is linked to.
     pub fn get(&self) -> Option<&Stmt<N>>
         ensures { option_copied result ≡ N.node_in self.now.node.value }
@@ -55,12 +59,12 @@ impl<N: Holds<Stmt<N>>> StmtBox<N> {
         self.node.node()
     }
 
-    /// The node that is linked to, taken out.
+    /// The node that is linked to, taken out. What else is held is let go.
     pub fn into_inner(self) -> Option<Stmt<N>>
         ensures { result ≡ N.node_in self.node.value }
     {
         let StmtBox { node } = self;
-        Box::into_inner(node).into_node()
+        Box::into_inner(node).into_node().ok()
     }
 }
 
@@ -95,6 +99,33 @@ impl<N: Drop> FunctionBox<N> {
     }
 }
 
+impl<N: Holds<StmtPart<N>> + Drop> FunctionBox<N> {
+    /// A link to `node`. Where memory is refused, `node` is let go.
+    pub fn new(alloc: Global, node: Function<N>) -> Result<FunctionBox<N>, AllocError>
+        ensures { IfOk result (λ link. option_and_then function_in (N.node_in link.node.value) ≡ Some node) }
+    {
+        FunctionBox::holding(
+            alloc,
+            hold_in_part::<StmtPart<N>, Function<N>, N>(alloc, node)?,
+        )
+    }
+
+    /// The node that is linked to.
+    pub fn get(&self) -> Option<&Function<N>>
+        ensures { option_copied result ≡ option_and_then function_in (N.node_in self.now.node.value) }
+    {
+        node_in_part::<StmtPart<N>, Function<N>, N>(&self.node)
+    }
+
+    /// The node that is linked to, taken out. What else is held is let go.
+    pub fn into_inner(self) -> Option<Function<N>>
+        ensures { result ≡ option_and_then function_in (N.node_in self.node.value) }
+    {
+        let FunctionBox { node } = self;
+        into_node_in_part::<StmtPart<N>, Function<N>, N>(Box::into_inner(node))
+    }
+}
+
 /// A link to a class, as `Box<Class>` in swc.
 pub struct ClassBox<N = AnyNode> {
     node: Box<N>,
@@ -123,6 +154,33 @@ impl<N: Drop> ClassBox<N> {
         Ok(ClassBox {
             node: Box::new(alloc, node)?,
         })
+    }
+}
+
+impl<N: Holds<StmtPart<N>> + Drop> ClassBox<N> {
+    /// A link to `node`. Where memory is refused, `node` is let go.
+    pub fn new(alloc: Global, node: Class<N>) -> Result<ClassBox<N>, AllocError>
+        ensures { IfOk result (λ link. option_and_then class_in (N.node_in link.node.value) ≡ Some node) }
+    {
+        ClassBox::holding(
+            alloc,
+            hold_in_part::<StmtPart<N>, Class<N>, N>(alloc, node)?,
+        )
+    }
+
+    /// The node that is linked to.
+    pub fn get(&self) -> Option<&Class<N>>
+        ensures { option_copied result ≡ option_and_then class_in (N.node_in self.now.node.value) }
+    {
+        node_in_part::<StmtPart<N>, Class<N>, N>(&self.node)
+    }
+
+    /// The node that is linked to, taken out. What else is held is let go.
+    pub fn into_inner(self) -> Option<Class<N>>
+        ensures { result ≡ option_and_then class_in (N.node_in self.node.value) }
+    {
+        let ClassBox { node } = self;
+        into_node_in_part::<StmtPart<N>, Class<N>, N>(Box::into_inner(node))
     }
 }
 
@@ -157,6 +215,33 @@ impl<N: Drop> BlockStmtBox<N> {
     }
 }
 
+impl<N: Holds<StmtPart<N>> + Drop> BlockStmtBox<N> {
+    /// A link to `node`. Where memory is refused, `node` is let go.
+    pub fn new(alloc: Global, node: BlockStmt<N>) -> Result<BlockStmtBox<N>, AllocError>
+        ensures { IfOk result (λ link. option_and_then block_stmt_in (N.node_in link.node.value) ≡ Some node) }
+    {
+        BlockStmtBox::holding(
+            alloc,
+            hold_in_part::<StmtPart<N>, BlockStmt<N>, N>(alloc, node)?,
+        )
+    }
+
+    /// The node that is linked to.
+    pub fn get(&self) -> Option<&BlockStmt<N>>
+        ensures { option_copied result ≡ option_and_then block_stmt_in (N.node_in self.now.node.value) }
+    {
+        node_in_part::<StmtPart<N>, BlockStmt<N>, N>(&self.node)
+    }
+
+    /// The node that is linked to, taken out. What else is held is let go.
+    pub fn into_inner(self) -> Option<BlockStmt<N>>
+        ensures { result ≡ option_and_then block_stmt_in (N.node_in self.node.value) }
+    {
+        let BlockStmtBox { node } = self;
+        into_node_in_part::<StmtPart<N>, BlockStmt<N>, N>(Box::into_inner(node))
+    }
+}
+
 /// A link to a declaration, as `Box<Decl>` in swc.
 pub struct DeclBox<N = AnyNode> {
     node: Box<N>,
@@ -185,6 +270,30 @@ impl<N: Drop> DeclBox<N> {
         Ok(DeclBox {
             node: Box::new(alloc, node)?,
         })
+    }
+}
+
+impl<N: Holds<StmtPart<N>> + Drop> DeclBox<N> {
+    /// A link to `node`. Where memory is refused, `node` is let go.
+    pub fn new(alloc: Global, node: Decl<N>) -> Result<DeclBox<N>, AllocError>
+        ensures { IfOk result (λ link. option_and_then decl_in (N.node_in link.node.value) ≡ Some node) }
+    {
+        DeclBox::holding(alloc, hold_in_part::<StmtPart<N>, Decl<N>, N>(alloc, node)?)
+    }
+
+    /// The node that is linked to.
+    pub fn get(&self) -> Option<&Decl<N>>
+        ensures { option_copied result ≡ option_and_then decl_in (N.node_in self.now.node.value) }
+    {
+        node_in_part::<StmtPart<N>, Decl<N>, N>(&self.node)
+    }
+
+    /// The node that is linked to, taken out. What else is held is let go.
+    pub fn into_inner(self) -> Option<Decl<N>>
+        ensures { result ≡ option_and_then decl_in (N.node_in self.node.value) }
+    {
+        let DeclBox { node } = self;
+        into_node_in_part::<StmtPart<N>, Decl<N>, N>(Box::into_inner(node))
     }
 }
 
@@ -219,6 +328,33 @@ impl<N: Drop> ModuleItemBox<N> {
     }
 }
 
+impl<N: Holds<StmtPart<N>> + Drop> ModuleItemBox<N> {
+    /// A link to `node`. Where memory is refused, `node` is let go.
+    pub fn new(alloc: Global, node: ModuleItem<N>) -> Result<ModuleItemBox<N>, AllocError>
+        ensures { IfOk result (λ link. option_and_then module_item_in (N.node_in link.node.value) ≡ Some node) }
+    {
+        ModuleItemBox::holding(
+            alloc,
+            hold_in_part::<StmtPart<N>, ModuleItem<N>, N>(alloc, node)?,
+        )
+    }
+
+    /// The node that is linked to.
+    pub fn get(&self) -> Option<&ModuleItem<N>>
+        ensures { option_copied result ≡ option_and_then module_item_in (N.node_in self.now.node.value) }
+    {
+        node_in_part::<StmtPart<N>, ModuleItem<N>, N>(&self.node)
+    }
+
+    /// The node that is linked to, taken out. What else is held is let go.
+    pub fn into_inner(self) -> Option<ModuleItem<N>>
+        ensures { result ≡ option_and_then module_item_in (N.node_in self.node.value) }
+    {
+        let ModuleItemBox { node } = self;
+        into_node_in_part::<StmtPart<N>, ModuleItem<N>, N>(Box::into_inner(node))
+    }
+}
+
 /// A link to an import or export, as `Box<ModuleDecl>` in swc.
 pub struct ModuleDeclBox<N = AnyNode> {
     node: Box<N>,
@@ -247,6 +383,33 @@ impl<N: Drop> ModuleDeclBox<N> {
         Ok(ModuleDeclBox {
             node: Box::new(alloc, node)?,
         })
+    }
+}
+
+impl<N: Holds<StmtPart<N>> + Drop> ModuleDeclBox<N> {
+    /// A link to `node`. Where memory is refused, `node` is let go.
+    pub fn new(alloc: Global, node: ModuleDecl<N>) -> Result<ModuleDeclBox<N>, AllocError>
+        ensures { IfOk result (λ link. option_and_then module_decl_in (N.node_in link.node.value) ≡ Some node) }
+    {
+        ModuleDeclBox::holding(
+            alloc,
+            hold_in_part::<StmtPart<N>, ModuleDecl<N>, N>(alloc, node)?,
+        )
+    }
+
+    /// The node that is linked to.
+    pub fn get(&self) -> Option<&ModuleDecl<N>>
+        ensures { option_copied result ≡ option_and_then module_decl_in (N.node_in self.now.node.value) }
+    {
+        node_in_part::<StmtPart<N>, ModuleDecl<N>, N>(&self.node)
+    }
+
+    /// The node that is linked to, taken out. What else is held is let go.
+    pub fn into_inner(self) -> Option<ModuleDecl<N>>
+        ensures { result ≡ option_and_then module_decl_in (N.node_in self.node.value) }
+    {
+        let ModuleDeclBox { node } = self;
+        into_node_in_part::<StmtPart<N>, ModuleDecl<N>, N>(Box::into_inner(node))
     }
 }
 
@@ -281,6 +444,33 @@ impl<N: Drop> VarDeclBox<N> {
     }
 }
 
+impl<N: Holds<StmtPart<N>> + Drop> VarDeclBox<N> {
+    /// A link to `node`. Where memory is refused, `node` is let go.
+    pub fn new(alloc: Global, node: VarDecl<N>) -> Result<VarDeclBox<N>, AllocError>
+        ensures { IfOk result (λ link. option_and_then var_decl_in (N.node_in link.node.value) ≡ Some node) }
+    {
+        VarDeclBox::holding(
+            alloc,
+            hold_in_part::<StmtPart<N>, VarDecl<N>, N>(alloc, node)?,
+        )
+    }
+
+    /// The node that is linked to.
+    pub fn get(&self) -> Option<&VarDecl<N>>
+        ensures { option_copied result ≡ option_and_then var_decl_in (N.node_in self.now.node.value) }
+    {
+        node_in_part::<StmtPart<N>, VarDecl<N>, N>(&self.node)
+    }
+
+    /// The node that is linked to, taken out. What else is held is let go.
+    pub fn into_inner(self) -> Option<VarDecl<N>>
+        ensures { result ≡ option_and_then var_decl_in (N.node_in self.node.value) }
+    {
+        let VarDeclBox { node } = self;
+        into_node_in_part::<StmtPart<N>, VarDecl<N>, N>(Box::into_inner(node))
+    }
+}
+
 /// A link to a member of a class, as `Box<ClassMember>` in swc.
 pub struct ClassMemberBox<N = AnyNode> {
     node: Box<N>,
@@ -309,5 +499,32 @@ impl<N: Drop> ClassMemberBox<N> {
         Ok(ClassMemberBox {
             node: Box::new(alloc, node)?,
         })
+    }
+}
+
+impl<N: Holds<StmtPart<N>> + Drop> ClassMemberBox<N> {
+    /// A link to `node`. Where memory is refused, `node` is let go.
+    pub fn new(alloc: Global, node: ClassMember<N>) -> Result<ClassMemberBox<N>, AllocError>
+        ensures { IfOk result (λ link. option_and_then class_member_in (N.node_in link.node.value) ≡ Some node) }
+    {
+        ClassMemberBox::holding(
+            alloc,
+            hold_in_part::<StmtPart<N>, ClassMember<N>, N>(alloc, node)?,
+        )
+    }
+
+    /// The node that is linked to.
+    pub fn get(&self) -> Option<&ClassMember<N>>
+        ensures { option_copied result ≡ option_and_then class_member_in (N.node_in self.now.node.value) }
+    {
+        node_in_part::<StmtPart<N>, ClassMember<N>, N>(&self.node)
+    }
+
+    /// The node that is linked to, taken out. What else is held is let go.
+    pub fn into_inner(self) -> Option<ClassMember<N>>
+        ensures { result ≡ option_and_then class_member_in (N.node_in self.node.value) }
+    {
+        let ClassMemberBox { node } = self;
+        into_node_in_part::<StmtPart<N>, ClassMember<N>, N>(Box::into_inner(node))
     }
 }

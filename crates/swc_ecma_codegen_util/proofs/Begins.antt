@@ -1,21 +1,21 @@
 -- What the words of Starts say of a whole node, by its sort.
-use Rattle.std.specs.Prelude.{Box}
-use Rattle.std.specs.Global.{Global}
 use Rattle.std.proofs.Common.{if◌then◌else◌, ◌≡◌, ◌≢◌, Bool, true, false, List, [], ◌∷◌, refl, sym, ◌∙◌, ap, map}
 use Rattle.swc_ecma_codegen_tree.specs.declared.links.AnyNode.{AnyNode, AnyNode-F, map-AnyNode, out-AnyNode, roll-AnyNode, roll-out-AnyNode}
 use Rattle.swc_ecma_codegen_tree.specs.declared.links.AnyNode.TheOpen as nodes
 use Rattle.swc_ecma_codegen_tree.specs.declared.links.AnyNode.TheVariants as whole
 use Rattle.swc_ecma_codegen_tree.specs.declared.links.AnyNode.TheFolds.{fold-roll-AnyNode, fold_out-AnyNode}
+use Rattle.swc_ecma_codegen_tree.specs.declared.parts.ExprPart.{ExprPart}
+use Rattle.swc_ecma_codegen_tree.specs.declared.parts.ExprPart.TheVariants as expr_parts
+use Rattle.swc_ecma_codegen_tree.specs.declared.parts.StmtPart.{StmtPart}
+use Rattle.swc_ecma_codegen_tree.specs.declared.parts.StmtPart.TheVariants as stmt_parts
 use Rattle.swc_ecma_codegen_tree.specs.declared.expr_links.ExprBox.{ExprBox}
 use Rattle.swc_ecma_codegen_tree.specs.declared.expr_links.PatBox.{PatBox}
-use Rattle.swc_ecma_codegen_tree.specs.declared.decls.Decl.{Decl}
 use Rattle.swc_ecma_codegen_tree.specs.declared.exprs.CallExpr.{CallExpr}
 use Rattle.swc_ecma_codegen_tree.specs.declared.exprs.Callee.{Callee}
 use Rattle.swc_ecma_codegen_tree.specs.declared.exprs.Callee.TheVariants as callees
 use Rattle.swc_ecma_codegen_tree.specs.declared.exprs.Expr.{Expr}
 use Rattle.swc_ecma_codegen_tree.specs.declared.exprs.Expr.TheVariants as exprs
 use Rattle.swc_ecma_codegen_tree.specs.declared.exprs.MemberExpr.{MemberExpr}
-use Rattle.swc_ecma_codegen_tree.specs.declared.exprs.OptCall.{OptCall}
 use Rattle.swc_ecma_codegen_tree.specs.declared.exprs.OptChainBase.{OptChainBase}
 use Rattle.swc_ecma_codegen_tree.specs.declared.exprs.OptChainBase.TheVariants as chain_bases
 use Rattle.swc_ecma_codegen_tree.specs.declared.exprs.OptChainExpr.{OptChainExpr}
@@ -28,7 +28,7 @@ use Rattle.swc_ecma_codegen_tree.specs.declared.pats.Pat.TheVariants as pats
 use Rattle.swc_ecma_codegen_tree.specs.declared.pats.SimpleAssignTarget.TheVariants as simple_targets
 use Rattle.swc_ecma_codegen_tree.specs.declared.stmts.Stmt.{Stmt}
 use Rattle.swc_ecma_codegen_tree.specs.declared.stmts.Stmt.TheVariants as stmts
-use Rattle.swc_ecma_codegen_util.specs.Starts.{update_starts, first_starts, only_starts, arrow_starts, callee_starts, chain_starts, expr_starts, prop_name_starts, pat_starts, simple_target_starts, target_starts, stmt_starts, node_starts, any_starts}
+use Rattle.swc_ecma_codegen_util.specs.Starts.{update_starts, first_starts, only_starts, arrow_starts, callee_starts, chain_starts, expr_starts, prop_name_starts, pat_starts, simple_target_starts, target_starts, stmt_starts, expr_part_starts, stmt_part_starts, node_starts, any_starts}
 
 -- ---- a word sees what links hold through f alone
 
@@ -67,33 +67,44 @@ unfolding node_starts stmt_starts
 stmt_mapped g f (stmts.Empty n) = refl
 stmt_mapped g f n = refl
 
-pat_mapped : {X Y : Type 0} (g : X → Y) (f : Y → Bool) (n : Pat X) → node_starts f (map-AnyNode X Y g (nodes.Pat n)) ≡ pat_starts (λ x. f (g x)) n
-unfolding node_starts pat_starts
+pat_mapped : {X Y : Type 0} (g : X → Y) (f : Y → Bool) (n : Pat X) → node_starts f (map-AnyNode X Y g (nodes.ExprPart (expr_parts.Pat n))) ≡ pat_starts (λ x. f (g x)) n
+unfolding node_starts expr_part_starts pat_starts
 pat_mapped g f (pats.Invalid n) = refl
 pat_mapped g f n = refl
 
-prop_name_mapped : {X Y : Type 0} (g : X → Y) (f : Y → Bool) (n : PropName X) → node_starts f (map-AnyNode X Y g (nodes.PropName n)) ≡ prop_name_starts n
-unfolding node_starts prop_name_starts
+prop_name_mapped : {X Y : Type 0} (g : X → Y) (f : Y → Bool) (n : PropName X) → node_starts f (map-AnyNode X Y g (nodes.ExprPart (expr_parts.PropName n))) ≡ prop_name_starts n
+unfolding node_starts expr_part_starts prop_name_starts
 prop_name_mapped g f (prop_names.Str n) = refl
 prop_name_mapped g f n = refl
 
-target_chain_mapped : {X Y : Type 0} (g : X → Y) (f : Y → Bool) (n : OptChainExpr X) (base : OptChainBase X) → node_starts f (map-AnyNode X Y g (nodes.AssignTarget (targets.Simple (simple_targets.OptChain (record n { base = base }))))) ≡ chain_starts (λ x. f (g x)) base
-unfolding node_starts target_starts simple_target_starts chain_starts
+target_chain_mapped : {X Y : Type 0} (g : X → Y) (f : Y → Bool) (n : OptChainExpr X) (base : OptChainBase X) → node_starts f (map-AnyNode X Y g (nodes.ExprPart (expr_parts.AssignTarget (targets.Simple (simple_targets.OptChain (record n { base = base })))))) ≡ chain_starts (λ x. f (g x)) base
+unfolding node_starts expr_part_starts target_starts simple_target_starts chain_starts
 target_chain_mapped g f n (chain_bases.Member b) = refl
 target_chain_mapped g f n (chain_bases.Call b) = refl
 
-target_mapped : {X Y : Type 0} (g : X → Y) (f : Y → Bool) (n : AssignTarget X) → node_starts f (map-AnyNode X Y g (nodes.AssignTarget n)) ≡ target_starts (λ x. f (g x)) n
-unfolding node_starts target_starts simple_target_starts
+target_mapped : {X Y : Type 0} (g : X → Y) (f : Y → Bool) (n : AssignTarget X) → node_starts f (map-AnyNode X Y g (nodes.ExprPart (expr_parts.AssignTarget n))) ≡ target_starts (λ x. f (g x)) n
+unfolding node_starts expr_part_starts target_starts simple_target_starts
 target_mapped g f (targets.Simple (simple_targets.OptChain n)) = target_chain_mapped g f n n.base
 target_mapped g f n = refl
+
+expr_part_mapped : {X Y : Type 0} (g : X → Y) (f : Y → Bool) (n : ExprPart X) → node_starts f (map-AnyNode X Y g (nodes.ExprPart n)) ≡ expr_part_starts (λ x. f (g x)) n
+unfolding node_starts expr_part_starts
+expr_part_mapped g f (expr_parts.Pat n) = pat_mapped g f n
+expr_part_mapped g f (expr_parts.PropName n) = prop_name_mapped g f n
+expr_part_mapped g f (expr_parts.AssignTarget n) = target_mapped g f n
+expr_part_mapped g f n = refl
+
+stmt_part_mapped : {X Y : Type 0} (g : X → Y) (f : Y → Bool) (n : StmtPart X) → node_starts f (map-AnyNode X Y g (nodes.StmtPart n)) ≡ stmt_part_starts n
+unfolding node_starts stmt_part_starts
+stmt_part_mapped g f (stmt_parts.Decl n) = refl
+stmt_part_mapped g f n = refl
 
 node_mapped : {X Y : Type 0} (g : X → Y) (f : Y → Bool) (n : AnyNode-F X) → node_starts f (map-AnyNode X Y g n) ≡ node_starts (λ x. f (g x)) n
 unfolding node_starts
 node_mapped g f (nodes.Expr n) = expr_mapped g f n
 node_mapped g f (nodes.Stmt n) = stmt_mapped g f n
-node_mapped g f (nodes.Pat n) = pat_mapped g f n
-node_mapped g f (nodes.PropName n) = prop_name_mapped g f n
-node_mapped g f (nodes.AssignTarget n) = target_mapped g f n
+node_mapped g f (nodes.ExprPart n) = expr_part_mapped g f n
+node_mapped g f (nodes.StmtPart n) = stmt_part_mapped g f n
 node_mapped g f n = refl
 
 -- ---- whole nodes
@@ -118,69 +129,45 @@ pub any_starts_stmt : (n : Stmt AnyNode) → any_starts (whole.Stmt n) ≡ stmt_
 unfolding node_starts
 any_starts_stmt n = ap any_starts (sym (whole.rolls-Stmt n)) ∙ starts_of_layer (nodes.Stmt n)
 
-pub any_starts_pat : (n : Pat AnyNode) → any_starts (whole.Pat n) ≡ pat_starts any_starts n
-unfolding node_starts
-any_starts_pat n = ap any_starts (sym (whole.rolls-Pat n)) ∙ starts_of_layer (nodes.Pat n)
-
-pub any_starts_decl : (n : Box (Decl AnyNode) Global) → any_starts (whole.Decl n) ≡ true
-unfolding node_starts
-any_starts_decl n = ap any_starts (sym (whole.rolls-Decl n)) ∙ starts_of_layer (nodes.Decl n)
-
-pub any_starts_prop_name : (n : PropName AnyNode) → any_starts (whole.PropName n) ≡ prop_name_starts n
-unfolding node_starts
-any_starts_prop_name n = ap any_starts (sym (whole.rolls-PropName n)) ∙ starts_of_layer (nodes.PropName n)
-
 pub any_starts_member_expr : (n : MemberExpr AnyNode) → any_starts (whole.MemberExpr n) ≡ any_starts n.obj.node.value
 unfolding node_starts
 any_starts_member_expr n = ap any_starts (sym (whole.rolls-MemberExpr n)) ∙ starts_of_layer (nodes.MemberExpr n)
 
-pub any_starts_opt_call : (n : OptCall AnyNode) → any_starts (whole.OptCall n) ≡ any_starts n.callee.node.value
+pub any_starts_expr_part : (n : ExprPart AnyNode) → any_starts (whole.ExprPart n) ≡ expr_part_starts any_starts n
 unfolding node_starts
-any_starts_opt_call n = ap any_starts (sym (whole.rolls-OptCall n)) ∙ starts_of_layer (nodes.OptCall n)
+any_starts_expr_part n = ap any_starts (sym (whole.rolls-ExprPart n)) ∙ starts_of_layer (nodes.ExprPart n)
 
-pub any_starts_assign_target : (n : AssignTarget AnyNode) → any_starts (whole.AssignTarget n) ≡ target_starts any_starts n
+pub any_starts_stmt_part : (n : StmtPart AnyNode) → any_starts (whole.StmtPart n) ≡ stmt_part_starts n
 unfolding node_starts
-any_starts_assign_target n = ap any_starts (sym (whole.rolls-AssignTarget n)) ∙ starts_of_layer (nodes.AssignTarget n)
+any_starts_stmt_part n = ap any_starts (sym (whole.rolls-StmtPart n)) ∙ starts_of_layer (nodes.StmtPart n)
 
 -- ---- nodes of the other sorts
 
 other_starts : (n : AnyNode-F AnyNode)
     → ((x : Expr AnyNode) → roll-AnyNode n ≢ whole.Expr x)
     → ((x : Stmt AnyNode) → roll-AnyNode n ≢ whole.Stmt x)
-    → ((x : Pat AnyNode) → roll-AnyNode n ≢ whole.Pat x)
-    → ((x : Box (Decl AnyNode) Global) → roll-AnyNode n ≢ whole.Decl x)
-    → ((x : PropName AnyNode) → roll-AnyNode n ≢ whole.PropName x)
     → ((x : MemberExpr AnyNode) → roll-AnyNode n ≢ whole.MemberExpr x)
-    → ((x : OptCall AnyNode) → roll-AnyNode n ≢ whole.OptCall x)
-    → ((x : AssignTarget AnyNode) → roll-AnyNode n ≢ whole.AssignTarget x)
+    → ((x : ExprPart AnyNode) → roll-AnyNode n ≢ whole.ExprPart x)
+    → ((x : StmtPart AnyNode) → roll-AnyNode n ≢ whole.StmtPart x)
     → node_starts any_starts n ≡ false
 unfolding node_starts
-other_starts (nodes.Expr x) never _ _ _ _ _ _ _ = absurd (never x (whole.rolls-Expr x))
-other_starts (nodes.Stmt x) _ never _ _ _ _ _ _ = absurd (never x (whole.rolls-Stmt x))
-other_starts (nodes.Pat x) _ _ never _ _ _ _ _ = absurd (never x (whole.rolls-Pat x))
-other_starts (nodes.Decl x) _ _ _ never _ _ _ _ = absurd (never x (whole.rolls-Decl x))
-other_starts (nodes.PropName x) _ _ _ _ never _ _ _ = absurd (never x (whole.rolls-PropName x))
-other_starts (nodes.MemberExpr x) _ _ _ _ _ never _ _ = absurd (never x (whole.rolls-MemberExpr x))
-other_starts (nodes.OptCall x) _ _ _ _ _ _ never _ = absurd (never x (whole.rolls-OptCall x))
-other_starts (nodes.AssignTarget x) _ _ _ _ _ _ _ never = absurd (never x (whole.rolls-AssignTarget x))
-other_starts n _ _ _ _ _ _ _ _ = refl
+other_starts (nodes.Expr x) never _ _ _ _ = absurd (never x (whole.rolls-Expr x))
+other_starts (nodes.Stmt x) _ never _ _ _ = absurd (never x (whole.rolls-Stmt x))
+other_starts (nodes.MemberExpr x) _ _ never _ _ = absurd (never x (whole.rolls-MemberExpr x))
+other_starts (nodes.ExprPart x) _ _ _ never _ = absurd (never x (whole.rolls-ExprPart x))
+other_starts (nodes.StmtPart x) _ _ _ _ never = absurd (never x (whole.rolls-StmtPart x))
+other_starts n _ _ _ _ _ = refl
 
 pub starts_of_other : (n : AnyNode)
     → ((x : Expr AnyNode) → n ≢ whole.Expr x)
     → ((x : Stmt AnyNode) → n ≢ whole.Stmt x)
-    → ((x : Pat AnyNode) → n ≢ whole.Pat x)
-    → ((x : Box (Decl AnyNode) Global) → n ≢ whole.Decl x)
-    → ((x : PropName AnyNode) → n ≢ whole.PropName x)
     → ((x : MemberExpr AnyNode) → n ≢ whole.MemberExpr x)
-    → ((x : OptCall AnyNode) → n ≢ whole.OptCall x)
-    → ((x : AssignTarget AnyNode) → n ≢ whole.AssignTarget x)
+    → ((x : ExprPart AnyNode) → n ≢ whole.ExprPart x)
+    → ((x : StmtPart AnyNode) → n ≢ whole.StmtPart x)
     → false ≡ any_starts n
-starts_of_other n no_expr no_stmt no_pat no_decl no_prop_name no_member_expr no_opt_call no_assign_target = sym (any_starts_layer n ∙ other_starts (out-AnyNode n)
+starts_of_other n no_expr no_stmt no_member_expr no_expr_part no_stmt_part = sym (any_starts_layer n ∙ other_starts (out-AnyNode n)
     (λ x same. no_expr x (sym (roll-out-AnyNode n) ∙ same))
     (λ x same. no_stmt x (sym (roll-out-AnyNode n) ∙ same))
-    (λ x same. no_pat x (sym (roll-out-AnyNode n) ∙ same))
-    (λ x same. no_decl x (sym (roll-out-AnyNode n) ∙ same))
-    (λ x same. no_prop_name x (sym (roll-out-AnyNode n) ∙ same))
     (λ x same. no_member_expr x (sym (roll-out-AnyNode n) ∙ same))
-    (λ x same. no_opt_call x (sym (roll-out-AnyNode n) ∙ same))
-    (λ x same. no_assign_target x (sym (roll-out-AnyNode n) ∙ same)))
+    (λ x same. no_expr_part x (sym (roll-out-AnyNode n) ∙ same))
+    (λ x same. no_stmt_part x (sym (roll-out-AnyNode n) ∙ same)))

@@ -8,6 +8,10 @@ use Rattle.swc_ecma_codegen_tree.specs.declared.links.AnyNode.{AnyNode, AnyNode-
 use Rattle.swc_ecma_codegen_tree.specs.declared.links.AnyNode.TheOpen as nodes
 use Rattle.swc_ecma_codegen_tree.specs.declared.links.AnyNode.TheVariants as whole
 use Rattle.swc_ecma_codegen_tree.specs.declared.links.AnyNode.TheFolds.{fold-roll-AnyNode, fold_out-AnyNode}
+use Rattle.swc_ecma_codegen_tree.specs.declared.parts.ExprPart.{ExprPart}
+use Rattle.swc_ecma_codegen_tree.specs.declared.parts.ExprPart.TheVariants as expr_parts
+use Rattle.swc_ecma_codegen_tree.specs.declared.parts.StmtPart.{StmtPart}
+use Rattle.swc_ecma_codegen_tree.specs.declared.parts.StmtPart.TheVariants as stmt_parts
 use Rattle.swc_ecma_codegen_tree.specs.declared.expr_links.ExprBox.{ExprBox}
 use Rattle.swc_ecma_codegen_tree.specs.declared.decls.VarDecl.{VarDecl}
 use Rattle.swc_ecma_codegen_tree.specs.declared.decls.VarDeclarator.{VarDeclarator}
@@ -19,7 +23,7 @@ use Rattle.swc_ecma_codegen_tree.specs.declared.exprs.MemberProp.TheVariants as 
 use Rattle.swc_ecma_codegen_tree.specs.declared.pats.Pat.{Pat}
 use Rattle.swc_ecma_codegen_tree.specs.declared.pats.Pat.TheVariants as pats
 use Rattle.swc_ecma_codegen_tree.specs.declared.stmts.Stmt.{Stmt}
-use Rattle.swc_ecma_codegen_util.specs.Ends.{prop_ends, expr_ends, pat_ends, init_ends, declarator_ends, last_ends, declarators_end, node_ends, any_ends}
+use Rattle.swc_ecma_codegen_util.specs.Ends.{prop_ends, expr_ends, pat_ends, init_ends, declarator_ends, last_ends, declarators_end, expr_part_ends, stmt_part_ends, node_ends, any_ends}
 
 -- ---- a word sees what links hold through f alone
 
@@ -41,8 +45,8 @@ unfolding declarators_end
 declarators_mapped g e d with_init without xs = ap (λ i. last_ends e (slice_get (map g xs) (i - 1))) (length-map xs g) ∙ ap (last_ends e) (slice_get-map g xs (length xs - 1))
     ∙ last_mapped g e d (λ x. declarator_mapped g e d with_init without x x.init) (slice_get xs (length xs - 1))
 
-var_decl_mapped : {X Y : Type 0} (g : X → Y) (f : Y → Bool) (n : VarDecl X) → node_ends f (map-AnyNode X Y g (nodes.VarDecl n)) ≡ declarators_end (λ x. f (g x)) n.decls.items
-unfolding node_ends declarator_ends init_ends
+var_decl_mapped : {X Y : Type 0} (g : X → Y) (f : Y → Bool) (n : VarDecl X) → node_ends f (map-AnyNode X Y g (nodes.StmtPart (stmt_parts.VarDecl n))) ≡ declarators_end (λ x. f (g x)) n.decls.items
+unfolding node_ends stmt_part_ends declarator_ends init_ends
 var_decl_mapped g f n = declarators_mapped _ f (λ x. f (g x)) (λ x y. refl) (λ x. refl) n.decls.items
 
 member_mapped : {X Y : Type 0} (g : X → Y) (f : Y → Bool) (n : MemberExpr X) (prop : MemberProp X) → node_ends f (map-AnyNode X Y g (nodes.MemberExpr (record n { prop = prop }))) ≡ prop_ends prop
@@ -56,17 +60,27 @@ unfolding node_ends expr_ends
 expr_mapped g f (exprs.Paren n) = refl
 expr_mapped g f n = refl
 
-pat_mapped : {X Y : Type 0} (g : X → Y) (f : Y → Bool) (n : Pat X) → node_ends f (map-AnyNode X Y g (nodes.Pat n)) ≡ pat_ends (λ x. f (g x)) n
-unfolding node_ends pat_ends
+pat_mapped : {X Y : Type 0} (g : X → Y) (f : Y → Bool) (n : Pat X) → node_ends f (map-AnyNode X Y g (nodes.ExprPart (expr_parts.Pat n))) ≡ pat_ends (λ x. f (g x)) n
+unfolding node_ends expr_part_ends pat_ends
 pat_mapped g f (pats.Invalid n) = refl
 pat_mapped g f n = refl
+
+expr_part_mapped : {X Y : Type 0} (g : X → Y) (f : Y → Bool) (n : ExprPart X) → node_ends f (map-AnyNode X Y g (nodes.ExprPart n)) ≡ expr_part_ends (λ x. f (g x)) n
+unfolding node_ends expr_part_ends
+expr_part_mapped g f (expr_parts.Pat n) = pat_mapped g f n
+expr_part_mapped g f n = refl
+
+stmt_part_mapped : {X Y : Type 0} (g : X → Y) (f : Y → Bool) (n : StmtPart X) → node_ends f (map-AnyNode X Y g (nodes.StmtPart n)) ≡ stmt_part_ends (λ x. f (g x)) n
+unfolding node_ends stmt_part_ends
+stmt_part_mapped g f (stmt_parts.VarDecl n) = var_decl_mapped g f n
+stmt_part_mapped g f n = refl
 
 node_mapped : {X Y : Type 0} (g : X → Y) (f : Y → Bool) (n : AnyNode-F X) → node_ends f (map-AnyNode X Y g n) ≡ node_ends (λ x. f (g x)) n
 unfolding node_ends
 node_mapped g f (nodes.Expr n) = expr_mapped g f n
-node_mapped g f (nodes.Pat n) = pat_mapped g f n
-node_mapped g f (nodes.VarDecl n) = var_decl_mapped g f n
 node_mapped g f (nodes.MemberExpr n) = member_mapped g f n n.prop
+node_mapped g f (nodes.ExprPart n) = expr_part_mapped g f n
+node_mapped g f (nodes.StmtPart n) = stmt_part_mapped g f n
 node_mapped g f n = refl
 
 -- ---- whole nodes
@@ -87,41 +101,41 @@ pub any_ends_stmt : (n : Stmt AnyNode) → any_ends (whole.Stmt n) ≡ false
 unfolding node_ends
 any_ends_stmt n = ap any_ends (sym (whole.rolls-Stmt n)) ∙ ends_of_layer (nodes.Stmt n)
 
-pub any_ends_pat : (n : Pat AnyNode) → any_ends (whole.Pat n) ≡ pat_ends any_ends n
-unfolding node_ends
-any_ends_pat n = ap any_ends (sym (whole.rolls-Pat n)) ∙ ends_of_layer (nodes.Pat n)
-
-pub any_ends_var_decl : (n : VarDecl AnyNode) → any_ends (whole.VarDecl n) ≡ declarators_end any_ends n.decls.items
-unfolding node_ends
-any_ends_var_decl n = ap any_ends (sym (whole.rolls-VarDecl n)) ∙ ends_of_layer (nodes.VarDecl n)
-
 pub any_ends_member_expr : (n : MemberExpr AnyNode) → any_ends (whole.MemberExpr n) ≡ prop_ends n.prop
 unfolding node_ends
 any_ends_member_expr n = ap any_ends (sym (whole.rolls-MemberExpr n)) ∙ ends_of_layer (nodes.MemberExpr n)
+
+pub any_ends_expr_part : (n : ExprPart AnyNode) → any_ends (whole.ExprPart n) ≡ expr_part_ends any_ends n
+unfolding node_ends
+any_ends_expr_part n = ap any_ends (sym (whole.rolls-ExprPart n)) ∙ ends_of_layer (nodes.ExprPart n)
+
+pub any_ends_stmt_part : (n : StmtPart AnyNode) → any_ends (whole.StmtPart n) ≡ stmt_part_ends any_ends n
+unfolding node_ends
+any_ends_stmt_part n = ap any_ends (sym (whole.rolls-StmtPart n)) ∙ ends_of_layer (nodes.StmtPart n)
 
 -- ---- nodes of the other sorts
 
 other_ends : (n : AnyNode-F AnyNode)
     → ((x : Expr AnyNode) → roll-AnyNode n ≢ whole.Expr x)
-    → ((x : Pat AnyNode) → roll-AnyNode n ≢ whole.Pat x)
-    → ((x : VarDecl AnyNode) → roll-AnyNode n ≢ whole.VarDecl x)
     → ((x : MemberExpr AnyNode) → roll-AnyNode n ≢ whole.MemberExpr x)
+    → ((x : ExprPart AnyNode) → roll-AnyNode n ≢ whole.ExprPart x)
+    → ((x : StmtPart AnyNode) → roll-AnyNode n ≢ whole.StmtPart x)
     → node_ends any_ends n ≡ false
 unfolding node_ends
 other_ends (nodes.Expr x) never _ _ _ = absurd (never x (whole.rolls-Expr x))
-other_ends (nodes.Pat x) _ never _ _ = absurd (never x (whole.rolls-Pat x))
-other_ends (nodes.VarDecl x) _ _ never _ = absurd (never x (whole.rolls-VarDecl x))
-other_ends (nodes.MemberExpr x) _ _ _ never = absurd (never x (whole.rolls-MemberExpr x))
+other_ends (nodes.MemberExpr x) _ never _ _ = absurd (never x (whole.rolls-MemberExpr x))
+other_ends (nodes.ExprPart x) _ _ never _ = absurd (never x (whole.rolls-ExprPart x))
+other_ends (nodes.StmtPart x) _ _ _ never = absurd (never x (whole.rolls-StmtPart x))
 other_ends n _ _ _ _ = refl
 
 pub ends_of_other : (n : AnyNode)
     → ((x : Expr AnyNode) → n ≢ whole.Expr x)
-    → ((x : Pat AnyNode) → n ≢ whole.Pat x)
-    → ((x : VarDecl AnyNode) → n ≢ whole.VarDecl x)
     → ((x : MemberExpr AnyNode) → n ≢ whole.MemberExpr x)
+    → ((x : ExprPart AnyNode) → n ≢ whole.ExprPart x)
+    → ((x : StmtPart AnyNode) → n ≢ whole.StmtPart x)
     → false ≡ any_ends n
-ends_of_other n no_expr no_pat no_var_decl no_member_expr = sym (any_ends_layer n ∙ other_ends (out-AnyNode n)
+ends_of_other n no_expr no_member_expr no_expr_part no_stmt_part = sym (any_ends_layer n ∙ other_ends (out-AnyNode n)
     (λ x same. no_expr x (sym (roll-out-AnyNode n) ∙ same))
-    (λ x same. no_pat x (sym (roll-out-AnyNode n) ∙ same))
-    (λ x same. no_var_decl x (sym (roll-out-AnyNode n) ∙ same))
-    (λ x same. no_member_expr x (sym (roll-out-AnyNode n) ∙ same)))
+    (λ x same. no_member_expr x (sym (roll-out-AnyNode n) ∙ same))
+    (λ x same. no_expr_part x (sym (roll-out-AnyNode n) ∙ same))
+    (λ x same. no_stmt_part x (sym (roll-out-AnyNode n) ∙ same)))

@@ -3,6 +3,10 @@ use Rattle.std.specs.Prelude.{Bool, true, false, List, length, ◌-◌, Option, 
 use Rattle.std.specs.List.{slice_get}
 use Rattle.swc_ecma_codegen_tree.specs.declared.links.AnyNode.{AnyNode, AnyNode-F, fold-AnyNode}
 use Rattle.swc_ecma_codegen_tree.specs.declared.links.AnyNode.TheOpen as nodes
+use Rattle.swc_ecma_codegen_tree.specs.declared.parts.ExprPart.{ExprPart}
+use Rattle.swc_ecma_codegen_tree.specs.declared.parts.ExprPart.TheVariants as expr_parts
+use Rattle.swc_ecma_codegen_tree.specs.declared.parts.StmtPart.{StmtPart}
+use Rattle.swc_ecma_codegen_tree.specs.declared.parts.StmtPart.TheVariants as stmt_parts
 use Rattle.swc_ecma_codegen_tree.specs.declared.expr_links.ExprBox.{ExprBox}
 use Rattle.swc_ecma_codegen_tree.specs.declared.decls.VarDeclarator.{VarDeclarator}
 use Rattle.swc_ecma_codegen_tree.specs.declared.exprs.Expr.{Expr}
@@ -68,12 +72,22 @@ head_ends f (heads.VarDecl n) = f n.node.value
 head_ends f (heads.UsingDecl n) = declarators_end f n.decls.items
 head_ends f (heads.Pat n) = f n.node.value
 
+-- a part of an expression that a link holds
+unfoldable pub expr_part_ends : {X : Type 0} → (X → Bool) → ExprPart X → Bool
+expr_part_ends f (expr_parts.Pat n) = pat_ends f n
+expr_part_ends f n = false
+
+-- a part of a statement that a link holds
+unfoldable pub stmt_part_ends : {X : Type 0} → (X → Bool) → StmtPart X → Bool
+stmt_part_ends f (stmt_parts.VarDecl n) = declarators_end f n.decls.items
+stmt_part_ends f n = false
+
 -- one node, where f says it of what its links hold; a statement ends with a semicolon
 unfoldable pub node_ends : {X : Type 0} → (X → Bool) → AnyNode-F X → Bool
 node_ends f (nodes.Expr n) = expr_ends f n
-node_ends f (nodes.Pat n) = pat_ends f n
-node_ends f (nodes.VarDecl n) = declarators_end f n.decls.items
 node_ends f (nodes.MemberExpr n) = prop_ends n.prop
+node_ends f (nodes.ExprPart n) = expr_part_ends f n
+node_ends f (nodes.StmtPart n) = stmt_part_ends f n
 node_ends f n = false
 
 -- a whole node

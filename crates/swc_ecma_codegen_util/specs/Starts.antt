@@ -2,6 +2,10 @@
 use Rattle.std.specs.Prelude.{if◌then◌else◌, Bool, true, false, List, [], ◌∷◌, Option, Some, None}
 use Rattle.swc_ecma_codegen_tree.specs.declared.links.AnyNode.{AnyNode, AnyNode-F, fold-AnyNode}
 use Rattle.swc_ecma_codegen_tree.specs.declared.links.AnyNode.TheOpen as nodes
+use Rattle.swc_ecma_codegen_tree.specs.declared.parts.ExprPart.{ExprPart}
+use Rattle.swc_ecma_codegen_tree.specs.declared.parts.ExprPart.TheVariants as expr_parts
+use Rattle.swc_ecma_codegen_tree.specs.declared.parts.StmtPart.{StmtPart}
+use Rattle.swc_ecma_codegen_tree.specs.declared.parts.StmtPart.TheVariants as stmt_parts
 use Rattle.swc_ecma_codegen_tree.specs.declared.expr_links.ExprBox.{ExprBox}
 use Rattle.swc_ecma_codegen_tree.specs.declared.expr_links.PatBox.{PatBox}
 use Rattle.swc_ecma_codegen_common.specs.declared.operators.UnaryOp.{UnaryOp}
@@ -157,16 +161,26 @@ stmt_starts f (stmts.Decl n) = f n.node.value
 stmt_starts f (stmts.Expr n) = f n.expr.node.value
 stmt_starts f n = true
 
+-- a part of an expression that a link holds
+unfoldable pub expr_part_starts : {X : Type 0} → (X → Bool) → ExprPart X → Bool
+expr_part_starts f (expr_parts.Pat n) = pat_starts f n
+expr_part_starts f (expr_parts.PropName n) = prop_name_starts n
+expr_part_starts f (expr_parts.OptCall n) = f n.callee.node.value
+expr_part_starts f (expr_parts.AssignTarget n) = target_starts f n
+expr_part_starts f n = false
+
+-- a part of a statement that a link holds
+unfoldable pub stmt_part_starts : {X : Type 0} → StmtPart X → Bool
+stmt_part_starts (stmt_parts.Decl n) = true
+stmt_part_starts n = false
+
 -- one node, where f says it of what its links hold
 unfoldable pub node_starts : {X : Type 0} → (X → Bool) → AnyNode-F X → Bool
 node_starts f (nodes.Expr n) = expr_starts f n
 node_starts f (nodes.Stmt n) = stmt_starts f n
-node_starts f (nodes.Pat n) = pat_starts f n
-node_starts f (nodes.Decl n) = true
-node_starts f (nodes.PropName n) = prop_name_starts n
 node_starts f (nodes.MemberExpr n) = f n.obj.node.value
-node_starts f (nodes.OptCall n) = f n.callee.node.value
-node_starts f (nodes.AssignTarget n) = target_starts f n
+node_starts f (nodes.ExprPart n) = expr_part_starts f n
+node_starts f (nodes.StmtPart n) = stmt_part_starts n
 node_starts f n = false
 
 -- a whole node

@@ -1,11 +1,12 @@
 //! Which nodes end with a character of a name.
 
 ghost use Rattle.std.specs.Prelude.{◌≡◌};
-ghost use Rattle.swc_ecma_codegen_util.specs.Ends.{prop_ends, lit_ends, expr_ends, pat_ends, declarator_ends, declarators_end, head_ends, any_ends};
+ghost use Rattle.swc_ecma_codegen_util.specs.Ends.{any_ends, declarator_ends, declarators_end, expr_ends, expr_part_ends, head_ends, lit_ends, pat_ends, prop_ends, stmt_part_ends};
 
 use crate::util::EndsWithAlphaNum;
 use swc_ecma_codegen_tree::{
-    AnyNode, Expr, ForHead, Lit, MemberExpr, MemberProp, Pat, UsingDecl, VarDecl, VarDeclarator,
+    AnyNode, Expr, ExprPart, ForHead, Lit, MemberExpr, MemberProp, Pat, StmtPart, UsingDecl,
+    VarDecl, VarDeclarator,
 };
 
 #[tactic(auto, unfolding(crate::specs::Ends::lit_ends))]
@@ -117,15 +118,42 @@ impl<N: EndsWithAlphaNum> EndsWithAlphaNum for ForHead<N> {
     }
 }
 
+impl<N: EndsWithAlphaNum> EndsWithAlphaNum for ExprPart<N> {
+    ghost ends = { expr_part_ends N.ends };
+
+    #[tactic(auto, unfolding(crate::specs::Ends::expr_part_ends))]
+    fn ends_with_alpha_num(&self) -> bool {
+        match self {
+            ExprPart::Pat(node) => node.ends_with_alpha_num(),
+            ExprPart::Tpl(_) | ExprPart::ObjectLit(_) | ExprPart::PropName(_) => false,
+            ExprPart::Prop(_) | ExprPart::OptCall(_) | ExprPart::AssignTarget(_) => false,
+        }
+    }
+}
+
+impl<N: EndsWithAlphaNum> EndsWithAlphaNum for StmtPart<N> {
+    ghost ends = { stmt_part_ends N.ends };
+
+    #[tactic(auto, unfolding(crate::specs::Ends::stmt_part_ends))]
+    fn ends_with_alpha_num(&self) -> bool {
+        match self {
+            StmtPart::VarDecl(node) => node.ends_with_alpha_num(),
+            StmtPart::Function(_) | StmtPart::Class(_) | StmtPart::BlockStmt(_) => false,
+            StmtPart::Decl(_) | StmtPart::ModuleItem(_) => false,
+            StmtPart::ModuleDecl(_) | StmtPart::ClassMember(_) => false,
+        }
+    }
+}
+
 impl EndsWithAlphaNum for AnyNode {
     ghost ends = { any_ends };
 
     fn ends_with_alpha_num(&self) -> bool {
         match self {
             AnyNode::Expr(node) => node.ends_with_alpha_num(),
-            AnyNode::Pat(node) => node.ends_with_alpha_num(),
-            AnyNode::VarDecl(node) => node.ends_with_alpha_num(),
             AnyNode::MemberExpr(node) => node.ends_with_alpha_num(),
+            AnyNode::ExprPart(node) => node.ends_with_alpha_num(),
+            AnyNode::StmtPart(node) => node.ends_with_alpha_num(),
             _ => false,
         }
     }

@@ -1,15 +1,15 @@
 //! Which nodes begin with a character of a name.
 
 ghost use Rattle.std.specs.Prelude.{◌≡◌, true, false};
-ghost use Rattle.swc_ecma_codegen_util.specs.Starts.{is_word_op, lit_starts, arrow_starts, callee_starts, chain_starts, item_starts, prop_name_starts, expr_starts, pat_starts, simple_target_starts, target_starts, stmt_starts, any_starts};
+ghost use Rattle.swc_ecma_codegen_util.specs.Starts.{any_starts, arrow_starts, callee_starts, chain_starts, expr_part_starts, expr_starts, is_word_op, item_starts, lit_starts, pat_starts, prop_name_starts, simple_target_starts, stmt_part_starts, stmt_starts, target_starts};
 
 use crate::util::StartsWithAlphaNum;
 use swc_ecma_codegen_common::UnaryOp;
 use swc_ecma_codegen_tree::{
     AnyNode, ArrayPat, ArrowExpr, AssignTarget, AssignTargetPat, BindingIdent, Callee, Decl, Expr,
-    ExprOrSpread, Ident, Invalid, Lit, MemberExpr, ObjectPat, OptCall, OptChainBase, OptChainExpr,
-    ParenExpr, Pat, PropName, SimpleAssignTarget, Stmt, SuperPropExpr, TsAsExpr, TsInstantiation,
-    TsNonNullExpr, TsSatisfiesExpr, TsTypeAssertion,
+    ExprOrSpread, ExprPart, Ident, Invalid, Lit, MemberExpr, ObjectPat, OptCall, OptChainBase,
+    OptChainExpr, ParenExpr, Pat, PropName, SimpleAssignTarget, Stmt, StmtPart, SuperPropExpr,
+    TsAsExpr, TsInstantiation, TsNonNullExpr, TsSatisfiesExpr, TsTypeAssertion,
 };
 
 #[tactic(auto, unfolding(crate::specs::Starts::is_word_op))]
@@ -322,6 +322,35 @@ impl<N: StartsWithAlphaNum> StartsWithAlphaNum for Stmt<N> {
     }
 }
 
+impl<N: StartsWithAlphaNum> StartsWithAlphaNum for ExprPart<N> {
+    ghost starts = { expr_part_starts N.starts };
+
+    #[tactic(auto, unfolding(crate::specs::Starts::expr_part_starts))]
+    fn starts_with_alpha_num(&self) -> bool {
+        match self {
+            ExprPart::Pat(node) => node.starts_with_alpha_num(),
+            ExprPart::PropName(node) => node.starts_with_alpha_num(),
+            ExprPart::OptCall(node) => node.starts_with_alpha_num(),
+            ExprPart::AssignTarget(node) => node.starts_with_alpha_num(),
+            ExprPart::Tpl(_) | ExprPart::ObjectLit(_) | ExprPart::Prop(_) => false,
+        }
+    }
+}
+
+impl<N: StartsWithAlphaNum> StartsWithAlphaNum for StmtPart<N> {
+    ghost starts = { stmt_part_starts };
+
+    #[tactic(auto, unfolding(crate::specs::Starts::stmt_part_starts))]
+    fn starts_with_alpha_num(&self) -> bool {
+        match self {
+            StmtPart::Decl(node) => node.starts_with_alpha_num(),
+            StmtPart::Function(_) | StmtPart::Class(_) | StmtPart::BlockStmt(_) => false,
+            StmtPart::ModuleItem(_) | StmtPart::ModuleDecl(_) => false,
+            StmtPart::VarDecl(_) | StmtPart::ClassMember(_) => false,
+        }
+    }
+}
+
 impl StartsWithAlphaNum for AnyNode {
     ghost starts = { any_starts };
 
@@ -329,12 +358,9 @@ impl StartsWithAlphaNum for AnyNode {
         match self {
             AnyNode::Expr(node) => node.starts_with_alpha_num(),
             AnyNode::Stmt(node) => node.starts_with_alpha_num(),
-            AnyNode::Pat(node) => node.starts_with_alpha_num(),
-            AnyNode::Decl(node) => node.starts_with_alpha_num(),
-            AnyNode::PropName(node) => node.starts_with_alpha_num(),
             AnyNode::MemberExpr(node) => node.starts_with_alpha_num(),
-            AnyNode::OptCall(node) => node.starts_with_alpha_num(),
-            AnyNode::AssignTarget(node) => node.starts_with_alpha_num(),
+            AnyNode::ExprPart(node) => node.starts_with_alpha_num(),
+            AnyNode::StmtPart(node) => node.starts_with_alpha_num(),
             _ => false,
         }
     }

@@ -1,9 +1,8 @@
 use Rattle.std.proofs.Common.{refl}
 use Rattle.swc_ecma_codegen_text_writer.specs.Sheet.{Commit}
-use Rattle.swc_ecma_codegen_base.specs.Last.{last_at}
 use Rattle.swc_ecma_codegen_base.specs.Run.{after_plain}
 use Rattle.swc_ecma_codegen_base.specs.Words.{commit_pending_semi}
-use Rattle.swc_ecma_codegen_base.proofs.Calls.{called_plain, level, is_level}
+use Rattle.swc_ecma_codegen_base.proofs.Calls.{called_kept, level, is_level}
 use Rattle.swc_ecma_codegen_base.proofs.Emitting.{emits_failed}
 use Rattle.swc_ecma_codegen_base.proofs.LowerEmitter.commit_pending_semi.Goals as goal
 
@@ -11,9 +10,9 @@ pub returns-then-self-clause-items : goal.returns-then-self-clause-items
 returns-then-self-clause-items g c = λ rest. emits_failed _ _ c.if-self.true
 
 pub returns-clause-items : goal.returns-clause-items
-unfolding last_at after_plain commit_pending_semi
-returns-clause-items g c = called_plain (Commit) _ _ _ _ _ _ _ _ c.if-self.false c.commit_pending_semi-answer.ensures c.settle.ensures.ok c.settle.ensures.err c.settle.ensures.same refl
+unfolding after_plain commit_pending_semi
+returns-clause-items g c = called_kept (Commit) _ c.args.self.now c.keep.new.self _ _ _ _ c.if-self.false c.commit_pending_semi-answer.ensures c.keep.ensures.token c.keep.ensures.ok c.keep.ensures.err c.keep.ensures.same refl
 
 pub returns-clause-level : goal.returns-clause-level
 unfolding is_level
-returns-clause-level g c = level _ _ _ _ _ c.commit_pending_semi-answer.ensures c.settle.ensures.same refl
+returns-clause-level g c = level _ _ _ _ _ c.commit_pending_semi-answer.ensures c.keep.ensures.same refl

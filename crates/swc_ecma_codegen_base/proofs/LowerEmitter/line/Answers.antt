@@ -12,7 +12,7 @@ returns-then-self-clause-items g c = λ rest. emits_failed _ _ c.if-self.true
 
 pub returns-clause-items : goal.returns-clause-items
 unfolding last_at after_plain line_end
-returns-clause-items g c = called_plain (Line) _ _ _ _ _ _ _ _ c.if-self.false c.write_line-answer.ensures c.settle.ensures.ok c.settle.ensures.err c.settle.ensures.same refl
+returns-clause-items g c = called_plain (Line) _ c.args.self.now c.settle.new.self _ _ _ _ _ c.if-self.false c.write_line-answer.ensures c.settle.ensures.ok c.settle.ensures.err c.settle.ensures.same refl
 
 pub returns-clause-level : goal.returns-clause-level
 unfolding is_level

@@ -9,7 +9,7 @@ use Rattle.swc_ecma_codegen_base.proofs.LowerEmitter.put_keyword.Goals as goal
 
 pub returns-clause-items : goal.returns-clause-items
 unfolding last_at after_token last_after text_of
-returns-clause-items g c = called Word (Keyword c.args.span c.args.text.now) _ _ _ _ _ _ _ _ c.requires c.write_keyword-answer.ensures c.settle.ensures.ok c.settle.ensures.err c.settle.ensures.same refl
+returns-clause-items g c = called Word (Keyword c.args.span c.args.text.now) _ c.args.self.now c.settle.new.self _ _ _ _ _ c.requires c.write_keyword-answer.ensures c.settle.ensures.ok c.settle.ensures.err c.settle.ensures.same refl
 
 pub returns-clause-level : goal.returns-clause-level
 unfolding is_level

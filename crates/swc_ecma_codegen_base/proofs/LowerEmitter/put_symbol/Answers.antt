@@ -10,7 +10,7 @@ use Rattle.swc_ecma_codegen_base.proofs.LowerEmitter.put_symbol.Goals as goal
 
 pub returns-clause-items : goal.returns-clause-items
 unfolding last_at after_token last_after text_of
-returns-clause-items g c = called Name (Symbol dummy_span c.args.text.now) _ _ _ _ _ _ _ _ c.requires c.write_symbol-answer.ensures c.settle.ensures.ok c.settle.ensures.err c.settle.ensures.same refl
+returns-clause-items g c = called Name (Symbol dummy_span c.args.text.now) _ c.args.self.now c.settle.new.self _ _ _ _ _ c.requires c.write_symbol-answer.ensures c.settle.ensures.ok c.settle.ensures.err c.settle.ensures.same refl
 
 pub returns-clause-level : goal.returns-clause-level
 unfolding is_level

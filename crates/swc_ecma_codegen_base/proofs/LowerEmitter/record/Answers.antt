@@ -1,8 +1,7 @@
 use Rattle.std.proofs.Common.{refl}
 use Rattle.swc_ecma_codegen_text_writer.specs.Sheet.{Position}
-use Rattle.swc_ecma_codegen_base.specs.Last.{last_at}
 use Rattle.swc_ecma_codegen_base.specs.Run.{after_plain}
-use Rattle.swc_ecma_codegen_base.proofs.Calls.{called_plain, level, is_level}
+use Rattle.swc_ecma_codegen_base.proofs.Calls.{called_kept, level, is_level}
 use Rattle.swc_ecma_codegen_base.proofs.Emitting.{emits_failed}
 use Rattle.swc_ecma_codegen_base.proofs.LowerEmitter.record.Goals as goal
 
@@ -10,9 +9,9 @@ pub returns-then-self-clause-items : goal.returns-then-self-clause-items
 returns-then-self-clause-items g c = λ rest. emits_failed _ _ c.if-self.true
 
 pub returns-clause-items : goal.returns-clause-items
-unfolding last_at after_plain
-returns-clause-items g c = called_plain (Position c.args.pos) _ _ _ _ _ _ _ _ c.if-self.false c.add_srcmap-answer.ensures c.settle.ensures.ok c.settle.ensures.err c.settle.ensures.same refl
+unfolding after_plain
+returns-clause-items g c = called_kept (Position c.args.pos) _ c.args.self.now c.keep.new.self _ _ _ _ c.if-self.false c.add_srcmap-answer.ensures c.keep.ensures.token c.keep.ensures.ok c.keep.ensures.err c.keep.ensures.same refl
 
 pub returns-clause-level : goal.returns-clause-level
 unfolding is_level
-returns-clause-level g c = level _ _ _ _ _ c.add_srcmap-answer.ensures c.settle.ensures.same refl
+returns-clause-level g c = level _ _ _ _ _ c.add_srcmap-answer.ensures c.keep.ensures.same refl

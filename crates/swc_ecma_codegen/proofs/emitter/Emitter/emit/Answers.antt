@@ -1,19 +1,33 @@
-use Rattle.std.proofs.Common.{Ok, Err, ◌∙◌, sym}
-use Rattle.swc_ecma_codegen_common.specs.declared.errors.Error.TheVariants.{Failed}
-use Rattle.swc_ecma_codegen_base.specs.Run.{nothing}
-use Rattle.swc_ecma_codegen_base.proofs.Emitting.{emits_nothing}
-use Rattle.swc_ecma_codegen_base.proofs.Fronts.{follows_front, follows_marked, follows_failed, on_err}
+use Rattle.std.proofs.Common.{Err, ◌∙◌, sym, ◌≡◌, true}
+use Rattle.swc_ecma_codegen_common.specs.declared.errors.Refusal.TheVariants.{Failed}
+use Rattle.swc_ecma_codegen_base.specs.Run.{State, HasCause, nothing, steps_in}
+use Rattle.swc_ecma_codegen_base.proofs.Fronts.{follows_failed, follows_front, follows_marked, follows_cause, follows_succeeds}
+use Rattle.swc_ecma_codegen_base.proofs.Short.{emits_at_length, on_err_in_short, if_err_in_short, is_ok_in_short}
+use Rattle.swc_ecma_codegen.specs.View.{state_of}
 use Rattle.swc_ecma_codegen.specs.declared.nodes.Place.TheVariants.{Plain}
 use Rattle.swc_ecma_codegen.proofs.emitter.Emitter.emit.Goals as goal
 
 pub returns-then-is_failed-clause-front : goal.returns-then-is_failed-clause-front
 returns-then-is_failed-clause-front g c = follows_front (g.T.EmitAt.items c.args.node.now Plain nothing) _ _ (Err Failed) (follows_failed _ _ (sym c.is_failed.ensures ∙ c.if-is_failed.true))
 
-pub returns-in_err-emit_at-clause-front : goal.returns-in_err-emit_at-clause-front
-returns-in_err-emit_at-clause-front g c = follows_front (g.T.EmitAt.items c.args.node.now Plain nothing) _ _ _ (c.in_err-emit_at.ensures.items nothing)
+pub returns-then-is_failed-clause-cause : goal.returns-then-is_failed-clause-cause
+returns-then-is_failed-clause-cause g c = follows_cause (g.T.EmitAt.items c.args.node.now Plain nothing) _ _ (Err Failed) (follows_failed _ _ (sym c.is_failed.ensures ∙ c.if-is_failed.true))
 
-pub returns-in_err-emit_at-clause-marked : goal.returns-in_err-emit_at-clause-marked
-returns-in_err-emit_at-clause-marked g c = on_err _ (follows_marked (g.T.EmitAt.items c.args.node.now Plain nothing) _ _ _ (c.in_err-emit_at.ensures.items nothing))
+pub returns-clause-items : goal.returns-clause-items
+returns-clause-items g c = emits_at_length (g.T.EmitAt.items c.args.node.now Plain) _ _ _ _ _ c.emit_at-answer.ensures.items c.answer.ensures.answer c.answer.ensures.state
 
 pub returns-clause-front : goal.returns-clause-front
-returns-clause-front g c = follows_front (g.T.EmitAt.items c.args.node.now Plain nothing) _ _ _ (c.in_ok-emit_at.ensures.items nothing _ (Ok tt) (emits_nothing _))
+returns-clause-front g c = follows_front (g.T.EmitAt.items c.args.node.now Plain nothing) _ _ _ (returns-clause-items g c)
+
+pub returns-clause-cause : goal.returns-clause-cause
+returns-clause-cause g c =
+    let part = g.T.EmitAt.items c.args.node.now Plain in
+    let a : State = state_of g.W.WriteJs.sheet c.args.self.now in
+    let b : State = state_of g.W.WriteJs.sheet c.answer.new.self in
+    if_err_in_short (λ e. HasCause (steps_in part a) e a b) _ (follows_cause (part nothing) _ _ _ (returns-clause-items g c))
+
+pub returns-clause-succeeds : goal.returns-clause-succeeds
+returns-clause-succeeds g c = λ h. is_ok_in_short _ (follows_succeeds (g.T.EmitAt.items c.args.node.now Plain nothing) _ _ _ (returns-clause-items g c) h)
+
+pub returns-clause-marked : goal.returns-clause-marked
+returns-clause-marked g c = on_err_in_short ((state_of g.W.WriteJs.sheet c.answer.new.self).failed ≡ true) c.answer.result (follows_marked (g.T.EmitAt.items c.args.node.now Plain nothing) _ _ _ (returns-clause-items g c))

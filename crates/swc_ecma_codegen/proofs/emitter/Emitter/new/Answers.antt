@@ -7,6 +7,6 @@ returns-clause-state g c = λ i.
     record {
       env = record { config = c.args.cfg; keeps_invalid = (g.W.WriteJs.sheet c.args.wr).keeps_invalid };
       sheet = g.W.WriteJs.sheet c.args.wr;
-      last = last_at (c.new.ensures.last i);
+      last = last_at (c.new.ensures.token i);
       failed = c.new.ensures.failed i;
     }

@@ -1,0 +1,118 @@
+//! How `JSXPart` holds its sorts.
+
+ghost use Rattle.swc_ecma_codegen_tree.specs.Held.{jsx_element_child_in, jsx_attr_value_in, jsx_element_in, jsx_fragment_in, jsx_object_in};
+
+use crate::holds::Holds;
+use crate::jsx::{JSXAttrValue, JSXElement, JSXElementChild, JSXFragment, JSXObject};
+use crate::parts::JSXPart;
+use std::alloc::{AllocError, Global};
+
+impl<N: Drop> Holds<JSXElementChild<N>> for JSXPart<N> {
+    ghost node_in = { jsx_element_child_in };
+
+    fn hold(_: Global, node: JSXElementChild<N>) -> Result<JSXPart<N>, AllocError> {
+        Ok(JSXPart::JSXElementChild(node))
+    }
+
+    fn node(&self) -> Option<&JSXElementChild<N>> {
+        match self {
+            JSXPart::JSXElementChild(node) => Some(node),
+            _ => None,
+        }
+    }
+
+    fn into_node(self) -> Result<JSXElementChild<N>, JSXPart<N>> {
+        match self {
+            JSXPart::JSXElementChild(node) => Ok(node),
+            other => Err(other),
+        }
+    }
+}
+
+impl<N: Drop> Holds<JSXAttrValue<N>> for JSXPart<N> {
+    ghost node_in = { jsx_attr_value_in };
+
+    fn hold(alloc: Global, node: JSXAttrValue<N>) -> Result<JSXPart<N>, AllocError> {
+        Ok(JSXPart::JSXAttrValue(Box::new(alloc, node)?))
+    }
+
+    fn node(&self) -> Option<&JSXAttrValue<N>> {
+        match self {
+            JSXPart::JSXAttrValue(node) => Some(node),
+            _ => None,
+        }
+    }
+
+    fn into_node(self) -> Result<JSXAttrValue<N>, JSXPart<N>> {
+        match self {
+            JSXPart::JSXAttrValue(node) => Ok(Box::into_inner(node)),
+            other => Err(other),
+        }
+    }
+}
+
+impl<N: Drop> Holds<JSXElement<N>> for JSXPart<N> {
+    ghost node_in = { jsx_element_in };
+
+    fn hold(alloc: Global, node: JSXElement<N>) -> Result<JSXPart<N>, AllocError> {
+        Ok(JSXPart::JSXElement(Box::new(alloc, node)?))
+    }
+
+    fn node(&self) -> Option<&JSXElement<N>> {
+        match self {
+            JSXPart::JSXElement(node) => Some(node),
+            _ => None,
+        }
+    }
+
+    fn into_node(self) -> Result<JSXElement<N>, JSXPart<N>> {
+        match self {
+            JSXPart::JSXElement(node) => Ok(Box::into_inner(node)),
+            other => Err(other),
+        }
+    }
+}
+
+impl<N: Drop> Holds<JSXFragment<N>> for JSXPart<N> {
+    ghost node_in = { jsx_fragment_in };
+
+    fn hold(_: Global, node: JSXFragment<N>) -> Result<JSXPart<N>, AllocError> {
+        Ok(JSXPart::JSXFragment(node))
+    }
+
+    fn node(&self) -> Option<&JSXFragment<N>> {
+        match self {
+            JSXPart::JSXFragment(node) => Some(node),
+            _ => None,
+        }
+    }
+
+    fn into_node(self) -> Result<JSXFragment<N>, JSXPart<N>> {
+        match self {
+            JSXPart::JSXFragment(node) => Ok(node),
+            other => Err(other),
+        }
+    }
+}
+
+impl<N: Drop> Holds<JSXObject<N>> for JSXPart<N> {
+    ghost node_in = { jsx_object_in };
+
+    fn hold(_: Global, node: JSXObject<N>) -> Result<JSXPart<N>, AllocError> {
+        Ok(JSXPart::JSXObject(node))
+    }
+
+    fn node(&self) -> Option<&JSXObject<N>> {
+        match self {
+            JSXPart::JSXObject(node) => Some(node),
+            _ => None,
+        }
+    }
+
+    fn into_node(self) -> Result<JSXObject<N>, JSXPart<N>> {
+        match self {
+            JSXPart::JSXObject(node) => Ok(node),
+            other => Err(other),
+        }
+    }
+}

@@ -1,0 +1,65 @@
+//! What links hold besides expressions and statements, by area.
+//!
+//! A node that is larger than an expression is in a box of its own, so that no link takes more room than that.
+
+use crate::classes::{Class, ClassMember};
+use crate::decls::{Decl, Function, VarDecl};
+use crate::exprs::{ObjectLit, OptCall, Prop, PropName, Tpl};
+use crate::jsx::{JSXAttrValue, JSXElement, JSXElementChild, JSXFragment, JSXObject};
+use crate::links::AnyNode;
+use crate::pats::{AssignTarget, Pat};
+use crate::programs::{ModuleDecl, ModuleItem};
+use crate::stmts::BlockStmt;
+use crate::ts_decls::TsNamespaceBody;
+use crate::ts_members::TsTypeElement;
+use crate::ts_types::{
+    TsEntityName, TsFnParam, TsType, TsTypeAnn, TsTypeParamDecl, TsTypeParamInstantiation,
+};
+
+/// A part of an expression or a pattern that a link can hold.
+#[derive(Drop)]
+pub enum ExprPart<N = AnyNode> {
+    Pat(Pat<N>),
+    Tpl(Tpl<N>),
+    ObjectLit(ObjectLit<N>),
+    PropName(PropName<N>),
+    Prop(Prop<N>),
+    OptCall(OptCall<N>),
+    AssignTarget(AssignTarget<N>),
+}
+
+/// A part of a statement, a declaration, a class or a module that a link can hold.
+#[derive(Drop)]
+pub enum StmtPart<N = AnyNode> {
+    Function(Box<Function<N>>),
+    Class(Box<Class<N>>),
+    BlockStmt(BlockStmt<N>),
+    Decl(Box<Decl<N>>),
+    ModuleItem(ModuleItem<N>),
+    ModuleDecl(Box<ModuleDecl<N>>),
+    VarDecl(VarDecl<N>),
+    ClassMember(Box<ClassMember<N>>),
+}
+
+/// A part of JSX that a link can hold.
+#[derive(Drop)]
+pub enum JSXPart<N = AnyNode> {
+    JSXElementChild(JSXElementChild<N>),
+    JSXAttrValue(Box<JSXAttrValue<N>>),
+    JSXElement(Box<JSXElement<N>>),
+    JSXFragment(JSXFragment<N>),
+    JSXObject(JSXObject<N>),
+}
+
+/// A part of TypeScript that a link can hold.
+#[derive(Drop)]
+pub enum TsPart<N = AnyNode> {
+    TsType(Box<TsType<N>>),
+    TsNamespaceBody(TsNamespaceBody<N>),
+    TsTypeAnn(TsTypeAnn<N>),
+    TsTypeParamDecl(TsTypeParamDecl<N>),
+    TsTypeParamInstantiation(TsTypeParamInstantiation<N>),
+    TsFnParam(TsFnParam<N>),
+    TsTypeElement(TsTypeElement<N>),
+    TsEntityName(TsEntityName<N>),
+}

@@ -1,0 +1,187 @@
+//! How `StmtPart` holds its sorts.
+
+ghost use Rattle.swc_ecma_codegen_tree.specs.Held.{function_in, class_in, block_stmt_in, decl_in, module_item_in, module_decl_in, var_decl_in, class_member_in};
+
+use crate::classes::{Class, ClassMember};
+use crate::decls::{Decl, Function, VarDecl};
+use crate::holds::Holds;
+use crate::parts::StmtPart;
+use crate::programs::{ModuleDecl, ModuleItem};
+use crate::stmts::BlockStmt;
+use std::alloc::{AllocError, Global};
+
+impl<N: Drop> Holds<Function<N>> for StmtPart<N> {
+    ghost node_in = { function_in };
+
+    fn hold(alloc: Global, node: Function<N>) -> Result<StmtPart<N>, AllocError> {
+        Ok(StmtPart::Function(Box::new(alloc, node)?))
+    }
+
+    fn node(&self) -> Option<&Function<N>> {
+        match self {
+            StmtPart::Function(node) => Some(node),
+            _ => None,
+        }
+    }
+
+    fn into_node(self) -> Result<Function<N>, StmtPart<N>> {
+        match self {
+            StmtPart::Function(node) => Ok(Box::into_inner(node)),
+            other => Err(other),
+        }
+    }
+}
+
+impl<N: Drop> Holds<Class<N>> for StmtPart<N> {
+    ghost node_in = { class_in };
+
+    fn hold(alloc: Global, node: Class<N>) -> Result<StmtPart<N>, AllocError> {
+        Ok(StmtPart::Class(Box::new(alloc, node)?))
+    }
+
+    fn node(&self) -> Option<&Class<N>> {
+        match self {
+            StmtPart::Class(node) => Some(node),
+            _ => None,
+        }
+    }
+
+    fn into_node(self) -> Result<Class<N>, StmtPart<N>> {
+        match self {
+            StmtPart::Class(node) => Ok(Box::into_inner(node)),
+            other => Err(other),
+        }
+    }
+}
+
+impl<N: Drop> Holds<BlockStmt<N>> for StmtPart<N> {
+    ghost node_in = { block_stmt_in };
+
+    fn hold(_: Global, node: BlockStmt<N>) -> Result<StmtPart<N>, AllocError> {
+        Ok(StmtPart::BlockStmt(node))
+    }
+
+    fn node(&self) -> Option<&BlockStmt<N>> {
+        match self {
+            StmtPart::BlockStmt(node) => Some(node),
+            _ => None,
+        }
+    }
+
+    fn into_node(self) -> Result<BlockStmt<N>, StmtPart<N>> {
+        match self {
+            StmtPart::BlockStmt(node) => Ok(node),
+            other => Err(other),
+        }
+    }
+}
+
+impl<N: Drop> Holds<Decl<N>> for StmtPart<N> {
+    ghost node_in = { decl_in };
+
+    fn hold(alloc: Global, node: Decl<N>) -> Result<StmtPart<N>, AllocError> {
+        Ok(StmtPart::Decl(Box::new(alloc, node)?))
+    }
+
+    fn node(&self) -> Option<&Decl<N>> {
+        match self {
+            StmtPart::Decl(node) => Some(node),
+            _ => None,
+        }
+    }
+
+    fn into_node(self) -> Result<Decl<N>, StmtPart<N>> {
+        match self {
+            StmtPart::Decl(node) => Ok(Box::into_inner(node)),
+            other => Err(other),
+        }
+    }
+}
+
+impl<N: Drop> Holds<ModuleItem<N>> for StmtPart<N> {
+    ghost node_in = { module_item_in };
+
+    fn hold(_: Global, node: ModuleItem<N>) -> Result<StmtPart<N>, AllocError> {
+        Ok(StmtPart::ModuleItem(node))
+    }
+
+    fn node(&self) -> Option<&ModuleItem<N>> {
+        match self {
+            StmtPart::ModuleItem(node) => Some(node),
+            _ => None,
+        }
+    }
+
+    fn into_node(self) -> Result<ModuleItem<N>, StmtPart<N>> {
+        match self {
+            StmtPart::ModuleItem(node) => Ok(node),
+            other => Err(other),
+        }
+    }
+}
+
+impl<N: Drop> Holds<ModuleDecl<N>> for StmtPart<N> {
+    ghost node_in = { module_decl_in };
+
+    fn hold(alloc: Global, node: ModuleDecl<N>) -> Result<StmtPart<N>, AllocError> {
+        Ok(StmtPart::ModuleDecl(Box::new(alloc, node)?))
+    }
+
+    fn node(&self) -> Option<&ModuleDecl<N>> {
+        match self {
+            StmtPart::ModuleDecl(node) => Some(node),
+            _ => None,
+        }
+    }
+
+    fn into_node(self) -> Result<ModuleDecl<N>, StmtPart<N>> {
+        match self {
+            StmtPart::ModuleDecl(node) => Ok(Box::into_inner(node)),
+            other => Err(other),
+        }
+    }
+}
+
+impl<N: Drop> Holds<VarDecl<N>> for StmtPart<N> {
+    ghost node_in = { var_decl_in };
+
+    fn hold(_: Global, node: VarDecl<N>) -> Result<StmtPart<N>, AllocError> {
+        Ok(StmtPart::VarDecl(node))
+    }
+
+    fn node(&self) -> Option<&VarDecl<N>> {
+        match self {
+            StmtPart::VarDecl(node) => Some(node),
+            _ => None,
+        }
+    }
+
+    fn into_node(self) -> Result<VarDecl<N>, StmtPart<N>> {
+        match self {
+            StmtPart::VarDecl(node) => Ok(node),
+            other => Err(other),
+        }
+    }
+}
+
+impl<N: Drop> Holds<ClassMember<N>> for StmtPart<N> {
+    ghost node_in = { class_member_in };
+
+    fn hold(alloc: Global, node: ClassMember<N>) -> Result<StmtPart<N>, AllocError> {
+        Ok(StmtPart::ClassMember(Box::new(alloc, node)?))
+    }
+
+    fn node(&self) -> Option<&ClassMember<N>> {
+        match self {
+            StmtPart::ClassMember(node) => Some(node),
+            _ => None,
+        }
+    }
+
+    fn into_node(self) -> Result<ClassMember<N>, StmtPart<N>> {
+        match self {
+            StmtPart::ClassMember(node) => Ok(Box::into_inner(node)),
+            other => Err(other),
+        }
+    }
+}
