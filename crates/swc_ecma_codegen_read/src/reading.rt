@@ -1,0 +1,168 @@
+//! What can be read: first its parts, and then it is made of them.
+
+use crate::source::{Failed, Fault, Source};
+use serde::Name;
+
+/// The sorts of nodes that links hold.
+#[derive(Debug, Clone, Copy, PartialEq, Eq)]
+pub enum Sort {
+    Expr,
+    Stmt,
+    Pat,
+    TsType,
+    JSXElementChild,
+    JSXAttrValue,
+    TsNamespaceBody,
+    TsTypeAnn,
+    TsTypeParamDecl,
+    TsTypeParamInstantiation,
+    Function,
+    Class,
+    Tpl,
+    BlockStmt,
+    Decl,
+    ModuleItem,
+    ModuleDecl,
+    ObjectLit,
+    PropName,
+    VarDecl,
+    TsFnParam,
+    ClassMember,
+    JSXElement,
+    JSXFragment,
+    TsTypeElement,
+    Prop,
+    MemberExpr,
+    OptCall,
+    AssignTarget,
+    TsEntityName,
+    JSXObject,
+}
+
+/// Makes what a link holds.
+pub trait Make<N: Drop> {
+    fn make<S: Source>(&self, sort: Sort, source: &mut S) -> Result<N, Failed>;
+}
+
+/// What can be read, by the readers of the area `A`. What a link holds is made by `make`.
+pub trait ReadFrom<A, N: Drop>: Sized + Drop {
+    /// What is read of it before it is made.
+    type Parts: Parts<A, N>;
+
+    /// The names of its members, or of its variants.
+    fn names() -> &'static [Name<'static>] {
+        &[]
+    }
+
+    /// What these parts make. Of some types it reads the rest.
+    fn of<S: Source, M: Make<N>>(
+        parts: Self::Parts,
+        source: &mut S,
+        make: &M,
+    ) -> Result<Self, Failed>;
+
+    final fn read_from<S: Source, M: Make<N>>(source: &mut S, make: &M) -> Result<Self, Failed> {
+        let parts = Self::Parts::begin(Self::names(), source, make)?;
+        let value = Self::of(parts, source, make)?;
+        Self::Parts::end(source)?;
+        Ok(value)
+    }
+}
+
+/// What is read of a value before it is made.
+pub trait Parts<A, N: Drop>: Sized {
+    fn begin<S: Source, M: Make<N>>(
+        names: &[Name<'_>],
+        source: &mut S,
+        make: &M,
+    ) -> Result<Self, Failed>;
+
+    /// What has to come after the value.
+    fn end<S: Source>(source: &mut S) -> Result<(), Failed>;
+}
+
+/// Nothing: a value reads itself.
+#[derive(Debug, Clone, Copy, PartialEq, Eq)]
+pub struct Whole;
+
+impl<A, N: Drop> Parts<A, N> for Whole {
+    #[inline(always)]
+    fn begin<S: Source, M: Make<N>>(
+        _names: &[Name<'_>],
+        _source: &mut S,
+        _make: &M,
+    ) -> Result<Whole, Failed> {
+        Ok(Whole)
+    }
+
+    #[inline(always)]
+    fn end<S: Source>(_source: &mut S) -> Result<(), Failed> {
+        Ok(())
+    }
+}
+
+/// The place of a word among the names of variants that hold nothing, or past them.
+#[derive(Debug, Clone, Copy, PartialEq, Eq)]
+pub struct Word(pub usize);
+
+impl<A, N: Drop> Parts<A, N> for Word {
+    #[inline(always)]
+    fn begin<S: Source, M: Make<N>>(
+        names: &[Name<'_>],
+        source: &mut S,
+        _make: &M,
+    ) -> Result<Word, Failed> {
+        Ok(Word(source.word(names)?))
+    }
+
+    #[inline(always)]
+    fn end<S: Source>(_source: &mut S) -> Result<(), Failed> {
+        Ok(())
+    }
+}
+
+/// The place of a variant among their names, or past them: that of the one member of an object.
+#[derive(Debug, Clone, Copy, PartialEq, Eq)]
+pub struct Variant(pub usize);
+
+impl<A, N: Drop> Parts<A, N> for Variant {
+    #[inline(always)]
+    fn begin<S: Source, M: Make<N>>(
+        names: &[Name<'_>],
+        source: &mut S,
+        _make: &M,
+    ) -> Result<Variant, Failed> {
+        source.begin_object()?;
+        match source.next_member(names)? {
+            Some(place) => Ok(Variant(place)),
+            None => Err(source.fail(Fault::Invalid)),
+        }
+    }
+
+    #[inline(always)]
+    fn end<S: Source>(source: &mut S) -> Result<(), Failed> {
+        match source.next_member(&[])? {
+            None => Ok(()),
+            Some(_) => Err(source.fail(Fault::Invalid)),
+        }
+    }
+}
+
+/// What the readers of an area read.
+#[inline(always)]
+pub fn read<A, N: Drop, T: ReadFrom<A, N>, S: Source, M: Make<N>>(
+    source: &mut S,
+    make: &M,
+) -> Result<T, Failed> {
+    T::read_from(source, make)
+}
+
+/// The members of an object that stands in place in others, of which the check follows one in another and no further.
+#[inline(always)]
+pub fn members<A, N: Drop, V: Parts<A, N>, S: Source, M: Make<N>>(
+    names: &[Name<'_>],
+    source: &mut S,
+    make: &M,
+) -> Result<V, Failed> {
+    V::begin(names, source, make)
+}
