@@ -155,7 +155,7 @@ impl<A, N: Drop, V: Wanted<A, N> + Drop, W: Wanted<A, N>> Wanted<A, N> for Both<
 
 /// The members of an object, in any order. What isn't wanted is passed over.
 #[inline(always)]
-fn wanted<A, N: Drop, P: Wanted<A, N>, S: Source, M: Make<N>>(
+fn gathered<A, N: Drop, P: Wanted<A, N>, S: Source, M: Make<N>>(
     names: &[Name<'_>],
     source: &mut S,
     make: &M,
@@ -182,7 +182,7 @@ impl<A, N: Drop, T: ReadFrom<A, N>, R: Wanted<A, N>> Parts<A, N> for (T, R) {
         source: &mut S,
         make: &M,
     ) -> Result<(T, R), Failed> {
-        wanted::<A, N, (T, R), S, M>(names, source, make)
+        gathered::<A, N, (T, R), S, M>(names, source, make)
     }
 
     #[inline(always)]
@@ -198,7 +198,7 @@ impl<A, N: Drop, V: Wanted<A, N> + Drop, W: Wanted<A, N>> Parts<A, N> for Both<V
         source: &mut S,
         make: &M,
     ) -> Result<Both<V, W>, Failed> {
-        wanted::<A, N, Both<V, W>, S, M>(names, source, make)
+        gathered::<A, N, Both<V, W>, S, M>(names, source, make)
     }
 
     #[inline(always)]
