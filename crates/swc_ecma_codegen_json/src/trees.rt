@@ -3,8 +3,8 @@
 use crate::levels::all_levels;
 use serde::{Deserialize, DeserializeOwned, Deserializer, Format};
 use std::alloc::Global;
-use swc_ecma_codegen_read::{Input, read};
-use swc_ecma_codegen_read_stmt::StmtReaders;
+use swc_ecma_codegen_read::Input;
+use swc_ecma_codegen_read_stmt::read_program;
 use swc_ecma_codegen_tree::Program;
 
 /// A program that serde reads, in any of its formats: `let tree: Tree = serde_json::from_slice(alloc, bytes)?`.
@@ -20,7 +20,7 @@ impl DeserializeOwned for Tree {
             return Err(from.no_memory());
         };
         let mut input = Input::new(alloc, from);
-        match read::<StmtReaders, _, _, _, _>(&mut input, &levels) {
+        match read_program(&mut input, &levels) {
             Ok(program) => Ok(Tree(program)),
             Err(_) => Err(input.error()),
         }

@@ -23,5 +23,8 @@ mod values;
 
 pub use crate::input::Input;
 pub use crate::objects::{Both, Wanted};
-pub use crate::reading::{Make, Parts, ReadFrom, Sort, Variant, Whole, Word, members, read};
+pub use crate::reading::{
+    ExprSort, JsxSort, Make, Parts, ReadFrom, Sort, StmtSort, TsSort, Variant, Whole, Word, held,
+    held_in_part, members, read,
+};
 pub use crate::source::{Failed, Fault, Source};

@@ -1,6 +1,6 @@
 //! Links. What one holds is made by `make`.
 
-use crate::reading::{Make, ReadFrom, Sort, Whole};
+use crate::reading::{ExprSort, JsxSort, Make, ReadFrom, Sort, StmtSort, TsSort, Whole};
 use crate::source::{Failed, Fault, Source};
 use swc_ecma_codegen_tree::{
     AssignTargetBox, BlockStmtBox, ClassBox, ClassMemberBox, DeclBox, ExprBox, FunctionBox,
@@ -12,8 +12,8 @@ use swc_ecma_codegen_tree::{
 
 /// A link, to a node of a sort.
 macro_rules! linked {
-    ($source:ident, $make:ident => $link:ident: $sort:ident) => {{
-        let node = $make.make(Sort::$sort, $source)?;
+    ($source:ident, $make:ident => $link:ident: $sort:expr) => {{
+        let node = $make.make($sort, $source)?;
         match $link::holding($source.alloc(), node) {
             Ok(link) => Ok(link),
             Err(_) => Err($source.fail(Fault::NoMemory)),
@@ -30,7 +30,7 @@ impl<A, N: Drop> ReadFrom<A, N> for ExprBox<N> {
         source: &mut S,
         make: &M,
     ) -> Result<ExprBox<N>, Failed> {
-        linked!(source, make => ExprBox: Expr)
+        linked!(source, make => ExprBox: Sort::Expr(ExprSort::Expr))
     }
 }
 
@@ -43,7 +43,7 @@ impl<A, N: Drop> ReadFrom<A, N> for StmtBox<N> {
         source: &mut S,
         make: &M,
     ) -> Result<StmtBox<N>, Failed> {
-        linked!(source, make => StmtBox: Stmt)
+        linked!(source, make => StmtBox: Sort::Stmt(StmtSort::Stmt))
     }
 }
 
@@ -56,7 +56,7 @@ impl<A, N: Drop> ReadFrom<A, N> for PatBox<N> {
         source: &mut S,
         make: &M,
     ) -> Result<PatBox<N>, Failed> {
-        linked!(source, make => PatBox: Pat)
+        linked!(source, make => PatBox: Sort::Expr(ExprSort::Pat))
     }
 }
 
@@ -69,7 +69,7 @@ impl<A, N: Drop> ReadFrom<A, N> for TsTypeBox<N> {
         source: &mut S,
         make: &M,
     ) -> Result<TsTypeBox<N>, Failed> {
-        linked!(source, make => TsTypeBox: TsType)
+        linked!(source, make => TsTypeBox: Sort::Ts(TsSort::TsType))
     }
 }
 
@@ -82,7 +82,7 @@ impl<A, N: Drop> ReadFrom<A, N> for JSXElementChildBox<N> {
         source: &mut S,
         make: &M,
     ) -> Result<JSXElementChildBox<N>, Failed> {
-        linked!(source, make => JSXElementChildBox: JSXElementChild)
+        linked!(source, make => JSXElementChildBox: Sort::Jsx(JsxSort::JSXElementChild))
     }
 }
 
@@ -95,7 +95,7 @@ impl<A, N: Drop> ReadFrom<A, N> for JSXAttrValueBox<N> {
         source: &mut S,
         make: &M,
     ) -> Result<JSXAttrValueBox<N>, Failed> {
-        linked!(source, make => JSXAttrValueBox: JSXAttrValue)
+        linked!(source, make => JSXAttrValueBox: Sort::Jsx(JsxSort::JSXAttrValue))
     }
 }
 
@@ -108,7 +108,7 @@ impl<A, N: Drop> ReadFrom<A, N> for TsNamespaceBodyBox<N> {
         source: &mut S,
         make: &M,
     ) -> Result<TsNamespaceBodyBox<N>, Failed> {
-        linked!(source, make => TsNamespaceBodyBox: TsNamespaceBody)
+        linked!(source, make => TsNamespaceBodyBox: Sort::Ts(TsSort::TsNamespaceBody))
     }
 }
 
@@ -121,7 +121,7 @@ impl<A, N: Drop> ReadFrom<A, N> for TsTypeAnnBox<N> {
         source: &mut S,
         make: &M,
     ) -> Result<TsTypeAnnBox<N>, Failed> {
-        linked!(source, make => TsTypeAnnBox: TsTypeAnn)
+        linked!(source, make => TsTypeAnnBox: Sort::Ts(TsSort::TsTypeAnn))
     }
 }
 
@@ -134,7 +134,7 @@ impl<A, N: Drop> ReadFrom<A, N> for TsTypeParamDeclBox<N> {
         source: &mut S,
         make: &M,
     ) -> Result<TsTypeParamDeclBox<N>, Failed> {
-        linked!(source, make => TsTypeParamDeclBox: TsTypeParamDecl)
+        linked!(source, make => TsTypeParamDeclBox: Sort::Ts(TsSort::TsTypeParamDecl))
     }
 }
 
@@ -147,7 +147,7 @@ impl<A, N: Drop> ReadFrom<A, N> for TsTypeParamInstantiationBox<N> {
         source: &mut S,
         make: &M,
     ) -> Result<TsTypeParamInstantiationBox<N>, Failed> {
-        linked!(source, make => TsTypeParamInstantiationBox: TsTypeParamInstantiation)
+        linked!(source, make => TsTypeParamInstantiationBox: Sort::Ts(TsSort::TsTypeParamInstantiation))
     }
 }
 
@@ -160,7 +160,7 @@ impl<A, N: Drop> ReadFrom<A, N> for FunctionBox<N> {
         source: &mut S,
         make: &M,
     ) -> Result<FunctionBox<N>, Failed> {
-        linked!(source, make => FunctionBox: Function)
+        linked!(source, make => FunctionBox: Sort::Stmt(StmtSort::Function))
     }
 }
 
@@ -173,7 +173,7 @@ impl<A, N: Drop> ReadFrom<A, N> for ClassBox<N> {
         source: &mut S,
         make: &M,
     ) -> Result<ClassBox<N>, Failed> {
-        linked!(source, make => ClassBox: Class)
+        linked!(source, make => ClassBox: Sort::Stmt(StmtSort::Class))
     }
 }
 
@@ -186,7 +186,7 @@ impl<A, N: Drop> ReadFrom<A, N> for TplBox<N> {
         source: &mut S,
         make: &M,
     ) -> Result<TplBox<N>, Failed> {
-        linked!(source, make => TplBox: Tpl)
+        linked!(source, make => TplBox: Sort::Expr(ExprSort::Tpl))
     }
 }
 
@@ -199,7 +199,7 @@ impl<A, N: Drop> ReadFrom<A, N> for BlockStmtBox<N> {
         source: &mut S,
         make: &M,
     ) -> Result<BlockStmtBox<N>, Failed> {
-        linked!(source, make => BlockStmtBox: BlockStmt)
+        linked!(source, make => BlockStmtBox: Sort::Stmt(StmtSort::BlockStmt))
     }
 }
 
@@ -212,7 +212,7 @@ impl<A, N: Drop> ReadFrom<A, N> for DeclBox<N> {
         source: &mut S,
         make: &M,
     ) -> Result<DeclBox<N>, Failed> {
-        linked!(source, make => DeclBox: Decl)
+        linked!(source, make => DeclBox: Sort::Stmt(StmtSort::Decl))
     }
 }
 
@@ -225,7 +225,7 @@ impl<A, N: Drop> ReadFrom<A, N> for ModuleItemBox<N> {
         source: &mut S,
         make: &M,
     ) -> Result<ModuleItemBox<N>, Failed> {
-        linked!(source, make => ModuleItemBox: ModuleItem)
+        linked!(source, make => ModuleItemBox: Sort::Stmt(StmtSort::ModuleItem))
     }
 }
 
@@ -238,7 +238,7 @@ impl<A, N: Drop> ReadFrom<A, N> for ModuleDeclBox<N> {
         source: &mut S,
         make: &M,
     ) -> Result<ModuleDeclBox<N>, Failed> {
-        linked!(source, make => ModuleDeclBox: ModuleDecl)
+        linked!(source, make => ModuleDeclBox: Sort::Stmt(StmtSort::ModuleDecl))
     }
 }
 
@@ -251,7 +251,7 @@ impl<A, N: Drop> ReadFrom<A, N> for ObjectLitBox<N> {
         source: &mut S,
         make: &M,
     ) -> Result<ObjectLitBox<N>, Failed> {
-        linked!(source, make => ObjectLitBox: ObjectLit)
+        linked!(source, make => ObjectLitBox: Sort::Expr(ExprSort::ObjectLit))
     }
 }
 
@@ -264,7 +264,7 @@ impl<A, N: Drop> ReadFrom<A, N> for PropNameBox<N> {
         source: &mut S,
         make: &M,
     ) -> Result<PropNameBox<N>, Failed> {
-        linked!(source, make => PropNameBox: PropName)
+        linked!(source, make => PropNameBox: Sort::Expr(ExprSort::PropName))
     }
 }
 
@@ -277,7 +277,7 @@ impl<A, N: Drop> ReadFrom<A, N> for VarDeclBox<N> {
         source: &mut S,
         make: &M,
     ) -> Result<VarDeclBox<N>, Failed> {
-        linked!(source, make => VarDeclBox: VarDecl)
+        linked!(source, make => VarDeclBox: Sort::Stmt(StmtSort::VarDecl))
     }
 }
 
@@ -290,7 +290,7 @@ impl<A, N: Drop> ReadFrom<A, N> for TsFnParamBox<N> {
         source: &mut S,
         make: &M,
     ) -> Result<TsFnParamBox<N>, Failed> {
-        linked!(source, make => TsFnParamBox: TsFnParam)
+        linked!(source, make => TsFnParamBox: Sort::Ts(TsSort::TsFnParam))
     }
 }
 
@@ -303,7 +303,7 @@ impl<A, N: Drop> ReadFrom<A, N> for ClassMemberBox<N> {
         source: &mut S,
         make: &M,
     ) -> Result<ClassMemberBox<N>, Failed> {
-        linked!(source, make => ClassMemberBox: ClassMember)
+        linked!(source, make => ClassMemberBox: Sort::Stmt(StmtSort::ClassMember))
     }
 }
 
@@ -316,7 +316,7 @@ impl<A, N: Drop> ReadFrom<A, N> for JSXElementBox<N> {
         source: &mut S,
         make: &M,
     ) -> Result<JSXElementBox<N>, Failed> {
-        linked!(source, make => JSXElementBox: JSXElement)
+        linked!(source, make => JSXElementBox: Sort::Jsx(JsxSort::JSXElement))
     }
 }
 
@@ -329,7 +329,7 @@ impl<A, N: Drop> ReadFrom<A, N> for JSXFragmentBox<N> {
         source: &mut S,
         make: &M,
     ) -> Result<JSXFragmentBox<N>, Failed> {
-        linked!(source, make => JSXFragmentBox: JSXFragment)
+        linked!(source, make => JSXFragmentBox: Sort::Jsx(JsxSort::JSXFragment))
     }
 }
 
@@ -342,7 +342,7 @@ impl<A, N: Drop> ReadFrom<A, N> for TsTypeElementBox<N> {
         source: &mut S,
         make: &M,
     ) -> Result<TsTypeElementBox<N>, Failed> {
-        linked!(source, make => TsTypeElementBox: TsTypeElement)
+        linked!(source, make => TsTypeElementBox: Sort::Ts(TsSort::TsTypeElement))
     }
 }
 
@@ -355,7 +355,7 @@ impl<A, N: Drop> ReadFrom<A, N> for PropBox<N> {
         source: &mut S,
         make: &M,
     ) -> Result<PropBox<N>, Failed> {
-        linked!(source, make => PropBox: Prop)
+        linked!(source, make => PropBox: Sort::Expr(ExprSort::Prop))
     }
 }
 
@@ -368,7 +368,7 @@ impl<A, N: Drop> ReadFrom<A, N> for MemberExprBox<N> {
         source: &mut S,
         make: &M,
     ) -> Result<MemberExprBox<N>, Failed> {
-        linked!(source, make => MemberExprBox: MemberExpr)
+        linked!(source, make => MemberExprBox: Sort::Expr(ExprSort::MemberExpr))
     }
 }
 
@@ -381,7 +381,7 @@ impl<A, N: Drop> ReadFrom<A, N> for OptCallBox<N> {
         source: &mut S,
         make: &M,
     ) -> Result<OptCallBox<N>, Failed> {
-        linked!(source, make => OptCallBox: OptCall)
+        linked!(source, make => OptCallBox: Sort::Expr(ExprSort::OptCall))
     }
 }
 
@@ -394,7 +394,7 @@ impl<A, N: Drop> ReadFrom<A, N> for AssignTargetBox<N> {
         source: &mut S,
         make: &M,
     ) -> Result<AssignTargetBox<N>, Failed> {
-        linked!(source, make => AssignTargetBox: AssignTarget)
+        linked!(source, make => AssignTargetBox: Sort::Expr(ExprSort::AssignTarget))
     }
 }
 
@@ -407,7 +407,7 @@ impl<A, N: Drop> ReadFrom<A, N> for TsEntityNameBox<N> {
         source: &mut S,
         make: &M,
     ) -> Result<TsEntityNameBox<N>, Failed> {
-        linked!(source, make => TsEntityNameBox: TsEntityName)
+        linked!(source, make => TsEntityNameBox: Sort::Ts(TsSort::TsEntityName))
     }
 }
 
@@ -420,6 +420,6 @@ impl<A, N: Drop> ReadFrom<A, N> for JSXObjectBox<N> {
         source: &mut S,
         make: &M,
     ) -> Result<JSXObjectBox<N>, Failed> {
-        linked!(source, make => JSXObjectBox: JSXObject)
+        linked!(source, make => JSXObjectBox: Sort::Jsx(JsxSort::JSXObject))
     }
 }

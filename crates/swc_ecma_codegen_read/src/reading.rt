@@ -2,41 +2,66 @@
 
 use crate::source::{Failed, Fault, Source};
 use serde::Name;
+use swc_ecma_codegen_tree::Holds;
 
-/// The sorts of nodes that links hold.
+/// The sorts of nodes that links hold, by area.
 #[derive(Debug, Clone, Copy, PartialEq, Eq)]
 pub enum Sort {
+    Expr(ExprSort),
+    Stmt(StmtSort),
+    Jsx(JsxSort),
+    Ts(TsSort),
+}
+
+/// The sorts of expressions, patterns and their parts.
+#[derive(Debug, Clone, Copy, PartialEq, Eq)]
+pub enum ExprSort {
     Expr,
-    Stmt,
+    MemberExpr,
     Pat,
-    TsType,
-    JSXElementChild,
-    JSXAttrValue,
-    TsNamespaceBody,
-    TsTypeAnn,
-    TsTypeParamDecl,
-    TsTypeParamInstantiation,
+    Tpl,
+    ObjectLit,
+    PropName,
+    Prop,
+    OptCall,
+    AssignTarget,
+}
+
+/// The sorts of statements, declarations, classes and modules.
+#[derive(Debug, Clone, Copy, PartialEq, Eq)]
+pub enum StmtSort {
+    Stmt,
     Function,
     Class,
-    Tpl,
     BlockStmt,
     Decl,
     ModuleItem,
     ModuleDecl,
-    ObjectLit,
-    PropName,
     VarDecl,
-    TsFnParam,
     ClassMember,
+}
+
+/// The sorts of JSX.
+#[derive(Debug, Clone, Copy, PartialEq, Eq)]
+pub enum JsxSort {
+    JSXElementChild,
+    JSXAttrValue,
     JSXElement,
     JSXFragment,
-    TsTypeElement,
-    Prop,
-    MemberExpr,
-    OptCall,
-    AssignTarget,
-    TsEntityName,
     JSXObject,
+}
+
+/// The sorts of TypeScript.
+#[derive(Debug, Clone, Copy, PartialEq, Eq)]
+pub enum TsSort {
+    TsType,
+    TsNamespaceBody,
+    TsTypeAnn,
+    TsTypeParamDecl,
+    TsTypeParamInstantiation,
+    TsFnParam,
+    TsTypeElement,
+    TsEntityName,
 }
 
 /// Makes what a link holds.
@@ -165,4 +190,23 @@ pub fn members<A, N: Drop, V: Parts<A, N>, S: Source, M: Make<N>>(
     make: &M,
 ) -> Result<V, Failed> {
     V::begin(names, source, make)
+}
+
+/// What a link holds, once it is read.
+#[inline(always)]
+pub fn held<T, N: Holds<T>, S: Source>(source: &mut S, node: T) -> Result<N, Failed> {
+    match N::hold(source.alloc(), node) {
+        Ok(holder) => Ok(holder),
+        Err(_) => Err(source.fail(Fault::NoMemory)),
+    }
+}
+
+/// What a link holds, once a node in one of its parts is read.
+#[inline(always)]
+pub fn held_in_part<P: Holds<T>, T, N: Holds<P>, S: Source>(
+    source: &mut S,
+    node: T,
+) -> Result<N, Failed> {
+    let part: P = held(source, node)?;
+    held(source, part)
 }

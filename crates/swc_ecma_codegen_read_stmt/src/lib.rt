@@ -4,8 +4,11 @@
 mod classes;
 mod decls;
 mod modules;
+mod nodes;
 mod programs;
 mod stmts;
+
+pub use crate::nodes::{read_program, read_stmt_node};
 
 /// The area of this crate's readers.
 pub struct StmtReaders;
