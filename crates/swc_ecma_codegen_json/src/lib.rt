@@ -1,62 +1,46 @@
-//! Reads a program from JSON.
+//! Reads a program from JSON, in one pass.
 //!
-//! A struct is an object with all its fields under their names, `None` is `null`, a `Vec` is an array, a `BytePos` a
-//! number, and an enum's value an object of one member, `{"Empty":{"span":{"lo":0,"hi":0}}}`, or its name alone where
-//! it holds nothing, `"Add"`. Unknown members are ignored.
+//! A struct is an object with all its members under their names, in any order. `None` is `null`, a `Vec` is an array, a
+//! `BytePos` a number, and an enum's value an object of one member, `{"Empty":{"span":{"lo":0,"hi":0}}}`, or its name alone
+//! where it holds nothing, `"Add"`. A member that is missing, or that comes twice, is an error; one with another name is
+//! passed over.
 #![tactic(auto)]
 
-ghost use Rattle.std.specs.Prelude.{◌≡◌, ◌≢◌, ◌<◌, length, Some, None, Err, IfOk, IsErrOf};
+ghost use Rattle.std.specs.Prelude.{◌≡◌, ◌≢◌, Err, IsErrOf};
 ghost use Rattle.std.specs.Str.{IsUtf8};
-ghost use Rattle.serde_json.specs.Data.{Data};
-ghost use Rattle.serde_json.specs.Read.{read as read_text};
-ghost use Rattle.serde_json.specs.View.{view};
-ghost use Rattle.swc_ecma_codegen_json.specs.Forms.{HasForm};
-ghost use Rattle.swc_ecma_codegen_json.specs.NodeForms.{program_form, any_form};
+ghost use Rattle.serde_json.specs.Errors.{IsMemory};
 
-mod exprs;
-mod fields;
-mod idents;
-mod links;
-mod macros;
-mod nodes;
-mod operators;
-mod positions;
-mod programs;
-mod readers;
-mod stmts;
+mod errors;
+mod levels;
+mod trees;
 
-use crate::nodes::Json;
-pub use crate::readers::{Formed, Read, ReadError, ReadNodes, Sort, read_tree};
-use serde_json::Value;
+pub use crate::errors::{Read, ReadError};
+pub use crate::trees::Tree;
 use std::alloc::Global;
 use swc_ecma_codegen_tree::Program;
 
 /// Reads a program from the bytes of its JSON: `CannotRead` where they aren't UTF-8, `BadTree` where they are no JSON,
-/// nest deeper than 127 or have another form, `OutOfMemory` where a growth is refused.
+/// nest deeper than 127 or have another form, `OutOfMemory` where a growth is refused. Where it matters what is wrong
+/// with a tree, and in which line, read a [`Tree`] by `serde_json` itself.
 pub fn program_from_slice(alloc: Global, bytes: &[u8]) -> Read<Program>
     ensures not_utf8 { (IsUtf8 bytes.now → ⊥) → IsErrOf result ReadError.CannotRead }
     ensures utf8 { IsUtf8 bytes.now → result ≢ Err ReadError.CannotRead }
-    // The bytes are JSON, nested at most 127 deep, of the form that the program has.
-    ensures means { IfOk result (λ program. (json : Data) × (read_text bytes.now ≡ Some json) × HasForm (program_form any_form program) json) }
 {
     let text = std::str::from_utf8(bytes).map_err(|_| ReadError::CannotRead)?;
-    let json = value_of(alloc, text)?;
-    match read_tree::<Json>(alloc, &json) {
-        Err(ReadError::CannotRead) => Err(ReadError::BadTree),
-        tree => tree,
+    match serde_json::from_str::<Tree>(alloc, text) {
+        Ok(tree) => Ok(tree.0),
+        Err(error) => Err(reason(&error)),
     }
 }
 
-/// The value that a text is, nested at most 127 deep.
-fn value_of(alloc: Global, text: &str) -> Read<Value>
-    ensures value { IfOk result (λ json. read_text text.now ≡ Some (view json)) }
-    ensures no_value { result ≡ Err ReadError.BadTree → read_text text.now ≡ None }
-    ensures memory { result ≡ Err ReadError.OutOfMemory → 0 < length text.now }
-    ensures readable { result ≢ Err ReadError.CannotRead }
+/// Why no program is read, where serde_json says why it reads none.
+fn reason(error: &serde_json::Error) -> ReadError
+    ensures memory { IsMemory error.now → result ≡ ReadError.OutOfMemory }
+    ensures others { (IsMemory error.now → ⊥) → result ≡ ReadError.BadTree }
 {
-    match Value::from_str(alloc, text) {
-        Ok(json) => Ok(json),
-        Err(error) if error.is_memory() => Err(ReadError::OutOfMemory),
-        Err(_) => Err(ReadError::BadTree),
+    if error.is_memory() {
+        ReadError::OutOfMemory
+    } else {
+        ReadError::BadTree
     }
 }

@@ -1,9 +1,10 @@
 //! The program, as a function over its words and its streams.
 #![tactic(auto)]
 
-ghost use Rattle.std.specs.Prelude.{◌≡◌, ◌≢◌, ◌⊎◌, ℕ, List, [], Err, OnOk, OnErr, IfOk, IfSome, string_bytes};
+ghost use Rattle.std.specs.Prelude.{◌≡◌, ◌≢◌, ◌⊎◌, ◌≤◌, [], length, take, Err, OnOk, OnErr, IfOk, string_bytes};
+ghost use Rattle.std.specs.Io.KnownBytes.{Appends};
 ghost use Rattle.std.specs.IoError.{error_kind};
-ghost use Rattle.swc_ecma_codegen_tool.specs.Prints.{IsJsonOf, IsPrinted, AddsPrinted};
+ghost use Rattle.swc_ecma_codegen_tool.specs.Prints.{IsText, AddsText, AddsFront, AddsFrontOfText};
 
 mod faults;
 
@@ -29,15 +30,15 @@ pub fn run<R: Read, O: Write, E: Write>(
     out: &mut O,
     err: &mut E,
 ) -> u8
-    // The text of the program that the input is goes out.
-    ensures printed { result ≡ 0 → AddsPrinted (R.remaining input.old) (O.contents out.old) (O.contents out.new) }
+    // The text of one program goes out.
+    ensures printed { result ≡ 0 → AddsText (O.contents out.old) (O.contents out.new) }
     ensures usage { words.now ≢ [] → result ≡ 2 }
     ensures no_usage { words.now ≡ [] → result ≢ 2 }
     // Wrong words leave the streams alone, and a text that went out whole leaves `err` alone.
     ensures unread { words.now ≢ [] → (input.new ≡ input.old) × (out.new ≡ out.old) }
     ensures silent { result ≡ 0 → err.new ≡ err.old }
-    // Otherwise `out` is as it was, unless a text was there to print, which it didn't take.
-    ensures nothing { result ≢ 0 → (out.new ≡ out.old) ⊎ ((text : List ℕ) × IsPrinted (R.remaining input.old) text) }
+    // Otherwise `out` is as it was, or took a beginning of such a text and no more.
+    ensures begun { result ≢ 0 → (out.new ≡ out.old) ⊎ AddsFrontOfText (O.contents out.old) (O.contents out.new) }
 {
     match print(alloc, words, input, out) {
         Ok(()) => 0,
@@ -73,25 +74,54 @@ fn print<R: Read, O: Write>(
     input: &mut R,
     out: &mut O,
 ) -> Result<(), Fault>
-    ensures printed { OnOk result (AddsPrinted (R.remaining input.old) (O.contents out.old) (O.contents out.new)) }
+    ensures printed { OnOk result (AddsText (O.contents out.old) (O.contents out.new)) }
     ensures usage { words.now ≢ [] → result ≡ Err Fault.Usage }
     ensures no_usage { words.now ≡ [] → result ≢ Err Fault.Usage }
     ensures unread { words.now ≢ [] → (input.new ≡ input.old) × (out.new ≡ out.old) }
-    ensures nothing { OnErr result ((out.new ≡ out.old) ⊎ ((text : List ℕ) × IsPrinted (R.remaining input.old) text)) }
+    ensures begun { OnErr result ((out.new ≡ out.old) ⊎ AddsFrontOfText (O.contents out.old) (O.contents out.new)) }
 {
     if !words.is_empty() {
         return Err(Fault::Usage);
     }
     let text = program_text(alloc, input)?;
-    match out.write_all(text.as_bytes()) {
-        Ok(()) => Ok(()),
+    send(text.as_str(), out)
+}
+
+/// Writes a text. After a fault a beginning of it is out.
+fn send<O: Write>(text: &str, out: &mut O) -> Result<(), Fault>
+    ensures sent { OnOk result (Appends (O.contents out.old) (O.contents out.new) text.now) }
+    ensures begun { OnErr result (AddsFront text.now (O.contents out.old) (O.contents out.new)) }
+    ensures no_usage { result ≢ Err Fault.Usage }
+{
+    let mut rest = text.as_bytes();
+    for _ in 0..u64::MAX {
+        if rest.is_empty() {
+            return Ok(());
+        }
+        let taken = write_some(rest, out)?;
+        rest = &rest[taken..];
+    }
+    Err(Fault::Writer)
+}
+
+/// Writes a beginning of some bytes, and says how long it is. Where the call was interrupted, that is nothing yet.
+#[tactic(auto, using(crate::proofs::Kept::kept_appends))]
+fn write_some<O: Write>(bytes: &[u8], out: &mut O) -> Result<usize, Fault>
+    ensures taken { IfOk result (λ n. (n ≤ length bytes.now) × Appends (O.contents out.old) (O.contents out.new) (take n bytes.now)) }
+    ensures kept { OnErr result (Appends (O.contents out.old) (O.contents out.new) []) }
+    ensures no_usage { result ≢ Err Fault.Usage }
+{
+    match out.write(bytes) {
+        Ok(0) => Err(Fault::Writer),
+        Ok(taken) => Ok(taken),
+        Err(error) if error.kind() == ErrorKind::Interrupted => Ok(0),
         Err(_) => Err(Fault::Writer),
     }
 }
 
 /// The text of the program that `input` holds.
 fn program_text<R: Read>(alloc: Global, input: &mut R) -> Result<String, Fault>
-    ensures text { IfOk result (λ text. IsPrinted (R.remaining input.old) (string_bytes text)) }
+    ensures text { IfOk result (λ text. IsText (string_bytes text)) }
     ensures no_usage { result ≢ Err Fault.Usage }
 {
     let program = read_program(alloc, input)?;
@@ -104,7 +134,6 @@ fn program_text<R: Read>(alloc: Global, input: &mut R) -> Result<String, Fault>
 
 /// The program that `input` holds.
 fn read_program<R: Read>(alloc: Global, input: &mut R) -> Result<Program, Fault>
-    ensures means { IfOk result (λ program. IfSome (R.remaining input.old) (λ bytes. IsJsonOf bytes program)) }
     ensures no_usage { result ≢ Err Fault.Usage }
 {
     let mut bytes = Vec::new(alloc);

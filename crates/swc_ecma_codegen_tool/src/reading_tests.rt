@@ -196,7 +196,7 @@ fn what_is_no_expression(rt: HostRuntime) -> Result<(), Fail> {
         r#"{"Update":{"span":~,"op":"PlusPlus","prefix":1,"arg":@}}"#,
         r#"{"Bin":{"span":~,"op":"Assign","left":@,"right":@}}"#,
         r#"{"Bin":{"span":~,"op":"Add","left":@}}"#,
-        r#"{"Member":{"span":~,"obj":@,"prop":{"PrivateName":{"span":~,"name":"b"}}}}"#,
+        r#"{"Member":{"span":~,"obj":@,"prop":{"PrivateName":{"span":~,"sym":"b"}}}}"#,
         r#"{"Seq":{"span":~,"exprs":@}}"#,
         r#"{"Seq":{"span":~,"exprs":[null]}}"#,
         r#"{"Ident":{"span":~,"sym":null,"optional":false}}"#,
@@ -216,11 +216,11 @@ fn what_is_no_program(rt: HostRuntime) -> Result<(), Fail> {
         "null",
         r#""Script""#,
         r#"{"Script":{"span":~,"body":[]}}"#,
-        r##"{"Script":{"span":~,"body":[],"shebang":"x"}}"##,
+        r#"{"Script":{"span":~,"body":[],"shebang":1}}"#,
         r#"{"Script":{"span":~,"body":{},"shebang":null}}"#,
         r#"{"Script":{"span":~,"body":[@],"shebang":null}}"#,
         r#"{"Script":{"body":[],"shebang":null}}"#,
-        r#"{"Module":{"span":~,"body":[],"shebang":null}}"#,
+        r#"{"Module":{"span":~,"body":null,"shebang":null}}"#,
         r#"{"Script":{"span":~,"body":[],"shebang":null}},"#,
         r#"{"Script":{"span":~,"body":[],"shebang":null}"#,
     ];
@@ -229,6 +229,106 @@ fn what_is_no_program(rt: HostRuntime) -> Result<(), Fail> {
     }
     let short = r#" {"Script":{"span":~,"body":[],"shebang":null}} "#;
     assert!(rt; answers(rt.alloc(), short, 0, "", "")?);
+    Ok(())
+}
+
+/// Whether the program is read, and its emission refused.
+fn is_unsupported(alloc: Global, short: &str) -> Result<bool, AllocError> {
+    answers(alloc, short, 1, "", "refused: unsupported node\n")
+}
+
+#[test]
+fn what_is_read_and_not_printed(rt: HostRuntime) -> Result<(), Fail> {
+    let programs = [
+        r#"{"Script":{"span":~,"body":[],"shebang":"x"}}"#,
+        r#"{"Module":{"span":~,"body":[],"shebang":null}}"#,
+    ];
+    for short in programs {
+        assert!(rt; is_unsupported(rt.alloc(), short)?, "{short}");
+    }
+    let exprs = [
+        r#"{"Lit":{"Str":{"span":~,"value":"a","raw":null}}}"#,
+        r#"{"Lit":{"Num":{"span":~,"value":"NaN","raw":"0"}}}"#,
+        r#"{"Lit":{"Num":{"span":~,"value":{"Finite":{"negative":false,"digits":"15","exponent":-1}},"raw":null}}}"#,
+        r#"{"Array":{"span":~,"elems":[null,{"spread":~,"expr":@},{"spread":null,"expr":@}]}}"#,
+        r#"{"Member":{"span":~,"obj":@,"prop":{"PrivateName":{"span":~,"name":"b"}}}}"#,
+    ];
+    for expr in exprs {
+        let short = script(rt.alloc(), expr, "", "")?;
+        assert!(rt; is_unsupported(rt.alloc(), short.as_str())?, "{expr}");
+    }
+    Ok(())
+}
+
+#[test]
+fn members_of_a_struct(rt: HostRuntime) -> Result<(), Fail> {
+    let rows = [
+        // In each order, with others among them.
+        r#"{"Bin":{"op":"Add","span":~,"left":@,"right":{"This":{"span":~}}}}"#,
+        r#"{"Bin":{"right":{"This":{"span":~}},"left":@,"span":~,"op":"Add"}}"#,
+        r#"{"Bin":{"x":{"op":"Sub"},"left":@,"":[],"right":{"This":{"span":~}},"Op":0,"op":"Add","span":~}}"#,
+        // An escape in a name.
+        r#"{"B\u0069n":{"span":~,"o\u0070":"\u0041dd","left":@,"right":{"This":{"span":~}}}}"#,
+    ];
+    for expr in rows {
+        assert!(rt; prints(rt.alloc(), expr, "", "", "a + this;\n")?, "{expr}");
+    }
+    let bad = [
+        r#"{"Bin":{"span":~,"op":"Add","left":@,"right":@,"op":"Add"}}"#,
+        r#"{"Bin":{"span":~,"op":"Add","left":@,"left":@,"right":@}}"#,
+        r#"{"Bin":{"op":"Add","left":@,"right":@}}"#,
+        r#"{"Bin":{"span":~,"left":@,"right":@}}"#,
+        r#"{"Bin":{"span":~,"op":"Add","right":@}}"#,
+        r#"{"Bin":{"span":~,"op":"Add","left":@,"right":@},"Bin":1}"#,
+        r#"{"Bin":[~,"Add",@,@]}"#,
+        r#"{"This":[~]}"#,
+        r#"{"This":{"span":[0,0]}}"#,
+    ];
+    for expr in bad {
+        assert!(rt; is_bad(rt.alloc(), expr)?, "{expr}");
+    }
+    Ok(())
+}
+
+/// A number literal of this value, as JSON.
+fn number(alloc: Global, value: &str) -> Result<String, AllocError> {
+    let mut short = String::new(alloc);
+    short.push_str(r#"{"Lit":{"Num":{"span":~,"value":"#)?;
+    short.push_str(value)?;
+    short.push_str(r#","raw":null}}}"#)?;
+    Ok(short)
+}
+
+#[test]
+fn numbers(rt: HostRuntime) -> Result<(), Fail> {
+    for value in [
+        r#""Infinity""#,
+        r#""NegInfinity""#,
+        r#"{"Finite":{"negative":true,"digits":"0","exponent":0}}"#,
+        r#"{"Finite":{"exponent":-1100,"digits":"1","negative":false}}"#,
+        r#"{"Finite":{"negative":false,"digits":"907","exponent":1100}}"#,
+    ] {
+        let expr = number(rt.alloc(), value)?;
+        let short = script(rt.alloc(), expr.as_str(), "", "")?;
+        assert!(rt; is_unsupported(rt.alloc(), short.as_str())?, "{value}");
+    }
+    for value in [
+        "1",
+        r#""Finite""#,
+        r#"{"NaN":null}"#,
+        r#"{"Finite":{"negative":false,"digits":"10","exponent":0}}"#,
+        r#"{"Finite":{"negative":false,"digits":"","exponent":0}}"#,
+        r#"{"Finite":{"negative":false,"digits":1,"exponent":0}}"#,
+        r#"{"Finite":{"negative":false,"digits":"1","exponent":1101}}"#,
+        r#"{"Finite":{"negative":false,"digits":"1","exponent":-1101}}"#,
+        r#"{"Finite":{"negative":false,"digits":"1","exponent":2147483648}}"#,
+        r#"{"Finite":{"negative":false,"digits":"1","exponent":1.0}}"#,
+        r#"{"Finite":{"negative":false,"digits":"1","exponent":1e0}}"#,
+        r#"{"Finite":{"negative":null,"digits":"1","exponent":0}}"#,
+    ] {
+        let expr = number(rt.alloc(), value)?;
+        assert!(rt; is_bad(rt.alloc(), expr.as_str())?, "{value}");
+    }
     Ok(())
 }
 
@@ -259,6 +359,43 @@ fn nests_127_deep_at_most(rt: HostRuntime) -> Result<(), Fail> {
     assert!(rt; prints(rt.alloc(), json.as_str(), "", "", text.as_str())?);
     let (json, _) = nested(rt.alloc(), "@", 60)?;
     assert!(rt; is_bad(rt.alloc(), json.as_str())?);
+    Ok(())
+}
+
+/// `this` with a member of another name that nests this deep.
+fn with_lists(alloc: Global, deep: usize) -> Result<String, AllocError> {
+    let mut json = String::new(alloc);
+    json.push_str(r#"{"This":{"x":"#)?;
+    for _ in 0..deep {
+        json.push_str("[")?;
+    }
+    for _ in 0..deep {
+        json.push_str("]")?;
+    }
+    json.push_str(r#","span":~}}"#)?;
+    Ok(json)
+}
+
+#[test]
+fn what_is_passed_over_nests_as_deep(rt: HostRuntime) -> Result<(), Fail> {
+    let json = with_lists(rt.alloc(), 120)?;
+    assert!(rt; prints(rt.alloc(), json.as_str(), "", "", "this;\n")?);
+    let json = with_lists(rt.alloc(), 121)?;
+    assert!(rt; is_bad(rt.alloc(), json.as_str())?);
+    Ok(())
+}
+
+#[test]
+fn a_million_levels(rt: HostRuntime) -> Result<(), Fail> {
+    let json = with_lists(rt.alloc(), 1000000)?;
+    assert!(rt; is_bad(rt.alloc(), json.as_str())?);
+    let (json, _) = nested(rt.alloc(), "@", 500000)?;
+    assert!(rt; is_bad(rt.alloc(), json.as_str())?);
+    let mut json = String::new(rt.alloc());
+    for _ in 0..1000000 {
+        json.push_str("[")?;
+    }
+    assert!(rt; answers(rt.alloc(), json.as_str(), 1, "", "bad tree\n")?);
     Ok(())
 }
 

@@ -1,0 +1,139 @@
+//! serde's formats as sources.
+
+use crate::source::{Failed, Fault, Source};
+use serde::{DeserializeOwned, Deserializer, Format, Kind, Name};
+use std::alloc::Global;
+
+/// What one of serde's formats reads, until it fails.
+#[derive(Drop)]
+pub struct Input<'a, 'de, 's, F: Format> {
+    alloc: Global,
+    from: &'a mut Deserializer<'de, 's, F>,
+    error: Option<F::Error>,
+}
+
+impl<'a, 'de, 's, F: Format> Input<'a, 'de, 's, F> {
+    pub fn new(alloc: Global, from: &'a mut Deserializer<'de, 's, F>) -> Input<'a, 'de, 's, F> {
+        Input {
+            alloc,
+            from,
+            error: None,
+        }
+    }
+
+    /// Why it failed.
+    pub fn error(&mut self) -> F::Error {
+        match self.error.take() {
+            Some(error) => error,
+            None => self.from.invalid(),
+        }
+    }
+
+    /// What was read, or the error is kept.
+    #[inline(always)]
+    fn keep<T: Drop>(&mut self, read: Result<T, F::Error>) -> Result<T, Failed> {
+        match read {
+            Ok(value) => Ok(value),
+            Err(error) => {
+                self.error = Some(error);
+                Err(Failed)
+            }
+        }
+    }
+}
+
+impl<'a, 'de, 's, F: Format> Source for Input<'a, 'de, 's, F> {
+    #[inline(always)]
+    fn alloc(&self) -> Global {
+        self.alloc
+    }
+
+    #[inline(always)]
+    fn flag(&mut self) -> Result<bool, Failed> {
+        let read = self.from.bool();
+        self.keep(read)
+    }
+
+    #[inline(always)]
+    fn text(&mut self) -> Result<String, Failed> {
+        let read = self.from.string(self.alloc);
+        self.keep(read)
+    }
+
+    #[inline(always)]
+    fn signed(&mut self) -> Result<i32, Failed> {
+        let read = i32::deserialize_owned(self.alloc, self.from);
+        self.keep(read)
+    }
+
+    #[inline(always)]
+    fn unsigned(&mut self) -> Result<u32, Failed> {
+        let read = u32::deserialize_owned(self.alloc, self.from);
+        self.keep(read)
+    }
+
+    #[inline(always)]
+    fn takes_null(&mut self) -> Result<bool, Failed> {
+        let read = self.from.take_none();
+        self.keep(read)
+    }
+
+    #[inline(always)]
+    fn is_at_text(&mut self) -> Result<bool, Failed> {
+        let read = self.from.peek();
+        let kind = self.keep(read)?;
+        Ok(kind == Kind::Str)
+    }
+
+    #[inline(always)]
+    fn begin_list(&mut self) -> Result<(), Failed> {
+        let read = self.from.begin_seq();
+        self.keep(read)
+    }
+
+    #[inline(always)]
+    fn next_item(&mut self) -> Result<bool, Failed> {
+        let read = self.from.next_item();
+        self.keep(read)
+    }
+
+    #[inline(always)]
+    fn begin_object(&mut self) -> Result<(), Failed> {
+        let read = self.from.begin_struct();
+        if self.keep(read)? {
+            return Err(self.fail(Fault::Invalid));
+        }
+        Ok(())
+    }
+
+    #[inline(always)]
+    fn next_member(&mut self, names: &[Name<'_>]) -> Result<Option<usize>, Failed> {
+        let read = self.from.next_key(names);
+        self.keep(read)
+    }
+
+    #[inline(always)]
+    fn word(&mut self, names: &[Name<'_>]) -> Result<usize, Failed> {
+        let read = self.from.variant(names);
+        self.keep(read)
+    }
+
+    #[inline(always)]
+    fn skip(&mut self) -> Result<(), Failed> {
+        let read = self.from.skip();
+        self.keep(read)
+    }
+
+    fn fail(&mut self, fault: Fault<'_>) -> Failed {
+        self.error = Some(match fault {
+            Fault::Missing(name) => self.from.missing(name),
+            Fault::Duplicate(name) => self.from.duplicate(name),
+            Fault::UnknownVariant => self.from.unknown_variant(),
+            Fault::Invalid => self.from.invalid(),
+            Fault::NotInItsForm => self.from.custom("a number that isn't in its one form"),
+            Fault::NoMemory => self.from.no_memory(),
+            Fault::TooDeep => self.from.custom("recursion limit exceeded"),
+        });
+        Failed
+    }
+}

@@ -1,0 +1,66 @@
+//! What a tree is read from.
+
+use serde::Name;
+use std::alloc::Global;
+
+/// A read has failed. Why, its source keeps.
+#[derive(Debug, Clone, Copy, PartialEq, Eq)]
+pub struct Failed;
+
+/// What is wrong with what was read.
+#[derive(Debug, Clone, Copy, PartialEq, Eq)]
+pub enum Fault<'a> {
+    /// A member is missing.
+    Missing(&'a str),
+    /// A member comes a second time.
+    Duplicate(&'a str),
+    /// No variant has this name.
+    UnknownVariant,
+    /// Something else stands where an object or its end was wanted.
+    Invalid,
+    /// A number isn't in its one form.
+    NotInItsForm,
+    /// A growth was refused.
+    NoMemory,
+    /// Too many links lie below one another.
+    TooDeep,
+}
+
+/// A text that is read once, from its beginning to its end.
+pub trait Source {
+    /// Where what is read is kept.
+    fn alloc(&self) -> Global;
+
+    fn flag(&mut self) -> Result<bool, Failed>;
+
+    fn text(&mut self) -> Result<String, Failed>;
+
+    fn signed(&mut self) -> Result<i32, Failed>;
+
+    fn unsigned(&mut self) -> Result<u32, Failed>;
+
+    /// Whether `null` comes, which is taken.
+    fn takes_null(&mut self) -> Result<bool, Failed>;
+
+    /// Whether a text comes.
+    fn is_at_text(&mut self) -> Result<bool, Failed>;
+
+    fn begin_list(&mut self) -> Result<(), Failed>;
+
+    /// Whether an item comes. The end of the list is taken.
+    fn next_item(&mut self) -> Result<bool, Failed>;
+
+    fn begin_object(&mut self) -> Result<(), Failed>;
+
+    /// Where among the names the next member's stands, or past them; none at the end of the object, which is taken.
+    fn next_member(&mut self, names: &[Name<'_>]) -> Result<Option<usize>, Failed>;
+
+    /// Where among the names a text stands, or past them.
+    fn word(&mut self, names: &[Name<'_>]) -> Result<usize, Failed>;
+
+    /// Passes over a value.
+    fn skip(&mut self) -> Result<(), Failed>;
+
+    /// Fails.
+    fn fail(&mut self, fault: Fault<'_>) -> Failed;
+}

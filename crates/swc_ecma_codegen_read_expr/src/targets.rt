@@ -1,0 +1,66 @@
+//! What is assigned to.
+
+use crate::ExprReaders;
+use serde::Name;
+use swc_ecma_codegen_read::{Failed, Make, ReadFrom, Source, Variant, held, names};
+use swc_ecma_codegen_read_ts::TsReaders;
+use swc_ecma_codegen_tree::{AssignTarget, SimpleAssignTarget};
+
+impl<N: Drop> ReadFrom<ExprReaders, N> for AssignTarget<N> {
+    type Parts = Variant;
+
+    fn names() -> &'static [Name<'static>] {
+        names!(Simple, Pat)
+    }
+
+    fn of<S: Source, M: Make<N>>(
+        variant: Variant,
+        source: &mut S,
+        make: &M,
+    ) -> Result<AssignTarget<N>, Failed> {
+        held!(ExprReaders, variant, source, make => AssignTarget { Simple, Pat })
+    }
+}
+
+impl<N: Drop> ReadFrom<ExprReaders, N> for SimpleAssignTarget<N> {
+    type Parts = Variant;
+
+    fn names() -> &'static [Name<'static>] {
+        names!(
+            Ident,
+            Member,
+            SuperProp,
+            Paren,
+            OptChain,
+            TsAs,
+            TsSatisfies,
+            TsNonNull,
+            TsTypeAssertion,
+            TsInstantiation,
+            Invalid
+        )
+    }
+
+    fn of<S: Source, M: Make<N>>(
+        variant: Variant,
+        source: &mut S,
+        make: &M,
+    ) -> Result<SimpleAssignTarget<N>, Failed> {
+        held!(ExprReaders, variant, source, make => SimpleAssignTarget {
+            Ident, Member, SuperProp, Paren, OptChain,
+        } else ts_targets)
+    }
+}
+
+/// What is assigned to in TypeScript, and what is invalid.
+#[inline(always)]
+fn ts_targets<N: Drop, S: Source, M: Make<N>>(
+    variant: Variant,
+    source: &mut S,
+    make: &M,
+) -> Result<SimpleAssignTarget<N>, Failed> {
+    held!(ExprReaders, variant, source, make => SimpleAssignTarget {
+        TsAs in TsReaders, TsSatisfies in TsReaders, TsNonNull in TsReaders, TsTypeAssertion in
+        TsReaders, TsInstantiation in TsReaders, Invalid,
+    })
+}
