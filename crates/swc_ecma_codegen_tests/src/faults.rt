@@ -2,7 +2,7 @@
 
 ghost use Rattle.std.specs.Prelude.{Some};
 
-use crate::trees::{Step, program, settings};
+use crate::trees::{DIFFERENCE, Tree, settings};
 use std::alloc::Global;
 use std::io;
 use std::io::{ErrorKind, Write};
@@ -10,9 +10,9 @@ use std::test::Fail;
 use swc_ecma_codegen::{Emitter, Node};
 use swc_ecma_codegen_ast::comments::CommentMaps;
 use swc_ecma_codegen_ast::mapper::NoSource;
-use swc_ecma_codegen_common::{BinaryOp, Error, Result as Answer, UnaryOp};
+use swc_ecma_codegen_common::{Error, Result as Answer};
 use swc_ecma_codegen_text_writer::{JsWriter, WriteJs};
-use swc_ecma_codegen_tree::{Ident, Program};
+use swc_ecma_codegen_tree::{AnyNode, Ident, Program};
 
 /// Takes one byte a call, up to a number of bytes, and then fails, or answers 0 where it has no fault.
 #[derive(Drop)]
@@ -91,10 +91,14 @@ struct Answers {
 }
 
 /// The answers of three emissions to one writer, the last of nothing.
-fn emit_thrice<W: WriteJs + Drop>(alloc: Global, tree: &Program, wr: W) -> (Answers, W) {
+fn emit_thrice<N: Tree, W: WriteJs + Drop>(
+    alloc: Global,
+    tree: &Program<N>,
+    wr: W,
+) -> (Answers, W) {
     let mut emitter = Emitter::new(alloc, settings(false), &NoSource, None::<CommentMaps>, wr);
-    let first = emitter.emit_program(tree);
-    let second = emitter.emit_program(tree);
+    let first = tree.emit_with(&mut emitter);
+    let second = tree.emit_with(&mut emitter);
     let nothing = None::<Ident>.emit_with(&mut emitter);
     let answers = Answers {
         first,
@@ -105,9 +109,9 @@ fn emit_thrice<W: WriteJs + Drop>(alloc: Global, tree: &Program, wr: W) -> (Answ
 }
 
 /// The answers over a writer that takes one byte a call, and what it took.
-fn in_single_bytes(
+fn in_single_bytes<N: Tree>(
     alloc: Global,
-    tree: &Program,
+    tree: &Program<N>,
     room: usize,
     fault: Option<ErrorKind>,
 ) -> (Answers, Vec<u8>) {
@@ -124,7 +128,7 @@ fn in_single_bytes(
 }
 
 /// The answers over a writer whose second call is interrupted, and the number of its calls.
-fn interrupted(alloc: Global, tree: &Program) -> (Answers, u64) {
+fn interrupted<N: Tree>(alloc: Global, tree: &Program<N>) -> (Answers, u64) {
     let under = InterruptedOnce { calls: 0 };
     let wr = JsWriter::new(alloc, &NoSource, "\n", under, None);
     let (answers, wr) = emit_thrice(alloc, tree, wr);
@@ -132,21 +136,11 @@ fn interrupted(alloc: Global, tree: &Program) -> (Answers, u64) {
 }
 
 /// The answers over a writer that fails with a code.
-fn with_code(alloc: Global, tree: &Program, code: i32) -> Answers {
+fn with_code<N: Tree>(alloc: Global, tree: &Program<N>, code: i32) -> Answers {
     let wr = JsWriter::new(alloc, &NoSource, "\n", Coded { code }, None);
     let (answers, _wr) = emit_thrice(alloc, tree, wr);
     answers
 }
-
-/// The tree of `a - -b * c`.
-const DIFFERENCE: [Step; 6] = [
-    Step::Name("a"),
-    Step::Name("b"),
-    Step::Unary(UnaryOp::Minus),
-    Step::Name("c"),
-    Step::Bin(BinaryOp::Mul),
-    Step::Bin(BinaryOp::Sub),
-];
 
 fn kind_of(answer: &Answer) -> Option<ErrorKind> {
     match answer {
@@ -162,56 +156,95 @@ fn code_of(answer: &Answer) -> Option<i32> {
     }
 }
 
-fn is_failed(answer: &Answer) -> bool {
-    matches!(answer, Err(Error::Failed))
+/// Whether the first emission was refused and the others fail.
+fn are_failed(answers: &Answers) -> bool {
+    answers.first.is_err()
+        && matches!(&answers.second, Err(Error::Failed))
+        && matches!(&answers.nothing, Err(Error::Failed))
+}
+
+/// Whether a writer that takes so many bytes gets these of the text, and its fault comes out.
+fn fails_after<N: Tree>(
+    alloc: Global,
+    tree: &Program<N>,
+    room: usize,
+    fault: Option<ErrorKind>,
+) -> bool {
+    let text = "a - -b * c;\n";
+    let (answers, taken) = in_single_bytes(alloc, tree, room, fault);
+    kind_of(&answers.first) == Some(fault.unwrap_or(ErrorKind::WriteZero))
+        && are_failed(&answers)
+        && taken.len() == room
+        && text.as_bytes().starts_with(taken.as_slice())
+}
+
+/// The number of bytes after which a writer fails as it should.
+fn count_of_failures<N: Tree>(alloc: Global, fault: Option<ErrorKind>) -> Result<u32, Fail> {
+    let tree = N::read(alloc, DIFFERENCE)?;
+    let mut count = 0u32;
+    for room in 0..12 {
+        if fails_after(alloc, &tree, room, fault) {
+            count = count.saturating_add(1);
+        }
+    }
+    Ok(count)
 }
 
 #[test]
 fn fails_after_each_byte(rt: HostRuntime) -> Result<(), Fail> {
-    let alloc = rt.alloc();
-    let tree = program(alloc, &DIFFERENCE)?;
-    let faults = [
-        (Some(ErrorKind::Interrupted), ErrorKind::Interrupted),
-        (Some(ErrorKind::Other), ErrorKind::Other),
-        (None, ErrorKind::WriteZero),
-    ];
-    let text = "a - -b * c;\n";
-    for (fault, kind) in faults {
-        for room in 0..12 {
-            let (answers, taken) = in_single_bytes(alloc, &tree, room, fault);
-            assert_eq!(rt; kind_of(&answers.first), Some(kind));
-            assert!(rt; is_failed(&answers.second) && is_failed(&answers.nothing));
-            assert_eq!(rt; taken.len(), room);
-            assert!(rt; text.as_bytes().starts_with(taken.as_slice()));
-        }
+    for fault in [Some(ErrorKind::Interrupted), Some(ErrorKind::Other), None] {
+        assert_eq!(rt; count_of_failures::<AnyNode>(rt.alloc(), fault)?, 12);
     }
     Ok(())
 }
 
+/// What a writer takes of `a - -b * c`, twice, in single bytes.
+fn taken_in_single_bytes<N: Tree>(alloc: Global) -> Result<Option<Vec<u8>>, Fail> {
+    let tree = N::read(alloc, DIFFERENCE)?;
+    let (answers, taken) = in_single_bytes(alloc, &tree, 100, None);
+    let all = answers.first.is_ok() && answers.second.is_ok() && answers.nothing.is_ok();
+    Ok(if all { Some(taken) } else { None })
+}
+
+/// How many calls a writer gets, of which the second is interrupted.
+fn calls_to_interrupted<N: Tree>(alloc: Global) -> Result<Option<u64>, Fail> {
+    let tree = N::read(alloc, DIFFERENCE)?;
+    let (answers, calls) = interrupted(alloc, &tree);
+    let all = kind_of(&answers.first) == Some(ErrorKind::Interrupted) && are_failed(&answers);
+    Ok(if all { Some(calls) } else { None })
+}
+
 #[test]
 fn one_byte_a_call_and_interrupted_once(rt: HostRuntime) -> Result<(), Fail> {
-    let alloc = rt.alloc();
-    let tree = program(alloc, &DIFFERENCE)?;
-    let (answers, taken) = in_single_bytes(alloc, &tree, 100, None);
-    assert!(rt; answers.first.is_ok() && answers.second.is_ok() && answers.nothing.is_ok());
-    assert_eq!(rt; taken.as_slice(), b"a - -b * c;\na - -b * c;\n".as_slice());
-    let (answers, calls) = interrupted(alloc, &tree);
-    assert_eq!(rt; kind_of(&answers.first), Some(ErrorKind::Interrupted));
-    assert!(rt; is_failed(&answers.second) && is_failed(&answers.nothing));
-    assert_eq!(rt; calls, 2);
+    match taken_in_single_bytes::<AnyNode>(rt.alloc())? {
+        Some(taken) => {
+            assert_eq!(rt; taken.as_slice(), b"a - -b * c;\na - -b * c;\n".as_slice());
+        }
+        None => assert!(rt; false),
+    }
+    assert_eq!(rt; calls_to_interrupted::<AnyNode>(rt.alloc())?, Some(2));
     Ok(())
+}
+
+/// The code and the kind that come out of a writer that fails with a code.
+fn told_of_code<N: Tree>(
+    alloc: Global,
+    code: i32,
+) -> Result<(Option<i32>, Option<ErrorKind>), Fail> {
+    let tree = N::read(alloc, DIFFERENCE)?;
+    let answers = with_code(alloc, &tree, code);
+    Ok(if are_failed(&answers) {
+        (code_of(&answers.first), kind_of(&answers.first))
+    } else {
+        (None, None)
+    })
 }
 
 #[test]
 fn the_error_of_the_writer_comes_out(rt: HostRuntime) -> Result<(), Fail> {
-    let alloc = rt.alloc();
-    let tree = program(alloc, &DIFFERENCE)?;
     for code in [2, 5, 28, 32] {
-        let answers = with_code(alloc, &tree, code);
-        assert_eq!(rt; code_of(&answers.first), Some(code));
         let kind = io::Error::from_raw_os_error(code).kind();
-        assert_eq!(rt; kind_of(&answers.first), Some(kind));
-        assert!(rt; is_failed(&answers.second) && is_failed(&answers.nothing));
+        assert!(rt; told_of_code::<AnyNode>(rt.alloc(), code)? == (Some(code), Some(kind)));
     }
     Ok(())
 }

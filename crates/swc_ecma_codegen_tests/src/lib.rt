@@ -1,4 +1,4 @@
-//! Tests that go through several crates: trees that are printed, and what was printed compared.
+//! Tests that go through several crates, of what no table can say: calls of the library, and streams that fail.
 #![tactic(auto)]
 
 #[cfg(test)]
@@ -8,10 +8,10 @@ mod calls;
 #[cfg(test)]
 mod faults;
 #[cfg(test)]
-mod nestings;
+mod links;
 #[cfg(test)]
-mod rows;
-#[cfg(test)]
-mod sweep;
+mod streams;
 #[cfg(test)]
 mod trees;
+#[cfg(test)]
+mod values;

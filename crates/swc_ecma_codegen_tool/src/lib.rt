@@ -149,10 +149,3 @@ fn read_program<R: Read>(alloc: Global, input: &mut R) -> Result<Program, Fault>
         Err(error) => Err(Fault::of_reading(error)),
     }
 }
-
-#[cfg(test)]
-mod reading_tests;
-#[cfg(test)]
-mod tests;
-#[cfg(test)]
-mod tree_tests;

@@ -1,16 +1,15 @@
+//! The program over streams that fail, or give and take one byte a call.
+
 ghost use Rattle.std.specs.Prelude.{None};
 
-use crate::{refuse_words, run};
+use crate::trees::DIFFERENCE;
 use std::io;
 use std::io::{ErrorKind, Read, Write};
 use std::test::Fail;
+use swc_ecma_codegen_tool::{refuse_words, run};
 
 const EMPTY: &str =
     r#"{"Script":{"span":{"lo":0,"hi":0},"body":[{"Empty":{"span":{"lo":0,"hi":0}}}],"shebang":null}}"#;
-
-// a - -b * c
-const DIFFERENCE: &str =
-    r#"{"Script":{"span":{"lo":1,"hi":11},"body":[{"Expr":{"span":{"lo":1,"hi":11},"expr":{"Bin":{"span":{"lo":1,"hi":11},"op":"Sub","left":{"Ident":{"span":{"lo":1,"hi":2},"sym":"a","optional":false}},"right":{"Bin":{"span":{"lo":5,"hi":11},"op":"Mul","left":{"Unary":{"span":{"lo":5,"hi":7},"op":"Minus","arg":{"Ident":{"span":{"lo":6,"hi":7},"sym":"b","optional":false}}}},"right":{"Ident":{"span":{"lo":10,"hi":11},"sym":"c","optional":false}}}}}}}}],"shebang":null}}"#;
 
 /// Neither gives nor takes a byte.
 #[derive(Drop)]
@@ -131,42 +130,6 @@ impl Write for Page {
     fn flush(&mut self) -> io::Result<()> {
         Ok(())
     }
-}
-
-#[test]
-fn trees_and_faults(rt: HostRuntime) -> Result<(), Fail> {
-    let rows = [
-        (EMPTY.as_bytes(), 0, ";\n", ""),
-        (DIFFERENCE.as_bytes(), 0, "a - -b * c;\n", ""),
-        (b"{".as_slice(), 1, "", "bad tree\n"),
-        (b"\xff".as_slice(), 1, "", "cannot read\n"),
-    ];
-    for (json, status, text, line) in rows {
-        let mut input = json;
-        let mut out = Vec::new(rt.alloc());
-        let mut err = Vec::new(rt.alloc());
-        assert_eq!(rt;
-            run(rt.alloc(), &[], &mut input, &mut out, &mut err),
-            status
-        );
-        assert_eq!(rt; out.as_slice(), text.as_bytes());
-        assert_eq!(rt; err.as_slice(), line.as_bytes());
-    }
-    Ok(())
-}
-
-#[test]
-fn cut_at_each_byte(rt: HostRuntime) -> Result<(), Fail> {
-    let whole = DIFFERENCE.as_bytes();
-    for end in 0..whole.len() {
-        let mut input = &whole[..end];
-        let mut out = Vec::new(rt.alloc());
-        let mut err = Vec::new(rt.alloc());
-        assert_eq!(rt; run(rt.alloc(), &[], &mut input, &mut out, &mut err), 1);
-        assert!(rt; out.is_empty());
-        assert_eq!(rt; err.as_slice(), b"bad tree\n".as_slice());
-    }
-    Ok(())
 }
 
 #[test]

@@ -1,0 +1,41 @@
+//! Goes through the table on standard input: what is printed of trees, and what isn't read or printed. Prints the rows
+//! that don't hold, and how many rows there are.
+//!
+//! A row is a word and its fields, with a tab between. `‹e9›` stands for the character of that code, `‹3×ab›` for
+//! `ababab`, `‹›` for no text. In JSON `~` stands for a span that stands nowhere, and `@` for the expression `a`. Lines
+//! that begin with `#` say where the rows come from.
+//!
+//! A tree is also written in steps, each after those of its operands: `a b + c *` for `(a + b) * c`. A row `operator` or
+//! `step` says what one is: its JSON and its tokens, with `•` for each operand.
+#![tactic(auto)]
+
+mod fields;
+mod looks;
+mod nestings;
+mod reading;
+mod rows;
+mod runs;
+mod steps;
+mod trees;
+
+use crate::rows::holds;
+use crate::steps::steps;
+use std::io;
+
+fn main(rt: HostRuntime) -> io::Result<()> {
+    let alloc = rt.alloc();
+    let table = io::read_to_string(alloc, rt.stdin())?;
+    let steps = steps(alloc, &table)?;
+    let mut rows: u64 = 0;
+    let mut failed: u64 = 0;
+    for line in table.lines() {
+        if !line.is_empty() && !line.starts_with('#') {
+            rows = rows.saturating_add(1);
+            if !holds(alloc, &steps, line) {
+                failed = failed.saturating_add(1);
+                println!(rt; "{line}")?;
+            }
+        }
+    }
+    println!(rt; "{rows} rows, {failed} failed")
+}

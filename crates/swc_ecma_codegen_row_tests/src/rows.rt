@@ -1,0 +1,122 @@
+//! What the words of the rows ask.
+
+use crate::fields::{bytes, fields, json, script};
+use crate::looks::look;
+use crate::nestings::are_printed;
+use crate::runs::{prints, refuses};
+use crate::steps::{Step, all_named, is_step, program};
+use crate::trees::{has_texts, is_formed, prints_expr};
+use std::alloc::{AllocError, Global};
+use swc_ecma_codegen_common::Error;
+use swc_ecma_codegen_json::ReadError;
+
+/// Whether a row holds. One that no word here fits doesn't.
+pub fn holds(alloc: Global, steps: &[Step], line: &str) -> bool {
+    match answer(alloc, steps, line) {
+        Ok(answer) => answer,
+        Err(_) => false,
+    }
+}
+
+fn answer(alloc: Global, steps: &[Step], line: &str) -> Result<bool, AllocError> {
+    let fields = fields(alloc, line)?;
+    match fields.as_slice() {
+        [word, short] => of_json(alloc, word, short),
+        [word, words, answer] if matches!(word.as_str(), "well_formed" | "node") => {
+            of_steps(alloc, steps, word, words, [answer, ""])
+        }
+        [word, short, text] => of_text(alloc, word, short, text),
+        [word, _, _, _] if is_step(word) => Ok(true),
+        [word, words, pretty, minified] => of_steps(alloc, steps, word, words, [pretty, minified]),
+        [word, outer, place, pretty, minified] if word.as_str() == "nestings" => {
+            are_printed(alloc, steps, [outer, place], [pretty, minified])
+        }
+        _ => Ok(false),
+    }
+}
+
+/// What isn't read, or isn't printed.
+fn of_json(alloc: Global, word: &str, short: &str) -> Result<bool, AllocError> {
+    match word {
+        "no_program" => is_no_tree(alloc, short),
+        "no_expr" => is_no_tree(alloc, &script(alloc, short)?),
+        "unprinted_program" => is_unprinted(alloc, short),
+        "unprinted_expr" => is_unprinted(alloc, &script(alloc, short)?),
+        "cuts" => are_no_trees(alloc, short),
+        "no_text" => match bytes(alloc, short)? {
+            Some(bytes) => { Ok(is_refused(alloc, &bytes, ReadError::CannotRead, "cannot read\n")) }
+            None => Ok(false),
+        },
+        _ => Ok(false),
+    }
+}
+
+/// What prints as a text.
+fn of_text(alloc: Global, word: &str, short: &str, text: &str) -> Result<bool, AllocError> {
+    match word {
+        "program" => Ok(prints(alloc, json(alloc, short)?.as_bytes(), text)),
+        "expr" => {
+            let short = script(alloc, short)?;
+            Ok(prints_expr(alloc, &json(alloc, &short)?, text))
+        }
+        _ => Ok(false),
+    }
+}
+
+/// What trees in steps answer.
+fn of_steps(
+    alloc: Global,
+    steps: &[Step],
+    word: &str,
+    words: &str,
+    answers: [&str; 2],
+) -> Result<bool, AllocError> {
+    let Some(tree) = all_named(alloc, steps, words)? else {
+        return Ok(false);
+    };
+    match word {
+        "tree" => has_texts(alloc, &tree, true, answers),
+        "malformed" => has_texts(alloc, &tree, false, answers),
+        "well_formed" => is_formed(alloc, &tree, answers[0] == "yes"),
+        "node" => Ok(prints_expr(alloc, &program(alloc, &tree)?, answers[0])),
+        _ => Ok(false),
+    }
+}
+
+/// Whether these bytes aren't read for this reason, and a run tells of it by this line.
+fn is_refused(alloc: Global, json: &[u8], reason: ReadError, line: &str) -> bool {
+    match look(alloc, json) {
+        Ok(_) => false,
+        Err(error) => error == reason && refuses(alloc, json, line),
+    }
+}
+
+fn is_no_tree(alloc: Global, short: &str) -> Result<bool, AllocError> {
+    let json = json(alloc, short)?;
+    Ok(is_refused(alloc, json.as_bytes(), ReadError::BadTree, "bad tree\n"))
+}
+
+/// Whether each beginning of this JSON is no tree.
+fn are_no_trees(alloc: Global, short: &str) -> Result<bool, AllocError> {
+    let json = json(alloc, short)?;
+    let bytes = json.as_bytes();
+    for end in 0..bytes.len() {
+        if !is_refused(alloc, &bytes[..end], ReadError::BadTree, "bad tree\n") {
+            return Ok(false);
+        }
+    }
+    Ok(true)
+}
+
+/// Whether the program is read, but isn't well-formed and isn't printed.
+fn is_unprinted(alloc: Global, short: &str) -> Result<bool, AllocError> {
+    let json = json(alloc, short)?;
+    match look(alloc, json.as_bytes()) {
+        Ok(look) => Ok(
+            look.well_formed == Some(false)
+                && matches!(&look.texts, Err(Error::UnsupportedNode))
+                && refuses(alloc, json.as_bytes(), "refused: unsupported node\n"),
+        ),
+        Err(_) => Ok(false),
+    }
+}

@@ -1,0 +1,89 @@
+//! Links to nodes.
+
+use crate::trees::Tree;
+use crate::values::place;
+use std::alloc::{AllocError, Global};
+use std::mem::size_of;
+use std::test::Fail;
+use swc_ecma_codegen_spans::Spanned;
+use swc_ecma_codegen_tree::{
+    AnyNode, EmptyStmt, Expr, ExprBox, IdentName, MemberExpr, MemberExprBox, MemberProp, Stmt,
+    StmtBox, ThisExpr,
+};
+
+/// Whether a link to `this` gives it back.
+fn expr_comes_back<N: Tree>(alloc: Global) -> Result<bool, AllocError> {
+    let span = place(3, 7);
+    let link: ExprBox<N> = ExprBox::new(alloc, Expr::This(ThisExpr { span }))?;
+    let seen = matches!(link.get(), Some(Expr::This(_))) && link.held().span() == span;
+    let seen = seen && link.span() == span;
+    match link.into_inner() {
+        Some(expr) => {
+            let same = matches!(&expr, Expr::This(_)) && expr.span() == span;
+            Ok(seen && same)
+        }
+        None => Ok(false),
+    }
+}
+
+/// Whether a link to `;` gives it back.
+fn stmt_comes_back<N: Tree>(alloc: Global) -> Result<bool, AllocError> {
+    let span = place(3, 4);
+    let link: StmtBox<N> = StmtBox::new(alloc, Stmt::Empty(EmptyStmt { span }))?;
+    let seen = matches!(link.get(), Some(Stmt::Empty(_))) && link.held().span() == span;
+    let seen = seen && link.span() == span;
+    match link.into_inner() {
+        Some(stmt) => {
+            let same = matches!(&stmt, Stmt::Empty(_)) && stmt.span() == span;
+            Ok(seen && same)
+        }
+        None => Ok(false),
+    }
+}
+
+/// Whether a link to `this.b` gives it back.
+fn member_comes_back<N: Tree>(alloc: Global) -> Result<bool, AllocError> {
+    let span = place(3, 9);
+    let sym = String::from_str(alloc, "b")?;
+    let prop = MemberProp::Ident(IdentName {
+        span: place(8, 9),
+        sym,
+    });
+    let obj = ExprBox::new(alloc, Expr::This(ThisExpr { span: place(3, 7) }))?;
+    let link: MemberExprBox<N> = MemberExprBox::new(alloc, MemberExpr { span, obj, prop })?;
+    let seen = link
+        .get()
+        .is_some_and(|node| node.prop.span() == place(8, 9));
+    let seen = seen && link.held().span() == span && link.span() == span;
+    match link.into_inner() {
+        Some(member) => {
+            let same = member.span() == span && member.obj.span() == place(3, 7);
+            Ok(seen && same)
+        }
+        None => Ok(false),
+    }
+}
+
+/// Whether links of each sort give back what they hold.
+fn all_come_back<N: Tree>(alloc: Global) -> Result<bool, AllocError> {
+    Ok(
+        expr_comes_back::<N>(alloc)?
+            && stmt_comes_back::<N>(alloc)?
+            && member_comes_back::<N>(alloc)?,
+    )
+}
+
+#[test]
+fn links_give_back_what_they_hold(rt: HostRuntime) -> Result<(), Fail> {
+    assert!(rt; all_come_back::<AnyNode>(rt.alloc())?);
+    assert_eq!(rt; *ExprBox::holding(rt.alloc(), 5u8)?.held(), 5);
+    assert_eq!(rt; *StmtBox::holding(rt.alloc(), 6u8)?.held(), 6);
+    assert_eq!(rt; *MemberExprBox::holding(rt.alloc(), 7u8)?.held(), 7);
+    Ok(())
+}
+
+#[test]
+fn a_link_takes_at_most_112_bytes(rt: HostRuntime) {
+    assert!(rt; size_of::<AnyNode>() <= 112);
+    assert_eq!(rt; size_of::<ExprBox>(), 8);
+}

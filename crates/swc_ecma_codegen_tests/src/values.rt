@@ -1,0 +1,113 @@
+//! Positions, versions, numbers, operators and errors.
+
+use std::alloc::{AllocError, Global};
+use std::io;
+use std::io::ErrorKind;
+use std::test::Fail;
+use swc_ecma_codegen_common::{
+    AssignOp, BytePos, DUMMY_SP, Decimal, Error, EsVersion, LineCol, Span,
+};
+use swc_ecma_codegen_json::ReadError;
+use swc_ecma_codegen_spans::{SpanEnds, Spanned};
+
+pub(crate) fn place(lo: u32, hi: u32) -> Span {
+    Span {
+        lo: BytePos(lo),
+        hi: BytePos(hi),
+    }
+}
+
+#[test]
+fn positions_and_spans(rt: HostRuntime) {
+    assert!(rt; BytePos(0).is_dummy() && !BytePos(1).is_dummy());
+    assert!(rt; DUMMY_SP.is_dummy() && place(0, 5).is_dummy() && !place(1, 0).is_dummy());
+    assert!(rt; BytePos(1) < BytePos(2) && place(1, 9) < place(2, 0) && place(2, 0) < place(2, 1));
+    let span = place(3, 8);
+    assert!(rt; span.span() == span && span.comment_range() == span);
+    assert!(rt; span.span_lo() == BytePos(3) && span.span_hi() == BytePos(8));
+    assert!(rt; Some(span).span() == span && None::<Span>.span() == DUMMY_SP);
+    assert!(rt; LineCol { line: 1, col: 2 } != LineCol { line: 2, col: 1 });
+}
+
+#[test]
+fn versions_in_order(rt: HostRuntime) {
+    let versions = [
+        EsVersion::Es3,
+        EsVersion::Es5,
+        EsVersion::Es2015,
+        EsVersion::Es2016,
+        EsVersion::Es2017,
+        EsVersion::Es2018,
+        EsVersion::Es2019,
+        EsVersion::Es2020,
+        EsVersion::Es2021,
+        EsVersion::Es2022,
+    ];
+    let mut before = EsVersion::Es3;
+    for version in versions {
+        assert!(rt; before <= version && version < EsVersion::latest());
+        before = version;
+    }
+    assert!(rt; EsVersion::latest() == EsVersion::EsNext);
+}
+
+#[test]
+fn parts_of_a_decimal(rt: HostRuntime) -> Result<(), Fail> {
+    match Decimal::new(true, String::from_str(rt.alloc(), "12")?, -1) {
+        Some(number) => {
+            assert!(rt; number.negative() && number.digits() == "12" && number.exponent() == -1);
+        }
+        None => assert!(rt; false),
+    }
+    Ok(())
+}
+
+fn says(alloc: Global, error: &Error, text: &str) -> Result<bool, Fail> {
+    Ok(format!(in alloc; "{error}")?.as_str() == text)
+}
+
+#[test]
+fn texts_of_errors(rt: HostRuntime) -> Result<(), Fail> {
+    let alloc = rt.alloc();
+    let writer = Error::Writer(io::Error::from(ErrorKind::WriteZero));
+    assert!(rt; says(alloc, &writer, "the writer failed: write zero")?);
+    assert!(rt; says(alloc, &Error::from(AllocError), "out of memory")?);
+    assert!(rt; says(alloc, &Error::UnsupportedNode, "unsupported node")?);
+    assert!(rt; says(alloc, &Error::BadShape, "bad shape")?);
+    assert!(rt; says(alloc, &Error::NameOutOfTarget, "name out of target")?);
+    assert!(rt; says(alloc, &Error::PositionTooLarge, "position too large")?);
+    assert!(rt; says(alloc, &Error::Failed, "an earlier call was refused")?);
+    for (error, text) in [
+        (ReadError::CannotRead, "cannot read"),
+        (ReadError::BadTree, "bad tree"),
+        (ReadError::from(AllocError), "out of memory"),
+    ] {
+        assert!(rt; format!(in alloc; "{error}")?.as_str() == text);
+    }
+    Ok(())
+}
+
+#[test]
+fn assignment_operators(rt: HostRuntime) {
+    let rows = [
+        (AssignOp::Assign, "="),
+        (AssignOp::AddAssign, "+="),
+        (AssignOp::SubAssign, "-="),
+        (AssignOp::MulAssign, "*="),
+        (AssignOp::DivAssign, "/="),
+        (AssignOp::ModAssign, "%="),
+        (AssignOp::LShiftAssign, "<<="),
+        (AssignOp::RShiftAssign, ">>="),
+        (AssignOp::ZeroFillRShiftAssign, ">>>="),
+        (AssignOp::BitOrAssign, "|="),
+        (AssignOp::BitXorAssign, "^="),
+        (AssignOp::BitAndAssign, "&="),
+        (AssignOp::ExpAssign, "**="),
+        (AssignOp::AndAssign, "&&="),
+        (AssignOp::OrAssign, "||="),
+        (AssignOp::NullishAssign, "??="),
+    ];
+    for (op, text) in rows {
+        assert_eq!(rt; op.as_str(), text);
+    }
+}
