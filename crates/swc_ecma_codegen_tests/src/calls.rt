@@ -13,8 +13,8 @@ use swc_ecma_codegen_grammar::WellFormed;
 use swc_ecma_codegen_spans::{SpanEnds, Spanned};
 use swc_ecma_codegen_text_writer::JsWriter;
 use swc_ecma_codegen_tree::{
-    AnyNode, DebuggerStmt, EmptyStmt, Expr, Ident, MemberExpr, MemberProp, Module, Program, Script,
-    Stmt, StmtBox,
+    DebuggerStmt, EmptyStmt, Expr, Ident, MemberExpr, MemberProp, Module, Program, Script, Stmt,
+    StmtBox,
 };
 
 /// Whether a node has this text by `to_code`.
@@ -68,15 +68,9 @@ fn prints_member<N: Tree>(alloc: Global, tree: &Program<N>) -> Result<bool, Erro
 }
 
 /// Whether `a.b` has its text through whatever holds it.
-fn prints_each_way<N: Tree>(alloc: Global) -> Result<bool, Fail> {
+pub(crate) fn prints_each_way<N: Tree>(alloc: Global) -> Result<bool, Fail> {
     let tree = N::read(alloc, MEMBER)?;
     Ok(prints_through(alloc, &tree)? && prints_member(alloc, &tree)?)
-}
-
-#[test]
-fn each_way_to_a_node(rt: HostRuntime) -> Result<(), Fail> {
-    assert!(rt; prints_each_way::<AnyNode>(rt.alloc())?);
-    Ok(())
 }
 
 /// The bytes of a tree, and of its parts.
@@ -98,16 +92,15 @@ fn bytes_by_each_call<N: Tree>(alloc: Global) -> Result<[Vec<u8>; 3], Fail> {
     }
 }
 
-#[test]
-fn what_holds_a_node_has_its_text(rt: HostRuntime) -> Result<(), Fail> {
-    let [whole, parts, expr] = bytes_by_each_call::<AnyNode>(rt.alloc())?;
-    assert_eq!(rt;
-        whole.as_slice(),
-        b"a.b;\r\na.b;\r\na.b;\r\na.b;\r\na.b;\r\na.b".as_slice()
-    );
-    assert_eq!(rt; parts.as_slice(), b"a.b;a.b;a.b;;".as_slice());
-    assert_eq!(rt; expr.as_slice(), b"a.b".as_slice());
-    Ok(())
+/// Whether what holds a node has its text.
+pub(crate) fn has_its_text_each_way<N: Tree>(alloc: Global) -> Result<bool, Fail> {
+    let [whole, parts, expr] = bytes_by_each_call::<N>(alloc)?;
+    let six = b"a.b;\r\na.b;\r\na.b;\r\na.b;\r\na.b;\r\na.b".as_slice();
+    Ok(
+        whole.as_slice() == six
+            && parts.as_slice() == b"a.b;a.b;a.b;;".as_slice()
+            && expr.as_slice() == b"a.b".as_slice(),
+    )
 }
 
 /// What the expression of `--a` tells those above it.
@@ -120,7 +113,7 @@ fn tells<N: Tree>(expr: &Expr<N>) -> bool {
 }
 
 /// Whether `--a` tells of its operator and its place.
-fn tells_of_itself<N: Tree>(alloc: Global) -> Result<bool, Fail> {
+pub(crate) fn tells_of_itself<N: Tree>(alloc: Global) -> Result<bool, Fail> {
     let tree = N::read(alloc, DECREMENT)?;
     let is_told = match expr_of(&tree) {
         Some(expr) => tells(expr),
@@ -129,19 +122,13 @@ fn tells_of_itself<N: Tree>(alloc: Global) -> Result<bool, Fail> {
     Ok(is_told && tree.span().is_dummy() && tree.span_lo().is_dummy())
 }
 
-#[test]
-fn questions(rt: HostRuntime) -> Result<(), Fail> {
-    assert!(rt; tells_of_itself::<AnyNode>(rt.alloc())?);
-    Ok(())
-}
-
 /// Whether a program isn't well-formed and is refused as one that isn't printed yet.
 fn is_unsupported<N: Tree>(alloc: Global, program: &Program<N>) -> bool {
     matches!(to_code(alloc, program), Err(Error::UnsupportedNode)) && !program.is_well_formed()
 }
 
 /// Whether an empty module and a script with a hashbang are refused.
-fn are_unsupported<N: Tree>(alloc: Global) -> Result<bool, Fail> {
+pub(crate) fn are_unsupported<N: Tree>(alloc: Global) -> Result<bool, Fail> {
     let span = DUMMY_SP;
     let module = Module {
         span,
@@ -159,12 +146,6 @@ fn are_unsupported<N: Tree>(alloc: Global) -> Result<bool, Fail> {
     )
 }
 
-#[test]
-fn modules_and_hashbangs_are_refused(rt: HostRuntime) -> Result<(), Fail> {
-    assert!(rt; are_unsupported::<AnyNode>(rt.alloc())?);
-    Ok(())
-}
-
 /// The text of `a` and then a statement that isn't printed yet, as far as it goes.
 fn text_before_debugger<N: Tree>(alloc: Global) -> Result<(bool, Vec<u8>), Fail> {
     let mut tree = N::read(alloc, NAME)?;
@@ -178,10 +159,8 @@ fn text_before_debugger<N: Tree>(alloc: Global) -> Result<(bool, Vec<u8>), Fail>
     Ok((refused && !tree.is_well_formed(), emitter.wr.into_inner()))
 }
 
-#[test]
-fn what_is_not_printed_yet_is_refused_before_its_first_token(rt: HostRuntime) -> Result<(), Fail> {
-    let (refused, text) = text_before_debugger::<AnyNode>(rt.alloc())?;
-    assert!(rt; refused);
-    assert_eq!(rt; text.as_slice(), b"a;".as_slice());
-    Ok(())
+/// Whether what isn't printed yet is refused before its first token.
+pub(crate) fn stops_before_debugger<N: Tree>(alloc: Global) -> Result<bool, Fail> {
+    let (refused, text) = text_before_debugger::<N>(alloc)?;
+    Ok(refused && text.as_slice() == b"a;".as_slice())
 }
