@@ -4,29 +4,26 @@ ghost use Rattle.std.specs.Prelude.{◌≡◌, false};
 
 use std::alloc::Global;
 use swc_ecma_codegen::nodes::Held;
-use swc_ecma_codegen::{
-    Config, Emitter, Node, is_well_formed, is_well_formed_expr, is_well_formed_stmt, to_code,
-};
+use swc_ecma_codegen::{Config, Emitter, Node, to_code};
 use swc_ecma_codegen_ast::comments::CommentMaps;
 use swc_ecma_codegen_ast::mapper::NoSource;
 use swc_ecma_codegen_common::{Error, EsVersion};
+use swc_ecma_codegen_grammar::{Fits, WellFormed};
 use swc_ecma_codegen_json::{ReadError, program_from_slice};
 use swc_ecma_codegen_spans::Spanned;
 use swc_ecma_codegen_text_writer::JsWriter;
-use swc_ecma_codegen_tree::{Expr, Holds, MemberExpr, Program, Stmt};
+use swc_ecma_codegen_tree::{AnyNode, Expr, Holds, MemberExpr, Program, Stmt};
 
-/// Whatever links hold that can be printed.
+/// What links hold. All but [`look`] is made for any of it, which costs a check less than to make it for `AnyNode`.
 trait Printed: Holds<Expr<Self>>
     + Holds<MemberExpr<Self>>
     + Holds<Stmt<Self>>
     + Held
+    + Fits
     + Spanned
     + Drop {}
 
-impl<N> Printed for N
-where
-    N: Holds<Expr<N>> + Holds<MemberExpr<N>> + Holds<Stmt<N>> + Held + Spanned + Drop,
-{}
+impl Printed for AnyNode {}
 
 /// A program's texts.
 #[derive(Drop)]
@@ -113,23 +110,31 @@ fn texts_of<N: Printed>(alloc: Global, tree: &Program<N>) -> Result<Texts, Error
     })
 }
 
-fn is_formed(tree: &Program) -> Option<bool> {
-    let answer = is_well_formed(tree);
+/// Whether a program is well-formed, where its parts answer alike.
+fn is_formed<N: Printed>(tree: &Program<N>) -> Option<bool> {
+    let answer = tree.is_well_formed();
     let agrees = match (statement(tree), expression(tree)) {
         (Some(stmt), Some(expr)) => {
-            is_well_formed_stmt(stmt) == answer && is_well_formed_expr(expr) == answer
+            stmt.is_well_formed() == answer && expr.is_well_formed() == answer
         }
-        (Some(stmt), None) => is_well_formed_stmt(stmt) == answer,
+        (Some(stmt), None) => stmt.is_well_formed() == answer,
         _ => true,
     };
     if agrees { Some(answer) } else { None }
 }
 
-/// Reads a program, and asks it.
-pub fn look(alloc: Global, json: &[u8]) -> Result<Answers, ReadError> {
-    let tree = program_from_slice(alloc, json)?;
-    Ok(Answers {
+/// Asks a program, and lets it go.
+fn asked<N: Printed>(alloc: Global, tree: Program<N>) -> Answers {
+    Answers {
         well_formed: is_formed(&tree),
         texts: texts_of(alloc, &tree),
-    })
+    }
+}
+
+/// Reads a program, and asks it. The one place that names what links hold.
+pub fn look(alloc: Global, json: &[u8]) -> Result<Answers, ReadError> {
+    match program_from_slice(alloc, json) {
+        Ok(tree) => Ok(asked::<AnyNode>(alloc, tree)),
+        Err(error) => Err(error),
+    }
 }

@@ -3,12 +3,6 @@
 use crate::trees::{DECREMENT, MEMBER, NAME, Tree, expr_of, script_of, settings, statement_of};
 use std::alloc::Global;
 use std::test::Fail;
-use swc_ecma_codegen::laws::{
-    emitted_boxed_stmt_reads, emitted_expr_box_reads, emitted_expr_reads,
-    emitted_member_expr_box_reads, emitted_optional_stmt_reads, emitted_program_reads,
-    emitted_script_reads, emitted_stmt_box_reads, emitted_stmt_reads, emitted_stmt_ref_reads,
-    links_write_their_roots, new_emitter_reads,
-};
 use swc_ecma_codegen::operands::{Operand, OperandKind, SpaceBefore};
 use swc_ecma_codegen::util::{EndsWithAlphaNum, StartsWithAlphaNum};
 use swc_ecma_codegen::{Emitter, Node, to_code};
@@ -19,8 +13,8 @@ use swc_ecma_codegen_grammar::WellFormed;
 use swc_ecma_codegen_spans::{SpanEnds, Spanned};
 use swc_ecma_codegen_text_writer::JsWriter;
 use swc_ecma_codegen_tree::{
-    AnyNode, DebuggerStmt, EmptyStmt, Expr, Ident, MemberExpr, MemberProp, Module, Program, Script,
-    Stmt, StmtBox,
+    DebuggerStmt, EmptyStmt, Expr, Ident, MemberExpr, MemberProp, Module, Program, Script, Stmt,
+    StmtBox,
 };
 
 /// Whether a node has this text by `to_code`.
@@ -74,76 +68,39 @@ fn prints_member<N: Tree>(alloc: Global, tree: &Program<N>) -> Result<bool, Erro
 }
 
 /// Whether `a.b` has its text through whatever holds it.
-fn prints_each_way<N: Tree>(alloc: Global) -> Result<bool, Fail> {
+pub(crate) fn prints_each_way<N: Tree>(alloc: Global) -> Result<bool, Fail> {
     let tree = N::read(alloc, MEMBER)?;
     Ok(prints_through(alloc, &tree)? && prints_member(alloc, &tree)?)
 }
 
-#[test]
-fn each_way_to_a_node(rt: HostRuntime) -> Result<(), Fail> {
-    assert!(rt; prints_each_way::<AnyNode>(rt.alloc())?);
-    Ok(())
-}
-
-/// The bytes of a tree and of its script, and of nothing after them, and then of its parts, by the functions that say how
-/// what holds a node reads.
-fn bytes_of_what_holds(alloc: Global, tree: &Program) -> Result<Vec<u8>, Error> {
-    links_write_their_roots();
-    let wr = JsWriter::new(alloc, &NoSource, "\r\n", Vec::new(alloc), None);
-    let mut emitter = Emitter::new(alloc, settings(false), &NoSource, None::<CommentMaps>, wr);
-    emitter.emit_program(tree)?;
-    emitted_program_reads(tree, &mut emitter)?;
-    if let Some(script) = script_of(tree) {
-        emitter.emit_script(script)?;
-        emitted_script_reads(script, &mut emitter)?;
-        if let Some(link) = script.body.first() {
-            emitted_stmt_box_reads(link, &mut emitter)?;
-        }
-    }
-    if let Some(Stmt::Expr(node)) = statement_of(tree) {
-        emitted_expr_box_reads(&node.expr, &mut emitter)?;
-    }
-    if let Some(Expr::Member(link)) = expr_of(tree) {
-        emitted_member_expr_box_reads(link, &mut emitter)?;
-    }
-    Ok(emitter.wr.into_inner())
-}
-
-/// The bytes of a statement and its expression, and then of `;`, by the functions that say how they read.
-fn bytes_that_read(alloc: Global, stmt: &Stmt, expr: &Expr) -> Result<Vec<u8>, Error> {
-    new_emitter_reads();
-    let wr = JsWriter::new(alloc, &NoSource, "\n", Vec::new(alloc), None);
-    let mut emitter = Emitter::new(alloc, settings(true), &NoSource, None::<CommentMaps>, wr);
-    emitted_stmt_reads(stmt, &mut emitter)?;
-    emitted_stmt_ref_reads(&stmt, &mut emitter)?;
-    emitted_expr_reads(expr, &mut emitter)?;
+/// The bytes of a tree, and of its parts.
+fn bytes_by_each_call<N: Tree>(alloc: Global) -> Result<[Vec<u8>; 3], Fail> {
+    let tree = N::read(alloc, MEMBER)?;
+    let whole = N::bytes_of_whole(alloc, &tree)?;
     let boxed = Box::new(alloc, Stmt::Empty(EmptyStmt { span: DUMMY_SP }))?;
-    emitted_boxed_stmt_reads(&boxed, &mut emitter)?;
-    emitted_optional_stmt_reads(&Some(Box::into_inner(boxed)), &mut emitter)?;
-    emitted_optional_stmt_reads(&None, &mut emitter)?;
-    Ok(emitter.wr.into_inner())
+    let some = Some(Stmt::Empty(EmptyStmt { span: DUMMY_SP }));
+    let held = (&boxed, [&some, &None]);
+    match (statement_of(&tree), expr_of(&tree)) {
+        (Some(stmt), Some(expr)) => {
+            Ok([
+                whole,
+                N::bytes_of_parts(alloc, stmt, held)?,
+                N::bytes_of_expr(alloc, expr)?,
+            ])
+        }
+        _ => Ok([whole, Vec::new(alloc), Vec::new(alloc)]),
+    }
 }
 
-/// The bytes of a tree by each call for a whole one, and of its parts.
-fn bytes_by_each_call(alloc: Global, json: &str) -> Result<(Vec<u8>, Vec<u8>), Fail> {
-    let tree = AnyNode::read(alloc, json)?;
-    let whole = bytes_of_what_holds(alloc, &tree)?;
-    let parts = match (statement_of(&tree), expr_of(&tree)) {
-        (Some(stmt), Some(expr)) => bytes_that_read(alloc, stmt, expr)?,
-        _ => Vec::new(alloc),
-    };
-    Ok((whole, parts))
-}
-
-#[test]
-fn what_holds_a_node_has_its_text(rt: HostRuntime) -> Result<(), Fail> {
-    let (whole, parts) = bytes_by_each_call(rt.alloc(), MEMBER)?;
-    assert_eq!(rt;
-        whole.as_slice(),
-        b"a.b;\r\na.b;\r\na.b;\r\na.b;\r\na.b;\r\na.b a.b".as_slice()
-    );
-    assert_eq!(rt; parts.as_slice(), b"a.b;a.b;a.b;;".as_slice());
-    Ok(())
+/// Whether what holds a node has its text.
+pub(crate) fn has_its_text_each_way<N: Tree>(alloc: Global) -> Result<bool, Fail> {
+    let [whole, parts, expr] = bytes_by_each_call::<N>(alloc)?;
+    let six = b"a.b;\r\na.b;\r\na.b;\r\na.b;\r\na.b;\r\na.b".as_slice();
+    Ok(
+        whole.as_slice() == six
+            && parts.as_slice() == b"a.b;a.b;a.b;;".as_slice()
+            && expr.as_slice() == b"a.b".as_slice(),
+    )
 }
 
 /// What the expression of `--a` tells those above it.
@@ -156,7 +113,7 @@ fn tells<N: Tree>(expr: &Expr<N>) -> bool {
 }
 
 /// Whether `--a` tells of its operator and its place.
-fn tells_of_itself<N: Tree>(alloc: Global) -> Result<bool, Fail> {
+pub(crate) fn tells_of_itself<N: Tree>(alloc: Global) -> Result<bool, Fail> {
     let tree = N::read(alloc, DECREMENT)?;
     let is_told = match expr_of(&tree) {
         Some(expr) => tells(expr),
@@ -165,19 +122,13 @@ fn tells_of_itself<N: Tree>(alloc: Global) -> Result<bool, Fail> {
     Ok(is_told && tree.span().is_dummy() && tree.span_lo().is_dummy())
 }
 
-#[test]
-fn questions(rt: HostRuntime) -> Result<(), Fail> {
-    assert!(rt; tells_of_itself::<AnyNode>(rt.alloc())?);
-    Ok(())
-}
-
 /// Whether a program isn't well-formed and is refused as one that isn't printed yet.
 fn is_unsupported<N: Tree>(alloc: Global, program: &Program<N>) -> bool {
     matches!(to_code(alloc, program), Err(Error::UnsupportedNode)) && !program.is_well_formed()
 }
 
 /// Whether an empty module and a script with a hashbang are refused.
-fn are_unsupported<N: Tree>(alloc: Global) -> Result<bool, Fail> {
+pub(crate) fn are_unsupported<N: Tree>(alloc: Global) -> Result<bool, Fail> {
     let span = DUMMY_SP;
     let module = Module {
         span,
@@ -195,12 +146,6 @@ fn are_unsupported<N: Tree>(alloc: Global) -> Result<bool, Fail> {
     )
 }
 
-#[test]
-fn modules_and_hashbangs_are_refused(rt: HostRuntime) -> Result<(), Fail> {
-    assert!(rt; are_unsupported::<AnyNode>(rt.alloc())?);
-    Ok(())
-}
-
 /// The text of `a` and then a statement that isn't printed yet, as far as it goes.
 fn text_before_debugger<N: Tree>(alloc: Global) -> Result<(bool, Vec<u8>), Fail> {
     let mut tree = N::read(alloc, NAME)?;
@@ -214,10 +159,8 @@ fn text_before_debugger<N: Tree>(alloc: Global) -> Result<(bool, Vec<u8>), Fail>
     Ok((refused && !tree.is_well_formed(), emitter.wr.into_inner()))
 }
 
-#[test]
-fn what_is_not_printed_yet_is_refused_before_its_first_token(rt: HostRuntime) -> Result<(), Fail> {
-    let (refused, text) = text_before_debugger::<AnyNode>(rt.alloc())?;
-    assert!(rt; refused);
-    assert_eq!(rt; text.as_slice(), b"a;".as_slice());
-    Ok(())
+/// Whether what isn't printed yet is refused before its first token.
+pub(crate) fn stops_before_debugger<N: Tree>(alloc: Global) -> Result<bool, Fail> {
+    let (refused, text) = text_before_debugger::<N>(alloc)?;
+    Ok(refused && text.as_slice() == b"a;".as_slice())
 }

@@ -12,7 +12,7 @@ use swc_ecma_codegen_ast::comments::CommentMaps;
 use swc_ecma_codegen_ast::mapper::NoSource;
 use swc_ecma_codegen_common::{Error, Result as Answer};
 use swc_ecma_codegen_text_writer::{JsWriter, WriteJs};
-use swc_ecma_codegen_tree::{AnyNode, Ident, Program};
+use swc_ecma_codegen_tree::{Ident, Program};
 
 /// Takes one byte a call, up to a number of bytes, and then fails, or answers 0 where it has no fault.
 #[derive(Drop)]
@@ -178,73 +178,43 @@ fn fails_after<N: Tree>(
         && text.as_bytes().starts_with(taken.as_slice())
 }
 
-/// The number of bytes after which a writer fails as it should.
-fn count_of_failures<N: Tree>(alloc: Global, fault: Option<ErrorKind>) -> Result<u32, Fail> {
+/// Whether a writer that fails after each number of bytes, in each way, makes the emission fail so.
+pub(crate) fn fails_after_each_byte<N: Tree>(alloc: Global) -> Result<bool, Fail> {
     let tree = N::read(alloc, DIFFERENCE)?;
-    let mut count = 0u32;
-    for room in 0..12 {
-        if fails_after(alloc, &tree, room, fault) {
-            count = count.saturating_add(1);
+    let mut all = true;
+    for fault in [Some(ErrorKind::Interrupted), Some(ErrorKind::Other), None] {
+        for room in 0..12 {
+            all = all && fails_after(alloc, &tree, room, fault);
         }
     }
-    Ok(count)
+    Ok(all)
 }
 
-#[test]
-fn fails_after_each_byte(rt: HostRuntime) -> Result<(), Fail> {
-    for fault in [Some(ErrorKind::Interrupted), Some(ErrorKind::Other), None] {
-        assert_eq!(rt; count_of_failures::<AnyNode>(rt.alloc(), fault)?, 12);
-    }
-    Ok(())
-}
-
-/// What a writer takes of `a - -b * c`, twice, in single bytes.
-fn taken_in_single_bytes<N: Tree>(alloc: Global) -> Result<Option<Vec<u8>>, Fail> {
+/// Whether a writer that takes one byte a call gets `a - -b * c` twice.
+pub(crate) fn goes_out_in_single_bytes<N: Tree>(alloc: Global) -> Result<bool, Fail> {
     let tree = N::read(alloc, DIFFERENCE)?;
     let (answers, taken) = in_single_bytes(alloc, &tree, 100, None);
     let all = answers.first.is_ok() && answers.second.is_ok() && answers.nothing.is_ok();
-    Ok(if all { Some(taken) } else { None })
+    Ok(all && taken.as_slice() == b"a - -b * c;\na - -b * c;\n".as_slice())
 }
 
-/// How many calls a writer gets, of which the second is interrupted.
-fn calls_to_interrupted<N: Tree>(alloc: Global) -> Result<Option<u64>, Fail> {
+/// Whether a writer whose second call is interrupted gets no third one.
+pub(crate) fn stops_when_interrupted<N: Tree>(alloc: Global) -> Result<bool, Fail> {
     let tree = N::read(alloc, DIFFERENCE)?;
     let (answers, calls) = interrupted(alloc, &tree);
-    let all = kind_of(&answers.first) == Some(ErrorKind::Interrupted) && are_failed(&answers);
-    Ok(if all { Some(calls) } else { None })
+    let kind = kind_of(&answers.first);
+    Ok(kind == Some(ErrorKind::Interrupted) && are_failed(&answers) && calls == 2)
 }
 
-#[test]
-fn one_byte_a_call_and_interrupted_once(rt: HostRuntime) -> Result<(), Fail> {
-    match taken_in_single_bytes::<AnyNode>(rt.alloc())? {
-        Some(taken) => {
-            assert_eq!(rt; taken.as_slice(), b"a - -b * c;\na - -b * c;\n".as_slice());
-        }
-        None => assert!(rt; false),
-    }
-    assert_eq!(rt; calls_to_interrupted::<AnyNode>(rt.alloc())?, Some(2));
-    Ok(())
-}
-
-/// The code and the kind that come out of a writer that fails with a code.
-fn told_of_code<N: Tree>(
-    alloc: Global,
-    code: i32,
-) -> Result<(Option<i32>, Option<ErrorKind>), Fail> {
+/// Whether the code and the kind of a writer's error come out.
+pub(crate) fn gives_the_writers_error<N: Tree>(alloc: Global) -> Result<bool, Fail> {
     let tree = N::read(alloc, DIFFERENCE)?;
-    let answers = with_code(alloc, &tree, code);
-    Ok(if are_failed(&answers) {
-        (code_of(&answers.first), kind_of(&answers.first))
-    } else {
-        (None, None)
-    })
-}
-
-#[test]
-fn the_error_of_the_writer_comes_out(rt: HostRuntime) -> Result<(), Fail> {
+    let mut all = true;
     for code in [2, 5, 28, 32] {
+        let answers = with_code(alloc, &tree, code);
         let kind = io::Error::from_raw_os_error(code).kind();
-        assert!(rt; told_of_code::<AnyNode>(rt.alloc(), code)? == (Some(code), Some(kind)));
+        all = all && code_of(&answers.first) == Some(code);
+        all = all && kind_of(&answers.first) == Some(kind) && are_failed(&answers);
     }
-    Ok(())
+    Ok(all)
 }

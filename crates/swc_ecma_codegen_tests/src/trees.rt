@@ -3,14 +3,23 @@
 ghost use Rattle.std.specs.Prelude.{◌≡◌, false};
 
 use std::alloc::Global;
-use swc_ecma_codegen::Config;
+use swc_ecma_codegen::laws::{
+    emitted_boxed_stmt_reads, emitted_expr_box_reads, emitted_expr_reads,
+    emitted_member_expr_box_reads, emitted_optional_stmt_reads, emitted_program_reads,
+    emitted_script_reads, emitted_stmt_box_reads, emitted_stmt_reads, emitted_stmt_ref_reads,
+    links_write_their_roots, new_emitter_reads,
+};
 use swc_ecma_codegen::nodes::Held;
 use swc_ecma_codegen::operands::SpaceBefore;
 use swc_ecma_codegen::util::{EndsWithAlphaNum, StartsWithAlphaNum};
-use swc_ecma_codegen_common::EsVersion;
+use swc_ecma_codegen::{Config, Emitter, is_well_formed, is_well_formed_expr, is_well_formed_stmt};
+use swc_ecma_codegen_ast::comments::CommentMaps;
+use swc_ecma_codegen_ast::mapper::NoSource;
+use swc_ecma_codegen_common::{Error, EsVersion};
 use swc_ecma_codegen_grammar::Fits;
 use swc_ecma_codegen_json::{ReadError, program_from_slice};
 use swc_ecma_codegen_spans::Spanned;
+use swc_ecma_codegen_text_writer::JsWriter;
 use swc_ecma_codegen_tree::{AnyNode, Expr, Holds, MemberExpr, Program, Script, Stmt};
 
 /// `a`
@@ -42,11 +51,77 @@ pub(crate) trait Tree: Holds<Expr<Self>>
     + Drop {
     /// Reads a program.
     fn read(alloc: Global, json: &str) -> Result<Program<Self>, ReadError>;
+
+    /// The bytes of a tree that is well-formed and of its script, by themselves and by the functions that say how they read,
+    /// and then of its parts, by those.
+    fn bytes_of_whole(alloc: Global, tree: &Program<Self>) -> Result<Vec<u8>, Error>;
+
+    /// The bytes of a well-formed statement and of its expression, by the functions that say how they read, and then of `;` in
+    /// a box, in an option, and of none.
+    fn bytes_of_parts(
+        alloc: Global,
+        stmt: &Stmt<Self>,
+        semicolons: (&Box<Stmt<Self>>, [&Option<Stmt<Self>>; 2]),
+    ) -> Result<Vec<u8>, Error>;
+
+    /// The bytes of a well-formed expression, by the function that says how it reads.
+    fn bytes_of_expr(alloc: Global, expr: &Expr<Self>) -> Result<Vec<u8>, Error>;
 }
 
 impl Tree for AnyNode {
     fn read(alloc: Global, json: &str) -> Result<Program, ReadError> {
         program_from_slice(alloc, json.as_bytes())
+    }
+
+    fn bytes_of_whole(alloc: Global, tree: &Program) -> Result<Vec<u8>, Error> {
+        links_write_their_roots();
+        new_emitter_reads();
+        let wr = JsWriter::new(alloc, &NoSource, "\r\n", Vec::new(alloc), None);
+        let mut emitter = Emitter::new(alloc, settings(false), &NoSource, None::<CommentMaps>, wr);
+        if is_well_formed(tree) {
+            emitter.emit_program(tree)?;
+            emitted_program_reads(tree, &mut emitter)?;
+        }
+        if let Some(script) = script_of(tree) {
+            emitter.emit_script(script)?;
+            emitted_script_reads(script, &mut emitter)?;
+            if let Some(link) = script.body.first() {
+                emitted_stmt_box_reads(link, &mut emitter)?;
+            }
+        }
+        if let Some(Expr::Member(link)) = expr_of(tree) {
+            emitted_member_expr_box_reads(link, &mut emitter)?;
+        }
+        Ok(emitter.wr.into_inner())
+    }
+
+    fn bytes_of_parts(
+        alloc: Global,
+        stmt: &Stmt,
+        (boxed, [some, none]): (&Box<Stmt>, [&Option<Stmt>; 2]),
+    ) -> Result<Vec<u8>, Error> {
+        let wr = JsWriter::new(alloc, &NoSource, "\n", Vec::new(alloc), None);
+        let mut emitter = Emitter::new(alloc, settings(true), &NoSource, None::<CommentMaps>, wr);
+        if is_well_formed_stmt(stmt) {
+            emitted_stmt_reads(stmt, &mut emitter)?;
+            emitted_stmt_ref_reads(&stmt, &mut emitter)?;
+        }
+        if let Stmt::Expr(node) = stmt {
+            emitted_expr_box_reads(&node.expr, &mut emitter)?;
+        }
+        emitted_boxed_stmt_reads(boxed, &mut emitter)?;
+        emitted_optional_stmt_reads(some, &mut emitter)?;
+        emitted_optional_stmt_reads(none, &mut emitter)?;
+        Ok(emitter.wr.into_inner())
+    }
+
+    fn bytes_of_expr(alloc: Global, expr: &Expr) -> Result<Vec<u8>, Error> {
+        let wr = JsWriter::new(alloc, &NoSource, "\n", Vec::new(alloc), None);
+        let mut emitter = Emitter::new(alloc, settings(true), &NoSource, None::<CommentMaps>, wr);
+        if is_well_formed_expr(expr) {
+            emitted_expr_reads(expr, &mut emitter)?;
+        }
+        Ok(emitter.wr.into_inner())
     }
 }
 

@@ -1,0 +1,73 @@
+//! The checks that are made for whatever links hold, and what they do hold. A check costs a proof each time that it names
+//! that, so one test makes all of them.
+
+use crate::calls::{
+    are_unsupported, has_its_text_each_way, prints_each_way, stops_before_debugger, tells_of_itself,
+};
+use crate::faults::{
+    fails_after_each_byte, gives_the_writers_error, goes_out_in_single_bytes,
+    stops_when_interrupted,
+};
+use crate::links::all_come_back;
+use crate::trees::Tree;
+use std::alloc::Global;
+use std::test::Fail;
+use swc_ecma_codegen_tree::AnyNode;
+
+/// The checks that don't hold.
+fn failing<N: Tree>(alloc: Global) -> Result<Vec<&'static str>, Fail> {
+    let checks = [
+        (
+            "a node prints through whatever holds it",
+            prints_each_way::<N>(alloc)?,
+        ),
+        (
+            "what holds a node has its text",
+            has_its_text_each_way::<N>(alloc)?,
+        ),
+        (
+            "an expression tells of itself",
+            tells_of_itself::<N>(alloc)?,
+        ),
+        (
+            "modules and hashbangs are refused",
+            are_unsupported::<N>(alloc)?,
+        ),
+        (
+            "what is not printed yet is refused before its first token",
+            stops_before_debugger::<N>(alloc)?,
+        ),
+        (
+            "an emission fails after each byte",
+            fails_after_each_byte::<N>(alloc)?,
+        ),
+        (
+            "a text goes out in single bytes",
+            goes_out_in_single_bytes::<N>(alloc)?,
+        ),
+        (
+            "an interrupted writer stops an emission",
+            stops_when_interrupted::<N>(alloc)?,
+        ),
+        (
+            "the error of the writer comes out",
+            gives_the_writers_error::<N>(alloc)?,
+        ),
+        ("links give back what they hold", all_come_back::<N>(alloc)?),
+    ];
+    let mut failing = Vec::new(alloc);
+    for (check, holds) in checks {
+        if !holds {
+            failing.push(check)?;
+        }
+    }
+    Ok(failing)
+}
+
+#[test]
+fn checks_of_trees(rt: HostRuntime) -> Result<(), Fail> {
+    for check in &failing::<AnyNode>(rt.alloc())? {
+        assert!(rt; false, "{check}");
+    }
+    Ok(())
+}
