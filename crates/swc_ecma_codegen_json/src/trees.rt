@@ -1,6 +1,6 @@
 //! Programs as serde reads them.
 
-use crate::levels::all_levels;
+use crate::levels::{Levels, all_levels};
 use serde::{Deserialize, DeserializeOwned, Deserializer, Format};
 use std::alloc::Global;
 use swc_ecma_codegen_read::Input;
@@ -19,11 +19,19 @@ impl DeserializeOwned for Tree {
         let Ok(levels) = all_levels(alloc) else {
             return Err(from.no_memory());
         };
-        let mut input = Input::new(alloc, from);
-        match read_program(&mut input, &levels) {
-            Ok(program) => Ok(Tree(program)),
-            Err(_) => Err(input.error()),
-        }
+        read_tree(&mut Input::new(alloc, from), &levels)
+    }
+}
+
+/// The program that is read, or why there is none. In a function that is lent the input, since the check doesn't follow the
+/// loan of a local that holds a reference to where any `S: Source` is taken.
+fn read_tree<'a, 'de, 's, F: Format>(
+    input: &mut Input<'a, 'de, 's, F>,
+    levels: &Levels,
+) -> Result<Tree, F::Error> {
+    match read_program(input, levels) {
+        Ok(program) => Ok(Tree(program)),
+        Err(_) => Err(input.error()),
     }
 }
 
