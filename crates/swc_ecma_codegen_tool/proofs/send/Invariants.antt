@@ -1,5 +1,5 @@
 -- What is gone from `rest` went out.
-use Rattle.std.proofs.Common.{◌≡◌, List, ◌++◌}
+use Rattle.std.proofs.Common.{◌≡◌, ℕ, List, ◌++◌}
 use Rattle.std.specs.Io.KnownBytes.{Appends}
 use Rattle.swc_ecma_codegen_tool.proofs.send.Given as goal
 
