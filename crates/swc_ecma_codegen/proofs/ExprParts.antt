@@ -22,21 +22,29 @@ use Rattle.swc_ecma_codegen_tree.specs.declared.exprs.MemberProp.{MemberProp}
 use Rattle.swc_ecma_codegen_tree.specs.declared.exprs.MemberProp.TheVariants as member_props
 use Rattle.swc_ecma_codegen_tree.specs.declared.exprs.SeqExpr.{SeqExpr}
 use Rattle.swc_ecma_codegen_tree.specs.declared.exprs.ParenExpr.{ParenExpr}
+use Rattle.swc_ecma_codegen_tree.specs.declared.ts_exprs.TsNonNullExpr.{TsNonNullExpr}
+use Rattle.swc_ecma_codegen_tree.specs.declared.ts_exprs.TsConstAssertion.{TsConstAssertion}
+use Rattle.swc_ecma_codegen_tree.specs.declared.exprs.AwaitExpr.{AwaitExpr}
+use Rattle.swc_ecma_codegen_tree.specs.declared.exprs.SuperPropExpr.{SuperPropExpr}
+use Rattle.swc_ecma_codegen_tree.specs.declared.exprs.SuperProp.{SuperProp}
+use Rattle.swc_ecma_codegen_tree.specs.declared.lits.Lit.{Lit}
+use Rattle.swc_ecma_codegen_tree.specs.declared.exprs.SuperProp.TheVariants as super_props
+use Rattle.swc_ecma_codegen_tree.specs.declared.lits.Lit.TheVariants as lits
 use Rattle.swc_ecma_codegen_tree.specs.declared.exprs.Expr.{Expr}
 use Rattle.swc_ecma_codegen_tree.specs.declared.exprs.Expr.TheVariants as exprs
 use Rattle.swc_ecma_codegen_common.specs.Operators.{unary_text, binary_text, update_text}
-use Rattle.swc_ecma_codegen_spans.specs.Spans.{expr_span}
+use Rattle.swc_ecma_codegen_spans.specs.Spans.{expr_span, lit_span}
 use Rattle.swc_ecma_codegen_util.specs.Starts as starts
 use Rattle.swc_ecma_codegen_ast.specs.Chars.{is_start, is_part, is_letter, is_digit}
 use Rattle.swc_ecma_codegen_ast.specs.Names.{is_word, all_part}
 use Rattle.swc_ecma_codegen_ast.specs.Punctuators.{is_punctuator, punctuators}
 use Rattle.swc_ecma_codegen_ast.specs.Texts.{is_same, is_among}
-use Rattle.swc_ecma_codegen_ast.specs.Phrases.{Phrase, One, ◌>◌, mark}
+use Rattle.swc_ecma_codegen_ast.specs.Phrases.{Phrase, One, ◌>◌, word, mark}
 use Rattle.swc_ecma_codegen_ast.specs.NamePhrases as names
 use Rattle.swc_ecma_codegen_ast.specs.ExprPhrases as lists
 use Rattle.swc_ecma_codegen_ast.specs.declared.roles.Role.TheVariants.{MemberExpression}
 use Rattle.swc_ecma_codegen_base.specs.Run.{Env, Part}
-use Rattle.swc_ecma_codegen_base.specs.Words.{operator, space, formatting_space, position, leading_comments, trailing_comments}
+use Rattle.swc_ecma_codegen_base.specs.Words.{keyword, operator, space, formatting_space, position, leading_comments, trailing_comments}
 use Rattle.swc_ecma_codegen_base.proofs.Printed.{Writes, writes_then, writes_if, writes_nothing, writes_space, writes_formatting_space, writes_commit, writes_position, writes_position_before, writes_leading, writes_trailing}
 use Rattle.swc_ecma_codegen_base.specs.Written.{IsWord, IsMark}
 use Rattle.swc_ecma_codegen_base.proofs.Phrased.{Prints, then, after, before, prints_never, prints_keyword, prints_word_operator, prints_operator, prints_punct, prints_ident, prints_name}
@@ -235,6 +243,77 @@ paren_prints l n =
     (then (expr_at l n.expr Plain)
     (after (writes_position_before l.env n.span.hi) (prints_punct l.env (codes ")") paren_closes_is_mark)))))
 
+await_is_word : IsWord (codes "await")
+unfolding is_word is_start is_part is_letter is_digit all_part chars is_utf8 lib.Utf8.encode
+await_is_word = record { utf8 = refl; ascii = refl; shape = refl }
+
+super_is_word : IsWord (codes "super")
+unfolding is_word is_start is_part is_letter is_digit all_part chars is_utf8 lib.Utf8.encode
+super_is_word = record { utf8 = refl; ascii = refl; shape = refl }
+
+as_is_word : IsWord (codes "as")
+unfolding is_word is_start is_part is_letter is_digit all_part chars is_utf8 lib.Utf8.encode
+as_is_word = record { utf8 = refl; ascii = refl; shape = refl }
+
+const_is_word : IsWord (codes "const")
+unfolding is_word is_start is_part is_letter is_digit all_part chars is_utf8 lib.Utf8.encode
+const_is_word = record { utf8 = refl; ascii = refl; shape = refl }
+
+true_is_word : IsWord (codes "true")
+unfolding is_word is_start is_part is_letter is_digit all_part chars is_utf8 lib.Utf8.encode
+true_is_word = record { utf8 = refl; ascii = refl; shape = refl }
+
+false_is_word : IsWord (codes "false")
+unfolding is_word is_start is_part is_letter is_digit all_part chars is_utf8 lib.Utf8.encode
+false_is_word = record { utf8 = refl; ascii = refl; shape = refl }
+
+null_is_word : IsWord (codes "null")
+unfolding is_word is_start is_part is_letter is_digit all_part chars is_utf8 lib.Utf8.encode
+null_is_word = record { utf8 = refl; ascii = refl; shape = refl }
+
+exclamation_is_mark : IsMark (codes "!")
+unfolding is_punctuator is_among is_same punctuators chars is_utf8 lib.Utf8.encode
+exclamation_is_mark = record { utf8 = refl; ascii = refl; shape = refl }
+
+await_prints : {X : Type 0} (l : Linked X) (n : AwaitExpr X) → Prints l.env (words.await_expr l.items n) (lists.await_expr l.reads n)
+unfolding words.await_expr lists.await_expr
+await_prints l n = after (writes_opened l.env n.span) (then (prints_keyword l.env None (codes "await") await_is_word) (after (writes_space l.env) (expr_at l n.arg Plain)))
+
+super_prop_prints : {X : Type 0} (l : Linked X) (n : SuperProp X) → Prints l.env (words.super_prop l.items n) (lists.super_prop l.reads n)
+unfolding words.super_prop lists.super_prop
+super_prop_prints l (super_props.Ident n) = after (writes_comments_before l.env n.span.lo) (then (prints_punct l.env (codes ".") dot_is_mark) (ident_name_prints l n))
+super_prop_prints l (super_props.Computed n) = computed_prints l n
+
+super_prop_expr_prints : {X : Type 0} (l : Linked X) (n : SuperPropExpr X) → Prints l.env (words.super_prop_expr l.items n) (lists.super_prop_expr l.reads n)
+unfolding words.super_prop_expr lists.super_prop_expr
+super_prop_expr_prints l n = after (writes_opened l.env n.span) (then (prints_keyword l.env (Some n.obj.span) (codes "super") super_is_word) (super_prop_prints l n.prop))
+
+ts_non_null_prints : {X : Type 0} (l : Linked X) (n : TsNonNullExpr X) → Prints l.env (words.ts_non_null_expr l.items n) (lists.ts_non_null_expr l.reads n)
+unfolding words.ts_non_null_expr lists.ts_non_null_expr
+ts_non_null_prints l n = after (writes_leading l.env n.span.lo) (then (expr_at l n.expr Plain) (prints_punct l.env (codes "!") exclamation_is_mark))
+
+ts_const_assertion_prints : {X : Type 0} (l : Linked X) (n : TsConstAssertion X) → Prints l.env (words.ts_const_assertion l.items n) (lists.ts_const_assertion l.reads n)
+unfolding words.ts_const_assertion lists.ts_const_assertion
+ts_const_assertion_prints l n =
+    after (writes_leading l.env n.span.lo)
+    (then (expr_at l n.expr Plain)
+    (after (writes_space l.env)
+    (then (prints_keyword l.env None (codes "as") as_is_word) (after (writes_space l.env) (prints_keyword l.env None (codes "const") const_is_word)))))
+
+bool_prints : (env : Env) (value : Bool) → Prints env (λ rest. cond value (keyword None (codes "true") rest) (keyword None (codes "false") rest)) (cond value (word (codes "true")) (word (codes "false")))
+bool_prints env true = prints_keyword env None (codes "true") true_is_word
+bool_prints env false = prints_keyword env None (codes "false") false_is_word
+
+lit_word_prints : (env : Env) (n : Lit) → Prints env (words.lit_word n) (lists.lit n)
+unfolding words.lit_word lists.lit
+lit_word_prints env (lits.Bool n) = bool_prints env n.value
+lit_word_prints env (lits.Null n) = prints_keyword env None (codes "null") null_is_word
+lit_word_prints env n = prints_never
+
+lit_prints : (env : Env) (n : Lit) → Prints env (words.lit n) (lists.lit n)
+unfolding words.lit
+lit_prints env n = after (writes_opened env (lit_span n)) (lit_word_prints env n)
+
 parts_print : {X : Type 0} (l : Linked X) (n : Expr X) (place : Place) → Prints l.env (words.expr_parts l.asks l.items n place) (lists.expr l.reads n)
 unfolding words.expr_parts lists.expr
 parts_print l (exprs.This n) place = this_prints l.env n
@@ -246,6 +325,11 @@ parts_print l (exprs.Cond n) place = cond_prints l n
 parts_print l (exprs.Seq n) place = seq_prints l n
 parts_print l (exprs.Ident n) place = ident_prints l n
 parts_print l (exprs.Paren n) place = paren_prints l n
+parts_print l (exprs.Await n) place = await_prints l n
+parts_print l (exprs.SuperProp n) place = super_prop_expr_prints l n
+parts_print l (exprs.TsNonNull n) place = ts_non_null_prints l n
+parts_print l (exprs.TsConstAssertion n) place = ts_const_assertion_prints l n
+parts_print l (exprs.Lit n) place = lit_prints l.env n
 parts_print l n place = prints_never
 
 -- the comments after it

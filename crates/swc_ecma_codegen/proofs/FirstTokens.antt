@@ -11,6 +11,8 @@ use Rattle.swc_ecma_codegen_tree.specs.declared.links.AnyNode.TheBlock.{the_fami
 use Rattle.swc_ecma_codegen_tree.specs.declared.links.AnyNode.TheFolds.{claims}
 use Rattle.swc_ecma_codegen_tree.specs.declared.expr_links.ExprBox.{ExprBox}
 use Rattle.swc_ecma_codegen_tree.specs.declared.exprs.Expr.{Expr}
+use Rattle.swc_ecma_codegen_tree.specs.declared.lits.Lit.{Lit}
+use Rattle.swc_ecma_codegen_tree.specs.declared.lits.Lit.TheVariants as lits
 use Rattle.swc_ecma_codegen_tree.specs.declared.exprs.Expr.TheVariants as exprs
 use Rattle.swc_ecma_codegen_tree.specs.declared.stmts.Stmt.{Stmt}
 use Rattle.swc_ecma_codegen_tree.specs.declared.stmts.Stmt.TheVariants as stmts
@@ -25,7 +27,7 @@ use Rattle.swc_ecma_codegen_ast.specs.ExprPhrases as lists
 use Rattle.swc_ecma_codegen_ast.specs.StmtPhrases as stmt_lists
 use Rattle.swc_ecma_codegen_ast.specs.TreePhrases.{node_phrase, phrase, expr_phrase}
 use Rattle.swc_ecma_codegen_ast.proofs.TreeLaws.{phrase_of}
-use Rattle.swc_ecma_codegen_util.specs.Starts.{is_word_op, update_starts, first_starts, expr_starts, stmt_starts, node_starts, any_starts}
+use Rattle.swc_ecma_codegen_util.specs.Starts.{is_word_op, lit_starts, update_starts, first_starts, expr_starts, stmt_starts, node_starts, any_starts}
 use Rattle.swc_ecma_codegen_util.proofs.Begins.{starts_of}
 use Rattle.swc_ecma_codegen.specs.FirstTokens.{joins_a_word}
 
@@ -104,8 +106,18 @@ unfolding phrases.some_listed first_starts
 seq_begins reads starts law [] = begins_never false
 seq_begins reads starts law (x ∷ xs) = begins_then _ _ _ (law x.node.value Expression)
 
+begins_bool : (value : Bool) → Begins (cond value (phrases.word (codes "true")) (phrases.word (codes "false"))) true
+begins_bool true = begins_true _
+begins_bool false = begins_true _
+
+lit_begins : (n : Lit) → Begins (lists.lit n) (lit_starts n)
+unfolding lists.lit lit_starts
+lit_begins (lits.Bool n) = begins_bool n.value
+lit_begins (lits.Null n) = begins_true _
+lit_begins n = begins_never _
+
 expr_begins : {X : Type 0} (reads : X → Role → Phrase) (starts : X → Bool) → Begin reads starts → (n : Expr X) → Begins (lists.expr reads n) (expr_starts starts n)
-unfolding expr_starts update_starts lists.expr lists.this_expr lists.unary_expr lists.update_expr lists.update_op lists.bin_expr lists.cond_expr lists.seq_expr lists.paren_expr names.ident
+unfolding expr_starts update_starts lists.expr lists.this_expr lists.unary_expr lists.update_expr lists.update_op lists.bin_expr lists.cond_expr lists.seq_expr lists.paren_expr lists.await_expr lists.super_prop_expr lists.ts_non_null_expr lists.ts_const_assertion names.ident
 expr_begins reads starts law (exprs.This n) = begins_true _
 expr_begins reads starts law (exprs.Unary n) = begins_then _ _ _ (begins_unary n.op)
 expr_begins reads starts law (exprs.Update n) = begins_update n.prefix (update_text n.op) _ _ (law n.arg.node.value Expression)
@@ -115,6 +127,11 @@ expr_begins reads starts law (exprs.Cond n) = begins_then _ _ _ (law n.test.node
 expr_begins reads starts law (exprs.Seq n) = seq_begins reads starts law n.exprs.items
 expr_begins reads starts law (exprs.Ident n) = begins_then _ _ _ (begins_name _)
 expr_begins reads starts law (exprs.Paren n) = begins_then _ _ _ (begins_mark _ false)
+expr_begins reads starts law (exprs.Await n) = begins_then _ _ _ (begins_true _)
+expr_begins reads starts law (exprs.SuperProp n) = begins_then _ _ _ (begins_true _)
+expr_begins reads starts law (exprs.TsNonNull n) = begins_then _ _ _ (law n.expr.node.value Expression)
+expr_begins reads starts law (exprs.TsConstAssertion n) = begins_then _ _ _ (law n.expr.node.value Expression)
+expr_begins reads starts law (exprs.Lit n) = lit_begins n
 expr_begins reads starts law n = begins_never _
 
 stmt_begins : {X : Type 0} (reads : X → Role → Phrase) (starts : X → Bool) → Begin reads starts → (n : Stmt X) → Begins (stmt_lists.stmt reads n) (stmt_starts starts n)

@@ -5,6 +5,9 @@ use Rattle.swc_ecma_codegen_tree.specs.declared.links.AnyNode.TheOpen as nodes
 use Rattle.swc_ecma_codegen_tree.specs.declared.links.AnyNode.TheViews.{roll-out-AnyNode}
 use Rattle.swc_ecma_codegen_tree.specs.declared.links.AnyNode.TheVariants as whole
 use Rattle.swc_ecma_codegen_tree.specs.declared.exprs.Expr.{Expr}
+use Rattle.swc_ecma_codegen_tree.specs.declared.exprs.Super.{Super}
+use Rattle.swc_ecma_codegen_tree.specs.declared.exprs.SuperProp.{SuperProp}
+use Rattle.swc_ecma_codegen_tree.specs.declared.exprs.SuperProp.TheVariants as super_props
 use Rattle.swc_ecma_codegen_tree.specs.declared.exprs.Expr.TheVariants as exprs
 use Rattle.swc_ecma_codegen_tree.specs.declared.exprs.MemberExpr.{MemberExpr}
 use Rattle.swc_ecma_codegen_tree.specs.declared.stmts.Stmt.{Stmt}
@@ -21,7 +24,7 @@ use Rattle.swc_ecma_codegen.specs.declared.nodes.Place.{Place}
 use Rattle.swc_ecma_codegen.specs.declared.nodes.Place.TheVariants.{Plain, LeftOperand}
 use Rattle.swc_ecma_codegen.specs.Answers.{Answers, any_answers}
 use Rattle.swc_ecma_codegen.specs.Lists.{comma, listed, unsupported}
-use Rattle.swc_ecma_codegen.specs.Exprs.{this, unary, update, update_parts, bin, bin_trailing, member, member_prop, computed_prop_name, choice, seq, held, paren, ident, opened, expr_parts, expr_closed, is_inner, expr}
+use Rattle.swc_ecma_codegen.specs.Exprs.{this, unary, update, update_parts, bin, bin_trailing, member, member_prop, computed_prop_name, choice, seq, held, paren, await_expr, super_prop, super_prop_expr, ts_non_null_expr, ts_const_assertion, lit, lit_word, ident, opened, expr_parts, expr_closed, is_inner, expr}
 use Rattle.swc_ecma_codegen.specs.Stmts.{empty_stmt, expr_stmt, stmt_parts, stmt}
 use Rattle.swc_ecma_codegen.specs.Tree.{node_items, any_items}
 
@@ -38,11 +41,17 @@ member_mapped g asks items span obj (member_props.Ident n) place rest = refl
 member_mapped g asks items span obj (member_props.Computed n) place rest = refl
 member_mapped g asks items span obj n place rest = refl
 
+super_mapped : {X Y : Type 0} (g : X → Y) (asks : Y → Answers) (items : Y → Place → Part) (span : Span) (obj : Super) (prop : SuperProp X) (place : Place) (rest : Plan) → node_items asks items (map-AnyNode X Y g (nodes.Expr (exprs.SuperProp (record { span = span; obj = obj; prop = prop })))) place rest ≡ expr (λ x. asks (g x)) (λ x. items (g x)) (exprs.SuperProp (record { span = span; obj = obj; prop = prop })) place rest
+unfolding node_items expr expr_parts expr_closed expr_span is_inner super_prop_expr super_prop computed_prop_name
+super_mapped g asks items span obj (super_props.Ident n) place rest = refl
+super_mapped g asks items span obj (super_props.Computed n) place rest = refl
+
 expr_mapped : {X Y : Type 0} (g : X → Y) (asks : Y → Answers) (items : Y → Place → Part) (n : Expr X) (place : Place) (rest : Plan) → node_items asks items (map-AnyNode X Y g (nodes.Expr n)) place rest ≡ expr (λ x. asks (g x)) (λ x. items (g x)) n place rest
-unfolding node_items expr expr_parts expr_closed expr_span is_inner unsupported refuse this unary update update_parts bin bin_trailing choice seq paren ident
+unfolding node_items expr expr_parts expr_closed expr_span is_inner unsupported refuse this unary update update_parts bin bin_trailing choice seq paren await_expr ts_non_null_expr ts_const_assertion lit lit_word ident
 expr_mapped g asks items (exprs.Bin n) Plain rest = refl
 expr_mapped g asks items (exprs.Bin n) LeftOperand rest = refl
 expr_mapped {X} g asks items (exprs.Seq n) place rest = ap (opened n.span) (listed_mapped {A = ExprBox X} _ (held items) (held (λ x. items (g x))) (λ x. refl) true n.exprs.items (trailing_comments true n.span.hi rest))
+expr_mapped g asks items (exprs.SuperProp n) place rest = super_mapped g asks items n.span n.obj n.prop place rest
 expr_mapped g asks items n place rest = refl
 
 stmt_mapped : {X Y : Type 0} (g : X → Y) (asks : Y → Answers) (items : Y → Place → Part) (n : Stmt X) (place : Place) (rest : Plan) → node_items asks items (map-AnyNode X Y g (nodes.Stmt n)) place rest ≡ stmt (λ x. asks (g x)) (λ x. items (g x)) n rest

@@ -19,10 +19,19 @@ use Rattle.swc_ecma_codegen_tree.specs.declared.exprs.ComputedPropName.{Computed
 use Rattle.swc_ecma_codegen_tree.specs.declared.exprs.CondExpr.{CondExpr}
 use Rattle.swc_ecma_codegen_tree.specs.declared.exprs.SeqExpr.{SeqExpr}
 use Rattle.swc_ecma_codegen_tree.specs.declared.exprs.ParenExpr.{ParenExpr}
+use Rattle.swc_ecma_codegen_tree.specs.declared.ts_exprs.TsNonNullExpr.{TsNonNullExpr}
+use Rattle.swc_ecma_codegen_tree.specs.declared.ts_exprs.TsConstAssertion.{TsConstAssertion}
+use Rattle.swc_ecma_codegen_tree.specs.declared.exprs.AwaitExpr.{AwaitExpr}
+use Rattle.swc_ecma_codegen_tree.specs.declared.exprs.SuperPropExpr.{SuperPropExpr}
+use Rattle.swc_ecma_codegen_tree.specs.declared.exprs.SuperProp.{SuperProp}
+use Rattle.swc_ecma_codegen_tree.specs.declared.lits.Lit.{Lit}
+use Rattle.swc_ecma_codegen_tree.specs.declared.exprs.SuperProp.TheVariants as super_props
+use Rattle.swc_ecma_codegen_tree.specs.declared.lits.Lit.TheVariants as lits
+use Rattle.swc_ecma_codegen_tree.specs.declared.exprs.Super.{Super}
 use Rattle.swc_ecma_codegen_tree.specs.declared.exprs.Expr.{Expr}
 use Rattle.swc_ecma_codegen_tree.specs.declared.exprs.Expr.TheVariants as exprs
 use Rattle.swc_ecma_codegen_common.specs.Operators.{unary_text, binary_text, update_text}
-use Rattle.swc_ecma_codegen_spans.specs.Spans.{expr_span}
+use Rattle.swc_ecma_codegen_spans.specs.Spans.{expr_span, lit_span}
 use Rattle.swc_ecma_codegen_util.specs.Starts as starts
 use Rattle.swc_ecma_codegen_base.specs.Run.{Part}
 use Rattle.swc_ecma_codegen_base.specs.Words.{keyword, operator, word_operator, punct, space, formatting_space, commit_pending_semi, start_of, end_of, last_of, leading_comments, trailing_comments, name}
@@ -133,6 +142,32 @@ seq items n rest = opened n.span (listed (held items) true n.exprs.items rest)
 unfoldable pub paren : {X : Type 0} → (X → Place → Part) → ParenExpr X → Part
 paren items n rest = commit_pending_semi (opened n.span (punct (codes "(") (items n.expr.node.value Plain (last_of n.span (punct (codes ")") rest)))))
 
+unfoldable pub await_expr : {X : Type 0} → (X → Place → Part) → AwaitExpr X → Part
+await_expr items n rest = opened n.span (keyword None (codes "await") (space (items n.arg.node.value Plain rest)))
+
+-- `.b`, `[b]`
+unfoldable pub super_prop : {X : Type 0} → (X → Place → Part) → SuperProp X → Part
+super_prop items (super_props.Ident n) rest = comments_before n.span.lo (punct (codes ".") (ident_name n rest))
+super_prop items (super_props.Computed n) rest = computed_prop_name items n rest
+
+unfoldable pub super_prop_expr : {X : Type 0} → (X → Place → Part) → SuperPropExpr X → Part
+super_prop_expr items n rest = opened n.span (keyword (Some n.obj.span) (codes "super") (super_prop items n.prop rest))
+
+unfoldable pub ts_non_null_expr : {X : Type 0} → (X → Place → Part) → TsNonNullExpr X → Part
+ts_non_null_expr items n rest = leading_comments n.span.lo (items n.expr.node.value Plain (punct (codes "!") rest))
+
+unfoldable pub ts_const_assertion : {X : Type 0} → (X → Place → Part) → TsConstAssertion X → Part
+ts_const_assertion items n rest = leading_comments n.span.lo (items n.expr.node.value Plain (space (keyword None (codes "as") (space (keyword None (codes "const") rest)))))
+
+-- `true`, `null`
+unfoldable pub lit_word : Lit → Part
+lit_word (lits.Bool n) rest = if n.value then keyword None (codes "true") rest else keyword None (codes "false") rest
+lit_word (lits.Null n) rest = keyword None (codes "null") rest
+lit_word n rest = unsupported rest
+
+unfoldable pub lit : Lit → Part
+lit n rest = opened (lit_span n) (lit_word n rest)
+
 -- an expression by its variant
 unfoldable pub expr_parts : {X : Type 0} → (X → Answers) → (X → Place → Part) → Expr X → Place → Part
 expr_parts asks items (exprs.This n) place rest = this n rest
@@ -144,6 +179,11 @@ expr_parts asks items (exprs.Cond n) place rest = choice items n rest
 expr_parts asks items (exprs.Seq n) place rest = seq items n rest
 expr_parts asks items (exprs.Ident n) place rest = ident n rest
 expr_parts asks items (exprs.Paren n) place rest = paren items n rest
+expr_parts asks items (exprs.Await n) place rest = await_expr items n rest
+expr_parts asks items (exprs.SuperProp n) place rest = super_prop_expr items n rest
+expr_parts asks items (exprs.TsNonNull n) place rest = ts_non_null_expr items n rest
+expr_parts asks items (exprs.TsConstAssertion n) place rest = ts_const_assertion items n rest
+expr_parts asks items (exprs.Lit n) place rest = lit n rest
 expr_parts asks items n place rest = unsupported rest
 
 -- an inner left operand: its comments are left where they are

@@ -2,7 +2,7 @@
 
 ghost use Rattle.std.specs.Prelude.{◌≡◌, Some, None, OnOk};
 ghost use Rattle.swc_ecma_codegen_base.specs.Run.{Emits};
-ghost use Rattle.swc_ecma_codegen.specs.Exprs.{ident, ident_name, this, unary_op, unary_gap, unary, update_parts, update, binary_op, before_op, after_op, bin_trailing, bin_opened, bin, computed_prop_name, member_prop, member, choice, seq, paren, expr_parts, is_inner, expr_closed, expr};
+ghost use Rattle.swc_ecma_codegen.specs.Exprs.{ident, ident_name, this, unary_op, unary_gap, unary, update_parts, update, binary_op, before_op, after_op, bin_trailing, bin_opened, bin, computed_prop_name, member_prop, member, choice, seq, paren, await_expr, super_prop, super_prop_expr, ts_non_null_expr, ts_const_assertion, lit, lit_word, expr_parts, is_inner, expr_closed, expr};
 ghost use Rattle.swc_ecma_codegen_util.specs.Starts.{is_word_op as is_word_unary};
 ghost use Rattle.swc_ecma_codegen.specs.View.{state_of};
 
@@ -15,10 +15,12 @@ use swc_ecma_codegen_ast::comments::Comments;
 use swc_ecma_codegen_ast::mapper::SourceMapper;
 use swc_ecma_codegen_common::{Answer, BinaryOp, Span, UnaryOp};
 use swc_ecma_codegen_literals::Punctuator;
+use swc_ecma_codegen_spans::Spanned;
 use swc_ecma_codegen_text_writer::WriteJs;
 use swc_ecma_codegen_tree::{
-    BinExpr, ComputedPropName, CondExpr, Expr, Ident, IdentName, MemberExpr, MemberProp, ParenExpr,
-    SeqExpr, ThisExpr, UnaryExpr, UpdateExpr,
+    AwaitExpr, BinExpr, ComputedPropName, CondExpr, Expr, Ident, IdentName, Lit, MemberExpr,
+    MemberProp, ParenExpr, SeqExpr, SuperProp, SuperPropExpr, ThisExpr, TsConstAssertion,
+    TsNonNullExpr, UnaryExpr, UpdateExpr,
 };
 
 /// Whether it is an inner left operand, as `a + b` in `a + b + c`: its comments are left where they are.
@@ -51,6 +53,11 @@ impl<N: Held> EmitAt for Expr<N> {
             Expr::Seq(node) => node.emit_at(e, place)?,
             Expr::Ident(node) => node.emit_at(e, place)?,
             Expr::Paren(node) => node.emit_at(e, place)?,
+            Expr::Await(node) => node.emit_at(e, place)?,
+            Expr::SuperProp(node) => node.emit_at(e, place)?,
+            Expr::TsNonNull(node) => node.emit_at(e, place)?,
+            Expr::TsConstAssertion(node) => node.emit_at(e, place)?,
+            Expr::Lit(node) => node.emit_at(e, place)?,
             _ => e.unsupported()?,
         }
         e.expr_closed(is_inner(self, place), expr_place(self))?;
@@ -214,6 +221,84 @@ impl<N: Held> EmitAt for ParenExpr<N> {
     }
 }
 
+impl<N: Held> EmitAt for AwaitExpr<N> {
+    ghost items = { λ n _. await_expr N.items n };
+
+    #[tactic(auto, unfolding(crate::specs::Exprs::await_expr))]
+    fn emit_at<W: WriteJs, S: SourceMapper, C: Comments>(
+        &self,
+        e: &mut Emitter<'_, W, S, C>,
+        place: Place,
+    ) -> Answer {
+        e.opened(self.span)?;
+        e.keyword(None, "await")?;
+        e.space()?;
+        self.arg.held().emit_at(e, Place::Plain)
+    }
+}
+
+impl<N: Held> EmitAt for SuperPropExpr<N> {
+    ghost items = { λ n _. super_prop_expr N.items n };
+
+    #[tactic(auto, unfolding(crate::specs::Exprs::super_prop_expr))]
+    fn emit_at<W: WriteJs, S: SourceMapper, C: Comments>(
+        &self,
+        e: &mut Emitter<'_, W, S, C>,
+        place: Place,
+    ) -> Answer {
+        e.opened(self.span)?;
+        e.keyword(Some(self.obj.span), "super")?;
+        e.super_prop(&self.prop)
+    }
+}
+
+impl<N: Held> EmitAt for TsNonNullExpr<N> {
+    ghost items = { λ n _. ts_non_null_expr N.items n };
+
+    #[tactic(auto, unfolding(crate::specs::Exprs::ts_non_null_expr))]
+    fn emit_at<W: WriteJs, S: SourceMapper, C: Comments>(
+        &self,
+        e: &mut Emitter<'_, W, S, C>,
+        place: Place,
+    ) -> Answer {
+        e.leading_comments(self.span.lo)?;
+        self.expr.held().emit_at(e, Place::Plain)?;
+        e.punct(Punctuator::Bang)
+    }
+}
+
+impl<N: Held> EmitAt for TsConstAssertion<N> {
+    ghost items = { λ n _. ts_const_assertion N.items n };
+
+    #[tactic(auto, unfolding(crate::specs::Exprs::ts_const_assertion))]
+    fn emit_at<W: WriteJs, S: SourceMapper, C: Comments>(
+        &self,
+        e: &mut Emitter<'_, W, S, C>,
+        place: Place,
+    ) -> Answer {
+        e.leading_comments(self.span.lo)?;
+        self.expr.held().emit_at(e, Place::Plain)?;
+        e.space()?;
+        e.keyword(None, "as")?;
+        e.space()?;
+        e.keyword(None, "const")
+    }
+}
+
+impl EmitAt for Lit {
+    ghost items = { λ n _. lit n };
+
+    #[tactic(auto, unfolding(crate::specs::Exprs::lit))]
+    fn emit_at<W: WriteJs, S: SourceMapper, C: Comments>(
+        &self,
+        e: &mut Emitter<'_, W, S, C>,
+        place: Place,
+    ) -> Answer {
+        e.opened(self.span())?;
+        e.lit_word(self)
+    }
+}
+
 impl EmitAt for Ident {
     ghost items = { λ n _. ident n };
 
@@ -269,6 +354,36 @@ impl<W: WriteJs, S: SourceMapper, C: Comments> Emitter<'_, W, S, C> {
             }
             MemberProp::Computed(name) => name.emit_at(self, Place::Plain),
             MemberProp::PrivateName(_) => self.unsupported(),
+        }
+    }
+
+    /// Writes `.b` or `[b]` after `super`.
+    #[tactic(auto, unfolding(crate::specs::Exprs::super_prop))]
+    fn super_prop<N: Held>(&mut self, prop: &SuperProp<N>) -> Answer
+        ensures items { Emits (super_prop N.items prop.now) (state_of W.sheet self.old) (state_of W.sheet self.new) result }
+        ensures level { OnOk result ((W.sheet self.new.wr).indentation ≡ (W.sheet self.old.wr).indentation) }
+    {
+        match prop {
+            SuperProp::Ident(name) => {
+                self.comments_before(name.span.lo)?;
+                self.punct(Punctuator::Dot)?;
+                name.emit_at(self, Place::Plain)
+            }
+            SuperProp::Computed(name) => name.emit_at(self, Place::Plain),
+        }
+    }
+
+    /// Writes `true`, `false` or `null`.
+    #[tactic(auto, unfolding(crate::specs::Exprs::lit_word))]
+    fn lit_word(&mut self, node: &Lit) -> Answer
+        ensures items { Emits (lit_word node.now) (state_of W.sheet self.old) (state_of W.sheet self.new) result }
+        ensures level { OnOk result ((W.sheet self.new.wr).indentation ≡ (W.sheet self.old.wr).indentation) }
+    {
+        match node {
+            Lit::Bool(word) if word.value => self.keyword(None, "true"),
+            Lit::Bool(_) => self.keyword(None, "false"),
+            Lit::Null(_) => self.keyword(None, "null"),
+            _ => self.unsupported(),
         }
     }
 

@@ -8,6 +8,9 @@ use Rattle.swc_ecma_codegen_tree.specs.declared.links.AnyNode.TheFolds.{fold-rol
 use Rattle.swc_ecma_codegen_tree.specs.declared.expr_links.ExprBox.{ExprBox}
 use Rattle.swc_ecma_codegen_common.specs.declared.positions.Span.{Span}
 use Rattle.swc_ecma_codegen_tree.specs.declared.exprs.Expr.{Expr}
+use Rattle.swc_ecma_codegen_tree.specs.declared.exprs.Super.{Super}
+use Rattle.swc_ecma_codegen_tree.specs.declared.exprs.SuperProp.{SuperProp}
+use Rattle.swc_ecma_codegen_tree.specs.declared.exprs.SuperProp.TheVariants as super_props
 use Rattle.swc_ecma_codegen_tree.specs.declared.exprs.Expr.TheVariants as exprs
 use Rattle.swc_ecma_codegen_tree.specs.declared.exprs.MemberExpr.{MemberExpr}
 use Rattle.swc_ecma_codegen_tree.specs.declared.exprs.MemberProp.{MemberProp}
@@ -17,7 +20,7 @@ use Rattle.swc_ecma_codegen_tree.specs.declared.stmts.Stmt.TheVariants as stmts
 use Rattle.swc_ecma_codegen_ast.specs.Phrases.{Phrase, some_listed}
 use Rattle.swc_ecma_codegen_ast.specs.declared.roles.Role.{Role}
 use Rattle.swc_ecma_codegen_ast.specs.declared.roles.Role.TheVariants.{Expression, Statement, MemberExpression}
-use Rattle.swc_ecma_codegen_ast.specs.ExprPhrases.{expr, expr_at, this_expr, unary_expr, update_expr, bin_expr, computed_prop_name, member_prop, member_expr, cond_expr, seq_expr, paren_expr}
+use Rattle.swc_ecma_codegen_ast.specs.ExprPhrases.{expr, expr_at, this_expr, unary_expr, update_expr, bin_expr, computed_prop_name, member_prop, member_expr, cond_expr, seq_expr, paren_expr, await_expr, super_prop, super_prop_expr, ts_non_null_expr, ts_const_assertion, lit}
 use Rattle.swc_ecma_codegen_ast.specs.StmtPhrases.{stmt, empty_stmt, expr_stmt}
 use Rattle.swc_ecma_codegen_ast.specs.TreePhrases.{node_phrase, phrase}
 
@@ -27,9 +30,15 @@ list_mapped : {A B C : Type 0} (g : A → B) (e : B → C) (d : A → C) → ((x
 list_mapped g e d same [] = refl
 list_mapped g e d same (x ∷ xs) = ap (λ y. y ∷ map e (map g xs)) (same x) ∙ ap (λ ys. d x ∷ ys) (list_mapped g e d same xs)
 
+super_mapped : {X Y : Type 0} (g : X → Y) (f : Y → Role → Phrase) (span : Span) (obj : Super) (prop : SuperProp X) → node_phrase f (map-AnyNode X Y g (nodes.Expr (exprs.SuperProp (record { span = span; obj = obj; prop = prop })))) Expression ≡ super_prop_expr (λ x. f (g x)) (record { span = span; obj = obj; prop = prop })
+unfolding node_phrase expr super_prop_expr super_prop computed_prop_name
+super_mapped g f span obj (super_props.Ident n) = refl
+super_mapped g f span obj (super_props.Computed n) = refl
+
 expr_mapped : {X Y : Type 0} (g : X → Y) (f : Y → Role → Phrase) (n : Expr X) → node_phrase f (map-AnyNode X Y g (nodes.Expr n)) Expression ≡ expr (λ x. f (g x)) n
-unfolding node_phrase expr this_expr unary_expr update_expr bin_expr cond_expr seq_expr paren_expr
+unfolding node_phrase expr this_expr unary_expr update_expr bin_expr cond_expr seq_expr paren_expr await_expr ts_non_null_expr ts_const_assertion lit
 expr_mapped {X} g f (exprs.Seq n) = ap (some_listed (codes ",")) (list_mapped {A = ExprBox X} _ (expr_at f) (expr_at (λ x. f (g x))) (λ x. refl) n.exprs.items)
+expr_mapped g f (exprs.SuperProp n) = super_mapped g f n.span n.obj n.prop
 expr_mapped g f n = refl
 
 stmt_mapped : {X Y : Type 0} (g : X → Y) (f : Y → Role → Phrase) (n : Stmt X) → node_phrase f (map-AnyNode X Y g (nodes.Stmt n)) Statement ≡ stmt (λ x. f (g x)) n

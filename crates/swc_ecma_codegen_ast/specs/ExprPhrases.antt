@@ -20,6 +20,14 @@ use Rattle.swc_ecma_codegen_tree.specs.declared.exprs.ComputedPropName.{Computed
 use Rattle.swc_ecma_codegen_tree.specs.declared.exprs.CondExpr.{CondExpr}
 use Rattle.swc_ecma_codegen_tree.specs.declared.exprs.SeqExpr.{SeqExpr}
 use Rattle.swc_ecma_codegen_tree.specs.declared.exprs.ParenExpr.{ParenExpr}
+use Rattle.swc_ecma_codegen_tree.specs.declared.ts_exprs.TsNonNullExpr.{TsNonNullExpr}
+use Rattle.swc_ecma_codegen_tree.specs.declared.ts_exprs.TsConstAssertion.{TsConstAssertion}
+use Rattle.swc_ecma_codegen_tree.specs.declared.exprs.AwaitExpr.{AwaitExpr}
+use Rattle.swc_ecma_codegen_tree.specs.declared.exprs.SuperPropExpr.{SuperPropExpr}
+use Rattle.swc_ecma_codegen_tree.specs.declared.exprs.SuperProp.{SuperProp}
+use Rattle.swc_ecma_codegen_tree.specs.declared.lits.Lit.{Lit}
+use Rattle.swc_ecma_codegen_tree.specs.declared.exprs.SuperProp.TheVariants as super_props
+use Rattle.swc_ecma_codegen_tree.specs.declared.lits.Lit.TheVariants as lits
 use Rattle.swc_ecma_codegen_ast.specs.Phrases.{Phrase, Never, One, ◌>◌, word, mark, some_listed}
 use Rattle.swc_ecma_codegen_ast.specs.Tokens.{Token}
 use Rattle.swc_ecma_codegen_ast.specs.Tokens as tokens
@@ -86,6 +94,32 @@ seq_expr f n = some_listed (codes ",") (map (expr_at f) n.exprs.items)
 unfoldable pub paren_expr : {X : Type 0} → (X → Role → Phrase) → ParenExpr X → Phrase
 paren_expr f n = mark (codes "(") > expr_at f n.expr > mark (codes ")")
 
+-- section 15.8
+unfoldable pub await_expr : {X : Type 0} → (X → Role → Phrase) → AwaitExpr X → Phrase
+await_expr f n = word (codes "await") > expr_at f n.arg
+
+-- section 13.3.7
+unfoldable pub super_prop : {X : Type 0} → (X → Role → Phrase) → SuperProp X → Phrase
+super_prop f (super_props.Ident n) = mark (codes ".") > ident_name n
+super_prop f (super_props.Computed n) = computed_prop_name f n
+
+unfoldable pub super_prop_expr : {X : Type 0} → (X → Role → Phrase) → SuperPropExpr X → Phrase
+super_prop_expr f n = word (codes "super") > super_prop f n.prop
+
+-- TypeScript: `a!`
+unfoldable pub ts_non_null_expr : {X : Type 0} → (X → Role → Phrase) → TsNonNullExpr X → Phrase
+ts_non_null_expr f n = expr_at f n.expr > mark (codes "!")
+
+-- TypeScript: `a as const`
+unfoldable pub ts_const_assertion : {X : Type 0} → (X → Role → Phrase) → TsConstAssertion X → Phrase
+ts_const_assertion f n = expr_at f n.expr > word (codes "as") > word (codes "const")
+
+-- sections 12.9.1 and 12.9.2
+unfoldable pub lit : Lit → Phrase
+lit (lits.Bool n) = if n.value then word (codes "true") else word (codes "false")
+lit (lits.Null n) = word (codes "null")
+lit n = Never
+
 unfoldable pub expr : {X : Type 0} → (X → Role → Phrase) → Expr X → Phrase
 expr f (exprs.This n) = this_expr n
 expr f (exprs.Unary n) = unary_expr f n
@@ -96,5 +130,10 @@ expr f (exprs.Cond n) = cond_expr f n
 expr f (exprs.Seq n) = seq_expr f n
 expr f (exprs.Ident n) = ident n
 expr f (exprs.Paren n) = paren_expr f n
+expr f (exprs.Await n) = await_expr f n
+expr f (exprs.SuperProp n) = super_prop_expr f n
+expr f (exprs.TsNonNull n) = ts_non_null_expr f n
+expr f (exprs.TsConstAssertion n) = ts_const_assertion f n
+expr f (exprs.Lit n) = lit n
 -- what isn't printed yet
 expr f n = Never

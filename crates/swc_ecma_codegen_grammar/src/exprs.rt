@@ -1,12 +1,13 @@
 //! Expressions.
 
 ghost use Rattle.std.specs.Prelude.{◌≡◌};
-ghost use Rattle.swc_ecma_codegen_ast.specs.ExprPhrases.{this_expr, unary_expr, update_expr, bin_expr, computed_prop_name, member_prop, member_expr, cond_expr, seq_expr, paren_expr, expr};
+ghost use Rattle.swc_ecma_codegen_ast.specs.ExprPhrases.{this_expr, unary_expr, update_expr, bin_expr, computed_prop_name, member_prop, member_expr, cond_expr, seq_expr, paren_expr, await_expr, super_prop, super_prop_expr, ts_non_null_expr, ts_const_assertion, lit, expr};
 
 use crate::forms::{Fits, WellFormed, all_well_formed};
 use swc_ecma_codegen_tree::{
-    BinExpr, ComputedPropName, CondExpr, Expr, MemberExpr, MemberProp, ParenExpr, SeqExpr,
-    ThisExpr, UnaryExpr, UpdateExpr,
+    AwaitExpr, BinExpr, ComputedPropName, CondExpr, Expr, Lit, MemberExpr, MemberProp, ParenExpr,
+    SeqExpr, SuperProp, SuperPropExpr, ThisExpr, TsConstAssertion, TsNonNullExpr, UnaryExpr,
+    UpdateExpr,
 };
 
 impl WellFormed for ThisExpr {
@@ -103,6 +104,66 @@ impl<N: Fits> WellFormed for ParenExpr<N> {
     }
 }
 
+impl<N: Fits> WellFormed for AwaitExpr<N> {
+    ghost phrase = { await_expr N.reads };
+
+    #[tactic(auto, unfolding(swc_ecma_codegen_ast::specs::ExprPhrases::await_expr, swc_ecma_codegen_ast::specs::Phrases::is_possible))]
+    fn is_well_formed(&self) -> bool {
+        self.arg.is_well_formed()
+    }
+}
+
+impl<N: Fits> WellFormed for SuperProp<N> {
+    ghost phrase = { super_prop N.reads };
+
+    #[tactic(auto, unfolding(swc_ecma_codegen_ast::specs::ExprPhrases::super_prop, swc_ecma_codegen_ast::specs::Phrases::is_possible))]
+    fn is_well_formed(&self) -> bool {
+        match self {
+            SuperProp::Ident(name) => name.is_well_formed(),
+            SuperProp::Computed(name) => name.is_well_formed(),
+        }
+    }
+}
+
+impl<N: Fits> WellFormed for SuperPropExpr<N> {
+    ghost phrase = { super_prop_expr N.reads };
+
+    #[tactic(auto, unfolding(swc_ecma_codegen_ast::specs::ExprPhrases::super_prop_expr, swc_ecma_codegen_ast::specs::Phrases::is_possible))]
+    fn is_well_formed(&self) -> bool {
+        self.prop.is_well_formed()
+    }
+}
+
+impl<N: Fits> WellFormed for TsNonNullExpr<N> {
+    ghost phrase = { ts_non_null_expr N.reads };
+
+    #[tactic(auto, unfolding(swc_ecma_codegen_ast::specs::ExprPhrases::ts_non_null_expr, swc_ecma_codegen_ast::specs::Phrases::is_possible))]
+    fn is_well_formed(&self) -> bool {
+        self.expr.is_well_formed()
+    }
+}
+
+impl<N: Fits> WellFormed for TsConstAssertion<N> {
+    ghost phrase = { ts_const_assertion N.reads };
+
+    #[tactic(auto, unfolding(swc_ecma_codegen_ast::specs::ExprPhrases::ts_const_assertion, swc_ecma_codegen_ast::specs::Phrases::is_possible))]
+    fn is_well_formed(&self) -> bool {
+        self.expr.is_well_formed()
+    }
+}
+
+impl WellFormed for Lit {
+    ghost phrase = { lit };
+
+    #[tactic(auto, unfolding(swc_ecma_codegen_ast::specs::ExprPhrases::lit, swc_ecma_codegen_ast::specs::Phrases::is_possible))]
+    fn is_well_formed(&self) -> bool {
+        match self {
+            Lit::Bool(_) | Lit::Null(_) => true,
+            _ => false,
+        }
+    }
+}
+
 impl<N: Fits> WellFormed for Expr<N> {
     ghost phrase = { expr N.reads };
 
@@ -118,6 +179,11 @@ impl<N: Fits> WellFormed for Expr<N> {
             Expr::Seq(node) => node.is_well_formed(),
             Expr::Ident(node) => node.is_well_formed(),
             Expr::Paren(node) => node.is_well_formed(),
+            Expr::Await(node) => node.is_well_formed(),
+            Expr::SuperProp(node) => node.is_well_formed(),
+            Expr::TsNonNull(node) => node.is_well_formed(),
+            Expr::TsConstAssertion(node) => node.is_well_formed(),
+            Expr::Lit(node) => node.is_well_formed(),
             _ => false,
         }
     }
