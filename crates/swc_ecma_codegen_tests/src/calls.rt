@@ -79,7 +79,7 @@ fn bytes_by_each_call<N: Tree>(alloc: Global) -> Result<[Vec<u8>; 3], Fail> {
     let whole = N::bytes_of_whole(alloc, &tree)?;
     let boxed = Box::new(alloc, Stmt::Empty(EmptyStmt { span: DUMMY_SP }))?;
     let some = Some(Stmt::Empty(EmptyStmt { span: DUMMY_SP }));
-    let held = (&boxed, [&some, &None]);
+    let held = (&boxed, &some, &None);
     match (statement_of(&tree), expr_of(&tree)) {
         (Some(stmt), Some(expr)) => {
             Ok([

@@ -61,7 +61,7 @@ pub(crate) trait Tree: Holds<Expr<Self>>
     fn bytes_of_parts(
         alloc: Global,
         stmt: &Stmt<Self>,
-        semicolons: (&Box<Stmt<Self>>, [&Option<Stmt<Self>>; 2]),
+        semicolons: (&Box<Stmt<Self>>, &Option<Stmt<Self>>, &Option<Stmt<Self>>),
     ) -> Result<Vec<u8>, Error>;
 
     /// The bytes of a well-formed expression, by the function that says how it reads.
@@ -98,7 +98,7 @@ impl Tree for AnyNode {
     fn bytes_of_parts(
         alloc: Global,
         stmt: &Stmt,
-        (boxed, [some, none]): (&Box<Stmt>, [&Option<Stmt>; 2]),
+        (boxed, some, none): (&Box<Stmt>, &Option<Stmt>, &Option<Stmt>),
     ) -> Result<Vec<u8>, Error> {
         let wr = JsWriter::new(alloc, &NoSource, "\n", Vec::new(alloc), None);
         let mut emitter = Emitter::new(alloc, settings(true), &NoSource, None::<CommentMaps>, wr);
@@ -133,7 +133,7 @@ pub(crate) fn script_of<N>(tree: &Program<N>) -> Option<&Script<N>> {
 }
 
 /// The first statement.
-pub(crate) fn statement_of<N: Tree>(tree: &Program<N>) -> Option<&Stmt<N>> {
+pub(crate) fn statement_of<N: Holds<Stmt<N>> + Drop>(tree: &Program<N>) -> Option<&Stmt<N>> {
     match script_of(tree)?.body.first() {
         Some(link) => link.get(),
         None => None,
@@ -141,7 +141,9 @@ pub(crate) fn statement_of<N: Tree>(tree: &Program<N>) -> Option<&Stmt<N>> {
 }
 
 /// The expression of the first statement.
-pub(crate) fn expr_of<N: Tree>(tree: &Program<N>) -> Option<&Expr<N>> {
+pub(crate) fn expr_of<N: Holds<Stmt<N>> + Holds<Expr<N>> + Drop>(
+    tree: &Program<N>,
+) -> Option<&Expr<N>> {
     match statement_of(tree) {
         Some(Stmt::Expr(node)) => node.expr.get(),
         _ => None,
