@@ -1,4 +1,5 @@
-//! Nodes of this area's sorts, as links hold them.
+//! Nodes of this area's sorts, as links hold them. A function each, since a check of one that names the readers of many
+//! sorts is dear.
 
 use crate::ExprReaders;
 use swc_ecma_codegen_read::{ExprSort, Failed, Make, Source, held, held_in_part, read};
@@ -22,6 +23,69 @@ macro_rules! part {
     }};
 }
 
+fn expr<N: Holds<Expr<N>> + Drop, S: Source, M: Make<N>>(
+    source: &mut S,
+    make: &M,
+) -> Result<N, Failed> {
+    own!(Expr, source, make)
+}
+
+fn member_expr<N: Holds<MemberExpr<N>> + Drop, S: Source, M: Make<N>>(
+    source: &mut S,
+    make: &M,
+) -> Result<N, Failed> {
+    own!(MemberExpr, source, make)
+}
+
+fn pat<N: Holds<ExprPart<N>> + Drop, S: Source, M: Make<N>>(
+    source: &mut S,
+    make: &M,
+) -> Result<N, Failed> {
+    part!(Pat, source, make)
+}
+
+fn tpl<N: Holds<ExprPart<N>> + Drop, S: Source, M: Make<N>>(
+    source: &mut S,
+    make: &M,
+) -> Result<N, Failed> {
+    part!(Tpl, source, make)
+}
+
+fn object_lit<N: Holds<ExprPart<N>> + Drop, S: Source, M: Make<N>>(
+    source: &mut S,
+    make: &M,
+) -> Result<N, Failed> {
+    part!(ObjectLit, source, make)
+}
+
+fn prop_name<N: Holds<ExprPart<N>> + Drop, S: Source, M: Make<N>>(
+    source: &mut S,
+    make: &M,
+) -> Result<N, Failed> {
+    part!(PropName, source, make)
+}
+
+fn prop<N: Holds<ExprPart<N>> + Drop, S: Source, M: Make<N>>(
+    source: &mut S,
+    make: &M,
+) -> Result<N, Failed> {
+    part!(Prop, source, make)
+}
+
+fn opt_call<N: Holds<ExprPart<N>> + Drop, S: Source, M: Make<N>>(
+    source: &mut S,
+    make: &M,
+) -> Result<N, Failed> {
+    part!(OptCall, source, make)
+}
+
+fn assign_target<N: Holds<ExprPart<N>> + Drop, S: Source, M: Make<N>>(
+    source: &mut S,
+    make: &M,
+) -> Result<N, Failed> {
+    part!(AssignTarget, source, make)
+}
+
 /// A node of a sort, and all that lies below it.
 pub fn read_expr_node<
     N: Holds<Expr<N>> + Holds<MemberExpr<N>> + Holds<ExprPart<N>> + Drop,
@@ -29,14 +93,14 @@ pub fn read_expr_node<
     M: Make<N>,
 >(sort: ExprSort, source: &mut S, make: &M) -> Result<N, Failed> {
     match sort {
-        ExprSort::Expr => own!(Expr, source, make),
-        ExprSort::MemberExpr => own!(MemberExpr, source, make),
-        ExprSort::Pat => part!(Pat, source, make),
-        ExprSort::Tpl => part!(Tpl, source, make),
-        ExprSort::ObjectLit => part!(ObjectLit, source, make),
-        ExprSort::PropName => part!(PropName, source, make),
-        ExprSort::Prop => part!(Prop, source, make),
-        ExprSort::OptCall => part!(OptCall, source, make),
-        ExprSort::AssignTarget => part!(AssignTarget, source, make),
+        ExprSort::Expr => expr(source, make),
+        ExprSort::MemberExpr => member_expr(source, make),
+        ExprSort::Pat => pat(source, make),
+        ExprSort::Tpl => tpl(source, make),
+        ExprSort::ObjectLit => object_lit(source, make),
+        ExprSort::PropName => prop_name(source, make),
+        ExprSort::Prop => prop(source, make),
+        ExprSort::OptCall => opt_call(source, make),
+        ExprSort::AssignTarget => assign_target(source, make),
     }
 }

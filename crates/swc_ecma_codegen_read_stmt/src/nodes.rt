@@ -1,4 +1,5 @@
-//! Nodes of this area's sorts, as links hold them.
+//! Nodes of this area's sorts, as links hold them. A function each, since a check of one that names the readers of many
+//! sorts is dear.
 
 use crate::StmtReaders;
 use swc_ecma_codegen_read::{Failed, Make, Source, StmtSort, held, held_in_part, read};
@@ -23,6 +24,69 @@ macro_rules! part {
     }};
 }
 
+fn stmt<N: Holds<Stmt<N>> + Drop, S: Source, M: Make<N>>(
+    source: &mut S,
+    make: &M,
+) -> Result<N, Failed> {
+    own!(Stmt, source, make)
+}
+
+fn function<N: Holds<StmtPart<N>> + Drop, S: Source, M: Make<N>>(
+    source: &mut S,
+    make: &M,
+) -> Result<N, Failed> {
+    part!(Function, source, make)
+}
+
+fn class<N: Holds<StmtPart<N>> + Drop, S: Source, M: Make<N>>(
+    source: &mut S,
+    make: &M,
+) -> Result<N, Failed> {
+    part!(Class, source, make)
+}
+
+fn block_stmt<N: Holds<StmtPart<N>> + Drop, S: Source, M: Make<N>>(
+    source: &mut S,
+    make: &M,
+) -> Result<N, Failed> {
+    part!(BlockStmt, source, make)
+}
+
+fn decl<N: Holds<StmtPart<N>> + Drop, S: Source, M: Make<N>>(
+    source: &mut S,
+    make: &M,
+) -> Result<N, Failed> {
+    part!(Decl, source, make)
+}
+
+fn module_item<N: Holds<StmtPart<N>> + Drop, S: Source, M: Make<N>>(
+    source: &mut S,
+    make: &M,
+) -> Result<N, Failed> {
+    part!(ModuleItem, source, make)
+}
+
+fn module_decl<N: Holds<StmtPart<N>> + Drop, S: Source, M: Make<N>>(
+    source: &mut S,
+    make: &M,
+) -> Result<N, Failed> {
+    part!(ModuleDecl, source, make)
+}
+
+fn var_decl<N: Holds<StmtPart<N>> + Drop, S: Source, M: Make<N>>(
+    source: &mut S,
+    make: &M,
+) -> Result<N, Failed> {
+    part!(VarDecl, source, make)
+}
+
+fn class_member<N: Holds<StmtPart<N>> + Drop, S: Source, M: Make<N>>(
+    source: &mut S,
+    make: &M,
+) -> Result<N, Failed> {
+    part!(ClassMember, source, make)
+}
+
 /// A node of a sort, and all that lies below it.
 pub fn read_stmt_node<N: Holds<Stmt<N>> + Holds<StmtPart<N>> + Drop, S: Source, M: Make<N>>(
     sort: StmtSort,
@@ -30,15 +94,15 @@ pub fn read_stmt_node<N: Holds<Stmt<N>> + Holds<StmtPart<N>> + Drop, S: Source, 
     make: &M,
 ) -> Result<N, Failed> {
     match sort {
-        StmtSort::Stmt => own!(Stmt, source, make),
-        StmtSort::Function => part!(Function, source, make),
-        StmtSort::Class => part!(Class, source, make),
-        StmtSort::BlockStmt => part!(BlockStmt, source, make),
-        StmtSort::Decl => part!(Decl, source, make),
-        StmtSort::ModuleItem => part!(ModuleItem, source, make),
-        StmtSort::ModuleDecl => part!(ModuleDecl, source, make),
-        StmtSort::VarDecl => part!(VarDecl, source, make),
-        StmtSort::ClassMember => part!(ClassMember, source, make),
+        StmtSort::Stmt => stmt(source, make),
+        StmtSort::Function => function(source, make),
+        StmtSort::Class => class(source, make),
+        StmtSort::BlockStmt => block_stmt(source, make),
+        StmtSort::Decl => decl(source, make),
+        StmtSort::ModuleItem => module_item(source, make),
+        StmtSort::ModuleDecl => module_decl(source, make),
+        StmtSort::VarDecl => var_decl(source, make),
+        StmtSort::ClassMember => class_member(source, make),
     }
 }
 

@@ -1,4 +1,5 @@
-//! Nodes of this area's sorts, as links hold them.
+//! Nodes of this area's sorts, as links hold them. A function each, since a check of one that names the readers of many
+//! sorts is dear.
 
 use crate::TsReaders;
 use swc_ecma_codegen_read::{Failed, Make, Source, TsSort, held_in_part, read};
@@ -15,6 +16,62 @@ macro_rules! part {
     }};
 }
 
+fn ts_type<N: Holds<TsPart<N>> + Drop, S: Source, M: Make<N>>(
+    source: &mut S,
+    make: &M,
+) -> Result<N, Failed> {
+    part!(TsType, source, make)
+}
+
+fn ts_namespace_body<N: Holds<TsPart<N>> + Drop, S: Source, M: Make<N>>(
+    source: &mut S,
+    make: &M,
+) -> Result<N, Failed> {
+    part!(TsNamespaceBody, source, make)
+}
+
+fn ts_type_ann<N: Holds<TsPart<N>> + Drop, S: Source, M: Make<N>>(
+    source: &mut S,
+    make: &M,
+) -> Result<N, Failed> {
+    part!(TsTypeAnn, source, make)
+}
+
+fn ts_type_param_decl<N: Holds<TsPart<N>> + Drop, S: Source, M: Make<N>>(
+    source: &mut S,
+    make: &M,
+) -> Result<N, Failed> {
+    part!(TsTypeParamDecl, source, make)
+}
+
+fn ts_type_param_instantiation<N: Holds<TsPart<N>> + Drop, S: Source, M: Make<N>>(
+    source: &mut S,
+    make: &M,
+) -> Result<N, Failed> {
+    part!(TsTypeParamInstantiation, source, make)
+}
+
+fn ts_fn_param<N: Holds<TsPart<N>> + Drop, S: Source, M: Make<N>>(
+    source: &mut S,
+    make: &M,
+) -> Result<N, Failed> {
+    part!(TsFnParam, source, make)
+}
+
+fn ts_type_element<N: Holds<TsPart<N>> + Drop, S: Source, M: Make<N>>(
+    source: &mut S,
+    make: &M,
+) -> Result<N, Failed> {
+    part!(TsTypeElement, source, make)
+}
+
+fn ts_entity_name<N: Holds<TsPart<N>> + Drop, S: Source, M: Make<N>>(
+    source: &mut S,
+    make: &M,
+) -> Result<N, Failed> {
+    part!(TsEntityName, source, make)
+}
+
 /// A node of a sort, and all that lies below it.
 pub fn read_ts_node<N: Holds<TsPart<N>> + Drop, S: Source, M: Make<N>>(
     sort: TsSort,
@@ -22,13 +79,13 @@ pub fn read_ts_node<N: Holds<TsPart<N>> + Drop, S: Source, M: Make<N>>(
     make: &M,
 ) -> Result<N, Failed> {
     match sort {
-        TsSort::TsType => part!(TsType, source, make),
-        TsSort::TsNamespaceBody => part!(TsNamespaceBody, source, make),
-        TsSort::TsTypeAnn => part!(TsTypeAnn, source, make),
-        TsSort::TsTypeParamDecl => part!(TsTypeParamDecl, source, make),
-        TsSort::TsTypeParamInstantiation => part!(TsTypeParamInstantiation, source, make),
-        TsSort::TsFnParam => part!(TsFnParam, source, make),
-        TsSort::TsTypeElement => part!(TsTypeElement, source, make),
-        TsSort::TsEntityName => part!(TsEntityName, source, make),
+        TsSort::TsType => ts_type(source, make),
+        TsSort::TsNamespaceBody => ts_namespace_body(source, make),
+        TsSort::TsTypeAnn => ts_type_ann(source, make),
+        TsSort::TsTypeParamDecl => ts_type_param_decl(source, make),
+        TsSort::TsTypeParamInstantiation => ts_type_param_instantiation(source, make),
+        TsSort::TsFnParam => ts_fn_param(source, make),
+        TsSort::TsTypeElement => ts_type_element(source, make),
+        TsSort::TsEntityName => ts_entity_name(source, make),
     }
 }

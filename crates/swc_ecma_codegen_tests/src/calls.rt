@@ -1,7 +1,7 @@
 //! Each public call once.
 
 use crate::trees::{DECREMENT, MEMBER, NAME, Tree, expr_of, script_of, settings, statement_of};
-use std::alloc::Global;
+use std::alloc::{AllocError, Global};
 use std::test::Fail;
 use swc_ecma_codegen::operands::{Operand, OperandKind, SpaceBefore};
 use swc_ecma_codegen::util::{EndsWithAlphaNum, StartsWithAlphaNum};
@@ -73,18 +73,51 @@ pub(crate) fn prints_each_way<N: Tree>(alloc: Global) -> Result<bool, Fail> {
     Ok(prints_through(alloc, &tree)? && prints_member(alloc, &tree)?)
 }
 
+/// Lets a statement go by a link: what lets go of a statement in place names all that may lie in one, and is dear to check.
+fn let_go<N: Tree>(alloc: Global, held: Option<Stmt<N>>) -> Result<(), AllocError> {
+    if let Some(stmt) = held {
+        let _ = StmtBox::new(alloc, stmt)?;
+    }
+    Ok(())
+}
+
+/// `;` in a box.
+fn boxed_semicolon<N: Tree>(alloc: Global) -> Result<Box<Stmt<N>>, AllocError> {
+    match Box::new(alloc, Stmt::Empty(EmptyStmt { span: DUMMY_SP })) {
+        Ok(boxed) => Ok(boxed),
+        Err(failed) => {
+            let_go(alloc, Some(failed.value))?;
+            Err(AllocError)
+        }
+    }
+}
+
+/// The bytes of a statement, and then of `;` in a box, in an option, and of none.
+fn bytes_of_parts<N: Tree>(alloc: Global, stmt: &Stmt<N>) -> Result<Vec<u8>, Fail> {
+    let boxed = boxed_semicolon(alloc)?;
+    let some = Some(Stmt::Empty(EmptyStmt { span: DUMMY_SP }));
+    let none = None;
+    let bytes = N::bytes_of_parts(alloc, stmt, (&boxed, &some, &none));
+    let gone = [
+        let_go(alloc, Some(Box::into_inner(boxed))),
+        let_go(alloc, some),
+        let_go(alloc, none),
+    ];
+    for answer in gone {
+        answer?;
+    }
+    Ok(bytes?)
+}
+
 /// The bytes of a tree, and of its parts.
 fn bytes_by_each_call<N: Tree>(alloc: Global) -> Result<[Vec<u8>; 3], Fail> {
     let tree = N::read(alloc, MEMBER)?;
     let whole = N::bytes_of_whole(alloc, &tree)?;
-    let boxed = Box::new(alloc, Stmt::Empty(EmptyStmt { span: DUMMY_SP }))?;
-    let some = Some(Stmt::Empty(EmptyStmt { span: DUMMY_SP }));
-    let held = (&boxed, &some, &None);
     match (statement_of(&tree), expr_of(&tree)) {
         (Some(stmt), Some(expr)) => {
             Ok([
                 whole,
-                N::bytes_of_parts(alloc, stmt, held)?,
+                bytes_of_parts(alloc, stmt)?,
                 N::bytes_of_expr(alloc, expr)?,
             ])
         }

@@ -1,4 +1,5 @@
-//! Links to nodes.
+//! Links to nodes. What is taken out of one goes by another: what lets go of a node in place names all that may lie in it,
+//! and is dear to check.
 
 use crate::trees::Tree;
 use crate::values::place;
@@ -20,6 +21,7 @@ fn expr_comes_back<N: Tree>(alloc: Global) -> Result<bool, AllocError> {
     match link.into_inner() {
         Some(expr) => {
             let same = matches!(&expr, Expr::This(_)) && expr.span() == span;
+            let _ = ExprBox::new(alloc, expr)?;
             Ok(seen && same)
         }
         None => Ok(false),
@@ -35,6 +37,7 @@ fn stmt_comes_back<N: Tree>(alloc: Global) -> Result<bool, AllocError> {
     match link.into_inner() {
         Some(stmt) => {
             let same = matches!(&stmt, Stmt::Empty(_)) && stmt.span() == span;
+            let _ = StmtBox::new(alloc, stmt)?;
             Ok(seen && same)
         }
         None => Ok(false),
@@ -58,6 +61,7 @@ fn member_comes_back<N: Tree>(alloc: Global) -> Result<bool, AllocError> {
     match link.into_inner() {
         Some(member) => {
             let same = member.span() == span && member.obj.span() == place(3, 7);
+            let _ = MemberExprBox::new(alloc, member)?;
             Ok(seen && same)
         }
         None => Ok(false),
