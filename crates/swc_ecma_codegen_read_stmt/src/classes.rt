@@ -83,10 +83,31 @@ impl<N: Drop> ReadFrom<StmtReaders, N> for ClassMember<N> {
         make: &M,
     ) -> Result<ClassMember<N>, Failed> {
         held!(StmtReaders, variant, source, make => ClassMember {
-            Constructor, Method, PrivateMethod, ClassProp, PrivateProp,
-            TsIndexSignature in TsReaders, Empty, StaticBlock, AutoAccessor,
-        })
+            Constructor, Method, PrivateMethod,
+        } else fields)
     }
+}
+
+/// Fields.
+#[inline(always)]
+fn fields<N: Drop, S: Source, M: Make<N>>(
+    variant: Variant,
+    source: &mut S,
+    make: &M,
+) -> Result<ClassMember<N>, Failed> {
+    held!(StmtReaders, variant, source, make => ClassMember { ClassProp, PrivateProp } else other_members)
+}
+
+/// The other members.
+#[inline(always)]
+fn other_members<N: Drop, S: Source, M: Make<N>>(
+    variant: Variant,
+    source: &mut S,
+    make: &M,
+) -> Result<ClassMember<N>, Failed> {
+    held!(StmtReaders, variant, source, make => ClassMember {
+        TsIndexSignature in TsReaders, Empty, StaticBlock, AutoAccessor,
+    })
 }
 
 impl<N: Drop> ReadFrom<StmtReaders, N> for PrivateMethod<N> {

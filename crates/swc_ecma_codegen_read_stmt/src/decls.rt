@@ -34,11 +34,21 @@ impl<N: Drop> ReadFrom<StmtReaders, N> for Decl<N> {
         source: &mut S,
         make: &M,
     ) -> Result<Decl<N>, Failed> {
-        held!(StmtReaders, variant, source, make => Decl {
-            Class, Fn, Var, Using, TsInterface in TsReaders, TsTypeAlias in TsReaders,
-            TsEnum in TsReaders, TsModule in TsReaders,
-        })
+        held!(StmtReaders, variant, source, make => Decl { Class, Fn, Var, Using } else ts_decls)
     }
+}
+
+/// Declarations of TypeScript.
+#[inline(always)]
+fn ts_decls<N: Drop, S: Source, M: Make<N>>(
+    variant: Variant,
+    source: &mut S,
+    make: &M,
+) -> Result<Decl<N>, Failed> {
+    held!(StmtReaders, variant, source, make => Decl {
+        TsInterface in TsReaders, TsTypeAlias in TsReaders, TsEnum in TsReaders,
+        TsModule in TsReaders,
+    })
 }
 
 impl<N: Drop> ReadFrom<StmtReaders, N> for ClassDecl<N> {

@@ -96,9 +96,20 @@ impl<N: Drop> ReadFrom<StmtReaders, N> for ModuleDecl<N> {
         make: &M,
     ) -> Result<ModuleDecl<N>, Failed> {
         held!(StmtReaders, variant, source, make => ModuleDecl {
-            Import, ExportDecl, ExportNamed, ExportDefaultDecl, ExportDefaultExpr, ExportAll,
-            TsImportEquals in TsReaders, TsExportAssignment in TsReaders,
-            TsNamespaceExport in TsReaders,
-        })
+            Import, ExportDecl, ExportNamed, ExportDefaultDecl,
+        } else other_module_decls)
     }
+}
+
+/// The other imports and exports.
+#[inline(always)]
+fn other_module_decls<N: Drop, S: Source, M: Make<N>>(
+    variant: Variant,
+    source: &mut S,
+    make: &M,
+) -> Result<ModuleDecl<N>, Failed> {
+    held!(StmtReaders, variant, source, make => ModuleDecl {
+        ExportDefaultExpr, ExportAll, TsImportEquals in TsReaders, TsExportAssignment in TsReaders,
+        TsNamespaceExport in TsReaders,
+    })
 }

@@ -12,6 +12,8 @@ mod faults;
 #[cfg(test)]
 mod links;
 #[cfg(test)]
+mod reading;
+#[cfg(test)]
 mod streams;
 #[cfg(test)]
 mod trees;
