@@ -1,3 +1,4 @@
+pub mod Places
 pub mod Sent
 pub mod Sheet
 pub mod Told

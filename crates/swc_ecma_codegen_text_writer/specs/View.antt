@@ -1,12 +1,14 @@
 -- The sheet of a `JsWriter`, and the ways to it.
-use Rattle.std.specs.Prelude.{◌≡◌, ℕ, true, false, List, codes, Result, Ok, Err, IsSome}
+use Rattle.std.specs.Prelude.{◌≡◌, ℕ, true, false, List, [], codes, Option, None, Result, Ok, Err, IsSome}
 use Rattle.std.specs.Str.{is_utf8}
 use Rattle.std.specs.declared.io.traits.Write.{Ghosts}
 use Rattle.swc_ecma_codegen_common.specs.declared.errors.Refusal.{Refusal}
 use Rattle.swc_ecma_codegen_common.specs.declared.errors.Refusal.TheVariants.{Writer, OutOfMemory, UnsupportedNode, BadShape, NameOutOfTarget, PositionTooLarge, Failed}
 use Rattle.swc_ecma_codegen_text_writer.specs.Told.{Rises}
 use Rattle.swc_ecma_codegen_text_writer.specs.Sent.{sent}
-use Rattle.swc_ecma_codegen_text_writer.specs.Sheet.{Sheet, Item, Stopped, Writes, effect, written}
+use Rattle.swc_ecma_codegen_common.specs.declared.positions.Span.{Span}
+use Rattle.swc_ecma_codegen_text_writer.specs.Places.{origin, after_text}
+use Rattle.swc_ecma_codegen_text_writer.specs.Sheet.{Sheet, Item, AtOnce, Stopped, Writes, effect, written, literal_written}
 use Rattle.swc_ecma_codegen_text_writer.specs.declared.basic_impl.JsWriter.{JsWriter}
 
 -- The sheet of a new `JsWriter` without positions, over a writer that tells some bytes.
@@ -19,12 +21,15 @@ new_sheet bytes line_end =
       indentation = 0;
       line_end = line_end;
       indent_text = codes "    ";
+      semicolons = AtOnce;
+      keeps_positions = false;
+      pairs = [];
+      pending = None;
+      place = origin;
       faults = 0;
       refused = false;
       takes_memory = false;
-      keeps_positions = false;
       keeps_invalid = false;
-      holds = false;
     }
 
 -- The sheet of a `JsWriter`: the text is bytes, as a `&str` is in a clause.
@@ -37,12 +42,15 @@ sheet_of w =
       indentation = w.indent;
       line_end = w.new_line.now;
       indent_text = w.indent_str.now;
+      semicolons = AtOnce;
+      keeps_positions = false;
+      pairs = [];
+      pending = None;
+      place = after_text w.outlet.log.bytes origin;
       faults = w.outlet.faults;
       refused = w.failed;
       takes_memory = false;
-      keeps_positions = false;
       keeps_invalid = false;
-      holds = false;
     }
 
 -- The writer under it told its bytes when it was handed in. A `Vec` always does, a file never.
@@ -70,8 +78,12 @@ Reaches goal old new (Ok _) = new ≡ goal
 Reaches goal old new (Err e) = Halted e goal old new
 
 -- what each call does that writes this text
-abbrev pub WritesText : List ℕ → Sheet → Sheet → Result (Unit {0}) Refusal → Type 0
-WritesText t old new r = (x : Item) → effect x old ≡ written t old → Writes x old new r
+abbrev pub WritesText : Option Span → List ℕ → Sheet → Sheet → Result (Unit {0}) Refusal → Type 0
+WritesText span t old new r = (x : Item) → effect x old ≡ written span t old → Writes x old new r
+
+-- what each call does that writes this literal
+abbrev pub WritesLiteral : Span → List ℕ → Sheet → Sheet → Result (Unit {0}) Refusal → Type 0
+WritesLiteral span t old new r = (x : Item) → effect x old ≡ literal_written span t old → Writes x old new r
 
 -- what each call does that changes nothing
 abbrev pub WritesNothing : Sheet → Sheet → Result (Unit {0}) Refusal → Type 0

@@ -36,7 +36,7 @@ impl<'a, W: Write> JsWriter<'a, W> {
     ghost use Rattle.swc_ecma_codegen_common.specs.Refusals.{in_short};
     ghost use Rattle.swc_ecma_codegen_text_writer.specs.Told.{told};
     ghost use Rattle.swc_ecma_codegen_text_writer.specs.Sheet.{Writes, Deeper, Shallower, Line, appended, indented, started};
-    ghost use Rattle.swc_ecma_codegen_text_writer.specs.View.{sheet_of, new_sheet, Tells, Reaches, WritesText, WritesNothing};
+    ghost use Rattle.swc_ecma_codegen_text_writer.specs.View.{sheet_of, new_sheet, Tells, Reaches, WritesText, WritesLiteral, WritesNothing};
 
     /// A writer at a line's start, with no indentation, whose lines end with `new_line`, as `"\n"` or `"\r\n"`.
     /// Positions aren't kept yet: `srcmap` is `None`. It asks nothing of `wr`, which may be a file.
@@ -150,9 +150,24 @@ impl<'a, W: Write> JsWriter<'a, W> {
     }
 
     /// Writes a text, after the indentation at a line's start.
-    fn write(&mut self, text: &str) -> Answer
-        ensures { WritesText text.now (sheet_of self.old) (sheet_of self.new) result }
+    fn write(&mut self, span: Option<Span>, text: &str) -> Answer
+        ensures { WritesText span text.now (sheet_of self.old) (sheet_of self.new) result }
     {
+        let _ = span;
+        if self.failed {
+            return Err(Refusal::Failed);
+        }
+        if text.is_empty() {
+            return Ok(());
+        }
+        self.put(text)
+    }
+
+    /// Writes a literal.
+    fn literal(&mut self, span: Span, text: &str) -> Answer
+        ensures { WritesLiteral span text.now (sheet_of self.old) (sheet_of self.new) result }
+    {
+        let _ = span;
         if self.failed {
             return Err(Refusal::Failed);
         }
@@ -244,38 +259,38 @@ impl<W: Write> WriteJs for JsWriter<'_, W> {
     }
 
     #[tactic(auto, unfolding(crate::specs::Sheet::effect))]
-    fn write_semi(&mut self, _span: Option<Span>) -> Result {
-        let answer = self.write(";");
+    fn write_semi(&mut self, span: Option<Span>) -> Result {
+        let answer = self.write(span, ";");
         self.answer(answer)
     }
 
     #[tactic(auto, unfolding(crate::specs::Sheet::effect))]
     fn write_space(&mut self) -> Result {
-        let answer = self.write(" ");
+        let answer = self.write(None, " ");
         self.answer(answer)
     }
 
     #[tactic(auto, unfolding(crate::specs::Sheet::effect))]
-    fn write_keyword(&mut self, _span: Option<Span>, s: &'static str) -> Result {
-        let answer = self.write(s);
+    fn write_keyword(&mut self, span: Option<Span>, s: &'static str) -> Result {
+        let answer = self.write(span, s);
         self.answer(answer)
     }
 
     #[tactic(auto, unfolding(crate::specs::Sheet::effect))]
-    fn write_operator(&mut self, _span: Option<Span>, s: &str) -> Result {
-        let answer = self.write(s);
+    fn write_operator(&mut self, span: Option<Span>, s: &str) -> Result {
+        let answer = self.write(span, s);
         self.answer(answer)
     }
 
     #[tactic(auto, unfolding(crate::specs::Sheet::effect))]
     fn write_param(&mut self, s: &str) -> Result {
-        let answer = self.write(s);
+        let answer = self.write(None, s);
         self.answer(answer)
     }
 
     #[tactic(auto, unfolding(crate::specs::Sheet::effect))]
     fn write_property(&mut self, s: &str) -> Result {
-        let answer = self.write(s);
+        let answer = self.write(None, s);
         self.answer(answer)
     }
 
@@ -285,38 +300,38 @@ impl<W: Write> WriteJs for JsWriter<'_, W> {
     }
 
     #[tactic(auto, unfolding(crate::specs::Sheet::effect))]
-    fn write_lit(&mut self, _span: Span, s: &str) -> Result {
-        let answer = self.write(s);
+    fn write_lit(&mut self, span: Span, s: &str) -> Result {
+        let answer = self.literal(span, s);
         self.answer(answer)
     }
 
     #[tactic(auto, unfolding(crate::specs::Sheet::effect))]
     fn write_comment(&mut self, s: &str) -> Result {
-        let answer = self.write(s);
+        let answer = self.write(None, s);
         self.answer(answer)
     }
 
     #[tactic(auto, unfolding(crate::specs::Sheet::effect))]
-    fn write_str_lit(&mut self, _span: Span, s: &str) -> Result {
-        let answer = self.write(s);
+    fn write_str_lit(&mut self, span: Span, s: &str) -> Result {
+        let answer = self.literal(span, s);
         self.answer(answer)
     }
 
     #[tactic(auto, unfolding(crate::specs::Sheet::effect))]
     fn write_str(&mut self, s: &str) -> Result {
-        let answer = self.write(s);
+        let answer = self.write(None, s);
         self.answer(answer)
     }
 
     #[tactic(auto, unfolding(crate::specs::Sheet::effect))]
-    fn write_symbol(&mut self, _span: Span, s: &str) -> Result {
-        let answer = self.write(s);
+    fn write_symbol(&mut self, span: Span, s: &str) -> Result {
+        let answer = self.write(Some(span), s);
         self.answer(answer)
     }
 
     #[tactic(auto, unfolding(crate::specs::Sheet::effect))]
-    fn write_punct(&mut self, _span: Option<Span>, s: &'static str) -> Result {
-        let answer = self.write(s);
+    fn write_punct(&mut self, span: Option<Span>, s: &'static str) -> Result {
+        let answer = self.write(span, s);
         self.answer(answer)
     }
 

@@ -3,7 +3,7 @@
 
 ghost use Rattle.std.specs.Prelude.{◌≡◌, ◌<◌};
 ghost use Rattle.swc_ecma_codegen_common.specs.Refusals.{in_short};
-ghost use Rattle.swc_ecma_codegen_text_writer.specs.Sheet.{Sheet, Writes, Semi, Space, Keyword, Operator, Param, Property, Line, Lit, Comment, StrLit, Str, Symbol, Punct, Position, Commit, Deeper, Shallower};
+ghost use Rattle.swc_ecma_codegen_text_writer.specs.Sheet.{Sheet, holds_semicolons, Writes, Semi, Space, Keyword, Operator, Param, Property, Line, Lit, Comment, StrLit, Str, Symbol, Punct, Position, Commit, Deeper, Shallower};
 
 mod basic_impl;
 mod boxed;
@@ -101,5 +101,5 @@ pub trait WriteJs {
 
     /// Whether it holds semicolons back until it knows what follows.
     fn holds_semi(&self) -> bool
-        ensures { result ≡ (sheet self.now).holds };
+        ensures { result ≡ holds_semicolons (sheet self.now).semicolons };
 }
