@@ -31,16 +31,16 @@ pub struct JsWriter<'a, W: Write> {
 }
 
 impl<'a, W: Write> JsWriter<'a, W> {
-    ghost use Rattle.std.specs.Prelude.{◌≡◌, ◌<◌, true, false, IsSome, None};
+    ghost use Rattle.std.specs.Prelude.{◌≡◌, ◌<◌, true, false, length, IsSome, None};
     ghost use Rattle.std.specs.Str.{is_utf8};
     ghost use Rattle.swc_ecma_codegen_common.specs.Refusals.{in_short};
     ghost use Rattle.swc_ecma_codegen_text_writer.specs.Told.{told};
-    ghost use Rattle.swc_ecma_codegen_text_writer.specs.Sheet.{Writes, Deeper, Shallower, Line, appended, indented, started};
-    ghost use Rattle.swc_ecma_codegen_text_writer.specs.View.{sheet_of, new_sheet, Tells, Reaches, WritesText, WritesLiteral, WritesNothing};
+    ghost use Rattle.swc_ecma_codegen_text_writer.specs.Sheet.{Writes, Deeper, Shallower, appended, indented, recorded, start_recorded, end_recorded, pending_recorded, started, written, literal_written};
+    ghost use Rattle.swc_ecma_codegen_text_writer.specs.View.{sheet_of, new_sheet, Tells, Reaches, WritesText, WritesLiteral, WritesLine, WritesPosition, WritesNothing};
 
     /// A writer at a line's start, with no indentation, whose lines end with `new_line`, as `"\n"` or `"\r\n"`.
     /// Positions aren't kept yet: `srcmap` is `None`. It asks nothing of `wr`, which may be a file.
-    #[tactic(auto, unfolding(crate::specs::View::sheet_of))]
+    #[tactic(auto, unfolding(crate::specs::View::sheet_of, crate::specs::Places::after_text))]
     pub fn new<S>(
         alloc: Global,
         _: &S,
@@ -128,67 +128,149 @@ impl<'a, W: Write> JsWriter<'a, W> {
         Ok(())
     }
 
-    /// Sends the indentation, at a line's start.
+    /// Records a position, where positions are kept.
+    #[tactic(auto, unfolding(crate::specs::View::sheet_of, crate::specs::View::Reaches, crate::specs::Sheet::recorded))]
+    fn record(&mut self, pos: BytePos) -> Answer
+        requires { (sheet_of self.old).refused ≡ false }
+        ensures { Reaches (recorded pos (sheet_of self.old)) (sheet_of self.old) (sheet_of self.new) result }
+    {
+        let _ = pos;
+        Ok(())
+    }
+
+    /// Records the position that is pending.
+    #[tactic(auto, unfolding(crate::specs::View::sheet_of, crate::specs::View::Reaches, crate::specs::Sheet::pending_recorded))]
+    fn record_pending(&mut self) -> Answer
+        requires { (sheet_of self.old).refused ≡ false }
+        ensures { Reaches (pending_recorded (sheet_of self.old).pending (sheet_of self.old)) (sheet_of self.old) (sheet_of self.new) result }
+    {
+        Ok(())
+    }
+
+    /// Forgets the position that is pending.
+    #[tactic(auto, unfolding(crate::specs::View::sheet_of))]
+    fn drop_pending(&mut self)
+        ensures { sheet_of self.new ≡ record (sheet_of self.old) { pending = None } }
+    {}
+
+    /// Records where a span starts.
+    #[tactic(auto, unfolding(crate::specs::View::Reaches, crate::specs::Sheet::start_recorded))]
+    fn record_start(&mut self, span: Option<Span>) -> Answer
+        requires { (sheet_of self.old).refused ≡ false }
+        ensures { Reaches (start_recorded span (sheet_of self.old)) (sheet_of self.old) (sheet_of self.new) result }
+    {
+        match span {
+            None => Ok(()),
+            Some(span) => self.record(span.lo),
+        }
+    }
+
+    /// Records where a span ends.
+    #[tactic(auto, unfolding(crate::specs::View::Reaches, crate::specs::Sheet::end_recorded))]
+    fn record_end(&mut self, span: Option<Span>) -> Answer
+        requires { (sheet_of self.old).refused ≡ false }
+        ensures { Reaches (end_recorded span (sheet_of self.old)) (sheet_of self.old) (sheet_of self.new) result }
+    {
+        match span {
+            None => Ok(()),
+            Some(span) => self.record(span.hi),
+        }
+    }
+
+    /// Sends the indentation, at a line's start, and records the position that is pending.
     fn start_line(&mut self) -> Answer
         requires { (sheet_of self.old).refused ≡ false }
         ensures { Reaches (started (sheet_of self.old)) (sheet_of self.old) (sheet_of self.new) result }
     {
-        if self.line_start {
-            self.indent()?;
-            self.set_line_start(false);
+        if !self.line_start {
+            return Ok(());
         }
-        Ok(())
+        self.indent()?;
+        self.set_line_start(false);
+        self.record_pending()
+    }
+
+    /// Sends a text in a line, and records its span.
+    fn put_in_line(&mut self, span: Option<Span>, text: &str) -> Answer
+        requires { (sheet_of self.old).refused ≡ false }
+        ensures { Reaches (end_recorded span (appended text.now (start_recorded span (sheet_of self.old)))) (sheet_of self.old) (sheet_of self.new) result }
+    {
+        self.record_start(span)?;
+        self.send(text)?;
+        self.record_end(span)
     }
 
     /// Writes a text that isn't empty.
-    fn put(&mut self, text: &str) -> Answer
-        requires { (sheet_of self.old).refused ≡ false }
-        ensures { Reaches (appended text.now (started (sheet_of self.old))) (sheet_of self.old) (sheet_of self.new) result }
+    fn put(&mut self, span: Option<Span>, text: &str) -> Answer
+        requires fresh { (sheet_of self.old).refused ≡ false }
+        requires some { 0 < length text.now }
+        ensures { Reaches (written span text.now (sheet_of self.old)) (sheet_of self.old) (sheet_of self.new) result }
     {
         self.start_line()?;
-        self.send(text)
+        self.put_in_line(span, text)
+    }
+
+    /// Writes a literal that isn't empty.
+    fn put_literal(&mut self, span: Span, text: &str) -> Answer
+        requires fresh { (sheet_of self.old).refused ≡ false }
+        requires some { 0 < length text.now }
+        ensures { Reaches (literal_written span text.now (sheet_of self.old)) (sheet_of self.old) (sheet_of self.new) result }
+    {
+        self.record(span.lo)?;
+        self.put(None, text)?;
+        self.record(span.hi)
     }
 
     /// Writes a text, after the indentation at a line's start.
     fn write(&mut self, span: Option<Span>, text: &str) -> Answer
         ensures { WritesText span text.now (sheet_of self.old) (sheet_of self.new) result }
     {
-        let _ = span;
         if self.failed {
             return Err(Refusal::Failed);
         }
         if text.is_empty() {
             return Ok(());
         }
-        self.put(text)
+        self.put(span, text)
     }
 
-    /// Writes a literal.
+    /// Writes a literal: its start is recorded before the line begins.
     fn literal(&mut self, span: Span, text: &str) -> Answer
         ensures { WritesLiteral span text.now (sheet_of self.old) (sheet_of self.new) result }
     {
-        let _ = span;
         if self.failed {
             return Err(Refusal::Failed);
         }
         if text.is_empty() {
             return Ok(());
         }
-        self.put(text)
+        self.put_literal(span, text)
     }
 
-    /// Writes the line's end, unless at a line's start.
+    /// Writes the line's end, unless at a line's start, where it forgets the position that is pending.
     fn end_line(&mut self) -> Answer
-        ensures { Writes Line (sheet_of self.old) (sheet_of self.new) result }
+        ensures { WritesLine (sheet_of self.old) (sheet_of self.new) result }
     {
         if self.failed {
             return Err(Refusal::Failed);
         }
-        if !self.line_start {
-            self.send(self.new_line)?;
-            self.set_line_start(true);
+        if self.line_start {
+            self.drop_pending();
+            return Ok(());
         }
+        self.send(self.new_line)?;
+        self.set_line_start(true);
         Ok(())
+    }
+
+    /// Records a position for what comes next: at a line's start, once the line has begun.
+    fn point(&mut self, pos: BytePos) -> Answer
+        ensures { WritesPosition pos (sheet_of self.old) (sheet_of self.new) result }
+    {
+        if self.failed {
+            return Err(Refusal::Failed);
+        }
+        self.record(pos)
     }
 
     /// One level more.
@@ -258,78 +340,79 @@ impl<W: Write> WriteJs for JsWriter<'_, W> {
         self.answer(answer)
     }
 
-    #[tactic(auto, unfolding(crate::specs::Sheet::effect))]
+    #[tactic(auto, unfolding(crate::specs::Sheet::effect), using(crate::proofs::Steps::semicolon_at_once))]
     fn write_semi(&mut self, span: Option<Span>) -> Result {
         let answer = self.write(span, ";");
         self.answer(answer)
     }
 
-    #[tactic(auto, unfolding(crate::specs::Sheet::effect))]
+    #[tactic(auto, unfolding(crate::specs::Sheet::effect), using(crate::proofs::Steps::text_at_once))]
     fn write_space(&mut self) -> Result {
         let answer = self.write(None, " ");
         self.answer(answer)
     }
 
-    #[tactic(auto, unfolding(crate::specs::Sheet::effect))]
+    #[tactic(auto, unfolding(crate::specs::Sheet::effect), using(crate::proofs::Steps::text_at_once))]
     fn write_keyword(&mut self, span: Option<Span>, s: &'static str) -> Result {
         let answer = self.write(span, s);
         self.answer(answer)
     }
 
-    #[tactic(auto, unfolding(crate::specs::Sheet::effect))]
+    #[tactic(auto, unfolding(crate::specs::Sheet::effect), using(crate::proofs::Steps::text_at_once))]
     fn write_operator(&mut self, span: Option<Span>, s: &str) -> Result {
         let answer = self.write(span, s);
         self.answer(answer)
     }
 
-    #[tactic(auto, unfolding(crate::specs::Sheet::effect))]
+    #[tactic(auto, unfolding(crate::specs::Sheet::effect), using(crate::proofs::Steps::text_at_once))]
     fn write_param(&mut self, s: &str) -> Result {
         let answer = self.write(None, s);
         self.answer(answer)
     }
 
-    #[tactic(auto, unfolding(crate::specs::Sheet::effect))]
+    #[tactic(auto, unfolding(crate::specs::Sheet::effect), using(crate::proofs::Steps::text_at_once))]
     fn write_property(&mut self, s: &str) -> Result {
         let answer = self.write(None, s);
         self.answer(answer)
     }
 
+    #[tactic(auto, unfolding(crate::specs::Sheet::effect), using(crate::proofs::Steps::line_at_once))]
     fn write_line(&mut self) -> Result {
         let answer = self.end_line();
         self.answer(answer)
     }
 
-    #[tactic(auto, unfolding(crate::specs::Sheet::effect))]
+    #[tactic(auto, unfolding(crate::specs::Sheet::effect), using(crate::proofs::Steps::literal_at_once))]
     fn write_lit(&mut self, span: Span, s: &str) -> Result {
         let answer = self.literal(span, s);
         self.answer(answer)
     }
 
-    #[tactic(auto, unfolding(crate::specs::Sheet::effect))]
+    #[tactic(auto, unfolding(crate::specs::Sheet::effect), using(crate::proofs::Steps::text_at_once))]
     fn write_comment(&mut self, s: &str) -> Result {
         let answer = self.write(None, s);
         self.answer(answer)
     }
 
-    #[tactic(auto, unfolding(crate::specs::Sheet::effect))]
+    #[tactic(auto, unfolding(crate::specs::Sheet::effect), using(crate::proofs::Steps::literal_at_once))]
     fn write_str_lit(&mut self, span: Span, s: &str) -> Result {
         let answer = self.literal(span, s);
         self.answer(answer)
     }
 
-    #[tactic(auto, unfolding(crate::specs::Sheet::effect))]
+    #[tactic(auto, unfolding(crate::specs::Sheet::effect), using(crate::proofs::Steps::text_at_once))]
     fn write_str(&mut self, s: &str) -> Result {
         let answer = self.write(None, s);
         self.answer(answer)
     }
 
-    #[tactic(auto, unfolding(crate::specs::Sheet::effect))]
+    #[tactic(auto, unfolding(crate::specs::Sheet::effect), using(crate::proofs::Steps::text_at_once))]
     fn write_symbol(&mut self, span: Span, s: &str) -> Result {
         let answer = self.write(Some(span), s);
         self.answer(answer)
     }
 
-    #[tactic(auto, unfolding(crate::specs::Sheet::effect))]
+    #[tactic(auto, unfolding(crate::specs::Sheet::effect), using(crate::proofs::Steps::punct_at_once))]
     fn write_punct(&mut self, span: Option<Span>, s: &'static str) -> Result {
         let answer = self.write(span, s);
         self.answer(answer)
@@ -341,12 +424,12 @@ impl<W: Write> WriteJs for JsWriter<'_, W> {
     }
 
     #[tactic(auto, unfolding(crate::specs::Sheet::effect))]
-    fn add_srcmap(&mut self, _pos: BytePos) -> Result {
-        let answer = self.nothing();
+    fn add_srcmap(&mut self, pos: BytePos) -> Result {
+        let answer = self.point(pos);
         self.answer(answer)
     }
 
-    #[tactic(auto, unfolding(crate::specs::Sheet::effect))]
+    #[tactic(auto, unfolding(crate::specs::Sheet::effect), using(crate::proofs::Steps::settled_at_once))]
     fn commit_pending_semi(&mut self) -> Result {
         let answer = self.nothing();
         self.answer(answer)

@@ -11,7 +11,7 @@ loop-init g c = record { sheet = indented_zero _; indent_text = refl; end = refl
 
 -- the sheets so far have the mark of the first one
 pub send-requires : goal.send-requires
-unfolding indented
+unfolding indented appended
 send-requires g c = ap (λ (s : Sheet). s.refused) c.loop.invariant.sheet ∙ c.requires
 
 pub loop-preserved : goal.loop-preserved

@@ -1,23 +1,22 @@
-use Rattle.std.proofs.Common.{◌∙◌, ap, subst}
+use Rattle.std.proofs.Common.{refl, ◌∙◌, ap, subst}
 use Rattle.std.proofs.lemmas.Result.{err_from_is_err_and}
-use Rattle.swc_ecma_codegen_text_writer.specs.Sheet.{Sheet, appended, started}
+use Rattle.swc_ecma_codegen_text_writer.specs.Sheet.{Sheet, appended, start_recorded, end_recorded, started, written}
 use Rattle.swc_ecma_codegen_text_writer.specs.View.{sheet_of, Reaches}
-use Rattle.swc_ecma_codegen_text_writer.proofs.Sheets.{started_same}
-use Rattle.swc_ecma_codegen_text_writer.proofs.Steps.{started_alike, first_halted, reaches_on}
+use Rattle.swc_ecma_codegen_text_writer.proofs.Sheets.{started_alike, started_same, started_indentation}
+use Rattle.swc_ecma_codegen_text_writer.proofs.Steps.{first_halted, reached, reaches_to, reaches_then, written_some, started_written}
 use Rattle.swc_ecma_codegen_text_writer.proofs.basic_impl.JsWriter.put.Goals as goal
 
 pub returns-in_err-start_line : goal.returns-in_err-start_line
 unfolding Reaches
 returns-in_err-start_line g c =
     let p = err_from_is_err_and c.from_residual.result c.from_residual.ensures.1 in
-    rw (p.1, p.2) (first_halted _ _ _ _ c.in_err-start_line.ensures)
+    rw (p.1, p.2) (first_halted _ _ _ _ _ (started_written _ _ _ c.requires.some) c.in_err-start_line.ensures)
 
-pub send-requires : goal.send-requires
+pub put_in_line-requires : goal.put_in_line-requires
 unfolding Reaches
-send-requires g c = ap (λ (s : Sheet). s.refused) c.in_ok-start_line.ensures ∙ (started_same (sheet_of c.args.self.now)).refused ∙ c.requires
+put_in_line-requires g c = ap (λ (s : Sheet). s.refused) c.in_ok-start_line.ensures ∙ (started_same (sheet_of c.args.self.now)).refused ∙ c.requires.fresh
 
 pub returns : goal.returns
-unfolding Reaches
 returns g c =
-    let P : Sheet → Type 0 = λ s. Reaches (appended c.args.text.now s) s (sheet_of c.send.new.self) c.send.result in
-    reaches_on _ _ (started (sheet_of c.args.self.now)) _ _ (started_alike _) (subst P c.in_ok-start_line.ensures c.send.ensures)
+    reaches_then _ _ _ _ _ _ (reached _ _ _ _ c.in_ok-start_line.ensures) (started_alike _) (started_indentation _)
+    (λ e. reaches_to _ _ _ _ _ (ap (λ (s : Sheet). end_recorded c.args.span (appended c.args.text.now (start_recorded c.args.span s))) e ∙ written_some c.args.span c.args.text.now _ c.requires.some) c.put_in_line.ensures)
