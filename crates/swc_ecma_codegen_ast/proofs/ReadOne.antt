@@ -39,6 +39,10 @@ some_part_from holds h =
       | inr a ↦ elim (or_cases (holds (record { tagged = true; opens = false })) (holds (record { tagged = true; opens = true })) a) [ inl x ↦ (record { tagged = true; opens = false }, x) | inr x ↦ (record { tagged = true; opens = true }, x) ]
     ]
 
+ending_shape : (t : List ℕ) → has_shape Ending t ≡ true → some_shape Ordinary t ≡ true
+unfolding some_shape has_shape
+ending_shape t h = or_right (has_shape Word t) _ (or_right (has_shape Name t) _ (or_right (has_shape PrivateName t) _ (or_left (has_shape Punctuator t) _ (ending_punctuator t h))))
+
 -- a token of a kind is one of its goal
 pub some_shape_of : (k : Kind) (t : List ℕ) → has_shape k t ≡ true → some_shape (goal k) t ≡ true
 unfolding goal some_shape
@@ -46,7 +50,7 @@ some_shape_of Word t h = or_left (has_shape Word t) _ h
 some_shape_of Name t h = or_right (has_shape Word t) _ (or_left (has_shape Name t) _ h)
 some_shape_of PrivateName t h = or_right (has_shape Word t) _ (or_right (has_shape Name t) _ (or_left (has_shape PrivateName t) _ h))
 some_shape_of Punctuator t h = or_right (has_shape Word t) _ (or_right (has_shape Name t) _ (or_right (has_shape PrivateName t) _ (or_left (has_shape Punctuator t) _ h)))
-some_shape_of Ending t h = some_shape_of Punctuator t (ending_punctuator t h)
+some_shape_of Ending t h = ending_shape t h
 some_shape_of Number t h = or_right (has_shape Word t) _ (or_right (has_shape Name t) _ (or_right (has_shape PrivateName t) _ (or_right (has_shape Punctuator t) _ (or_left (has_shape Number t) _ h))))
 some_shape_of BigInt t h = or_right (has_shape Word t) _ (or_right (has_shape Name t) _ (or_right (has_shape PrivateName t) _ (or_right (has_shape Punctuator t) _ (or_right (has_shape Number t) _ (or_left (has_shape BigInt t) _ h)))))
 some_shape_of Str t h = or_right (has_shape Word t) _ (or_right (has_shape Name t) _ (or_right (has_shape PrivateName t) _ (or_right (has_shape Punctuator t) _ (or_right (has_shape Number t) _ (or_right (has_shape BigInt t) _ (or_left (has_shape Str t) _ h))))))
