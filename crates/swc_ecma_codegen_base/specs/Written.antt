@@ -10,7 +10,7 @@ use Rattle.swc_ecma_codegen_ast.specs.Endings.{IsReduced}
 use Rattle.swc_ecma_codegen_ast.specs.Phrases.{Phrase, Generates}
 use Rattle.swc_ecma_codegen_ast.specs.GapRules.{Last, Start, Apart, allows}
 use Rattle.swc_ecma_codegen_ast.specs.Parts.{Part, text_of, tokens_of, remarks_in, NoneFuse}
-use Rattle.swc_ecma_codegen_text_writer.specs.Sheet.{Semicolons, AtOnce, HoldsNone, HoldsOne, holds_semicolons}
+use Rattle.swc_ecma_codegen_text_writer.specs.Sheet.{Sheet, Semicolons, AtOnce, HoldsNone, HoldsOne, holds_semicolons}
 use Rattle.swc_ecma_codegen_base.specs.Run.{State}
 
 -- LF, or CR and LF
@@ -31,18 +31,18 @@ is_free Start = true
 is_free Apart = true
 is_free last = false
 
--- Between two steps of a text that can be read back: lines are indented by blanks or tabs, and any token may come next.
-pub record AtRest (s : State) : Type 0 where
-  pub indent_text : all_indent s.sheet.indent_text ≡ true
-  pub line_end : IsLineEnd s.sheet.line_end
-  pub free : s.sheet.at_line_start ≡ true → is_free s.last ≡ true
-  pub allowed : (t : List ℕ) → allows s.last t ≡ true
-
 -- a semicolon is held back
 unfoldable pub holds_one : Semicolons → Bool
 holds_one AtOnce = false
 holds_one HoldsNone = false
 holds_one (HoldsOne span) = true
+
+-- Between two steps of a text that can be read back: lines are indented by blanks or tabs, and any token may come next.
+pub record AtRest (s : State) : Type 0 where
+  pub indent_text : all_indent s.sheet.indent_text ≡ true
+  pub line_end : IsLineEnd s.sheet.line_end
+  pub free : holds_one s.sheet.semicolons ≡ false → s.sheet.at_line_start ≡ true → is_free s.last ≡ true
+  pub allowed : (t : List ℕ) → allows s.last t ≡ true
 
 -- An emission begins: no token was written, no semicolon is held back, lines are indented by blanks or tabs, and U+0000 after
 -- a backslash is left out of names.
@@ -65,10 +65,14 @@ pub record ReadsAs (holds : Bool) (phrase : Phrase) (text : List ℕ) : Type 0 w
   pub reads : Reads (chars text) written []
 
 -- What a text is longer by reads so.
-pub record AddsReading (holds : Bool) (phrase : Phrase) (old new : List ℕ) : Type 0 where
+pub record AddsText (holds : Bool) (phrase : Phrase) (old new : List ℕ) : Type 0 where
   pub added : List ℕ
   pub is_added : new ≡ old ++ added
   pub reading : ReadsAs holds phrase added
+
+-- What the text of a sheet is longer by reads so.
+abbrev pub AddsReading : Phrase → Sheet → Sheet → Type 0
+AddsReading phrase old new = AddsText (holds_semicolons old.semicolons) phrase old.text new.text
 
 -- a text is a word of the grammar, or a punctuator: in ASCII
 pub record IsWord (t : List ℕ) : Type 0 where
