@@ -10,6 +10,7 @@ ghost use Rattle.swc_ecma_codegen_util.specs.declared.config.Config.{Config};
 ghost use Rattle.swc_ecma_codegen_ast.specs.Tokens.{Token};
 ghost use Rattle.swc_ecma_codegen_ast.specs.Phrases.{Generates, is_possible};
 ghost use Rattle.swc_ecma_codegen_ast.specs.TreePhrases.{expr_phrase, stmt_phrase};
+ghost use Rattle.swc_ecma_codegen_text_writer.specs.Sheet.{HoldsNone};
 ghost use Rattle.swc_ecma_codegen_text_writer.specs.View.{new_sheet};
 ghost use Rattle.swc_ecma_codegen_base.specs.Run.{Follows, State, nothing, remakes_name, start, steps_in, steps_of};
 ghost use Rattle.swc_ecma_codegen_base.specs.Written.{IsLineEnd, IsNew, AddsReading, all_indent};
@@ -67,9 +68,10 @@ pub fn emitted_stmt_reads<W: WriteJs, S: SourceMapper, C: Comments>(
 }
 
 /// A new emitter over a new `JsWriter`, whose lines end with LF or with CR and LF, is one that these laws speak of; and
-/// after `set_indent_str` of blanks and tabs. It is ready, whatever its lines end with.
+/// after `set_indent_str` of blanks and tabs, and inside `omit_trailing_semi`. It is ready, whatever its lines end with.
 pub fn new_emitter_reads()
     ensures new { (config : Config) (bytes line_end : List ℕ) → IsLineEnd line_end → IsNew (start config (new_sheet bytes line_end)) }
+    ensures holding { (config : Config) (bytes line_end : List ℕ) → IsLineEnd line_end → IsNew (start config (record (new_sheet bytes line_end) { semicolons = HoldsNone })) }
     ensures ready { (config : Config) (bytes line_end : List ℕ) → IsReady (start config (new_sheet bytes line_end)) }
     ensures indented { (config : Config) (bytes line_end indent : List ℕ) → IsLineEnd line_end → all_indent indent ≡ true → IsNew (start config (record (new_sheet bytes line_end) { indent_text = indent })) }
 {}
