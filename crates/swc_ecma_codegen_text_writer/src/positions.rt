@@ -173,6 +173,15 @@ impl<'a> Positions<'a> {
         self.reached = reached;
     }
 
+    /// Whether a pair of the place reached stands in the list.
+    fn stands(&self, pair: (BytePos, LineCol)) -> bool
+        requires line { pair.1.line ≡ self.now.reached.line }
+        requires column { pair.1.col ≡ self.now.reached.column }
+        ensures { result ≡ has_pair pair (pairs self.now) }
+    {
+        holds(&self.list[..self.handed_in], pair) || holds(&self.list[self.recent..], pair)
+    }
+
     /// Records that what stands at `pos` in its source text was written at the place reached.
     pub fn record(&mut self, pos: BytePos) -> Answer
         ensures pairs { (p : Place) → Counts self.old p → Records pos p (pairs self.old) (pairs self.new) result }
@@ -191,7 +200,7 @@ impl<'a> Positions<'a> {
             col: self.reached.column as u32,
         };
         let pair = (pos, place);
-        if holds(&self.list[..self.handed_in], pair) || holds(&self.list[self.recent..], pair) {
+        if self.stands(pair) {
             return Ok(());
         }
         match self.list.push(pair) {
