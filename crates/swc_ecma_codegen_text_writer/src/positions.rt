@@ -62,7 +62,11 @@ impl Reached {
         ensures shows { (p : Place) → Shows self p → Shows result (next_line after_cr p) }
         ensures order { IsFrom self result }
     {
-        let line = if self.line < LIMIT { self.line + 1 } else { self.line };
+        let line = if self.line < LIMIT {
+            self.line + 1
+        } else {
+            self.line
+        };
         Reached {
             line,
             column: 0,

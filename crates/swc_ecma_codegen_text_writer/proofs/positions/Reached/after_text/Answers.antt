@@ -13,11 +13,11 @@ loop-byte-init c = record {
 pub loop-byte-preserved : goal.loop-byte-preserved
 loop-byte-preserved c = record {
   shows = λ p h.
-    let i = c.loop-byte.byte-index in
-    let before = after_text (take i c.args.text.now) p in
-    let byte : get_or c.as_bytes-byte-items.result.now i 0 ≡ get_or c.args.text.now i 0 = ap (λ xs. get_or xs i 0) c.as_bytes-byte-items.ensures.value in
-    let after : after_text (take (i + 1) c.args.text.now) p ≡ after_byte (get_or c.as_bytes-byte-items.result.now i 0) before =
+      let i = c.loop-byte.byte-index in
+      let before = after_text (take i c.args.text.now) p in
+      let byte : get_or c.as_bytes-byte-items.result.now i 0 ≡ get_or c.args.text.now i 0 = ap (λ xs. get_or xs i 0) c.as_bytes-byte-items.ensures.value in
+      let after : after_text (take (i + 1) c.args.text.now) p ≡ after_byte (get_or c.as_bytes-byte-items.result.now i 0) before =
       after_text_take c.args.text.now i 0 p (omega arith) ∙ ap (λ x. after_byte x before) (sym byte) in
-    subst (Shows c.after-reached.result) (sym after) (c.after-reached.ensures.shows before (c.loop-byte.invariant.shows p h));
+      subst (Shows c.after-reached.result) (sym after) (c.after-reached.ensures.shows before (c.loop-byte.invariant.shows p h));
   order = omega arith;
 }
