@@ -1,11 +1,10 @@
 -- Pairs that stand in a list, and those that don't.
-use Rattle.std.proofs.Common.{◌≡◌, ℕ, ◌+◌, ◌-◌, ◌<◌, ◌≤◌, ◌^◌, zero, suc, List, [], ◌∷◌, ◌++◌, Bool, true, false, cond, eqb, ◌||◌, ◌&&◌, refl, sym, ap, ◌∙◌, arith, length, take, drop, get_or, min, Ok, Err}
+use Rattle.std.proofs.Common.{◌≡◌, ℕ, ◌+◌, ◌-◌, ◌<◌, ◌≤◌, ◌^◌, zero, suc, List, [], ◌∷◌, ◌++◌, Bool, true, false, cond, eqb, ◌||◌, refl, sym, ap, ◌∙◌, arith, length, take, drop, get_or, min, Ok, Err}
 use Rattle.std.proofs.lemmas.Bool.{ne_eqb}
 use Rattle.std.proofs.lemmas.Bool.Decides.{nat_tests}
 use Rattle.std.proofs.lemmas.List.{take_more, take-append-drop, length-take, length-drop, take_all, get_or-take, get_or-drop, drop-drop}
 use Rattle.std.specs.List.{AllWithin}
 use Rattle.swc_ecma_codegen_common.specs.declared.positions.BytePos.{BytePos}
-use Rattle.swc_ecma_codegen_common.specs.declared.positions.LineCol.{LineCol}
 use Rattle.swc_ecma_codegen_text_writer.specs.Places.{Place}
 use Rattle.swc_ecma_codegen_text_writer.specs.Reach.{Shows, IsBefore}
 use Rattle.swc_ecma_codegen_text_writer.specs.declared.positions.Reached.{Reached}
