@@ -186,7 +186,11 @@ impl<'a> Positions<'a> {
         holds(&self.list[..self.handed_in], pair) || holds(&self.list[self.recent..], pair)
     }
 
-    /// Records that what stands at `pos` in its source text was written at the place reached.
+    /// Records that what stands at `pos` in its source text was written at the place reached. Position 0, and a pair
+    /// that stands in the list, do nothing.
+    ///
+    /// It answers `PositionTooLarge` where the line or the column is above `u32::MAX`, and `OutOfMemory` where the list
+    /// can't grow; the list is then as it was.
     pub fn record(&mut self, pos: BytePos) -> Answer
         ensures pairs { (p : Place) → Counts self.old p → Records pos p (pairs self.old) (pairs self.new) result }
         ensures place { (p : Place) → Counts self.old p → Counts self.new p }
