@@ -1,4 +1,6 @@
 pub mod Sheets
+mod Reaching
+mod Recording
 mod Steps
 pub mod Text
 mod Walks

@@ -1,4 +1,6 @@
 pub mod Places
+pub mod Positions
+pub mod Reach
 pub mod Sent
 pub mod Sheet
 pub mod Told

@@ -10,6 +10,7 @@ mod boxed;
 mod lent;
 mod logs;
 mod outlet;
+mod positions;
 
 pub use crate::basic_impl::JsWriter;
 use swc_ecma_codegen_common::{BytePos, Result, Span};
