@@ -1,3 +1,4 @@
+pub mod Pairs
 pub mod Sheets
 mod Steps
 pub mod Text

@@ -1,4 +1,5 @@
 pub mod Places
+pub mod Recorded
 pub mod Sent
 pub mod Sheet
 pub mod Told
