@@ -1,3 +1,4 @@
+pub mod Pairs
 pub mod Sheets
 mod Reaching
 mod Recording
