@@ -1,3 +1,4 @@
+pub mod Semicolons
 pub mod Sheets
 mod Steps
 pub mod Text

@@ -10,8 +10,10 @@ mod boxed;
 mod lent;
 mod logs;
 mod outlet;
+mod semicolon;
 
 pub use crate::basic_impl::JsWriter;
+pub use crate::semicolon::{OmitTrailingSemi, omit_trailing_semi};
 use swc_ecma_codegen_common::{BytePos, Result, Span};
 
 /// A writer of tokens. Its value is a sheet, and each call has one effect on it, or is refused.
