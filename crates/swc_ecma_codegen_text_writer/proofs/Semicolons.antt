@@ -606,3 +606,6 @@ ending_err p span t a b e i h k =
 pub position_passes : (p : Option (Option Span)) (pos : BytePos) (a b : Sheet) (r : Result (Unit {0}) Refusal) → WritesAtOnce a → Writes (Position pos) a b r → Writes (Position pos) (with_held p a) (with_held p b) r
 unfolding with_held effect
 position_passes p pos a b r h k = lifted (Position pos) (semicolons_of p) a b r h (λ _ _. pointed_moves (semicolons_of p) pos a) k
+
+-- what the calls need
+pub ruleset calls = (kept, settled_then, settled_not, space_settles, keyword_settles, operator_settles, param_settles, property_settles, line_settles, lit_settles, comment_settles, string_settles, str_settles, symbol_settles, punct_settles, commit_settles, deeper_settles, shallower_settles, semi_ok, semi_err, ending_ok, ending_err, position_passes)

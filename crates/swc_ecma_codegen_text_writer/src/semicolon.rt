@@ -39,7 +39,7 @@ pub fn omit_trailing_semi<W: WriteJs>(w: W) -> OmitTrailingSemi<W>
 }
 
 /// Whether a semicolon isn't needed before a punctuator.
-#[tactic(auto, using(crate::proofs::Semicolons::settles_none), unfolding(crate::specs::Sheet::is_ending))]
+#[tactic(auto, unfolding(crate::specs::Sheet::is_ending))]
 fn is_ending(text: &str) -> bool
     ensures { result ≡ is_ending text.now }
 {
@@ -69,6 +69,7 @@ impl<W: WriteJs> OmitTrailingSemi<W> {
     }
 }
 
+#[tactic(auto, using(crate::proofs::Semicolons::calls))]
 impl<W: WriteJs> WriteJs for OmitTrailingSemi<W> {
     ghost sheet = { λ w. with_held w.pending (W.sheet w.inner) };
 
