@@ -607,5 +607,10 @@ pub position_passes : (p : Option (Option Span)) (pos : BytePos) (a b : Sheet) (
 unfolding with_held effect
 position_passes p pos a b r h k = lifted (Position pos) (semicolons_of p) a b r h (λ _ _. pointed_moves (semicolons_of p) pos a) k
 
+-- it says that it holds semicolons
+pub held_back : (p : Option (Option Span)) → true ≡ holds_semicolons (semicolons_of p)
+held_back None = refl
+held_back (Some span) = refl
+
 -- what the calls need
 pub ruleset calls = (kept, settled_then, settled_not, space_settles, keyword_settles, operator_settles, param_settles, property_settles, line_settles, lit_settles, comment_settles, string_settles, str_settles, symbol_settles, punct_settles, commit_settles, deeper_settles, shallower_settles, semi_ok, semi_err, ending_ok, ending_err, position_passes)

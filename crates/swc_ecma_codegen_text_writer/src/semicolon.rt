@@ -28,6 +28,7 @@ pub struct OmitTrailingSemi<W: WriteJs> {
 
 /// A writer that leaves semicolons out where `}` or `;` follows, over one that writes each at once: `a;}` is written
 /// `a}`. swc's `text_writer::omit_trailing_semi`.
+#[tactic(auto, unfolding(crate::specs::Held::with_held))]
 pub fn omit_trailing_semi<W: WriteJs>(w: W) -> OmitTrailingSemi<W>
     requires { holds_semicolons (W.sheet w).semicolons ≡ false }
     ensures { with_held result.pending (W.sheet result.inner) ≡ record (W.sheet w) { semicolons = HoldsNone } }
@@ -155,6 +156,7 @@ impl<W: WriteJs> WriteJs for OmitTrailingSemi<W> {
         self.inner.write_punct(span, s)
     }
 
+    #[tactic(auto, unfolding(crate::specs::Held::with_held))]
     fn care_about_srcmap(&self) -> bool {
         self.inner.care_about_srcmap()
     }
@@ -169,10 +171,12 @@ impl<W: WriteJs> WriteJs for OmitTrailingSemi<W> {
         self.inner.commit_pending_semi()
     }
 
+    #[tactic(auto, unfolding(crate::specs::Held::with_held))]
     fn can_ignore_invalid_unicodes(&mut self) -> bool {
         self.inner.can_ignore_invalid_unicodes()
     }
 
+    #[tactic(auto, using(crate::proofs::Semicolons::held_back), unfolding(crate::specs::Held::with_held))]
     fn holds_semi(&self) -> bool {
         true
     }
