@@ -176,9 +176,10 @@ literal_way span (c ∷ cs) s =
 ended_way : (s : Sheet) → Way s (ended s)
 unfolding ended
 ended_way s =
-    elim s.at_line_start as (λ b. Way s (cond b (record s { pending = None }) (record (appended s.line_end s) { at_line_start = true })))
-    [ true ↦ alike_way s.at_line_start s.semicolons None s
-    | false ↦ way_trans _ _ _ (appended_way s.line_end s) (alike_way true (appended s.line_end s).semicolons (appended s.line_end s).pending (appended s.line_end s)) ]
+    elim s.at_line_start as (λ b. Way s (cond b (record s { pending = None }) (record (appended s.line_end s) { at_line_start = true }))) [
+      | true ↦ alike_way s.at_line_start s.semicolons None s
+      | false ↦ way_trans _ _ _ (appended_way s.line_end s) (alike_way true (appended s.line_end s).semicolons (appended s.line_end s).pending (appended s.line_end s))
+    ]
 
 settled_by_way : (q : Semicolons) (s : Sheet) → Way s (settled_by q s)
 unfolding settled_by
