@@ -1,4 +1,5 @@
 pub mod Pairs
+pub mod Semicolons
 pub mod Sheets
 mod Reaching
 mod Recording

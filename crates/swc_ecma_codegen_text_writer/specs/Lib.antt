@@ -1,3 +1,4 @@
+pub mod Held
 pub mod Places
 pub mod Positions
 pub mod Reach

@@ -12,8 +12,10 @@ mod lent;
 mod logs;
 mod outlet;
 mod positions;
+mod semicolon;
 
 pub use crate::basic_impl::JsWriter;
+pub use crate::semicolon::{OmitTrailingSemi, omit_trailing_semi};
 use swc_ecma_codegen_common::{BytePos, Result, Span};
 
 /// A writer of tokens. Its value is a sheet, and each call has one effect on it, or is refused.
