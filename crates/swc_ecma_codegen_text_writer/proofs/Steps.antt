@@ -1,12 +1,16 @@
 -- Sheets on the way to others.
-use Rattle.std.proofs.Common.{◌≡◌, ◌⊎◌, inl, inr, ℕ, ◌+◌, ◌-◌, ◌^◌, ◌<◌, ◌≤◌, Bool, true, false, List, [], ◌∷◌, ◌++◌, length, refl, sym, ◌∙◌, ap, subst, append_assoc, arith, append-nil, codes, zero, suc, Option, Some, None, Result, Ok, Err, cond}
+use Rattle.std.proofs.Common.{◌≡◌, ◌⊎◌, inl, inr, ℕ, ◌+◌, ◌-◌, ◌^◌, ◌<◌, ◌≤◌, Bool, true, false, List, [], ◌∷◌, ◌++◌, length, refl, sym, ◌∙◌, ap, subst, append_assoc, arith, append-nil, codes, zero, suc, Option, Some, None, is_some, Result, Ok, Err, cond, ◌&&◌}
 use Rattle.std.specs.List.{repeat}
 use Rattle.swc_ecma_codegen_common.specs.declared.errors.Refusal.{Refusal}
 use Rattle.swc_ecma_codegen_common.specs.declared.errors.Refusal.TheVariants.{Writer, OutOfMemory, UnsupportedNode, BadShape, NameOutOfTarget, PositionTooLarge, Failed}
+use Rattle.swc_ecma_codegen_common.specs.declared.positions.BytePos.{BytePos}
 use Rattle.swc_ecma_codegen_common.specs.declared.positions.Span.{Span}
+use Rattle.swc_ecma_codegen_text_writer.specs.declared.positions.Positions.{Positions}
+use Rattle.swc_ecma_codegen_text_writer.specs.Positions.{Records}
+use Rattle.swc_ecma_codegen_text_writer.specs.Kept.{pairs_in, pending_in, RecordsIn}
 use Rattle.swc_ecma_codegen_text_writer.specs.Told.{IsFront}
 use Rattle.swc_ecma_codegen_text_writer.specs.Places.{Place, origin, after_text}
-use Rattle.swc_ecma_codegen_text_writer.specs.Sheet.{Sheet, Item, Causes, earlier, stopped, Stopped, Writes, Semicolons, AtOnce, HoldsNone, HoldsOne, appended, indented, start_recorded, end_recorded, pending_recorded, recorded, started, written, literal_written, ended, settled, settled_by, semicolon_by, dropped, is_ending, before_punct, effect, Line, Deeper}
+use Rattle.swc_ecma_codegen_text_writer.specs.Sheet.{Sheet, Pair, with_pair, pointed, Item, Causes, earlier, stopped, Stopped, Writes, Semicolons, AtOnce, HoldsNone, HoldsOne, appended, indented, start_recorded, end_recorded, pending_recorded, recorded, started, written, literal_written, ended, settled, settled_by, semicolon_by, dropped, is_ending, before_punct, effect, Line, Deeper}
 use Rattle.swc_ecma_codegen_text_writer.specs.View.{HasReason, Halted, Reaches}
 use Rattle.swc_ecma_codegen_text_writer.proofs.Sheets.{Alike, alike_refl, alike_trans, start_alike, end_alike, pending_alike, appended_alike, indented_alike, started_alike, started_indentation, front_refl, front_append, front_trans}
 
@@ -177,9 +181,90 @@ pub new_place : (bytes : List ℕ) → bytes ≡ [] → after_text bytes origin 
 unfolding after_text
 new_place bytes h = ap (λ z. after_text z origin) h
 
-pub sent_sheet : (t : List ℕ) (s : Sheet) (x : List ℕ) (b : Bool) (n : ℕ) (p : Place) → x ≡ s.text ++ t → b ≡ s.whole → n ≡ s.faults → p ≡ after_text t s.place → record s { text = x; whole = b; faults = n; place = p } ≡ appended t s
+pub sent_sheet : (t : List ℕ) (s : Sheet) (x : List ℕ) (b : Bool) (n : ℕ) (p : Place) (keeps memory : Bool) (pairs : List Pair) (pending : Option BytePos)
+    → x ≡ s.text ++ t → b ≡ s.whole → n ≡ s.faults → p ≡ after_text t s.place → keeps ≡ s.keeps_positions → memory ≡ s.takes_memory → pairs ≡ s.pairs → pending ≡ s.pending
+    → record s { text = x; whole = b; faults = n; place = p; keeps_positions = keeps; takes_memory = memory; pairs = pairs; pending = pending } ≡ appended t s
 unfolding appended
-sent_sheet t s x b n p h k m q = λ i. record s { text = h i; whole = k i; faults = m i; place = q i }
+sent_sheet t s x b n p keeps memory pairs pending h k m q e f g l =
+    λ i. record s { text = h i; whole = k i; faults = m i; place = q i; keeps_positions = e i; takes_memory = f i; pairs = g i; pending = l i }
+
+-- ---- recorded positions
+
+records_ok : (pos : BytePos) (p : Place) (old new : Option Positions) (u : Unit {0}) → RecordsIn pos p old new (Ok u) → pairs_in new ≡ cond (is_some old) (with_pair pos p (pairs_in old)) (pairs_in old)
+unfolding RecordsIn Records pairs_in
+records_ok pos p (Some old) new u h = h
+records_ok pos p None new u h = ap pairs_in h
+
+recorded_case : (b : Bool) (pos : BytePos) (s : Sheet) → record s { pairs = cond b (with_pair pos s.place s.pairs) s.pairs } ≡ cond b (record s { pairs = with_pair pos s.place s.pairs }) s
+recorded_case true pos s = refl
+recorded_case false pos s = refl
+
+-- the sheet after a position that was recorded, by its parts
+pub recorded_sheet : (pos : BytePos) (s : Sheet) (old new : Option Positions) (u : Unit {0}) (keeps memory : Bool) (pending : Option BytePos)
+    → RecordsIn pos s.place old new (Ok u) → is_some old ≡ s.keeps_positions → pairs_in old ≡ s.pairs → keeps ≡ s.keeps_positions → memory ≡ s.takes_memory → pending ≡ s.pending
+    → record s { keeps_positions = keeps; takes_memory = memory; pairs = pairs_in new; pending = pending } ≡ recorded pos s
+unfolding recorded
+recorded_sheet pos s old new u keeps memory pending h e g k m l =
+    (λ i. record s { keeps_positions = k i; takes_memory = m i; pairs = (records_ok pos s.place old new u h ∙ (λ j. cond (e j) (with_pair pos s.place (g j)) (g j))) i; pending = l i })
+    ∙ recorded_case s.keeps_positions pos s
+
+-- a refused position leaves the pairs
+pub refused_pairs : (pos : BytePos) (p : Place) (old new : Option Positions) (e : Refusal) → RecordsIn pos p old new (Err e) → pairs_in new ≡ pairs_in old
+unfolding RecordsIn Records pairs_in
+refused_pairs pos p (Some old) new Writer h = absurd h
+refused_pairs pos p (Some old) new OutOfMemory h = h
+refused_pairs pos p (Some old) new UnsupportedNode h = absurd h
+refused_pairs pos p (Some old) new BadShape h = absurd h
+refused_pairs pos p (Some old) new NameOutOfTarget h = absurd h
+refused_pairs pos p (Some old) new PositionTooLarge h = h.1
+refused_pairs pos p (Some old) new Failed h = absurd h
+refused_pairs pos p None new e h = absurd h
+
+-- and has its reason
+pub refused_reason : (pos : BytePos) (old new : Option Positions) (e : Refusal) (s c : Sheet) → RecordsIn pos c.place old new (Err e) → is_some old ≡ s.keeps_positions → is_some old ≡ s.takes_memory → HasReason e s c
+unfolding RecordsIn Records HasReason
+refused_reason pos (Some old) new Writer s c h k m = absurd h
+refused_reason pos (Some old) new OutOfMemory s c h k m = sym m
+refused_reason pos (Some old) new UnsupportedNode s c h k m = absurd h
+refused_reason pos (Some old) new BadShape s c h k m = absurd h
+refused_reason pos (Some old) new NameOutOfTarget s c h k m = absurd h
+refused_reason pos (Some old) new PositionTooLarge s c h k m = (sym k, h.0)
+refused_reason pos (Some old) new Failed s c h k m = absurd h
+refused_reason pos None new e s c h k m = absurd h
+
+-- something was refused, and the sheet is marked
+pub refused_here : (e : Refusal) (goal s c : Sheet) → c ≡ record s { refused = true } → Alike s goal → HasReason e s c → Halted e goal s c
+refused_here e goal s c h k r =
+    let P : Sheet → Type 0 = λ z. z ≡ record s { text = z.text; whole = z.whole; at_line_start = z.at_line_start; semicolons = z.semicolons; pairs = z.pairs; pending = z.pending; place = z.place; faults = z.faults; refused = true } in
+    let T : Sheet → Type 0 = λ z. IsFront z.text goal.text in
+    let Q : Sheet → Type 0 = λ z. IsFront z.pairs goal.pairs in
+    let U : Sheet → Type 0 = λ z. IsFront s.text z.text in
+    let V : Sheet → Type 0 = λ z. IsFront s.pairs z.pairs in
+    record {
+      reason = r;
+      grows = subst U (sym h) (front_refl s.text);
+      front = subst T (sym h) k.grows;
+      more_pairs = subst V (sym h) (front_refl s.pairs);
+      front_pairs = subst Q (sym h) k.more_pairs;
+      same = subst P (sym h) refl;
+    }
+
+pub pending_dropped : (s : Sheet) → Alike s (record s { pending = None })
+pending_dropped s = record { grows = front_refl s.text; more_pairs = front_refl s.pairs; holds = refl; same = refl }
+
+-- the sheet after its pending position was taken, by its parts
+pub taken_sheet : (s : Sheet) (keeps memory : Bool) (pairs : List Pair) (pending : Option BytePos) → keeps ≡ s.keeps_positions → memory ≡ s.takes_memory → pairs ≡ s.pairs → pending ≡ None → record s { keeps_positions = keeps; takes_memory = memory; pairs = pairs; pending = pending } ≡ record s { pending = None }
+taken_sheet s keeps memory pairs pending e f g l = λ i. record s { keeps_positions = e i; takes_memory = f i; pairs = g i; pending = l i }
+
+-- the sheet with a pending position, by its parts
+pub pointed_sheet : (pos : BytePos) (s : Sheet) (keeps memory : Bool) (pairs : List Pair) (pending : Option BytePos) → (s.keeps_positions && s.at_line_start) ≡ true → keeps ≡ s.keeps_positions → memory ≡ s.takes_memory → pairs ≡ s.pairs → pending ≡ Some pos → record s { keeps_positions = keeps; takes_memory = memory; pairs = pairs; pending = pending } ≡ pointed pos s
+unfolding pointed
+pointed_sheet pos s keeps memory pairs pending b e f g l =
+    (λ i. record s { keeps_positions = e i; takes_memory = f i; pairs = g i; pending = l i }) ∙ sym (ap (λ z. cond z (record s { pending = Some pos }) (recorded pos s)) b)
+
+pub pointed_in_line : (pos : BytePos) (s : Sheet) → (s.keeps_positions && s.at_line_start) ≡ false → pointed pos s ≡ recorded pos s
+unfolding pointed
+pointed_in_line pos s b = ap (λ z. cond z (record s { pending = Some pos }) (recorded pos s)) b
 
 -- ---- calls
 

@@ -1,4 +1,5 @@
 pub mod Held
+pub mod Kept
 pub mod Places
 pub mod Positions
 pub mod Reach

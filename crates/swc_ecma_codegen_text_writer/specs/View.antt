@@ -1,15 +1,16 @@
 -- The sheet of a `JsWriter`, and the ways to it.
-use Rattle.std.specs.Prelude.{◌≡◌, ℕ, true, false, List, [], codes, Option, None, Result, Ok, Err, IsSome}
+use Rattle.std.specs.Prelude.{◌≡◌, ◌⊎◌, ℕ, true, false, List, [], codes, Option, None, Result, Ok, Err, IsSome}
 use Rattle.std.specs.Str.{is_utf8}
 use Rattle.std.specs.declared.io.traits.Write.{Ghosts}
 use Rattle.swc_ecma_codegen_common.specs.declared.errors.Refusal.{Refusal}
 use Rattle.swc_ecma_codegen_common.specs.declared.errors.Refusal.TheVariants.{Writer, OutOfMemory, UnsupportedNode, BadShape, NameOutOfTarget, PositionTooLarge, Failed}
 use Rattle.swc_ecma_codegen_text_writer.specs.Told.{Rises, IsFront}
+use Rattle.swc_ecma_codegen_text_writer.specs.Kept.{keeps, kept_pairs, kept_pending}
 use Rattle.swc_ecma_codegen_text_writer.specs.Sent.{sent}
 use Rattle.swc_ecma_codegen_common.specs.declared.positions.BytePos.{BytePos}
 use Rattle.swc_ecma_codegen_common.specs.declared.positions.Span.{Span}
 use Rattle.swc_ecma_codegen_text_writer.specs.Places.{origin, after_text}
-use Rattle.swc_ecma_codegen_text_writer.specs.Sheet.{Sheet, Item, AtOnce, IsFar, Writes, effect, written, literal_written, ended, pointed}
+use Rattle.swc_ecma_codegen_text_writer.specs.Sheet.{Sheet, Pair, Item, AtOnce, IsFar, Writes, appended, effect, written, literal_written, ended, pointed}
 use Rattle.swc_ecma_codegen_text_writer.specs.declared.basic_impl.JsWriter.{JsWriter}
 
 -- The sheet of a new `JsWriter` without positions, over a writer that tells some bytes.
@@ -33,6 +34,10 @@ new_sheet bytes line_end =
       keeps_invalid = false;
     }
 
+-- the same sheet, of a writer that keeps positions after those that were handed in
+abbrev pub keeping : List Pair → Sheet → Sheet
+keeping pairs s = record s { keeps_positions = true; pairs = pairs; takes_memory = true }
+
 -- The sheet of a `JsWriter`: the text is bytes, as a `&str` is in a clause.
 unfoldable pub sheet_of : {W : Type 0} {g : Ghosts W} → JsWriter W g → Sheet
 sheet_of w =
@@ -44,13 +49,13 @@ sheet_of w =
       line_end = w.new_line.now;
       indent_text = w.indent_str.now;
       semicolons = AtOnce;
-      keeps_positions = false;
-      pairs = [];
-      pending = None;
+      keeps_positions = keeps w.kept;
+      pairs = kept_pairs w.kept;
+      pending = kept_pending w.kept;
       place = after_text w.outlet.log.bytes origin;
       faults = w.outlet.faults;
       refused = w.failed;
-      takes_memory = false;
+      takes_memory = keeps w.kept;
       keeps_invalid = false;
     }
 
@@ -101,3 +106,8 @@ WritesPosition pos old new r = (x : Item) → (old.semicolons ≡ AtOnce → eff
 -- what each call does that changes nothing
 abbrev pub WritesNothing : Sheet → Sheet → Result (Unit {0}) Refusal → Type 0
 WritesNothing old new r = (x : Item) → (old.semicolons ≡ AtOnce → effect x old ≡ old) → Writes x old new r
+
+-- What `preamble` does: its text goes out as it is; or it is refused, since an earlier call was or on its way.
+unfoldable pub Prefaces : List ℕ → Sheet → Sheet → Result (Unit {0}) Refusal → Type 0
+Prefaces t old new (Ok _) = (old.refused ≡ false) × (new ≡ appended t old)
+Prefaces t old new (Err e) = ((old.refused ≡ true) × ((e ≡ Failed) × (new ≡ old))) ⊎ ((old.refused ≡ false) × Halted e (appended t old) old new)

@@ -1,11 +1,17 @@
 //! The writer over an `io::Write`.
 
 use crate::WriteJs;
+use crate::kept::Kept;
 use crate::outlet::Outlet;
 use std::alloc::Global;
 use std::io;
 use std::io::Write;
 use swc_ecma_codegen_common::{Answer, BytePos, LineCol, Refusal, Result, Span};
+
+ghost use Rattle.std.specs.Prelude.{◌≡◌, false};
+ghost use Rattle.std.proofs.Props.{props};
+ghost use Rattle.swc_ecma_codegen_text_writer.specs.Places.{origin, after_text};
+ghost use Rattle.swc_ecma_codegen_text_writer.specs.Kept.{IsCounted};
 
 const DEFAULT_INDENT: &str = "    ";
 
@@ -15,9 +21,13 @@ const DEFAULT_INDENT: &str = "    ";
 /// Over a `Vec`, with the line end `"\n"`, the calls `increase_indent`, `write_str("a")`, `write_line`, `write_line`,
 /// `write_str("")`, `write_str("b")` write `"    a\n    b"`.
 ///
-/// No call takes memory, so none answers `OutOfMemory`. A call answers `Writer` where the writer under it failed, was
+/// Where it was given a list, it records positions there: a position with the line and the column, both from 0, that what
+/// stands there has in all that this writer wrote; lines end with LF, CR, or CR and LF, and columns are UTF-16 units. Position
+/// 0 is never recorded, nor a pair that stands in the list already.
+///
+/// Without such a list no call takes memory, so none answers `OutOfMemory`; with one a call does where the list can't grow. A call answers `Writer` where the writer under it failed, was
 /// interrupted, or took no byte of some (`ErrorKind::WriteZero`); `PositionTooLarge` where the indentation would pass
-/// 4294967295 levels; `Failed` where an earlier call was refused. swc's `text_writer::basic_impl::JsWriter`.
+/// 4294967295 levels, or a position to be recorded has a line or a column above that; `Failed` where an earlier call was refused. swc's `text_writer::basic_impl::JsWriter`.
 #[derive(Drop)]
 pub struct JsWriter<'a, W: Write> {
     alloc: Global,
@@ -28,18 +38,20 @@ pub struct JsWriter<'a, W: Write> {
     line_start: bool,
     failed: bool,
     fault: Option<io::Error>,
+    kept: Kept<'a>,
+    ghost counted: { failed ≡ false → IsCounted kept (after_text outlet.log.bytes origin) } by { Prim.hlevel props },
 }
 
 impl<'a, W: Write> JsWriter<'a, W> {
-    ghost use Rattle.std.specs.Prelude.{◌≡◌, ◌<◌, true, false, length, IsSome, None};
+    ghost use Rattle.std.specs.Prelude.{◌<◌, true, length, IsSome, Some, None};
     ghost use Rattle.std.specs.Str.{is_utf8};
     ghost use Rattle.swc_ecma_codegen_common.specs.Refusals.{in_short};
     ghost use Rattle.swc_ecma_codegen_text_writer.specs.Told.{told};
     ghost use Rattle.swc_ecma_codegen_text_writer.specs.Sheet.{Writes, Deeper, Shallower, appended, indented, recorded, start_recorded, end_recorded, pending_recorded, started, written, literal_written};
-    ghost use Rattle.swc_ecma_codegen_text_writer.specs.View.{sheet_of, new_sheet, Tells, Reaches, WritesText, WritesLiteral, WritesLine, WritesPosition, WritesNothing};
+    ghost use Rattle.swc_ecma_codegen_text_writer.specs.View.{sheet_of, new_sheet, keeping, Prefaces, Tells, Reaches, WritesText, WritesLiteral, WritesLine, WritesPosition, WritesNothing};
 
     /// A writer at a line's start, with no indentation, whose lines end with `new_line`, as `"\n"` or `"\r\n"`.
-    /// Positions aren't kept yet: `srcmap` is `None`. It asks nothing of `wr`, which may be a file.
+    /// Positions are recorded in `srcmap`, where there is such a list. It asks nothing of `wr`, which may be a file.
     #[tactic(auto, unfolding(crate::specs::View::sheet_of, crate::specs::Places::after_text))]
     pub fn new<S>(
         alloc: Global,
@@ -48,11 +60,10 @@ impl<'a, W: Write> JsWriter<'a, W> {
         wr: W,
         srcmap: Option<&'a mut Vec<(BytePos, LineCol)>>,
     ) -> Self
-        requires { srcmap ≡ None }
-        ensures sheet { sheet_of result ≡ new_sheet (told (W.contents wr)) new_line.now }
+        ensures sheet { srcmap.entry ≡ None → sheet_of result ≡ new_sheet (told (W.contents wr)) new_line.now }
+        ensures positions { (list : _) → srcmap.entry ≡ Some list → sheet_of result ≡ keeping list.now.items (new_sheet (told (W.contents wr)) new_line.now) }
         ensures tells { IsSome (W.contents wr) → Tells result }
     {
-        let _ = srcmap;
         JsWriter {
             alloc,
             outlet: Outlet::new(wr),
@@ -62,6 +73,7 @@ impl<'a, W: Write> JsWriter<'a, W> {
             line_start: true,
             failed: false,
             fault: None,
+            kept: Kept::new(srcmap),
         }
     }
 
@@ -72,6 +84,25 @@ impl<'a, W: Write> JsWriter<'a, W> {
         ensures tells { Tells self.old → Tells self.new }
     {
         self.indent_str = indent_str;
+    }
+
+    /// Writes a text as it is, ahead of the rest: a line's start stays one, and no indentation comes before it. It is
+    /// counted, so that positions stand right. swc's `preamble`.
+    pub fn preamble(&mut self, text: &str) -> Result
+        ensures { Prefaces text.now (sheet_of self.old) (sheet_of self.new) (in_short result) }
+    {
+        let answer = self.preface(text);
+        self.answer(answer)
+    }
+
+    /// Sends a text ahead of the rest.
+    fn preface(&mut self, text: &str) -> Answer
+        ensures { Prefaces text.now (sheet_of self.old) (sheet_of self.new) result }
+    {
+        if self.failed {
+            return Err(Refusal::Failed);
+        }
+        self.send(text)
     }
 
     /// The writer under it. Where that told its bytes when it was handed in, it tells the sheet's text now: a `Vec`
@@ -90,6 +121,7 @@ impl<'a, W: Write> JsWriter<'a, W> {
             line_start: _,
             failed: _,
             fault: _,
+            kept: _,
         } = self;
         outlet.into_inner()
     }
@@ -107,7 +139,10 @@ impl<'a, W: Write> JsWriter<'a, W> {
         ensures { Reaches (appended text.now (sheet_of self.old)) (sheet_of self.old) (sheet_of self.new) result }
     {
         match self.outlet.write_text(text) {
-            Ok(()) => Ok(()),
+            Ok(()) => {
+                self.kept.pass(text);
+                Ok(())
+            }
             Err(error) => {
                 self.failed = true;
                 self.fault = Some(error);
@@ -129,29 +164,37 @@ impl<'a, W: Write> JsWriter<'a, W> {
     }
 
     /// Records a position, where positions are kept.
-    #[tactic(auto, unfolding(crate::specs::View::sheet_of, crate::specs::View::Reaches, crate::specs::Sheet::recorded))]
     fn record(&mut self, pos: BytePos) -> Answer
         requires { (sheet_of self.old).refused ≡ false }
         ensures { Reaches (recorded pos (sheet_of self.old)) (sheet_of self.old) (sheet_of self.new) result }
     {
-        let _ = pos;
-        Ok(())
+        match self.kept.record(pos) {
+            Ok(()) => Ok(()),
+            Err(refusal) => {
+                self.failed = true;
+                Err(refusal)
+            }
+        }
     }
 
     /// Records the position that is pending.
-    #[tactic(auto, unfolding(crate::specs::View::sheet_of, crate::specs::View::Reaches, crate::specs::Sheet::pending_recorded))]
     fn record_pending(&mut self) -> Answer
         requires { (sheet_of self.old).refused ≡ false }
         ensures { Reaches (pending_recorded (sheet_of self.old).pending (sheet_of self.old)) (sheet_of self.old) (sheet_of self.new) result }
     {
-        Ok(())
+        match self.kept.take_pending() {
+            None => Ok(()),
+            Some(pos) => self.record(pos),
+        }
     }
 
     /// Forgets the position that is pending.
     #[tactic(auto, unfolding(crate::specs::View::sheet_of))]
     fn drop_pending(&mut self)
         ensures { sheet_of self.new ≡ record (sheet_of self.old) { pending = None } }
-    {}
+    {
+        let _ = self.kept.take_pending();
+    }
 
     /// Records where a span starts.
     #[tactic(auto, unfolding(crate::specs::View::Reaches, crate::specs::Sheet::start_recorded))]
@@ -269,6 +312,10 @@ impl<'a, W: Write> JsWriter<'a, W> {
     {
         if self.failed {
             return Err(Refusal::Failed);
+        }
+        if self.kept.is_kept() && self.line_start {
+            self.kept.point(pos);
+            return Ok(());
         }
         self.record(pos)
     }
@@ -420,7 +467,7 @@ impl<W: Write> WriteJs for JsWriter<'_, W> {
 
     #[tactic(auto, unfolding(crate::specs::View::sheet_of))]
     fn care_about_srcmap(&self) -> bool {
-        false
+        self.kept.is_kept()
     }
 
     #[tactic(auto, unfolding(crate::specs::Sheet::effect))]

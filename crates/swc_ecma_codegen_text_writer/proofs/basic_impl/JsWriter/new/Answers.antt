@@ -1,26 +1,11 @@
-use Rattle.std.proofs.Common.{true, false, [], None, codes}
-use Rattle.std.specs.Str.{is_utf8}
-use Rattle.swc_ecma_codegen_text_writer.specs.Sheet.{AtOnce}
+use Rattle.std.proofs.Common.{sym}
 use Rattle.swc_ecma_codegen_text_writer.specs.View.{sheet_of}
-use Rattle.swc_ecma_codegen_text_writer.proofs.Steps.{new_place}
 use Rattle.swc_ecma_codegen_text_writer.proofs.basic_impl.JsWriter.new.Goals as goal
 
 pub returns-clause-sheet : goal.returns-clause-sheet
 unfolding sheet_of
-returns-clause-sheet g c = λ i. record {
-  text = c.new.ensures.sent i;
-  whole = is_utf8 (c.new.ensures.sent i);
-  at_line_start = true;
-  indentation = 0;
-  line_end = c.args.new_line.now;
-  indent_text = codes "    ";
-  semicolons = AtOnce;
-  keeps_positions = false;
-  pairs = [];
-  pending = None;
-  place = new_place _ c.new.ensures.logged i;
-  faults = c.new.ensures.faults i;
-  refused = false;
-  takes_memory = false;
-  keeps_invalid = false;
-}
+returns-clause-sheet g c e = ?
+
+pub returns-clause-positions : goal.returns-clause-positions
+unfolding sheet_of
+returns-clause-positions g c list e = ?

@@ -12,6 +12,10 @@ pub record-requires : goal.record-requires
 unfolding sheet_of
 record-requires g c = c.if-self.false
 
+pub returns-then-self-2 : goal.returns-then-self-2
+unfolding sheet_of
+returns-then-self-2 g c x e = ?
+
 pub returns : goal.returns
-unfolding sheet_of pointed
-returns g c x e = writes_way x _ _ _ _ (sym (e refl)) refl c.if-self.false c.record.ensures
+unfolding sheet_of
+returns g c x e = ?

@@ -8,7 +8,7 @@ use Rattle.swc_ecma_codegen_text_writer.proofs.basic_impl.JsWriter.send.Goals as
 pub returns-in-Ok : goal.returns-in-Ok
 unfolding sheet_of Reaches
 returns-in-Ok g c =
-    sent_sheet c.args.text.now (sheet_of c.args.self.now) _ _ _ _ c.in-Ok.ensures.sent c.in-Ok.ensures.whole c.in-Ok.ensures.faults (place_on _ _ _ c.in-Ok.ensures.logged)
+    sent_sheet c.args.text.now (sheet_of c.args.self.now) _ _ _ _ _ _ _ _ c.in-Ok.ensures.sent c.in-Ok.ensures.whole c.in-Ok.ensures.faults (place_on _ _ _ c.in-Ok.ensures.logged) c.pass.ensures.keeps c.pass.ensures.keeps c.pass.ensures.pairs c.pass.ensures.pending
 
 pub returns-in-Err : goal.returns-in-Err
 unfolding sheet_of Reaches HasReason appended
