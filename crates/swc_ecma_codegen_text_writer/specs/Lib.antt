@@ -1,3 +1,4 @@
+pub mod Characters
 pub mod Places
 pub mod Recorded
 pub mod Sent

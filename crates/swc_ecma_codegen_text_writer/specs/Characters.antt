@@ -1,0 +1,17 @@
+-- Where a text ends, told by its characters.
+use Rattle.std.specs.Prelude.{ℕ, ◌+◌, true, false, List, [], ◌∷◌, ◌==◌, length, if◌then◌else◌}
+use Rattle.std.specs.Char.Escape.{encode_utf16}
+use Rattle.swc_ecma_codegen_text_writer.specs.Places.{Place, next_line, after_lf}
+
+-- After a character: LF and CR end a line, and any other has one UTF-16 unit, or two from U+10000 on. After `aé` the column is 2,
+-- and after U+1F600 alone it is 2 too.
+unfoldable pub after_character : ℕ → Place → Place
+after_character c p =
+    if c == 10 then after_lf p
+    else if c == 13 then next_line true p
+    else record { line = p.line; column = p.column + length (encode_utf16 c); after_cr = false }
+
+-- after characters
+unfoldable pub after_characters : List ℕ → Place → Place
+after_characters [] p = p
+after_characters (c ∷ cs) p = after_characters cs (after_character c p)
