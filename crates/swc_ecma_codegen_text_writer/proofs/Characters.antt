@@ -1,12 +1,13 @@
 -- The place after bytes of UTF-8 is that after their characters.
-use Rattle.std.proofs.Common.{◌≡◌, inl, inr, ℕ, ◌+◌, ◌/◌, ◌<◌, ◌≤◌, true, false, List, [], ◌∷◌, length, refl, sym, ◌∙◌, ap, arith, cond, ◌==◌, nat_lt, nat_le}
-use Rattle.std.proofs.lemmas.Bool.{cond-true, cond-false, cases_lt, lt-ltb, le-ltb, le-leb, ne_eqb, false_from_ne_true, leb-true}
+use Rattle.std.proofs.Common.{◌≡◌, ◌⊎◌, inl, inr, ◌++◌, length-append, ℕ, ◌+◌, ◌/◌, ◌<◌, ◌≤◌, true, false, List, [], ◌∷◌, length, refl, sym, ◌∙◌, ap, arith, cond, ◌==◌, nat_lt, nat_le}
+use Rattle.std.proofs.lemmas.Bool.{cond_both, cond-true, cond-false, cases_lt, lt-ltb, le-ltb, le-leb, ne_eqb, or_parts, true≢false, false_from_ne_true, leb-true}
 use Rattle.std.proofs.lemmas.Str.{chars-encodes}
 use Rattle.std.proofs.Math.Utf8.{encode, encodes, next}
 use Rattle.std.specs.Char.Escape.{encode_utf16}
+use Rattle.std.specs.List.{list_any}
 use Rattle.std.specs.Str.{IsUtf8, chars}
-use Rattle.swc_ecma_codegen_text_writer.specs.Places.{Place, units_of, next_line, after_lf, after_byte, after_text}
-use Rattle.swc_ecma_codegen_text_writer.specs.Characters.{after_character, after_characters}
+use Rattle.swc_ecma_codegen_text_writer.specs.Places.{Place, origin, units_of, next_line, after_lf, after_byte, after_text}
+use Rattle.swc_ecma_codegen_text_writer.specs.Characters.{after_character, after_characters, is_line_end, code_units}
 use Rattle.swc_ecma_codegen_text_writer.proofs.Pairs.{after_both}
 
 -- ---- so many units on, in the same line
@@ -25,9 +26,12 @@ step n b p = cond (b == 10) (after_lf p) (cond (b == 13) (next_line true p) (rec
 other : (b k : ℕ) → k < b → (b == k) ≡ false
 other b k h = ne_eqb b k (λ e. omega (arith, h, e))
 
-step_wide : (n b : ℕ) (p : Place) → 128 ≤ b → step n b p ≡ along n p
+step_other : (n b : ℕ) (p : Place) → (b == 10) ≡ false → (b == 13) ≡ false → step n b p ≡ along n p
 unfolding step along
-step_wide n b p h = cond-false (b == 10) _ _ (other b 10 (omega (arith, h))) ∙ cond-false (b == 13) _ _ (other b 13 (omega (arith, h)))
+step_other n b p h k = cond-false (b == 10) _ _ h ∙ cond-false (b == 13) _ _ k
+
+step_wide : (n b : ℕ) (p : Place) → 128 ≤ b → step n b p ≡ along n p
+step_wide n b p h = step_other n b p (other b 10 (omega (arith, h))) (other b 13 (omega (arith, h)))
 
 byte_step : (n b : ℕ) (p : Place) → units_of b ≡ n → after_byte b p ≡ step n b p
 unfolding after_byte step
@@ -125,9 +129,9 @@ after_one : (c : ℕ) (p : Place) → after_text (encode c) p ≡ after_characte
 after_one c p = elim (cases_lt c 128) [
   | inl h ↦ one_byte c p h
   | inr l ↦ elim (cases_lt c 2048) [
-      | inl h ↦ two_bytes c p l h
-      | inr k ↦ elim (cases_lt c 65536) [ inl h ↦ three_bytes c p k h | inr m ↦ four_bytes c p m ]
-    ]
+    | inl h ↦ two_bytes c p l h
+    | inr k ↦ elim (cases_lt c 65536) [ inl h ↦ three_bytes c p k h | inr m ↦ four_bytes c p m ]
+  ]
 ]
 
 -- ---- texts
@@ -140,3 +144,68 @@ after_all (c ∷ cs) p = after_both (encode c) (encodes cs) p ∙ ap (after_text
 pub place_of_characters : (text : List ℕ) (p : Place) → IsUtf8 text → after_text text p ≡ after_characters (chars text) p
 place_of_characters text p u =
     ap (λ t. after_text t p) (sym u.1.1) ∙ after_all u.0 p ∙ ap (λ cs. after_characters cs p) (sym (chars-encodes u.0 u.1.0) ∙ ap chars u.1.1)
+
+-- ---- columns
+
+-- where no line ends, each character's units come to the column
+in_line : (cs : List ℕ) (p : Place) → list_any is_line_end cs ≡ false → ((after_characters cs p).line ≡ p.line) × ((after_characters cs p).column ≡ p.column + length (code_units cs))
+unfolding after_characters code_units along
+in_line [] p h = (refl, omega arith)
+in_line (c ∷ cs) p h =
+    let parts = or_parts (is_line_end c) (list_any is_line_end cs) h in
+    let none = or_parts (c == 10) (c == 13) parts.0 in
+    let n : ℕ = length (encode_utf16 c) in
+    let e : after_character c p ≡ along n p = character_step n c p refl ∙ step_other n c p none.0 none.1 in
+    let rest = in_line cs (along n p) parts.1 in
+    let sum = length-append (encode_utf16 c) (code_units cs) in
+    let more : (p.column + n) + length (code_units cs) ≡ p.column + length (encode_utf16 c ++ code_units cs) = omega (arith, sum) in
+    (ap (λ q. (after_characters cs q).line) e ∙ rest.0, ap (λ q. (after_characters cs q).column) e ∙ rest.1 ∙ more)
+
+pub line_of_text : (text : List ℕ) (p : Place) → IsUtf8 text → list_any is_line_end (chars text) ≡ false → (after_text text p).line ≡ p.line
+line_of_text text p u h = ap (λ (q : Place). q.line) (place_of_characters text p u) ∙ (in_line (chars text) p h).0
+
+pub column_of_text : (text : List ℕ) (p : Place) → IsUtf8 text → list_any is_line_end (chars text) ≡ false → (after_text text p).column ≡ p.column + length (code_units (chars text))
+column_of_text text p u h = ap (λ (q : Place). q.column) (place_of_characters text p u) ∙ (in_line (chars text) p h).1
+
+-- after CR a line begins
+Begins : Place → Type 0
+Begins p = p.after_cr ≡ true → p.column ≡ 0
+
+not_after_cr : (p : Place) → p.after_cr ≡ false → Begins p
+unfolding Begins
+not_after_cr p h k = absurd (true≢false (sym k ∙ h))
+
+lf_begins : (p : Place) → Begins (after_lf p)
+unfolding after_lf Begins
+lf_begins p = cond_both p.after_cr (record p { after_cr = false }) (next_line false p) Begins (λ h. not_after_cr (record p { after_cr = false }) refl) (λ h k. refl)
+
+byte_begins : (b : ℕ) (p : Place) → Begins (after_byte b p)
+unfolding after_byte Begins
+byte_begins b p =
+    let there : Place = record { line = p.line; column = p.column + units_of b; after_cr = false } in
+    cond_both (b == 10) (after_lf p) (cond (b == 13) (next_line true p) there) Begins (λ h. lf_begins p)
+    (λ h. cond_both (b == 13) (next_line true p) there Begins (λ k l. refl) (λ k. not_after_cr there refl))
+
+text_begins : (text : List ℕ) (p : Place) → Begins p → Begins (after_text text p)
+unfolding after_text
+text_begins [] p h = h
+text_begins (b ∷ bs) p h = text_begins bs (after_byte b p) (byte_begins b p)
+
+lf_column : (p : Place) → Begins p → (after_lf p).column ≡ 0
+unfolding after_lf Begins
+lf_column p h = cond_both p.after_cr (record p { after_cr = false }) (next_line false p) (λ q. q.column ≡ 0) h (λ k. refl)
+
+end_column : (end : ℕ) (p : Place) → (end ≡ 10) ⊎ (end ≡ 13) → Begins p → (after_byte end p).column ≡ 0
+unfolding after_byte
+end_column end p (inl e) h = ap (λ b. (after_byte b p).column) e ∙ lf_column p h
+end_column end p (inr e) h = ap (λ b. (after_byte b p).column) e
+
+-- after a line's end the column counts from there
+pub column_of_last_line : (before last : List ℕ) (end : ℕ) → (end ≡ 10) ⊎ (end ≡ 13) → IsUtf8 last → list_any is_line_end (chars last) ≡ false → (after_text (before ++ (end ∷ last)) origin).column ≡ length (code_units (chars last))
+unfolding after_text Begins
+column_of_last_line before last end e u h =
+    let q : Place = after_text before origin in
+    let begun : Begins q = text_begins before origin (not_after_cr origin refl) in
+    let zero_there : (after_byte end q).column ≡ 0 = end_column end q e begun in
+    let here : (after_text last (after_byte end q)).column ≡ (after_byte end q).column + length (code_units (chars last)) = column_of_text last (after_byte end q) u h in
+    ap (λ (p : Place). p.column) (after_both before (end ∷ last) origin) ∙ here ∙ omega (arith, zero_there)

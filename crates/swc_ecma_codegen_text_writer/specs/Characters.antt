@@ -1,5 +1,5 @@
 -- Where a text ends, told by its characters.
-use Rattle.std.specs.Prelude.{ℕ, ◌+◌, true, false, List, [], ◌∷◌, ◌==◌, length, if◌then◌else◌}
+use Rattle.std.specs.Prelude.{ℕ, ◌+◌, true, false, List, [], ◌∷◌, ◌==◌, ◌++◌, ◌||◌, Bool, length, if◌then◌else◌}
 use Rattle.std.specs.Char.Escape.{encode_utf16}
 use Rattle.swc_ecma_codegen_text_writer.specs.Places.{Place, next_line, after_lf}
 
@@ -15,3 +15,12 @@ after_character c p =
 unfoldable pub after_characters : List ℕ → Place → Place
 after_characters [] p = p
 after_characters (c ∷ cs) p = after_characters cs (after_character c p)
+
+-- a character that ends a line, or a part of what does
+abbrev pub is_line_end : ℕ → Bool
+is_line_end c = (c == 10) || (c == 13)
+
+-- the UTF-16 code units of characters
+unfoldable pub code_units : List ℕ → List ℕ
+code_units [] = []
+code_units (c ∷ cs) = encode_utf16 c ++ code_units cs

@@ -1,10 +1,11 @@
 //! Laws of what writers record. Each is the contract of a function that does nothing: a proof cites it, and a program has no
 //! need to call it.
 
-ghost use Rattle.std.specs.Prelude.{◌≡◌, ℕ, List};
+ghost use Rattle.std.specs.Prelude.{◌≡◌, ◌⊎◌, ℕ, ◌+◌, false, List, ◌∷◌, ◌++◌, length};
+ghost use Rattle.std.specs.List.{list_any};
 ghost use Rattle.std.specs.Str.{IsUtf8, chars};
-ghost use Rattle.swc_ecma_codegen_text_writer.specs.Characters.{after_characters};
-ghost use Rattle.swc_ecma_codegen_text_writer.specs.Places.{Place, after_text};
+ghost use Rattle.swc_ecma_codegen_text_writer.specs.Characters.{after_characters, code_units, is_line_end};
+ghost use Rattle.swc_ecma_codegen_text_writer.specs.Places.{Place, after_text, origin};
 ghost use Rattle.swc_ecma_codegen_text_writer.specs.Recorded.{RecordsTruly};
 ghost use Rattle.swc_ecma_codegen_text_writer.specs.Sheet.{Item, Sheet, effects};
 
@@ -19,4 +20,12 @@ pub fn pairs_are_true()
 #[tactic(auto, using(crate::proofs::Characters::place_of_characters))]
 pub fn places_are_of_characters()
     ensures { (text : List ℕ) (p : Place) → IsUtf8 text → after_text text p ≡ after_characters (chars text) p }
+{}
+
+/// A column counts UTF-16 code units since the last line end, and a text in a line leaves the line.
+#[tactic(auto, using(crate::proofs::Characters::line_of_text, crate::proofs::Characters::column_of_text, crate::proofs::Characters::column_of_last_line))]
+pub fn columns_are_code_units()
+    ensures line { (text : List ℕ) (p : Place) → IsUtf8 text → list_any is_line_end (chars text) ≡ false → (after_text text p).line ≡ p.line }
+    ensures column { (text : List ℕ) (p : Place) → IsUtf8 text → list_any is_line_end (chars text) ≡ false → (after_text text p).column ≡ p.column + length (code_units (chars text)) }
+    ensures last_line { (before last : List ℕ) (end : ℕ) → (end ≡ 10) ⊎ (end ≡ 13) → IsUtf8 last → list_any is_line_end (chars last) ≡ false → (after_text (before ++ (end ∷ last)) origin).column ≡ length (code_units (chars last)) }
 {}
