@@ -1,5 +1,5 @@
 -- The place after bytes of UTF-8 is that after their characters.
-use Rattle.std.proofs.Common.{◌≡◌, ◌⊎◌, inl, inr, ◌++◌, length-append, ℕ, ◌+◌, ◌/◌, ◌<◌, ◌≤◌, true, false, List, [], ◌∷◌, length, refl, sym, ◌∙◌, ap, arith, cond, ◌==◌, nat_lt, nat_le}
+use Rattle.std.proofs.Common.{◌≡◌, Bool, ◌||◌, ◌&&◌, not, ◌⊎◌, inl, inr, ◌++◌, length-append, ℕ, ◌+◌, ◌/◌, ◌<◌, ◌≤◌, true, false, List, [], ◌∷◌, length, refl, sym, ◌∙◌, ap, arith, cond, ◌==◌, nat_lt, nat_le}
 use Rattle.std.proofs.lemmas.Bool.{cond_both, cond-true, cond-false, cases_lt, lt-ltb, le-ltb, le-leb, ne_eqb, or_parts, true≢false, false_from_ne_true, leb-true}
 use Rattle.std.proofs.lemmas.Str.{chars-encodes}
 use Rattle.std.proofs.Math.Utf8.{encode, encodes, next}
@@ -7,7 +7,7 @@ use Rattle.std.specs.Char.Escape.{encode_utf16}
 use Rattle.std.specs.List.{list_any}
 use Rattle.std.specs.Str.{IsUtf8, chars}
 use Rattle.swc_ecma_codegen_text_writer.specs.Places.{Place, origin, units_of, next_line, after_lf, after_byte, after_text}
-use Rattle.swc_ecma_codegen_text_writer.specs.Characters.{after_character, after_characters, is_line_end, code_units}
+use Rattle.swc_ecma_codegen_text_writer.specs.Characters.{after_character, after_characters, is_line_end, code_units, begins_with_lf, line_ends}
 use Rattle.swc_ecma_codegen_text_writer.proofs.Pairs.{after_both}
 
 -- ---- so many units on, in the same line
@@ -209,3 +209,36 @@ column_of_last_line before last end e u h =
     let zero_there : (after_byte end q).column ≡ 0 = end_column end q e begun in
     let here : (after_text last (after_byte end q)).column ≡ (after_byte end q).column + length (code_units (chars last)) = column_of_text last (after_byte end q) u h in
     ap (λ (p : Place). p.column) (after_both before (end ∷ last) origin) ∙ here ∙ omega (arith, zero_there)
+
+-- ---- lines
+
+one_if : Bool → ℕ
+one_if b = cond b 1 0
+
+-- what comes first in a text: LF or CR or neither, after a CR or not; and whether LF comes next
+line_turn : (lf cr after next : Bool) (n : ℕ) (bytes : List ℕ) (p : Place) →
+    (let q : Place = cond lf (cond after (record { line = p.line; column = p.column; after_cr = false }) (next_line false p)) (cond cr (next_line true p) (record { line = p.line; column = p.column + n; after_cr = false })) in
+    ((after_text bytes q).line + one_if (q.after_cr && next) ≡ q.line + line_ends bytes) → (after_text bytes q).line + one_if (after && lf) ≡ p.line + (one_if (lf || (cr && not next)) + line_ends bytes))
+unfolding one_if
+line_turn true cr true next n bytes p h = let k : (after_text bytes (record { line = p.line; column = p.column; after_cr = false })).line + 0 ≡ p.line + line_ends bytes = h in omega (arith, k)
+line_turn true cr false next n bytes p h = let k : (after_text bytes (next_line false p)).line + 0 ≡ (p.line + 1) + line_ends bytes = h in omega (arith, k)
+line_turn false true true true n bytes p h = let k : (after_text bytes (next_line true p)).line + 1 ≡ (p.line + 1) + line_ends bytes = h in omega (arith, k)
+line_turn false true true false n bytes p h = let k : (after_text bytes (next_line true p)).line + 0 ≡ (p.line + 1) + line_ends bytes = h in omega (arith, k)
+line_turn false true false true n bytes p h = let k : (after_text bytes (next_line true p)).line + 1 ≡ (p.line + 1) + line_ends bytes = h in omega (arith, k)
+line_turn false true false false n bytes p h = let k : (after_text bytes (next_line true p)).line + 0 ≡ (p.line + 1) + line_ends bytes = h in omega (arith, k)
+line_turn false false true next n bytes p h = let k : (after_text bytes (record { line = p.line; column = p.column + n; after_cr = false })).line + 0 ≡ p.line + line_ends bytes = h in omega (arith, k)
+line_turn false false false next n bytes p h = let k : (after_text bytes (record { line = p.line; column = p.column + n; after_cr = false })).line + 0 ≡ p.line + line_ends bytes = h in omega (arith, k)
+
+none_next : (after : Bool) (n : ℕ) → n + one_if (after && false) ≡ n + 0
+unfolding one_if
+none_next true n = refl
+none_next false n = refl
+
+lines_on : (text : List ℕ) (p : Place) → (after_text text p).line + one_if (p.after_cr && begins_with_lf text) ≡ p.line + line_ends text
+unfolding after_text after_byte after_lf line_ends one_if
+lines_on [] p = none_next p.after_cr p.line
+lines_on (b ∷ bs) p = line_turn (b == 10) (b == 13) p.after_cr (begins_with_lf bs) (units_of b) bs p (lines_on bs (after_byte b p))
+
+pub lines_of_text : (text : List ℕ) → (after_text text origin).line ≡ line_ends text
+unfolding one_if
+lines_of_text text = let h : (after_text text origin).line + 0 ≡ 0 + line_ends text = lines_on text origin in omega (arith, h)

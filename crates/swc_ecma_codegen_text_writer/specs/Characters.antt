@@ -1,5 +1,5 @@
 -- Where a text ends, told by its characters.
-use Rattle.std.specs.Prelude.{ℕ, ◌+◌, true, false, List, [], ◌∷◌, ◌==◌, ◌++◌, ◌||◌, Bool, length, if◌then◌else◌}
+use Rattle.std.specs.Prelude.{ℕ, ◌+◌, true, false, List, [], ◌∷◌, ◌==◌, ◌++◌, ◌||◌, ◌&&◌, not, Bool, length, if◌then◌else◌}
 use Rattle.std.specs.Char.Escape.{encode_utf16}
 use Rattle.swc_ecma_codegen_text_writer.specs.Places.{Place, next_line, after_lf}
 
@@ -24,3 +24,13 @@ is_line_end c = (c == 10) || (c == 13)
 unfoldable pub code_units : List ℕ → List ℕ
 code_units [] = []
 code_units (c ∷ cs) = encode_utf16 c ++ code_units cs
+
+-- a text, as bytes, begins with LF
+abbrev pub begins_with_lf : List ℕ → Bool
+begins_with_lf [] = false
+begins_with_lf (byte ∷ bytes) = byte == 10
+
+-- how many lines end in a text: each LF ends one, and each CR that no LF follows. `a` CR LF `b` LF LF has three line ends.
+unfoldable pub line_ends : List ℕ → ℕ
+line_ends [] = 0
+line_ends (byte ∷ bytes) = (if (byte == 10) || ((byte == 13) && not (begins_with_lf bytes)) then 1 else 0) + line_ends bytes

@@ -4,7 +4,7 @@
 ghost use Rattle.std.specs.Prelude.{◌≡◌, ◌⊎◌, ℕ, ◌+◌, false, List, ◌∷◌, ◌++◌, length};
 ghost use Rattle.std.specs.List.{list_any};
 ghost use Rattle.std.specs.Str.{IsUtf8, chars};
-ghost use Rattle.swc_ecma_codegen_text_writer.specs.Characters.{after_characters, code_units, is_line_end};
+ghost use Rattle.swc_ecma_codegen_text_writer.specs.Characters.{after_characters, code_units, is_line_end, line_ends};
 ghost use Rattle.swc_ecma_codegen_text_writer.specs.Places.{Place, after_text, origin};
 ghost use Rattle.swc_ecma_codegen_text_writer.specs.Recorded.{RecordsTruly};
 ghost use Rattle.swc_ecma_codegen_text_writer.specs.Sheet.{Item, Sheet, effects};
@@ -28,4 +28,10 @@ pub fn columns_are_code_units()
     ensures line { (text : List ℕ) (p : Place) → IsUtf8 text → list_any is_line_end (chars text) ≡ false → (after_text text p).line ≡ p.line }
     ensures column { (text : List ℕ) (p : Place) → IsUtf8 text → list_any is_line_end (chars text) ≡ false → (after_text text p).column ≡ p.column + length (code_units (chars text)) }
     ensures last_line { (before last : List ℕ) (end : ℕ) → (end ≡ 10) ⊎ (end ≡ 13) → IsUtf8 last → list_any is_line_end (chars last) ≡ false → (after_text (before ++ (end ∷ last)) origin).column ≡ length (code_units (chars last)) }
+{}
+
+/// A line is the count of the line ends before it: LF, CR, and CR LF as one.
+#[tactic(auto, using(crate::proofs::Characters::lines_of_text))]
+pub fn lines_are_line_ends()
+    ensures { (text : List ℕ) → (after_text text origin).line ≡ line_ends text }
 {}
