@@ -1,3 +1,4 @@
+pub mod Characters
 pub mod Pairs
 pub mod Semicolons
 pub mod Sheets

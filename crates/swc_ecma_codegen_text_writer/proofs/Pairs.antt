@@ -1,5 +1,6 @@
 -- Pairs that calls record are true.
 use Rattle.std.proofs.Common.{◌≡◌, ℕ, ◌+◌, ◌-◌, Bool, true, false, List, [], ◌∷◌, ◌++◌, refl, sym, ◌∙◌, ap, append_assoc, append-nil, cond, codes, subst, Option, Some, None, ◌&&◌, ◌||◌, ◌==◌}
+use Rattle.std.proofs.lemmas.Bool.{or_parts}
 use Rattle.std.specs.List.{repeat}
 use Rattle.swc_ecma_codegen_common.specs.declared.positions.BytePos.{BytePos}
 use Rattle.swc_ecma_codegen_common.specs.declared.positions.Span.{Span}
@@ -67,10 +68,6 @@ records_trans a b c h k = record {
 
 -- ---- positions
 
-right_false : (a b : Bool) → (a || b) ≡ false → b ≡ false
-right_false true b h = let z : true ≡ false = h in absurd cc
-right_false false b h = h
-
 -- a new pair with the place that was reached
 records_one : (pos : BytePos) (s : Sheet) → has_pair (pair_at pos s.place) s.pairs ≡ false → RecordsTruly s (record s { pairs = s.pairs ++ (pair_at pos s.place ∷ []) })
 unfolding StandIn AreNew after_text
@@ -89,7 +86,7 @@ unfolding with_pair
 with_pair_records pos s =
     let stands : Bool = (pos.0 == 0) || has_pair (pair_at pos s.place) s.pairs in
     let P : Bool → Type 0 = λ b. stands ≡ b → RecordsTruly s (record s { pairs = cond b s.pairs (s.pairs ++ (pair_at pos s.place ∷ [])) }) in
-    (elim stands as P [ true ↦ λ h. records_refl s | false ↦ λ h. records_one pos s (right_false (pos.0 == 0) _ h) ]) refl
+    (elim stands as P [ true ↦ λ h. records_refl s | false ↦ λ h. records_one pos s (or_parts (pos.0 == 0) _ h).1 ]) refl
 
 pub recorded_records : (pos : BytePos) (s : Sheet) → RecordsTruly s (recorded pos s)
 unfolding recorded

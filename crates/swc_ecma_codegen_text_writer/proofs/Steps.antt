@@ -11,7 +11,7 @@ use Rattle.swc_ecma_codegen_text_writer.specs.Kept.{pairs_in, pending_in, Record
 use Rattle.swc_ecma_codegen_text_writer.specs.Told.{IsFront}
 use Rattle.swc_ecma_codegen_text_writer.specs.Places.{Place, origin, after_text}
 use Rattle.swc_ecma_codegen_text_writer.specs.Sheet.{Sheet, Pair, with_pair, pointed, Item, Causes, earlier, stopped, Stopped, Writes, Semicolons, AtOnce, HoldsNone, HoldsOne, appended, indented, start_recorded, end_recorded, pending_recorded, recorded, started, written, literal_written, ended, settled, settled_by, semicolon_by, dropped, is_ending, before_punct, effect, Line, Deeper}
-use Rattle.swc_ecma_codegen_text_writer.specs.View.{HasReason, Halted, Reaches}
+use Rattle.swc_ecma_codegen_text_writer.specs.View.{HasReason, Halted, Reaches, Prefaces}
 use Rattle.swc_ecma_codegen_text_writer.proofs.Sheets.{Alike, alike_refl, alike_trans, start_alike, end_alike, pending_alike, appended_alike, indented_alike, started_alike, started_indentation, front_refl, front_append, front_trans}
 
 -- ---- copies
@@ -374,3 +374,26 @@ deeper_refused a c o r h k =
       held = inl (ap (λ (s : Sheet). s.semicolons) k);
       same = subst P (sym k) refl;
     })
+
+pub none_pending : (s : Sheet) → s.pending ≡ None → record s { pending = None } ≡ pending_recorded s.pending s
+unfolding pending_recorded
+none_pending s h = ap (λ (z : Option BytePos). record s { pending = z }) (sym h) ∙ sym (ap (λ (z : Option BytePos). pending_recorded z s) h)
+
+pub some_pending : (pos : BytePos) (s : Sheet) → s.pending ≡ Some pos → recorded pos (record s { pending = None }) ≡ pending_recorded s.pending s
+unfolding pending_recorded
+some_pending pos s h = sym (ap (λ (z : Option BytePos). pending_recorded z s) h)
+
+pub both_true : (a b : Bool) → a ≡ true → b ≡ true → (a && b) ≡ true
+both_true a b h k = λ i. h i && k i
+
+pub first_false : (a b : Bool) → a ≡ false → (a && b) ≡ false
+first_false a b h = λ i. h i && b
+
+pub second_false : (a b : Bool) → b ≡ false → (a && b) ≡ false
+second_false true b h = h
+second_false false b h = refl
+
+pub prefaced : (t : List ℕ) (s c : Sheet) (r : Result (Unit {0}) Refusal) → s.refused ≡ false → Reaches (appended t s) s c r → Prefaces t s c r
+unfolding Prefaces Reaches
+prefaced t s c (Ok u) h k = (h, k)
+prefaced t s c (Err e) h k = inr (h, k)

@@ -1,5 +1,6 @@
 pub mod Held
 pub mod Kept
+pub mod Characters
 pub mod Places
 pub mod Positions
 pub mod Reach

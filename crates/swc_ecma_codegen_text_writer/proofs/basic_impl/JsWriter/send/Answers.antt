@@ -1,5 +1,6 @@
-use Rattle.std.proofs.Common.{refl, ap, ◌∙◌}
+use Rattle.std.proofs.Common.{refl, sym, subst}
 use Rattle.swc_ecma_codegen_text_writer.specs.Sheet.{appended}
+use Rattle.swc_ecma_codegen_text_writer.specs.Positions.{Counts}
 use Rattle.swc_ecma_codegen_text_writer.specs.View.{sheet_of, Reaches, HasReason}
 use Rattle.swc_ecma_codegen_text_writer.proofs.Sheets.{front_refl, appended_alike}
 use Rattle.swc_ecma_codegen_text_writer.proofs.Steps.{sent_sheet, place_on}
@@ -20,3 +21,7 @@ returns-in-Err g c = record {
   front_pairs = front_refl _;
   same = refl;
 }
+
+-- the place is that after what went out before and the text
+pub invariant_of-self : goal.invariant_of-self
+invariant_of-self g c = λ f w e. subst (λ z. Counts w z) (sym (place_on _ _ _ c.in-Ok.ensures.logged)) (c.pass.ensures.counted _ (c.args.self.now.counted f) w e)
