@@ -1,13 +1,12 @@
 -- Sheets on the way to others.
-use Rattle.std.proofs.Common.{◌≡◌, ◌⊎◌, inl, inr, ℕ, ◌+◌, ◌-◌, ◌^◌, ◌<◌, ◌≤◌, Bool, true, false, List, [], ◌∷◌, ◌++◌, length, refl, sym, ◌∙◌, ap, subst, append_assoc, arith, append-nil, codes, zero, suc, Option, Some, None, is_some, Result, Ok, Err, cond, ◌&&◌}
+use Rattle.std.proofs.Common.{◌≡◌, ◌⊎◌, inl, inr, ℕ, ◌+◌, ◌-◌, ◌^◌, ◌<◌, ◌≤◌, Bool, true, false, List, [], ◌∷◌, ◌++◌, length, refl, sym, ◌∙◌, ap, subst, append_assoc, arith, append-nil, codes, zero, suc, Option, Some, None, Result, Ok, Err, cond, ◌&&◌}
 use Rattle.std.specs.List.{repeat}
 use Rattle.swc_ecma_codegen_common.specs.declared.errors.Refusal.{Refusal}
 use Rattle.swc_ecma_codegen_common.specs.declared.errors.Refusal.TheVariants.{Writer, OutOfMemory, UnsupportedNode, BadShape, NameOutOfTarget, PositionTooLarge, Failed}
 use Rattle.swc_ecma_codegen_common.specs.declared.positions.BytePos.{BytePos}
 use Rattle.swc_ecma_codegen_common.specs.declared.positions.Span.{Span}
-use Rattle.swc_ecma_codegen_text_writer.specs.declared.positions.Positions.{Positions}
 use Rattle.swc_ecma_codegen_text_writer.specs.Positions.{Records}
-use Rattle.swc_ecma_codegen_text_writer.specs.Kept.{pairs_in, pending_in, RecordsIn}
+use Rattle.swc_ecma_codegen_text_writer.specs.Kept.{RecordsIn}
 use Rattle.swc_ecma_codegen_text_writer.specs.Told.{IsFront}
 use Rattle.swc_ecma_codegen_text_writer.specs.Places.{Place, origin, after_text}
 use Rattle.swc_ecma_codegen_text_writer.specs.Sheet.{Sheet, Pair, with_pair, pointed, Item, Causes, earlier, stopped, Stopped, Writes, Semicolons, AtOnce, HoldsNone, HoldsOne, appended, indented, start_recorded, end_recorded, pending_recorded, recorded, started, written, literal_written, ended, settled, settled_by, semicolon_by, dropped, is_ending, before_punct, effect, Line, Deeper}
@@ -190,47 +189,47 @@ sent_sheet t s x b n p keeps memory pairs pending h k m q e f g l =
 
 -- ---- recorded positions
 
-records_ok : (pos : BytePos) (p : Place) (old new : Option Positions) (u : Unit {0}) → RecordsIn pos p old new (Ok u) → pairs_in new ≡ cond (is_some old) (with_pair pos p (pairs_in old)) (pairs_in old)
-unfolding RecordsIn Records pairs_in
-records_ok pos p (Some old) new u h = h
-records_ok pos p None new u h = ap pairs_in h
+records_ok : (pos : BytePos) (p : Place) (keeps : Bool) (old new : List Pair) (u : Unit {0}) → RecordsIn pos p keeps old new (Ok u) → new ≡ cond keeps (with_pair pos p old) old
+unfolding RecordsIn Records
+records_ok pos p true old new u h = h
+records_ok pos p false old new u h = h
 
 recorded_case : (b : Bool) (pos : BytePos) (s : Sheet) → record s { pairs = cond b (with_pair pos s.place s.pairs) s.pairs } ≡ cond b (record s { pairs = with_pair pos s.place s.pairs }) s
 recorded_case true pos s = refl
 recorded_case false pos s = refl
 
 -- the sheet after a position that was recorded, by its parts
-pub recorded_sheet : (pos : BytePos) (s : Sheet) (old new : Option Positions) (u : Unit {0}) (keeps memory : Bool) (pending : Option BytePos)
-    → RecordsIn pos s.place old new (Ok u) → is_some old ≡ s.keeps_positions → pairs_in old ≡ s.pairs → keeps ≡ s.keeps_positions → memory ≡ s.takes_memory → pending ≡ s.pending
-    → record s { keeps_positions = keeps; takes_memory = memory; pairs = pairs_in new; pending = pending } ≡ recorded pos s
+pub recorded_sheet : (pos : BytePos) (s : Sheet) (new : List Pair) (u : Unit {0}) (keeps memory : Bool) (pending : Option BytePos)
+    → RecordsIn pos s.place s.keeps_positions s.pairs new (Ok u) → keeps ≡ s.keeps_positions → memory ≡ s.takes_memory → pending ≡ s.pending
+    → record s { keeps_positions = keeps; takes_memory = memory; pairs = new; pending = pending } ≡ recorded pos s
 unfolding recorded
-recorded_sheet pos s old new u keeps memory pending h e g k m l =
-    (λ i. record s { keeps_positions = k i; takes_memory = m i; pairs = (records_ok pos s.place old new u h ∙ (λ j. cond (e j) (with_pair pos s.place (g j)) (g j))) i; pending = l i })
+recorded_sheet pos s new u keeps memory pending h k m l =
+    (λ i. record s { keeps_positions = k i; takes_memory = m i; pairs = records_ok pos s.place s.keeps_positions s.pairs new u h i; pending = l i })
     ∙ recorded_case s.keeps_positions pos s
 
 -- a refused position leaves the pairs
-pub refused_pairs : (pos : BytePos) (p : Place) (old new : Option Positions) (e : Refusal) → RecordsIn pos p old new (Err e) → pairs_in new ≡ pairs_in old
-unfolding RecordsIn Records pairs_in
-refused_pairs pos p (Some old) new Writer h = absurd h
-refused_pairs pos p (Some old) new OutOfMemory h = h
-refused_pairs pos p (Some old) new UnsupportedNode h = absurd h
-refused_pairs pos p (Some old) new BadShape h = absurd h
-refused_pairs pos p (Some old) new NameOutOfTarget h = absurd h
-refused_pairs pos p (Some old) new PositionTooLarge h = h.1
-refused_pairs pos p (Some old) new Failed h = absurd h
-refused_pairs pos p None new e h = absurd h
+pub refused_pairs : (pos : BytePos) (p : Place) (keeps : Bool) (old new : List Pair) (e : Refusal) → RecordsIn pos p keeps old new (Err e) → new ≡ old
+unfolding RecordsIn Records
+refused_pairs pos p true old new Writer h = absurd h
+refused_pairs pos p true old new OutOfMemory h = h
+refused_pairs pos p true old new UnsupportedNode h = absurd h
+refused_pairs pos p true old new BadShape h = absurd h
+refused_pairs pos p true old new NameOutOfTarget h = absurd h
+refused_pairs pos p true old new PositionTooLarge h = h.1
+refused_pairs pos p true old new Failed h = absurd h
+refused_pairs pos p false old new e h = absurd h
 
 -- and has its reason
-pub refused_reason : (pos : BytePos) (old new : Option Positions) (e : Refusal) (s c : Sheet) → RecordsIn pos c.place old new (Err e) → is_some old ≡ s.keeps_positions → is_some old ≡ s.takes_memory → HasReason e s c
+pub refused_reason : (pos : BytePos) (keeps : Bool) (old new : List Pair) (e : Refusal) (s c : Sheet) → RecordsIn pos c.place keeps old new (Err e) → keeps ≡ s.keeps_positions → keeps ≡ s.takes_memory → HasReason e s c
 unfolding RecordsIn Records HasReason
-refused_reason pos (Some old) new Writer s c h k m = absurd h
-refused_reason pos (Some old) new OutOfMemory s c h k m = sym m
-refused_reason pos (Some old) new UnsupportedNode s c h k m = absurd h
-refused_reason pos (Some old) new BadShape s c h k m = absurd h
-refused_reason pos (Some old) new NameOutOfTarget s c h k m = absurd h
-refused_reason pos (Some old) new PositionTooLarge s c h k m = (sym k, h.0)
-refused_reason pos (Some old) new Failed s c h k m = absurd h
-refused_reason pos None new e s c h k m = absurd h
+refused_reason pos true old new Writer s c h k m = absurd h
+refused_reason pos true old new OutOfMemory s c h k m = sym m
+refused_reason pos true old new UnsupportedNode s c h k m = absurd h
+refused_reason pos true old new BadShape s c h k m = absurd h
+refused_reason pos true old new NameOutOfTarget s c h k m = absurd h
+refused_reason pos true old new PositionTooLarge s c h k m = (sym k, h.0)
+refused_reason pos true old new Failed s c h k m = absurd h
+refused_reason pos false old new e s c h k m = absurd h
 
 -- something was refused, and the sheet is marked
 pub refused_here : (e : Refusal) (goal s c : Sheet) → c ≡ record s { refused = true } → Alike s goal → HasReason e s c → Halted e goal s c

@@ -1,17 +1,17 @@
 -- The sheet of a `JsWriter`, and the ways to it.
 use Rattle.std.specs.Prelude.{◌≡◌, ◌⊎◌, ℕ, true, false, List, [], codes, Option, None, Result, Ok, Err, IsSome}
 use Rattle.std.specs.Str.{is_utf8}
-use Rattle.std.specs.declared.io.traits.Write.{Ghosts}
+use Rattle.std.specs.declared.io.traits.Write as io
+use Rattle.swc_ecma_codegen_text_writer.specs.declared.kept.KeepsPositions as kept
 use Rattle.swc_ecma_codegen_common.specs.declared.errors.Refusal.{Refusal}
 use Rattle.swc_ecma_codegen_common.specs.declared.errors.Refusal.TheVariants.{Writer, OutOfMemory, UnsupportedNode, BadShape, NameOutOfTarget, PositionTooLarge, Failed}
 use Rattle.swc_ecma_codegen_text_writer.specs.Told.{Rises, IsFront}
-use Rattle.swc_ecma_codegen_text_writer.specs.Kept.{keeps, kept_pairs, kept_pending}
 use Rattle.swc_ecma_codegen_text_writer.specs.Sent.{sent}
 use Rattle.swc_ecma_codegen_common.specs.declared.positions.BytePos.{BytePos}
 use Rattle.swc_ecma_codegen_common.specs.declared.positions.Span.{Span}
 use Rattle.swc_ecma_codegen_text_writer.specs.Places.{origin, after_text}
 use Rattle.swc_ecma_codegen_text_writer.specs.Sheet.{Sheet, Pair, Item, AtOnce, IsFar, Writes, appended, effect, written, literal_written, ended, pointed}
-use Rattle.swc_ecma_codegen_text_writer.specs.declared.basic_impl.JsWriter.{JsWriter}
+use Rattle.swc_ecma_codegen_text_writer.specs.declared.basic_impl.Lines.{Lines}
 
 -- The sheet of a new `JsWriter` without positions, over a writer that tells some bytes.
 abbrev pub new_sheet : List ℕ → List ℕ → Sheet
@@ -39,8 +39,8 @@ abbrev pub keeping : List Pair → Sheet → Sheet
 keeping pairs s = record s { keeps_positions = true; pairs = pairs; takes_memory = true }
 
 -- The sheet of a `JsWriter`: the text is bytes, as a `&str` is in a clause.
-unfoldable pub sheet_of : {W : Type 0} {g : Ghosts W} → JsWriter W g → Sheet
-sheet_of w =
+unfoldable pub sheet_of : {W : Type 0} {g : io.Ghosts W} {K : Type 0} {k : kept.Ghosts K} → Lines W K g k → Sheet
+sheet_of {k = k} w =
     record {
       text = sent w.outlet;
       whole = is_utf8 (sent w.outlet);
@@ -49,18 +49,18 @@ sheet_of w =
       line_end = w.new_line.now;
       indent_text = w.indent_str.now;
       semicolons = AtOnce;
-      keeps_positions = keeps w.kept;
-      pairs = kept_pairs w.kept;
-      pending = kept_pending w.kept;
+      keeps_positions = k.keeps w.kept;
+      pairs = k.pairs w.kept;
+      pending = k.pending w.kept;
       place = after_text w.outlet.log.bytes origin;
       faults = w.outlet.faults;
       refused = w.failed;
-      takes_memory = keeps w.kept;
+      takes_memory = k.keeps w.kept;
       keeps_invalid = false;
     }
 
 -- The writer under it told its bytes when it was handed in. A `Vec` always does, a file never.
-abbrev pub Tells : {W : Type 0} {g : Ghosts W} → JsWriter W g → Type 0
+abbrev pub Tells : {W : Type 0} {g : io.Ghosts W} {K : Type 0} {k : kept.Ghosts K} → Lines W K g k → Type 0
 Tells {g = g} w = IsSome (g.contents w.outlet.before.value)
 
 -- the cause of an error on the way: a fault of the writer under it that was counted, or of the list of positions

@@ -1,7 +1,7 @@
 //! The writer over an `io::Write`.
 
 use crate::WriteJs;
-use crate::kept::Kept;
+use crate::kept::{KeepsPositions, Kept};
 use crate::outlet::Outlet;
 use std::alloc::Global;
 use std::io;
@@ -15,21 +15,9 @@ ghost use Rattle.swc_ecma_codegen_text_writer.specs.Kept.{IsCounted};
 
 const DEFAULT_INDENT: &str = "    ";
 
-/// Writes lines with their indentation: at a line's start a text that isn't empty has the indentation first, and a
-/// line ends only where it has begun.
-///
-/// Over a `Vec`, with the line end `"\n"`, the calls `increase_indent`, `write_str("a")`, `write_line`, `write_line`,
-/// `write_str("")`, `write_str("b")` write `"    a\n    b"`.
-///
-/// Where it was given a list, it records positions there: a position with the line and the column, both from 0, that what
-/// stands there has in all that this writer wrote; lines end with LF, CR, or CR and LF, and columns are UTF-16 units. Position
-/// 0 is never recorded, nor a pair that stands in the list already.
-///
-/// Without such a list no call takes memory, so none answers `OutOfMemory`; with one a call does where the list can't grow. A call answers `Writer` where the writer under it failed, was
-/// interrupted, or took no byte of some (`ErrorKind::WriteZero`); `PositionTooLarge` where the indentation would pass
-/// 4294967295 levels, or a position to be recorded has a line or a column above that; `Failed` where an earlier call was refused. swc's `text_writer::basic_impl::JsWriter`.
+/// What a `JsWriter` is, whatever keeps its positions: by value it holds no `&mut`, as far as its own code can tell.
 #[derive(Drop)]
-pub struct JsWriter<'a, W: Write> {
+pub struct Lines<'a, W: Write, K: KeepsPositions> {
     alloc: Global,
     outlet: Outlet<W>,
     new_line: &'a str,
@@ -38,17 +26,31 @@ pub struct JsWriter<'a, W: Write> {
     line_start: bool,
     failed: bool,
     fault: Option<io::Error>,
-    kept: Kept<'a>,
-    ghost counted: { failed ≡ false → IsCounted kept (after_text outlet.log.bytes origin) } by { Prim.hlevel props },
+    kept: K,
+    ghost counted: { failed ≡ false → IsCounted (K.keeps kept) (K.reached kept) (after_text outlet.log.bytes origin) } by { Prim.hlevel props },
 }
 
+/// Writes lines with their indentation: at a line's start a text that isn't empty has the indentation first, and a
+/// line ends only where it has begun.
+///
+/// Over a `Vec`, with the line end `"\n"`, the calls `increase_indent`, `write_str("a")`, `write_line`, `write_line`,
+/// `write_str("")`, `write_str("b")` write `"    a\n    b"`.
+///
+/// Where it was given a list, it records positions there: a position with the line and the column, both from 0, that
+/// what stands there has in all that this writer wrote. Lines end with LF, CR, or CR and LF, and columns are UTF-16
+/// units. Position 0 is never recorded, nor a pair that stands in the list already.
+///
+/// Without such a list no call takes memory, so none answers `OutOfMemory`; with one a call does where the list can't
+/// grow. A call answers `Writer` where the writer under it failed, was interrupted, or took no byte of some
+/// (`ErrorKind::WriteZero`); `PositionTooLarge` where the indentation would pass 4294967295 levels, or a position to be
+/// recorded has a line or a column above that; `Failed` where an earlier call was refused. swc's
+/// `text_writer::basic_impl::JsWriter`.
+pub type JsWriter<'a, W> = Lines<'a, W, Kept<'a>>;
+
 impl<'a, W: Write> JsWriter<'a, W> {
-    ghost use Rattle.std.specs.Prelude.{◌<◌, true, length, IsSome, Some, None};
-    ghost use Rattle.std.specs.Str.{is_utf8};
-    ghost use Rattle.swc_ecma_codegen_common.specs.Refusals.{in_short};
+    ghost use Rattle.std.specs.Prelude.{IsSome, Some, None};
     ghost use Rattle.swc_ecma_codegen_text_writer.specs.Told.{told};
-    ghost use Rattle.swc_ecma_codegen_text_writer.specs.Sheet.{Writes, Deeper, Shallower, appended, indented, recorded, start_recorded, end_recorded, pending_recorded, started, written, literal_written};
-    ghost use Rattle.swc_ecma_codegen_text_writer.specs.View.{sheet_of, new_sheet, keeping, Prefaces, Tells, Reaches, WritesText, WritesLiteral, WritesLine, WritesPosition, WritesNothing};
+    ghost use Rattle.swc_ecma_codegen_text_writer.specs.View.{sheet_of, new_sheet, keeping, Tells};
 
     /// A writer at a line's start, with no indentation, whose lines end with `new_line`, as `"\n"` or `"\r\n"`.
     /// Positions are recorded in `srcmap`, where there is such a list. It asks nothing of `wr`, which may be a file.
@@ -59,12 +61,12 @@ impl<'a, W: Write> JsWriter<'a, W> {
         new_line: &'a str,
         wr: W,
         srcmap: Option<&'a mut Vec<(BytePos, LineCol)>>,
-    ) -> Self
+    ) -> JsWriter<'a, W>
         ensures sheet { srcmap.entry ≡ None → sheet_of result ≡ new_sheet (told (W.contents wr)) new_line.now }
         ensures positions { (list : _) → srcmap.entry ≡ Some list → sheet_of result ≡ keeping list.now.items (new_sheet (told (W.contents wr)) new_line.now) }
         ensures tells { IsSome (W.contents wr) → Tells result }
     {
-        JsWriter {
+        Lines {
             alloc,
             outlet: Outlet::new(wr),
             new_line,
@@ -76,6 +78,15 @@ impl<'a, W: Write> JsWriter<'a, W> {
             kept: Kept::new(srcmap),
         }
     }
+}
+
+impl<'a, W: Write, K: KeepsPositions> Lines<'a, W, K> {
+    ghost use Rattle.std.specs.Prelude.{◌<◌, true, length, IsSome, Some, None};
+    ghost use Rattle.std.specs.Str.{is_utf8};
+    ghost use Rattle.swc_ecma_codegen_common.specs.Refusals.{in_short};
+    ghost use Rattle.swc_ecma_codegen_text_writer.specs.Told.{told};
+    ghost use Rattle.swc_ecma_codegen_text_writer.specs.Sheet.{Writes, Deeper, Shallower, appended, indented, recorded, start_recorded, end_recorded, pending_recorded, started, written, literal_written};
+    ghost use Rattle.swc_ecma_codegen_text_writer.specs.View.{sheet_of, new_sheet, keeping, Prefaces, Tells, Reaches, WritesText, WritesLiteral, WritesLine, WritesPosition, WritesNothing};
 
     /// What one level of indentation writes: four blanks unless it is called.
     #[tactic(auto, unfolding(crate::specs::View::sheet_of))]
@@ -112,7 +123,7 @@ impl<'a, W: Write> JsWriter<'a, W> {
         ensures text { Tells self.entry → W.contents result ≡ Some (sheet_of self.entry).text }
         ensures whole { (sheet_of self.entry).whole ≡ is_utf8 (sheet_of self.entry).text }
     {
-        let JsWriter {
+        let Lines {
             alloc: _,
             outlet,
             new_line: _,
@@ -372,7 +383,7 @@ impl<'a, W: Write> JsWriter<'a, W> {
     }
 }
 
-impl<W: Write> WriteJs for JsWriter<'_, W> {
+impl<W: Write, K: KeepsPositions> WriteJs for Lines<'_, W, K> {
     ghost use Rattle.swc_ecma_codegen_text_writer.specs.View.{sheet_of};
 
     ghost sheet = { sheet_of };
