@@ -4,4 +4,8 @@
 #[cfg(test)]
 mod neighbours;
 #[cfg(test)]
+mod positions;
+#[cfg(test)]
+mod semicolons;
+#[cfg(test)]
 mod writers;
