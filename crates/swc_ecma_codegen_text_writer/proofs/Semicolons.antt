@@ -1,5 +1,5 @@
 -- Calls of a writer that holds semicolons back, made of calls of the writer under it.
-use Rattle.std.proofs.Common.{◌≡◌, ◌⊎◌, inl, inr, ℕ, ◌+◌, ◌-◌, Bool, true, false, ◌&&◌, ◌||◌, ◌==◌, List, [], ◌∷◌, ◌++◌, refl, sym, ◌∙◌, ap, subst, append_assoc, append-nil, cond, codes, Option, Some, None, Result, Ok, Err}
+use Rattle.std.proofs.Common.{◌≡◌, inl, inr, ℕ, ◌+◌, ◌-◌, Bool, true, false, ◌&&◌, ◌||◌, ◌==◌, List, [], ◌∷◌, ◌++◌, refl, sym, ◌∙◌, ap, subst, append_assoc, append-nil, cond, codes, Option, Some, None, Result, Ok, Err}
 use Rattle.std.specs.List.{repeat}
 use Rattle.std.proofs.lemmas.Bool.{false≢true}
 use Rattle.swc_ecma_codegen_common.specs.declared.errors.Refusal.{Refusal}
@@ -7,7 +7,7 @@ use Rattle.swc_ecma_codegen_common.specs.declared.errors.Refusal.TheVariants.{Wr
 use Rattle.swc_ecma_codegen_common.specs.declared.positions.BytePos.{BytePos}
 use Rattle.swc_ecma_codegen_common.specs.declared.positions.Span.{Span}
 use Rattle.swc_ecma_codegen_text_writer.specs.Told.{Rises, IsFront}
-use Rattle.swc_ecma_codegen_text_writer.specs.Sheet.{Sheet, Item, Semi, Space, Keyword, Operator, Param, Property, Line, Lit, Comment, StrLit, Str, Symbol, Punct, Position, Commit, Deeper, Shallower, Pair, Semicolons, AtOnce, HoldsNone, HoldsOne, holds_semicolons, appended, indented, with_pair, has_pair, pair_at, recorded, start_recorded, end_recorded, pending_recorded, started, written, literal_written, ended, pointed, settled_by, settled, semicolon_by, dropped, is_ending, before_punct, effect, Causes, Stopped, Refuses, earlier, stopped, Writes}
+use Rattle.swc_ecma_codegen_text_writer.specs.Sheet.{Sheet, Item, Semi, Space, Keyword, Operator, Param, Property, Line, Lit, Comment, StrLit, Str, Symbol, Punct, Position, Commit, Deeper, Shallower, Semicolons, AtOnce, HoldsNone, HoldsOne, holds_semicolons, appended, indented, with_pair, has_pair, pair_at, recorded, start_recorded, end_recorded, pending_recorded, started, written, literal_written, ended, pointed, settled_by, settled, semicolon_by, dropped, is_ending, before_punct, effect, Causes, Stopped, Refuses, earlier, stopped, Writes}
 use Rattle.swc_ecma_codegen_text_writer.specs.Held.{semicolons_of, with_held, WritesAtOnce, Settles}
 
 -- ---- fronts

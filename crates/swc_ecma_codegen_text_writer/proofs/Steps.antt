@@ -1,5 +1,5 @@
 -- Sheets on the way to others.
-use Rattle.std.proofs.Common.{◌≡◌, ◌⊎◌, inl, inr, ℕ, ◌+◌, ◌-◌, ◌^◌, ◌<◌, ◌≤◌, Bool, true, false, List, [], ◌∷◌, ◌++◌, length, refl, sym, ◌∙◌, ap, subst, append_assoc, arith, append-nil, codes, zero, suc, Option, Some, None, Result, Ok, Err, cond, ◌&&◌}
+use Rattle.std.proofs.Common.{◌≡◌, inl, inr, ℕ, ◌+◌, ◌-◌, ◌^◌, ◌<◌, ◌≤◌, Bool, true, false, List, [], ◌∷◌, ◌++◌, length, refl, sym, ◌∙◌, ap, subst, append_assoc, arith, append-nil, codes, zero, suc, Option, Some, None, Result, Ok, Err, cond, ◌&&◌}
 use Rattle.std.specs.List.{repeat}
 use Rattle.swc_ecma_codegen_common.specs.declared.errors.Refusal.{Refusal}
 use Rattle.swc_ecma_codegen_common.specs.declared.errors.Refusal.TheVariants.{Writer, OutOfMemory, UnsupportedNode, BadShape, NameOutOfTarget, PositionTooLarge, Failed}
@@ -9,9 +9,9 @@ use Rattle.swc_ecma_codegen_text_writer.specs.Positions.{Records}
 use Rattle.swc_ecma_codegen_text_writer.specs.Kept.{RecordsIn}
 use Rattle.swc_ecma_codegen_text_writer.specs.Told.{IsFront}
 use Rattle.swc_ecma_codegen_text_writer.specs.Places.{Place, origin, after_text}
-use Rattle.swc_ecma_codegen_text_writer.specs.Sheet.{Sheet, Pair, with_pair, pointed, Item, Causes, earlier, stopped, Stopped, Writes, Semicolons, AtOnce, HoldsNone, HoldsOne, appended, indented, start_recorded, end_recorded, pending_recorded, recorded, started, written, literal_written, ended, settled, settled_by, semicolon_by, dropped, is_ending, before_punct, effect, Line, Deeper}
+use Rattle.swc_ecma_codegen_text_writer.specs.Sheet.{Sheet, Pair, with_pair, pointed, Item, Causes, earlier, stopped, Writes, Semicolons, AtOnce, appended, indented, start_recorded, end_recorded, pending_recorded, recorded, started, written, literal_written, ended, settled, settled_by, semicolon_by, dropped, is_ending, before_punct, effect, Deeper}
 use Rattle.swc_ecma_codegen_text_writer.specs.View.{HasReason, Halted, Reaches, Prefaces}
-use Rattle.swc_ecma_codegen_text_writer.proofs.Sheets.{Alike, alike_refl, alike_trans, start_alike, end_alike, pending_alike, appended_alike, indented_alike, started_alike, started_indentation, front_refl, front_append, front_trans}
+use Rattle.swc_ecma_codegen_text_writer.proofs.Sheets.{Alike, alike_refl, alike_trans, start_alike, end_alike, pending_alike, appended_alike, indented_alike, front_refl, front_append, front_trans}
 
 -- ---- copies
 

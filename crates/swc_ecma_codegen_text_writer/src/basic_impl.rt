@@ -1,5 +1,10 @@
 //! The writer over an `io::Write`.
 
+ghost use Rattle.std.specs.Prelude.{◌≡◌, false};
+ghost use Rattle.std.proofs.Props.{props};
+ghost use Rattle.swc_ecma_codegen_text_writer.specs.Places.{origin, after_text};
+ghost use Rattle.swc_ecma_codegen_text_writer.specs.Kept.{IsCounted};
+
 use crate::WriteJs;
 use crate::kept::{KeepsPositions, Kept};
 use crate::outlet::Outlet;
@@ -7,11 +12,6 @@ use std::alloc::Global;
 use std::io;
 use std::io::Write;
 use swc_ecma_codegen_common::{Answer, BytePos, LineCol, Refusal, Result, Span};
-
-ghost use Rattle.std.specs.Prelude.{◌≡◌, false};
-ghost use Rattle.std.proofs.Props.{props};
-ghost use Rattle.swc_ecma_codegen_text_writer.specs.Places.{origin, after_text};
-ghost use Rattle.swc_ecma_codegen_text_writer.specs.Kept.{IsCounted};
 
 const DEFAULT_INDENT: &str = "    ";
 

@@ -13,8 +13,11 @@ use swc_ecma_codegen_common::{Answer, BytePos, LineCol};
 /// What keeps positions for a writer, or keeps none: it is told what is written, and where it is to record a position.
 pub trait KeepsPositions: Drop {
     ghost keeps: { Self → Bool };
+
     ghost pairs: { Self → List Pair };
+
     ghost pending: { Self → Option BytePos };
+
     ghost reached: { Self → Reached };
 
     /// Whether positions are kept.
@@ -82,8 +85,11 @@ impl KeepsPositions for Kept<'_> {
     ghost use Rattle.swc_ecma_codegen_text_writer.specs.Kept.{keeps, kept_pairs, kept_pending, kept_reached};
 
     ghost keeps = { keeps };
+
     ghost pairs = { kept_pairs };
+
     ghost pending = { kept_pending };
+
     ghost reached = { kept_reached };
 
     fn is_kept(&self) -> bool {

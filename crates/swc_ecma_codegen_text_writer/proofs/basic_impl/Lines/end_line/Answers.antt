@@ -1,6 +1,6 @@
 use Rattle.std.proofs.Common.{refl, true, Err, sym, ◌∙◌, ap}
 use Rattle.std.proofs.lemmas.Result.{err_from_is_err_and}
-use Rattle.swc_ecma_codegen_text_writer.specs.Sheet.{Sheet, ended}
+use Rattle.swc_ecma_codegen_text_writer.specs.Sheet.{Sheet}
 use Rattle.swc_ecma_codegen_text_writer.specs.View.{sheet_of, Reaches}
 use Rattle.swc_ecma_codegen_text_writer.proofs.Steps.{writes_failed, writes_ok, writes_way, ended_true, ended_false, line_halted}
 use Rattle.swc_ecma_codegen_text_writer.proofs.basic_impl.Lines.end_line.Goals as goal

@@ -1,4 +1,4 @@
-use Rattle.std.proofs.Common.{◌≡◌, length, refl, sym, ◌∙◌, rules, ◌<◌}
+use Rattle.std.proofs.Common.{◌≡◌, length, refl, sym, ◌∙◌, rules}
 use Rattle.swc_ecma_codegen_text_writer.specs.View.{sheet_of}
 use Rattle.swc_ecma_codegen_text_writer.proofs.Steps.{literal_nil, writes_failed, writes_ok, writes_way}
 use Rattle.swc_ecma_codegen_text_writer.proofs.basic_impl.Lines.literal.Goals as goal

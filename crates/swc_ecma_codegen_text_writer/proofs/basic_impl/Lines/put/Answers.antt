@@ -1,6 +1,6 @@
-use Rattle.std.proofs.Common.{refl, ◌∙◌, ap, subst}
+use Rattle.std.proofs.Common.{◌∙◌, ap}
 use Rattle.std.proofs.lemmas.Result.{err_from_is_err_and}
-use Rattle.swc_ecma_codegen_text_writer.specs.Sheet.{Sheet, appended, start_recorded, end_recorded, started, written}
+use Rattle.swc_ecma_codegen_text_writer.specs.Sheet.{Sheet, appended, start_recorded, end_recorded}
 use Rattle.swc_ecma_codegen_text_writer.specs.View.{sheet_of, Reaches}
 use Rattle.swc_ecma_codegen_text_writer.proofs.Sheets.{started_alike, started_same, started_indentation}
 use Rattle.swc_ecma_codegen_text_writer.proofs.Steps.{first_halted, reached, reaches_to, reaches_then, written_some, started_written}

@@ -1,4 +1,4 @@
-use Rattle.std.proofs.Common.{refl, sym, ◌∙◌, ap, subst, None, Err}
+use Rattle.std.proofs.Common.{sym, ◌∙◌, ap, subst, None, Err}
 use Rattle.std.proofs.lemmas.Result.{err_from_is_err_and}
 use Rattle.swc_ecma_codegen_text_writer.specs.Sheet.{Sheet, recorded, written, literal_written}
 use Rattle.swc_ecma_codegen_text_writer.specs.View.{sheet_of, Reaches}

@@ -2,7 +2,7 @@ use Rattle.std.proofs.Common.{refl, sym, subst}
 use Rattle.swc_ecma_codegen_text_writer.specs.Sheet.{appended}
 use Rattle.swc_ecma_codegen_text_writer.specs.Reach.{Shows}
 use Rattle.swc_ecma_codegen_text_writer.specs.View.{sheet_of, Reaches, HasReason}
-use Rattle.swc_ecma_codegen_text_writer.proofs.Sheets.{front_refl, appended_alike}
+use Rattle.swc_ecma_codegen_text_writer.proofs.Sheets.{front_refl}
 use Rattle.swc_ecma_codegen_text_writer.proofs.Steps.{sent_sheet, place_on}
 use Rattle.swc_ecma_codegen_text_writer.proofs.basic_impl.Lines.send.Goals as goal
 

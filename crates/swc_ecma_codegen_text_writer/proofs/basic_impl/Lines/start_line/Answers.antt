@@ -1,8 +1,7 @@
-use Rattle.std.proofs.Common.{◌≡◌, refl, false, sym, ◌∙◌, ap, subst}
+use Rattle.std.proofs.Common.{◌≡◌, refl, false, sym, ◌∙◌, ap}
 use Rattle.std.proofs.lemmas.Result.{err_from_is_err_and}
-use Rattle.swc_ecma_codegen_text_writer.specs.Sheet.{Sheet, appended, indented, pending_recorded, started}
+use Rattle.swc_ecma_codegen_text_writer.specs.Sheet.{Sheet, appended, indented, pending_recorded}
 use Rattle.swc_ecma_codegen_text_writer.specs.View.{sheet_of, Reaches}
-use Rattle.swc_ecma_codegen_text_writer.proofs.Sheets.{indented_alike}
 use Rattle.swc_ecma_codegen_text_writer.proofs.Steps.{started_true, started_false, first_halted, reached, reaches_to, reaches_then, begun_sheet, begun_sheet_alike, begun_on}
 use Rattle.swc_ecma_codegen_text_writer.proofs.basic_impl.Lines.start_line.Goals as goal
 

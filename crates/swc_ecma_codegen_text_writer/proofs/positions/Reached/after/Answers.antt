@@ -1,5 +1,4 @@
 use Rattle.std.proofs.Common.{sym, subst, ◌∙◌}
-use Rattle.swc_ecma_codegen_text_writer.specs.Places.{Place}
 use Rattle.swc_ecma_codegen_text_writer.specs.Reach.{Shows}
 use Rattle.swc_ecma_codegen_text_writer.proofs.Reaching.{after_second, after_lone, after_return, after_other}
 use Rattle.swc_ecma_codegen_text_writer.proofs.positions.Reached.after.Goals as goal

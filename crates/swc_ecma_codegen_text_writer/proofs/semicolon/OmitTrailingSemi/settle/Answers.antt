@@ -1,5 +1,4 @@
 use Rattle.std.proofs.lemmas.Result.{err_from_is_err_and}
-use Rattle.swc_ecma_codegen_text_writer.specs.Sheet.{Semi}
 use Rattle.swc_ecma_codegen_text_writer.proofs.Semicolons.{kept, settles_none, settles_one, settles_err}
 use Rattle.swc_ecma_codegen_text_writer.proofs.semicolon.OmitTrailingSemi.settle.Goals as goal
 
