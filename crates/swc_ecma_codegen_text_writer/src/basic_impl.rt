@@ -15,7 +15,8 @@ use swc_ecma_codegen_common::{Answer, BytePos, LineCol, Refusal, Result, Span};
 
 const DEFAULT_INDENT: &str = "    ";
 
-/// What a `JsWriter` is, whatever keeps its positions: by value it holds no `&mut`, as far as its own code can tell.
+/// A `JsWriter` with any `K` that keeps its positions, or keeps none. Since `K` is a parameter, its own functions know of
+/// no `&mut` in it, and `into_inner` may take it by value.
 #[derive(Drop)]
 pub struct Lines<'a, W: Write, K: KeepsPositions> {
     alloc: Global,
