@@ -17,7 +17,7 @@ abbrev pub sheet_for : Options → Sheet
 sheet_for options = blank_sheet
 
 -- the text of a part, as the options ask for it
-abbrev pub text_with : Options → Part → List ℕ
+unfoldable pub text_with : Options → Part → List ℕ
 text_with options part = (printed part (start (settings_of options) (sheet_for options))).sheet.text
 
 -- a text is that of a program

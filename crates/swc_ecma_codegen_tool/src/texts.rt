@@ -18,6 +18,7 @@ use swc_ecma_codegen_tree::Program;
 
 /// The text of a program as the options ask for it: lines end with LF, and four blanks are a level. The writers keep no
 /// positions yet, so the list stays as it is.
+#[tactic(auto, unfolding(crate::specs::Prints::text_with))]
 pub(crate) fn text_of(
     alloc: Global,
     options: Options,
