@@ -1,6 +1,6 @@
 //! The text of a program, in memory.
 
-ghost use Rattle.std.specs.Prelude.{◌≡◌, ◌≢◌, false, Err, IfOk, OnOk};
+ghost use Rattle.std.specs.Prelude.{◌≡◌, ◌≢◌, false, Err, IfOk};
 ghost use Rattle.swc_ecma_codegen_base.specs.Run.{printed, start};
 ghost use Rattle.swc_ecma_codegen.specs.Programs.{program};
 ghost use Rattle.swc_ecma_codegen.specs.Tree.{any_items};
@@ -28,25 +28,25 @@ pub(crate) fn text_of(
     ensures text { IfOk result (λ text. text.items ≡ text_with options (program any_items tree.now)) }
     ensures no_usage { result ≢ Err Fault.Usage }
 {
-    let mut writer = JsWriter::new(alloc, &NoSource, "\n", Vec::new(alloc), None);
-    print_to(alloc, options.settings(), tree, &mut writer)?;
+    let writer = JsWriter::new(alloc, &NoSource, "\n", Vec::new(alloc), None);
+    let writer = printed_on(alloc, options.settings(), tree, writer)?;
     Ok(writer.into_inner())
 }
 
-/// Prints a program to a writer, whose faults are want of memory.
-fn print_to<W: WriteJs>(
+/// Prints a program to a writer, whose faults are want of memory, and gives the writer back.
+fn printed_on<W: WriteJs + Drop>(
     alloc: Global,
     config: Config,
     tree: &Program,
-    wr: &mut W,
-) -> Result<(), Fault>
+    wr: W,
+) -> Result<W, Fault>
     requires { config.ascii_only ≡ false }
-    ensures sheet { OnOk result (W.sheet wr.new ≡ (printed (program any_items tree.now) (start config (W.sheet wr.old))).sheet) }
+    ensures sheet { IfOk result (λ w. W.sheet w ≡ (printed (program any_items tree.now) (start config (W.sheet wr))).sheet) }
     ensures no_usage { result ≢ Err Fault.Usage }
 {
     let mut emitter = Emitter::new(alloc, config, &NoSource, None::<CommentMaps>, wr);
     match emitter.emit_program(tree) {
-        Ok(()) => Ok(()),
+        Ok(()) => Ok(emitter.wr),
         Err(error) => Err(Fault::of_emission(&error)),
     }
 }
