@@ -227,7 +227,7 @@ unfolding chars lib.Utf8.encode
 semicolon_chars = refl
 
 semicolon_utf8 : IsUtf8 (codes ";")
-unfolding is_utf8
+unfolding chars is_utf8 lib.Utf8.encode
 semicolon_utf8 = IsUtf8-from_is_utf8 (codes ";") refl
 
 settles_spells : (u bytes : List ℕ) (laid : List parts.Part) → all_indent u ≡ true → chars bytes ≡ parts.text_of laid → chars ((u ++ codes ";") ++ bytes) ≡ parts.text_of (semicolon_gap u ++ laid)
@@ -513,7 +513,7 @@ own_apart false kind t s more e o p f r n = in_a_line s.last (Own kind (spelling
 laid_text : (u t : List ℕ) (kind : Kind) → all_indent u ≡ true → Spelled kind t → chars (u ++ t) ≡ parts.text_of (Gap (blanks u) ∷ Own kind (spelling kind t) ∷ [])
 unfolding parts.text_of
 laid_text u t kind h p =
-    chars-append u t (indent_utf8 _ h) p.utf8
+    chars-append u t (indent_utf8 u h)
     ∙ ap (λ z. z ++ chars t) (indent_chars _ h ∙ sym (blanks_text u))
     ∙ ap (λ z. pieces_text (blanks u) ++ z) (p.same ∙ sym (append-nil (spelling kind t)))
 
@@ -547,11 +547,11 @@ lays_own kind span t s p f r = lays_settled s _ _ r (lays_here kind span t (sett
 
 -- it is lost: `}` stands where it would
 drops_reduces : (x : Semicolons) {span : Option Span} → HoldsOne span ≡ x → (u t : List ℕ) (xs ys : List parts.Part) (s : Sheet) → u ≡ front s → IsEnding (Own Punctuator t ∷ xs) → Reduced xs ys → Reduced (held_of (holds_one x) s ++ Own Punctuator t ∷ xs) (Gap (blanks u) ∷ Own Punctuator t ∷ ys)
-unfolding holds_one Reduced
+unfolding holds_one Reduced semicolon_gap
 drops_reduces x {span} e u t xs ys s f n r =
     subst (λ z. Reduced (held_of (holds_one z) s ++ Own Punctuator t ∷ xs) (Gap (blanks u) ∷ Own Punctuator t ∷ ys)) e
     (subst (λ z. Reduced (semicolon_gap z ++ Own Punctuator t ∷ xs) (Gap (blanks u) ∷ Own Punctuator t ∷ ys)) f
-    (unfold semicolon_gap in inl (Own Punctuator t ∷ ys, refl, inr (refl, n, inl (ys, refl, r)))))
+    (inl (Own Punctuator t ∷ ys, refl, inr (refl, n, inl (ys, refl, r)))))
 
 ending_chars : (c : ℕ) → ((c == 125) || (c == 59)) ≡ true → (begins (codes "}") (c ∷ []) || begins (codes ";") (c ∷ [])) ≡ true
 unfolding begins
@@ -639,7 +639,7 @@ replaces u more ys (inl k) = inl (k.0, k.1, inr (refl, refl, k.2))
 replaces u more ys (inr k) = absurd (cc k.0)
 
 replaces_reduces : (x : Semicolons) {span : Option Span} → HoldsOne span ≡ x → (u : List ℕ) (more ys : List parts.Part) (s : Sheet) → u ≡ front s → Reduced (semicolon_gap u ++ more) ys → Reduced (held_of (holds_one x) s ++ (Own Ending (codes ";") ∷ more)) ys
-unfolding holds_one
+unfolding holds_one semicolon_gap
 replaces_reduces x e u more ys s f r =
     subst (λ z. Reduced (held_of (holds_one z) s ++ (Own Ending (codes ";") ∷ more)) ys) e
     (subst (λ z. Reduced (semicolon_gap z ++ (Own Ending (codes ";") ∷ more)) ys) f (replaces u more ys r))
