@@ -1,2 +1,1 @@
 pub mod Prints
-pub mod Words
