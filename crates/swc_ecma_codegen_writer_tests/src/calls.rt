@@ -1,24 +1,25 @@
 //! Calls of a writer, as data.
 
 use swc_ecma_codegen_common::{BytePos, LineCol, Result, Span};
+use swc_ecma_codegen_literals::Punctuator;
 use swc_ecma_codegen_text_writer::WriteJs;
 
 /// A call of a writer.
 #[derive(Clone, Copy)]
-pub enum Call {
+pub enum Call<'a> {
     Deeper,
     Semi,
     Line,
     Commit,
-    Text(&'static str),
-    Mark(&'static str),
+    Text(&'a str),
+    Mark(Punctuator),
     /// A literal, from a position up to another.
-    Literal(u32, u32, &'static str),
+    Literal(u32, u32, &'a str),
     /// What is written next stands at this position.
     At(u32),
 }
 
-impl Call {
+impl Call<'_> {
     /// Makes it.
     pub fn make<W: WriteJs>(&self, wr: &mut W) -> Result {
         match self {
@@ -27,7 +28,7 @@ impl Call {
             Call::Line => wr.write_line(),
             Call::Commit => wr.commit_pending_semi(),
             Call::Text(text) => wr.write_str(text),
-            Call::Mark(mark) => wr.write_punct(None, mark),
+            Call::Mark(mark) => wr.write_punct(None, mark.as_str()),
             Call::Literal(lo, hi, text) => wr.write_lit(
                 Span {
                     lo: BytePos(*lo),
@@ -41,7 +42,7 @@ impl Call {
 }
 
 /// Makes them in order.
-pub fn make<W: WriteJs>(wr: &mut W, calls: &[Call]) -> Result {
+pub fn make<W: WriteJs>(wr: &mut W, calls: &[Call<'_>]) -> Result {
     for call in calls {
         call.make(wr)?;
     }

@@ -6,18 +6,17 @@ use std::test::Fail;
 use swc_ecma_codegen_common::{BytePos, Error, LineCol};
 use swc_ecma_codegen_text_writer::JsWriter;
 
-/// Writes texts ahead, and makes calls of a writer that was given a list.
+/// Writes two texts ahead, and makes calls of a writer that was given a list.
 fn written(
     alloc: Global,
-    ahead: &[&str],
-    calls: &[Call],
+    ahead: (&str, &str),
+    calls: &[Call<'_>],
     handed_in: Vec<(BytePos, LineCol)>,
 ) -> std::result::Result<Written, Error> {
     let mut pairs = handed_in;
     let mut wr = JsWriter::new(alloc, &(), "\r\n", Vec::new(alloc), Some(&mut pairs));
-    for text in ahead {
-        wr.preamble(text)?;
-    }
+    wr.preamble(ahead.0)?;
+    wr.preamble(ahead.1)?;
     make(&mut wr, calls)?;
     let text = wr.into_inner();
     Ok(Written { text, pairs })
@@ -27,11 +26,11 @@ fn written(
 #[test]
 fn a_line_end_of_two_calls_is_one(rt: HostRuntime) -> std::result::Result<(), Fail> {
     let alloc = rt.alloc();
-    let ahead = ["x\r", "\ny"];
+    let ahead = ("x\r", "\ny");
     let calls = [Call::At(7), Call::Text("z")];
-    let first = written(alloc, &ahead, &calls, Vec::new(alloc))?;
+    let first = written(alloc, ahead, &calls, Vec::new(alloc))?;
     assert!(rt; first.is("x\r\nyz", &[pair(7, 1, 1)]));
-    let again = written(alloc, &ahead, &calls, first.pairs)?;
+    let again = written(alloc, ahead, &calls, first.pairs)?;
     assert!(rt; again.is("x\r\nyz", &[pair(7, 1, 1)]));
     Ok(())
 }
@@ -49,7 +48,7 @@ fn three_line_ends_are_counted(rt: HostRuntime) -> std::result::Result<(), Fail>
         ("a\u{2028}b", 0, 3),
     ] {
         let calls = [Call::At(1), Call::Text("z")];
-        let written = written(alloc, &[text], &calls, Vec::new(alloc))?;
+        let written = written(alloc, (text, ""), &calls, Vec::new(alloc))?;
         assert!(rt; written.pairs.as_slice() == [pair(1, line, col)].as_slice());
     }
     Ok(())
@@ -65,7 +64,7 @@ fn columns_are_utf16_units(rt: HostRuntime) -> std::result::Result<(), Fail> {
         Call::At(9),
         Call::Text("b"),
     ];
-    let written = written(alloc, &[], &calls, Vec::new(alloc))?;
+    let written = written(alloc, ("", ""), &calls, Vec::new(alloc))?;
     assert!(rt; written.is("\"\u{1f600}\",b", &[pair(9, 0, 5)]));
     Ok(())
 }
@@ -85,7 +84,7 @@ fn a_pair_is_recorded_once(rt: HostRuntime) -> std::result::Result<(), Fail> {
         Call::At(3),
         Call::At(3),
     ];
-    let written = written(alloc, &[], &calls, Vec::new(alloc))?;
+    let written = written(alloc, ("", ""), &calls, Vec::new(alloc))?;
     assert!(rt; written.is("ab", &[pair(3, 0, 1), pair(4, 0, 1), pair(3, 0, 2)]));
     Ok(())
 }
@@ -95,10 +94,10 @@ fn a_pair_is_recorded_once(rt: HostRuntime) -> std::result::Result<(), Fail> {
 fn a_pending_position_is_recorded_once(rt: HostRuntime) -> std::result::Result<(), Fail> {
     let alloc = rt.alloc();
     let calls = [Call::At(1), Call::At(2), Call::Text("a"), Call::Text("b")];
-    let later = written(alloc, &[], &calls, Vec::new(alloc))?;
+    let later = written(alloc, ("", ""), &calls, Vec::new(alloc))?;
     assert!(rt; later.is("ab", &[pair(2, 0, 0)]));
     let calls = [Call::At(1), Call::Line, Call::Text("a")];
-    let dropped = written(alloc, &[], &calls, Vec::new(alloc))?;
+    let dropped = written(alloc, ("", ""), &calls, Vec::new(alloc))?;
     assert!(rt; dropped.is("a", &[]));
     Ok(())
 }
@@ -114,7 +113,7 @@ fn a_literal_starts_before_the_indentation(rt: HostRuntime) -> std::result::Resu
         Call::Line,
         Call::Literal(6, 7, "1"),
     ];
-    let written = written(alloc, &[], &calls, Vec::new(alloc))?;
+    let written = written(alloc, ("", ""), &calls, Vec::new(alloc))?;
     assert!(rt;
         written.is(
             "    z\r\n    1",

@@ -6,6 +6,7 @@ use std::io;
 use std::io::{ErrorKind, Write};
 use std::test::Fail;
 use swc_ecma_codegen_common::Error;
+use swc_ecma_codegen_literals::Punctuator;
 use swc_ecma_codegen_text_writer::{JsWriter, WriteJs, omit_trailing_semi};
 
 /// Fails at each call.
@@ -23,7 +24,7 @@ impl Write for Broken {
 }
 
 /// Makes calls of a writer that holds semicolons.
-fn written(alloc: Global, calls: &[Call]) -> std::result::Result<Written, Error> {
+fn written(alloc: Global, calls: &[Call<'_>]) -> std::result::Result<Written, Error> {
     let mut pairs = Vec::new(alloc);
     let writer = JsWriter::new(alloc, &(), "\n", Vec::new(alloc), Some(&mut pairs));
     let mut wr = omit_trailing_semi(writer);
@@ -47,12 +48,15 @@ fn a_semicolon_is_left_out_where_it_is_not_needed(
     rt: HostRuntime,
 ) -> std::result::Result<(), Fail> {
     let alloc = rt.alloc();
-    let block_end = written(alloc, &[Call::Semi, Call::Mark("}")])?;
+    let block_end = written(alloc, &[Call::Semi, Call::Mark(Punctuator::RightBrace)])?;
     assert!(rt; block_end.is("}", &[]));
     let two = written(alloc, &[Call::Semi, Call::Semi, Call::Text("a")])?;
     assert!(rt; two.is(";a", &[]));
     // The position stands where the `;` of the empty statement does.
-    let empty = written(alloc, &[Call::Semi, Call::At(3), Call::Mark(";")])?;
+    let empty = written(
+        alloc,
+        &[Call::Semi, Call::At(3), Call::Mark(Punctuator::Semicolon)],
+    )?;
     assert!(rt; empty.is(";", &[pair(3, 0, 0)]));
     let last = written(alloc, &[Call::Text("a"), Call::Semi])?;
     assert!(rt; last.is("a", &[]));
@@ -64,15 +68,27 @@ fn a_semicolon_is_written_where_anything_else_follows(
     rt: HostRuntime,
 ) -> std::result::Result<(), Fail> {
     let alloc = rt.alloc();
-    let line = written(alloc, &[Call::Semi, Call::Line, Call::Mark("}")])?;
+    let line = written(
+        alloc,
+        &[Call::Semi, Call::Line, Call::Mark(Punctuator::RightBrace)],
+    )?;
     assert!(rt; line.is(";\n}", &[]));
-    let group = written(alloc, &[Call::Semi, Call::Mark("(")])?;
+    let group = written(
+        alloc,
+        &[Call::Semi, Call::Mark(Punctuator::LeftParenthesis)],
+    )?;
     assert!(rt; group.is(";(", &[]));
-    let less = written(alloc, &[Call::Semi, Call::Mark("<")])?;
+    let less = written(alloc, &[Call::Semi, Call::Mark(Punctuator::Less)])?;
     assert!(rt; less.is(";<", &[]));
-    let committed = written(alloc, &[Call::Semi, Call::Commit, Call::Mark("}")])?;
+    let committed = written(
+        alloc,
+        &[Call::Semi, Call::Commit, Call::Mark(Punctuator::RightBrace)],
+    )?;
     assert!(rt; committed.is(";}", &[]));
-    let deeper = written(alloc, &[Call::Semi, Call::Deeper, Call::Mark("}")])?;
+    let deeper = written(
+        alloc,
+        &[Call::Semi, Call::Deeper, Call::Mark(Punctuator::RightBrace)],
+    )?;
     assert!(rt; deeper.is(";}", &[]));
     Ok(())
 }
