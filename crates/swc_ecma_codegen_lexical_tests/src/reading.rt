@@ -28,7 +28,6 @@ fn kind_of(letter: char) -> Kind {
         'x' => Kind::JsxText,
         '{' => Kind::JsxOpen,
         '!' => Kind::Hashbang,
-        ';' => Kind::Ending,
         _ => Kind::Punctuator,
     }
 }

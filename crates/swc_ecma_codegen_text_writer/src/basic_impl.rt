@@ -1,12 +1,6 @@
 //! The writer over an `io::Write`.
 
-ghost use Rattle.std.specs.Prelude.{◌≡◌, false};
-ghost use Rattle.std.proofs.Props.{props};
-ghost use Rattle.swc_ecma_codegen_text_writer.specs.Places.{origin, after_text};
-ghost use Rattle.swc_ecma_codegen_text_writer.specs.Kept.{IsCounted};
-
 use crate::WriteJs;
-use crate::kept::{KeepsPositions, Kept};
 use crate::outlet::Outlet;
 use std::alloc::Global;
 use std::io;
@@ -15,10 +9,17 @@ use swc_ecma_codegen_common::{Answer, BytePos, LineCol, Refusal, Result, Span};
 
 const DEFAULT_INDENT: &str = "    ";
 
-/// A `JsWriter` with any `K` that keeps its positions, or keeps none. Since `K` is a parameter, its own functions know of
-/// no `&mut` in it, and `into_inner` may take it by value.
+/// Writes lines with their indentation: at a line's start a text that isn't empty has the indentation first, and a
+/// line ends only where it has begun.
+///
+/// Over a `Vec`, with the line end `"\n"`, the calls `increase_indent`, `write_str("a")`, `write_line`, `write_line`,
+/// `write_str("")`, `write_str("b")` write `"    a\n    b"`.
+///
+/// No call takes memory, so none answers `OutOfMemory`. A call answers `Writer` where the writer under it failed, was
+/// interrupted, or took no byte of some (`ErrorKind::WriteZero`); `PositionTooLarge` where the indentation would pass
+/// 4294967295 levels; `Failed` where an earlier call was refused. swc's `text_writer::basic_impl::JsWriter`.
 #[derive(Drop)]
-pub struct Lines<'a, W: Write, K: KeepsPositions> {
+pub struct JsWriter<'a, W: Write> {
     alloc: Global,
     outlet: Outlet<W>,
     new_line: &'a str,
@@ -27,47 +28,32 @@ pub struct Lines<'a, W: Write, K: KeepsPositions> {
     line_start: bool,
     failed: bool,
     fault: Option<io::Error>,
-    kept: K,
-    ghost counted: { failed ≡ false → IsCounted (K.keeps kept) (K.reached kept) (after_text outlet.log.bytes origin) } by { Prim.hlevel props },
 }
 
-/// Writes lines with their indentation: at a line's start a text that isn't empty has the indentation first, and a
-/// line ends only where it has begun.
-///
-/// Over a `Vec`, with the line end `"\n"`, the calls `increase_indent`, `write_str("a")`, `write_line`, `write_line`,
-/// `write_str("")`, `write_str("b")` write `"    a\n    b"`.
-///
-/// Where it was given a list, it records positions there: a position with the line and the column, both from 0, that
-/// what stands there has in all that this writer wrote. Lines end with LF, CR, or CR and LF, and columns are UTF-16
-/// units. Position 0 is never recorded, nor a pair that stands in the list already.
-///
-/// Without such a list no call takes memory, so none answers `OutOfMemory`; with one a call does where the list can't
-/// grow. A call answers `Writer` where the writer under it failed, was interrupted, or took no byte of some
-/// (`ErrorKind::WriteZero`); `PositionTooLarge` where the indentation would pass 4294967295 levels, or a position to be
-/// recorded has a line or a column above that; `Failed` where an earlier call was refused. swc's
-/// `text_writer::basic_impl::JsWriter`.
-pub type JsWriter<'a, W> = Lines<'a, W, Kept<'a>>;
-
 impl<'a, W: Write> JsWriter<'a, W> {
-    ghost use Rattle.std.specs.Prelude.{IsSome, Some, None};
+    ghost use Rattle.std.specs.Prelude.{◌≡◌, ◌<◌, true, false, IsSome, None};
+    ghost use Rattle.std.specs.Str.{is_utf8};
+    ghost use Rattle.swc_ecma_codegen_common.specs.Refusals.{in_short};
     ghost use Rattle.swc_ecma_codegen_text_writer.specs.Told.{told};
-    ghost use Rattle.swc_ecma_codegen_text_writer.specs.View.{sheet_of, new_sheet, keeping, Tells};
+    ghost use Rattle.swc_ecma_codegen_text_writer.specs.Sheet.{Writes, Deeper, Shallower, Line, appended, indented, started};
+    ghost use Rattle.swc_ecma_codegen_text_writer.specs.View.{sheet_of, new_sheet, Tells, Reaches, WritesText, WritesNothing};
 
     /// A writer at a line's start, with no indentation, whose lines end with `new_line`, as `"\n"` or `"\r\n"`.
-    /// Positions are recorded in `srcmap`, where there is such a list. It asks nothing of `wr`, which may be a file.
-    #[tactic(auto, unfolding(crate::specs::View::sheet_of, crate::specs::Places::after_text))]
+    /// Positions aren't kept yet: `srcmap` is `None`. It asks nothing of `wr`, which may be a file.
+    #[tactic(auto, unfolding(crate::specs::View::sheet_of))]
     pub fn new<S>(
         alloc: Global,
         _: &S,
         new_line: &'a str,
         wr: W,
         srcmap: Option<&'a mut Vec<(BytePos, LineCol)>>,
-    ) -> JsWriter<'a, W>
-        ensures sheet { srcmap.entry ≡ None → sheet_of result ≡ new_sheet (told (W.contents wr)) new_line.now }
-        ensures positions { (list : _) → srcmap.entry ≡ Some list → sheet_of result ≡ keeping list.now.items (new_sheet (told (W.contents wr)) new_line.now) }
+    ) -> Self
+        requires { srcmap ≡ None }
+        ensures sheet { sheet_of result ≡ new_sheet (told (W.contents wr)) new_line.now }
         ensures tells { IsSome (W.contents wr) → Tells result }
     {
-        Lines {
+        let _ = srcmap;
+        JsWriter {
             alloc,
             outlet: Outlet::new(wr),
             new_line,
@@ -76,18 +62,8 @@ impl<'a, W: Write> JsWriter<'a, W> {
             line_start: true,
             failed: false,
             fault: None,
-            kept: Kept::new(srcmap),
         }
     }
-}
-
-impl<'a, W: Write, K: KeepsPositions> Lines<'a, W, K> {
-    ghost use Rattle.std.specs.Prelude.{◌<◌, true, length, IsSome, Some, None};
-    ghost use Rattle.std.specs.Str.{is_utf8};
-    ghost use Rattle.swc_ecma_codegen_common.specs.Refusals.{in_short};
-    ghost use Rattle.swc_ecma_codegen_text_writer.specs.Told.{told};
-    ghost use Rattle.swc_ecma_codegen_text_writer.specs.Sheet.{Writes, Deeper, Shallower, appended, indented, recorded, start_recorded, end_recorded, pending_recorded, started, written, literal_written};
-    ghost use Rattle.swc_ecma_codegen_text_writer.specs.View.{sheet_of, new_sheet, keeping, Prefaces, Tells, Reaches, WritesText, WritesLiteral, WritesLine, WritesPosition, WritesNothing};
 
     /// What one level of indentation writes: four blanks unless it is called.
     #[tactic(auto, unfolding(crate::specs::View::sheet_of))]
@@ -98,25 +74,6 @@ impl<'a, W: Write, K: KeepsPositions> Lines<'a, W, K> {
         self.indent_str = indent_str;
     }
 
-    /// Writes a text as it is, ahead of the rest: a line's start stays one, and no indentation comes before it. It is
-    /// counted, so that positions stand right. swc's `preamble`.
-    pub fn preamble(&mut self, text: &str) -> Result
-        ensures { Prefaces text.now (sheet_of self.old) (sheet_of self.new) (in_short result) }
-    {
-        let answer = self.preface(text);
-        self.answer(answer)
-    }
-
-    /// Sends a text ahead of the rest.
-    fn preface(&mut self, text: &str) -> Answer
-        ensures { Prefaces text.now (sheet_of self.old) (sheet_of self.new) result }
-    {
-        if self.failed {
-            return Err(Refusal::Failed);
-        }
-        self.send(text)
-    }
-
     /// The writer under it. Where that told its bytes when it was handed in, it tells the sheet's text now: a `Vec`
     /// holds it.
     #[tactic(auto, unfolding(crate::specs::View::sheet_of))]
@@ -124,7 +81,7 @@ impl<'a, W: Write, K: KeepsPositions> Lines<'a, W, K> {
         ensures text { Tells self.entry → W.contents result ≡ Some (sheet_of self.entry).text }
         ensures whole { (sheet_of self.entry).whole ≡ is_utf8 (sheet_of self.entry).text }
     {
-        let Lines {
+        let JsWriter {
             alloc: _,
             outlet,
             new_line: _,
@@ -133,7 +90,6 @@ impl<'a, W: Write, K: KeepsPositions> Lines<'a, W, K> {
             line_start: _,
             failed: _,
             fault: _,
-            kept: _,
         } = self;
         outlet.into_inner()
     }
@@ -151,10 +107,7 @@ impl<'a, W: Write, K: KeepsPositions> Lines<'a, W, K> {
         ensures { Reaches (appended text.now (sheet_of self.old)) (sheet_of self.old) (sheet_of self.new) result }
     {
         match self.outlet.write_text(text) {
-            Ok(()) => {
-                self.kept.pass(text);
-                Ok(())
-            }
+            Ok(()) => Ok(()),
             Err(error) => {
                 self.failed = true;
                 self.fault = Some(error);
@@ -175,161 +128,52 @@ impl<'a, W: Write, K: KeepsPositions> Lines<'a, W, K> {
         Ok(())
     }
 
-    /// Records a position, where positions are kept.
-    fn record(&mut self, pos: BytePos) -> Answer
-        requires { (sheet_of self.old).refused ≡ false }
-        ensures { Reaches (recorded pos (sheet_of self.old)) (sheet_of self.old) (sheet_of self.new) result }
-    {
-        match self.kept.record(pos) {
-            Ok(()) => Ok(()),
-            Err(refusal) => {
-                self.failed = true;
-                Err(refusal)
-            }
-        }
-    }
-
-    /// Records the position that is pending.
-    fn record_pending(&mut self) -> Answer
-        requires { (sheet_of self.old).refused ≡ false }
-        ensures { Reaches (pending_recorded (sheet_of self.old).pending (sheet_of self.old)) (sheet_of self.old) (sheet_of self.new) result }
-    {
-        match self.kept.take_pending() {
-            None => Ok(()),
-            Some(pos) => self.record(pos),
-        }
-    }
-
-    /// Forgets the position that is pending.
-    #[tactic(auto, unfolding(crate::specs::View::sheet_of))]
-    fn drop_pending(&mut self)
-        ensures { sheet_of self.new ≡ record (sheet_of self.old) { pending = None } }
-    {
-        let _ = self.kept.take_pending();
-    }
-
-    /// Records where a span starts.
-    #[tactic(auto, unfolding(crate::specs::View::Reaches, crate::specs::Sheet::start_recorded))]
-    fn record_start(&mut self, span: Option<Span>) -> Answer
-        requires { (sheet_of self.old).refused ≡ false }
-        ensures { Reaches (start_recorded span (sheet_of self.old)) (sheet_of self.old) (sheet_of self.new) result }
-    {
-        match span {
-            None => Ok(()),
-            Some(span) => self.record(span.lo),
-        }
-    }
-
-    /// Records where a span ends.
-    #[tactic(auto, unfolding(crate::specs::View::Reaches, crate::specs::Sheet::end_recorded))]
-    fn record_end(&mut self, span: Option<Span>) -> Answer
-        requires { (sheet_of self.old).refused ≡ false }
-        ensures { Reaches (end_recorded span (sheet_of self.old)) (sheet_of self.old) (sheet_of self.new) result }
-    {
-        match span {
-            None => Ok(()),
-            Some(span) => self.record(span.hi),
-        }
-    }
-
-    /// Sends the indentation, at a line's start, and records the position that is pending.
+    /// Sends the indentation, at a line's start.
     fn start_line(&mut self) -> Answer
         requires { (sheet_of self.old).refused ≡ false }
         ensures { Reaches (started (sheet_of self.old)) (sheet_of self.old) (sheet_of self.new) result }
     {
-        if !self.line_start {
-            return Ok(());
-        }
-        self.indent()?;
-        self.set_line_start(false);
-        self.record_pending()
-    }
-
-    /// Sends a text in a line, and records its span.
-    fn put_in_line(&mut self, span: Option<Span>, text: &str) -> Answer
-        requires { (sheet_of self.old).refused ≡ false }
-        ensures { Reaches (end_recorded span (appended text.now (start_recorded span (sheet_of self.old)))) (sheet_of self.old) (sheet_of self.new) result }
-    {
-        self.record_start(span)?;
-        self.send(text)?;
-        self.record_end(span)
-    }
-
-    /// Writes a text that isn't empty.
-    fn put(&mut self, span: Option<Span>, text: &str) -> Answer
-        requires fresh { (sheet_of self.old).refused ≡ false }
-        requires some { 0 < length text.now }
-        ensures { Reaches (written span text.now (sheet_of self.old)) (sheet_of self.old) (sheet_of self.new) result }
-    {
-        self.start_line()?;
-        self.put_in_line(span, text)
-    }
-
-    /// Writes a literal that isn't empty.
-    fn put_literal(&mut self, span: Span, text: &str) -> Answer
-        requires fresh { (sheet_of self.old).refused ≡ false }
-        requires some { 0 < length text.now }
-        ensures { Reaches (literal_written span text.now (sheet_of self.old)) (sheet_of self.old) (sheet_of self.new) result }
-    {
-        self.record(span.lo)?;
-        self.put(None, text)?;
-        self.record(span.hi)
-    }
-
-    /// Writes a text, after the indentation at a line's start.
-    fn write(&mut self, span: Option<Span>, text: &str) -> Answer
-        ensures { WritesText span text.now (sheet_of self.old) (sheet_of self.new) result }
-    {
-        if self.failed {
-            return Err(Refusal::Failed);
-        }
-        if text.is_empty() {
-            return Ok(());
-        }
-        self.put(span, text)
-    }
-
-    /// Writes a literal: its start is recorded before the line begins.
-    fn literal(&mut self, span: Span, text: &str) -> Answer
-        ensures { WritesLiteral span text.now (sheet_of self.old) (sheet_of self.new) result }
-    {
-        if self.failed {
-            return Err(Refusal::Failed);
-        }
-        if text.is_empty() {
-            return Ok(());
-        }
-        self.put_literal(span, text)
-    }
-
-    /// Writes the line's end, unless at a line's start, where it forgets the position that is pending.
-    fn end_line(&mut self) -> Answer
-        ensures { WritesLine (sheet_of self.old) (sheet_of self.new) result }
-    {
-        if self.failed {
-            return Err(Refusal::Failed);
-        }
         if self.line_start {
-            self.drop_pending();
-            return Ok(());
+            self.indent()?;
+            self.set_line_start(false);
         }
-        self.send(self.new_line)?;
-        self.set_line_start(true);
         Ok(())
     }
 
-    /// Records a position for what comes next: at a line's start, once the line has begun.
-    fn point(&mut self, pos: BytePos) -> Answer
-        ensures { WritesPosition pos (sheet_of self.old) (sheet_of self.new) result }
+    /// Writes a text that isn't empty.
+    fn put(&mut self, text: &str) -> Answer
+        requires { (sheet_of self.old).refused ≡ false }
+        ensures { Reaches (appended text.now (started (sheet_of self.old))) (sheet_of self.old) (sheet_of self.new) result }
+    {
+        self.start_line()?;
+        self.send(text)
+    }
+
+    /// Writes a text, after the indentation at a line's start.
+    fn write(&mut self, text: &str) -> Answer
+        ensures { WritesText text.now (sheet_of self.old) (sheet_of self.new) result }
     {
         if self.failed {
             return Err(Refusal::Failed);
         }
-        if self.kept.is_kept() && self.line_start {
-            self.kept.point(pos);
+        if text.is_empty() {
             return Ok(());
         }
-        self.record(pos)
+        self.put(text)
+    }
+
+    /// Writes the line's end, unless at a line's start.
+    fn end_line(&mut self) -> Answer
+        ensures { Writes Line (sheet_of self.old) (sheet_of self.new) result }
+    {
+        if self.failed {
+            return Err(Refusal::Failed);
+        }
+        if !self.line_start {
+            self.send(self.new_line)?;
+            self.set_line_start(true);
+        }
+        Ok(())
     }
 
     /// One level more.
@@ -384,7 +228,7 @@ impl<'a, W: Write, K: KeepsPositions> Lines<'a, W, K> {
     }
 }
 
-impl<W: Write, K: KeepsPositions> WriteJs for Lines<'_, W, K> {
+impl<W: Write> WriteJs for JsWriter<'_, W> {
     ghost use Rattle.swc_ecma_codegen_text_writer.specs.View.{sheet_of};
 
     ghost sheet = { sheet_of };
@@ -399,96 +243,95 @@ impl<W: Write, K: KeepsPositions> WriteJs for Lines<'_, W, K> {
         self.answer(answer)
     }
 
-    #[tactic(auto, unfolding(crate::specs::Sheet::effect), using(crate::proofs::Steps::semicolon_at_once))]
-    fn write_semi(&mut self, span: Option<Span>) -> Result {
-        let answer = self.write(span, ";");
+    #[tactic(auto, unfolding(crate::specs::Sheet::effect))]
+    fn write_semi(&mut self, _span: Option<Span>) -> Result {
+        let answer = self.write(";");
         self.answer(answer)
     }
 
-    #[tactic(auto, unfolding(crate::specs::Sheet::effect), using(crate::proofs::Steps::text_at_once))]
+    #[tactic(auto, unfolding(crate::specs::Sheet::effect))]
     fn write_space(&mut self) -> Result {
-        let answer = self.write(None, " ");
+        let answer = self.write(" ");
         self.answer(answer)
     }
 
-    #[tactic(auto, unfolding(crate::specs::Sheet::effect), using(crate::proofs::Steps::text_at_once))]
-    fn write_keyword(&mut self, span: Option<Span>, s: &'static str) -> Result {
-        let answer = self.write(span, s);
+    #[tactic(auto, unfolding(crate::specs::Sheet::effect))]
+    fn write_keyword(&mut self, _span: Option<Span>, s: &'static str) -> Result {
+        let answer = self.write(s);
         self.answer(answer)
     }
 
-    #[tactic(auto, unfolding(crate::specs::Sheet::effect), using(crate::proofs::Steps::text_at_once))]
-    fn write_operator(&mut self, span: Option<Span>, s: &str) -> Result {
-        let answer = self.write(span, s);
+    #[tactic(auto, unfolding(crate::specs::Sheet::effect))]
+    fn write_operator(&mut self, _span: Option<Span>, s: &str) -> Result {
+        let answer = self.write(s);
         self.answer(answer)
     }
 
-    #[tactic(auto, unfolding(crate::specs::Sheet::effect), using(crate::proofs::Steps::text_at_once))]
+    #[tactic(auto, unfolding(crate::specs::Sheet::effect))]
     fn write_param(&mut self, s: &str) -> Result {
-        let answer = self.write(None, s);
+        let answer = self.write(s);
         self.answer(answer)
     }
 
-    #[tactic(auto, unfolding(crate::specs::Sheet::effect), using(crate::proofs::Steps::text_at_once))]
+    #[tactic(auto, unfolding(crate::specs::Sheet::effect))]
     fn write_property(&mut self, s: &str) -> Result {
-        let answer = self.write(None, s);
+        let answer = self.write(s);
         self.answer(answer)
     }
 
-    #[tactic(auto, unfolding(crate::specs::Sheet::effect), using(crate::proofs::Steps::line_at_once))]
     fn write_line(&mut self) -> Result {
         let answer = self.end_line();
         self.answer(answer)
     }
 
-    #[tactic(auto, unfolding(crate::specs::Sheet::effect), using(crate::proofs::Steps::literal_at_once))]
-    fn write_lit(&mut self, span: Span, s: &str) -> Result {
-        let answer = self.literal(span, s);
+    #[tactic(auto, unfolding(crate::specs::Sheet::effect))]
+    fn write_lit(&mut self, _span: Span, s: &str) -> Result {
+        let answer = self.write(s);
         self.answer(answer)
     }
 
-    #[tactic(auto, unfolding(crate::specs::Sheet::effect), using(crate::proofs::Steps::text_at_once))]
+    #[tactic(auto, unfolding(crate::specs::Sheet::effect))]
     fn write_comment(&mut self, s: &str) -> Result {
-        let answer = self.write(None, s);
+        let answer = self.write(s);
         self.answer(answer)
     }
 
-    #[tactic(auto, unfolding(crate::specs::Sheet::effect), using(crate::proofs::Steps::literal_at_once))]
-    fn write_str_lit(&mut self, span: Span, s: &str) -> Result {
-        let answer = self.literal(span, s);
+    #[tactic(auto, unfolding(crate::specs::Sheet::effect))]
+    fn write_str_lit(&mut self, _span: Span, s: &str) -> Result {
+        let answer = self.write(s);
         self.answer(answer)
     }
 
-    #[tactic(auto, unfolding(crate::specs::Sheet::effect), using(crate::proofs::Steps::text_at_once))]
+    #[tactic(auto, unfolding(crate::specs::Sheet::effect))]
     fn write_str(&mut self, s: &str) -> Result {
-        let answer = self.write(None, s);
+        let answer = self.write(s);
         self.answer(answer)
     }
 
-    #[tactic(auto, unfolding(crate::specs::Sheet::effect), using(crate::proofs::Steps::text_at_once))]
-    fn write_symbol(&mut self, span: Span, s: &str) -> Result {
-        let answer = self.write(Some(span), s);
+    #[tactic(auto, unfolding(crate::specs::Sheet::effect))]
+    fn write_symbol(&mut self, _span: Span, s: &str) -> Result {
+        let answer = self.write(s);
         self.answer(answer)
     }
 
-    #[tactic(auto, unfolding(crate::specs::Sheet::effect), using(crate::proofs::Steps::punct_at_once))]
-    fn write_punct(&mut self, span: Option<Span>, s: &'static str) -> Result {
-        let answer = self.write(span, s);
+    #[tactic(auto, unfolding(crate::specs::Sheet::effect))]
+    fn write_punct(&mut self, _span: Option<Span>, s: &'static str) -> Result {
+        let answer = self.write(s);
         self.answer(answer)
     }
 
     #[tactic(auto, unfolding(crate::specs::View::sheet_of))]
     fn care_about_srcmap(&self) -> bool {
-        self.kept.is_kept()
+        false
     }
 
     #[tactic(auto, unfolding(crate::specs::Sheet::effect))]
-    fn add_srcmap(&mut self, pos: BytePos) -> Result {
-        let answer = self.point(pos);
+    fn add_srcmap(&mut self, _pos: BytePos) -> Result {
+        let answer = self.nothing();
         self.answer(answer)
     }
 
-    #[tactic(auto, unfolding(crate::specs::Sheet::effect), using(crate::proofs::Steps::settled_at_once))]
+    #[tactic(auto, unfolding(crate::specs::Sheet::effect))]
     fn commit_pending_semi(&mut self) -> Result {
         let answer = self.nothing();
         self.answer(answer)

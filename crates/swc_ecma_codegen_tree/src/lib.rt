@@ -7,7 +7,6 @@
 
 mod classes;
 mod decls;
-mod drops;
 mod expr_links;
 mod expr_parts;
 mod exprs;
