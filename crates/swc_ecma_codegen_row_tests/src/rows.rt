@@ -1,5 +1,6 @@
 //! What the words of the rows ask.
 
+use crate::depths::have_text;
 use crate::fields::{bytes, fields, json, script};
 use crate::looks::look;
 use crate::nestings::are_printed;
@@ -27,6 +28,9 @@ fn answer(alloc: Global, steps: &[Step], line: &str) -> Result<bool, AllocError>
         }
         [word, short, text] => of_text(alloc, word, short, text),
         [word, _, _, _] if is_step(word) => Ok(true),
+        [word, kind, levels, text] if word.as_str() == "deep" => {
+            Ok(have_text(alloc, kind, levels, text))
+        }
         [word, words, pretty, minified] => of_steps(alloc, steps, word, words, [pretty, minified]),
         [word, outer, place, pretty, minified] if word.as_str() == "nestings" => {
             are_printed(alloc, steps, [outer, place], [pretty, minified])
