@@ -28,6 +28,8 @@ returns-in_ok-writer-clause-text c =
     let options = c.args.options in
     let all : c.into_inner-then-options.result.items ≡ (sheet_of c.into_inner.result).text = ap told (c.into_inner-then-options.ensures.text refl) in
     let under : (sheet_of c.into_inner.result).text ≡ (sheet_of c.in_ok-writer.writer.inner).text = ap (λ (s : Sheet). s.text) c.into_inner.ensures.sheet in
-    let begun : with_held c.omit_trailing_semi.result.pending (sheet_of c.omit_trailing_semi.result.inner) ≡ sheet_for options =
+    let held : Sheet = with_held c.omit_trailing_semi.result.pending (sheet_of c.omit_trailing_semi.result.inner) in
+    let begun : held ≡ sheet_for options =
     c.omit_trailing_semi.ensures ∙ ap (λ (s : Sheet). record s { semicolons = HoldsNone }) c.new_writer-writer.ensures ∙ ap (λ minify. with_semicolons minify (with_positions options.positions blank_sheet)) (sym c.if-options.true) in
-    all ∙ under ∙ ap (λ (s : Sheet). s.text) c.in_ok-writer.ensures.sheet ∙ ap (λ config. (printed part (start config (with_held c.omit_trailing_semi.result.pending (sheet_of c.omit_trailing_semi.result.inner)))).sheet.text) c.settings.ensures ∙ ap (λ s. (printed part (start (settings_of options) s)).sheet.text) begun
+    let end : (sheet_of c.in_ok-writer.writer.inner).text ≡ (printed part (start c.settings-config.result held)).sheet.text = ap (λ (s : Sheet). s.text) c.in_ok-writer.ensures.sheet in
+    all ∙ under ∙ end ∙ ap (λ config. (printed part (start config held)).sheet.text) c.settings-config.ensures ∙ ap (λ s. (printed part (start (settings_of options) s)).sheet.text) begun
