@@ -1,4 +1,4 @@
-use Rattle.std.proofs.Common.{◌≡◌, ◌⊎◌, Bool, true, false, List, ℕ, Result, Ok, Err, refl, subst}
+use Rattle.std.proofs.Common.{◌≡◌, ◌⊎◌, Bool, true, false, Result, Ok, Err, refl, subst}
 use Rattle.swc_ecma_codegen_tool.specs.Prints.{AddsText, AddsFrontOfText}
 use Rattle.swc_ecma_codegen_tool.specs.Words.{are_options, options_of}
 use Rattle.swc_ecma_codegen_tool.specs.declared.words.Options.{Options}
