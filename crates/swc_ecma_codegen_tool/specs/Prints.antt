@@ -1,10 +1,11 @@
 -- What a run writes.
-use Rattle.std.specs.Prelude.{◌≡◌, ℕ, List, Option}
+use Rattle.std.specs.Prelude.{◌≡◌, ℕ, Bool, true, false, List, [], Option}
 use Rattle.std.specs.Io.KnownBytes.{Appends}
 use Rattle.swc_ecma_codegen_text_writer.specs.Told.{IsFront}
 use Rattle.swc_ecma_codegen_tree.specs.declared.links.AnyNode.{AnyNode}
 use Rattle.swc_ecma_codegen_tree.specs.declared.programs.Program.{Program}
-use Rattle.swc_ecma_codegen_text_writer.specs.Sheet.{Sheet}
+use Rattle.swc_ecma_codegen_text_writer.specs.Sheet.{Sheet, HoldsNone}
+use Rattle.swc_ecma_codegen_text_writer.specs.View.{keeping}
 use Rattle.swc_ecma_codegen_base.specs.Run.{Part, printed, start}
 use Rattle.swc_ecma_codegen.specs.Programs.{program}
 use Rattle.swc_ecma_codegen.specs.Texts.{blank_sheet}
@@ -12,9 +13,20 @@ use Rattle.swc_ecma_codegen.specs.Tree.{any_items}
 use Rattle.swc_ecma_codegen_tool.specs.declared.words.Options.{Options}
 use Rattle.swc_ecma_codegen_tool.specs.Words.{settings_of}
 
--- the sheet on which a text is made: a new one, whose lines end with LF
+-- a sheet where positions are kept, none yet, if that is asked for
+unfoldable pub with_positions : Bool → Sheet → Sheet
+with_positions true s = keeping [] s
+with_positions false s = s
+
+-- a sheet where semicolons are held back, none yet, if that is asked for: then `{a;}` is written `{a}`
+unfoldable pub with_semicolons : Bool → Sheet → Sheet
+with_semicolons true s = record s { semicolons = HoldsNone }
+with_semicolons false s = s
+
+-- the sheet on which a text is made: a new one, whose lines end with LF. `--positions` keeps positions there, and
+-- `--minify` holds semicolons back.
 abbrev pub sheet_for : Options → Sheet
-sheet_for options = blank_sheet
+sheet_for options = with_semicolons options.minify (with_positions options.positions blank_sheet)
 
 -- the text of a part, as the options ask for it
 unfoldable pub text_with : Options → Part → List ℕ
