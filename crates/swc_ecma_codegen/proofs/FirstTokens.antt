@@ -16,6 +16,7 @@ use Rattle.swc_ecma_codegen_tree.specs.declared.stmts.Stmt.{Stmt}
 use Rattle.swc_ecma_codegen_tree.specs.declared.stmts.Stmt.TheVariants as stmts
 use Rattle.swc_ecma_codegen_ast.specs.Tokens.{Token}
 use Rattle.swc_ecma_codegen_ast.specs.Tokens as tokens
+use Rattle.swc_ecma_codegen_common.specs.declared.positions.BytePos.{BytePos}
 use Rattle.swc_ecma_codegen_ast.specs.Phrases.{Phrase, Never, One, NameOf, Then, Generates, ◌>◌, mark}
 use Rattle.swc_ecma_codegen_ast.specs.Phrases as phrases
 use Rattle.swc_ecma_codegen_ast.specs.declared.roles.Role.{Role}
@@ -73,9 +74,9 @@ begins_true : (x : Token) → Begins (One x) true
 unfolding Generates
 begins_true x = record { some = λ k. nothing_first x [] k; told = λ y ys k j. refl }
 
-begins_name : (bytes : List ℕ) → Begins (NameOf bytes) true
+begins_name : (at : BytePos) (bytes : List ℕ) → Begins (NameOf at bytes) true
 unfolding Generates
-begins_name bytes = record { some = λ k. nothing_first _ [] k; told = λ y ys k j. refl }
+begins_name at bytes = record { some = λ k. nothing_first _ [] k; told = λ y ys k j. refl }
 
 begins_never : (b : Bool) → Begins Never b
 unfolding Generates
@@ -113,7 +114,7 @@ expr_begins reads starts law (exprs.Bin n) = begins_then _ _ _ (law n.left.node.
 expr_begins reads starts law (exprs.Member n) = law n.node.value MemberExpression
 expr_begins reads starts law (exprs.Cond n) = begins_then _ _ _ (law n.test.node.value Expression)
 expr_begins reads starts law (exprs.Seq n) = seq_begins reads starts law n.exprs.items
-expr_begins reads starts law (exprs.Ident n) = begins_then _ _ _ (begins_name _)
+expr_begins reads starts law (exprs.Ident n) = begins_then _ _ _ (begins_name _ _)
 expr_begins reads starts law (exprs.Paren n) = begins_then _ _ _ (begins_mark _ false)
 expr_begins reads starts law n = begins_never _
 

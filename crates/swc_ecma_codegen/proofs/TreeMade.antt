@@ -1,5 +1,5 @@
 -- When the emission of a tree is made.
-use Rattle.std.proofs.Common.{◌≡◌, inl, ℕ, ◌^◌, ◌<◌, true, false, [], refl, sym, ◌∙◌, subst, List, ◌∷◌, Option, Some, Result, None, IsOk, arith}
+use Rattle.std.proofs.Common.{◌≡◌, ◌⊎◌, inl, inr, ℕ, ◌^◌, ◌<◌, true, false, [], refl, sym, ◌∙◌, subst, List, ◌∷◌, Option, Some, Result, None, IsOk, arith}
 use Rattle.std.proofs.lemmas.Bool.{true≢false}
 use Rattle.swc_ecma_codegen_common.specs.declared.errors.Error.{Error}
 use Rattle.swc_ecma_codegen_common.specs.Refusals.{in_short}
@@ -12,7 +12,7 @@ use Rattle.swc_ecma_codegen_ast.specs.TreePhrases.{program_phrase}
 use Rattle.swc_ecma_codegen_util.specs.declared.config.Config.{Config}
 use Rattle.swc_ecma_codegen_util.specs.Defaults.{default_config}
 use Rattle.swc_ecma_codegen_text_writer.specs.View.{new_sheet}
-use Rattle.swc_ecma_codegen_base.specs.Run.{Env, Part, State, nothing, unprintable_in, Follows, HasCause, start, steps_in}
+use Rattle.swc_ecma_codegen_base.specs.Run.{Env, Part, State, nothing, unprintable_in, Follows, HasCause, PassesLimit, IsTooFar, start, steps_in, steps_of}
 use Rattle.swc_ecma_codegen_base.specs.declared.refusals.Unprintable.{Unprintable}
 use Rattle.swc_ecma_codegen_base.specs.Ready.{token_count, IsPlainTree, IsReady}
 use Rattle.swc_ecma_codegen_base.specs.Written.{ReadsAs}
@@ -40,20 +40,25 @@ program_made n a b r t s e h = root_made (OfProgram n) _ a b r refl t s e h
 
 -- a new emitter over a new writer
 pub new_is_ready : (config : Config) (bytes line_end : List ℕ) → IsReady (start config (new_sheet bytes line_end))
-new_is_ready config bytes line_end = record { none_failed = refl; none_refused = refl; no_memory = refl; leaves_out = refl; can_count = omega arith }
+new_is_ready config bytes line_end = record { none_failed = refl; none_refused = refl; no_memory = refl; no_positions = refl; leaves_out = refl; can_count = omega arith }
 
 -- ---- a text in memory
 
-pub code_reads : (n : Root) (p : Part) → p ≡ root_items n → is_well_formed_root n ≡ true → ReadsAs (root_phrase n) (text_of p)
+pub code_reads : (n : Root) (p : Part) → p ≡ root_items n → is_well_formed_root n ≡ true → ReadsAs false (root_phrase n) (text_of p)
 code_reads n p same w =
     let a : State = start default_config blank_sheet in
-    whole_reads (root_phrase n) (text_of p) (steps_read p (root_phrase n) a (new_is_new default_config [] (10 ∷ []) (inl refl)) (part_prints n p a.env refl same) w)
+    whole_reads false (root_phrase n) (text_of p) (steps_read p (root_phrase n) a (new_is_new default_config [] (10 ∷ []) (inl refl)) (part_prints n p a.env refl same) w)
 
 root_printable : (n : Root) (p : Part) → p ≡ root_items n → is_well_formed_root n ≡ true → unprintable_in (steps_in p (start default_config blank_sheet)) ≡ None
 root_printable n p same w = let a : State = start default_config blank_sheet in printable p (root_phrase n) a.env (part_prints n p a.env refl same) w
 
 no_refusal : (r : Unprintable) → ◌≡◌ {A = Option Unprintable} (Some r) None → ⊥
 no_refusal r h = absurd (cc)
+
+-- it comes to no limit, and keeps no position
+no_limit : (n : Root) (p : Part) → p ≡ root_items n → is_well_formed_root n ≡ true → token_count (root_phrase n) < 2 ^ 32 → (b : State) → PassesLimit (steps_of (steps_in p (start default_config blank_sheet))) (start default_config blank_sheet) ⊎ IsTooFar (start default_config blank_sheet) b → ⊥
+no_limit n p same w room b (inl h) = within p (root_phrase n) (start default_config blank_sheet) (part_prints n p _ refl same) w (omega (arith, room)) h
+no_limit n p same w room b (inr h) = true≢false (sym h.0)
 
 -- of a well-formed tree memory alone can be wanting, besides the writer
 pub code_cause : (n : Root) (p : Part) (error : Error) → p ≡ root_items n → is_well_formed_root n ≡ true → token_count (root_phrase n) < 2 ^ 32 → GivesCause p (start default_config blank_sheet) error → (IsOfWriter error → ⊥) → error ≡ OutOfMemory
@@ -63,5 +68,5 @@ code_cause n p OutOfMemory same w room h not_writer = refl
 code_cause n p UnsupportedNode same w room h not_writer = absurd (no_refusal _ (sym h.1.refusal ∙ root_printable n p same w))
 code_cause n p BadShape same w room h not_writer = absurd (no_refusal _ (sym h.1.refusal ∙ root_printable n p same w))
 code_cause n p NameOutOfTarget same w room h not_writer = absurd (no_refusal _ (sym h.1.refusal ∙ root_printable n p same w))
-code_cause n p PositionTooLarge same w room h not_writer = absurd (within p (root_phrase n) (start default_config blank_sheet) (part_prints n p _ refl same) w (omega (arith, room)) h.1)
+code_cause n p PositionTooLarge same w room h not_writer = absurd (no_limit n p same w room h.0 h.1)
 code_cause n p Failed same w room h not_writer = absurd (true≢false (sym h.1))

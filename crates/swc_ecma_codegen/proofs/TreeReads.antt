@@ -12,7 +12,8 @@ use Rattle.swc_ecma_codegen_util.specs.declared.config.Config.{Config}
 use Rattle.swc_ecma_codegen_text_writer.specs.View.{new_sheet}
 use Rattle.swc_ecma_codegen_base.specs.Run.{Env, Part, State, nothing, Follows, start, remakes_name, steps_of, steps_in}
 use Rattle.swc_ecma_codegen_base.specs.Escapes.{escapes_name}
-use Rattle.swc_ecma_codegen_base.specs.Written.{IsLineEnd, IsNew, AddsReading, all_indent, is_indent}
+use Rattle.swc_ecma_codegen_text_writer.specs.Sheet.{HoldsNone}
+use Rattle.swc_ecma_codegen_base.specs.Written.{IsLineEnd, IsNew, AddsReading, all_indent, is_indent, holds_one}
 use Rattle.swc_ecma_codegen_base.proofs.Short.{on_ok_in_short}
 use Rattle.swc_ecma_codegen_base.proofs.Phrased.{Prints, printed_reads, printed_remakes}
 use Rattle.swc_ecma_codegen.specs.declared.nodes.Place.TheVariants.{Plain}
@@ -32,13 +33,13 @@ root_prints env e (OfProgram n) = program_prints (known env e) n
 root_prints env e (OfLink n role) = prints env e n Plain role
 
 -- whatever the root is, and whatever refers to it
-pub root_reads : (n : Root) (p : Part) (a b : State) (r : Result (Unit {0}) Error) → p ≡ root_items n → is_well_formed_root n ≡ true → IsNew a → Follows (p nothing) a b (in_short r) → OnOk r (AddsReading (root_phrase n) a.sheet.text b.sheet.text)
+pub root_reads : (n : Root) (p : Part) (a b : State) (r : Result (Unit {0}) Error) → p ≡ root_items n → is_well_formed_root n ≡ true → IsNew a → Follows (p nothing) a b (in_short r) → OnOk r (AddsReading (root_phrase n) a.sheet b.sheet)
 root_reads n p a b r same w s h = on_ok_in_short _ r (printed_reads p (root_phrase n) a b (in_short r) s (subst (λ z. Prints a.env z (root_phrase n)) (sym same) (root_prints a.env s.leaves_out n)) w h)
 
-pub script_reads : (n : Script AnyNode) (a b : State) (r : Result (Unit {0}) Error) → is_well_formed (a_script n) ≡ true → IsNew a → Follows (programs.script any_items n nothing) a b (in_short r) → OnOk r (AddsReading (program_phrase (a_script n)) a.sheet.text b.sheet.text)
+pub script_reads : (n : Script AnyNode) (a b : State) (r : Result (Unit {0}) Error) → is_well_formed (a_script n) ≡ true → IsNew a → Follows (programs.script any_items n nothing) a b (in_short r) → OnOk r (AddsReading (program_phrase (a_script n)) a.sheet b.sheet)
 script_reads n a b r w s h = root_reads (OfScript n) _ a b r refl w s h
 
-pub program_reads : (n : Program AnyNode) (a b : State) (r : Result (Unit {0}) Error) → is_well_formed n ≡ true → IsNew a → Follows (programs.program any_items n nothing) a b (in_short r) → OnOk r (AddsReading (program_phrase n) a.sheet.text b.sheet.text)
+pub program_reads : (n : Program AnyNode) (a b : State) (r : Result (Unit {0}) Error) → is_well_formed n ≡ true → IsNew a → Follows (programs.program any_items n nothing) a b (in_short r) → OnOk r (AddsReading (program_phrase n) a.sheet b.sheet)
 program_reads n a b r w s h = root_reads (OfProgram n) _ a b r refl w s h
 
 -- which names are made anew
@@ -46,8 +47,13 @@ pub root_remakes : (n : Root) (s : State) → is_well_formed_root n ≡ true →
 root_remakes n s w e = printed_remakes (root_items n) (root_phrase n) s.env (root_prints s.env e n) w
 
 pub new_is_new : (config : Config) (bytes line_end : List ℕ) → IsLineEnd line_end → IsNew (start config (new_sheet bytes line_end))
-unfolding all_indent is_indent
-new_is_new config bytes line_end h = record { nothing_written = refl; indent_text = refl; line_end = h; leaves_out = refl }
+unfolding all_indent is_indent holds_one
+new_is_new config bytes line_end h = record { nothing_written = refl; nothing_held = refl; indent_text = refl; line_end = h; leaves_out = refl }
 
 pub indented_is_new : (config : Config) (bytes line_end indent : List ℕ) → IsLineEnd line_end → all_indent indent ≡ true → IsNew (start config (record (new_sheet bytes line_end) { indent_text = indent }))
-indented_is_new config bytes line_end indent h k = record { nothing_written = refl; indent_text = k; line_end = h; leaves_out = refl }
+unfolding holds_one
+indented_is_new config bytes line_end indent h k = record { nothing_written = refl; nothing_held = refl; indent_text = k; line_end = h; leaves_out = refl }
+
+pub holding_is_new : (config : Config) (bytes line_end : List ℕ) → IsLineEnd line_end → IsNew (start config (record (new_sheet bytes line_end) { semicolons = HoldsNone }))
+unfolding all_indent is_indent holds_one
+holding_is_new config bytes line_end h = record { nothing_written = refl; nothing_held = refl; indent_text = refl; line_end = h; leaves_out = refl }

@@ -99,7 +99,7 @@ impl<'a, W: WriteJs, S: SourceMapper, C: Comments> Emitter<'a, W, S, C> {
         // The steps of the tree are made, and it comes to no node that can't be printed; or it halts.
         ensures items { Follows (program any_items node.now nothing) (state_of W.sheet self.old) (state_of W.sheet self.new) (in_short result) }
         // What a new emitter adds to the text, of a well-formed tree, reads as one of the tree's token lists.
-        ensures reads { is_well_formed node.now ≡ true → IsNew (state_of W.sheet self.old) → OnOk result (AddsReading (program_phrase node.now) (W.sheet self.old.wr).text (W.sheet self.new.wr).text) }
+        ensures reads { is_well_formed node.now ≡ true → IsNew (state_of W.sheet self.old) → OnOk result (AddsReading (program_phrase node.now) (W.sheet self.old.wr) (W.sheet self.new.wr)) }
         // What is out is a beginning of the text of these steps.
         ensures front { IsFront (W.sheet self.new.wr).text (printed (program any_items node.now) (state_of W.sheet self.old)).sheet.text }
         // It is refused only for the cause that the error names.
@@ -127,7 +127,7 @@ impl<'a, W: WriteJs, S: SourceMapper, C: Comments> Emitter<'a, W, S, C> {
         // The steps of the tree are made, and it comes to no node that can't be printed; or it halts.
         ensures items { Follows (script any_items node.now nothing) (state_of W.sheet self.old) (state_of W.sheet self.new) (in_short result) }
         // What a new emitter adds to the text, of a well-formed tree, reads as one of the tree's token lists.
-        ensures reads { is_well_formed (Program.Script node.now) ≡ true → IsNew (state_of W.sheet self.old) → OnOk result (AddsReading (program_phrase (Program.Script node.now)) (W.sheet self.old.wr).text (W.sheet self.new.wr).text) }
+        ensures reads { is_well_formed (Program.Script node.now) ≡ true → IsNew (state_of W.sheet self.old) → OnOk result (AddsReading (program_phrase (Program.Script node.now)) (W.sheet self.old.wr) (W.sheet self.new.wr)) }
         // What is out is a beginning of the text of these steps.
         ensures front { IsFront (W.sheet self.new.wr).text (printed (script any_items node.now) (state_of W.sheet self.old)).sheet.text }
         // It is refused only for the cause that the error names.

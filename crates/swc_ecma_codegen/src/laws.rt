@@ -10,6 +10,7 @@ ghost use Rattle.swc_ecma_codegen_util.specs.declared.config.Config.{Config};
 ghost use Rattle.swc_ecma_codegen_ast.specs.Tokens.{Token};
 ghost use Rattle.swc_ecma_codegen_ast.specs.Phrases.{Generates, is_possible};
 ghost use Rattle.swc_ecma_codegen_ast.specs.TreePhrases.{expr_phrase, stmt_phrase};
+ghost use Rattle.swc_ecma_codegen_text_writer.specs.Sheet.{HoldsNone};
 ghost use Rattle.swc_ecma_codegen_text_writer.specs.View.{new_sheet};
 ghost use Rattle.swc_ecma_codegen_base.specs.Run.{Follows, State, nothing, remakes_name, start, steps_in, steps_of};
 ghost use Rattle.swc_ecma_codegen_base.specs.Written.{IsLineEnd, IsNew, AddsReading, all_indent};
@@ -49,7 +50,7 @@ pub fn emitted_expr_reads<W: WriteJs, S: SourceMapper, C: Comments>(
 ) -> Result
     // It is what `emit_with` does.
     ensures items { Follows (expr_items any_answers any_items expr.now Plain nothing) (state_of W.sheet e.old) (state_of W.sheet e.new) (in_short result) }
-    ensures reads { is_possible (expr_phrase expr.now) ≡ true → IsNew (state_of W.sheet e.old) → OnOk result (AddsReading (expr_phrase expr.now) (W.sheet e.old.wr).text (W.sheet e.new.wr).text) }
+    ensures reads { is_possible (expr_phrase expr.now) ≡ true → IsNew (state_of W.sheet e.old) → OnOk result (AddsReading (expr_phrase expr.now) (W.sheet e.old.wr) (W.sheet e.new.wr)) }
 {
     expr.emit_with(e)
 }
@@ -61,15 +62,16 @@ pub fn emitted_stmt_reads<W: WriteJs, S: SourceMapper, C: Comments>(
 ) -> Result
     // It is what `emit_with` does.
     ensures items { Follows (stmt_items any_answers any_items stmt.now nothing) (state_of W.sheet e.old) (state_of W.sheet e.new) (in_short result) }
-    ensures reads { is_possible (stmt_phrase stmt.now) ≡ true → IsNew (state_of W.sheet e.old) → OnOk result (AddsReading (stmt_phrase stmt.now) (W.sheet e.old.wr).text (W.sheet e.new.wr).text) }
+    ensures reads { is_possible (stmt_phrase stmt.now) ≡ true → IsNew (state_of W.sheet e.old) → OnOk result (AddsReading (stmt_phrase stmt.now) (W.sheet e.old.wr) (W.sheet e.new.wr)) }
 {
     stmt.emit_with(e)
 }
 
 /// A new emitter over a new `JsWriter`, whose lines end with LF or with CR and LF, is one that these laws speak of; and
-/// after `set_indent_str` of blanks and tabs. It is ready, whatever its lines end with.
+/// after `set_indent_str` of blanks and tabs, and inside `omit_trailing_semi`. It is ready, whatever its lines end with.
 pub fn new_emitter_reads()
     ensures new { (config : Config) (bytes line_end : List ℕ) → IsLineEnd line_end → IsNew (start config (new_sheet bytes line_end)) }
+    ensures holding { (config : Config) (bytes line_end : List ℕ) → IsLineEnd line_end → IsNew (start config (record (new_sheet bytes line_end) { semicolons = HoldsNone })) }
     ensures ready { (config : Config) (bytes line_end : List ℕ) → IsReady (start config (new_sheet bytes line_end)) }
     ensures indented { (config : Config) (bytes line_end indent : List ℕ) → IsLineEnd line_end → all_indent indent ≡ true → IsNew (start config (record (new_sheet bytes line_end) { indent_text = indent })) }
 {}

@@ -32,7 +32,7 @@ pub trait Node: Spanned {
         // The steps of the tree are made, and it comes to no node that can't be printed; or it halts.
         ensures items { Follows (part self.now nothing) (state_of W.sheet e.old) (state_of W.sheet e.new) (in_short result) }
         // What a new emitter adds to the text, of a well-formed tree, reads as one of the tree's token lists.
-        ensures reads { (root : Root) → part self.now ≡ root_items root → is_well_formed_root root ≡ true → IsNew (state_of W.sheet e.old) → OnOk result (AddsReading (root_phrase root) (W.sheet e.old.wr).text (W.sheet e.new.wr).text) }
+        ensures reads { (root : Root) → part self.now ≡ root_items root → is_well_formed_root root ≡ true → IsNew (state_of W.sheet e.old) → OnOk result (AddsReading (root_phrase root) (W.sheet e.old.wr) (W.sheet e.new.wr)) }
         // What is out is a beginning of the text of these steps.
         ensures front { IsFront (W.sheet e.new.wr).text (printed (part self.now) (state_of W.sheet e.old)).sheet.text }
         // It is refused only for the cause that the error names.

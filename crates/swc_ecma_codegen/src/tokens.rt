@@ -1,4 +1,7 @@
 //! Calls of the lower emitter.
+//!
+//! Three of them are never inlined: each needs more of the stack than others, which would be part of the frames that are there
+//! once for each level of a tree.
 
 ghost use Rattle.std.specs.Prelude.{◌≡◌, Option, OnOk, true};
 ghost use Rattle.swc_ecma_codegen_literals.specs.Punctuators.{spelling};
@@ -46,6 +49,7 @@ impl<W: WriteJs, S, C: Comments> Emitter<'_, W, S, C> {
     }
 
     /// Writes an operator that is a word.
+    #[inline(never)]
     pub(crate) fn word_operator(&mut self, text: &'static str) -> Answer
         requires { begins_letter text.now ≡ true }
         ensures items { Emits (word_operator text.now) (state_of W.sheet self.old) (state_of W.sheet self.new) result }
@@ -63,6 +67,7 @@ impl<W: WriteJs, S, C: Comments> Emitter<'_, W, S, C> {
     }
 
     /// Writes a semicolon that may be left out where it isn't needed.
+    #[inline(never)]
     pub(crate) fn semi(&mut self) -> Answer
         ensures items { Emits (semi) (state_of W.sheet self.old) (state_of W.sheet self.new) result }
         ensures level { OnOk result ((W.sheet self.new.wr).indentation ≡ (W.sheet self.old.wr).indentation) }
@@ -87,6 +92,7 @@ impl<W: WriteJs, S, C: Comments> Emitter<'_, W, S, C> {
     }
 
     /// Ends the line, unless the settings are to minify.
+    #[inline(never)]
     pub(crate) fn formatting_line(&mut self) -> Answer
         ensures items { Emits (formatting_line) (state_of W.sheet self.old) (state_of W.sheet self.new) result }
         ensures level { OnOk result ((W.sheet self.new.wr).indentation ≡ (W.sheet self.old.wr).indentation) }

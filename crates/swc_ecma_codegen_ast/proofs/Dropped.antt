@@ -1,20 +1,32 @@
--- A semicolon that is left out before `}`, `;` or the end brings no two tokens together.
-use Rattle.std.proofs.Common.{Bool, List, [], ap, codes, cond, false, inl, inr, not, refl, subst, sym, true, ℕ, ◌&&◌, ◌++◌, ◌==◌, ◌||◌, ◌∙◌, ◌∷◌, ◌≡◌}
+-- A semicolon that is left out before `}`, `;` or the end brings no two tokens together, and what is left are the other
+-- tokens.
+use Rattle.std.proofs.Common.{Bool, List, [], ap, ap₂, codes, cond, false, inl, inr, not, refl, subst, sym, true, ℕ, ◌&&◌, ◌++◌, ◌==◌, ◌||◌, ◌∙◌, ◌∷◌, ◌≡◌}
 use Rattle.std.proofs.lemmas.Bool.{and_left, and_parts, and_right, cond-false, eqb-true, false_from_ne_true, not-true, or_cases, or_from, true≢false}
+use Rattle.swc_ecma_codegen_ast.proofs.HashbangShapes.{hashbang_head}
 use Rattle.swc_ecma_codegen_ast.proofs.Heads.{some_text}
+use Rattle.swc_ecma_codegen_ast.proofs.JsxShapes.{jsx_name_head, jsx_string_head}
+use Rattle.swc_ecma_codegen_ast.proofs.Marks.{punctuator_among}
+use Rattle.swc_ecma_codegen_ast.proofs.NameShapes.{name_head, private_head, starts_name, word_name}
+use Rattle.swc_ecma_codegen_ast.proofs.NumberShapes.{big_numeric, number_head, number_numeric}
 use Rattle.swc_ecma_codegen_ast.proofs.Reading.{reads}
-use Rattle.swc_ecma_codegen_ast.proofs.Tables.{each, each_begins}
-use Rattle.swc_ecma_codegen_ast.specs.Chars.{is_digit, is_letter, is_line_end, is_part}
+use Rattle.swc_ecma_codegen_ast.proofs.RegexShapes.{regex_head}
+use Rattle.swc_ecma_codegen_ast.proofs.StringShapes.{string_head}
+use Rattle.swc_ecma_codegen_ast.proofs.Tables.{blank_ne, each, each_at, each_begins}
+use Rattle.swc_ecma_codegen_ast.proofs.TemplateShapes.{template_head}
+use Rattle.swc_ecma_codegen_ast.specs.Chars.{begins_digit, is_blank, is_digit, is_letter, is_line_end, is_part, is_quote, is_start}
+use Rattle.swc_ecma_codegen_ast.specs.Endings.{IsAtEnd, IsReduced, ends, is_end}
 use Rattle.swc_ecma_codegen_ast.specs.GapRules.{Apart, IntegerEnd, Last, LessBang, LineEnd, Mark, MayBegin, Start, TagNameEnd, TextEnd, Whole, WordEnd, allows, ends_line, ends_text, fuses, grows, holds_child, last_after, last_after_gap, mark_after, mark_fuses}
+use Rattle.swc_ecma_codegen_ast.specs.Jsx.{is_jsx_open}
 use Rattle.swc_ecma_codegen_ast.specs.Numbers.{takes_dot}
 use Rattle.swc_ecma_codegen_ast.specs.Parts.{Gap, IsEnding, NoneFuse, Own, Part, Reduced, remarks_in, text_of, tokens_of}
 use Rattle.swc_ecma_codegen_ast.specs.Punctuators.{punctuators}
-use Rattle.swc_ecma_codegen_ast.specs.Reads.{Reads}
-use Rattle.swc_ecma_codegen_ast.specs.Texts.{begins, is_same}
-use Rattle.swc_ecma_codegen_ast.specs.Tokens.{has_shape}
-use Rattle.swc_ecma_codegen_ast.specs.Trivia.{Piece}
+use Rattle.swc_ecma_codegen_ast.specs.Reads.{Reads, is_child}
+use Rattle.swc_ecma_codegen_ast.specs.RegularExpressions.{is_regex}
+use Rattle.swc_ecma_codegen_ast.specs.Texts.{begins, is_among, is_same}
+use Rattle.swc_ecma_codegen_ast.specs.Tokens.{ending, has_shape, token_of, value_of}
+use Rattle.swc_ecma_codegen_ast.specs.Trivia.{Blank, BlockOf, LineOf, Piece, all_pieces, is_piece, piece_text, pieces_text}
 use Rattle.swc_ecma_codegen_ast.specs.declared.kinds.Kind.{Kind}
-use Rattle.swc_ecma_codegen_ast.specs.declared.kinds.Kind.TheVariants.{BigInt, Close, Hashbang, JsxName, JsxOpen, JsxString, JsxText, Name, Number, PrivateName, Punctuator, Regex, Str, Template, TemplateRest, Word}
+use Rattle.swc_ecma_codegen_ast.specs.declared.kinds.Kind.TheVariants.{BigInt, Close, Ending, Hashbang, JsxName, JsxOpen, JsxString, JsxText, Name, Number, PrivateName, Punctuator, Regex, Str, Template, TemplateRest, Word}
 
 -- `}` and `;` go on with no punctuator
 unfoldable tail_quiet : List ℕ → Bool
@@ -128,6 +140,7 @@ mark_ending (Mark m) c n h = cond-false (is_same m (codes "<") && ((c == 33) && 
 last_ending : (k l : Last) (y : Kind) (c : ℕ) (n : List ℕ) → ((c == 125) || (c == 59)) ≡ true → last_after l y (c ∷ n) ≡ last_after k y (c ∷ n)
 unfolding last_after
 last_ending k l Punctuator c n h = mark_ending l c n h ∙ sym (mark_ending k c n h)
+last_ending k l Ending c n h = mark_ending l c n h ∙ sym (mark_ending k c n h)
 last_ending k l JsxOpen c n h = mark_ending l c n h ∙ sym (mark_ending k c n h)
 last_ending k l Word c n h = refl
 last_ending k l Name c n h = refl
@@ -176,6 +189,8 @@ real_own : (k : Last) (x : Kind) (t : List ℕ) → has_shape x t ≡ true → I
 unfolding last_after IsReal
 real_own k Punctuator [] h = absurd (some_text Punctuator h)
 real_own k Punctuator (c ∷ n) h = real_mark k c n
+real_own k Ending [] h = absurd (some_text Ending h)
+real_own k Ending (c ∷ n) h = real_mark k c n
 real_own k JsxOpen [] h = absurd (some_text JsxOpen h)
 real_own k JsxOpen (c ∷ n) h = real_mark k c n
 real_own k Number t h = real_number (takes_dot t)
@@ -234,12 +249,12 @@ drop_semi k (Own y (c ∷ n) ∷ xs) r a h e =
       subst (λ z. NoneFuse z xs) (last_ending k (mark_after k (codes ";")) y c n i) h.4,
     )
 
-semi_parts : (k : Last) (x : Kind) (t : List ℕ) (xs : List Part) → Own x t ≡ Own Punctuator (codes ";") → (allows k t ≡ true) → NoneFuse (last_after k x t) xs → (allows k (codes ";") ≡ true) × NoneFuse (mark_after k (codes ";")) xs
+semi_parts : (k : Last) (x : Kind) (t : List ℕ) (xs : List Part) → Own x t ≡ Own Ending (codes ";") → (allows k t ≡ true) → NoneFuse (last_after k x t) xs → (allows k (codes ";") ≡ true) × NoneFuse (mark_after k (codes ";")) xs
 unfolding last_after
 semi_parts k x t xs e a h =
-    let f : x ≡ Punctuator = cc e in
+    let f : x ≡ Ending = cc e in
     let g : t ≡ codes ";" = cc e in
-    (subst (λ z. allows k z ≡ true) g a, subst (λ z. NoneFuse (last_after k Punctuator z) xs) g (subst (λ z. NoneFuse (last_after k z t) xs) f h))
+    (subst (λ z. allows k z ≡ true) g a, subst (λ z. NoneFuse (last_after k Ending z) xs) g (subst (λ z. NoneFuse (last_after k z t) xs) f h))
 
 reduced_fuses : (xs ys : List Part) (k : Last) → IsReal k → NoneFuse k xs → Reduced xs ys → NoneFuse k ys
 unfolding NoneFuse Reduced
@@ -259,6 +274,123 @@ start_is_real : IsReal Start
 unfolding IsReal
 start_is_real = tt
 
+-- no two of what is left become one
+pub none_fuse_reduced : (xs ys : List Part) → NoneFuse Start xs → Reduced xs ys → NoneFuse Start ys
+none_fuse_reduced xs ys h e = reduced_fuses xs ys Start start_is_real h e
+
 -- what is left reads as the tokens that are left
 pub reads_reduced : (xs ys : List Part) → NoneFuse Start xs → Reduced xs ys → Reads (text_of ys) (tokens_of ys) (remarks_in ys)
-reads_reduced xs ys h e = reads ys (reduced_fuses xs ys Start start_is_real h e)
+reads_reduced xs ys h e = reads ys (none_fuse_reduced xs ys h e)
+
+-- ---- the tokens that are left
+
+no_end : (P : ℕ → Bool) (c : ℕ) → ((c == 125) || (c == 59)) ≡ true → P c ≡ true → P 125 ≡ false → P 59 ≡ false → ⊥
+no_end P c i h a b = true≢false (sym h ∙ ending_ne P c i a b)
+
+-- no longer punctuator begins with `}` or `;`
+unfoldable is_lone : List ℕ → Bool
+is_lone p = not (begins (codes "}") p || begins (codes ";") p) || (is_same p (codes "}") || is_same p (codes ";"))
+
+lone_marks : each is_lone punctuators ≡ true
+unfolding each is_lone begins is_same punctuators
+lone_marks = refl
+
+mark_ends : (t : List ℕ) → is_among t punctuators ≡ true → (begins (codes "}") t || begins (codes ";") t) ≡ true → (is_same t (codes "}") || is_same t (codes ";")) ≡ true
+unfolding is_lone
+mark_ends t h e =
+    elim (or_cases (not (begins (codes "}") t || begins (codes ";") t)) (is_same t (codes "}") || is_same t (codes ";")) (each_at is_lone t punctuators lone_marks h)) [
+      | inl n ↦ absurd (true≢false (sym e ∙ not-true _ n))
+      | inr s ↦ s
+    ]
+
+regex_begins : (c : ℕ) (n : List ℕ) → is_regex (c ∷ n) ≡ true → (c == 47) ≡ true
+regex_begins c n h = let r = regex_head (c ∷ n) h in let e : c ≡ 47 = cc r.2 in subst (λ z. (z == 47) ≡ true) (sym e) refl
+
+-- a token that stands after a semicolon, and begins with `}` or `;`
+token_ends : (x : Kind) (c : ℕ) (n : List ℕ) → has_shape x (c ∷ n) ≡ true → MayBegin (Mark (codes ";")) x → (begins (codes "}") (c ∷ n) || begins (codes ";") (c ∷ n)) ≡ true → ends (token_of x (c ∷ n)) ≡ true
+unfolding has_shape ends is_end token_of value_of starts_name is_start is_letter is_digit is_quote is_jsx_open is_among is_same is_child
+token_ends Punctuator c n h m e = mark_ends (c ∷ n) (punctuator_among (c ∷ n) h) e
+token_ends Ending c n h m e = refl
+token_ends (TemplateRest o) c n h m e = refl
+token_ends Word c n h m e = absurd (no_end starts_name c (ending_char c n e) (name_head c n (word_name (c ∷ n) h)) refl refl)
+token_ends Name c n h m e = absurd (no_end starts_name c (ending_char c n e) (name_head c n h) refl refl)
+token_ends PrivateName c n h m e = absurd (no_end (λ c. c == 35) c (ending_char c n e) (private_head c n h).0 refl refl)
+token_ends Number c n h m e = absurd (no_end (λ c. is_digit c || ((c == 46) && begins_digit n)) c (ending_char c n e) (number_head c n (number_numeric (c ∷ n) h)) refl refl)
+token_ends BigInt c n h m e = absurd (no_end (λ c. is_digit c || ((c == 46) && begins_digit n)) c (ending_char c n e) (number_head c n (big_numeric (c ∷ n) h)) refl refl)
+token_ends Str c n h m e = absurd (no_end is_quote c (ending_char c n e) (string_head c n h) refl refl)
+token_ends Regex c n h m e = absurd (no_end (λ c. c == 47) c (ending_char c n e) (regex_begins c n h) refl refl)
+token_ends (Template o) c n h m e = absurd (no_end (λ c. c == 96) c (ending_char c n e) (template_head o c n h) refl refl)
+token_ends Close c n h m e = absurd (no_end (λ c. is_same (c ∷ n) (codes ">")) c (ending_char c n e) h refl refl)
+token_ends JsxName c n h m e = absurd (no_end is_start c (ending_char c n e) (jsx_name_head c n h) refl refl)
+token_ends JsxString c n h m e = absurd (no_end is_quote c (ending_char c n e) (jsx_string_head c n h) refl refl)
+token_ends JsxText c n h m e = absurd (true≢false (sym (m.child refl) ∙ semi_holds_none))
+token_ends JsxOpen c n h m e = absurd (no_end (λ c. is_jsx_open (c ∷ n)) c (ending_char c n e) h refl refl)
+token_ends Hashbang c n h m e = absurd (no_end (λ c. c == 35) c (ending_char c n e) (hashbang_head c n h) refl refl)
+
+semi_token : (x : Kind) (t : List ℕ) → Own x t ≡ Own Ending (codes ";") → token_of x t ≡ ending
+unfolding token_of value_of ending
+semi_token x t e =
+    let f : x ≡ Ending = cc e in
+    let g : t ≡ codes ";" = cc e in
+    ap₂ token_of f g
+
+ends_after : (k : Last) (xs : List Part) → NoneFuse (mark_after k (codes ";")) xs → IsEnding xs → IsAtEnd (tokens_of xs)
+unfolding NoneFuse IsEnding IsAtEnd tokens_of
+ends_after k [] h e = tt
+ends_after k (Gap ps ∷ xs) h e = absurd e
+ends_after k (Own y [] ∷ xs) h e = absurd (some_text y h.0)
+ends_after k (Own y (c ∷ n) ∷ xs) h e = token_ends y c n h.0 (subst (λ z. MayBegin z y) (mark_ending k 59 [] refl) h.2) e
+
+reduced_tokens : (xs ys : List Part) (k : Last) → NoneFuse k xs → Reduced xs ys → IsReduced (tokens_of xs) (tokens_of ys)
+unfolding NoneFuse Reduced IsReduced tokens_of
+reduced_tokens [] ys k h e = ap tokens_of e
+reduced_tokens (Gap ps ∷ xs) ys k h (inl e) = subst (λ z. IsReduced (tokens_of xs) z) (sym (ap tokens_of e.1)) (reduced_tokens xs e.0 (last_after_gap k ps) h.3 e.2)
+reduced_tokens (Gap ps ∷ xs) ys k h (inr e) = absurd (cc e.0)
+reduced_tokens (Own x t ∷ xs) ys k h (inl e) = inl (tokens_of e.0, ap tokens_of e.1, reduced_tokens xs e.0 (last_after k x t) h.4 e.2)
+reduced_tokens (Own x t ∷ xs) ys k h (inr e) = inr (semi_token x t e.0, ends_after k xs (semi_parts k x t xs e.0 h.3 h.4).1 e.1, reduced_tokens xs ys (last_after k x t) h.4 e.2)
+
+-- what is left are the tokens but for some ending semicolons, which aren't needed where they stand
+pub tokens_reduced : (xs ys : List Part) → NoneFuse Start xs → Reduced xs ys → IsReduced (tokens_of xs) (tokens_of ys)
+tokens_reduced xs ys h e = reduced_tokens xs ys Start h e
+
+-- ---- laws of dropping
+
+-- nothing need be dropped
+pub reduced_same : (xs : List Part) → Reduced xs xs
+unfolding Reduced
+reduced_same [] = refl
+reduced_same (x ∷ xs) = inl (xs, refl, reduced_same xs)
+
+-- what stands before stays
+pub reduced_after : (zs xs ys : List Part) → Reduced xs ys → Reduced (zs ++ xs) (zs ++ ys)
+unfolding Reduced
+reduced_after [] xs ys h = h
+reduced_after (z ∷ zs) xs ys h = inl (zs ++ ys, refl, reduced_after zs xs ys h)
+
+text_goes_on : (ps : List Piece) → all_pieces ps ≡ true → ends_text (pieces_text ps) ≡ false
+unfolding ends_text all_pieces is_piece pieces_text piece_text
+text_goes_on [] h = refl
+text_goes_on (Blank c ∷ ps) h = blank_ne (λ c. (c == 123) || (c == 60)) c (and_parts (is_blank c) (all_pieces ps) h).0 refl refl refl refl
+text_goes_on (BlockOf t ∷ ps) h = refl
+text_goes_on (LineOf t c ∷ ps) h = refl
+
+-- where a gap may stand, nothing may
+end_for_gap : (k : Last) (ps : List Piece) → all_pieces ps ≡ true → allows k (pieces_text ps) ≡ true → allows k [] ≡ true
+unfolding allows ends_line begins
+end_for_gap Start ps h a = refl
+end_for_gap Apart ps h a = refl
+end_for_gap WordEnd ps h a = refl
+end_for_gap IntegerEnd ps h a = refl
+end_for_gap (Mark m) ps h a = refl
+end_for_gap LessBang ps h a = refl
+end_for_gap Whole ps h a = refl
+end_for_gap TextEnd ps h a = absurd (true≢false (sym a ∙ text_goes_on ps h))
+end_for_gap TagNameEnd ps h a = refl
+end_for_gap LineEnd ps h a = refl
+
+-- a gap at the end may go
+pub without_last_gap : (k : Last) (xs : List Part) (ps : List Piece) → NoneFuse k (xs ++ Gap ps ∷ []) → NoneFuse k xs
+unfolding NoneFuse
+without_last_gap k [] ps h = end_for_gap k ps h.0 h.2
+without_last_gap k (Gap qs ∷ xs) ps h = (h.0, h.1, h.2, without_last_gap (last_after_gap k qs) xs ps h.3)
+without_last_gap k (Own x t ∷ xs) ps h = (h.0, h.1, h.2, h.3, without_last_gap (last_after k x t) xs ps h.4)

@@ -4,7 +4,7 @@ use Rattle.std.proofs.lemmas.Bool.{and_parts, eqb-true, false_from_ne_true, or_c
 use Rattle.swc_ecma_codegen_ast.proofs.Conditions.{at_eq}
 use Rattle.swc_ecma_codegen_ast.proofs.HashbangShapes.{hashbang_head, some_hashbang}
 use Rattle.swc_ecma_codegen_ast.proofs.JsxShapes.{jsx_name_head, jsx_open_punctuator, jsx_string_head, some_jsx_name, some_jsx_string, some_jsx_text}
-use Rattle.swc_ecma_codegen_ast.proofs.Marks.{punctuator_among, some_punctuator}
+use Rattle.swc_ecma_codegen_ast.proofs.Marks.{ending_punctuator, punctuator_among, some_punctuator}
 use Rattle.swc_ecma_codegen_ast.proofs.NameShapes.{name_head, private_head, some_name, some_private, some_word, starts_name, word_name}
 use Rattle.swc_ecma_codegen_ast.proofs.NumberShapes.{big_numeric, number_head, number_numeric, some_number}
 use Rattle.swc_ecma_codegen_ast.proofs.RegexShapes.{some_regex}
@@ -24,7 +24,7 @@ use Rattle.swc_ecma_codegen_ast.specs.Templates.{is_template, is_template_rest}
 use Rattle.swc_ecma_codegen_ast.specs.Texts.{is_among, is_same}
 use Rattle.swc_ecma_codegen_ast.specs.Tokens.{has_shape}
 use Rattle.swc_ecma_codegen_ast.specs.declared.kinds.Kind.{Kind}
-use Rattle.swc_ecma_codegen_ast.specs.declared.kinds.Kind.TheVariants.{BigInt, Close, Hashbang, JsxName, JsxOpen, JsxString, JsxText, Name, Number, PrivateName, Punctuator, Regex, Str, Template, TemplateRest, Word}
+use Rattle.swc_ecma_codegen_ast.specs.declared.kinds.Kind.TheVariants.{BigInt, Close, Ending, Hashbang, JsxName, JsxOpen, JsxString, JsxText, Name, Number, PrivateName, Punctuator, Regex, Str, Template, TemplateRest, Word}
 use Rattle.swc_ecma_codegen_ast.specs.declared.kinds.TemplatePart.{TemplatePart}
 
 -- the first characters of what is no punctuator, regular expression or text between tags
@@ -123,6 +123,7 @@ head_of Word t h = Plain (name_plain t (word_name t h))
 head_of Name t h = Plain (name_plain t h)
 head_of PrivateName t h = Plain (private_plain t h)
 head_of Punctuator t h = AsMark (punctuator_among t h) (λ k. refl)
+head_of Ending t h = AsMark (punctuator_among t (ending_punctuator t h)) (λ k. refl)
 head_of Number t h = Plain (number_plain t (number_numeric t h))
 head_of BigInt t h = Plain (number_plain t (big_numeric t h))
 head_of Str t h = Plain (string_plain t h)
@@ -143,6 +144,7 @@ some_text Word h = some_word h
 some_text Name h = some_name h
 some_text PrivateName h = some_private h
 some_text Punctuator h = some_punctuator h
+some_text Ending h = true≢false (sym h)
 some_text Number h = some_number (number_numeric [] h)
 some_text BigInt h = some_number (big_numeric [] h)
 some_text Str h = some_string h

@@ -25,7 +25,7 @@ use Rattle.swc_ecma_codegen_ast.specs.Templates.{is_template_rest}
 use Rattle.swc_ecma_codegen_ast.specs.Texts.{begins, is_among, is_empty, is_same}
 use Rattle.swc_ecma_codegen_ast.specs.Tokens.{Attribute, Child, Closing, FirstLine, InTag, Ordinary, RegularExpression, TemplateTail, Token, goal, has_shape, token_of}
 use Rattle.swc_ecma_codegen_ast.specs.declared.kinds.Kind.{Kind}
-use Rattle.swc_ecma_codegen_ast.specs.declared.kinds.Kind.TheVariants.{BigInt, Close, Hashbang, JsxName, JsxOpen, JsxString, JsxText, Name, Number, PrivateName, Punctuator, Regex, Str, Template, TemplateRest, Word}
+use Rattle.swc_ecma_codegen_ast.specs.declared.kinds.Kind.TheVariants.{BigInt, Close, Ending, Hashbang, JsxName, JsxOpen, JsxString, JsxText, Name, Number, PrivateName, Punctuator, Regex, Str, Template, TemplateRest, Word}
 use Rattle.swc_ecma_codegen_ast.specs.declared.kinds.TemplatePart.{TemplatePart}
 
 -- ordinary tokens of one beginning are of one sort
@@ -374,6 +374,7 @@ longest k Word t rest s r = longest_name Word t rest refl refl s r.apart
 longest k Name t rest s r = longest_name Name t rest refl refl s r.apart
 longest k PrivateName t rest s r = longest_private PrivateName t rest refl refl s (λ n. true≢false (sym n)) r.apart
 longest k Punctuator t rest s r = longest_mark Punctuator t rest refl refl s (λ n. true≢false (sym n)) (mark_ready k t rest r)
+longest k Ending t rest s r = longest_mark Ending t rest refl refl s (λ n. true≢false (sym n)) (mark_ready k t rest r)
 longest k JsxOpen t rest s r = longest_mark JsxOpen t rest refl refl s (λ n. true≢false (sym n)) (mark_ready k t rest r)
 longest k Number t rest s r = longest_number Number t rest refl refl s r.apart
 longest k BigInt t rest s r = longest_number BigInt t rest refl refl s r.apart

@@ -4,7 +4,7 @@ use Rattle.std.proofs.Math.Seq.{drop-append-add, drop-append_seam, take-append-a
 use Rattle.std.proofs.lemmas.Bool.{and_from, and_parts, cases_lt, false_from_ne_true, lt-ltb, ltb-true, not-true, or_cases, or_from, or_left, or_parts, or_right, true≢false}
 use Rattle.std.proofs.lemmas.List.{length-append, length-drop, length-take-le, take-append-drop}
 use Rattle.swc_ecma_codegen_ast.proofs.Heads.{some_text}
-use Rattle.swc_ecma_codegen_ast.proofs.Marks.{opener_cases}
+use Rattle.swc_ecma_codegen_ast.proofs.Marks.{ending_punctuator, opener_cases}
 use Rattle.swc_ecma_codegen_ast.proofs.Reading.{no_trivia}
 use Rattle.swc_ecma_codegen_ast.proofs.Skips.{skipped, solid_no_piece}
 use Rattle.swc_ecma_codegen_ast.proofs.Tables.{eq_of_same, same_refl}
@@ -18,7 +18,7 @@ use Rattle.swc_ecma_codegen_ast.specs.Texts.{begins, is_among, is_same}
 use Rattle.swc_ecma_codegen_ast.specs.Tokens.{Attribute, Child, Closing, FirstLine, Goal, InTag, Ordinary, RegularExpression, TemplateTail, Token, goal, has_shape, token_of}
 use Rattle.swc_ecma_codegen_ast.specs.Trivia.{pieces_text, remarks_of}
 use Rattle.swc_ecma_codegen_ast.specs.declared.kinds.Kind.{Kind}
-use Rattle.swc_ecma_codegen_ast.specs.declared.kinds.Kind.TheVariants.{BigInt, Close, Hashbang, JsxName, JsxOpen, JsxString, JsxText, Name, Number, PrivateName, Punctuator, Regex, Str, Template, TemplateRest, Word}
+use Rattle.swc_ecma_codegen_ast.specs.declared.kinds.Kind.TheVariants.{BigInt, Close, Ending, Hashbang, JsxName, JsxOpen, JsxString, JsxText, Name, Number, PrivateName, Punctuator, Regex, Str, Template, TemplateRest, Word}
 use Rattle.swc_ecma_codegen_ast.specs.declared.kinds.TemplatePart.{TemplatePart}
 
 part_of : (holds : TemplatePart → Bool) (t o : Bool) → holds (record { tagged = t; opens = o }) ≡ true → some_part holds ≡ true
@@ -39,6 +39,10 @@ some_part_from holds h =
       | inr a ↦ elim (or_cases (holds (record { tagged = true; opens = false })) (holds (record { tagged = true; opens = true })) a) [ inl x ↦ (record { tagged = true; opens = false }, x) | inr x ↦ (record { tagged = true; opens = true }, x) ]
     ]
 
+ending_shape : (t : List ℕ) → has_shape Ending t ≡ true → some_shape Ordinary t ≡ true
+unfolding some_shape has_shape
+ending_shape t h = or_right (has_shape Word t) _ (or_right (has_shape Name t) _ (or_right (has_shape PrivateName t) _ (or_left (has_shape Punctuator t) _ (ending_punctuator t h))))
+
 -- a token of a kind is one of its goal
 pub some_shape_of : (k : Kind) (t : List ℕ) → has_shape k t ≡ true → some_shape (goal k) t ≡ true
 unfolding goal some_shape
@@ -46,6 +50,7 @@ some_shape_of Word t h = or_left (has_shape Word t) _ h
 some_shape_of Name t h = or_right (has_shape Word t) _ (or_left (has_shape Name t) _ h)
 some_shape_of PrivateName t h = or_right (has_shape Word t) _ (or_right (has_shape Name t) _ (or_left (has_shape PrivateName t) _ h))
 some_shape_of Punctuator t h = or_right (has_shape Word t) _ (or_right (has_shape Name t) _ (or_right (has_shape PrivateName t) _ (or_left (has_shape Punctuator t) _ h)))
+some_shape_of Ending t h = ending_shape t h
 some_shape_of Number t h = or_right (has_shape Word t) _ (or_right (has_shape Name t) _ (or_right (has_shape PrivateName t) _ (or_right (has_shape Punctuator t) _ (or_left (has_shape Number t) _ h))))
 some_shape_of BigInt t h = or_right (has_shape Word t) _ (or_right (has_shape Name t) _ (or_right (has_shape PrivateName t) _ (or_right (has_shape Punctuator t) _ (or_right (has_shape Number t) _ (or_left (has_shape BigInt t) _ h)))))
 some_shape_of Str t h = or_right (has_shape Word t) _ (or_right (has_shape Name t) _ (or_right (has_shape PrivateName t) _ (or_right (has_shape Punctuator t) _ (or_right (has_shape Number t) _ (or_right (has_shape BigInt t) _ (or_left (has_shape Str t) _ h))))))
@@ -212,6 +217,7 @@ text_kind Word g = refl
 text_kind Name g = refl
 text_kind PrivateName g = refl
 text_kind Punctuator g = refl
+text_kind Ending g = refl
 text_kind Number g = refl
 text_kind BigInt g = refl
 text_kind Str g = refl

@@ -20,7 +20,7 @@ use Rattle.swc_ecma_codegen_ast.specs.Texts.{begins, is_among, is_same, some_beg
 use Rattle.swc_ecma_codegen_ast.specs.Tokens.{Token, has_shape, token_of}
 use Rattle.swc_ecma_codegen_ast.specs.Trivia.{Blank, Block, BlockOf, Line, LineOf, Piece, Remark, Trivia, all_pieces, is_piece, piece_text, pieces_text, remarks_of}
 use Rattle.swc_ecma_codegen_ast.specs.declared.kinds.Kind.{Kind}
-use Rattle.swc_ecma_codegen_ast.specs.declared.kinds.Kind.TheVariants.{BigInt, Close, Hashbang, JsxName, JsxOpen, JsxString, JsxText, Name, Number, PrivateName, Punctuator, Regex, Str, Template, TemplateRest, Word}
+use Rattle.swc_ecma_codegen_ast.specs.declared.kinds.Kind.TheVariants.{BigInt, Close, Ending, Hashbang, JsxName, JsxOpen, JsxString, JsxText, Name, Number, PrivateName, Punctuator, Regex, Str, Template, TemplateRest, Word}
 
 -- trivia
 pub no_trivia : Trivia [] []
@@ -350,6 +350,7 @@ number_no_start false = refl
 no_start : (k : Last) (x : Kind) (t : List ℕ) → is_start_of (last_after k x t) ≡ false
 unfolding last_after is_start_of
 no_start k Punctuator t = mark_no_start k t
+no_start k Ending t = mark_no_start k t
 no_start k JsxOpen t = mark_no_start k t
 no_start k Number t = number_no_start (takes_dot t)
 no_start k BigInt t = number_no_start (takes_dot t)

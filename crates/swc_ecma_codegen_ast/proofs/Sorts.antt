@@ -4,7 +4,7 @@ use Rattle.std.proofs.lemmas.Bool.{agree_below, agree_below_at, and_from, and_pa
 use Rattle.swc_ecma_codegen_ast.proofs.CharLaws.{digit_part}
 use Rattle.swc_ecma_codegen_ast.proofs.Conditions.{at_eq}
 use Rattle.swc_ecma_codegen_ast.proofs.JsxShapes.{jsx_open_punctuator}
-use Rattle.swc_ecma_codegen_ast.proofs.Marks.{NoName, mark_head, punctuator_among}
+use Rattle.swc_ecma_codegen_ast.proofs.Marks.{NoName, ending_punctuator, mark_head, punctuator_among}
 use Rattle.swc_ecma_codegen_ast.proofs.NameShapes.{name_head, private_head, some_name, some_private, starts_name, word_name}
 use Rattle.swc_ecma_codegen_ast.proofs.NumberShapes.{big_numeric, number_head, number_numeric, some_number}
 use Rattle.swc_ecma_codegen_ast.proofs.StringShapes.{some_string, string_head}
@@ -18,7 +18,7 @@ use Rattle.swc_ecma_codegen_ast.specs.Templates.{is_template}
 use Rattle.swc_ecma_codegen_ast.specs.Texts.{is_among, is_empty}
 use Rattle.swc_ecma_codegen_ast.specs.Tokens.{Ordinary, goal, has_shape}
 use Rattle.swc_ecma_codegen_ast.specs.declared.kinds.Kind.{Kind}
-use Rattle.swc_ecma_codegen_ast.specs.declared.kinds.Kind.TheVariants.{BigInt, Close, Hashbang, JsxName, JsxOpen, JsxString, JsxText, Name, Number, PrivateName, Punctuator, Regex, Str, Template, TemplateRest, Word}
+use Rattle.swc_ecma_codegen_ast.specs.declared.kinds.Kind.TheVariants.{BigInt, Close, Ending, Hashbang, JsxName, JsxOpen, JsxString, JsxText, Name, Number, PrivateName, Punctuator, Regex, Str, Template, TemplateRest, Word}
 use Rattle.swc_ecma_codegen_ast.specs.declared.kinds.TemplatePart.{TemplatePart}
 
 pub data Sort : Type 0 where
@@ -123,6 +123,7 @@ shape_sort Word t g h = name_sort t (word_name t h)
 shape_sort Name t g h = name_sort t h
 shape_sort PrivateName t g h = private_sort t h
 shape_sort Punctuator t g h = mark_sort t h
+shape_sort Ending t g h = mark_sort t (ending_punctuator t h)
 shape_sort Number t g h = number_sort t (number_numeric t h)
 shape_sort BigInt t g h = number_sort t (big_numeric t h)
 shape_sort Str t g h = string_sort t h
@@ -173,5 +174,6 @@ of_ticks y u g s h = absurd (cc)
 pub of_marks : (y : Kind) (u : List ℕ) → goal y ≡ Ordinary → sort y ≡ Marked → has_shape y u ≡ true → is_among u punctuators ≡ true
 unfolding goal sort has_shape
 of_marks Punctuator u g s h = punctuator_among u h
+of_marks Ending u g s h = punctuator_among u (ending_punctuator u h)
 of_marks JsxOpen u g s h = punctuator_among u (jsx_open_punctuator u h)
 of_marks y u g s h = absurd (cc)

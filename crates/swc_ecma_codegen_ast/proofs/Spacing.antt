@@ -13,7 +13,7 @@ use Rattle.swc_ecma_codegen_ast.specs.Texts.{begins, is_same, some_begins}
 use Rattle.swc_ecma_codegen_ast.specs.Tokens.{has_shape, token_of}
 use Rattle.swc_ecma_codegen_ast.specs.Trivia.{Blank, Piece, all_pieces, is_piece, piece_text, pieces_text, remarks_of}
 use Rattle.swc_ecma_codegen_ast.specs.declared.kinds.Kind.{Kind}
-use Rattle.swc_ecma_codegen_ast.specs.declared.kinds.Kind.TheVariants.{BigInt, Close, Hashbang, JsxName, JsxOpen, JsxString, JsxText, Name, Number, PrivateName, Punctuator, Regex, Str, Template, TemplateRest, Word}
+use Rattle.swc_ecma_codegen_ast.specs.declared.kinds.Kind.TheVariants.{BigInt, Close, Ending, Hashbang, JsxName, JsxOpen, JsxString, JsxText, Name, Number, PrivateName, Punctuator, Regex, Str, Template, TemplateRest, Word}
 
 -- the last token, and what may stand there
 record Fits (b : Before) (k : Last) : Type 0 where
@@ -93,6 +93,7 @@ fits_own k Word t = elsewhere WordEnd (λ u. refl)
 fits_own k Name t = elsewhere WordEnd (λ u. refl)
 fits_own k PrivateName t = elsewhere WordEnd (λ u. refl)
 fits_own k Punctuator t = fits_mark (is_same t (codes "}")) k t (eq_of_same t (codes "}"))
+fits_own k Ending t = elsewhere (mark_after k t) (mark_allows k t)
 fits_own k Number t = elsewhere (cond (takes_dot t) IntegerEnd WordEnd) (number_allows (takes_dot t))
 fits_own k BigInt t = elsewhere (cond (takes_dot t) IntegerEnd WordEnd) (number_allows (takes_dot t))
 fits_own k Str t = elsewhere Whole (λ u. refl)

@@ -1,7 +1,7 @@
 -- When a blank is due between two tokens.
 use Rattle.std.specs.Prelude.{◌≡◌, ℕ, Bool, true, false, not, List, [], ◌∷◌, ◌++◌, ◌&&◌, ◌||◌, ◌==◌, if◌then◌else◌, codes}
 use Rattle.swc_ecma_codegen_ast.specs.declared.kinds.Kind.{Kind}
-use Rattle.swc_ecma_codegen_ast.specs.declared.kinds.Kind.TheVariants.{Word, Name, PrivateName, Punctuator, Number, BigInt, Str, Regex, Template, TemplateRest, Close, JsxName, JsxString, JsxText, JsxOpen, Hashbang}
+use Rattle.swc_ecma_codegen_ast.specs.declared.kinds.Kind.TheVariants.{Word, Name, PrivateName, Punctuator, Ending, Number, BigInt, Str, Regex, Template, TemplateRest, Close, JsxName, JsxString, JsxText, JsxOpen, Hashbang}
 use Rattle.swc_ecma_codegen_ast.specs.Chars.{is_part, is_digit, is_line_end, begins_digit}
 use Rattle.swc_ecma_codegen_ast.specs.Texts.{is_same, begins, some_begins}
 use Rattle.swc_ecma_codegen_ast.specs.Numbers.{takes_dot}
@@ -92,6 +92,7 @@ last_after last Word t = WordEnd
 last_after last Name t = WordEnd
 last_after last PrivateName t = WordEnd
 last_after last Punctuator t = mark_after last t
+last_after last Ending t = mark_after last t
 last_after last Number t = if takes_dot t then IntegerEnd else WordEnd
 last_after last BigInt t = if takes_dot t then IntegerEnd else WordEnd
 last_after last Str t = Whole

@@ -1,6 +1,7 @@
 pub mod Chars
 pub mod CodeUnits
 pub mod CommentMaps
+pub mod Endings
 pub mod ExprPhrases
 pub mod GapRules
 pub mod Hashbangs

@@ -6,8 +6,8 @@ use Rattle.swc_ecma_codegen_ast.specs.Phrases.{Phrase, Nothing, NameOf, ◌>◌,
 
 -- Identifier, or BindingIdentifier of TypeScript with `?` after it
 unfoldable pub ident : Ident → Phrase
-ident n = NameOf (string_bytes n.sym) > (if n.optional then mark (codes "?") else Nothing)
+ident n = NameOf n.span.lo (string_bytes n.sym) > (if n.optional then mark (codes "?") else Nothing)
 
 -- IdentifierName
 unfoldable pub ident_name : IdentName → Phrase
-ident_name n = NameOf (string_bytes n.sym)
+ident_name n = NameOf n.span.lo (string_bytes n.sym)

@@ -1,7 +1,7 @@
 -- A text in parts, tokens and gaps, and the second pass over it.
 use Rattle.std.specs.Prelude.{◌⊎◌, ◌≡◌, ℕ, Bool, true, false, not, List, [], ◌∷◌, ◌++◌, ◌||◌, if◌then◌else◌, codes}
 use Rattle.swc_ecma_codegen_ast.specs.declared.kinds.Kind.{Kind}
-use Rattle.swc_ecma_codegen_ast.specs.declared.kinds.Kind.TheVariants.{Punctuator, Close, JsxName, JsxText, Hashbang}
+use Rattle.swc_ecma_codegen_ast.specs.declared.kinds.Kind.TheVariants.{Punctuator, Ending, Close, JsxName, JsxText, Hashbang}
 use Rattle.swc_ecma_codegen_ast.specs.Texts.{is_same, begins}
 use Rattle.swc_ecma_codegen_ast.specs.Tokens.{Token, token_of, has_shape}
 use Rattle.swc_ecma_codegen_ast.specs.Trivia.{Remark, Piece, Blank, all_pieces, pieces_text, remarks_of}
@@ -81,13 +81,13 @@ spaced k [] = []
 spaced k (Gap ps ∷ xs) = if fuses k (pieces_text ps) then Gap (Blank 32 ∷ []) ∷ Gap ps ∷ spaced (last_after_gap Apart ps) xs else (Gap ps ∷ spaced (last_after_gap k ps) xs)
 spaced k (Own x t ∷ xs) = if fuses k t then Gap (Blank 32 ∷ []) ∷ Own x t ∷ spaced (last_after Apart x t) xs else (Own x t ∷ spaced (last_after k x t) xs)
 
--- an ending that a dropped semicolon may stand before: nothing more, or `;`, or a token that begins with `}`
+-- what a dropped semicolon may stand before: nothing more, or `;`, or a token that begins with `}`
 unfoldable pub IsEnding : List Part → Type 0
 IsEnding [] = Unit {0}
 IsEnding (Gap ps ∷ xs) = ⊥
 IsEnding (Own x t ∷ xs) = (begins (codes "}") t || begins (codes ";") t) ≡ true
 
--- the same parts without some semicolons, each of which stood right before such an ending
+-- the same parts without some ending semicolons, each of which stood right before one of these
 unfoldable pub Reduced : List Part → List Part → Type 0
 Reduced [] ys = ys ≡ []
-Reduced (x ∷ xs) ys = ((zs : List Part) × (ys ≡ x ∷ zs) × Reduced xs zs) ⊎ ((x ≡ Own Punctuator (codes ";")) × IsEnding xs × Reduced xs ys)
+Reduced (x ∷ xs) ys = ((zs : List Part) × (ys ≡ x ∷ zs) × Reduced xs zs) ⊎ ((x ≡ Own Ending (codes ";")) × IsEnding xs × Reduced xs ys)

@@ -1,16 +1,18 @@
 -- Sets of token lists, as plain data: what a tree reads as, and on what condition.
 use Rattle.std.specs.Prelude.{◌≡◌, ℕ, Bool, true, false, ◌&&◌, List, [], ◌∷◌, ◌++◌, Option, Some, None}
+use Rattle.swc_ecma_codegen_common.specs.declared.positions.BytePos.{BytePos}
 use Rattle.swc_ecma_codegen_ast.specs.Names.{name_value}
 use Rattle.swc_ecma_codegen_ast.specs.SpelledNames.{spelled_name, is_well_formed_name}
 use Rattle.swc_ecma_codegen_ast.specs.Tokens.{Token}
 use Rattle.swc_ecma_codegen_ast.specs.Tokens as tokens
 
--- no list at all, no token, one token, a name by its bytes in the tree, or one list and then another
+-- no list at all, no token, one token, a name by its bytes in the tree and where it stands in its source, or one list and
+-- then another
 pub data Phrase : Type 0 where
   Never : Phrase
   Nothing : Phrase
   One : (token : Token) → Phrase
-  NameOf : (bytes : List ℕ) → Phrase
+  NameOf : (at : BytePos) → (bytes : List ℕ) → Phrase
   Then : (first second : Phrase) → Phrase
 
 infixr 20 ◌>◌
@@ -22,7 +24,7 @@ unfoldable pub Generates : Phrase → List Token → Type 0
 Generates Never ts = ⊥
 Generates Nothing ts = ts ≡ []
 Generates (One x) ts = ts ≡ x ∷ []
-Generates (NameOf bytes) ts = ts ≡ tokens.name (name_value (spelled_name bytes)) ∷ []
+Generates (NameOf at bytes) ts = ts ≡ tokens.name (name_value (spelled_name bytes)) ∷ []
 Generates (Then a b) ts = (us vs : List Token) × Generates a us × Generates b vs × (ts ≡ us ++ vs)
 
 -- The tree is well-formed: no part of it is refused, and its names are names.
@@ -30,8 +32,16 @@ unfoldable pub is_possible : Phrase → Bool
 is_possible Never = false
 is_possible Nothing = true
 is_possible (One x) = true
-is_possible (NameOf bytes) = is_well_formed_name bytes
+is_possible (NameOf at bytes) = is_well_formed_name bytes
 is_possible (Then a b) = is_possible a && is_possible b
+
+-- the names in order, each with its position and its bytes
+unfoldable pub names_in : Phrase → List (BytePos × List ℕ)
+names_in Never = []
+names_in Nothing = []
+names_in (One x) = []
+names_in (NameOf at bytes) = (at, bytes) ∷ []
+names_in (Then a b) = names_in a ++ names_in b
 
 -- on a condition
 unfoldable pub where_ : Bool → Phrase → Phrase
@@ -43,6 +53,10 @@ word spelling = One (tokens.word spelling)
 
 abbrev pub mark : List ℕ → Phrase
 mark spelling = One (tokens.punctuator spelling)
+
+-- the semicolon that ends a statement
+abbrev pub ending : Phrase
+ending = One tokens.ending
 
 -- what is there
 unfoldable pub if_some : Option Phrase → Phrase

@@ -8,7 +8,7 @@ use Rattle.swc_ecma_codegen_tree.specs.declared.stmts.ExprStmt.{ExprStmt}
 use Rattle.swc_ecma_codegen_tree.specs.declared.programs.Program.{Program}
 use Rattle.swc_ecma_codegen_tree.specs.declared.programs.Program.TheVariants as programs
 use Rattle.swc_ecma_codegen_tree.specs.declared.programs.Script.{Script}
-use Rattle.swc_ecma_codegen_ast.specs.Phrases.{Phrase, Never, ◌>◌, mark, in_order}
+use Rattle.swc_ecma_codegen_ast.specs.Phrases.{Phrase, Never, ◌>◌, mark, ending, in_order}
 use Rattle.swc_ecma_codegen_ast.specs.declared.roles.Role.{Role}
 use Rattle.swc_ecma_codegen_ast.specs.declared.roles.Role.TheVariants.{Statement}
 use Rattle.swc_ecma_codegen_ast.specs.ExprPhrases.{expr_at}
@@ -23,7 +23,7 @@ empty_stmt n = mark (codes ";")
 
 -- section 14.5
 unfoldable pub expr_stmt : {X : Type 0} → (X → Role → Phrase) → ExprStmt X → Phrase
-expr_stmt f n = expr_at f n.expr > mark (codes ";")
+expr_stmt f n = expr_at f n.expr > ending
 
 unfoldable pub stmt : {X : Type 0} → (X → Role → Phrase) → Stmt X → Phrase
 stmt f (stmts.Empty n) = empty_stmt n

@@ -1,7 +1,7 @@
 -- Tokens: a kind and a value, the goal under which a kind is read, and how each is spelled.
 use Rattle.std.specs.Prelude.{◌≡◌, ℕ, Bool, true, List, Option, if◌then◌else◌}
 use Rattle.swc_ecma_codegen_ast.specs.declared.kinds.Kind.{Kind}
-use Rattle.swc_ecma_codegen_ast.specs.declared.kinds.Kind.TheVariants.{Word, Name, PrivateName, Punctuator, Number, BigInt, Str, Regex, Template, TemplateRest, Close, JsxName, JsxString, JsxText, JsxOpen, Hashbang}
+use Rattle.swc_ecma_codegen_ast.specs.declared.kinds.Kind.TheVariants.{Word, Name, PrivateName, Punctuator, Ending, Number, BigInt, Str, Regex, Template, TemplateRest, Close, JsxName, JsxString, JsxText, JsxOpen, Hashbang}
 use Rattle.swc_ecma_codegen_ast.specs.Names.{is_word, is_name, name_value, is_private_name, private_name_value}
 use Rattle.swc_ecma_codegen_ast.specs.Punctuators.{is_punctuator}
 use Rattle.swc_ecma_codegen_ast.specs.Numbers.{is_number, is_big_integer, radix_of, big_digits}
@@ -39,6 +39,7 @@ goal Word = Ordinary
 goal Name = Ordinary
 goal PrivateName = Ordinary
 goal Punctuator = Ordinary
+goal Ending = Ordinary
 goal Number = Ordinary
 goal BigInt = Ordinary
 goal Str = Ordinary
@@ -58,6 +59,7 @@ has_shape Word text = is_word text
 has_shape Name text = is_name text
 has_shape PrivateName text = is_private_name text
 has_shape Punctuator text = is_punctuator text
+has_shape Ending text = is_same text (codes ";")
 has_shape Number text = is_number text
 has_shape BigInt text = is_big_integer text
 has_shape Str text = is_string text
@@ -89,6 +91,7 @@ value_of Word text = Characters text
 value_of Name text = Characters (name_value text)
 value_of PrivateName text = Characters (private_name_value text)
 value_of Punctuator text = Characters text
+value_of Ending text = Characters text
 value_of Number text = Exactly (exact_value (numeric_value text))
 value_of BigInt text = Digits (radix_of text) (big_digits text)
 value_of Str text = Units (string_value true text)
@@ -116,6 +119,10 @@ name characters = record { kind = Name; value = Characters characters }
 
 unfoldable pub punctuator : List ℕ → Token
 punctuator spelling = record { kind = Punctuator; value = Characters spelling }
+
+-- the semicolon that ends a statement
+unfoldable pub ending : Token
+ending = record { kind = Ending; value = Characters (codes ";") }
 
 -- the token of a kind that a text stands for
 unfoldable pub token_of : Kind → List ℕ → Token

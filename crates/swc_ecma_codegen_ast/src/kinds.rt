@@ -21,6 +21,8 @@ pub enum Kind {
     PrivateName,
     /// A punctuator, as `>>=`.
     Punctuator,
+    /// A semicolon that may be left out where it isn't needed: the one that ends a statement.
+    Ending,
     /// A numeric literal without the suffix `n`.
     Number,
     /// A numeric literal with the suffix `n`.

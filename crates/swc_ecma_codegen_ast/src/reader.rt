@@ -30,6 +30,7 @@ pub fn has_shape(kind: Kind, text: &[char]) -> bool
         Kind::Name => is_name(text),
         Kind::PrivateName => is_private_name(text),
         Kind::Punctuator => is_punctuator(text),
+        Kind::Ending => is_same(text, &[';']),
         Kind::Number => is_number(text),
         Kind::BigInt => is_big_integer(text),
         Kind::Str => is_string(text),
@@ -139,6 +140,7 @@ fn is_of_goal(kind: Kind, text: &[char]) -> bool
         | Kind::Name
         | Kind::PrivateName
         | Kind::Punctuator
+        | Kind::Ending
         | Kind::Number
         | Kind::BigInt
         | Kind::Str

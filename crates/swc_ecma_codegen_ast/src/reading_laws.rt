@@ -4,6 +4,7 @@ ghost use Rattle.std.specs.Prelude.{◌≡◌, ℕ, List};
 ghost use Rattle.swc_ecma_codegen_ast.specs.Tokens.{Token};
 ghost use Rattle.swc_ecma_codegen_ast.specs.Trivia.{Remark};
 ghost use Rattle.swc_ecma_codegen_ast.specs.Reads.{Reads, kinds_of};
+ghost use Rattle.swc_ecma_codegen_ast.specs.Endings.{IsReduced};
 ghost use Rattle.swc_ecma_codegen_ast.specs.GapRules.{Start};
 ghost use Rattle.swc_ecma_codegen_ast.specs.Parts.{Part, text_of, tokens_of, remarks_in, AllSpelled, AtStart, NoneFuse, Reduced, spaced};
 
@@ -14,11 +15,12 @@ pub fn spaced_tokens_read()
     ensures { (xs : List Part) → AllSpelled AtStart xs → Reads (text_of (spaced Start xs)) (tokens_of xs) (remarks_in xs) }
 {}
 
-/// A text without some semicolons, each of which stood right before `}`, `;` or the end, reads as the tokens that are
-/// left.
-#[tactic(auto, using(crate::proofs::Dropped::reads_reduced))]
+/// A text without some ending semicolons, each of which stood right before `}`, `;` or the end, reads as the tokens that
+/// are left, and these are all but such semicolons: without its semicolon `a;` reads as `a`.
+#[tactic(auto, using(crate::proofs::Dropped::reads_reduced, crate::proofs::Dropped::tokens_reduced))]
 pub fn reduced_tokens_read()
-    ensures { (xs ys : List Part) → NoneFuse Start xs → Reduced xs ys → Reads (text_of ys) (tokens_of ys) (remarks_in ys) }
+    ensures reads { (xs ys : List Part) → NoneFuse Start xs → Reduced xs ys → Reads (text_of ys) (tokens_of ys) (remarks_in ys) }
+    ensures reduced { (xs ys : List Part) → NoneFuse Start xs → Reduced xs ys → IsReduced (tokens_of xs) (tokens_of ys) }
 {}
 
 /// For given kinds of tokens a text reads as one list at most, with one list of comments.

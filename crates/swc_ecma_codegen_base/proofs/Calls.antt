@@ -6,7 +6,8 @@ use Rattle.swc_ecma_codegen_util.specs.declared.config.Config.{Config}
 use Rattle.swc_ecma_codegen_ast.specs.declared.kinds.Kind.{Kind}
 use Rattle.swc_ecma_codegen_ast.specs.GapRules as rules
 use Rattle.swc_ecma_codegen_ast.specs.GapRules.{fuses}
-use Rattle.swc_ecma_codegen_text_writer.specs.Sheet.{Item, Semi, Space, Keyword, Operator, Param, Property, Line, Lit, Comment, StrLit, Str, Symbol, Punct, Position, Commit, Deeper, Shallower, Sheet, effect, appended, started, indented, written, ended, Writes, Refuses, earlier, stopped}
+use Rattle.swc_ecma_codegen_text_writer.specs.Sheet.{Item, Semi, Space, Keyword, Operator, Param, Property, Line, Lit, Comment, StrLit, Str, Symbol, Punct, Position, Commit, Deeper, Shallower, Sheet, effect, Writes, Refuses, earlier, stopped}
+use Rattle.swc_ecma_codegen_text_writer.proofs.Sheets.{depth, effect_indentation, effect_same}
 use Rattle.swc_ecma_codegen_base.specs.declared.LowerEmitter.{LowerEmitter}
 use Rattle.swc_ecma_codegen_base.specs.declared.last.Last.{Last}
 use Rattle.swc_ecma_codegen_base.specs.declared.last.Last.TheVariants as last
@@ -17,34 +18,8 @@ use Rattle.swc_ecma_codegen_base.proofs.Emitting.{emits_step, emits_refused, fol
 
 -- ---- what no call changes
 
-started_keeps : (s : Sheet) → (started s).keeps_invalid ≡ s.keeps_invalid
-unfolding started indented
-started_keeps s = elim s.at_line_start as (λ b. (cond b (record (indented s.indentation s) { at_line_start = false }) s).keeps_invalid ≡ s.keeps_invalid) [ true ↦ refl | false ↦ refl ]
-
-written_keeps : (t : List ℕ) (s : Sheet) → (written t s).keeps_invalid ≡ s.keeps_invalid
-unfolding written appended
-written_keeps [] s = refl
-written_keeps (c ∷ cs) s = started_keeps s
-
 pub effect_keeps : (x : Item) (s : Sheet) → (effect x s).keeps_invalid ≡ s.keeps_invalid
-unfolding effect ended appended
-effect_keeps (Semi span) s = written_keeps _ s
-effect_keeps Space s = written_keeps _ s
-effect_keeps (Keyword span t) s = written_keeps t s
-effect_keeps (Operator span t) s = written_keeps t s
-effect_keeps (Param t) s = written_keeps t s
-effect_keeps (Property t) s = written_keeps t s
-effect_keeps Line s = elim s.at_line_start as (λ b. (cond b s (record (appended s.line_end s) { at_line_start = true })).keeps_invalid ≡ s.keeps_invalid) [ true ↦ refl | false ↦ refl ]
-effect_keeps (Lit span t) s = written_keeps t s
-effect_keeps (Comment t) s = written_keeps t s
-effect_keeps (StrLit span t) s = written_keeps t s
-effect_keeps (Str t) s = written_keeps t s
-effect_keeps (Symbol span t) s = written_keeps t s
-effect_keeps (Punct span t) s = written_keeps t s
-effect_keeps (Position pos) s = refl
-effect_keeps Commit s = refl
-effect_keeps Deeper s = refl
-effect_keeps Shallower s = refl
+effect_keeps x s = (effect_same x s).keeps_invalid
 
 refuses_keeps : {x : Item} {e : Refusal} (old new : Sheet) → Refuses x e old new → new.keeps_invalid ≡ old.keeps_invalid
 refuses_keeps old new (earlier h k eq) = ap (λ (s : Sheet). s.keeps_invalid) eq
@@ -56,34 +31,28 @@ is_level Deeper = false
 is_level Shallower = false
 is_level x = true
 
-started_level : (s : Sheet) → (started s).indentation ≡ s.indentation
-unfolding started indented
-started_level s = elim s.at_line_start as (λ b. (cond b (record (indented s.indentation s) { at_line_start = false }) s).indentation ≡ s.indentation) [ true ↦ refl | false ↦ refl ]
-
-written_level : (t : List ℕ) (s : Sheet) → (written t s).indentation ≡ s.indentation
-unfolding written appended
-written_level [] s = refl
-written_level (c ∷ cs) s = started_level s
+depth_level : (x : Item) (n : ℕ) → is_level x ≡ true → depth x n ≡ n
+unfolding is_level
+depth_level Deeper n h = absurd (cc)
+depth_level Shallower n h = absurd (cc)
+depth_level (Semi span) n h = refl
+depth_level Space n h = refl
+depth_level (Keyword span t) n h = refl
+depth_level (Operator span t) n h = refl
+depth_level (Param t) n h = refl
+depth_level (Property t) n h = refl
+depth_level Line n h = refl
+depth_level (Lit span t) n h = refl
+depth_level (Comment t) n h = refl
+depth_level (StrLit span t) n h = refl
+depth_level (Str t) n h = refl
+depth_level (Symbol span t) n h = refl
+depth_level (Punct span t) n h = refl
+depth_level (Position pos) n h = refl
+depth_level Commit n h = refl
 
 effect_level : (x : Item) (s : Sheet) → is_level x ≡ true → (effect x s).indentation ≡ s.indentation
-unfolding effect ended appended is_level
-effect_level (Semi span) s h = written_level _ s
-effect_level Space s h = written_level _ s
-effect_level (Keyword span t) s h = written_level t s
-effect_level (Operator span t) s h = written_level t s
-effect_level (Param t) s h = written_level t s
-effect_level (Property t) s h = written_level t s
-effect_level Line s h = elim s.at_line_start as (λ b. (cond b s (record (appended s.line_end s) { at_line_start = true })).indentation ≡ s.indentation) [ true ↦ refl | false ↦ refl ]
-effect_level (Lit span t) s h = written_level t s
-effect_level (Comment t) s h = written_level t s
-effect_level (StrLit span t) s h = written_level t s
-effect_level (Str t) s h = written_level t s
-effect_level (Symbol span t) s h = written_level t s
-effect_level (Punct span t) s h = written_level t s
-effect_level (Position pos) s h = refl
-effect_level Commit s h = refl
-effect_level Deeper s h = absurd (cc)
-effect_level Shallower s h = absurd (cc)
+effect_level x s h = effect_indentation x s ∙ depth_level x s.indentation h
 
 -- a call that answers `Ok` leaves the indentation as it is
 pub level : (x : Item) (old new : Sheet) (answer r : Result (Unit {0}) Refusal) → Writes x old new answer → r ≡ answer → is_level x ≡ true → OnOk r (new.indentation ≡ old.indentation)

@@ -1,12 +1,12 @@
 -- What is out after a refusal, and why.
-use Rattle.std.proofs.Common.{◌≡◌, ℕ, Bool, true, false, ◌||◌, cond, List, [], ◌∷◌, ◌++◌, Result, Ok, Err, OnErr, IfErr, IsOk, Some, refl, sym, ◌∙◌, ap, subst, arith}
+use Rattle.std.proofs.Common.{◌≡◌, ℕ, Bool, true, false, ◌||◌, cond, List, [], ◌∷◌, ◌++◌, Result, Ok, Err, OnErr, IfErr, IsOk, Some, refl, sym, ◌∙◌, ap, subst, arith, inl, inr}
 use Rattle.std.specs.Str.{chars}
 use Rattle.swc_ecma_codegen_common.specs.declared.errors.Refusal.{Refusal}
 use Rattle.swc_ecma_codegen_common.specs.declared.errors.Refusal.TheVariants.{Writer, OutOfMemory, UnsupportedNode, BadShape, NameOutOfTarget, PositionTooLarge, Failed}
 use Rattle.swc_ecma_codegen_ast.specs.GapRules.{fuses, Apart}
 use Rattle.swc_ecma_codegen_text_writer.specs.Told.{IsFront, Rises}
 use Rattle.swc_ecma_codegen_text_writer.specs.Sheet.{Item, Space, Deeper, Sheet, effect, Causes, Refuses, earlier, stopped}
-use Rattle.swc_ecma_codegen_text_writer.proofs.Sheets.{front_refl, front_trans, effect_grows, effect_refused, effect_faults, effect_takes_memory, effect_whole}
+use Rattle.swc_ecma_codegen_text_writer.proofs.Sheets.{front_refl, front_trans, effect_grows, effect_refused, effect_faults, effect_takes_memory, effect_keeps_positions, effect_whole}
 use Rattle.swc_ecma_codegen_base.specs.declared.refusals.Unprintable.{Unprintable}
 use Rattle.swc_ecma_codegen_base.specs.declared.refusals.Unprintable.TheVariants as unprintable
 use Rattle.swc_ecma_codegen_base.specs.Run as run
@@ -121,7 +121,8 @@ call_cause xs front step rest x OutOfMemory a b split deep (stopped h k s) = or_
 call_cause xs front step rest x UnsupportedNode a b split deep (stopped h k s) = absurd k
 call_cause xs front step rest x BadShape a b split deep (stopped h k s) = absurd k
 call_cause xs front step rest x NameOutOfTarget a b split deep (stopped h k s) = absurd k
-call_cause xs front step rest x PositionTooLarge a b split deep (stopped h k s) = record { front = front; step = step; rest = rest; split = split; is_deeper = deep k.0; at_limit = k.1 }
+call_cause xs front step rest x PositionTooLarge a b split deep (stopped h (inl k) s) = inl (record { front = front; step = step; rest = rest; split = split; is_deeper = deep k.0; at_limit = k.1 })
+call_cause xs front step rest x PositionTooLarge a b split deep (stopped h (inr k) s) = inr (sym (run_sheet (λ z. z.keeps_positions) effect_keeps_positions front a) ∙ k.0, k.1)
 call_cause xs front step rest x Failed a b split deep (stopped h k s) = absurd k
 
 space_no_deeper : {P : Type 0} → ◌≡◌ {A = Item} Space Deeper → P
@@ -166,7 +167,8 @@ unhindered_cause xs OutOfMemory a b u h = true_is_not_false _ h u.no_memory
 unhindered_cause xs UnsupportedNode a b u h = let z = sym h.refusal ∙ u.printable in absurd (cc)
 unhindered_cause xs BadShape a b u h = let z = sym h.refusal ∙ u.printable in absurd (cc)
 unhindered_cause xs NameOutOfTarget a b u h = let z = sym h.refusal ∙ u.printable in absurd (cc)
-unhindered_cause xs PositionTooLarge a b u h = u.within h
+unhindered_cause xs PositionTooLarge a b u (inl h) = u.within h
+unhindered_cause xs PositionTooLarge a b u (inr h) = u.near h
 unhindered_cause xs Failed a b u h = true_is_not_false _ h u.fresh
 
 -- where nothing stands in its way, an emission is made

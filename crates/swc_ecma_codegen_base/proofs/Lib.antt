@@ -10,6 +10,7 @@ pub mod Entries
 pub mod Afters
 pub mod Marks
 pub mod Indented
+pub mod Held
 pub mod Written
 pub mod Printed
 pub mod Phrased

@@ -5,7 +5,7 @@ use Rattle.swc_ecma_codegen_common.specs.declared.errors.Error.{Error}
 use Rattle.swc_ecma_codegen_common.specs.declared.errors.Refusal.{Refusal}
 use Rattle.swc_ecma_codegen_common.specs.Refusals.{in_short}
 use Rattle.swc_ecma_codegen_base.specs.declared.refusals.Unprintable.{Unprintable}
-use Rattle.swc_ecma_codegen_text_writer.proofs.Sheets.{effect_refused, effect_faults, effect_takes_memory}
+use Rattle.swc_ecma_codegen_text_writer.proofs.Sheets.{effect_refused, effect_faults, effect_takes_memory, effect_keeps_positions}
 use Rattle.swc_ecma_codegen_ast.specs.Tokens.{Token as LexicalToken}
 use Rattle.swc_ecma_codegen_ast.specs.Phrases.{Phrase, Never, Nothing, One, NameOf, Then, Generates, is_possible}
 use Rattle.swc_ecma_codegen_base.specs.Run.{Env, Plan, Part, Step, State, done, run, steps_of, unprintable_in, nothing, Follows, PassesLimit, IsUnhindered, earlier, stopped, reached}
@@ -22,7 +22,7 @@ unfolding Generates token_count
 counted Never ts g = absurd g
 counted Nothing ts g = ap length g
 counted (One x) ts g = ap length g
-counted (NameOf bytes) ts g = ap length g
+counted (NameOf at bytes) ts g = ap length g
 counted (Then a b) ts g =
     let h = counted a g.0 g.2 in
     let k = counted b g.1 g.3 in
@@ -59,6 +59,7 @@ plain_unhindered p f a b prints t s e = record {
   can_count = s.can_count;
   no_memory = or_from _ _ s.no_memory (printed_remakes p f a.env prints t.well_formed ∙ t.plain_names);
   within = within p f a prints t.well_formed t.has_room;
+  near = λ far. true≢false (sym far.0 ∙ s.no_positions);
   printable = printable p f a.env prints t.well_formed;
 }
 
@@ -85,6 +86,7 @@ run_ready xs a s =
       none_failed = run_failed xs a ∙ s.none_failed;
       none_refused = run_sheet (λ z. z.refused) effect_refused xs a ∙ s.none_refused;
       no_memory = run_sheet (λ z. z.takes_memory) effect_takes_memory xs a ∙ s.no_memory;
+      no_positions = run_sheet (λ z. z.keeps_positions) effect_keeps_positions xs a ∙ s.no_positions;
       leaves_out = ap (λ (z : Env). z.keeps_invalid) (run_env xs a) ∙ s.leaves_out;
       can_count = omega (arith, faults, can_count);
     }

@@ -1,5 +1,5 @@
 -- What each word writes is one of the token lists of a phrase.
-use Rattle.std.proofs.Common.{◌≡◌, ◌≢◌, ℕ, Bool, true, false, cond, List, [], ◌∷◌, ◌++◌, ◌||◌, codes, refl, sym, ap, ◌∙◌, subst, append-nil, Option, Result, Ok, Err, OnOk, IfErr}
+use Rattle.std.proofs.Common.{◌≡◌, ◌≢◌, ℕ, Bool, true, false, cond, List, [], ◌∷◌, ◌++◌, ◌||◌, codes, refl, sym, ap, ◌∙◌, subst, append-nil, inl, inr, Option, Result, Ok, Err, OnOk, IfErr}
 use Rattle.std.specs.Str.{chars, is_utf8}
 use Rattle.std.proofs.lemmas.Bool.{and_parts, or_from, true≢false}
 use Rattle.swc_ecma_codegen_common.specs.declared.errors.Error.{Error}
@@ -7,7 +7,7 @@ use Rattle.swc_ecma_codegen_common.specs.declared.errors.Error.TheVariants as er
 use Rattle.swc_ecma_codegen_common.specs.declared.errors.Refusal.{Refusal}
 use Rattle.swc_ecma_codegen_common.specs.Refusals.{in_short}
 use Rattle.swc_ecma_codegen_common.specs.declared.positions.Span.{Span}
-use Rattle.swc_ecma_codegen_ast.specs.declared.kinds.Kind.TheVariants.{Word, Name, Punctuator}
+use Rattle.swc_ecma_codegen_ast.specs.declared.kinds.Kind.TheVariants.{Word, Name, Punctuator, Ending}
 use Rattle.swc_ecma_codegen_ast.specs.Tokens as lexical
 use Rattle.swc_ecma_codegen_ast.specs.Tokens.{token_of, value_of}
 use Rattle.swc_ecma_codegen_ast.specs.Names.{is_word, is_name}
@@ -15,7 +15,11 @@ use Rattle.swc_ecma_codegen_ast.specs.Punctuators.{is_punctuator, punctuators}
 use Rattle.swc_ecma_codegen_ast.specs.Texts.{is_same, is_among}
 use Rattle.swc_ecma_codegen_ast.specs.Reads.{Reads}
 use Rattle.swc_ecma_codegen_ast.specs.GapRules.{Start, allows}
-use Rattle.swc_ecma_codegen_ast.specs.Parts.{NoneFuse, tokens_of, remarks_in}
+use Rattle.swc_ecma_codegen_ast.specs.Parts as parts
+use Rattle.swc_ecma_codegen_ast.specs.Parts.{Gap, NoneFuse, Reduced, IsEnding, tokens_of, remarks_in}
+use Rattle.swc_ecma_codegen_ast.specs.Endings.{IsReduced}
+use Rattle.swc_ecma_codegen_ast.proofs.Dropped.{none_fuse_reduced, tokens_reduced, without_last_gap}
+use Rattle.swc_ecma_codegen_text_writer.specs.Sheet.{Sheet}
 use Rattle.swc_ecma_codegen_ast.specs.Phrases.{Phrase, Never, Nothing, One, NameOf, Then, Generates, is_possible, ◌>◌, mark}
 use Rattle.swc_ecma_codegen_ast.specs.Phrases as phrases
 use Rattle.swc_ecma_codegen_ast.specs.SpelledNames as names
@@ -24,10 +28,12 @@ use Rattle.swc_ecma_codegen_ast.specs.ValidNames.{turned}
 use Rattle.swc_ecma_codegen_ast.proofs.Reading.{reads}
 use Rattle.swc_ecma_codegen_base.specs.Run.{Env, Part, State, Step, done, steps_of, run, nothing, spelling, Follows, HasCause, remakes_name}
 use Rattle.swc_ecma_codegen_base.specs.Words.{keyword, operator, word_operator, punct, semi, name_text, question, name}
-use Rattle.swc_ecma_codegen_base.specs.Written.{AtRest, is_free, IsNew, ReadsAs, AddsReading, IsWord, IsMark}
+use Rattle.swc_ecma_codegen_base.specs.Written.{AtRest, is_free, holds_one, IsNew, ReadsAs, AddsText, AddsReading, IsWord, IsMark}
 use Rattle.swc_ecma_codegen_base.specs.Escapes.{escapes_name}
 use Rattle.swc_ecma_codegen_base.proofs.Fronts.{follows_cause}
-use Rattle.swc_ecma_codegen_base.proofs.Written.{Lays, Spelled, spelled_word, spelled_name, spelled_mark}
+use Rattle.swc_ecma_codegen_base.proofs.Held.{front}
+use Rattle.swc_ecma_codegen_base.proofs.Indented.{blanks}
+use Rattle.swc_ecma_codegen_base.proofs.Written.{Lays, held, held_of, tokens_append, Spelled, spelled_word, spelled_name, spelled_mark}
 use Rattle.swc_ecma_codegen_base.proofs.Printed.{chain, Makes, Writes, writes_then, writes_nothing, writes_keyword, writes_operator, writes_word_operator, writes_punct, writes_semi, writes_commit, writes_leading, writes_name_text}
 
 -- A part writes a token list of a phrase, whatever comes after it, and makes no name anew but those of the phrase.
@@ -119,16 +125,13 @@ prints_operator env t w = prints_mark env (operator t) t (writes_operator env t 
 pub prints_punct : (env : Env) (t : List ℕ) → IsMark t → Prints env (punct t) (mark t)
 prints_punct env t w = prints_mark env (punct t) t (writes_punct env t (mark_spelled t w))
 
-semi_is_mark : IsMark (codes ";")
-unfolding is_punctuator is_among is_same punctuators chars is_utf8 lib.Utf8.encode
-semi_is_mark = record { utf8 = refl; ascii = refl; shape = refl }
-
 question_is_mark : IsMark (codes "?")
 unfolding is_punctuator is_among is_same punctuators chars is_utf8 lib.Utf8.encode
 question_is_mark = record { utf8 = refl; ascii = refl; shape = refl }
 
-pub prints_semi : (env : Env) → Prints env semi (mark (codes ";"))
-prints_semi env = prints_mark env semi (codes ";") (writes_semi env (mark_spelled (codes ";") semi_is_mark))
+pub prints_semi : (env : Env) → Prints env semi phrases.ending
+unfolding token_of value_of spelling lexical.ending
+prints_semi env = prints_one env semi _ (writes_semi env)
 
 -- ---- names
 
@@ -136,7 +139,7 @@ name_spelled : (bytes : List ℕ) → is_well_formed_name bytes ≡ true → Spe
 unfolding is_well_formed_name names.spelled_name
 name_spelled bytes w = let p = and_parts (is_utf8 (turned bytes)) (is_name (chars (turned bytes))) w in spelled_name (turned bytes) p.0 p.1
 
-prints_name_text : (env : Env) (span : Span) (bytes : List ℕ) → env.keeps_invalid ≡ false → Prints env (name_text span bytes) (NameOf bytes)
+prints_name_text : (env : Env) (span : Span) (bytes : List ℕ) → env.keeps_invalid ≡ false → Prints env (name_text span bytes) (NameOf span.lo bytes)
 unfolding token_of value_of spelling lexical.name names.spelled_name Generates is_possible escapes_name
 prints_name_text env span bytes e = record { where_possible = λ w. record { tokens = _; generated = refl; writes = writes_name_text env span bytes e (name_spelled bytes w) } }
 
@@ -146,11 +149,11 @@ prints_question env true = prints_punct env (codes "?") question_is_mark
 prints_question env false = prints_nothing
 
 -- a name, and `?` after an optional one
-pub prints_ident : (env : Env) (span : Span) (bytes : List ℕ) (optional : Bool) → env.keeps_invalid ≡ false → Prints env (name span bytes optional) (NameOf bytes > cond optional (mark (codes "?")) Nothing)
+pub prints_ident : (env : Env) (span : Span) (bytes : List ℕ) (optional : Bool) → env.keeps_invalid ≡ false → Prints env (name span bytes optional) (NameOf span.lo bytes > cond optional (mark (codes "?")) Nothing)
 unfolding name
 prints_ident env span bytes optional e = after (writes_leading env span.lo) (after (writes_commit env) (then (prints_name_text env span bytes e) (prints_question env optional)))
 
-pub prints_name : (env : Env) (span : Span) (bytes : List ℕ) → env.keeps_invalid ≡ false → Prints env (name span bytes false) (NameOf bytes)
+pub prints_name : (env : Env) (span : Span) (bytes : List ℕ) → env.keeps_invalid ≡ false → Prints env (name span bytes false) (NameOf span.lo bytes)
 unfolding name question
 prints_name env span bytes e = after (writes_leading env span.lo) (after (writes_commit env) (prints_name_text env span bytes e))
 
@@ -166,14 +169,40 @@ unfolding is_free allows
 new_at_rest a n = record {
   indent_text = n.indent_text;
   line_end = n.line_end;
-  free = λ e. ap is_free n.nothing_written;
+  free = λ o e. ap is_free n.nothing_written;
   allowed = λ t. ap (λ k. allows k t) n.nothing_written;
 }
 
-laid_reads : (f : Phrase) (ts : List lexical.Token) (a b : State) → Generates f ts → a.last ≡ Start → Lays ts a b → AddsReading f a.sheet.text b.sheet.text
+-- what is still held back at the end is left out
+end_of : Bool → Sheet → List parts.Part
+end_of b s = cond b (Gap (blanks (front s)) ∷ []) []
+
+end_reduced : (b : Bool) (s : Sheet) → Reduced (held_of b s ++ []) (end_of b s)
+unfolding Reduced IsEnding end_of
+end_reduced true s = inl ([], refl, inr (refl, tt, refl))
+end_reduced false s = refl
+
+without_end : (b : Bool) (s : Sheet) (xs : List parts.Part) → NoneFuse Start (xs ++ end_of b s) → NoneFuse Start xs
+unfolding end_of
+without_end true s xs h = without_last_gap Start xs (blanks (front s)) h
+without_end false s xs h = subst (λ z. NoneFuse Start z) (append-nil xs) h
+
+no_end_tokens : (b : Bool) (s : Sheet) → tokens_of (end_of b s) ≡ []
+unfolding end_of tokens_of
+no_end_tokens true s = refl
+no_end_tokens false s = refl
+
+laid_reads : (f : Phrase) (ts : List lexical.Token) (a b : State) → Generates f ts → IsNew a → Lays ts a b → AddsReading f a.sheet b.sheet
 unfolding NoneFuse
-laid_reads f ts a b g s l =
-    let apart = subst (λ z. NoneFuse z l.out) s (subst (λ z. NoneFuse a.last z) (append-nil l.out) (l.apart [] (l.rest.allowed []))) in
+laid_reads f ts a b g n l =
+    let last : Bool = holds_one b.sheet.semicolons in
+    let end : List parts.Part = end_of last b.sheet in
+    let none : held a.sheet ≡ [] = ap (λ z. held_of z a.sheet) n.nothing_held in
+    let reduced : Reduced l.out (l.laid ++ end) =
+    subst (λ z. Reduced z (l.laid ++ end)) (append-nil l.out) (subst (λ z. Reduced (z ++ (l.out ++ [])) (l.laid ++ end)) none (l.reduces [] end (end_reduced last b.sheet))) in
+    let apart : NoneFuse Start l.out = subst (λ z. NoneFuse z l.out) n.nothing_written (subst (λ z. NoneFuse a.last z) (append-nil l.out) (l.apart [] (l.rest.allowed []))) in
+    let laid : NoneFuse Start l.laid = without_end last b.sheet l.laid (none_fuse_reduced l.out (l.laid ++ end) apart reduced) in
+    let same : tokens_of (l.laid ++ end) ≡ tokens_of l.laid = tokens_append l.laid end ∙ ap (λ z. tokens_of l.laid ++ z) (no_end_tokens last b.sheet) ∙ append-nil (tokens_of l.laid) in
     record {
       added = l.bytes;
       is_added = l.text;
@@ -181,26 +210,29 @@ laid_reads f ts a b g s l =
         utf8 = l.utf8;
         tokens = ts;
         is_list = g;
-        reads = subst (λ z. Reads (chars l.bytes) ts z) l.remarks (subst (λ z. Reads (chars l.bytes) z (remarks_in l.out)) l.tokens (subst (λ z. Reads z (tokens_of l.out) (remarks_in l.out)) (sym l.spells) (reads l.out apart)));
+        written = tokens_of l.laid;
+        reduced = subst (λ z. IsReduced z (tokens_of l.laid)) l.tokens (subst (λ z. IsReduced (tokens_of l.out) z) same (tokens_reduced l.out (l.laid ++ end) apart reduced));
+        whole = λ e. ap tokens_of (l.whole e) ∙ l.tokens;
+        reads = subst (λ z. Reads (chars l.bytes) (tokens_of l.laid) z) l.remarks (subst (λ z. Reads z (tokens_of l.laid) (remarks_in l.laid)) (sym l.spells) (reads l.laid laid));
       };
     }
 
 -- the steps of a part, made from a state where an emission begins
-pub steps_read : (p : Part) (f : Phrase) (a : State) → IsNew a → Prints a.env p f → is_possible f ≡ true → AddsReading f a.sheet.text (run (steps_of (p nothing a.env)) a).sheet.text
+pub steps_read : (p : Part) (f : Phrase) (a : State) → IsNew a → Prints a.env p f → is_possible f ≡ true → AddsReading f a.sheet (run (steps_of (p nothing a.env)) a).sheet
 unfolding nothing
 steps_read p f a n prints w =
     let h = prints.where_possible w in
     let end : run (steps_of (p nothing a.env)) a ≡ run h.writes.steps a = ap (λ z. run (steps_of z) a) (h.writes.is_steps nothing) ∙ ap (λ z. run z a) (steps_of_chain h.writes.steps) in
-    let P : State → Type 0 = λ z. AddsReading f a.sheet.text z.sheet.text in
-    subst P (sym end) (laid_reads f h.tokens a (run h.writes.steps a) h.generated n.nothing_written (h.writes.lays a (new_at_rest a n)))
+    let P : State → Type 0 = λ z. AddsReading f a.sheet z.sheet in
+    subst P (sym end) (laid_reads f h.tokens a (run h.writes.steps a) h.generated n (h.writes.lays a (new_at_rest a n)))
 
 -- of an empty text the whole reads
-pub whole_reads : (f : Phrase) (text : List ℕ) → AddsReading f [] text → ReadsAs f text
-whole_reads f text h = subst (λ z. ReadsAs f z) (sym h.is_added) h.reading
+pub whole_reads : (holds : Bool) (f : Phrase) (text : List ℕ) → AddsText holds f [] text → ReadsAs holds f text
+whole_reads holds f text h = subst (λ z. ReadsAs holds f z) (sym h.is_added) h.reading
 
-pub printed_reads : (p : Part) (f : Phrase) (a b : State) (r : Result (Unit {0}) Refusal) → IsNew a → Prints a.env p f → is_possible f ≡ true → Follows (p nothing) a b r → OnOk r (AddsReading f a.sheet.text b.sheet.text)
+pub printed_reads : (p : Part) (f : Phrase) (a b : State) (r : Result (Unit {0}) Refusal) → IsNew a → Prints a.env p f → is_possible f ≡ true → Follows (p nothing) a b r → OnOk r (AddsReading f a.sheet b.sheet)
 unfolding Follows
-printed_reads p f a b (Ok u) n prints w k = let P : State → Type 0 = λ z. AddsReading f a.sheet.text z.sheet.text in subst P (sym k.1) (steps_read p f a n prints w)
+printed_reads p f a b (Ok u) n prints w k = let P : State → Type 0 = λ z. AddsReading f a.sheet z.sheet in subst P (sym k.1) (steps_read p f a n prints w)
 printed_reads p f a b (Err e) n prints w k = tt
 
 -- which names are made anew

@@ -1,10 +1,10 @@
 -- What each word writes, whatever comes after it.
-use Rattle.std.proofs.Common.{◌≡◌, ℕ, ◌≤◌, Bool, true, false, cond, ◌||◌, List, [], ◌∷◌, ◌++◌, length, length-append, arith, ◌==◌, codes, refl, sym, ap, ◌∙◌, subst, inl, inr, Option, None}
+use Rattle.std.proofs.Common.{◌≡◌, ℕ, ◌≤◌, Bool, true, false, cond, ◌||◌, List, [], ◌∷◌, ◌++◌, length, length-append, arith, ◌==◌, codes, refl, sym, ap, ◌∙◌, subst, inl, inr, Option, Some, None}
 use Rattle.std.proofs.lemmas.Bool.{cases_Bool}
 use Rattle.swc_ecma_codegen_common.specs.declared.positions.BytePos.{BytePos}
 use Rattle.swc_ecma_codegen_common.specs.declared.positions.Span.{Span}
 use Rattle.swc_ecma_codegen_spans.specs.Spans.{dummy_span}
-use Rattle.swc_ecma_codegen_ast.specs.declared.kinds.Kind.TheVariants.{Word, Name, Punctuator}
+use Rattle.swc_ecma_codegen_ast.specs.declared.kinds.Kind.TheVariants.{Word, Name, Punctuator, Ending}
 use Rattle.swc_ecma_codegen_ast.specs.Tokens as lexical
 use Rattle.swc_ecma_codegen_ast.specs.Tokens.{token_of}
 use Rattle.swc_ecma_codegen_text_writer.specs.Sheet.{Semi, Space, Keyword, Operator, Line, Symbol, Punct, Position, Commit, effect}
@@ -16,7 +16,7 @@ use Rattle.swc_ecma_codegen_base.proofs.Emitting.{minified_same, pretty_same}
 use Rattle.swc_ecma_codegen_base.proofs.Fronts.{run_append}
 use Rattle.swc_ecma_codegen_base.proofs.Levels.{levels, rise, levels_append}
 use Rattle.swc_ecma_codegen_base.proofs.Spelled.{valid_same}
-use Rattle.swc_ecma_codegen_base.proofs.Written.{Lays, lays_then, lays_nothing, lays_blank, lays_line, lays_token, Spelled, own_put}
+use Rattle.swc_ecma_codegen_base.proofs.Written.{Lays, lays_then, lays_nothing, lays_blank, lays_line, lays_commit, lays_position, lays_token, lays_punct, lays_semi, lays_placed, Spelled, spelled_ending, own_put, punct_put, semi_put}
 
 -- some steps, and then more
 unfoldable pub chain : List Step → Steps → Steps
@@ -102,23 +102,23 @@ writes_minified env p q ts h k = elim (cases_Bool env.config.minify) [
 
 pub writes_keyword : (env : Env) (span : Option Span) (t : List ℕ) → Spelled Word t → Writes env (keyword span t) (token_of Word (spelling Word t) ∷ [])
 unfolding keyword put effect text_of after_token own_put remakes_name levels rise
-writes_keyword env span t p = writes_two env (Guard t) (Token Word (Keyword span t)) _ (λ s r. lays_token Word t s p r) (omega arith)
+writes_keyword env span t p = writes_two env (Guard t) (Token Word (Keyword span t)) _ (λ s r. lays_token Word span t s p r) (omega arith)
 
 pub writes_operator : (env : Env) (t : List ℕ) → Spelled Punctuator t → Writes env (operator t) (token_of Punctuator (spelling Punctuator t) ∷ [])
 unfolding operator put effect text_of after_token own_put remakes_name levels rise
-writes_operator env t p = writes_two env (Guard t) (Token Punctuator (Operator None t)) _ (λ s r. lays_token Punctuator t s p r) (omega arith)
+writes_operator env t p = writes_two env (Guard t) (Token Punctuator (Operator None t)) _ (λ s r. lays_token Punctuator None t s p r) (omega arith)
 
 pub writes_word_operator : (env : Env) (t : List ℕ) → Spelled Word t → Writes env (word_operator t) (token_of Word (spelling Word t) ∷ [])
 unfolding word_operator put effect text_of after_token own_put remakes_name levels rise
-writes_word_operator env t p = writes_two env (Guard t) (Token Word (Operator None t)) _ (λ s r. lays_token Word t s p r) (omega arith)
+writes_word_operator env t p = writes_two env (Guard t) (Token Word (Operator None t)) _ (λ s r. lays_token Word None t s p r) (omega arith)
 
 pub writes_punct : (env : Env) (t : List ℕ) → Spelled Punctuator t → Writes env (punct t) (token_of Punctuator (spelling Punctuator t) ∷ [])
-unfolding punct put effect text_of after_token own_put remakes_name levels rise
-writes_punct env t p = writes_two env (Guard t) (Token Punctuator (Punct None t)) _ (λ s r. lays_token Punctuator t s p r) (omega arith)
+unfolding punct put effect text_of after_token punct_put remakes_name levels rise
+writes_punct env t p = writes_two env (Guard t) (Token Punctuator (Punct None t)) _ (λ s r. lays_punct None t s p r) (omega arith)
 
-pub writes_semi : (env : Env) → Spelled Punctuator (codes ";") → Writes env semi (token_of Punctuator (spelling Punctuator (codes ";")) ∷ [])
-unfolding semi put effect text_of after_token own_put remakes_name levels rise
-writes_semi env p = writes_two env (Guard (codes ";")) (Token Punctuator (Semi None)) _ (λ s r. lays_token Punctuator (codes ";") s p r) (omega arith)
+pub writes_semi : (env : Env) → Writes env semi (token_of Ending (spelling Ending (codes ";")) ∷ [])
+unfolding semi put effect text_of after_token semi_put remakes_name levels rise
+writes_semi env = writes_two env (Guard (codes ";")) (Token Ending (Semi None)) _ (λ s r. lays_semi None s r) (omega arith)
 
 -- ---- what stands between
 
@@ -140,11 +140,11 @@ writes_formatting_line env = writes_minified env no_part line_end [] (writes_not
 
 pub writes_commit : (env : Env) → Writes env commit_pending_semi []
 unfolding commit_pending_semi put effect after_plain remakes_name levels rise
-writes_commit env = writes_step env (Plain Commit) [] (λ s r. lays_nothing s r) (omega arith)
+writes_commit env = writes_step env (Plain Commit) [] (λ s r. lays_commit s r) (omega arith)
 
 recorded : (env : Env) (pos : BytePos) → Writes env (step (Plain (Position pos))) []
 unfolding put effect after_plain remakes_name levels rise
-recorded env pos = writes_step env (Plain (Position pos)) [] (λ s r. lays_nothing s r) (omega arith)
+recorded env pos = writes_step env (Plain (Position pos)) [] (λ s r. lays_position pos s r) (omega arith)
 
 pub writes_position : (env : Env) (pos : BytePos) → Writes env (position pos) []
 unfolding position
@@ -166,7 +166,7 @@ writes_trailing env b pos = writes_nothing env
 
 name_token : (env : Env) (t : List ℕ) → Spelled Name t → Writes env (λ rest. step (Guard t) (step (Token Name (Symbol dummy_span t)) rest)) (token_of Name (spelling Name t) ∷ [])
 unfolding put effect text_of after_token own_put remakes_name levels rise
-name_token env t p = writes_two env (Guard t) (Token Name (Symbol dummy_span t)) _ (λ s r. lays_token Name t s p r) (omega arith)
+name_token env t p = writes_two env (Guard t) (Token Name (Symbol dummy_span t)) _ (λ s r. lays_token Name (Some dummy_span) t s p r) (omega arith)
 
 -- with a position, which stands after the blank that is due
 placed_token : (env : Env) (pos : BytePos) (t : List ℕ) → Spelled Name t → Writes env (λ rest. step (Guard t) (step (Plain (Position pos)) (step (Token Name (Symbol dummy_span t)) rest))) (token_of Name (spelling Name t) ∷ [])
@@ -174,7 +174,7 @@ unfolding step chain run put effect text_of after_token after_plain own_put rema
 placed_token env pos t p = record {
   steps = Guard t ∷ Plain (Position pos) ∷ Token Name (Symbol dummy_span t) ∷ [];
   is_steps = λ rest. refl;
-  lays = λ s r. lays_token Name t s p r;
+  lays = λ s r. lays_placed pos Name (Some dummy_span) t s p r;
   remakes = refl;
   deep = omega arith;
 }

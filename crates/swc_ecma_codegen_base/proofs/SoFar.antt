@@ -1,11 +1,13 @@
 -- After a call the text reads as the tokens so far and those of the call, whatever follows that doesn't fuse.
-use Rattle.std.proofs.Common.{◌≡◌, ℕ, Bool, true, false, ◌&&◌, cond, List, [], ◌∷◌, ◌++◌, codes, refl, sym, ap, ◌∙◌, subst, append_assoc, append-nil, Option, Ok}
+use Rattle.std.proofs.Common.{◌≡◌, ℕ, Bool, true, false, ◌&&◌, cond, List, [], ◌∷◌, ◌++◌, codes, refl, sym, ap, ◌∙◌, subst, append_assoc, append-nil, inl, inr, Option, Ok}
 use Rattle.std.specs.Str.{chars}
 use Rattle.std.proofs.lemmas.Str.{chars-nil, chars-append, IsUtf8-nil, IsUtf8-append}
 use Rattle.swc_ecma_codegen_common.specs.declared.positions.BytePos.{BytePos}
 use Rattle.swc_ecma_codegen_common.specs.declared.positions.Span.{Span}
 use Rattle.swc_ecma_codegen_ast.specs.Tokens as lexical
 use Rattle.swc_ecma_codegen_ast.specs.Reads.{Reads}
+use Rattle.swc_ecma_codegen_ast.specs.Endings.{IsReduced}
+use Rattle.swc_ecma_codegen_text_writer.specs.Sheet.{holds_semicolons}
 use Rattle.swc_ecma_codegen_ast.specs.Parts as parts
 use Rattle.swc_ecma_codegen_ast.specs.Parts.{NoneFuse, tokens_of, remarks_in}
 use Rattle.swc_ecma_codegen_ast.specs.Phrases.{Phrase, Nothing, One, NameOf, Generates, is_possible, ◌>◌, mark}
@@ -13,7 +15,7 @@ use Rattle.swc_ecma_codegen_ast.specs.SpelledNames.{is_well_formed_name}
 use Rattle.swc_ecma_codegen_ast.proofs.Reading.{reads}
 use Rattle.swc_ecma_codegen_base.specs.Run.{Part, State, steps_of, run, nothing, Follows, Emits}
 use Rattle.swc_ecma_codegen_base.specs.Words.{keyword, operator, word_operator, punct, semi, name, space, formatting_space, line_end, formatting_line, commit_pending_semi, position, position_before, leading_comments, trailing_comments}
-use Rattle.swc_ecma_codegen_base.specs.Written.{IsNew, IsWord, IsMark, ReadsSoFar, AddsReading, name_tokens}
+use Rattle.swc_ecma_codegen_base.specs.Written.{IsNew, IsWord, IsMark, ReadsSoFar, AddsText, name_tokens}
 use Rattle.swc_ecma_codegen_base.proofs.Emitting.{emits_nothing}
 use Rattle.swc_ecma_codegen_base.proofs.Written.{Lays, text_append, tokens_append, remarks_append}
 use Rattle.swc_ecma_codegen_base.proofs.Printed.{Makes, Writes, writes_space, writes_formatting_space, writes_line, writes_formatting_line, writes_commit, writes_position, writes_position_before, writes_leading, writes_trailing}
@@ -21,27 +23,30 @@ use Rattle.swc_ecma_codegen_base.proofs.Phrased.{Prints, steps_of_chain, new_at_
 
 -- what was laid since
 lays_so_far : (old : List ℕ) (tokens ts : List lexical.Token) (a b : State) → Lays ts a b → ReadsSoFar old tokens a → ReadsSoFar old (tokens ++ ts) b
-lays_so_far old tokens ts a b l h = record {
-  added = h.added ++ l.bytes;
-  is_added = l.text ∙ ap (λ z. z ++ l.bytes) h.is_added ∙ append_assoc old h.added l.bytes;
-  utf8 = IsUtf8-append h.added l.bytes h.utf8 l.utf8;
-  reads = λ more n.
-      let text : chars h.added ++ parts.text_of (l.out ++ more) ≡ chars (h.added ++ l.bytes) ++ parts.text_of more =
-      ap (λ z. chars h.added ++ z) (text_append l.out more)
-      ∙ sym (append_assoc (chars h.added) (parts.text_of l.out) (parts.text_of more))
-      ∙ ap (λ z. (chars h.added ++ z) ++ parts.text_of more) (sym l.spells)
-      ∙ ap (λ z. z ++ parts.text_of more) (sym (chars-append h.added l.bytes h.utf8)) in
-      let list : tokens ++ tokens_of (l.out ++ more) ≡ (tokens ++ ts) ++ tokens_of more =
-      ap (λ z. tokens ++ z) (tokens_append l.out more)
-      ∙ ap (λ z. tokens ++ (z ++ tokens_of more)) l.tokens
-      ∙ sym (append_assoc tokens ts (tokens_of more)) in
-      let none : remarks_in (l.out ++ more) ≡ remarks_in more = remarks_append l.out more ∙ ap (λ z. z ++ remarks_in more) l.remarks in
-      subst (λ z. Reads z ((tokens ++ ts) ++ tokens_of more) (remarks_in more)) text
-      (subst (λ z. Reads (chars h.added ++ parts.text_of (l.out ++ more)) z (remarks_in more)) list
-      (subst (λ z. Reads (chars h.added ++ parts.text_of (l.out ++ more)) (tokens ++ tokens_of (l.out ++ more)) z) none
-      (h.reads (l.out ++ more) (l.apart more n))));
-  rest = l.rest;
-}
+lays_so_far old tokens ts a b l h =
+    let all : l.laid ≡ l.out = l.whole h.at_once in
+    record {
+      at_once = l.holds ∙ h.at_once;
+      added = h.added ++ l.bytes;
+      is_added = l.text ∙ ap (λ z. z ++ l.bytes) h.is_added ∙ append_assoc old h.added l.bytes;
+      utf8 = IsUtf8-append h.added l.bytes h.utf8 l.utf8;
+      reads = λ more n.
+          let text : chars h.added ++ parts.text_of (l.out ++ more) ≡ chars (h.added ++ l.bytes) ++ parts.text_of more =
+          ap (λ z. chars h.added ++ z) (text_append l.out more)
+          ∙ sym (append_assoc (chars h.added) (parts.text_of l.out) (parts.text_of more))
+          ∙ ap (λ z. (chars h.added ++ z) ++ parts.text_of more) (sym (l.spells ∙ ap parts.text_of all))
+          ∙ ap (λ z. z ++ parts.text_of more) (sym (chars-append h.added l.bytes h.utf8)) in
+          let list : tokens ++ tokens_of (l.out ++ more) ≡ (tokens ++ ts) ++ tokens_of more =
+          ap (λ z. tokens ++ z) (tokens_append l.out more)
+          ∙ ap (λ z. tokens ++ (z ++ tokens_of more)) l.tokens
+          ∙ sym (append_assoc tokens ts (tokens_of more)) in
+          let none : remarks_in (l.out ++ more) ≡ remarks_in more = remarks_append l.out more ∙ ap (λ z. z ++ remarks_in more) (ap remarks_in (sym all) ∙ l.remarks) in
+          subst (λ z. Reads z ((tokens ++ ts) ++ tokens_of more) (remarks_in more)) text
+          (subst (λ z. Reads (chars h.added ++ parts.text_of (l.out ++ more)) z (remarks_in more)) list
+          (subst (λ z. Reads (chars h.added ++ parts.text_of (l.out ++ more)) (tokens ++ tokens_of (l.out ++ more)) z) none
+          (h.reads (l.out ++ more) (l.apart more n))));
+      rest = l.rest;
+    }
 
 -- a part that writes tokens, and was made
 emitted_so_far : (part : Part) (old : List ℕ) (tokens ts : List lexical.Token) (a b : State) {remade : Bool} → Makes a.env part ts remade → Emits part a b (Ok tt) → ReadsSoFar old tokens a → ReadsSoFar old (tokens ++ ts) b
@@ -71,28 +76,29 @@ operator_so_far t old tokens a b w e h = one_so_far (operator t) (lexical.punctu
 pub punct_so_far : (t old : List ℕ) (tokens : List lexical.Token) (a b : State) → IsMark t → Emits (punct t) a b (Ok tt) → ReadsSoFar old tokens a → ReadsSoFar old (tokens ++ lexical.punctuator t ∷ []) b
 punct_so_far t old tokens a b w e h = one_so_far (punct t) (lexical.punctuator t) old tokens a b (prints_punct a.env t w) e h
 
-pub semi_so_far : (old : List ℕ) (tokens : List lexical.Token) (a b : State) → Emits semi a b (Ok tt) → ReadsSoFar old tokens a → ReadsSoFar old (tokens ++ lexical.punctuator (codes ";") ∷ []) b
-semi_so_far old tokens a b e h = one_so_far semi (lexical.punctuator (codes ";")) old tokens a b (prints_semi a.env) e h
+pub semi_so_far : (old : List ℕ) (tokens : List lexical.Token) (a b : State) → Emits semi a b (Ok tt) → ReadsSoFar old tokens a → ReadsSoFar old (tokens ++ lexical.ending ∷ []) b
+semi_so_far old tokens a b e h = one_so_far semi lexical.ending old tokens a b (prints_semi a.env) e h
 
 -- a name, and `?` after an optional one
-name_list : (bytes : List ℕ) (optional : Bool) (ts : List lexical.Token) → Generates (NameOf bytes > cond optional (mark (codes "?")) Nothing) ts → ts ≡ name_tokens bytes optional
+name_list : (at : BytePos) (bytes : List ℕ) (optional : Bool) (ts : List lexical.Token) → Generates (NameOf at bytes > cond optional (mark (codes "?")) Nothing) ts → ts ≡ name_tokens bytes optional
 unfolding Generates
-name_list bytes true ts g = g.4 ∙ ap (λ z. z ++ g.1) g.2 ∙ ap (λ z. name_tokens bytes false ++ z) g.3
-name_list bytes false ts g = g.4 ∙ ap (λ z. z ++ g.1) g.2 ∙ ap (λ z. name_tokens bytes false ++ z) g.3
+name_list at bytes true ts g = g.4 ∙ ap (λ z. z ++ g.1) g.2 ∙ ap (λ z. name_tokens bytes false ++ z) g.3
+name_list at bytes false ts g = g.4 ∙ ap (λ z. z ++ g.1) g.2 ∙ ap (λ z. name_tokens bytes false ++ z) g.3
 
-name_possible : (bytes : List ℕ) (optional : Bool) → is_well_formed_name bytes ≡ true → is_possible (NameOf bytes > cond optional (mark (codes "?")) Nothing) ≡ true
+name_possible : (at : BytePos) (bytes : List ℕ) (optional : Bool) → is_well_formed_name bytes ≡ true → is_possible (NameOf at bytes > cond optional (mark (codes "?")) Nothing) ≡ true
 unfolding is_possible
-name_possible bytes true w = ap (λ z. z && true) w
-name_possible bytes false w = ap (λ z. z && true) w
+name_possible at bytes true w = ap (λ z. z && true) w
+name_possible at bytes false w = ap (λ z. z && true) w
 
 pub name_so_far : (span : Span) (bytes : List ℕ) (optional : Bool) (old : List ℕ) (tokens : List lexical.Token) (a b : State) → a.env.keeps_invalid ≡ false → is_well_formed_name bytes ≡ true → Emits (name span bytes optional) a b (Ok tt) → ReadsSoFar old tokens a → ReadsSoFar old (tokens ++ name_tokens bytes optional) b
 name_so_far span bytes optional old tokens a b v w e h =
-    let p = (prints_ident a.env span bytes optional v).where_possible (name_possible bytes optional w) in
-    subst (λ z. ReadsSoFar old (tokens ++ z) b) (name_list bytes optional p.tokens p.generated) (emitted_so_far (name span bytes optional) old tokens p.tokens a b p.writes e h)
+    let p = (prints_ident a.env span bytes optional v).where_possible (name_possible span.lo bytes optional w) in
+    subst (λ z. ReadsSoFar old (tokens ++ z) b) (name_list span.lo bytes optional p.tokens p.generated) (emitted_so_far (name span bytes optional) old tokens p.tokens a b p.writes e h)
 
 -- nothing was written yet
-pub new_so_far : (s : State) → IsNew s → ReadsSoFar s.sheet.text [] s
-new_so_far s n = record {
+pub new_so_far : (s : State) → IsNew s → holds_semicolons s.sheet.semicolons ≡ false → ReadsSoFar s.sheet.text [] s
+new_so_far s n o = record {
+  at_once = o;
   added = [];
   is_added = sym (append-nil s.sheet.text);
   utf8 = IsUtf8-nil;
@@ -100,8 +106,14 @@ new_so_far s n = record {
   rest = new_at_rest s n;
 }
 
+-- no semicolon is left out
+all_kept : (ts : List lexical.Token) → IsReduced ts ts
+unfolding IsReduced
+all_kept [] = refl
+all_kept (x ∷ xs) = inl (xs, refl, all_kept xs)
+
 -- where nothing follows
-pub so_far_reads : (f : Phrase) (old : List ℕ) (tokens : List lexical.Token) (s : State) → Generates f tokens → ReadsSoFar old tokens s → AddsReading f old s.sheet.text
+pub so_far_reads : (f : Phrase) (old : List ℕ) (tokens : List lexical.Token) (s : State) → Generates f tokens → ReadsSoFar old tokens s → AddsText false f old s.sheet.text
 unfolding NoneFuse parts.text_of tokens_of remarks_in
 so_far_reads f old tokens s g h = record {
   added = h.added;
@@ -110,6 +122,9 @@ so_far_reads f old tokens s g h = record {
     utf8 = h.utf8;
     tokens = tokens;
     is_list = g;
+    written = tokens;
+    reduced = all_kept tokens;
+    whole = λ e. refl;
     reads = subst (λ z. Reads (chars h.added) z []) (append-nil tokens) (subst (λ z. Reads z (tokens ++ []) []) (append-nil (chars h.added)) (h.reads [] (h.rest.allowed [])));
   };
 }

@@ -1,16 +1,16 @@
 -- What steps write: tokens, and blanks between them.
-use Rattle.std.proofs.Common.{◌≡◌, ℕ, Bool, true, false, cond, List, [], ◌∷◌, ◌++◌, codes, refl, sym, ap, ◌∙◌, subst, append_assoc, append-nil, inl, inr}
+use Rattle.std.proofs.Common.{◌≡◌, ℕ, Bool, true, false, cond, List, [], ◌∷◌, ◌++◌, Option, Some, None, codes, refl, sym, ap, ◌∙◌, subst, append_assoc, append-nil, inl, inr, ◌==◌, ◌||◌, ◌&&◌}
 use Rattle.std.specs.List.{repeat}
 use Rattle.std.specs.Str.{chars, is_utf8, IsUtf8}
-use Rattle.std.proofs.lemmas.Bool.{and_parts, true≢false}
+use Rattle.std.proofs.lemmas.Bool.{and_parts, eqb-true, or_cases, true≢false}
 use Rattle.std.proofs.lemmas.Str.{chars-nil, chars-append, IsUtf8-nil, IsUtf8-append, IsUtf8-from_is_utf8}
 use Rattle.swc_ecma_codegen_ast.specs.declared.kinds.Kind.{Kind}
-use Rattle.swc_ecma_codegen_ast.specs.declared.kinds.Kind.TheVariants.{Word, Name, Punctuator}
+use Rattle.swc_ecma_codegen_ast.specs.declared.kinds.Kind.TheVariants.{Word, Name, Punctuator, Ending}
 use Rattle.swc_ecma_codegen_ast.specs.Tokens as lexical
 use Rattle.swc_ecma_codegen_ast.specs.Tokens.{has_shape, token_of}
 use Rattle.swc_ecma_codegen_ast.specs.Names.{is_word, is_name, name_rest}
 use Rattle.swc_ecma_codegen_ast.specs.Punctuators.{is_punctuator, punctuators}
-use Rattle.swc_ecma_codegen_ast.specs.Texts.{is_same, is_among}
+use Rattle.swc_ecma_codegen_ast.specs.Texts.{begins, is_same, is_among}
 use Rattle.swc_ecma_codegen_ast.specs.Chars.{is_blank}
 use Rattle.swc_ecma_codegen_ast.specs.Trivia.{Blank, is_piece, piece_text, pieces_text, all_pieces, remarks_of}
 use Rattle.swc_ecma_codegen_ast.specs.Reads.{is_child, is_hashbang_kind}
@@ -18,23 +18,40 @@ use Rattle.swc_ecma_codegen_ast.specs.GapRules.{Last, Start, Apart, Mark, LessBa
 use Rattle.swc_ecma_codegen_ast.specs.Parts as parts
 use Rattle.swc_ecma_codegen_ast.specs.Parts.{Gap, Own, tokens_of, remarks_in, NoneFuse}
 use Rattle.swc_ecma_codegen_ast.proofs.Reading.{blank_fuses}
-use Rattle.swc_ecma_codegen_text_writer.specs.Sheet.{Sheet, Space, Line, appended, indented, started, written, ended, effect}
-use Rattle.swc_ecma_codegen_text_writer.proofs.Sheets.{written_same}
+use Rattle.swc_ecma_codegen_common.specs.declared.positions.BytePos.{BytePos}
+use Rattle.swc_ecma_codegen_common.specs.declared.positions.Span.{Span}
+use Rattle.swc_ecma_codegen_ast.specs.Parts.{Reduced, IsEnding}
+use Rattle.swc_ecma_codegen_ast.proofs.Dropped.{reduced_same, reduced_after}
+use Rattle.swc_ecma_codegen_text_writer.specs.Sheet.{Sheet, Semicolons, AtOnce, HoldsNone, HoldsOne, holds_semicolons, Space, Line, Position, Commit, appended, indented, started, written, ended, pointed, settled, settled_by, semicolon_by, dropped, before_punct, is_ending, effect}
+use Rattle.swc_ecma_codegen_text_writer.proofs.Sheets.{Alike, written_alike, written_same, ended_alike, pointed_alike, settled_alike, alike_same}
 use Rattle.swc_ecma_codegen_base.specs.Run.{State, Guard, put, spelling}
-use Rattle.swc_ecma_codegen_base.specs.Written.{IsLineEnd, is_indent, all_indent, is_free, AtRest}
+use Rattle.swc_ecma_codegen_base.specs.Written.{IsLineEnd, is_indent, all_indent, is_free, holds_one, AtRest}
+use Rattle.swc_ecma_codegen_base.proofs.Held.{front_of, front, written_text, in_line, written_semicolons, pointed_keeps, settled_none, unheld_settled, unheld_dropped, dropped_none, dropped_holds}
 use Rattle.swc_ecma_codegen_base.proofs.Indented.{indent_append, indent_repeat, indent_utf8, indent_chars, blanks, blanks_text, indent_blank, blanks_pieces, blanks_remarks}
 
--- From one state to another these tokens were written, and blanks between them: parts in which no two fuse, by bytes
--- that stand for them.
+-- what is asked for and isn't out yet: a semicolon that is held back, where it would stand
+abbrev pub held_of : Bool → Sheet → List parts.Part
+held_of b s = cond b (Gap (blanks (front s)) ∷ Own Ending (codes ";") ∷ []) []
+
+abbrev pub held : Sheet → List parts.Part
+held s = held_of (holds_one s.semicolons) s
+
+-- From one state to another these tokens were asked for, with blanks between them: parts in which no two fuse. What went
+-- out are the same parts without some semicolons that aren't needed, and without one that is still held back.
 pub record Lays (ts : List lexical.Token) (a b : State) : Type 0 where
   pub out : List parts.Part
+  pub laid : List parts.Part
   pub bytes : List ℕ
   pub text : b.sheet.text ≡ a.sheet.text ++ bytes
   pub utf8 : IsUtf8 bytes
-  pub spells : chars bytes ≡ parts.text_of out
+  pub spells : chars bytes ≡ parts.text_of laid
   pub tokens : tokens_of out ≡ ts
-  pub remarks : remarks_in out ≡ []
+  pub remarks : remarks_in laid ≡ []
   pub apart : (more : List parts.Part) → NoneFuse b.last more → NoneFuse a.last (out ++ more)
+  pub reduces : (more ys : List parts.Part) → Reduced (held b.sheet ++ more) ys → Reduced (held a.sheet ++ (out ++ more)) (laid ++ ys)
+  -- a writer that holds nothing back leaves nothing out
+  pub holds : holds_semicolons b.sheet.semicolons ≡ holds_semicolons a.sheet.semicolons
+  pub whole : holds_semicolons a.sheet.semicolons ≡ false → laid ≡ out
   pub rest : AtRest b
 
 pub text_append : (xs ys : List parts.Part) → parts.text_of (xs ++ ys) ≡ parts.text_of xs ++ parts.text_of ys
@@ -59,69 +76,69 @@ remarks_append (Own x t ∷ xs) ys = remarks_append xs ys
 pub lays_then : (ts us : List lexical.Token) (a b c : State) → Lays ts a b → Lays us b c → Lays (ts ++ us) a c
 lays_then ts us a b c h k = record {
   out = h.out ++ k.out;
+  laid = h.laid ++ k.laid;
   bytes = h.bytes ++ k.bytes;
   text = k.text ∙ ap (λ z. z ++ k.bytes) h.text ∙ append_assoc a.sheet.text h.bytes k.bytes;
   utf8 = IsUtf8-append h.bytes k.bytes h.utf8 k.utf8;
-  spells = chars-append h.bytes k.bytes h.utf8 ∙ ap (λ z. z ++ chars k.bytes) h.spells ∙ ap (λ z. parts.text_of h.out ++ z) k.spells ∙ sym (text_append h.out k.out);
+  spells = chars-append h.bytes k.bytes h.utf8 ∙ ap (λ z. z ++ chars k.bytes) h.spells ∙ ap (λ z. parts.text_of h.laid ++ z) k.spells ∙ sym (text_append h.laid k.laid);
   tokens = tokens_append h.out k.out ∙ ap (λ z. z ++ tokens_of k.out) h.tokens ∙ ap (λ z. ts ++ z) k.tokens;
-  remarks = remarks_append h.out k.out ∙ ap (λ z. z ++ remarks_in k.out) h.remarks ∙ k.remarks;
+  remarks = remarks_append h.laid k.laid ∙ ap (λ z. z ++ remarks_in k.laid) h.remarks ∙ k.remarks;
   apart = λ more n. subst (λ z. NoneFuse a.last z) (sym (append_assoc h.out k.out more)) (h.apart (k.out ++ more) (k.apart more n));
+  reduces = λ more ys r.
+      subst (λ z. Reduced (held a.sheet ++ z) ((h.laid ++ k.laid) ++ ys)) (sym (append_assoc h.out k.out more))
+      (subst (λ z. Reduced (held a.sheet ++ (h.out ++ (k.out ++ more))) z) (sym (append_assoc h.laid k.laid ys)) (h.reduces (k.out ++ more) (k.laid ++ ys) (k.reduces more ys r)));
+  holds = k.holds ∙ h.holds;
+  whole = λ e. ap (λ z. z ++ k.laid) (h.whole e) ∙ ap (λ z. h.out ++ z) (k.whole (h.holds ∙ e));
   rest = k.rest;
 }
 
--- nothing
-pub lays_nothing : (s : State) → AtRest s → Lays [] s s
+-- nothing, where nothing that matters changes
+lays_same : (a b : State) → b.sheet.text ≡ a.sheet.text → b.last ≡ a.last → held b.sheet ≡ held a.sheet → holds_semicolons b.sheet.semicolons ≡ holds_semicolons a.sheet.semicolons → AtRest b → Lays [] a b
 unfolding parts.text_of tokens_of remarks_in
-lays_nothing s r = record {
+lays_same a b t l h o r = record {
   out = [];
+  laid = [];
   bytes = [];
-  text = sym (append-nil s.sheet.text);
+  text = t ∙ sym (append-nil a.sheet.text);
   utf8 = IsUtf8-nil;
   spells = chars-nil;
   tokens = refl;
   remarks = refl;
-  apart = λ more n. n;
+  apart = λ more n. subst (λ k. NoneFuse k more) l n;
+  reduces = λ more ys d. subst (λ z. Reduced (z ++ more) ys) h d;
+  holds = o;
+  whole = λ e. refl;
   rest = r;
 }
 
+pub lays_nothing : (s : State) → AtRest s → Lays [] s s
+lays_nothing s r = lays_same s s refl refl refl refl r
+
+-- the parts that are asked for go out, where no semicolon is held back
+laid_out : (a b : State) (out more ys : List parts.Part) → holds_one a.sheet.semicolons ≡ false → holds_one b.sheet.semicolons ≡ false → Reduced (held b.sheet ++ more) ys → Reduced (held a.sheet ++ (out ++ more)) (out ++ ys)
+laid_out a b out more ys h k r =
+    subst (λ z. Reduced (held_of z a.sheet ++ (out ++ more)) (out ++ ys)) (sym h) (reduced_after out more ys (subst (λ z. Reduced (held_of z b.sheet ++ more) ys) k r))
+
 -- ---- texts, and the indentation at a line's start
-
--- what a text is preceded by
-abbrev front_of : Bool → Sheet → List ℕ
-front_of b s = cond b (repeat s.indentation s.indent_text) []
-
-abbrev front : Sheet → List ℕ
-front s = front_of s.at_line_start s
 
 front_indent : (s : Sheet) → all_indent s.indent_text ≡ true → all_indent (front s) ≡ true
 unfolding all_indent
 front_indent s h = elim s.at_line_start as (λ b. all_indent (front_of b s) ≡ true) [ true ↦ indent_repeat s.indentation s.indent_text h | false ↦ refl ]
 
-started_text : (s : Sheet) → (started s).text ≡ s.text ++ front s
-unfolding started indented
-started_text s =
-    elim s.at_line_start as (λ b. (cond b (record (indented s.indentation s) { at_line_start = false }) s).text ≡ s.text ++ front_of b s)
-    [ true ↦ refl | false ↦ sym (append-nil s.text) ]
-
-written_text : (c : ℕ) (cs : List ℕ) (s : Sheet) → (written (c ∷ cs) s).text ≡ s.text ++ (front s ++ c ∷ cs)
-unfolding written appended
-written_text c cs s = ap (λ z. z ++ c ∷ cs) (started_text s) ∙ append_assoc s.text (front s) (c ∷ cs)
-
-started_in_line : (b : Bool) (s : Sheet) → s.at_line_start ≡ b → (cond b (record (indented s.indentation s) { at_line_start = false }) s).at_line_start ≡ false
-started_in_line true s e = refl
-started_in_line false s e = e
-
-in_line : (c : ℕ) (cs : List ℕ) (s : Sheet) → (written (c ∷ cs) s).at_line_start ≡ false
-unfolding written appended started
-in_line c cs s = started_in_line s.at_line_start s refl
-
-at_text : (c : ℕ) (cs : List ℕ) (s : State) (k : Last) → ((t : List ℕ) → allows k t ≡ true) → AtRest s → AtRest (record s { sheet = written (c ∷ cs) s.sheet; last = k })
-at_text c cs s k h r = record {
-  indent_text = subst (λ z. all_indent z ≡ true) (sym (written_same (c ∷ cs) s.sheet).indent_text) r.indent_text;
-  line_end = subst (λ z. IsLineEnd z) (sym (written_same (c ∷ cs) s.sheet).line_end) r.line_end;
-  free = λ e. absurd (true≢false (sym e ∙ in_line c cs s.sheet));
+at_text : (span : Option Span) (c : ℕ) (cs : List ℕ) (s : State) (k : Last) → ((t : List ℕ) → allows k t ≡ true) → all_indent s.sheet.indent_text ≡ true → IsLineEnd s.sheet.line_end → AtRest (record s { sheet = written span (c ∷ cs) s.sheet; last = k })
+at_text span c cs s k h i l = record {
+  indent_text = subst (λ z. all_indent z ≡ true) (sym (written_same span (c ∷ cs) s.sheet).indent_text) i;
+  line_end = subst (λ z. IsLineEnd z) (sym (written_same span (c ∷ cs) s.sheet).line_end) l;
+  free = λ o e. absurd (true≢false (sym e ∙ in_line span c cs s.sheet));
   allowed = h;
 }
+
+-- nothing is held before a text, nor after it
+still_none : (span : Option Span) (t : List ℕ) (s : Sheet) → holds_one s.semicolons ≡ false → holds_one (written span t s).semicolons ≡ false
+still_none span t s h = ap holds_one (written_semicolons span t s) ∙ h
+
+still_holds : (span : Option Span) (t : List ℕ) (s : Sheet) → holds_semicolons (written span t s).semicolons ≡ holds_semicolons s.semicolons
+still_holds span t s = ap holds_semicolons (written_semicolons span t s)
 
 -- ---- blanks and line ends
 
@@ -179,25 +196,136 @@ blank_apart k (c ∷ cs) xs h a n =
     let p = and_parts (is_indent c) (all_indent (cs ++ codes " ")) h in
     (blanks_pieces (c ∷ (cs ++ codes " ")) h, blank_fuses k c (pieces_text (blanks (cs ++ codes " "))) (indent_blank c p.0), a (c ∷ pieces_text (blanks (cs ++ codes " "))), n)
 
+-- ---- a semicolon that is held back goes out
+
+abbrev settle : State → State
+settle s = record s { sheet = settled s.sheet }
+
+settle_by : Semicolons → State → State
+settle_by x s = record s { sheet = settled_by x s.sheet }
+
+settled_at : (x : Semicolons) (s : State) → x ≡ s.sheet.semicolons → AtRest s → AtRest (settle_by x s)
+unfolding settled_by settle_by
+settled_at AtOnce s e r = r
+settled_at HoldsNone s e r = r
+settled_at (HoldsOne span) s e r = record {
+  indent_text = subst (λ z. all_indent z ≡ true) (sym (written_same span (codes ";") (record s.sheet { semicolons = HoldsNone })).indent_text) r.indent_text;
+  line_end = subst (λ z. IsLineEnd z) (sym (written_same span (codes ";") (record s.sheet { semicolons = HoldsNone })).line_end) r.line_end;
+  free = λ o e. absurd (true≢false (sym e ∙ in_line span 59 [] (record s.sheet { semicolons = HoldsNone })));
+  allowed = r.allowed;
+}
+
+settle_rest : (s : State) → AtRest s → AtRest (settle s)
+unfolding settle_by
+settle_rest s r = settled_at s.sheet.semicolons s refl r
+
+semicolon_gap : List ℕ → List parts.Part
+semicolon_gap u = Gap (blanks u) ∷ Own Ending (codes ";") ∷ []
+
+semicolon_chars : chars (codes ";") ≡ codes ";"
+unfolding chars lib.Utf8.encode
+semicolon_chars = refl
+
+semicolon_utf8 : IsUtf8 (codes ";")
+unfolding chars is_utf8 lib.Utf8.encode
+semicolon_utf8 = IsUtf8-from_is_utf8 (codes ";") refl
+
+settles_spells : (u bytes : List ℕ) (laid : List parts.Part) → all_indent u ≡ true → chars bytes ≡ parts.text_of laid → chars ((u ++ codes ";") ++ bytes) ≡ parts.text_of (semicolon_gap u ++ laid)
+unfolding semicolon_gap parts.text_of
+settles_spells u bytes laid h e =
+    chars-append (u ++ codes ";") bytes (IsUtf8-append u (codes ";") (indent_utf8 u h) semicolon_utf8)
+    ∙ ap (λ z. z ++ chars bytes) (chars-append u (codes ";") (indent_utf8 u h) ∙ ap (λ z. z ++ chars (codes ";")) (indent_chars u h ∙ sym (blanks_text u)) ∙ ap (λ z. pieces_text (blanks u) ++ z) semicolon_chars)
+    ∙ ap (λ z. (pieces_text (blanks u) ++ codes ";") ++ z) e
+    ∙ append_assoc (pieces_text (blanks u)) (codes ";") (parts.text_of laid)
+
+settles_remarks : (u : List ℕ) (laid : List parts.Part) → remarks_in laid ≡ [] → remarks_in (semicolon_gap u ++ laid) ≡ []
+unfolding semicolon_gap remarks_in
+settles_remarks u laid h = ap (λ z. z ++ remarks_in laid) (blanks_remarks u) ∙ h
+
+settles_reduces : (x : Semicolons) {span : Option Span} → HoldsOne span ≡ x → (u : List ℕ) (xs ys : List parts.Part) (s : Sheet) → u ≡ front s → Reduced xs ys → Reduced (held_of (holds_one x) s ++ xs) (semicolon_gap u ++ ys)
+unfolding semicolon_gap holds_one
+settles_reduces x {span} e u xs ys s f r =
+    subst (λ z. Reduced (held_of (holds_one z) s ++ xs) (semicolon_gap u ++ ys)) e
+    (subst (λ z. Reduced (semicolon_gap z ++ xs) (semicolon_gap u ++ ys)) f (reduced_after (semicolon_gap u) xs ys r))
+
+-- it stands before what is laid from there
+settles : (x : Semicolons) (s b : State) (ts : List lexical.Token) → x ≡ s.sheet.semicolons → AtRest s → Lays ts (settle_by x s) b → Lays ts s b
+unfolding settle_by settled_by holds_one semicolon_gap
+settles AtOnce s b ts e r l = l
+settles HoldsNone s b ts e r l = l
+settles (HoldsOne span) s b ts e r l =
+    let there : Sheet = record s.sheet { semicolons = HoldsNone } in
+    let h = front_indent there r.indent_text in
+    let u : List ℕ = front there ++ codes ";" in
+    let q : holds_one (written span (codes ";") there).semicolons ≡ false = still_none span (codes ";") there refl in
+    let gap : List parts.Part = semicolon_gap (front there) in
+    record {
+      out = l.out;
+      laid = gap ++ l.laid;
+      bytes = u ++ l.bytes;
+      text = l.text ∙ ap (λ z. z ++ l.bytes) (written_text span 59 [] there) ∙ append_assoc s.sheet.text u l.bytes;
+      utf8 = IsUtf8-append u l.bytes (IsUtf8-append (front there) (codes ";") (indent_utf8 _ h) semicolon_utf8) l.utf8;
+      spells = settles_spells (front there) l.bytes l.laid h l.spells;
+      tokens = l.tokens;
+      remarks = settles_remarks (front there) l.laid l.remarks;
+      apart = l.apart;
+      reduces = λ more ys d. settles_reduces s.sheet.semicolons e (front there) (l.out ++ more) (l.laid ++ ys) s.sheet refl (subst (λ z. Reduced (held_of z (written span (codes ";") there) ++ (l.out ++ more)) (l.laid ++ ys)) q (l.reduces more ys d));
+      holds = l.holds ∙ still_holds span (codes ";") there ∙ ap holds_semicolons e;
+      whole = λ w. absurd (true≢false (ap holds_semicolons e ∙ w));
+      rest = l.rest;
+    }
+
+pub lays_settled : (s b : State) (ts : List lexical.Token) → AtRest s → Lays ts (settle s) b → Lays ts s b
+unfolding settle_by
+lays_settled s b ts r l = settles s.sheet.semicolons s b ts refl r l
+
+-- a semicolon that is held back is written
+pub lays_commit : (s : State) → AtRest s → Lays [] s (settle s)
+lays_commit s r = lays_settled s (settle s) [] r (lays_nothing (settle s) (settle_rest s r))
+
+-- a position that is noted
+pub lays_position : (pos : BytePos) (s : State) → AtRest s → Lays [] s (record s { sheet = pointed pos s.sheet })
+lays_position pos s r =
+    let p = alike_same s.sheet (pointed pos s.sheet) (pointed_alike pos s.sheet) in
+    lays_same s (record s { sheet = pointed pos s.sheet }) (pointed_keeps (λ z. z.text) (λ z x. refl) (λ z x. refl) pos s.sheet) refl
+    (pointed_keeps (λ z. held z) (λ z x. refl) (λ z x. refl) pos s.sheet) p.holds
+    (record {
+      indent_text = subst (λ z. all_indent z ≡ true) (sym p.indent_text) r.indent_text;
+      line_end = subst (λ z. IsLineEnd z) (sym p.line_end) r.line_end;
+      free = λ o e. r.free (sym (pointed_keeps (λ z. holds_one z.semicolons) (λ z x. refl) (λ z x. refl) pos s.sheet) ∙ o) (sym (pointed_keeps (λ z. z.at_line_start) (λ z x. refl) (λ z x. refl) pos s.sheet) ∙ e);
+      allowed = r.allowed;
+    })
+
+-- ---- blanks and line ends, where nothing is held back
+
 -- a blank
-pub lays_blank : (s : State) → AtRest s → Lays [] s (record s { sheet = effect Space s.sheet; last = Apart })
-unfolding effect parts.text_of tokens_of remarks_in NoneFuse all_indent is_indent allows
-lays_blank s r =
+blank_here : (s : State) → holds_one s.sheet.semicolons ≡ false → AtRest s → Lays [] s (record s { sheet = written None (codes " ") s.sheet; last = Apart })
+unfolding parts.text_of tokens_of remarks_in NoneFuse all_indent is_indent allows
+blank_here s o r =
     let h : all_indent (front s.sheet ++ codes " ") ≡ true = indent_append (front s.sheet) (codes " ") (front_indent s.sheet r.indent_text) refl in
+    let there : State = record s { sheet = written None (codes " ") s.sheet; last = Apart } in
     record {
       out = Gap (blanks (front s.sheet ++ codes " ")) ∷ [];
+      laid = Gap (blanks (front s.sheet ++ codes " ")) ∷ [];
       bytes = front s.sheet ++ codes " ";
-      text = written_text 32 [] s.sheet;
+      text = written_text None 32 [] s.sheet;
       utf8 = indent_utf8 _ h;
       spells = indent_chars _ h ∙ sym (blanks_text _) ∙ sym (append-nil (pieces_text (blanks (front s.sheet ++ codes " "))));
       tokens = refl;
       remarks = append-nil (remarks_of (blanks (front s.sheet ++ codes " "))) ∙ blanks_remarks _;
       apart = λ more n. blank_apart s.last (front s.sheet) more h r.allowed n;
-      rest = at_text 32 [] s Apart (λ t. refl) r;
+      reduces = λ more ys d. laid_out s there (Gap (blanks (front s.sheet ++ codes " ")) ∷ []) more ys o (still_none None (codes " ") s.sheet o) d;
+      holds = still_holds None (codes " ") s.sheet;
+      whole = λ e. refl;
+      rest = at_text None 32 [] s Apart (λ t. refl) r.indent_text r.line_end;
     }
 
+pub lays_blank : (s : State) → AtRest s → Lays [] s (record s { sheet = effect Space s.sheet; last = Apart })
+unfolding effect
+lays_blank s r = lays_settled s _ [] r (blank_here (settle s) (settled_none s.sheet) (settle_rest s r))
+
 line_put : Bool → State → State
-line_put b s = record s { sheet = cond b s.sheet (record (appended s.sheet.line_end s.sheet) { at_line_start = true }); last = Apart }
+line_put b s = record s { sheet = cond b (record s.sheet { pending = None }) (record (appended s.sheet.line_end s.sheet) { at_line_start = true }); last = Apart }
 
 apart_open : (t : List ℕ) → allows Apart t ≡ true
 unfolding allows
@@ -205,13 +333,14 @@ apart_open t = refl
 
 line_rest : (s : State) → AtRest s → AtRest (line_put false s)
 unfolding line_put appended is_free
-line_rest s r = record { indent_text = r.indent_text; line_end = r.line_end; free = λ e. refl; allowed = apart_open }
+line_rest s r = record { indent_text = r.indent_text; line_end = r.line_end; free = λ o e. refl; allowed = apart_open }
 
 -- a line end by its bytes
-lays_end : (s : State) → AtRest s → IsLineEnd s.sheet.line_end → Lays [] s (line_put false s)
+lays_end : (s : State) → holds_one s.sheet.semicolons ≡ false → AtRest s → IsLineEnd s.sheet.line_end → Lays [] s (line_put false s)
 unfolding line_put appended parts.text_of tokens_of remarks_in NoneFuse last_after_gap pieces_text piece_text all_pieces is_piece is_blank remarks_of chars is_utf8 lib.Utf8.encode
-lays_end s r (inl e) = record {
+lays_end s o r (inl e) = record {
   out = Gap (Blank 10 ∷ []) ∷ [];
+  laid = Gap (Blank 10 ∷ []) ∷ [];
   bytes = 10 ∷ [];
   text = ap (λ z. s.sheet.text ++ z) e;
   utf8 = IsUtf8-from_is_utf8 (10 ∷ []) refl;
@@ -219,10 +348,14 @@ lays_end s r (inl e) = record {
   tokens = refl;
   remarks = refl;
   apart = λ more n. (refl, blank_fuses s.last 10 [] refl, r.allowed (10 ∷ []), n);
+  reduces = λ more ys d. laid_out s (line_put false s) (Gap (Blank 10 ∷ []) ∷ []) more ys o o d;
+  holds = refl;
+  whole = λ e. refl;
   rest = line_rest s r;
 }
-lays_end s r (inr e) = record {
+lays_end s o r (inr e) = record {
   out = Gap (Blank 13 ∷ Blank 10 ∷ []) ∷ [];
+  laid = Gap (Blank 13 ∷ Blank 10 ∷ []) ∷ [];
   bytes = 13 ∷ 10 ∷ [];
   text = ap (λ z. s.sheet.text ++ z) e;
   utf8 = IsUtf8-from_is_utf8 (13 ∷ 10 ∷ []) refl;
@@ -230,28 +363,39 @@ lays_end s r (inr e) = record {
   tokens = refl;
   remarks = refl;
   apart = λ more n. (refl, blank_fuses s.last 13 (10 ∷ []) refl, r.allowed (13 ∷ 10 ∷ []), n);
+  reduces = λ more ys d. laid_out s (line_put false s) (Gap (Blank 13 ∷ Blank 10 ∷ []) ∷ []) more ys o o d;
+  holds = refl;
+  whole = λ e. refl;
   rest = line_rest s r;
 }
 
-line_case : (b : Bool) (s : State) → s.sheet.at_line_start ≡ b → AtRest s → Lays [] s (line_put b s)
+line_case : (b : Bool) (s : State) → s.sheet.at_line_start ≡ b → holds_one s.sheet.semicolons ≡ false → AtRest s → Lays [] s (line_put b s)
 unfolding line_put parts.text_of tokens_of remarks_in is_free
-line_case true s e r = record {
+line_case true s e o r = record {
   out = [];
+  laid = [];
   bytes = [];
   text = sym (append-nil s.sheet.text);
   utf8 = IsUtf8-nil;
   spells = chars-nil;
   tokens = refl;
   remarks = refl;
-  apart = λ more n. free_apart s.last (r.free e) more n;
-  rest = record { indent_text = r.indent_text; line_end = r.line_end; free = λ z. refl; allowed = apart_open };
+  apart = λ more n. free_apart s.last (r.free o e) more n;
+  reduces = λ more ys d. laid_out s (line_put true s) [] more ys o o d;
+  holds = refl;
+  whole = λ e. refl;
+  rest = record { indent_text = r.indent_text; line_end = r.line_end; free = λ o z. refl; allowed = apart_open };
 }
-line_case false s e r = lays_end s r r.line_end
+line_case false s e o r = lays_end s o r r.line_end
+
+line_here : (s : State) → holds_one s.sheet.semicolons ≡ false → AtRest s → Lays [] s (record s { sheet = ended s.sheet; last = Apart })
+unfolding ended line_put
+line_here s o r = line_case s.sheet.at_line_start s refl o r
 
 -- the line ends, unless at a line's start
 pub lays_line : (s : State) → AtRest s → Lays [] s (record s { sheet = effect Line s.sheet; last = Apart })
-unfolding effect ended line_put
-lays_line s r = line_case s.sheet.at_line_start s refl r
+unfolding effect
+lays_line s r = lays_settled s _ [] r (line_here (settle s) (settled_none s.sheet) (settle_rest s r))
 
 -- ---- tokens
 
@@ -315,9 +459,37 @@ spelled_mark t u e h = record {
   some = λ e. true≢false (sym h ∙ ap is_punctuator e ∙ nothing_is_no_mark);
 }
 
--- a token by one call
-unfoldable pub own_put : Kind → List ℕ → State → State
-own_put kind t s = record s { sheet = written t s.sheet; last = last_after s.last kind (spelling kind t) }
+pub spelled_ending : Spelled Ending (codes ";")
+unfolding spelling has_shape is_child is_hashbang_kind last_after is_same chars lib.Utf8.encode
+spelled_ending = record {
+  utf8 = semicolon_utf8;
+  same = refl;
+  shape = refl;
+  no_child = λ e. true≢false (sym e);
+  no_hashbang = λ e. true≢false (sym e);
+  allowed = λ k v. mark_allows k (codes ";") v;
+  some = λ e. cc;
+}
+
+-- the last token after one of a kind
+abbrev pub after : Kind → List ℕ → State → Last
+after kind t s = last_after s.last kind (spelling kind t)
+
+-- a token by one call, where nothing is held back
+own_here : Kind → Option Span → List ℕ → State → State
+own_here kind span t s = record s { sheet = written span t s.sheet; last = after kind t s }
+
+-- a token by one call, after a semicolon that is held back
+unfoldable pub own_put : Kind → Option Span → List ℕ → State → State
+own_put kind span t s = record s { sheet = written span t (settled s.sheet); last = after kind t s }
+
+-- a punctuator by one call
+unfoldable pub punct_put : Option Span → List ℕ → State → State
+punct_put span t s = record s { sheet = written span t (before_punct t s.sheet); last = after Punctuator t s }
+
+-- a semicolon that ends a statement, by one call
+unfoldable pub semi_put : Option Span → State → State
+semi_put span s = record s { sheet = semicolon_by s.sheet.semicolons span s.sheet; last = after Ending (codes ";") s }
 
 free_last : (k : Last) (kind : Kind) (t : List ℕ) → is_free k ≡ true → last_after k kind t ≡ last_after Apart kind t
 unfolding is_free
@@ -330,32 +502,175 @@ own_fits : (kind : Kind) (t : List ℕ) (k : Last) (more : List parts.Part) → 
 unfolding NoneFuse
 own_fits kind t k more p f a n = (p.shape, ap (λ z. fuses k z) (sym p.same) ∙ f, record { child = λ e. absurd (p.no_child e); first = λ e. absurd (p.no_hashbang e) }, a (spelling kind t), n)
 
-own_apart : (b : Bool) (kind : Kind) (t : List ℕ) (s : State) (more : List parts.Part) → s.sheet.at_line_start ≡ b → Spelled kind t → fuses s.last (chars t) ≡ false → AtRest s → NoneFuse (last_after s.last kind (spelling kind t)) more → NoneFuse s.last (Gap (blanks (front_of b s.sheet)) ∷ Own kind (spelling kind t) ∷ more)
-own_apart true kind t s more e p f r n =
+own_apart : (b : Bool) (kind : Kind) (t : List ℕ) (s : State) (more : List parts.Part) → s.sheet.at_line_start ≡ b → holds_one s.sheet.semicolons ≡ false → Spelled kind t → fuses s.last (chars t) ≡ false → AtRest s → NoneFuse (last_after s.last kind (spelling kind t)) more → NoneFuse s.last (Gap (blanks (front_of b s.sheet)) ∷ Own kind (spelling kind t) ∷ more)
+own_apart true kind t s more e o p f r n =
     let u = repeat s.sheet.indentation s.sheet.indent_text in
-    after_indent s.last u (Own kind (spelling kind t) ∷ more) (indent_repeat s.sheet.indentation s.sheet.indent_text r.indent_text) (r.free e) r.allowed
-    (own_fits kind t Apart more p (apart_alone (chars t)) apart_open (subst (λ k. NoneFuse k more) (free_last s.last kind (spelling kind t) (r.free e)) n))
-own_apart false kind t s more e p f r n = in_a_line s.last (Own kind (spelling kind t) ∷ more) r.allowed (own_fits kind t s.last more p f r.allowed n)
+    after_indent s.last u (Own kind (spelling kind t) ∷ more) (indent_repeat s.sheet.indentation s.sheet.indent_text r.indent_text) (r.free o e) r.allowed
+    (own_fits kind t Apart more p (apart_alone (chars t)) apart_open (subst (λ k. NoneFuse k more) (free_last s.last kind (spelling kind t) (r.free o e)) n))
+own_apart false kind t s more e o p f r n = in_a_line s.last (Own kind (spelling kind t) ∷ more) r.allowed (own_fits kind t s.last more p f r.allowed n)
 
-lays_own : (kind : Kind) (t : List ℕ) (s : State) → Spelled kind t → fuses s.last (chars t) ≡ false → AtRest s → Lays (token_of kind (spelling kind t) ∷ []) s (own_put kind t s)
-unfolding own_put parts.text_of tokens_of remarks_in
-lays_own kind [] s p f r = absurd (p.some refl)
-lays_own kind (c ∷ cs) s p f r =
+-- a text after the indentation of its line
+laid_text : (u t : List ℕ) (kind : Kind) → all_indent u ≡ true → Spelled kind t → chars (u ++ t) ≡ parts.text_of (Gap (blanks u) ∷ Own kind (spelling kind t) ∷ [])
+unfolding parts.text_of
+laid_text u t kind h p =
+    chars-append u t (indent_utf8 u h)
+    ∙ ap (λ z. z ++ chars t) (indent_chars _ h ∙ sym (blanks_text u))
+    ∙ ap (λ z. pieces_text (blanks u) ++ z) (p.same ∙ sym (append-nil (spelling kind t)))
+
+lays_here : (kind : Kind) (span : Option Span) (t : List ℕ) (s : State) → Spelled kind t → fuses s.last (chars t) ≡ false → holds_one s.sheet.semicolons ≡ false → AtRest s → Lays (token_of kind (spelling kind t) ∷ []) s (own_here kind span t s)
+unfolding own_here tokens_of remarks_in
+lays_here kind span [] s p f o r = absurd (p.some refl)
+lays_here kind span (c ∷ cs) s p f o r =
     let h = front_indent s.sheet r.indent_text in
+    let parts_here : List parts.Part = Gap (blanks (front s.sheet)) ∷ Own kind (spelling kind (c ∷ cs)) ∷ [] in
     record {
-      out = Gap (blanks (front s.sheet)) ∷ Own kind (spelling kind (c ∷ cs)) ∷ [];
+      out = parts_here;
+      laid = parts_here;
       bytes = front s.sheet ++ c ∷ cs;
-      text = written_text c cs s.sheet;
+      text = written_text span c cs s.sheet;
       utf8 = IsUtf8-append (front s.sheet) (c ∷ cs) (indent_utf8 _ h) p.utf8;
-      spells =
-          chars-append (front s.sheet) (c ∷ cs) (indent_utf8 _ h)
-          ∙ ap (λ z. z ++ chars (c ∷ cs)) (indent_chars _ h ∙ sym (blanks_text (front s.sheet)))
-          ∙ ap (λ z. pieces_text (blanks (front s.sheet)) ++ z) (p.same ∙ sym (append-nil (spelling kind (c ∷ cs))));
+      spells = laid_text (front s.sheet) (c ∷ cs) kind h p;
       tokens = refl;
       remarks = append-nil (remarks_of (blanks (front s.sheet))) ∙ blanks_remarks _;
-      apart = λ more n. own_apart s.sheet.at_line_start kind (c ∷ cs) s more refl p f r n;
-      rest = at_text c cs s (last_after s.last kind (spelling kind (c ∷ cs))) (p.allowed s.last) r;
+      apart = λ more n. own_apart s.sheet.at_line_start kind (c ∷ cs) s more refl o p f r n;
+      reduces = λ more ys d. laid_out s (own_here kind span (c ∷ cs) s) parts_here more ys o (still_none span (c ∷ cs) s.sheet o) d;
+      holds = still_holds span (c ∷ cs) s.sheet;
+      whole = λ e. refl;
+      rest = at_text span c cs s (after kind (c ∷ cs) s) (p.allowed s.last) r.indent_text r.line_end;
     }
+
+lays_own : (kind : Kind) (span : Option Span) (t : List ℕ) (s : State) → Spelled kind t → fuses s.last (chars t) ≡ false → AtRest s → Lays (token_of kind (spelling kind t) ∷ []) s (own_put kind span t s)
+unfolding own_put own_here
+lays_own kind span t s p f r = lays_settled s _ _ r (lays_here kind span t (settle s) p f (settled_none s.sheet) (settle_rest s r))
+
+-- ---- a punctuator before which a semicolon that is held back isn't needed
+
+-- it is lost: `}` stands where it would
+drops_reduces : (x : Semicolons) {span : Option Span} → HoldsOne span ≡ x → (u t : List ℕ) (xs ys : List parts.Part) (s : Sheet) → u ≡ front s → IsEnding (Own Punctuator t ∷ xs) → Reduced xs ys → Reduced (held_of (holds_one x) s ++ Own Punctuator t ∷ xs) (Gap (blanks u) ∷ Own Punctuator t ∷ ys)
+unfolding holds_one Reduced semicolon_gap
+drops_reduces x {span} e u t xs ys s f n r =
+    subst (λ z. Reduced (held_of (holds_one z) s ++ Own Punctuator t ∷ xs) (Gap (blanks u) ∷ Own Punctuator t ∷ ys)) e
+    (subst (λ z. Reduced (semicolon_gap z ++ Own Punctuator t ∷ xs) (Gap (blanks u) ∷ Own Punctuator t ∷ ys)) f
+    (inl (Own Punctuator t ∷ ys, refl, inr (refl, n, inl (ys, refl, r)))))
+
+ending_chars : (c : ℕ) → ((c == 125) || (c == 59)) ≡ true → (begins (codes "}") (c ∷ []) || begins (codes ";") (c ∷ [])) ≡ true
+unfolding begins
+ending_chars c h = elim (or_cases (c == 125) (c == 59) h) [
+  | inl x ↦ subst (λ z. (begins (codes "}") (z ∷ []) || begins (codes ";") (z ∷ [])) ≡ true) (sym (eqb-true c 125 x)) refl
+  | inr x ↦ subst (λ z. (begins (codes "}") (z ∷ []) || begins (codes ";") (z ∷ [])) ≡ true) (sym (eqb-true c 59 x)) refl
+]
+
+ending_begins : (t : List ℕ) (xs : List parts.Part) → is_ending t ≡ true → IsEnding (Own Punctuator t ∷ xs)
+unfolding is_ending IsEnding begins
+ending_begins [] xs h = absurd (true≢false (sym h))
+ending_begins (c ∷ []) xs h = ending_chars c h
+ending_begins (c ∷ d ∷ cs) xs h = absurd (true≢false (sym h))
+
+dropped_state : State → State
+dropped_state s = record s { sheet = record s.sheet { semicolons = dropped s.sheet.semicolons } }
+
+lost_here : (held_span span : Option Span) (t : List ℕ) (s : State) → HoldsOne held_span ≡ s.sheet.semicolons → is_ending t ≡ true → Spelled Punctuator t → fuses s.last (chars t) ≡ false → AtRest s → Lays (token_of Punctuator (spelling Punctuator t) ∷ []) s (own_here Punctuator span t (record s { sheet = record s.sheet { semicolons = HoldsNone } }))
+unfolding own_here tokens_of remarks_in spelling holds_one
+lost_here held_span span [] s e i p f r = absurd (p.some refl)
+lost_here held_span span (c ∷ cs) s e i p f r =
+    let there : Sheet = record s.sheet { semicolons = HoldsNone } in
+    let h = front_indent there r.indent_text in
+    let q : holds_one (written span (c ∷ cs) there).semicolons ≡ false = still_none span (c ∷ cs) there refl in
+    record {
+      out = Own Punctuator (c ∷ cs) ∷ [];
+      laid = Gap (blanks (front there)) ∷ Own Punctuator (c ∷ cs) ∷ [];
+      bytes = front there ++ c ∷ cs;
+      text = written_text span c cs there;
+      utf8 = IsUtf8-append (front there) (c ∷ cs) (indent_utf8 _ h) p.utf8;
+      spells = laid_text (front there) (c ∷ cs) Punctuator h p;
+      tokens = refl;
+      remarks = append-nil (remarks_of (blanks (front there))) ∙ blanks_remarks _;
+      apart = λ more n. own_fits Punctuator (c ∷ cs) s.last more p f r.allowed n;
+      reduces = λ more ys d. drops_reduces s.sheet.semicolons e (front there) (c ∷ cs) more ys s.sheet refl (ending_begins (c ∷ cs) more i) (subst (λ z. Reduced (held_of z (written span (c ∷ cs) there) ++ more) ys) q d);
+      holds = still_holds span (c ∷ cs) there ∙ ap holds_semicolons e;
+      whole = λ w. absurd (true≢false (ap holds_semicolons e ∙ w));
+      rest = at_text span c cs (record s { sheet = there }) (after Punctuator (c ∷ cs) s) (p.allowed s.last) r.indent_text r.line_end;
+    }
+
+lost : (x : Semicolons) (span : Option Span) (t : List ℕ) (s : State) → x ≡ s.sheet.semicolons → is_ending t ≡ true → Spelled Punctuator t → fuses s.last (chars t) ≡ false → AtRest s → Lays (token_of Punctuator (spelling Punctuator t) ∷ []) s (own_here Punctuator span t (record s { sheet = record s.sheet { semicolons = dropped x } }))
+unfolding dropped
+lost AtOnce span t s e i p f r = subst (λ z. Lays (token_of Punctuator (spelling Punctuator t) ∷ []) s (own_here Punctuator span t (record s { sheet = record s.sheet { semicolons = z } }))) (sym e) (lays_here Punctuator span t s p f (unfold holds_one in ap holds_one (sym e)) r)
+lost HoldsNone span t s e i p f r = subst (λ z. Lays (token_of Punctuator (spelling Punctuator t) ∷ []) s (own_here Punctuator span t (record s { sheet = record s.sheet { semicolons = z } }))) (sym e) (lays_here Punctuator span t s p f (unfold holds_one in ap holds_one (sym e)) r)
+lost (HoldsOne held_span) span t s e i p f r = lost_here held_span span t s e i p f r
+
+punct_case : (b : Bool) (span : Option Span) (t : List ℕ) (s : State) → is_ending t ≡ b → Spelled Punctuator t → fuses s.last (chars t) ≡ false → AtRest s → Lays (token_of Punctuator (spelling Punctuator t) ∷ []) s (own_here Punctuator span t (record s { sheet = cond b (record s.sheet { semicolons = dropped s.sheet.semicolons }) (settled s.sheet) }))
+unfolding own_here
+punct_case true span t s e p f r = lost s.sheet.semicolons span t s refl e p f r
+punct_case false span t s e p f r = lays_settled s _ _ r (lays_here Punctuator span t (settle s) p f (settled_none s.sheet) (settle_rest s r))
+
+lays_punct_own : (span : Option Span) (t : List ℕ) (s : State) → Spelled Punctuator t → fuses s.last (chars t) ≡ false → AtRest s → Lays (token_of Punctuator (spelling Punctuator t) ∷ []) s (punct_put span t s)
+unfolding punct_put before_punct own_here
+lays_punct_own span t s p f r = punct_case (is_ending t) span t s refl p f r
+
+-- ---- a semicolon that ends a statement
+
+at_hold : (span : Option Span) (s : State) → AtRest s → AtRest (record s { sheet = record s.sheet { semicolons = HoldsOne span }; last = after Ending (codes ";") s })
+unfolding holds_one
+at_hold span s r = record { indent_text = r.indent_text; line_end = r.line_end; free = λ o e. absurd (true≢false o); allowed = spelled_ending.allowed s.last }
+
+-- it is held back
+holds_back : (span : Option Span) (s : State) → holds_one s.sheet.semicolons ≡ false → holds_semicolons s.sheet.semicolons ≡ true → fuses s.last (chars (codes ";")) ≡ false → AtRest s → Lays (token_of Ending (spelling Ending (codes ";")) ∷ []) s (record s { sheet = record s.sheet { semicolons = HoldsOne span }; last = after Ending (codes ";") s })
+unfolding parts.text_of tokens_of remarks_in holds_one spelling
+holds_back span s o h f r = record {
+  out = Gap (blanks (front s.sheet)) ∷ Own Ending (codes ";") ∷ [];
+  laid = [];
+  bytes = [];
+  text = sym (append-nil s.sheet.text);
+  utf8 = IsUtf8-nil;
+  spells = chars-nil;
+  tokens = refl;
+  remarks = refl;
+  apart = λ more n. own_apart s.sheet.at_line_start Ending (codes ";") s more refl o spelled_ending f r n;
+  reduces = λ more ys d. subst (λ z. Reduced (held_of z s.sheet ++ (Gap (blanks (front s.sheet)) ∷ Own Ending (codes ";") ∷ more)) ys) (sym o) d;
+  holds = sym h;
+  whole = λ w. absurd (true≢false (sym h ∙ w));
+  rest = at_hold span s r;
+}
+
+-- one that was held is lost: a semicolon stands where it would
+replaces : (u : List ℕ) (more ys : List parts.Part) → Reduced (semicolon_gap u ++ more) ys → Reduced (semicolon_gap u ++ (Own Ending (codes ";") ∷ more)) ys
+unfolding semicolon_gap Reduced IsEnding begins
+replaces u more ys (inl k) = inl (k.0, k.1, inr (refl, refl, k.2))
+replaces u more ys (inr k) = absurd (cc k.0)
+
+replaces_reduces : (x : Semicolons) {span : Option Span} → HoldsOne span ≡ x → (u : List ℕ) (more ys : List parts.Part) (s : Sheet) → u ≡ front s → Reduced (semicolon_gap u ++ more) ys → Reduced (held_of (holds_one x) s ++ (Own Ending (codes ";") ∷ more)) ys
+unfolding holds_one semicolon_gap
+replaces_reduces x e u more ys s f r =
+    subst (λ z. Reduced (held_of (holds_one z) s ++ (Own Ending (codes ";") ∷ more)) ys) e
+    (subst (λ z. Reduced (semicolon_gap z ++ (Own Ending (codes ";") ∷ more)) ys) f (replaces u more ys r))
+
+holds_another : (held_span span : Option Span) (s : State) → HoldsOne held_span ≡ s.sheet.semicolons → fuses s.last (chars (codes ";")) ≡ false → AtRest s → Lays (token_of Ending (spelling Ending (codes ";")) ∷ []) s (record s { sheet = record s.sheet { semicolons = HoldsOne span }; last = after Ending (codes ";") s })
+unfolding parts.text_of tokens_of remarks_in holds_one spelling semicolon_gap
+holds_another held_span span s e f r = record {
+  out = Own Ending (codes ";") ∷ [];
+  laid = [];
+  bytes = [];
+  text = sym (append-nil s.sheet.text);
+  utf8 = IsUtf8-nil;
+  spells = chars-nil;
+  tokens = refl;
+  remarks = refl;
+  apart = λ more n. own_fits Ending (codes ";") s.last more spelled_ending f r.allowed n;
+  reduces = λ more ys d. replaces_reduces s.sheet.semicolons e (front s.sheet) more ys s.sheet refl d;
+  holds = ap holds_semicolons e;
+  whole = λ w. absurd (true≢false (ap holds_semicolons e ∙ w));
+  rest = at_hold span s r;
+}
+
+semi_case : (x : Semicolons) (span : Option Span) (s : State) → x ≡ s.sheet.semicolons → fuses s.last (chars (codes ";")) ≡ false → AtRest s → Lays (token_of Ending (spelling Ending (codes ";")) ∷ []) s (record s { sheet = semicolon_by x span s.sheet; last = after Ending (codes ";") s })
+unfolding semicolon_by holds_one own_here
+semi_case AtOnce span s e f r = lays_here Ending span (codes ";") s spelled_ending f (ap holds_one (sym e)) r
+semi_case HoldsNone span s e f r = holds_back span s (ap holds_one (sym e)) (ap holds_semicolons (sym e)) f r
+semi_case (HoldsOne held_span) span s e f r = holds_another held_span span s e f r
+
+lays_semi_own : (span : Option Span) (s : State) → fuses s.last (chars (codes ";")) ≡ false → AtRest s → Lays (token_of Ending (spelling Ending (codes ";")) ∷ []) s (semi_put span s)
+unfolding semi_put
+lays_semi_own span s f r = semi_case s.sheet.semicolons span s refl f r
 
 -- the blank that is due before a text
 guard_put : Bool → State → State
@@ -380,7 +695,27 @@ unfolding put guard_put
 after_guard t s = passed_case (fuses s.last (chars t)) t s refl
 
 -- a token by one call, with that blank
-pub lays_token : (kind : Kind) (t : List ℕ) (s : State) → Spelled kind t → AtRest s → Lays (token_of kind (spelling kind t) ∷ []) s (own_put kind t (put (Guard t) s))
-lays_token kind t s p r =
+pub lays_token : (kind : Kind) (span : Option Span) (t : List ℕ) (s : State) → Spelled kind t → AtRest s → Lays (token_of kind (spelling kind t) ∷ []) s (own_put kind span t (put (Guard t) s))
+lays_token kind span t s p r =
     let g = lays_guard t s r in
-    lays_then [] (token_of kind (spelling kind t) ∷ []) s (put (Guard t) s) (own_put kind t (put (Guard t) s)) g (lays_own kind t (put (Guard t) s) p (after_guard t s) g.rest)
+    lays_then [] (token_of kind (spelling kind t) ∷ []) s (put (Guard t) s) (own_put kind span t (put (Guard t) s)) g (lays_own kind span t (put (Guard t) s) p (after_guard t s) g.rest)
+
+pub lays_punct : (span : Option Span) (t : List ℕ) (s : State) → Spelled Punctuator t → AtRest s → Lays (token_of Punctuator (spelling Punctuator t) ∷ []) s (punct_put span t (put (Guard t) s))
+lays_punct span t s p r =
+    let g = lays_guard t s r in
+    lays_then [] (token_of Punctuator (spelling Punctuator t) ∷ []) s (put (Guard t) s) (punct_put span t (put (Guard t) s)) g (lays_punct_own span t (put (Guard t) s) p (after_guard t s) g.rest)
+
+pub lays_semi : (span : Option Span) (s : State) → AtRest s → Lays (token_of Ending (spelling Ending (codes ";")) ∷ []) s (semi_put span (put (Guard (codes ";")) s))
+lays_semi span s r =
+    let g = lays_guard (codes ";") s r in
+    lays_then [] (token_of Ending (spelling Ending (codes ";")) ∷ []) s (put (Guard (codes ";")) s) (semi_put span (put (Guard (codes ";")) s)) g (lays_semi_own span (put (Guard (codes ";")) s) (after_guard (codes ";") s) g.rest)
+
+-- a token by one call, with that blank and a position after it
+pub lays_placed : (pos : BytePos) (kind : Kind) (span : Option Span) (t : List ℕ) (s : State) → Spelled kind t → AtRest s → Lays (token_of kind (spelling kind t) ∷ []) s (own_put kind span t (record (put (Guard t) s) { sheet = pointed pos (put (Guard t) s).sheet }))
+lays_placed pos kind span t s p r =
+    let there : State = put (Guard t) s in
+    let noted : State = record there { sheet = pointed pos there.sheet } in
+    let g = lays_guard t s r in
+    let q = lays_position pos there g.rest in
+    lays_then [] (token_of kind (spelling kind t) ∷ []) s there (own_put kind span t noted) g
+    (lays_then [] (token_of kind (spelling kind t) ∷ []) there noted (own_put kind span t noted) q (lays_own kind span t noted p (after_guard t s) q.rest))

@@ -8,5 +8,5 @@ unfoldable pub escapes_name : Phrase → Bool
 escapes_name Never = false
 escapes_name Nothing = false
 escapes_name (One x) = false
-escapes_name (NameOf bytes) = has_backslash bytes
+escapes_name (NameOf at bytes) = has_backslash bytes
 escapes_name (Then a b) = escapes_name a || escapes_name b

@@ -9,7 +9,7 @@ unfoldable pub token_count : Phrase → ℕ
 token_count Never = 0
 token_count Nothing = 0
 token_count (One x) = 1
-token_count (NameOf bytes) = 1
+token_count (NameOf at bytes) = 1
 token_count (Then a b) = token_count a + token_count b
 
 -- A tree can be printed at a level of indentation without memory of its own: it is well-formed, no name of it holds a
@@ -19,11 +19,12 @@ pub record IsPlainTree (phrase : Phrase) (level : ℕ) : Type 0 where
   pub plain_names : escapes_name phrase ≡ false
   pub has_room : level + token_count phrase < 2 ^ 32
 
--- An emission can go on: nothing was refused, no call of the writer takes memory, U+0000 after a backslash is left out of
+-- An emission can go on: nothing was refused, no call of the writer takes memory, it keeps no positions, U+0000 after a backslash is left out of
 -- names, and the count of faults isn't at its last value.
 pub record IsReady (s : State) : Type 0 where
   pub none_failed : s.failed ≡ false
   pub none_refused : s.sheet.refused ≡ false
   pub no_memory : s.sheet.takes_memory ≡ false
+  pub no_positions : s.sheet.keeps_positions ≡ false
   pub leaves_out : s.env.keeps_invalid ≡ false
   pub can_count : s.sheet.faults < 2 ^ 64 - 1

@@ -1,13 +1,13 @@
 -- What an emission does: its steps, where each leads, and how it stops.
-use Rattle.std.specs.Prelude.{◌≡◌, ℕ, ◌<◌, ◌-◌, ◌^◌, Bool, true, false, ◌||◌, if◌then◌else◌, List, [], ◌∷◌, ◌++◌, codes, Option, Some, None, Result, Ok, Err}
+use Rattle.std.specs.Prelude.{◌≡◌, ◌⊎◌, ℕ, ◌<◌, ◌-◌, ◌^◌, Bool, true, false, ◌||◌, if◌then◌else◌, List, [], ◌∷◌, ◌++◌, codes, Option, Some, None, Result, Ok, Err}
 use Rattle.std.specs.Str.{chars}
 use Rattle.swc_ecma_codegen_common.specs.declared.errors.Refusal.{Refusal}
 use Rattle.swc_ecma_codegen_common.specs.declared.errors.Refusal.TheVariants.{Writer, OutOfMemory, UnsupportedNode, BadShape, NameOutOfTarget, PositionTooLarge, Failed}
 use Rattle.swc_ecma_codegen_util.specs.declared.config.Config.{Config}
 use Rattle.swc_ecma_codegen_ast.specs.declared.kinds.Kind.{Kind}
-use Rattle.swc_ecma_codegen_ast.specs.declared.kinds.Kind.TheVariants.{Punctuator}
+use Rattle.swc_ecma_codegen_ast.specs.declared.kinds.Kind.TheVariants.{Punctuator, Ending}
 use Rattle.swc_ecma_codegen_ast.specs.GapRules.{Last, Start, Apart, fuses, last_after}
-use Rattle.swc_ecma_codegen_text_writer.specs.Sheet.{Item, Semi, Space, Keyword, Operator, Param, Property, Line, Lit, Comment, StrLit, Str, Symbol, Punct, Position, Commit, Deeper, Shallower, Sheet, effect, Refuses}
+use Rattle.swc_ecma_codegen_text_writer.specs.Sheet.{Item, Semi, Space, Keyword, Operator, Param, Property, Line, Lit, Comment, StrLit, Str, Symbol, Punct, Position, Commit, Deeper, Shallower, Sheet, effect, IsFar, Refuses}
 use Rattle.swc_ecma_codegen_text_writer.specs.Told.{Rises}
 use Rattle.swc_ecma_codegen_literals.specs.ValidNames.{has_byte}
 use Rattle.swc_ecma_codegen_base.specs.declared.refusals.Unprintable.{Unprintable}
@@ -47,6 +47,7 @@ text_of Shallower = []
 -- the characters of a token's text; a punctuator is ASCII, so its bytes are its characters
 unfoldable pub spelling : Kind → List ℕ → List ℕ
 spelling Punctuator t = t
+spelling Ending t = t
 spelling kind t = chars t
 
 -- the last token after one of a kind, spelled so
@@ -201,6 +202,10 @@ pub record PassesLimit (xs : List Step) (a : State) : Type 0 where
   pub is_deeper : deepens step
   pub at_limit : (run front a).sheet.indentation ≡ 2 ^ 32 - 1
 
+-- A position was to be recorded at a place that no pair can tell.
+abbrev pub IsTooFar : State → State → Type 0
+IsTooFar a b = (a.sheet.keeps_positions ≡ true) × IsFar b.sheet.place
+
 -- The steps come to a node that can't be printed, and all before it are made.
 pub record IsReached (xs : Steps) (r : Unprintable) (a b : State) : Type 0 where
   pub refusal : unprintable_in xs ≡ Some r
@@ -210,21 +215,22 @@ pub record IsReached (xs : Steps) (r : Unprintable) (a b : State) : Type 0 where
 unfoldable pub HasCause : Steps → Refusal → State → State → Type 0
 HasCause xs Writer a b = Rises a.sheet.faults b.sheet.faults
 HasCause xs OutOfMemory a b = (a.sheet.takes_memory || remakes_name (steps_of xs)) ≡ true
-HasCause xs PositionTooLarge a b = PassesLimit (steps_of xs) a
+HasCause xs PositionTooLarge a b = PassesLimit (steps_of xs) a ⊎ IsTooFar a b
 HasCause xs Failed a b = (a.failed || a.sheet.refused) ≡ true
 HasCause xs UnsupportedNode a b = IsReached xs unprintable.UnsupportedNode a b
 HasCause xs BadShape a b = IsReached xs unprintable.BadShape a b
 HasCause xs NameOutOfTarget a b = IsReached xs unprintable.NameOutOfTarget a b
 
 -- Nothing stands in the way of an emission: nothing was refused before, the writer counts no fault and its count isn't
--- at its last value, neither it nor a name asks for memory, the indentation stays in its limit, and each node can be
--- printed.
+-- at its last value, neither it nor a name asks for memory, the indentation stays in its limit, no position stands too far,
+-- and each node can be printed.
 pub record IsUnhindered (xs : Steps) (a b : State) : Type 0 where
   pub fresh : (a.failed || a.sheet.refused) ≡ false
   pub no_fault : b.sheet.faults ≡ a.sheet.faults
   pub can_count : a.sheet.faults < 2 ^ 64 - 1
   pub no_memory : (a.sheet.takes_memory || remakes_name (steps_of xs)) ≡ false
   pub within : PassesLimit (steps_of xs) a → ⊥
+  pub near : IsTooFar a b → ⊥
   pub printable : unprintable_in xs ≡ None
 
 -- the steps of a part that nothing comes after

@@ -3,7 +3,7 @@ use Rattle.std.specs.Prelude.{ℕ, ◌-◌, ◌==◌, Bool, if◌then◌else◌,
 use Rattle.swc_ecma_codegen_common.specs.declared.positions.BytePos.{BytePos}
 use Rattle.swc_ecma_codegen_common.specs.declared.positions.Span.{Span}
 use Rattle.swc_ecma_codegen_spans.specs.Spans.{dummy_span}
-use Rattle.swc_ecma_codegen_ast.specs.declared.kinds.Kind.TheVariants.{Word, Name, Punctuator}
+use Rattle.swc_ecma_codegen_ast.specs.declared.kinds.Kind.TheVariants.{Word, Name, Punctuator, Ending}
 use Rattle.swc_ecma_codegen_text_writer.specs.Sheet.{Semi, Space, Keyword, Operator, Line, Symbol, Punct, Position, Commit}
 use Rattle.swc_ecma_codegen_ast.specs.ValidNames.{turned}
 use Rattle.swc_ecma_codegen_base.specs.Run.{Part, step, Guard, Token, Plain, Remake, when_minified, no_part}
@@ -26,7 +26,7 @@ punct t rest = step (Guard t) (step (Token Punctuator (Punct None t)) rest)
 
 -- a semicolon that may be left out where it isn't needed
 unfoldable pub semi : Part
-semi rest = step (Guard (codes ";")) (step (Token Punctuator (Semi None)) rest)
+semi rest = step (Guard (codes ";")) (step (Token Ending (Semi None)) rest)
 
 -- a blank
 unfoldable pub space : Part

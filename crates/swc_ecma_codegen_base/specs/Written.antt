@@ -6,9 +6,11 @@ use Rattle.swc_ecma_codegen_ast.specs.Names.{is_word, name_value}
 use Rattle.swc_ecma_codegen_ast.specs.SpelledNames.{spelled_name}
 use Rattle.swc_ecma_codegen_ast.specs.Punctuators.{is_punctuator}
 use Rattle.swc_ecma_codegen_ast.specs.Reads.{Reads}
+use Rattle.swc_ecma_codegen_ast.specs.Endings.{IsReduced}
 use Rattle.swc_ecma_codegen_ast.specs.Phrases.{Phrase, Generates}
 use Rattle.swc_ecma_codegen_ast.specs.GapRules.{Last, Start, Apart, allows}
 use Rattle.swc_ecma_codegen_ast.specs.Parts.{Part, text_of, tokens_of, remarks_in, NoneFuse}
+use Rattle.swc_ecma_codegen_text_writer.specs.Sheet.{Sheet, Semicolons, AtOnce, HoldsNone, HoldsOne, holds_semicolons}
 use Rattle.swc_ecma_codegen_base.specs.Run.{State}
 
 -- LF, or CR and LF
@@ -29,33 +31,48 @@ is_free Start = true
 is_free Apart = true
 is_free last = false
 
+-- a semicolon is held back
+unfoldable pub holds_one : Semicolons → Bool
+holds_one AtOnce = false
+holds_one HoldsNone = false
+holds_one (HoldsOne span) = true
+
 -- Between two steps of a text that can be read back: lines are indented by blanks or tabs, and any token may come next.
 pub record AtRest (s : State) : Type 0 where
   pub indent_text : all_indent s.sheet.indent_text ≡ true
   pub line_end : IsLineEnd s.sheet.line_end
-  pub free : s.sheet.at_line_start ≡ true → is_free s.last ≡ true
+  pub free : holds_one s.sheet.semicolons ≡ false → s.sheet.at_line_start ≡ true → is_free s.last ≡ true
   pub allowed : (t : List ℕ) → allows s.last t ≡ true
 
--- An emission begins: no token was written, lines are indented by blanks or tabs, and U+0000 after a backslash is left out
--- of names.
+-- An emission begins: no token was written, no semicolon is held back, lines are indented by blanks or tabs, and U+0000 after
+-- a backslash is left out of names.
 pub record IsNew (s : State) : Type 0 where
   pub nothing_written : s.last ≡ Start
+  pub nothing_held : holds_one s.sheet.semicolons ≡ false
   pub indent_text : all_indent s.sheet.indent_text ≡ true
   pub line_end : IsLineEnd s.sheet.line_end
   pub leaves_out : s.env.keeps_invalid ≡ false
 
--- A text is UTF-8, and reads as one of the token lists of a phrase, without comments.
-pub record ReadsAs (phrase : Phrase) (text : List ℕ) : Type 0 where
+-- A text is UTF-8, and reads as one of the token lists of a phrase, without comments. Where the writer holds semicolons back,
+-- some of those that end a statement are left out, none of which is needed.
+pub record ReadsAs (holds : Bool) (phrase : Phrase) (text : List ℕ) : Type 0 where
   pub utf8 : IsUtf8 text
   pub tokens : List Token
   pub is_list : Generates phrase tokens
-  pub reads : Reads (chars text) tokens []
+  pub written : List Token
+  pub reduced : IsReduced tokens written
+  pub whole : holds ≡ false → written ≡ tokens
+  pub reads : Reads (chars text) written []
 
 -- What a text is longer by reads so.
-pub record AddsReading (phrase : Phrase) (old new : List ℕ) : Type 0 where
+pub record AddsText (holds : Bool) (phrase : Phrase) (old new : List ℕ) : Type 0 where
   pub added : List ℕ
   pub is_added : new ≡ old ++ added
-  pub reading : ReadsAs phrase added
+  pub reading : ReadsAs holds phrase added
+
+-- What the text of a sheet is longer by reads so.
+abbrev pub AddsReading : Phrase → Sheet → Sheet → Type 0
+AddsReading phrase old new = AddsText (holds_semicolons old.semicolons) phrase old.text new.text
 
 -- a text is a word of the grammar, or a punctuator: in ASCII
 pub record IsWord (t : List ℕ) : Type 0 where
@@ -68,9 +85,10 @@ pub record IsMark (t : List ℕ) : Type 0 where
   pub ascii : chars t ≡ t
   pub shape : is_punctuator t ≡ true
 
--- What was added to an old text reads as these tokens, whatever follows that doesn't fuse: `a<` goes on with ` !` and
--- `--b`, and not with `!--b`.
+-- What was added to an old text, by a writer that holds no semicolons back, reads as these tokens, whatever follows that
+-- doesn't fuse: `a<` goes on with ` !` and `--b`, and not with `!--b`.
 pub record ReadsSoFar (old : List ℕ) (tokens : List Token) (s : State) : Type 0 where
+  pub at_once : holds_semicolons s.sheet.semicolons ≡ false
   pub added : List ℕ
   pub is_added : s.sheet.text ≡ old ++ added
   pub utf8 : IsUtf8 added

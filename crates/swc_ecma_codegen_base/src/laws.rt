@@ -1,24 +1,25 @@
 //! Laws of the text so far. Each is the contract of a function that does nothing: a proof cites it, and a program has no
 //! need to call it. That a call of a token adds its token is a clause of the call.
 
-ghost use Rattle.std.specs.Prelude.{◌≡◌, ℕ, Bool, List, [], Ok};
+ghost use Rattle.std.specs.Prelude.{◌≡◌, ℕ, Bool, false, List, [], Ok};
 ghost use Rattle.swc_ecma_codegen_common.specs.declared.positions.BytePos.{BytePos};
 ghost use Rattle.swc_ecma_codegen_ast.specs.Tokens.{Token};
 ghost use Rattle.swc_ecma_codegen_ast.specs.Phrases.{Phrase, Generates};
+ghost use Rattle.swc_ecma_codegen_text_writer.specs.Sheet.{holds_semicolons};
 ghost use Rattle.swc_ecma_codegen_base.specs.Run.{State, Emits};
 ghost use Rattle.swc_ecma_codegen_base.specs.Words.{space, formatting_space, line_end, formatting_line, commit_pending_semi, position, position_before, leading_comments, trailing_comments};
-ghost use Rattle.swc_ecma_codegen_base.specs.Written.{IsNew, ReadsSoFar, AddsReading};
+ghost use Rattle.swc_ecma_codegen_base.specs.Written.{IsNew, ReadsSoFar, AddsText};
 
 /// A new emission has written no tokens so far.
 #[tactic(auto, using(crate::proofs::SoFar::new_so_far))]
 pub fn nothing_so_far()
-    ensures { (s : State) → IsNew s → ReadsSoFar s.sheet.text [] s }
+    ensures { (s : State) → IsNew s → holds_semicolons s.sheet.semicolons ≡ false → ReadsSoFar s.sheet.text [] s }
 {}
 
 /// Where nothing follows, what was added reads as the tokens so far.
 #[tactic(auto, using(crate::proofs::SoFar::so_far_reads))]
 pub fn so_far_reads()
-    ensures { (phrase : Phrase) (text_before : List ℕ) (tokens : List Token) (s : State) → Generates phrase tokens → ReadsSoFar text_before tokens s → AddsReading phrase text_before s.sheet.text }
+    ensures { (phrase : Phrase) (text_before : List ℕ) (tokens : List Token) (s : State) → Generates phrase tokens → ReadsSoFar text_before tokens s → AddsText false phrase text_before s.sheet.text }
 {}
 
 /// Blanks, line ends, a semicolon that was held back, positions and comments that aren't there leave the tokens so far.

@@ -28,6 +28,7 @@ fn kind_of(letter: char) -> Kind {
         'x' => Kind::JsxText,
         '{' => Kind::JsxOpen,
         '!' => Kind::Hashbang,
+        ';' => Kind::Ending,
         _ => Kind::Punctuator,
     }
 }

@@ -1,9 +1,10 @@
-//! Positions, versions, numbers, operators and errors.
+//! Positions, versions, settings, numbers, operators and errors.
 
 use std::alloc::{AllocError, Global};
 use std::io;
 use std::io::ErrorKind;
 use std::test::Fail;
+use swc_ecma_codegen::Config;
 use swc_ecma_codegen_common::{
     AssignOp, BytePos, DUMMY_SP, Decimal, Error, EsVersion, LineCol, Span,
 };
@@ -49,6 +50,58 @@ fn versions_in_order(rt: HostRuntime) {
         before = version;
     }
     assert!(rt; EsVersion::latest() == EsVersion::EsNext);
+}
+
+/// Whether the settings are this version and these: ASCII alone, minified, without the last semicolon, `assert`, for an
+/// inline script.
+fn are_set(config: Config, target: EsVersion, flags: [bool; 5]) -> bool {
+    config.target == target
+        && flags
+            == [
+                config.ascii_only,
+                config.minify,
+                config.omit_last_semi,
+                config.emit_assert_for_import_attributes,
+                config.inline_script,
+            ]
+}
+
+#[test]
+fn one_setting_changed(rt: HostRuntime) {
+    let none = Config::default();
+    let latest = EsVersion::latest();
+    assert!(rt; are_set(none, latest, [false; 5]));
+    assert!(rt; are_set(none.with_target(EsVersion::Es5), EsVersion::Es5, [false; 5]));
+    let ascii = none.with_ascii_only(true);
+    assert!(rt; are_set(ascii, latest, [true, false, false, false, false]));
+    let minified = none.with_minify(true);
+    assert!(rt; are_set(minified, latest, [false, true, false, false, false]));
+    let without_last = none.with_omit_last_semi(true);
+    assert!(rt; are_set(without_last, latest, [false, false, true, false, false]));
+    let with_assert = none.with_emit_assert_for_import_attributes(true);
+    assert!(rt; are_set(with_assert, latest, [false, false, false, true, false]));
+    let inline = none.with_inline_script(true);
+    assert!(rt; are_set(inline, latest, [false, false, false, false, true]));
+}
+
+#[test]
+fn settings_one_after_another(rt: HostRuntime) {
+    let all = Config::default()
+        .with_target(EsVersion::Es2015)
+        .with_ascii_only(true)
+        .with_minify(true)
+        .with_omit_last_semi(true)
+        .with_emit_assert_for_import_attributes(true)
+        .with_inline_script(true);
+    assert!(rt; are_set(all, EsVersion::Es2015, [true; 5]));
+    let none = all
+        .with_target(EsVersion::latest())
+        .with_ascii_only(false)
+        .with_minify(false)
+        .with_omit_last_semi(false)
+        .with_emit_assert_for_import_attributes(false)
+        .with_inline_script(false);
+    assert!(rt; are_set(none, EsVersion::latest(), [false; 5]));
 }
 
 #[test]

@@ -1,20 +1,197 @@
 -- What calls do to a sheet, and what they leave alone.
-use Rattle.std.proofs.Common.{◌≡◌, ℕ, ◌+◌, ◌-◌, Bool, true, false, List, [], ◌∷◌, ◌++◌, refl, sym, ◌∙◌, ap, append_assoc, append-nil, cond, codes, subst, Result, Ok, Err}
+use Rattle.std.proofs.Common.{◌≡◌, ℕ, ◌+◌, ◌-◌, true, false, List, [], ◌∷◌, ◌++◌, refl, sym, ◌∙◌, ap, append_assoc, append-nil, cond, codes, subst, Option, Some, None, Result, Ok, Err, ◌&&◌, ◌||◌, ◌==◌}
 use Rattle.std.specs.List.{repeat}
 use Rattle.swc_ecma_codegen_common.specs.declared.errors.Refusal.{Refusal}
+use Rattle.swc_ecma_codegen_common.specs.declared.positions.BytePos.{BytePos}
+use Rattle.swc_ecma_codegen_common.specs.declared.positions.Span.{Span}
+use Rattle.swc_ecma_codegen_text_writer.specs.Places.{Place}
 use Rattle.swc_ecma_codegen_text_writer.specs.Told.{IsFront}
-use Rattle.swc_ecma_codegen_text_writer.specs.Sheet.{Sheet, Item, Semi, Space, Keyword, Operator, Param, Property, Line, Lit, Comment, StrLit, Str, Symbol, Punct, Position, Commit, Deeper, Shallower, appended, indented, started, written, ended, effect, effects, Refuses, earlier, stopped, Writes}
+use Rattle.swc_ecma_codegen_text_writer.specs.Sheet.{Sheet, Item, Pair, Semi, Space, Keyword, Operator, Param, Property, Line, Lit, Comment, StrLit, Str, Symbol, Punct, Position, Commit, Deeper, Shallower, Semicolons, AtOnce, HoldsNone, HoldsOne, holds_semicolons, has_pair, pair_at, with_pair, recorded, start_recorded, end_recorded, pending_recorded, appended, indented, started, written, literal_written, ended, pointed, settled_by, settled, semicolon_by, dropped, is_ending, before_punct, effect, effects, Refuses, earlier, stopped, Writes}
 
 -- ---- fronts
 
-pub front_refl : (t : List ℕ) → IsFront t t
+pub front_refl : {A : Type 0} (t : List A) → IsFront t t
 front_refl t = ([], sym (append-nil t))
 
-pub front_append : (t u : List ℕ) → IsFront t (t ++ u)
+pub front_append : {A : Type 0} (t u : List A) → IsFront t (t ++ u)
 front_append t u = (u, refl)
 
-pub front_trans : (t u v : List ℕ) → IsFront t u → IsFront u v → IsFront t v
+pub front_trans : {A : Type 0} (t u v : List A) → IsFront t u → IsFront u v → IsFront t v
 front_trans t u v h k = (h.0 ++ k.0, k.1 ∙ ap (λ x. x ++ k.0) h.1 ∙ append_assoc t h.0 k.0)
+
+-- ---- from one sheet to another
+
+-- From the first sheet to the second text was written and pairs were recorded.
+pub record Alike (a b : Sheet) : Type 0 where
+  pub grows : IsFront a.text b.text
+  pub more_pairs : IsFront a.pairs b.pairs
+  pub holds : holds_semicolons b.semicolons ≡ holds_semicolons a.semicolons
+  pub same : b ≡ record a { text = b.text; at_line_start = b.at_line_start; indentation = b.indentation; semicolons = b.semicolons; pairs = b.pairs; pending = b.pending; place = b.place }
+
+pub alike_refl : (a : Sheet) → Alike a a
+alike_refl a = record { grows = front_refl a.text; more_pairs = front_refl a.pairs; holds = refl; same = refl }
+
+pub alike_trans : (a b c : Sheet) → Alike a b → Alike b c → Alike a c
+alike_trans a b c h k = record {
+  grows = front_trans a.text b.text c.text h.grows k.grows;
+  more_pairs = front_trans a.pairs b.pairs c.pairs h.more_pairs k.more_pairs;
+  holds = k.holds ∙ h.holds;
+  same = k.same ∙ ap (λ (x : Sheet). record x { text = c.text; at_line_start = c.at_line_start; indentation = c.indentation; semicolons = c.semicolons; pairs = c.pairs; pending = c.pending; place = c.place }) h.same;
+}
+
+-- another text, another start, another level and so on, of which only a longer text and more pairs matter
+alike_at : (a b : Sheet) → IsFront a.text b.text → IsFront a.pairs b.pairs → holds_semicolons b.semicolons ≡ holds_semicolons a.semicolons → b ≡ record a { text = b.text; at_line_start = b.at_line_start; indentation = b.indentation; semicolons = b.semicolons; pairs = b.pairs; pending = b.pending; place = b.place } → Alike a b
+alike_at a b h k s e = record { grows = h; more_pairs = k; holds = s; same = e }
+
+with_pair_grows : (pos : BytePos) (p : Place) (pairs : List Pair) → IsFront pairs (with_pair pos p pairs)
+unfolding with_pair
+with_pair_grows pos p pairs =
+    elim ((pos.0 == 0) || has_pair (pair_at pos p) pairs) as (λ b. IsFront pairs (cond b pairs (pairs ++ (pair_at pos p ∷ []))))
+    [ true ↦ front_refl pairs | false ↦ front_append pairs (pair_at pos p ∷ []) ]
+
+pub recorded_alike : (pos : BytePos) (s : Sheet) → Alike s (recorded pos s)
+unfolding recorded
+recorded_alike pos s =
+    elim s.keeps_positions as (λ b. Alike s (cond b (record s { pairs = with_pair pos s.place s.pairs }) s))
+    [ true ↦ alike_at s (record s { pairs = with_pair pos s.place s.pairs }) (front_refl s.text) (with_pair_grows pos s.place s.pairs) refl refl | false ↦ alike_refl s ]
+
+pub start_alike : (span : Option Span) (s : Sheet) → Alike s (start_recorded span s)
+unfolding start_recorded
+start_alike None s = alike_refl s
+start_alike (Some span) s = recorded_alike span.lo s
+
+pub end_alike : (span : Option Span) (s : Sheet) → Alike s (end_recorded span s)
+unfolding end_recorded
+end_alike None s = alike_refl s
+end_alike (Some span) s = recorded_alike span.hi s
+
+dropped_pending : (s : Sheet) → Alike s (record s { pending = None })
+dropped_pending s = alike_at s (record s { pending = None }) (front_refl s.text) (front_refl s.pairs) refl refl
+
+pub pending_alike : (pos : Option BytePos) (s : Sheet) → Alike s (pending_recorded pos s)
+unfolding pending_recorded
+pending_alike None s = alike_refl s
+pending_alike (Some pos) s = alike_trans _ _ _ (dropped_pending s) (recorded_alike pos (record s { pending = None }))
+
+pub appended_alike : (t : List ℕ) (s : Sheet) → Alike s (appended t s)
+unfolding appended
+appended_alike t s = alike_at s (appended t s) (front_append s.text t) (front_refl s.pairs) refl refl
+
+pub indented_alike : (n : ℕ) (s : Sheet) → Alike s (indented n s)
+unfolding indented
+indented_alike n s = appended_alike (repeat n s.indent_text) s
+
+in_line : (s : Sheet) → Alike s (record s { at_line_start = false })
+in_line s = alike_at s (record s { at_line_start = false }) (front_refl s.text) (front_refl s.pairs) refl refl
+
+-- the sheet at a line's start, with the indentation out
+pub begun : Sheet → Sheet
+begun s = record (indented s.indentation s) { at_line_start = false }
+
+begun_alike : (s : Sheet) → Alike s (begun s)
+unfolding begun
+begun_alike s = alike_trans _ _ _ (indented_alike s.indentation s) (in_line (indented s.indentation s))
+
+pub started_alike : (s : Sheet) → Alike s (started s)
+unfolding started begun
+started_alike s =
+    elim s.at_line_start as (λ b. Alike s (cond b (pending_recorded s.pending (record (indented s.indentation s) { at_line_start = false })) s))
+    [ true ↦ alike_trans _ _ _ (begun_alike s) (pending_alike s.pending (begun s)) | false ↦ alike_refl s ]
+
+pub written_alike : (span : Option Span) (t : List ℕ) (s : Sheet) → Alike s (written span t s)
+unfolding written
+written_alike span [] s = alike_refl s
+written_alike span (c ∷ cs) s =
+    alike_trans _ _ _ (started_alike s)
+    (alike_trans _ _ _ (start_alike span (started s))
+    (alike_trans _ _ _ (appended_alike (c ∷ cs) (start_recorded span (started s))) (end_alike span (appended (c ∷ cs) (start_recorded span (started s))))))
+
+pub literal_alike : (span : Span) (t : List ℕ) (s : Sheet) → Alike s (literal_written span t s)
+unfolding literal_written
+literal_alike span [] s = alike_refl s
+literal_alike span (c ∷ cs) s =
+    alike_trans _ _ _ (recorded_alike span.lo s)
+    (alike_trans _ _ _ (written_alike None (c ∷ cs) (recorded span.lo s)) (recorded_alike span.hi (written None (c ∷ cs) (recorded span.lo s))))
+
+at_start : (s : Sheet) → Alike s (record s { at_line_start = true })
+at_start s = alike_at s (record s { at_line_start = true }) (front_refl s.text) (front_refl s.pairs) refl refl
+
+pub ended_alike : (s : Sheet) → Alike s (ended s)
+unfolding ended
+ended_alike s =
+    elim s.at_line_start as (λ b. Alike s (cond b (record s { pending = None }) (record (appended s.line_end s) { at_line_start = true })))
+    [ true ↦ dropped_pending s | false ↦ alike_trans _ _ _ (appended_alike s.line_end s) (at_start (appended s.line_end s)) ]
+
+other_pending : (pos : BytePos) (s : Sheet) → Alike s (record s { pending = Some pos })
+other_pending pos s = alike_at s (record s { pending = Some pos }) (front_refl s.text) (front_refl s.pairs) refl refl
+
+pub pointed_alike : (pos : BytePos) (s : Sheet) → Alike s (pointed pos s)
+unfolding pointed
+pointed_alike pos s =
+    elim (s.keeps_positions && s.at_line_start) as (λ b. Alike s (cond b (record s { pending = Some pos }) (recorded pos s)))
+    [ true ↦ other_pending pos s | false ↦ recorded_alike pos s ]
+
+other_semicolon : (x : Semicolons) (s : Sheet) → holds_semicolons x ≡ holds_semicolons s.semicolons → Alike s (record s { semicolons = x })
+other_semicolon x s h = alike_at s (record s { semicolons = x }) (front_refl s.text) (front_refl s.pairs) h refl
+
+settled_by_alike : (x : Semicolons) (s : Sheet) → x ≡ s.semicolons → Alike s (settled_by x s)
+unfolding settled_by
+settled_by_alike AtOnce s h = alike_refl s
+settled_by_alike HoldsNone s h = alike_refl s
+settled_by_alike (HoldsOne span) s h =
+    alike_trans _ _ _ (other_semicolon HoldsNone s (ap holds_semicolons h)) (written_alike span (codes ";") (record s { semicolons = HoldsNone }))
+
+pub settled_alike : (s : Sheet) → Alike s (settled s)
+settled_alike s = settled_by_alike s.semicolons s refl
+
+semicolon_alike : (x : Semicolons) (span : Option Span) (s : Sheet) → x ≡ s.semicolons → Alike s (semicolon_by x span s)
+unfolding semicolon_by
+semicolon_alike AtOnce span s h = written_alike span (codes ";") s
+semicolon_alike HoldsNone span s h = other_semicolon (HoldsOne span) s (ap holds_semicolons h)
+semicolon_alike (HoldsOne held) span s h = other_semicolon (HoldsOne span) s (ap holds_semicolons h)
+
+dropped_holds : (x : Semicolons) → holds_semicolons (dropped x) ≡ holds_semicolons x
+unfolding dropped
+dropped_holds AtOnce = refl
+dropped_holds HoldsNone = refl
+dropped_holds (HoldsOne span) = refl
+
+pub before_punct_alike : (t : List ℕ) (s : Sheet) → Alike s (before_punct t s)
+unfolding before_punct
+before_punct_alike t s =
+    elim (is_ending t) as (λ b. Alike s (cond b (record s { semicolons = dropped s.semicolons }) (settled s)))
+    [ true ↦ other_semicolon (dropped s.semicolons) s (dropped_holds s.semicolons) | false ↦ settled_alike s ]
+
+other_level : (n : ℕ) (s : Sheet) → Alike s (record s { indentation = n })
+other_level n s = alike_at s (record s { indentation = n }) (front_refl s.text) (front_refl s.pairs) refl refl
+
+after_settled : (s t : Sheet) → Alike (settled s) t → Alike s t
+after_settled s t h = alike_trans s (settled s) t (settled_alike s) h
+
+pub effect_alike : (x : Item) (s : Sheet) → Alike s (effect x s)
+unfolding effect
+effect_alike (Semi span) s = semicolon_alike s.semicolons span s refl
+effect_alike Space s = after_settled s _ (written_alike None (codes " ") (settled s))
+effect_alike (Keyword span t) s = after_settled s _ (written_alike span t (settled s))
+effect_alike (Operator span t) s = after_settled s _ (written_alike span t (settled s))
+effect_alike (Param t) s = after_settled s _ (written_alike None t (settled s))
+effect_alike (Property t) s = after_settled s _ (written_alike None t (settled s))
+effect_alike Line s = after_settled s _ (ended_alike (settled s))
+effect_alike (Lit span t) s = after_settled s _ (literal_alike span t (settled s))
+effect_alike (Comment t) s = after_settled s _ (written_alike None t (settled s))
+effect_alike (StrLit span t) s = after_settled s _ (literal_alike span t (settled s))
+effect_alike (Str t) s = after_settled s _ (written_alike None t (settled s))
+effect_alike (Symbol span t) s = after_settled s _ (written_alike (Some span) t (settled s))
+effect_alike (Punct span t) s = alike_trans s _ _ (before_punct_alike t s) (written_alike span t (before_punct t s))
+effect_alike (Position pos) s = pointed_alike pos s
+effect_alike Commit s = settled_alike s
+effect_alike Deeper s = after_settled s _ (other_level (s.indentation + 1) (settled s))
+effect_alike Shallower s = after_settled s _ (other_level (s.indentation - 1) (settled s))
+
+pub effects_alike : (xs : List Item) (s : Sheet) → Alike s (effects xs s)
+unfolding effects
+effects_alike [] s = alike_refl s
+effects_alike (x ∷ xs) s = alike_trans _ _ _ (effect_alike x s) (effects_alike xs (effect x s))
 
 -- ---- what no call changes
 
@@ -28,159 +205,119 @@ pub record Same (a b : Sheet) : Type 0 where
   pub takes_memory : a.takes_memory ≡ b.takes_memory
   pub keeps_positions : a.keeps_positions ≡ b.keeps_positions
   pub keeps_invalid : a.keeps_invalid ≡ b.keeps_invalid
-  pub holds : a.holds ≡ b.holds
+  pub holds : holds_semicolons a.semicolons ≡ holds_semicolons b.semicolons
 
-pub same_refl : (s : Sheet) → Same s s
-same_refl s =
+pub alike_same : (a b : Sheet) → Alike a b → Same b a
+alike_same a b h =
     record {
-      whole = refl;
-      line_end = refl;
-      indent_text = refl;
-      faults = refl;
-      refused = refl;
-      takes_memory = refl;
-      keeps_positions = refl;
-      keeps_invalid = refl;
-      holds = refl;
-    }
-
-pub same_trans : (a b c : Sheet) → Same a b → Same b c → Same a c
-same_trans a b c h k =
-    record {
-      whole = h.whole ∙ k.whole;
-      line_end = h.line_end ∙ k.line_end;
-      indent_text = h.indent_text ∙ k.indent_text;
-      faults = h.faults ∙ k.faults;
-      refused = h.refused ∙ k.refused;
-      takes_memory = h.takes_memory ∙ k.takes_memory;
-      keeps_positions = h.keeps_positions ∙ k.keeps_positions;
-      keeps_invalid = h.keeps_invalid ∙ k.keeps_invalid;
-      holds = h.holds ∙ k.holds;
-    }
-
--- another text, start and depth change nothing of it
-pub same_at : (t : List ℕ) (b : Bool) (n : ℕ) (s : Sheet) → Same (record s { text = t; at_line_start = b; indentation = n }) s
-same_at t b n s =
-    record {
-      whole = refl;
-      line_end = refl;
-      indent_text = refl;
-      faults = refl;
-      refused = refl;
-      takes_memory = refl;
-      keeps_positions = refl;
-      keeps_invalid = refl;
-      holds = refl;
+      whole = ap (λ (s : Sheet). s.whole) h.same;
+      line_end = ap (λ (s : Sheet). s.line_end) h.same;
+      indent_text = ap (λ (s : Sheet). s.indent_text) h.same;
+      faults = ap (λ (s : Sheet). s.faults) h.same;
+      refused = ap (λ (s : Sheet). s.refused) h.same;
+      takes_memory = ap (λ (s : Sheet). s.takes_memory) h.same;
+      keeps_positions = ap (λ (s : Sheet). s.keeps_positions) h.same;
+      keeps_invalid = ap (λ (s : Sheet). s.keeps_invalid) h.same;
+      holds = h.holds;
     }
 
 pub started_same : (s : Sheet) → Same (started s) s
-unfolding started indented
-started_same s =
-    elim s.at_line_start as (λ b. Same (cond b (record (indented s.indentation s) { at_line_start = false }) s) s)
-    [ true ↦ same_at (s.text ++ repeat s.indentation s.indent_text) false s.indentation s | false ↦ same_refl s ]
+started_same s = alike_same s (started s) (started_alike s)
 
-pub written_same : (t : List ℕ) (s : Sheet) → Same (written t s) s
-unfolding written appended
-written_same [] s = same_refl s
-written_same (c ∷ cs) s = same_trans _ _ _ (same_at ((started s).text ++ c ∷ cs) (started s).at_line_start (started s).indentation (started s)) (started_same s)
+pub written_same : (span : Option Span) (t : List ℕ) (s : Sheet) → Same (written span t s) s
+written_same span t s = alike_same s (written span t s) (written_alike span t s)
 
 pub ended_same : (s : Sheet) → Same (ended s) s
-unfolding ended appended
-ended_same s =
-    elim s.at_line_start as (λ b. Same (cond b s (record (appended s.line_end s) { at_line_start = true })) s)
-    [ true ↦ same_refl s | false ↦ same_at (s.text ++ s.line_end) true s.indentation s ]
+ended_same s = alike_same s (ended s) (ended_alike s)
+
+pub settled_same : (s : Sheet) → Same (settled s) s
+settled_same s = alike_same s (settled s) (settled_alike s)
 
 pub effect_same : (x : Item) (s : Sheet) → Same (effect x s) s
-unfolding effect
-effect_same (Semi span) s = written_same (codes ";") s
-effect_same Space s = written_same (codes " ") s
-effect_same (Keyword span t) s = written_same t s
-effect_same (Operator span t) s = written_same t s
-effect_same (Param t) s = written_same t s
-effect_same (Property t) s = written_same t s
-effect_same Line s = ended_same s
-effect_same (Lit span t) s = written_same t s
-effect_same (Comment t) s = written_same t s
-effect_same (StrLit span t) s = written_same t s
-effect_same (Str t) s = written_same t s
-effect_same (Symbol span t) s = written_same t s
-effect_same (Punct span t) s = written_same t s
-effect_same (Position pos) s = same_refl s
-effect_same Commit s = same_refl s
-effect_same Deeper s = same_at s.text s.at_line_start (s.indentation + 1) s
-effect_same Shallower s = same_at s.text s.at_line_start (s.indentation - 1) s
+effect_same x s = alike_same s (effect x s) (effect_alike x s)
 
 pub effects_same : (xs : List Item) (s : Sheet) → Same (effects xs s) s
-unfolding effects
-effects_same [] s = same_refl s
-effects_same (x ∷ xs) s = same_trans _ _ _ (effects_same xs (effect x s)) (effect_same x s)
+effects_same xs s = alike_same s (effects xs s) (effects_alike xs s)
 
 -- ---- a text grows
 
-pub started_grows : (s : Sheet) → IsFront s.text (started s).text
-unfolding started indented
-started_grows s =
-    elim s.at_line_start as (λ b. IsFront s.text (cond b (record (indented s.indentation s) { at_line_start = false }) s).text)
-    [ true ↦ front_append s.text (repeat s.indentation s.indent_text) | false ↦ front_refl s.text ]
-
-pub appended_grows : (t : List ℕ) (s : Sheet) → IsFront s.text (appended t s).text
-unfolding appended
-appended_grows t s = front_append s.text t
-
-pub written_grows : (t : List ℕ) (s : Sheet) → IsFront s.text (written t s).text
-unfolding written
-written_grows [] s = front_refl s.text
-written_grows (c ∷ cs) s = front_trans _ _ _ (started_grows s) (appended_grows (c ∷ cs) (started s))
-
-pub ended_grows : (s : Sheet) → IsFront s.text (ended s).text
-unfolding ended appended
-ended_grows s =
-    elim s.at_line_start as (λ b. IsFront s.text (cond b s (record (appended s.line_end s) { at_line_start = true })).text)
-    [ true ↦ front_refl s.text | false ↦ front_append s.text s.line_end ]
-
 pub effect_grows : (x : Item) (s : Sheet) → IsFront s.text (effect x s).text
-unfolding effect
-effect_grows (Semi span) s = written_grows (codes ";") s
-effect_grows Space s = written_grows (codes " ") s
-effect_grows (Keyword span t) s = written_grows t s
-effect_grows (Operator span t) s = written_grows t s
-effect_grows (Param t) s = written_grows t s
-effect_grows (Property t) s = written_grows t s
-effect_grows Line s = ended_grows s
-effect_grows (Lit span t) s = written_grows t s
-effect_grows (Comment t) s = written_grows t s
-effect_grows (StrLit span t) s = written_grows t s
-effect_grows (Str t) s = written_grows t s
-effect_grows (Symbol span t) s = written_grows t s
-effect_grows (Punct span t) s = written_grows t s
-effect_grows (Position pos) s = front_refl s.text
-effect_grows Commit s = front_refl s.text
-effect_grows Deeper s = front_refl s.text
-effect_grows Shallower s = front_refl s.text
+effect_grows x s = (effect_alike x s).grows
 
 pub effects_grow : (xs : List Item) (s : Sheet) → IsFront s.text (effects xs s).text
-unfolding effects
-effects_grow [] s = front_refl s.text
-effects_grow (x ∷ xs) s = front_trans _ _ _ (effect_grows x s) (effects_grow xs (effect x s))
+effects_grow xs s = (effects_alike xs s).grows
 
 -- ---- the depth
 
-pub started_indentation : (s : Sheet) → (started s).indentation ≡ s.indentation
-unfolding started indented
-started_indentation s =
-    elim s.at_line_start as (λ b. (cond b (record (indented s.indentation s) { at_line_start = false }) s).indentation ≡ s.indentation)
-    [ true ↦ refl | false ↦ refl ]
+pub recorded_indentation : (pos : BytePos) (s : Sheet) → (recorded pos s).indentation ≡ s.indentation
+unfolding recorded
+recorded_indentation pos s =
+    elim s.keeps_positions as (λ b. (cond b (record s { pairs = with_pair pos s.place s.pairs }) s).indentation ≡ s.indentation) [ true ↦ refl | false ↦ refl ]
 
-pub written_indentation : (t : List ℕ) (s : Sheet) → (written t s).indentation ≡ s.indentation
+pub start_indentation : (span : Option Span) (s : Sheet) → (start_recorded span s).indentation ≡ s.indentation
+unfolding start_recorded
+start_indentation None s = refl
+start_indentation (Some span) s = recorded_indentation span.lo s
+
+pub end_indentation : (span : Option Span) (s : Sheet) → (end_recorded span s).indentation ≡ s.indentation
+unfolding end_recorded
+end_indentation None s = refl
+end_indentation (Some span) s = recorded_indentation span.hi s
+
+pub pending_indentation : (pos : Option BytePos) (s : Sheet) → (pending_recorded pos s).indentation ≡ s.indentation
+unfolding pending_recorded
+pending_indentation None s = refl
+pending_indentation (Some pos) s = recorded_indentation pos (record s { pending = None })
+
+pub started_indentation : (s : Sheet) → (started s).indentation ≡ s.indentation
+unfolding started indented appended
+started_indentation s =
+    elim s.at_line_start as (λ b. (cond b (pending_recorded s.pending (record (indented s.indentation s) { at_line_start = false })) s).indentation ≡ s.indentation)
+    [ true ↦ pending_indentation s.pending (record (indented s.indentation s) { at_line_start = false }) | false ↦ refl ]
+
+pub written_indentation : (span : Option Span) (t : List ℕ) (s : Sheet) → (written span t s).indentation ≡ s.indentation
 unfolding written appended
-written_indentation [] s = refl
-written_indentation (c ∷ cs) s = started_indentation s
+written_indentation span [] s = refl
+written_indentation span (c ∷ cs) s = end_indentation span (appended (c ∷ cs) (start_recorded span (started s))) ∙ start_indentation span (started s) ∙ started_indentation s
+
+pub literal_indentation : (span : Span) (t : List ℕ) (s : Sheet) → (literal_written span t s).indentation ≡ s.indentation
+unfolding literal_written
+literal_indentation span [] s = refl
+literal_indentation span (c ∷ cs) s =
+    recorded_indentation span.hi (written None (c ∷ cs) (recorded span.lo s)) ∙ written_indentation None (c ∷ cs) (recorded span.lo s) ∙ recorded_indentation span.lo s
 
 pub ended_indentation : (s : Sheet) → (ended s).indentation ≡ s.indentation
 unfolding ended appended
 ended_indentation s =
-    elim s.at_line_start as (λ b. (cond b s (record (appended s.line_end s) { at_line_start = true })).indentation ≡ s.indentation)
+    elim s.at_line_start as (λ b. (cond b (record s { pending = None }) (record (appended s.line_end s) { at_line_start = true })).indentation ≡ s.indentation)
     [ true ↦ refl | false ↦ refl ]
+
+pointed_indentation : (pos : BytePos) (s : Sheet) → (pointed pos s).indentation ≡ s.indentation
+unfolding pointed
+pointed_indentation pos s =
+    elim (s.keeps_positions && s.at_line_start) as (λ b. (cond b (record s { pending = Some pos }) (recorded pos s)).indentation ≡ s.indentation)
+    [ true ↦ refl | false ↦ recorded_indentation pos s ]
+
+settled_by_indentation : (x : Semicolons) (s : Sheet) → (settled_by x s).indentation ≡ s.indentation
+unfolding settled_by
+settled_by_indentation AtOnce s = refl
+settled_by_indentation HoldsNone s = refl
+settled_by_indentation (HoldsOne span) s = written_indentation span (codes ";") (record s { semicolons = HoldsNone })
+
+pub settled_indentation : (s : Sheet) → (settled s).indentation ≡ s.indentation
+settled_indentation s = settled_by_indentation s.semicolons s
+
+semicolon_indentation : (x : Semicolons) (span : Option Span) (s : Sheet) → (semicolon_by x span s).indentation ≡ s.indentation
+unfolding semicolon_by
+semicolon_indentation AtOnce span s = written_indentation span (codes ";") s
+semicolon_indentation HoldsNone span s = refl
+semicolon_indentation (HoldsOne held) span s = refl
+
+before_punct_indentation : (t : List ℕ) (s : Sheet) → (before_punct t s).indentation ≡ s.indentation
+unfolding before_punct
+before_punct_indentation t s =
+    elim (is_ending t) as (λ b. (cond b (record s { semicolons = dropped s.semicolons }) (settled s)).indentation ≡ s.indentation)
+    [ true ↦ refl | false ↦ settled_indentation s ]
 
 -- the depth after a call
 abbrev pub depth : Item → ℕ → ℕ
@@ -202,24 +339,27 @@ depth (Punct span t) n = n
 depth (Position pos) n = n
 depth Commit n = n
 
+text_indentation : (span : Option Span) (t : List ℕ) (s : Sheet) → (written span t (settled s)).indentation ≡ s.indentation
+text_indentation span t s = written_indentation span t (settled s) ∙ settled_indentation s
+
 -- only `Deeper` and `Shallower` change the depth
 pub effect_indentation : (x : Item) (s : Sheet) → (effect x s).indentation ≡ depth x s.indentation
 unfolding effect
-effect_indentation (Semi span) s = written_indentation (codes ";") s
-effect_indentation Space s = written_indentation (codes " ") s
-effect_indentation (Keyword span t) s = written_indentation t s
-effect_indentation (Operator span t) s = written_indentation t s
-effect_indentation (Param t) s = written_indentation t s
-effect_indentation (Property t) s = written_indentation t s
-effect_indentation Line s = ended_indentation s
-effect_indentation (Lit span t) s = written_indentation t s
-effect_indentation (Comment t) s = written_indentation t s
-effect_indentation (StrLit span t) s = written_indentation t s
-effect_indentation (Str t) s = written_indentation t s
-effect_indentation (Symbol span t) s = written_indentation t s
-effect_indentation (Punct span t) s = written_indentation t s
-effect_indentation (Position pos) s = refl
-effect_indentation Commit s = refl
+effect_indentation (Semi span) s = semicolon_indentation s.semicolons span s
+effect_indentation Space s = text_indentation None (codes " ") s
+effect_indentation (Keyword span t) s = text_indentation span t s
+effect_indentation (Operator span t) s = text_indentation span t s
+effect_indentation (Param t) s = text_indentation None t s
+effect_indentation (Property t) s = text_indentation None t s
+effect_indentation Line s = ended_indentation (settled s) ∙ settled_indentation s
+effect_indentation (Lit span t) s = literal_indentation span t (settled s) ∙ settled_indentation s
+effect_indentation (Comment t) s = text_indentation None t s
+effect_indentation (StrLit span t) s = literal_indentation span t (settled s) ∙ settled_indentation s
+effect_indentation (Str t) s = text_indentation None t s
+effect_indentation (Symbol span t) s = text_indentation (Some span) t s
+effect_indentation (Punct span t) s = written_indentation span t (before_punct t s) ∙ before_punct_indentation t s
+effect_indentation (Position pos) s = pointed_indentation pos s
+effect_indentation Commit s = settled_indentation s
 effect_indentation Deeper s = refl
 effect_indentation Shallower s = refl
 
@@ -249,7 +389,7 @@ effect_keeps_positions x s = (effect_same x s).keeps_positions
 pub effect_keeps_invalid : (x : Item) (s : Sheet) → (effect x s).keeps_invalid ≡ s.keeps_invalid
 effect_keeps_invalid x s = (effect_same x s).keeps_invalid
 
-pub effect_holds : (x : Item) (s : Sheet) → (effect x s).holds ≡ s.holds
+pub effect_holds : (x : Item) (s : Sheet) → holds_semicolons (effect x s).semicolons ≡ holds_semicolons s.semicolons
 effect_holds x s = (effect_same x s).holds
 
 -- what was text is text after any calls

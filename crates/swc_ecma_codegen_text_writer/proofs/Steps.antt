@@ -1,12 +1,17 @@
 -- Sheets on the way to others.
-use Rattle.std.proofs.Common.{◌≡◌, ℕ, ◌+◌, ◌-◌, ◌^◌, ◌<◌, ◌≤◌, Bool, true, false, List, [], ◌∷◌, ◌++◌, length, refl, sym, ◌∙◌, ap, subst, append_assoc, arith, append-nil, zero, suc, Result, Ok, Err, cond}
+use Rattle.std.proofs.Common.{◌≡◌, inl, inr, ℕ, ◌+◌, ◌-◌, ◌^◌, ◌<◌, ◌≤◌, Bool, true, false, List, [], ◌∷◌, ◌++◌, length, refl, sym, ◌∙◌, ap, subst, append_assoc, arith, append-nil, codes, zero, suc, Option, Some, None, Result, Ok, Err, cond, ◌&&◌}
 use Rattle.std.specs.List.{repeat}
 use Rattle.swc_ecma_codegen_common.specs.declared.errors.Refusal.{Refusal}
 use Rattle.swc_ecma_codegen_common.specs.declared.errors.Refusal.TheVariants.{Writer, OutOfMemory, UnsupportedNode, BadShape, NameOutOfTarget, PositionTooLarge, Failed}
+use Rattle.swc_ecma_codegen_common.specs.declared.positions.BytePos.{BytePos}
+use Rattle.swc_ecma_codegen_common.specs.declared.positions.Span.{Span}
+use Rattle.swc_ecma_codegen_text_writer.specs.Positions.{Records}
+use Rattle.swc_ecma_codegen_text_writer.specs.Kept.{RecordsIn}
 use Rattle.swc_ecma_codegen_text_writer.specs.Told.{IsFront}
-use Rattle.swc_ecma_codegen_text_writer.specs.Sheet.{Sheet, Item, Causes, earlier, stopped, Writes, appended, indented, started, written, ended, effect, Line, Deeper}
-use Rattle.swc_ecma_codegen_text_writer.specs.View.{Counted, Halted, Reaches}
-use Rattle.swc_ecma_codegen_text_writer.proofs.Sheets.{front_refl, front_append, front_trans, appended_grows}
+use Rattle.swc_ecma_codegen_text_writer.specs.Places.{Place, origin, after_text}
+use Rattle.swc_ecma_codegen_text_writer.specs.Sheet.{Sheet, Pair, with_pair, pointed, Item, Causes, earlier, stopped, Writes, Semicolons, AtOnce, appended, indented, start_recorded, end_recorded, pending_recorded, recorded, started, written, literal_written, ended, settled, settled_by, semicolon_by, dropped, is_ending, before_punct, effect, Deeper}
+use Rattle.swc_ecma_codegen_text_writer.specs.View.{HasReason, Halted, Reaches, Prefaces}
+use Rattle.swc_ecma_codegen_text_writer.proofs.Sheets.{Alike, alike_refl, alike_trans, start_alike, end_alike, pending_alike, appended_alike, indented_alike, front_refl, front_append, front_trans}
 
 -- ---- copies
 
@@ -24,122 +29,241 @@ repeat_split (suc m) n xs =
 repeat_one_more : (n : ℕ) (xs : List ℕ) → repeat (n + 1) xs ≡ repeat n xs ++ xs
 repeat_one_more n xs = let e : n + 1 ≡ suc n = omega arith in ap (λ k. repeat k xs) e ∙ sym (repeat_after n xs)
 
+-- ---- places
+
+pub after_append : (t u : List ℕ) (p : Place) → after_text (t ++ u) p ≡ after_text u (after_text t p)
+unfolding after_text
+after_append [] u p = refl
+after_append (c ∷ cs) u p = after_append cs u _
+
 -- ---- indentation
+
+pub appended_twice : (t u : List ℕ) (s : Sheet) → appended u (appended t s) ≡ appended (t ++ u) s
+unfolding appended
+appended_twice t u s = λ i. record s { text = append_assoc s.text t u i; place = sym (after_append t u s.place) i }
+
+pub appended_none : (s : Sheet) → s ≡ appended [] s
+unfolding appended after_text
+appended_none s = ap (λ t. record s { text = t }) (sym (append-nil s.text))
 
 pub indented_zero : (s : Sheet) → s ≡ indented 0 s
 unfolding indented
-indented_zero s = ap (λ t. record s { text = t }) (sym (append-nil s.text))
+indented_zero s = appended_none s
 
 pub indented_more : (n : ℕ) (s : Sheet) → appended s.indent_text (indented n s) ≡ indented (n + 1) s
-unfolding indented appended
-indented_more n s =
-    ap (λ t. record s { text = t })
-    (append_assoc s.text (repeat n s.indent_text) s.indent_text ∙ ap (λ t. s.text ++ t) (sym (repeat_one_more n s.indent_text)))
-
-indented_front : (n m : ℕ) (s : Sheet) → n ≤ m → IsFront (indented n s).text (indented m s).text
 unfolding indented
-indented_front n m s h =
-    let e : m ≡ n + (m - n) = omega arith in (
-      repeat (m - n) s.indent_text,
-      ap (λ k. s.text ++ repeat k s.indent_text) e ∙ ap (λ t. s.text ++ t) (repeat_split n (m - n) s.indent_text) ∙ sym (append_assoc s.text (repeat n s.indent_text) (repeat (m - n) s.indent_text)),
-    )
+indented_more n s = appended_twice (repeat n s.indent_text) s.indent_text s ∙ ap (λ t. appended t s) (sym (repeat_one_more n s.indent_text))
 
-indented_grows : (n : ℕ) (s : Sheet) → IsFront s.text (indented n s).text
+indented_on : (n m : ℕ) (s : Sheet) → n ≤ m → Alike (indented n s) (indented m s)
 unfolding indented
-indented_grows n s = front_append s.text (repeat n s.indent_text)
+indented_on n m s h =
+    let e : m ≡ n + (m - n) = omega arith in
+    let q : appended (repeat (m - n) s.indent_text) (indented n s) ≡ indented m s =
+    appended_twice (repeat n s.indent_text) (repeat (m - n) s.indent_text) s ∙ ap (λ t. appended t s) (sym (repeat_split n (m - n) s.indent_text)) ∙ ap (λ k. appended (repeat k s.indent_text) s) (sym e) in
+    subst (λ (z : Sheet). Alike (indented n s) z) q (appended_alike (repeat (m - n) s.indent_text) (indented n s))
 
 -- ---- ways
 
--- from the first sheet to the second only text was written
-pub record Alike (a b : Sheet) : Type 0 where
-  pub grows : IsFront a.text b.text
-  pub same : b ≡ record a { text = b.text; at_line_start = b.at_line_start }
+reason_alike : (e : Refusal) (a b c : Sheet) → Alike a b → HasReason e b c → HasReason e a c
+unfolding HasReason
+reason_alike Writer a b c h k = let q : b.faults ≡ a.faults = ap (λ (x : Sheet). x.faults) h.same in rw (sym q) k
+reason_alike OutOfMemory a b c h k = sym (ap (λ (x : Sheet). x.takes_memory) h.same) ∙ k
+reason_alike UnsupportedNode a b c h k = k
+reason_alike BadShape a b c h k = k
+reason_alike NameOutOfTarget a b c h k = k
+reason_alike PositionTooLarge a b c h k = (sym (ap (λ (x : Sheet). x.keeps_positions) h.same) ∙ k.0, k.1)
+reason_alike Failed a b c h k = k
 
-pub alike_refl : (a : Sheet) → Alike a a
-alike_refl a = record { grows = front_refl a.text; same = refl }
-
-indented_alike : (n : ℕ) (a : Sheet) → Alike a (indented n a)
-unfolding indented
-indented_alike n a = record { grows = indented_grows n a; same = refl }
-
-pub started_alike : (s : Sheet) → Alike s (started s)
-unfolding started indented
-started_alike s =
-    elim s.at_line_start as (λ b. Alike s (cond b (record (indented s.indentation s) { at_line_start = false }) s))
-    [ true ↦ record { grows = front_append s.text (repeat s.indentation s.indent_text); same = refl } | false ↦ alike_refl s ]
-
-counted_alike : (e : Refusal) (a b c : Sheet) → a.faults ≡ b.faults → Counted e b c → Counted e a c
-unfolding Counted
-counted_alike Writer a b c h k = rw h k
-counted_alike OutOfMemory a b c h k = k
-counted_alike UnsupportedNode a b c h k = k
-counted_alike BadShape a b c h k = k
-counted_alike NameOutOfTarget a b c h k = k
-counted_alike PositionTooLarge a b c h k = k
-counted_alike Failed a b c h k = k
-
--- a failure on a part of the way is one on the way
-pub halted_on : (e : Refusal) (goal next a b c : Sheet) → Alike a b → IsFront next.text goal.text → Halted e next b c → Halted e goal a c
-halted_on e goal next a b c h k s =
+-- what was refused on a part of the way was on the way
+pub halted_on : (e : Refusal) (goal next a b c : Sheet) → Alike a b → b.indentation ≡ a.indentation → Alike next goal → Halted e next b c → Halted e goal a c
+halted_on e goal next a b c h l k s =
+    let same_level : b ≡ record a { text = b.text; at_line_start = b.at_line_start; semicolons = b.semicolons; pairs = b.pairs; pending = b.pending; place = b.place } =
+    h.same ∙ ap (λ n. record a { text = b.text; at_line_start = b.at_line_start; indentation = n; semicolons = b.semicolons; pairs = b.pairs; pending = b.pending; place = b.place }) l in
     record {
-      cause = counted_alike e a b c (ap (λ (x : Sheet). x.faults) (sym h.same)) s.cause;
-      stopped = record {
-        grows = front_trans a.text b.text c.text h.grows s.stopped.grows;
-        front = front_trans c.text next.text goal.text s.stopped.front k;
-        same = s.stopped.same ∙ ap (λ (x : Sheet). record x { text = c.text; whole = c.whole; at_line_start = c.at_line_start; faults = c.faults; refused = true }) h.same;
-      };
+      reason = reason_alike e a b c h s.reason;
+      grows = front_trans a.text b.text c.text h.grows s.grows;
+      front = front_trans c.text next.text goal.text s.front k.grows;
+      more_pairs = front_trans a.pairs b.pairs c.pairs h.more_pairs s.more_pairs;
+      front_pairs = front_trans c.pairs next.pairs goal.pairs s.front_pairs k.more_pairs;
+      same = s.same ∙ ap (λ (x : Sheet). record x { text = c.text; whole = c.whole; at_line_start = c.at_line_start; semicolons = c.semicolons; pairs = c.pairs; pending = c.pending; place = c.place; faults = c.faults; refused = true }) same_level;
     }
+
+-- where a way that came to its end has led
+pub reached : (goal a b : Sheet) (u : Unit {0}) → Reaches goal a b (Ok u) → b ≡ goal
+unfolding Reaches
+reached goal a b u h = h
+
+-- a way to the same sheet
+pub reaches_to : (goal to a b : Sheet) (r : Result (Unit {0}) Refusal) → goal ≡ to → Reaches goal a b r → Reaches to a b r
+reaches_to goal to a b r e h = subst (λ (z : Sheet). Reaches z a b r) e h
+
+-- the first part of a way was refused
+pub first_halted : (e : Refusal) (goal next a c : Sheet) → Alike next goal → Halted e next a c → Halted e goal a c
+first_halted e goal next a c k s = halted_on e goal next a a c (alike_refl a) refl k s
+
+-- the second part of a way, from where the first has led
+pub reaches_on : (goal a b c : Sheet) (r : Result (Unit {0}) Refusal) → Alike a b → b.indentation ≡ a.indentation → Reaches goal b c r → Reaches goal a c r
+unfolding Reaches
+reaches_on goal a b c (Ok u) h l k = k
+reaches_on goal a b c (Err e) h l k = halted_on e goal goal a b c h l (alike_refl goal) k
+
+-- two parts of a way
+pub reaches_then : (goal a b c next : Sheet) (r : Result (Unit {0}) Refusal) → b ≡ next → Alike a next → next.indentation ≡ a.indentation → (b ≡ next → Reaches goal b c r) → Reaches goal a c r
+reaches_then goal a b c next r e h l k =
+    reaches_on goal a b c r (subst (λ (z : Sheet). Alike a z) (sym e) h) (ap (λ (z : Sheet). z.indentation) e ∙ l) (k e)
 
 -- one copy of the indentation failed
 pub indent_halted : (e : Refusal) (n m : ℕ) (a c : Sheet) → n < m → Halted e (appended a.indent_text (indented n a)) (indented n a) c → Halted e (indented m a) a c
+unfolding indented appended
 indent_halted e n m a c h s =
-    let f : IsFront (appended a.indent_text (indented n a)).text (indented m a).text =
-    (let P : Sheet → Type 0 = λ x. IsFront x.text (indented m a).text in
-    subst P (sym (indented_more n a)) (indented_front (n + 1) m a (omega (arith, h)))) in
-    halted_on e (indented m a) (appended a.indent_text (indented n a)) a (indented n a) c (indented_alike n a) f s
+    let f : Alike (appended a.indent_text (indented n a)) (indented m a) =
+    subst (λ (z : Sheet). Alike z (indented m a)) (sym (indented_more n a)) (indented_on (n + 1) m a (omega (arith, h))) in
+    halted_on e (indented m a) (appended a.indent_text (indented n a)) a (indented n a) c (indented_alike n a) refl f s
 
 -- the sheet at the start of a line's text
-pub started_true : (s : Sheet) → s.at_line_start ≡ true → started s ≡ record (indented s.indentation s) { at_line_start = false }
+abbrev pub begun_sheet : Sheet → Sheet
+begun_sheet s = record (indented s.indentation s) { at_line_start = false }
+
+pub started_true : (s : Sheet) → s.at_line_start ≡ true → started s ≡ pending_recorded s.pending (record (indented s.indentation s) { at_line_start = false })
 unfolding started
-started_true s h = ap (λ b. cond b (record (indented s.indentation s) { at_line_start = false }) s) h
+started_true s h = ap (λ b. cond b (pending_recorded s.pending (record (indented s.indentation s) { at_line_start = false })) s) h
 
 pub started_false : (s : Sheet) → s.at_line_start ≡ false → started s ≡ s
 unfolding started
-started_false s h = ap (λ b. cond b (record (indented s.indentation s) { at_line_start = false }) s) h
+started_false s h = ap (λ b. cond b (pending_recorded s.pending (record (indented s.indentation s) { at_line_start = false })) s) h
 
--- the indentation of a line failed
-pub start_halted : (e : Refusal) (a c : Sheet) → a.at_line_start ≡ true → Halted e (indented a.indentation a) a c → Halted e (started a) a c
-start_halted e a c h s =
-    let f : IsFront (indented a.indentation a).text (started a).text =
-    (let P : Sheet → Type 0 = λ x. IsFront (indented a.indentation a).text x.text in subst P (sym (started_true a h)) (front_refl _)) in
-    halted_on e (started a) (indented a.indentation a) a a c (alike_refl a) f s
+pub begun_sheet_alike : (s : Sheet) → Alike s (begun_sheet s)
+unfolding indented appended
+begun_sheet_alike s = record { grows = front_append s.text (repeat s.indentation s.indent_text); more_pairs = front_refl s.pairs; holds = refl; same = refl }
 
--- the first part of a way failed
-pub first_halted : (e : Refusal) (t : List ℕ) (a c : Sheet) → Halted e (started a) a c → Halted e (appended t (started a)) a c
-first_halted e t a c s = halted_on e (appended t (started a)) (started a) a a c (alike_refl a) (appended_grows t (started a)) s
-
--- the second part of a way, from where the first has led
-pub reaches_on : (goal a b c : Sheet) (r : Result (Unit {0}) Refusal) → Alike a b → Reaches goal b c r → Reaches goal a c r
-unfolding Reaches
-reaches_on goal a b c (Ok u) h k = k
-reaches_on goal a b c (Err e) h k = halted_on e goal goal a b c h (front_refl goal.text) k
+-- from the indentation to the line's start
+pub begun_on : (s : Sheet) → s.at_line_start ≡ true → Alike (indented s.indentation s) (started s)
+unfolding indented appended
+begun_on s h =
+    let there : Sheet = indented s.indentation s in
+    let f : Alike there (begun_sheet s) = record { grows = front_refl there.text; more_pairs = front_refl there.pairs; holds = refl; same = refl } in
+    subst (λ (z : Sheet). Alike there z) (sym (started_true s h)) (alike_trans there (begun_sheet s) (pending_recorded s.pending (begun_sheet s)) f (pending_alike s.pending (begun_sheet s)))
 
 -- nothing comes of an empty text
-pub written_nil : (t : List ℕ) (s : Sheet) → length t ≡ 0 → s ≡ written t s
+pub written_nil : (span : Option Span) (t : List ℕ) (s : Sheet) → length t ≡ 0 → s ≡ written span t s
 unfolding written
-written_nil [] s h = refl
-written_nil (c ∷ cs) s h = absurd (omega (arith, h))
+written_nil span [] s h = refl
+written_nil span (c ∷ cs) s h = absurd (omega (arith, h))
 
-pub written_some : (t : List ℕ) (s : Sheet) → 0 < length t → appended t (started s) ≡ written t s
+pub written_some : (span : Option Span) (t : List ℕ) (s : Sheet) → 0 < length t → end_recorded span (appended t (start_recorded span (started s))) ≡ written span t s
 unfolding written
-written_some [] s h = absurd (omega (arith, h))
-written_some (c ∷ cs) s h = refl
+written_some span [] s h = absurd (omega (arith, h))
+written_some span (c ∷ cs) s h = refl
+
+-- from there to the end of a text
+pub started_written : (span : Option Span) (t : List ℕ) (s : Sheet) → 0 < length t → Alike (started s) (written span t s)
+started_written span t s h =
+    subst (λ (z : Sheet). Alike (started s) z) (written_some span t s h)
+    (alike_trans _ _ _ (start_alike span (started s)) (alike_trans _ _ _ (appended_alike t (start_recorded span (started s))) (end_alike span (appended t (start_recorded span (started s))))))
+
+pub literal_nil : (span : Span) (t : List ℕ) (s : Sheet) → length t ≡ 0 → s ≡ literal_written span t s
+unfolding literal_written
+literal_nil span [] s h = refl
+literal_nil span (c ∷ cs) s h = absurd (omega (arith, h))
+
+pub literal_some : (span : Span) (t : List ℕ) (s : Sheet) → 0 < length t → recorded span.hi (written None t (recorded span.lo s)) ≡ literal_written span t s
+unfolding literal_written
+literal_some span [] s h = absurd (omega (arith, h))
+literal_some span (c ∷ cs) s h = refl
+
+-- the place after what was sent before and now
+pub place_on : (before t after : List ℕ) → after ≡ before ++ t → after_text after origin ≡ after_text t (after_text before origin)
+place_on before t after h = ap (λ z. after_text z origin) h ∙ after_append before t origin
 
 -- the sheet after a text that went out, by its parts
-pub sent_sheet : (t : List ℕ) (s : Sheet) (x : List ℕ) (b : Bool) (n : ℕ) → x ≡ s.text ++ t → b ≡ s.whole → n ≡ s.faults → record s { text = x; whole = b; faults = n } ≡ appended t s
+pub new_place : (bytes : List ℕ) → bytes ≡ [] → after_text bytes origin ≡ origin
+unfolding after_text
+new_place bytes h = ap (λ z. after_text z origin) h
+
+pub sent_sheet : (t : List ℕ) (s : Sheet) (x : List ℕ) (b : Bool) (n : ℕ) (p : Place) (keeps memory : Bool) (pairs : List Pair) (pending : Option BytePos)
+    → x ≡ s.text ++ t → b ≡ s.whole → n ≡ s.faults → p ≡ after_text t s.place → keeps ≡ s.keeps_positions → memory ≡ s.takes_memory → pairs ≡ s.pairs → pending ≡ s.pending
+    → record s { text = x; whole = b; faults = n; place = p; keeps_positions = keeps; takes_memory = memory; pairs = pairs; pending = pending } ≡ appended t s
 unfolding appended
-sent_sheet t s x b n h k m =
-    ap (λ y. record s { text = y; whole = b; faults = n }) h ∙ ap (λ y. record s { text = s.text ++ t; whole = y; faults = n }) k ∙ ap (λ y. record s { text = s.text ++ t; faults = y }) m
+sent_sheet t s x b n p keeps memory pairs pending h k m q e f g l =
+    λ i. record s { text = h i; whole = k i; faults = m i; place = q i; keeps_positions = e i; takes_memory = f i; pairs = g i; pending = l i }
+
+-- ---- recorded positions
+
+records_ok : (pos : BytePos) (p : Place) (keeps : Bool) (old new : List Pair) (u : Unit {0}) → RecordsIn pos p keeps old new (Ok u) → new ≡ cond keeps (with_pair pos p old) old
+unfolding RecordsIn Records
+records_ok pos p true old new u h = h
+records_ok pos p false old new u h = h
+
+recorded_case : (b : Bool) (pos : BytePos) (s : Sheet) → record s { pairs = cond b (with_pair pos s.place s.pairs) s.pairs } ≡ cond b (record s { pairs = with_pair pos s.place s.pairs }) s
+recorded_case true pos s = refl
+recorded_case false pos s = refl
+
+-- the sheet after a position that was recorded, by its parts
+pub recorded_sheet : (pos : BytePos) (s : Sheet) (new : List Pair) (u : Unit {0}) (keeps memory : Bool) (pending : Option BytePos)
+    → RecordsIn pos s.place s.keeps_positions s.pairs new (Ok u) → keeps ≡ s.keeps_positions → memory ≡ s.takes_memory → pending ≡ s.pending
+    → record s { keeps_positions = keeps; takes_memory = memory; pairs = new; pending = pending } ≡ recorded pos s
+unfolding recorded
+recorded_sheet pos s new u keeps memory pending h k m l =
+    (λ i. record s { keeps_positions = k i; takes_memory = m i; pairs = records_ok pos s.place s.keeps_positions s.pairs new u h i; pending = l i })
+    ∙ recorded_case s.keeps_positions pos s
+
+-- a refused position leaves the pairs
+pub refused_pairs : (pos : BytePos) (p : Place) (keeps : Bool) (old new : List Pair) (e : Refusal) → RecordsIn pos p keeps old new (Err e) → new ≡ old
+unfolding RecordsIn Records
+refused_pairs pos p true old new Writer h = absurd h
+refused_pairs pos p true old new OutOfMemory h = h
+refused_pairs pos p true old new UnsupportedNode h = absurd h
+refused_pairs pos p true old new BadShape h = absurd h
+refused_pairs pos p true old new NameOutOfTarget h = absurd h
+refused_pairs pos p true old new PositionTooLarge h = h.1
+refused_pairs pos p true old new Failed h = absurd h
+refused_pairs pos p false old new e h = absurd h
+
+-- and has its reason
+pub refused_reason : (pos : BytePos) (keeps : Bool) (old new : List Pair) (e : Refusal) (s c : Sheet) → RecordsIn pos c.place keeps old new (Err e) → keeps ≡ s.keeps_positions → keeps ≡ s.takes_memory → HasReason e s c
+unfolding RecordsIn Records HasReason
+refused_reason pos true old new Writer s c h k m = absurd h
+refused_reason pos true old new OutOfMemory s c h k m = sym m
+refused_reason pos true old new UnsupportedNode s c h k m = absurd h
+refused_reason pos true old new BadShape s c h k m = absurd h
+refused_reason pos true old new NameOutOfTarget s c h k m = absurd h
+refused_reason pos true old new PositionTooLarge s c h k m = (sym k, h.0)
+refused_reason pos true old new Failed s c h k m = absurd h
+refused_reason pos false old new e s c h k m = absurd h
+
+-- something was refused, and the sheet is marked
+pub refused_here : (e : Refusal) (goal s c : Sheet) → c ≡ record s { refused = true } → Alike s goal → HasReason e s c → Halted e goal s c
+refused_here e goal s c h k r =
+    let P : Sheet → Type 0 = λ z. z ≡ record s { text = z.text; whole = z.whole; at_line_start = z.at_line_start; semicolons = z.semicolons; pairs = z.pairs; pending = z.pending; place = z.place; faults = z.faults; refused = true } in
+    let T : Sheet → Type 0 = λ z. IsFront z.text goal.text in
+    let Q : Sheet → Type 0 = λ z. IsFront z.pairs goal.pairs in
+    let U : Sheet → Type 0 = λ z. IsFront s.text z.text in
+    let V : Sheet → Type 0 = λ z. IsFront s.pairs z.pairs in
+    record {
+      reason = r;
+      grows = subst U (sym h) (front_refl s.text);
+      front = subst T (sym h) k.grows;
+      more_pairs = subst V (sym h) (front_refl s.pairs);
+      front_pairs = subst Q (sym h) k.more_pairs;
+      same = subst P (sym h) refl;
+    }
+
+pub pending_dropped : (s : Sheet) → Alike s (record s { pending = None })
+pending_dropped s = record { grows = front_refl s.text; more_pairs = front_refl s.pairs; holds = refl; same = refl }
+
+-- the sheet after its pending position was taken, by its parts
+pub taken_sheet : (s : Sheet) (keeps memory : Bool) (pairs : List Pair) (pending : Option BytePos) → keeps ≡ s.keeps_positions → memory ≡ s.takes_memory → pairs ≡ s.pairs → pending ≡ None → record s { keeps_positions = keeps; takes_memory = memory; pairs = pairs; pending = pending } ≡ record s { pending = None }
+taken_sheet s keeps memory pairs pending e f g l = λ i. record s { keeps_positions = e i; takes_memory = f i; pairs = g i; pending = l i }
+
+-- the sheet with a pending position, by its parts
+pub pointed_sheet : (pos : BytePos) (s : Sheet) (keeps memory : Bool) (pairs : List Pair) (pending : Option BytePos) → (s.keeps_positions && s.at_line_start) ≡ true → keeps ≡ s.keeps_positions → memory ≡ s.takes_memory → pairs ≡ s.pairs → pending ≡ Some pos → record s { keeps_positions = keeps; takes_memory = memory; pairs = pairs; pending = pending } ≡ pointed pos s
+unfolding pointed
+pointed_sheet pos s keeps memory pairs pending b e f g l =
+    (λ i. record s { keeps_positions = e i; takes_memory = f i; pairs = g i; pending = l i }) ∙ sym (ap (λ z. cond z (record s { pending = Some pos }) (recorded pos s)) b)
+
+pub pointed_in_line : (pos : BytePos) (s : Sheet) → (s.keeps_positions && s.at_line_start) ≡ false → pointed pos s ≡ recorded pos s
+unfolding pointed
+pointed_in_line pos s b = ap (λ z. cond z (record s { pending = Some pos }) (recorded pos s)) b
 
 -- ---- calls
 
@@ -152,50 +276,123 @@ pub writes_ok : (x : Item) (a b : Sheet) → a.refused ≡ false → b ≡ effec
 unfolding Writes
 writes_ok x a b h k = (h, k)
 
-causes_counted : (x : Item) (e : Refusal) (a b : Sheet) → Counted e a b → Causes x e a b
-unfolding Counted Causes
-causes_counted x Writer a b h = h
-causes_counted x OutOfMemory a b h = absurd h
-causes_counted x UnsupportedNode a b h = h
-causes_counted x BadShape a b h = h
-causes_counted x NameOutOfTarget a b h = h
-causes_counted x PositionTooLarge a b h = absurd h
-causes_counted x Failed a b h = h
+reason_causes : (x : Item) (e : Refusal) (a b : Sheet) → HasReason e a b → Causes x e a b
+unfolding HasReason Causes
+reason_causes x Writer a b h = h
+reason_causes x OutOfMemory a b h = h
+reason_causes x UnsupportedNode a b h = h
+reason_causes x BadShape a b h = h
+reason_causes x NameOutOfTarget a b h = h
+reason_causes x PositionTooLarge a b h = inr h
+reason_causes x Failed a b h = h
 
--- a failure on the way to a call's sheet refuses the call
-pub writes_halted : (x : Item) (e : Refusal) (a b : Sheet) → a.refused ≡ false → Halted e (effect x a) a b → Writes x a b (Err e)
+-- a writer that writes semicolons at once holds none
+pub settled_at_once : (s : Sheet) → s.semicolons ≡ AtOnce → settled s ≡ s
+unfolding settled_by
+settled_at_once s h = ap (λ (x : Semicolons). settled_by x s) h
+
+-- what calls do there
+pub text_at_once : (span : Option Span) (t : List ℕ) (s : Sheet) → s.semicolons ≡ AtOnce → written span t (settled s) ≡ written span t s
+text_at_once span t s h = ap (written span t) (settled_at_once s h)
+
+pub literal_at_once : (span : Span) (t : List ℕ) (s : Sheet) → s.semicolons ≡ AtOnce → literal_written span t (settled s) ≡ literal_written span t s
+literal_at_once span t s h = ap (literal_written span t) (settled_at_once s h)
+
+pub line_at_once : (s : Sheet) → s.semicolons ≡ AtOnce → ended (settled s) ≡ ended s
+line_at_once s h = ap ended (settled_at_once s h)
+
+pub semicolon_at_once : (span : Option Span) (s : Sheet) → s.semicolons ≡ AtOnce → semicolon_by s.semicolons span s ≡ written span (codes ";") s
+unfolding semicolon_by
+semicolon_at_once span s h = ap (λ (x : Semicolons). semicolon_by x span s) h
+
+none_dropped : (s : Sheet) → s.semicolons ≡ AtOnce → record s { semicolons = dropped s.semicolons } ≡ s
+unfolding dropped
+none_dropped s h = ap (λ (x : Semicolons). record s { semicolons = x }) (ap dropped h ∙ sym h)
+
+punct_case : (b : Bool) (s : Sheet) → s.semicolons ≡ AtOnce → cond b (record s { semicolons = dropped s.semicolons }) (settled s) ≡ s
+punct_case true s h = none_dropped s h
+punct_case false s h = settled_at_once s h
+
+pub punct_at_once : (span : Option Span) (t : List ℕ) (s : Sheet) → s.semicolons ≡ AtOnce → written span t (before_punct t s) ≡ written span t s
+unfolding before_punct
+punct_at_once span t s h = ap (written span t) (punct_case (is_ending t) s h)
+
+-- what was refused on the way to a call's sheet refuses the call
+pub writes_halted : (x : Item) (e : Refusal) (a b : Sheet) → a.semicolons ≡ AtOnce → a.refused ≡ false → Halted e (effect x a) a b → Writes x a b (Err e)
 unfolding Writes
-writes_halted x e a b h k = stopped h (causes_counted x e a b k.cause) k.stopped
+writes_halted x e a b o h k =
+    stopped h (reason_causes x e a b k.reason) (record {
+      grows = k.grows;
+      front = k.front;
+      more_pairs = k.more_pairs;
+      front_pairs = k.front_pairs;
+      held = inr (subst (λ (z : Sheet). IsFront z.text b.text) (sym (settled_at_once a o)) k.grows);
+      same = k.same;
+    })
 
 -- a call is a way to its sheet
-pub writes_reached : (x : Item) (a b : Sheet) (r : Result (Unit {0}) Refusal) → a.refused ≡ false → Reaches (effect x a) a b r → Writes x a b r
+pub writes_reached : (x : Item) (a b : Sheet) (r : Result (Unit {0}) Refusal) → a.semicolons ≡ AtOnce → a.refused ≡ false → Reaches (effect x a) a b r → Writes x a b r
 unfolding Reaches Writes
-writes_reached x a b (Ok u) h k = (h, k)
-writes_reached x a b (Err e) h k = writes_halted x e a b h k
+writes_reached x a b (Ok u) o h k = (h, k)
+writes_reached x a b (Err e) o h k = writes_halted x e a b o h k
 
-pub line_true : (s : Sheet) → s.at_line_start ≡ true → s ≡ effect Line s
-unfolding effect ended
-line_true s h = sym (ap (λ b. cond b s (record (appended s.line_end s) { at_line_start = true })) h)
+-- the same by the sheet that the call leads to
+pub writes_way : (x : Item) (goal a b : Sheet) (r : Result (Unit {0}) Refusal) → goal ≡ effect x a → a.semicolons ≡ AtOnce → a.refused ≡ false → Reaches goal a b r → Writes x a b r
+writes_way x goal a b r e o h k = writes_reached x a b r o h (subst (λ (z : Sheet). Reaches z a b r) e k)
 
-pub line_false : (s : Sheet) → s.at_line_start ≡ false → record (appended s.line_end s) { at_line_start = true } ≡ effect Line s
-unfolding effect ended
-line_false s h = sym (ap (λ b. cond b s (record (appended s.line_end s) { at_line_start = true })) h)
+pub ended_true : (s : Sheet) → s.at_line_start ≡ true → record s { pending = None } ≡ ended s
+unfolding ended
+ended_true s h = sym (ap (λ b. cond b (record s { pending = None }) (record (appended s.line_end s) { at_line_start = true })) h)
+
+pub ended_false : (s : Sheet) → s.at_line_start ≡ false → record (appended s.line_end s) { at_line_start = true } ≡ ended s
+unfolding ended
+ended_false s h = sym (ap (λ b. cond b (record s { pending = None }) (record (appended s.line_end s) { at_line_start = true })) h)
+
+at_line_alike : (s : Sheet) → Alike s (record s { at_line_start = true })
+at_line_alike s = record { grows = front_refl s.text; more_pairs = front_refl s.pairs; holds = refl; same = refl }
 
 -- the line's end failed
-pub line_halted : (e : Refusal) (a c : Sheet) → a.refused ≡ false → a.at_line_start ≡ false → Halted e (appended a.line_end a) a c → Writes Line a c (Err e)
-line_halted e a c r h s =
-    let f : IsFront (appended a.line_end a).text (effect Line a).text =
-    (let P : Sheet → Type 0 = λ x. IsFront (appended a.line_end a).text x.text in subst P (line_false a h) (front_refl _)) in
-    writes_halted Line e a c r (halted_on e (effect Line a) (appended a.line_end a) a a c (alike_refl a) f s)
+pub line_halted : (e : Refusal) (a c : Sheet) → a.at_line_start ≡ false → Halted e (appended a.line_end a) a c → Halted e (ended a) a c
+line_halted e a c h s =
+    let f : Alike (appended a.line_end a) (ended a) = subst (λ (z : Sheet). Alike (appended a.line_end a) z) (ended_false a h) (at_line_alike (appended a.line_end a)) in
+    first_halted e (ended a) (appended a.line_end a) a c f s
 
 -- the indentation can't grow
-pub deeper_refused : (a c : Sheet) → a.refused ≡ false → a.indentation ≡ 2 ^ 32 - 1 → c ≡ record a { refused = true } → Writes Deeper a c (Err PositionTooLarge)
+pub deeper_refused : (a c : Sheet) → a.semicolons ≡ AtOnce → a.refused ≡ false → a.indentation ≡ 2 ^ 32 - 1 → c ≡ record a { refused = true } → Writes Deeper a c (Err PositionTooLarge)
 unfolding effect Writes Causes
-deeper_refused a c r h k =
+deeper_refused a c o r h k =
     let e : c.text ≡ a.text = ap (λ (s : Sheet). s.text) k in
-    let P : Sheet → Type 0 = λ (s : Sheet). s ≡ record a { text = s.text; whole = s.whole; at_line_start = s.at_line_start; faults = s.faults; refused = true } in
-    stopped r (refl, h) (record {
+    let q : c.pairs ≡ a.pairs = ap (λ (s : Sheet). s.pairs) k in
+    let z : settled a ≡ a = settled_at_once a o in
+    let P : Sheet → Type 0 = λ (s : Sheet). s ≡ record a { text = s.text; whole = s.whole; at_line_start = s.at_line_start; semicolons = s.semicolons; pairs = s.pairs; pending = s.pending; place = s.place; faults = s.faults; refused = true } in
+    stopped r (inl (refl, h)) (record {
       grows = ([], e ∙ sym (append-nil a.text));
-      front = ([], sym e ∙ sym (append-nil c.text));
+      front = ([], ap (λ (s : Sheet). s.text) z ∙ sym e ∙ sym (append-nil c.text));
+      more_pairs = ([], q ∙ sym (append-nil a.pairs));
+      front_pairs = ([], ap (λ (s : Sheet). s.pairs) z ∙ sym q ∙ sym (append-nil c.pairs));
+      held = inl (ap (λ (s : Sheet). s.semicolons) k);
       same = subst P (sym k) refl;
     })
+
+pub none_pending : (s : Sheet) → s.pending ≡ None → record s { pending = None } ≡ pending_recorded s.pending s
+unfolding pending_recorded
+none_pending s h = ap (λ (z : Option BytePos). record s { pending = z }) (sym h) ∙ sym (ap (λ (z : Option BytePos). pending_recorded z s) h)
+
+pub some_pending : (pos : BytePos) (s : Sheet) → s.pending ≡ Some pos → recorded pos (record s { pending = None }) ≡ pending_recorded s.pending s
+unfolding pending_recorded
+some_pending pos s h = sym (ap (λ (z : Option BytePos). pending_recorded z s) h)
+
+pub both_true : (a b : Bool) → a ≡ true → b ≡ true → (a && b) ≡ true
+both_true a b h k = λ i. h i && k i
+
+pub first_false : (a b : Bool) → a ≡ false → (a && b) ≡ false
+first_false a b h = λ i. h i && b
+
+pub second_false : (a b : Bool) → b ≡ false → (a && b) ≡ false
+second_false true b h = h
+second_false false b h = refl
+
+pub prefaced : (t : List ℕ) (s c : Sheet) (r : Result (Unit {0}) Refusal) → s.refused ≡ false → Reaches (appended t s) s c r → Prefaces t s c r
+unfolding Prefaces Reaches
+prefaced t s c (Ok u) h k = (h, k)
+prefaced t s c (Err e) h k = inr (h, k)

@@ -1,3 +1,10 @@
+pub mod Held
+pub mod Kept
+pub mod Characters
+pub mod Places
+pub mod Positions
+pub mod Reach
+pub mod Recorded
 pub mod Sent
 pub mod Sheet
 pub mod Told

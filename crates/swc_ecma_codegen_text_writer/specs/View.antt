@@ -1,13 +1,17 @@
 -- The sheet of a `JsWriter`, and the ways to it.
-use Rattle.std.specs.Prelude.{◌≡◌, ℕ, true, false, List, codes, Result, Ok, Err, IsSome}
+use Rattle.std.specs.Prelude.{◌≡◌, ◌⊎◌, ℕ, true, false, List, [], codes, Option, None, Result, Ok, Err, IsSome}
 use Rattle.std.specs.Str.{is_utf8}
-use Rattle.std.specs.declared.io.traits.Write.{Ghosts}
+use Rattle.std.specs.declared.io.traits.Write as io
+use Rattle.swc_ecma_codegen_text_writer.specs.declared.kept.KeepsPositions as kept
 use Rattle.swc_ecma_codegen_common.specs.declared.errors.Refusal.{Refusal}
 use Rattle.swc_ecma_codegen_common.specs.declared.errors.Refusal.TheVariants.{Writer, OutOfMemory, UnsupportedNode, BadShape, NameOutOfTarget, PositionTooLarge, Failed}
-use Rattle.swc_ecma_codegen_text_writer.specs.Told.{Rises}
+use Rattle.swc_ecma_codegen_text_writer.specs.Told.{Rises, IsFront}
 use Rattle.swc_ecma_codegen_text_writer.specs.Sent.{sent}
-use Rattle.swc_ecma_codegen_text_writer.specs.Sheet.{Sheet, Item, Stopped, Writes, effect, written}
-use Rattle.swc_ecma_codegen_text_writer.specs.declared.basic_impl.JsWriter.{JsWriter}
+use Rattle.swc_ecma_codegen_common.specs.declared.positions.BytePos.{BytePos}
+use Rattle.swc_ecma_codegen_common.specs.declared.positions.Span.{Span}
+use Rattle.swc_ecma_codegen_text_writer.specs.Places.{origin, after_text}
+use Rattle.swc_ecma_codegen_text_writer.specs.Sheet.{Sheet, Pair, Item, AtOnce, IsFar, Writes, appended, effect, written, literal_written, ended, pointed}
+use Rattle.swc_ecma_codegen_text_writer.specs.declared.basic_impl.Lines.{Lines}
 
 -- The sheet of a new `JsWriter` without positions, over a writer that tells some bytes.
 abbrev pub new_sheet : List ℕ → List ℕ → Sheet
@@ -19,17 +23,24 @@ new_sheet bytes line_end =
       indentation = 0;
       line_end = line_end;
       indent_text = codes "    ";
+      semicolons = AtOnce;
+      keeps_positions = false;
+      pairs = [];
+      pending = None;
+      place = origin;
       faults = 0;
       refused = false;
       takes_memory = false;
-      keeps_positions = false;
       keeps_invalid = false;
-      holds = false;
     }
 
+-- the same sheet, of a writer that keeps positions after those that were handed in
+abbrev pub keeping : List Pair → Sheet → Sheet
+keeping pairs s = record s { keeps_positions = true; pairs = pairs; takes_memory = true }
+
 -- The sheet of a `JsWriter`: the text is bytes, as a `&str` is in a clause.
-unfoldable pub sheet_of : {W : Type 0} {g : Ghosts W} → JsWriter W g → Sheet
-sheet_of w =
+unfoldable pub sheet_of : {W : Type 0} {g : io.Ghosts W} {K : Type 0} {k : kept.Ghosts K} → Lines W K g k → Sheet
+sheet_of {k = k} w =
     record {
       text = sent w.outlet;
       whole = is_utf8 (sent w.outlet);
@@ -37,42 +48,66 @@ sheet_of w =
       indentation = w.indent;
       line_end = w.new_line.now;
       indent_text = w.indent_str.now;
+      semicolons = AtOnce;
+      keeps_positions = k.keeps w.kept;
+      pairs = k.pairs w.kept;
+      pending = k.pending w.kept;
+      place = after_text w.outlet.log.bytes origin;
       faults = w.outlet.faults;
       refused = w.failed;
-      takes_memory = false;
-      keeps_positions = false;
+      takes_memory = k.keeps w.kept;
       keeps_invalid = false;
-      holds = false;
     }
 
 -- The writer under it told its bytes when it was handed in. A `Vec` always does, a file never.
-abbrev pub Tells : {W : Type 0} {g : Ghosts W} → JsWriter W g → Type 0
+abbrev pub Tells : {W : Type 0} {g : io.Ghosts W} {K : Type 0} {k : kept.Ghosts K} → Lines W K g k → Type 0
 Tells {g = g} w = IsSome (g.contents w.outlet.before.value)
 
--- an error of the writer under it, which was counted
-unfoldable pub Counted : Refusal → Sheet → Sheet → Type 0
-Counted Writer old new = Rises old.faults new.faults
-Counted OutOfMemory old new = ⊥
-Counted UnsupportedNode old new = ⊥
-Counted BadShape old new = ⊥
-Counted NameOutOfTarget old new = ⊥
-Counted PositionTooLarge old new = ⊥
-Counted Failed old new = ⊥
+-- the cause of an error on the way: a fault of the writer under it that was counted, or of the list of positions
+unfoldable pub HasReason : Refusal → Sheet → Sheet → Type 0
+HasReason Writer old new = Rises old.faults new.faults
+HasReason OutOfMemory old new = old.takes_memory ≡ true
+HasReason UnsupportedNode old new = ⊥
+HasReason BadShape old new = ⊥
+HasReason NameOutOfTarget old new = ⊥
+HasReason PositionTooLarge old new = (old.keeps_positions ≡ true) × IsFar new.place
+HasReason Failed old new = ⊥
 
--- the writer under it failed on the way to a sheet
+-- On the way to a sheet something was refused: a beginning of its text is out, and of its pairs recorded.
 pub record Halted (e : Refusal) (goal old new : Sheet) : Type 0 where
-  pub cause : Counted e old new
-  pub stopped : Stopped goal old new
+  pub reason : HasReason e old new
+  pub grows : IsFront old.text new.text
+  pub front : IsFront new.text goal.text
+  pub more_pairs : IsFront old.pairs new.pairs
+  pub front_pairs : IsFront new.pairs goal.pairs
+  pub same : new ≡ record old { text = new.text; whole = new.whole; at_line_start = new.at_line_start; semicolons = new.semicolons; pairs = new.pairs; pending = new.pending; place = new.place; faults = new.faults; refused = true }
 
--- a way to a sheet, which ends there or where the writer under it failed
+-- a way to a sheet, which ends there or where something was refused
 unfoldable pub Reaches : Sheet → Sheet → Sheet → Result (Unit {0}) Refusal → Type 0
 Reaches goal old new (Ok _) = new ≡ goal
 Reaches goal old new (Err e) = Halted e goal old new
 
--- what each call does that writes this text
-abbrev pub WritesText : List ℕ → Sheet → Sheet → Result (Unit {0}) Refusal → Type 0
-WritesText t old new r = (x : Item) → effect x old ≡ written t old → Writes x old new r
+-- what each call of a writer that writes semicolons at once does that writes this text
+abbrev pub WritesText : Option Span → List ℕ → Sheet → Sheet → Result (Unit {0}) Refusal → Type 0
+WritesText span t old new r = (x : Item) → (old.semicolons ≡ AtOnce → effect x old ≡ written span t old) → Writes x old new r
+
+-- what each call does that writes this literal
+abbrev pub WritesLiteral : Span → List ℕ → Sheet → Sheet → Result (Unit {0}) Refusal → Type 0
+WritesLiteral span t old new r = (x : Item) → (old.semicolons ≡ AtOnce → effect x old ≡ literal_written span t old) → Writes x old new r
+
+-- what each call does that ends the line
+abbrev pub WritesLine : Sheet → Sheet → Result (Unit {0}) Refusal → Type 0
+WritesLine old new r = (x : Item) → (old.semicolons ≡ AtOnce → effect x old ≡ ended old) → Writes x old new r
+
+-- what each call does that records this position
+abbrev pub WritesPosition : BytePos → Sheet → Sheet → Result (Unit {0}) Refusal → Type 0
+WritesPosition pos old new r = (x : Item) → (old.semicolons ≡ AtOnce → effect x old ≡ pointed pos old) → Writes x old new r
 
 -- what each call does that changes nothing
 abbrev pub WritesNothing : Sheet → Sheet → Result (Unit {0}) Refusal → Type 0
-WritesNothing old new r = (x : Item) → effect x old ≡ old → Writes x old new r
+WritesNothing old new r = (x : Item) → (old.semicolons ≡ AtOnce → effect x old ≡ old) → Writes x old new r
+
+-- What `preamble` does: its text goes out as it is; or it is refused, since an earlier call was or on its way.
+unfoldable pub Prefaces : List ℕ → Sheet → Sheet → Result (Unit {0}) Refusal → Type 0
+Prefaces t old new (Ok _) = (old.refused ≡ false) × (new ≡ appended t old)
+Prefaces t old new (Err e) = ((old.refused ≡ true) × ((e ≡ Failed) × (new ≡ old))) ⊎ ((old.refused ≡ false) × Halted e (appended t old) old new)

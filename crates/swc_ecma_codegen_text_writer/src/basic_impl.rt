@@ -1,6 +1,12 @@
 //! The writer over an `io::Write`.
 
+ghost use Rattle.std.specs.Prelude.{◌≡◌, false};
+ghost use Rattle.std.proofs.Props.{props};
+ghost use Rattle.swc_ecma_codegen_text_writer.specs.Places.{origin, after_text};
+ghost use Rattle.swc_ecma_codegen_text_writer.specs.Kept.{IsCounted};
+
 use crate::WriteJs;
+use crate::kept::{KeepsPositions, Kept};
 use crate::outlet::Outlet;
 use std::alloc::Global;
 use std::io;
@@ -9,17 +15,10 @@ use swc_ecma_codegen_common::{Answer, BytePos, LineCol, Refusal, Result, Span};
 
 const DEFAULT_INDENT: &str = "    ";
 
-/// Writes lines with their indentation: at a line's start a text that isn't empty has the indentation first, and a
-/// line ends only where it has begun.
-///
-/// Over a `Vec`, with the line end `"\n"`, the calls `increase_indent`, `write_str("a")`, `write_line`, `write_line`,
-/// `write_str("")`, `write_str("b")` write `"    a\n    b"`.
-///
-/// No call takes memory, so none answers `OutOfMemory`. A call answers `Writer` where the writer under it failed, was
-/// interrupted, or took no byte of some (`ErrorKind::WriteZero`); `PositionTooLarge` where the indentation would pass
-/// 4294967295 levels; `Failed` where an earlier call was refused. swc's `text_writer::basic_impl::JsWriter`.
+/// A `JsWriter` with any `K` that keeps its positions, or keeps none. Since `K` is a parameter, its own functions know of
+/// no `&mut` in it, and `into_inner` may take it by value.
 #[derive(Drop)]
-pub struct JsWriter<'a, W: Write> {
+pub struct Lines<'a, W: Write, K: KeepsPositions> {
     alloc: Global,
     outlet: Outlet<W>,
     new_line: &'a str,
@@ -28,32 +27,47 @@ pub struct JsWriter<'a, W: Write> {
     line_start: bool,
     failed: bool,
     fault: Option<io::Error>,
+    kept: K,
+    ghost counted: { failed ≡ false → IsCounted (K.keeps kept) (K.reached kept) (after_text outlet.log.bytes origin) } by { Prim.hlevel props },
 }
 
+/// Writes lines with their indentation: at a line's start a text that isn't empty has the indentation first, and a
+/// line ends only where it has begun.
+///
+/// Over a `Vec`, with the line end `"\n"`, the calls `increase_indent`, `write_str("a")`, `write_line`, `write_line`,
+/// `write_str("")`, `write_str("b")` write `"    a\n    b"`.
+///
+/// Where it was given a list, it records positions there: a position with the line and the column, both from 0, that
+/// what stands there has in all that this writer wrote. Lines end with LF, CR, or CR and LF, and columns are UTF-16
+/// units. Position 0 is never recorded, nor a pair that stands in the list already.
+///
+/// Without such a list no call takes memory, so none answers `OutOfMemory`; with one a call does where the list can't
+/// grow. A call answers `Writer` where the writer under it failed, was interrupted, or took no byte of some
+/// (`ErrorKind::WriteZero`); `PositionTooLarge` where the indentation would pass 4294967295 levels, or a position to be
+/// recorded has a line or a column above that; `Failed` where an earlier call was refused. swc's
+/// `text_writer::basic_impl::JsWriter`.
+pub type JsWriter<'a, W> = Lines<'a, W, Kept<'a>>;
+
 impl<'a, W: Write> JsWriter<'a, W> {
-    ghost use Rattle.std.specs.Prelude.{◌≡◌, ◌<◌, true, false, IsSome, None};
-    ghost use Rattle.std.specs.Str.{is_utf8};
-    ghost use Rattle.swc_ecma_codegen_common.specs.Refusals.{in_short};
+    ghost use Rattle.std.specs.Prelude.{IsSome, Some, None};
     ghost use Rattle.swc_ecma_codegen_text_writer.specs.Told.{told};
-    ghost use Rattle.swc_ecma_codegen_text_writer.specs.Sheet.{Writes, Deeper, Shallower, Line, appended, indented, started};
-    ghost use Rattle.swc_ecma_codegen_text_writer.specs.View.{sheet_of, new_sheet, Tells, Reaches, WritesText, WritesNothing};
+    ghost use Rattle.swc_ecma_codegen_text_writer.specs.View.{sheet_of, new_sheet, keeping, Tells};
 
     /// A writer at a line's start, with no indentation, whose lines end with `new_line`, as `"\n"` or `"\r\n"`.
-    /// Positions aren't kept yet: `srcmap` is `None`. It asks nothing of `wr`, which may be a file.
-    #[tactic(auto, unfolding(crate::specs::View::sheet_of))]
+    /// Positions are recorded in `srcmap`, where there is such a list. It asks nothing of `wr`, which may be a file.
+    #[tactic(auto, unfolding(crate::specs::View::sheet_of, crate::specs::Places::after_text))]
     pub fn new<S>(
         alloc: Global,
         _: &S,
         new_line: &'a str,
         wr: W,
         srcmap: Option<&'a mut Vec<(BytePos, LineCol)>>,
-    ) -> Self
-        requires { srcmap ≡ None }
-        ensures sheet { sheet_of result ≡ new_sheet (told (W.contents wr)) new_line.now }
+    ) -> JsWriter<'a, W>
+        ensures sheet { srcmap.entry ≡ None → sheet_of result ≡ new_sheet (told (W.contents wr)) new_line.now }
+        ensures positions { (list : _) → srcmap.entry ≡ Some list → sheet_of result ≡ keeping list.now.items (new_sheet (told (W.contents wr)) new_line.now) }
         ensures tells { IsSome (W.contents wr) → Tells result }
     {
-        let _ = srcmap;
-        JsWriter {
+        Lines {
             alloc,
             outlet: Outlet::new(wr),
             new_line,
@@ -62,8 +76,18 @@ impl<'a, W: Write> JsWriter<'a, W> {
             line_start: true,
             failed: false,
             fault: None,
+            kept: Kept::new(srcmap),
         }
     }
+}
+
+impl<'a, W: Write, K: KeepsPositions> Lines<'a, W, K> {
+    ghost use Rattle.std.specs.Prelude.{◌<◌, true, length, IsSome, Some, None};
+    ghost use Rattle.std.specs.Str.{is_utf8};
+    ghost use Rattle.swc_ecma_codegen_common.specs.Refusals.{in_short};
+    ghost use Rattle.swc_ecma_codegen_text_writer.specs.Told.{told};
+    ghost use Rattle.swc_ecma_codegen_text_writer.specs.Sheet.{Writes, Deeper, Shallower, appended, indented, recorded, start_recorded, end_recorded, pending_recorded, started, written, literal_written};
+    ghost use Rattle.swc_ecma_codegen_text_writer.specs.View.{sheet_of, new_sheet, keeping, Prefaces, Tells, Reaches, WritesText, WritesLiteral, WritesLine, WritesPosition, WritesNothing};
 
     /// What one level of indentation writes: four blanks unless it is called.
     #[tactic(auto, unfolding(crate::specs::View::sheet_of))]
@@ -74,6 +98,25 @@ impl<'a, W: Write> JsWriter<'a, W> {
         self.indent_str = indent_str;
     }
 
+    /// Writes a text as it is, ahead of the rest: a line's start stays one, and no indentation comes before it. It is
+    /// counted, so that positions stand right. swc's `preamble`.
+    pub fn preamble(&mut self, text: &str) -> Result
+        ensures { Prefaces text.now (sheet_of self.old) (sheet_of self.new) (in_short result) }
+    {
+        let answer = self.preface(text);
+        self.answer(answer)
+    }
+
+    /// Sends a text ahead of the rest.
+    fn preface(&mut self, text: &str) -> Answer
+        ensures { Prefaces text.now (sheet_of self.old) (sheet_of self.new) result }
+    {
+        if self.failed {
+            return Err(Refusal::Failed);
+        }
+        self.send(text)
+    }
+
     /// The writer under it. Where that told its bytes when it was handed in, it tells the sheet's text now: a `Vec`
     /// holds it.
     #[tactic(auto, unfolding(crate::specs::View::sheet_of))]
@@ -81,7 +124,7 @@ impl<'a, W: Write> JsWriter<'a, W> {
         ensures text { Tells self.entry → W.contents result ≡ Some (sheet_of self.entry).text }
         ensures whole { (sheet_of self.entry).whole ≡ is_utf8 (sheet_of self.entry).text }
     {
-        let JsWriter {
+        let Lines {
             alloc: _,
             outlet,
             new_line: _,
@@ -90,6 +133,7 @@ impl<'a, W: Write> JsWriter<'a, W> {
             line_start: _,
             failed: _,
             fault: _,
+            kept: _,
         } = self;
         outlet.into_inner()
     }
@@ -107,7 +151,10 @@ impl<'a, W: Write> JsWriter<'a, W> {
         ensures { Reaches (appended text.now (sheet_of self.old)) (sheet_of self.old) (sheet_of self.new) result }
     {
         match self.outlet.write_text(text) {
-            Ok(()) => Ok(()),
+            Ok(()) => {
+                self.kept.pass(text);
+                Ok(())
+            }
             Err(error) => {
                 self.failed = true;
                 self.fault = Some(error);
@@ -128,30 +175,110 @@ impl<'a, W: Write> JsWriter<'a, W> {
         Ok(())
     }
 
-    /// Sends the indentation, at a line's start.
+    /// Records a position, where positions are kept.
+    fn record(&mut self, pos: BytePos) -> Answer
+        requires { (sheet_of self.old).refused ≡ false }
+        ensures { Reaches (recorded pos (sheet_of self.old)) (sheet_of self.old) (sheet_of self.new) result }
+    {
+        match self.kept.record(pos) {
+            Ok(()) => Ok(()),
+            Err(refusal) => {
+                self.failed = true;
+                Err(refusal)
+            }
+        }
+    }
+
+    /// Records the position that is pending.
+    fn record_pending(&mut self) -> Answer
+        requires { (sheet_of self.old).refused ≡ false }
+        ensures { Reaches (pending_recorded (sheet_of self.old).pending (sheet_of self.old)) (sheet_of self.old) (sheet_of self.new) result }
+    {
+        match self.kept.take_pending() {
+            None => Ok(()),
+            Some(pos) => self.record(pos),
+        }
+    }
+
+    /// Forgets the position that is pending.
+    #[tactic(auto, unfolding(crate::specs::View::sheet_of))]
+    fn drop_pending(&mut self)
+        ensures { sheet_of self.new ≡ record (sheet_of self.old) { pending = None } }
+    {
+        let _ = self.kept.take_pending();
+    }
+
+    /// Records where a span starts.
+    #[tactic(auto, unfolding(crate::specs::View::Reaches, crate::specs::Sheet::start_recorded))]
+    fn record_start(&mut self, span: Option<Span>) -> Answer
+        requires { (sheet_of self.old).refused ≡ false }
+        ensures { Reaches (start_recorded span (sheet_of self.old)) (sheet_of self.old) (sheet_of self.new) result }
+    {
+        match span {
+            None => Ok(()),
+            Some(span) => self.record(span.lo),
+        }
+    }
+
+    /// Records where a span ends.
+    #[tactic(auto, unfolding(crate::specs::View::Reaches, crate::specs::Sheet::end_recorded))]
+    fn record_end(&mut self, span: Option<Span>) -> Answer
+        requires { (sheet_of self.old).refused ≡ false }
+        ensures { Reaches (end_recorded span (sheet_of self.old)) (sheet_of self.old) (sheet_of self.new) result }
+    {
+        match span {
+            None => Ok(()),
+            Some(span) => self.record(span.hi),
+        }
+    }
+
+    /// Sends the indentation, at a line's start, and records the position that is pending.
     fn start_line(&mut self) -> Answer
         requires { (sheet_of self.old).refused ≡ false }
         ensures { Reaches (started (sheet_of self.old)) (sheet_of self.old) (sheet_of self.new) result }
     {
-        if self.line_start {
-            self.indent()?;
-            self.set_line_start(false);
+        if !self.line_start {
+            return Ok(());
         }
-        Ok(())
+        self.indent()?;
+        self.set_line_start(false);
+        self.record_pending()
+    }
+
+    /// Sends a text in a line, and records its span.
+    fn put_in_line(&mut self, span: Option<Span>, text: &str) -> Answer
+        requires { (sheet_of self.old).refused ≡ false }
+        ensures { Reaches (end_recorded span (appended text.now (start_recorded span (sheet_of self.old)))) (sheet_of self.old) (sheet_of self.new) result }
+    {
+        self.record_start(span)?;
+        self.send(text)?;
+        self.record_end(span)
     }
 
     /// Writes a text that isn't empty.
-    fn put(&mut self, text: &str) -> Answer
-        requires { (sheet_of self.old).refused ≡ false }
-        ensures { Reaches (appended text.now (started (sheet_of self.old))) (sheet_of self.old) (sheet_of self.new) result }
+    fn put(&mut self, span: Option<Span>, text: &str) -> Answer
+        requires fresh { (sheet_of self.old).refused ≡ false }
+        requires some { 0 < length text.now }
+        ensures { Reaches (written span text.now (sheet_of self.old)) (sheet_of self.old) (sheet_of self.new) result }
     {
         self.start_line()?;
-        self.send(text)
+        self.put_in_line(span, text)
+    }
+
+    /// Writes a literal that isn't empty.
+    fn put_literal(&mut self, span: Span, text: &str) -> Answer
+        requires fresh { (sheet_of self.old).refused ≡ false }
+        requires some { 0 < length text.now }
+        ensures { Reaches (literal_written span text.now (sheet_of self.old)) (sheet_of self.old) (sheet_of self.new) result }
+    {
+        self.record(span.lo)?;
+        self.put(None, text)?;
+        self.record(span.hi)
     }
 
     /// Writes a text, after the indentation at a line's start.
-    fn write(&mut self, text: &str) -> Answer
-        ensures { WritesText text.now (sheet_of self.old) (sheet_of self.new) result }
+    fn write(&mut self, span: Option<Span>, text: &str) -> Answer
+        ensures { WritesText span text.now (sheet_of self.old) (sheet_of self.new) result }
     {
         if self.failed {
             return Err(Refusal::Failed);
@@ -159,21 +286,50 @@ impl<'a, W: Write> JsWriter<'a, W> {
         if text.is_empty() {
             return Ok(());
         }
-        self.put(text)
+        self.put(span, text)
     }
 
-    /// Writes the line's end, unless at a line's start.
-    fn end_line(&mut self) -> Answer
-        ensures { Writes Line (sheet_of self.old) (sheet_of self.new) result }
+    /// Writes a literal: its start is recorded before the line begins.
+    fn literal(&mut self, span: Span, text: &str) -> Answer
+        ensures { WritesLiteral span text.now (sheet_of self.old) (sheet_of self.new) result }
     {
         if self.failed {
             return Err(Refusal::Failed);
         }
-        if !self.line_start {
-            self.send(self.new_line)?;
-            self.set_line_start(true);
+        if text.is_empty() {
+            return Ok(());
         }
+        self.put_literal(span, text)
+    }
+
+    /// Writes the line's end, unless at a line's start, where it forgets the position that is pending.
+    fn end_line(&mut self) -> Answer
+        ensures { WritesLine (sheet_of self.old) (sheet_of self.new) result }
+    {
+        if self.failed {
+            return Err(Refusal::Failed);
+        }
+        if self.line_start {
+            self.drop_pending();
+            return Ok(());
+        }
+        self.send(self.new_line)?;
+        self.set_line_start(true);
         Ok(())
+    }
+
+    /// Records a position for what comes next: at a line's start, once the line has begun.
+    fn point(&mut self, pos: BytePos) -> Answer
+        ensures { WritesPosition pos (sheet_of self.old) (sheet_of self.new) result }
+    {
+        if self.failed {
+            return Err(Refusal::Failed);
+        }
+        if self.kept.is_kept() && self.line_start {
+            self.kept.point(pos);
+            return Ok(());
+        }
+        self.record(pos)
     }
 
     /// One level more.
@@ -228,7 +384,7 @@ impl<'a, W: Write> JsWriter<'a, W> {
     }
 }
 
-impl<W: Write> WriteJs for JsWriter<'_, W> {
+impl<W: Write, K: KeepsPositions> WriteJs for Lines<'_, W, K> {
     ghost use Rattle.swc_ecma_codegen_text_writer.specs.View.{sheet_of};
 
     ghost sheet = { sheet_of };
@@ -243,95 +399,96 @@ impl<W: Write> WriteJs for JsWriter<'_, W> {
         self.answer(answer)
     }
 
-    #[tactic(auto, unfolding(crate::specs::Sheet::effect))]
-    fn write_semi(&mut self, _span: Option<Span>) -> Result {
-        let answer = self.write(";");
+    #[tactic(auto, unfolding(crate::specs::Sheet::effect), using(crate::proofs::Steps::semicolon_at_once))]
+    fn write_semi(&mut self, span: Option<Span>) -> Result {
+        let answer = self.write(span, ";");
         self.answer(answer)
     }
 
-    #[tactic(auto, unfolding(crate::specs::Sheet::effect))]
+    #[tactic(auto, unfolding(crate::specs::Sheet::effect), using(crate::proofs::Steps::text_at_once))]
     fn write_space(&mut self) -> Result {
-        let answer = self.write(" ");
+        let answer = self.write(None, " ");
         self.answer(answer)
     }
 
-    #[tactic(auto, unfolding(crate::specs::Sheet::effect))]
-    fn write_keyword(&mut self, _span: Option<Span>, s: &'static str) -> Result {
-        let answer = self.write(s);
+    #[tactic(auto, unfolding(crate::specs::Sheet::effect), using(crate::proofs::Steps::text_at_once))]
+    fn write_keyword(&mut self, span: Option<Span>, s: &'static str) -> Result {
+        let answer = self.write(span, s);
         self.answer(answer)
     }
 
-    #[tactic(auto, unfolding(crate::specs::Sheet::effect))]
-    fn write_operator(&mut self, _span: Option<Span>, s: &str) -> Result {
-        let answer = self.write(s);
+    #[tactic(auto, unfolding(crate::specs::Sheet::effect), using(crate::proofs::Steps::text_at_once))]
+    fn write_operator(&mut self, span: Option<Span>, s: &str) -> Result {
+        let answer = self.write(span, s);
         self.answer(answer)
     }
 
-    #[tactic(auto, unfolding(crate::specs::Sheet::effect))]
+    #[tactic(auto, unfolding(crate::specs::Sheet::effect), using(crate::proofs::Steps::text_at_once))]
     fn write_param(&mut self, s: &str) -> Result {
-        let answer = self.write(s);
+        let answer = self.write(None, s);
         self.answer(answer)
     }
 
-    #[tactic(auto, unfolding(crate::specs::Sheet::effect))]
+    #[tactic(auto, unfolding(crate::specs::Sheet::effect), using(crate::proofs::Steps::text_at_once))]
     fn write_property(&mut self, s: &str) -> Result {
-        let answer = self.write(s);
+        let answer = self.write(None, s);
         self.answer(answer)
     }
 
+    #[tactic(auto, unfolding(crate::specs::Sheet::effect), using(crate::proofs::Steps::line_at_once))]
     fn write_line(&mut self) -> Result {
         let answer = self.end_line();
         self.answer(answer)
     }
 
-    #[tactic(auto, unfolding(crate::specs::Sheet::effect))]
-    fn write_lit(&mut self, _span: Span, s: &str) -> Result {
-        let answer = self.write(s);
+    #[tactic(auto, unfolding(crate::specs::Sheet::effect), using(crate::proofs::Steps::literal_at_once))]
+    fn write_lit(&mut self, span: Span, s: &str) -> Result {
+        let answer = self.literal(span, s);
         self.answer(answer)
     }
 
-    #[tactic(auto, unfolding(crate::specs::Sheet::effect))]
+    #[tactic(auto, unfolding(crate::specs::Sheet::effect), using(crate::proofs::Steps::text_at_once))]
     fn write_comment(&mut self, s: &str) -> Result {
-        let answer = self.write(s);
+        let answer = self.write(None, s);
         self.answer(answer)
     }
 
-    #[tactic(auto, unfolding(crate::specs::Sheet::effect))]
-    fn write_str_lit(&mut self, _span: Span, s: &str) -> Result {
-        let answer = self.write(s);
+    #[tactic(auto, unfolding(crate::specs::Sheet::effect), using(crate::proofs::Steps::literal_at_once))]
+    fn write_str_lit(&mut self, span: Span, s: &str) -> Result {
+        let answer = self.literal(span, s);
         self.answer(answer)
     }
 
-    #[tactic(auto, unfolding(crate::specs::Sheet::effect))]
+    #[tactic(auto, unfolding(crate::specs::Sheet::effect), using(crate::proofs::Steps::text_at_once))]
     fn write_str(&mut self, s: &str) -> Result {
-        let answer = self.write(s);
+        let answer = self.write(None, s);
         self.answer(answer)
     }
 
-    #[tactic(auto, unfolding(crate::specs::Sheet::effect))]
-    fn write_symbol(&mut self, _span: Span, s: &str) -> Result {
-        let answer = self.write(s);
+    #[tactic(auto, unfolding(crate::specs::Sheet::effect), using(crate::proofs::Steps::text_at_once))]
+    fn write_symbol(&mut self, span: Span, s: &str) -> Result {
+        let answer = self.write(Some(span), s);
         self.answer(answer)
     }
 
-    #[tactic(auto, unfolding(crate::specs::Sheet::effect))]
-    fn write_punct(&mut self, _span: Option<Span>, s: &'static str) -> Result {
-        let answer = self.write(s);
+    #[tactic(auto, unfolding(crate::specs::Sheet::effect), using(crate::proofs::Steps::punct_at_once))]
+    fn write_punct(&mut self, span: Option<Span>, s: &'static str) -> Result {
+        let answer = self.write(span, s);
         self.answer(answer)
     }
 
     #[tactic(auto, unfolding(crate::specs::View::sheet_of))]
     fn care_about_srcmap(&self) -> bool {
-        false
+        self.kept.is_kept()
     }
 
     #[tactic(auto, unfolding(crate::specs::Sheet::effect))]
-    fn add_srcmap(&mut self, _pos: BytePos) -> Result {
-        let answer = self.nothing();
+    fn add_srcmap(&mut self, pos: BytePos) -> Result {
+        let answer = self.point(pos);
         self.answer(answer)
     }
 
-    #[tactic(auto, unfolding(crate::specs::Sheet::effect))]
+    #[tactic(auto, unfolding(crate::specs::Sheet::effect), using(crate::proofs::Steps::settled_at_once))]
     fn commit_pending_semi(&mut self) -> Result {
         let answer = self.nothing();
         self.answer(answer)

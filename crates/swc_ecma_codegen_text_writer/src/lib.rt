@@ -3,15 +3,20 @@
 
 ghost use Rattle.std.specs.Prelude.{◌≡◌, ◌<◌};
 ghost use Rattle.swc_ecma_codegen_common.specs.Refusals.{in_short};
-ghost use Rattle.swc_ecma_codegen_text_writer.specs.Sheet.{Sheet, Writes, Semi, Space, Keyword, Operator, Param, Property, Line, Lit, Comment, StrLit, Str, Symbol, Punct, Position, Commit, Deeper, Shallower};
+ghost use Rattle.swc_ecma_codegen_text_writer.specs.Sheet.{Sheet, holds_semicolons, Writes, Semi, Space, Keyword, Operator, Param, Property, Line, Lit, Comment, StrLit, Str, Symbol, Punct, Position, Commit, Deeper, Shallower};
 
 mod basic_impl;
 mod boxed;
+mod kept;
+pub mod laws;
 mod lent;
 mod logs;
 mod outlet;
+mod positions;
+mod semicolon;
 
 pub use crate::basic_impl::JsWriter;
+pub use crate::semicolon::{OmitTrailingSemi, omit_trailing_semi};
 use swc_ecma_codegen_common::{BytePos, Result, Span};
 
 /// A writer of tokens. Its value is a sheet, and each call has one effect on it, or is refused.
@@ -101,5 +106,5 @@ pub trait WriteJs {
 
     /// Whether it holds semicolons back until it knows what follows.
     fn holds_semi(&self) -> bool
-        ensures { result ≡ (sheet self.now).holds };
+        ensures { result ≡ holds_semicolons (sheet self.now).semicolons };
 }

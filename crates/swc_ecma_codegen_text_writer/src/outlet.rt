@@ -1,6 +1,6 @@
 //! The bytes go out here: one call of `write` at a time, and each fault is counted.
 
-ghost use Rattle.std.specs.Prelude.{◌≡◌, ◌<◌, ◌≤◌, ◌++◌, length, take, IfOk, OnOk, OnErr, IsSome};
+ghost use Rattle.std.specs.Prelude.{◌≡◌, ◌<◌, ◌≤◌, [], ◌++◌, length, take, IfOk, OnOk, OnErr, IsSome};
 ghost use Rattle.std.specs.Str.{is_utf8};
 ghost use Rattle.std.proofs.Props.{props};
 ghost use Rattle.swc_ecma_codegen_text_writer.specs.Told.{Rises, IsFront, TellsSince};
@@ -27,6 +27,7 @@ impl<W: Write> Outlet<W> {
     pub fn new(inner: W) -> Outlet<W>
         ensures before { result.before.value ≡ inner }
         ensures sent { sent result ≡ told (W.contents inner) }
+        ensures logged { result.log.bytes ≡ [] }
         ensures faults { result.faults ≡ 0 }
     {
         let before = Snapshot::of(&inner);
@@ -65,6 +66,7 @@ impl<W: Write> Outlet<W> {
         ensures taken { IfOk result (λ n. (0 < n) × (n ≤ length rest.now)) }
         ensures before { self.new.before ≡ self.old.before }
         ensures sent { IfOk result (λ n. sent self.new ≡ sent self.old ++ take n rest.now) }
+        ensures logged { IfOk result (λ n. self.new.log.bytes ≡ self.old.log.bytes ++ take n rest.now) }
         ensures faults { OnOk result (self.new.faults ≡ self.old.faults) }
         ensures nothing { OnErr result (sent self.new ≡ sent self.old) }
         ensures counted { OnErr result (Rises self.old.faults self.new.faults) }
@@ -90,6 +92,7 @@ impl<W: Write> Outlet<W> {
     pub fn write_text(&mut self, text: &str) -> io::Result<()>
         ensures before { self.new.before ≡ self.old.before }
         ensures sent { OnOk result (sent self.new ≡ sent self.old ++ text.now) }
+        ensures logged { OnOk result (self.new.log.bytes ≡ self.old.log.bytes ++ text.now) }
         ensures faults { OnOk result (self.new.faults ≡ self.old.faults) }
         ensures grows { OnErr result (IsFront (sent self.old) (sent self.new)) }
         ensures front { OnErr result (IsFront (sent self.new) (sent self.old ++ text.now)) }

@@ -17,6 +17,7 @@ pub struct ExprBox<N = AnyNode> {
 }
 
 impl<N: Drop> Drop for ExprBox<N> {
+    #[inline(never)]
     fn drop(self) {
         let ExprBox { node: _ } = self;
     }
@@ -353,6 +354,7 @@ pub struct MemberExprBox<N = AnyNode> {
 }
 
 impl<N: Drop> Drop for MemberExprBox<N> {
+    #[inline(never)]
     fn drop(self) {
         let MemberExprBox { node: _ } = self;
     }

@@ -7,6 +7,7 @@
 
 mod classes;
 mod decls;
+mod drops;
 mod expr_links;
 mod expr_parts;
 mod exprs;

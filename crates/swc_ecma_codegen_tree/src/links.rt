@@ -2,6 +2,10 @@
 
 ghost use Rattle.swc_ecma_codegen_tree.specs.Held.{expr_in, stmt_in, member_expr_in, expr_part_in, stmt_part_in, jsx_part_in, ts_part_in};
 
+use crate::drops::{
+    let_expr_go, let_expr_part_go, let_jsx_part_go, let_member_go, let_stmt_go, let_stmt_part_go,
+    let_ts_part_go,
+};
 use crate::exprs::{Expr, MemberExpr};
 use crate::holds::Holds;
 use crate::parts::{ExprPart, JSXPart, StmtPart, TsPart};
@@ -19,21 +23,16 @@ pub enum AnyNode {
     TsPart(TsPart<AnyNode>),
 }
 
-/// Lets a node go. In one place, so that not each function that meets a node of another sort drops all types of nodes.
-fn let_go<T: Drop>(node: T) {
-    let _ = node;
-}
-
 impl Drop for AnyNode {
     fn drop(self) {
         match self {
-            AnyNode::Expr(node) => let_go(node),
-            AnyNode::Stmt(node) => let_go(node),
-            AnyNode::MemberExpr(node) => let_go(node),
-            AnyNode::ExprPart(node) => let_go(node),
-            AnyNode::StmtPart(node) => let_go(node),
-            AnyNode::JSXPart(node) => let_go(node),
-            AnyNode::TsPart(node) => let_go(node),
+            AnyNode::Expr(node) => let_expr_go(node),
+            AnyNode::Stmt(node) => let_stmt_go(node),
+            AnyNode::MemberExpr(node) => let_member_go(node),
+            AnyNode::ExprPart(node) => let_expr_part_go(node),
+            AnyNode::StmtPart(node) => let_stmt_part_go(node),
+            AnyNode::JSXPart(node) => let_jsx_part_go(node),
+            AnyNode::TsPart(node) => let_ts_part_go(node),
         }
     }
 }

@@ -37,3 +37,58 @@ impl Default for Config {
         }
     }
 }
+
+/// Settings that differ from these in one thing, as swc's calls of the same names: `Config::default().with_minify(true)`
+/// minifies, and is else the default.
+impl Config {
+    /// Literals and names are spelled for this version.
+    pub fn with_target(mut self, target: EsVersion) -> Self
+        ensures { result ≡ record self { target = target } }
+    {
+        self.target = target;
+        self
+    }
+
+    /// Whether blanks and line ends stand only where one is needed.
+    pub fn with_minify(mut self, minify: bool) -> Self
+        ensures { result ≡ record self { minify = minify } }
+    {
+        self.minify = minify;
+        self
+    }
+
+    /// Whether names, strings and templates are spelled in ASCII.
+    pub fn with_ascii_only(mut self, ascii_only: bool) -> Self
+        ensures { result ≡ record self { ascii_only = ascii_only } }
+    {
+        self.ascii_only = ascii_only;
+        self
+    }
+
+    /// Whether a semicolon that is held back at the end is left out.
+    pub fn with_omit_last_semi(mut self, omit_last_semi: bool) -> Self
+        ensures { result ≡ record self { omit_last_semi = omit_last_semi } }
+    {
+        self.omit_last_semi = omit_last_semi;
+        self
+    }
+
+    /// Whether attributes of an import come after `assert`, and not after `with`.
+    pub fn with_emit_assert_for_import_attributes(
+        mut self,
+        emit_assert_for_import_attributes: bool,
+    ) -> Self
+        ensures { result ≡ record self { emit_assert_for_import_attributes = emit_assert_for_import_attributes } }
+    {
+        self.emit_assert_for_import_attributes = emit_assert_for_import_attributes;
+        self
+    }
+
+    /// Whether strings hold neither `</script` nor `<!--` nor `-->`.
+    pub fn with_inline_script(mut self, inline_script: bool) -> Self
+        ensures { result ≡ record self { inline_script = inline_script } }
+    {
+        self.inline_script = inline_script;
+        self
+    }
+}

@@ -2,6 +2,12 @@
 #![tactic(auto)]
 
 #[cfg(test)]
+mod calls;
+#[cfg(test)]
 mod neighbours;
+#[cfg(test)]
+mod positions;
+#[cfg(test)]
+mod semicolons;
 #[cfg(test)]
 mod writers;

@@ -1,4 +1,4 @@
-use Rattle.swc_ecma_codegen.proofs.TreeReads.{new_is_new, indented_is_new}
+use Rattle.swc_ecma_codegen.proofs.TreeReads.{new_is_new, indented_is_new, holding_is_new}
 use Rattle.swc_ecma_codegen.proofs.TreeMade.{new_is_ready}
 use Rattle.swc_ecma_codegen.proofs.laws.new_emitter_reads.Goals as goal
 
@@ -10,3 +10,6 @@ returns-clause-indented c config bytes line_end indent h k = indented_is_new con
 
 pub returns-clause-ready : goal.returns-clause-ready
 returns-clause-ready c config bytes line_end = new_is_ready config bytes line_end
+
+pub returns-clause-holding : goal.returns-clause-holding
+returns-clause-holding c config bytes line_end h = holding_is_new config bytes line_end h

@@ -1,5 +1,5 @@
 use Rattle.std.proofs.Common.{refl, sym, ◌∙◌, ap, None}
-use Rattle.swc_ecma_codegen_ast.specs.declared.kinds.Kind.TheVariants.{Punctuator}
+use Rattle.swc_ecma_codegen_ast.specs.declared.kinds.Kind.TheVariants.{Ending}
 use Rattle.swc_ecma_codegen_ast.specs.GapRules.{last_after}
 use Rattle.swc_ecma_codegen_text_writer.specs.Sheet.{Semi}
 use Rattle.swc_ecma_codegen_literals.specs.declared.punctuators.Punctuator.TheVariants.{Semicolon}
@@ -13,7 +13,7 @@ pub returns-clause-items : goal.returns-clause-items
 unfolding after_token last_after text_of characters
 returns-clause-items g c =
     let last = ap last_at (c.after-last.ensures ∙ ap (λ k. after_mark k Semicolon) (sym c.args.self.now.class)) ∙ after_is c.args.self.now.token.value Semicolon in
-    called Punctuator (Semi None) _ c.args.self.now c.settle.new.self _ _ _ _ _ c.requires c.write_semi-answer.ensures c.settle.ensures.ok c.settle.ensures.err c.settle.ensures.same last
+    called Ending (Semi None) _ c.args.self.now c.settle.new.self _ _ _ _ _ c.requires c.write_semi-answer.ensures c.settle.ensures.ok c.settle.ensures.err c.settle.ensures.same last
 
 pub returns-clause-level : goal.returns-clause-level
 unfolding is_level

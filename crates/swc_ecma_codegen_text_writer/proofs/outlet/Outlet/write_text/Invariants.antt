@@ -7,6 +7,7 @@ abbrev pub invariant-loop-rest : goal.invariant-loop-rest
 invariant-loop-rest g l = record {
   before : l.self.before ≡ l.fn.self.before;
   out : sent l.self ++ l.rest ≡ sent l.fn.self ++ l.text;
+  logged : l.self.log.bytes ++ l.rest ≡ l.fn.self.log.bytes ++ l.text;
   grows : IsFront (sent l.fn.self) (sent l.self);
   faults : l.self.faults ≡ l.fn.self.faults;
 }

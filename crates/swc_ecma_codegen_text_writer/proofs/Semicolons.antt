@@ -1,0 +1,617 @@
+-- Calls of a writer that holds semicolons back, made of calls of the writer under it.
+use Rattle.std.proofs.Common.{◌≡◌, inl, inr, ℕ, ◌+◌, ◌-◌, Bool, true, false, ◌&&◌, ◌||◌, ◌==◌, List, [], ◌∷◌, ◌++◌, refl, sym, ◌∙◌, ap, subst, append_assoc, append-nil, cond, codes, Option, Some, None, Result, Ok, Err}
+use Rattle.std.specs.List.{repeat}
+use Rattle.std.proofs.lemmas.Bool.{false≢true}
+use Rattle.swc_ecma_codegen_common.specs.declared.errors.Refusal.{Refusal}
+use Rattle.swc_ecma_codegen_common.specs.declared.errors.Refusal.TheVariants.{Writer, OutOfMemory, UnsupportedNode, BadShape, NameOutOfTarget, PositionTooLarge, Failed}
+use Rattle.swc_ecma_codegen_common.specs.declared.positions.BytePos.{BytePos}
+use Rattle.swc_ecma_codegen_common.specs.declared.positions.Span.{Span}
+use Rattle.swc_ecma_codegen_text_writer.specs.Told.{Rises, IsFront}
+use Rattle.swc_ecma_codegen_text_writer.specs.Sheet.{Sheet, Item, Semi, Space, Keyword, Operator, Param, Property, Line, Lit, Comment, StrLit, Str, Symbol, Punct, Position, Commit, Deeper, Shallower, Semicolons, AtOnce, HoldsNone, HoldsOne, holds_semicolons, appended, indented, with_pair, has_pair, pair_at, recorded, start_recorded, end_recorded, pending_recorded, started, written, literal_written, ended, pointed, settled_by, settled, semicolon_by, dropped, is_ending, before_punct, effect, Causes, Stopped, Refuses, earlier, stopped, Writes}
+use Rattle.swc_ecma_codegen_text_writer.specs.Held.{semicolons_of, with_held, WritesAtOnce, Settles}
+
+-- ---- fronts
+
+front_refl : {A : Type 0} (t : List A) → IsFront t t
+front_refl t = ([], sym (append-nil t))
+
+front_append : {A : Type 0} (t u : List A) → IsFront t (t ++ u)
+front_append t u = (u, refl)
+
+front_trans : {A : Type 0} (t u v : List A) → IsFront t u → IsFront u v → IsFront t v
+front_trans t u v h k = (h.0 ++ k.0, k.1 ∙ ap (λ x. x ++ k.0) h.1 ∙ append_assoc t h.0 k.0)
+
+-- ---- a sheet but for its semicolons
+
+abbrev holding : Semicolons → Sheet → Sheet
+holding q s = record s { semicolons = q }
+
+recorded_moves : (q : Semicolons) (pos : BytePos) (s : Sheet) → recorded pos (holding q s) ≡ holding q (recorded pos s)
+unfolding recorded
+recorded_moves q pos s =
+    elim s.keeps_positions as (λ b. cond b (record s { pairs = with_pair pos s.place s.pairs; semicolons = q }) (holding q s) ≡ holding q (cond b (record s { pairs = with_pair pos s.place s.pairs }) s))
+    [ true ↦ refl | false ↦ refl ]
+
+start_moves : (q : Semicolons) (span : Option Span) (s : Sheet) → start_recorded span (holding q s) ≡ holding q (start_recorded span s)
+unfolding start_recorded
+start_moves q None s = refl
+start_moves q (Some span) s = recorded_moves q span.lo s
+
+end_moves : (q : Semicolons) (span : Option Span) (s : Sheet) → end_recorded span (holding q s) ≡ holding q (end_recorded span s)
+unfolding end_recorded
+end_moves q None s = refl
+end_moves q (Some span) s = recorded_moves q span.hi s
+
+pending_moves : (q : Semicolons) (p : Option BytePos) (s : Sheet) → pending_recorded p (holding q s) ≡ holding q (pending_recorded p s)
+unfolding pending_recorded
+pending_moves q None s = refl
+pending_moves q (Some pos) s = recorded_moves q pos (record s { pending = None })
+
+-- the line's indentation is out
+abbrev begun : Sheet → Sheet
+begun s = record (indented s.indentation s) { at_line_start = false }
+
+begun_moves : (q : Semicolons) (s : Sheet) → begun (holding q s) ≡ holding q (begun s)
+unfolding indented appended
+begun_moves q s = refl
+
+started_moves : (q : Semicolons) (s : Sheet) → started (holding q s) ≡ holding q (started s)
+unfolding started
+started_moves q s =
+    elim s.at_line_start as (λ b. cond b (pending_recorded s.pending (begun (holding q s))) (holding q s) ≡ holding q (cond b (pending_recorded s.pending (begun s)) s))
+    [ true ↦ ap (pending_recorded s.pending) (begun_moves q s) ∙ pending_moves q s.pending (begun s) | false ↦ refl ]
+
+appended_moves : (q : Semicolons) (t : List ℕ) (s : Sheet) → appended t (holding q s) ≡ holding q (appended t s)
+unfolding appended
+appended_moves q t s = refl
+
+written_moves : (q : Semicolons) (span : Option Span) (t : List ℕ) (s : Sheet) → written span t (holding q s) ≡ holding q (written span t s)
+unfolding written
+written_moves q span [] s = refl
+written_moves q span (c ∷ cs) s =
+    ap (λ z. end_recorded span (appended (c ∷ cs) (start_recorded span z))) (started_moves q s) ∙
+    ap (λ z. end_recorded span (appended (c ∷ cs) z)) (start_moves q span (started s)) ∙
+    ap (end_recorded span) (appended_moves q (c ∷ cs) (start_recorded span (started s))) ∙
+    end_moves q span (appended (c ∷ cs) (start_recorded span (started s)))
+
+literal_moves : (q : Semicolons) (span : Span) (t : List ℕ) (s : Sheet) → literal_written span t (holding q s) ≡ holding q (literal_written span t s)
+unfolding literal_written
+literal_moves q span [] s = refl
+literal_moves q span (c ∷ cs) s =
+    ap (λ z. recorded span.hi (written None (c ∷ cs) z)) (recorded_moves q span.lo s) ∙
+    ap (recorded span.hi) (written_moves q None (c ∷ cs) (recorded span.lo s)) ∙
+    recorded_moves q span.hi (written None (c ∷ cs) (recorded span.lo s))
+
+ended_moves : (q : Semicolons) (s : Sheet) → ended (holding q s) ≡ holding q (ended s)
+unfolding ended appended
+ended_moves q s =
+    elim s.at_line_start as (λ b. cond b (record s { pending = None; semicolons = q }) (record (appended s.line_end s) { at_line_start = true; semicolons = q }) ≡ holding q (cond b (record s { pending = None }) (record (appended s.line_end s) { at_line_start = true })))
+    [ true ↦ refl | false ↦ refl ]
+
+pointed_moves : (q : Semicolons) (pos : BytePos) (s : Sheet) → pointed pos (holding q s) ≡ holding q (pointed pos s)
+unfolding pointed
+pointed_moves q pos s =
+    elim (s.keeps_positions && s.at_line_start) as (λ b. cond b (record s { pending = Some pos; semicolons = q }) (recorded pos (holding q s)) ≡ holding q (cond b (record s { pending = Some pos }) (recorded pos s)))
+    [ true ↦ refl | false ↦ recorded_moves q pos s ]
+
+-- ---- texts and pairs grow
+
+-- from the first sheet to the second only text was written
+record Way (a b : Sheet) : Type 0 where
+  pub text : IsFront a.text b.text
+  pub pairs : IsFront a.pairs b.pairs
+  pub same : b ≡ record a { text = b.text; at_line_start = b.at_line_start; semicolons = b.semicolons; pairs = b.pairs; pending = b.pending; place = b.place }
+
+way_refl : (a : Sheet) → Way a a
+way_refl a = record { text = front_refl a.text; pairs = front_refl a.pairs; same = refl }
+
+way_trans : (a b c : Sheet) → Way a b → Way b c → Way a c
+way_trans a b c h k =
+    record {
+      text = front_trans a.text b.text c.text h.text k.text;
+      pairs = front_trans a.pairs b.pairs c.pairs h.pairs k.pairs;
+      same = k.same ∙ ap (λ (s : Sheet). record s { text = c.text; at_line_start = c.at_line_start; semicolons = c.semicolons; pairs = c.pairs; pending = c.pending; place = c.place }) h.same;
+    }
+
+with_pair_grows : (x : BytePos) (s : Sheet) → IsFront s.pairs (with_pair x s.place s.pairs)
+unfolding with_pair
+with_pair_grows x s =
+    elim ((x.0 == 0) || has_pair (pair_at x s.place) s.pairs) as (λ b. IsFront s.pairs (cond b s.pairs (s.pairs ++ (pair_at x s.place ∷ []))))
+    [ true ↦ front_refl s.pairs | false ↦ front_append s.pairs _ ]
+
+recorded_way : (pos : BytePos) (s : Sheet) → Way s (recorded pos s)
+unfolding recorded
+recorded_way pos s =
+    elim s.keeps_positions as (λ b. Way s (cond b (record s { pairs = with_pair pos s.place s.pairs }) s))
+    [ true ↦ record { text = front_refl s.text; pairs = with_pair_grows pos s; same = refl } | false ↦ way_refl s ]
+
+start_way : (span : Option Span) (s : Sheet) → Way s (start_recorded span s)
+unfolding start_recorded
+start_way None s = way_refl s
+start_way (Some span) s = recorded_way span.lo s
+
+end_way : (span : Option Span) (s : Sheet) → Way s (end_recorded span s)
+unfolding end_recorded
+end_way None s = way_refl s
+end_way (Some span) s = recorded_way span.hi s
+
+-- another start of a line, other semicolons and another pending position
+alike_way : (b : Bool) (q : Semicolons) (p : Option BytePos) (s : Sheet) → Way s (record s { at_line_start = b; semicolons = q; pending = p })
+alike_way b q p s = record { text = front_refl s.text; pairs = front_refl s.pairs; same = refl }
+
+appended_way : (t : List ℕ) (s : Sheet) → Way s (appended t s)
+unfolding appended
+appended_way t s = record { text = front_append s.text t; pairs = front_refl s.pairs; same = refl }
+
+pending_way : (p : Option BytePos) (s : Sheet) → Way s (pending_recorded p s)
+unfolding pending_recorded
+pending_way None s = way_refl s
+pending_way (Some pos) s = way_trans _ _ _ (alike_way s.at_line_start s.semicolons None s) (recorded_way pos (record s { pending = None }))
+
+begun_way : (s : Sheet) → Way s (begun s)
+unfolding indented appended
+begun_way s = way_trans _ _ _ (appended_way (repeat s.indentation s.indent_text) s) (alike_way false s.semicolons s.pending (appended (repeat s.indentation s.indent_text) s))
+
+started_way : (s : Sheet) → Way s (started s)
+unfolding started
+started_way s =
+    elim s.at_line_start as (λ b. Way s (cond b (pending_recorded s.pending (begun s)) s))
+    [ true ↦ way_trans _ _ _ (begun_way s) (pending_way s.pending (begun s)) | false ↦ way_refl s ]
+
+written_way : (span : Option Span) (t : List ℕ) (s : Sheet) → Way s (written span t s)
+unfolding written
+written_way span [] s = way_refl s
+written_way span (c ∷ cs) s =
+    let begin = way_trans _ _ _ (started_way s) (start_way span (started s)) in
+    let out = way_trans _ _ _ begin (appended_way (c ∷ cs) (start_recorded span (started s))) in
+    way_trans _ _ _ out (end_way span (appended (c ∷ cs) (start_recorded span (started s))))
+
+literal_way : (span : Span) (t : List ℕ) (s : Sheet) → Way s (literal_written span t s)
+unfolding literal_written
+literal_way span [] s = way_refl s
+literal_way span (c ∷ cs) s =
+    let out = way_trans _ _ _ (recorded_way span.lo s) (written_way None (c ∷ cs) (recorded span.lo s)) in
+    way_trans _ _ _ out (recorded_way span.hi (written None (c ∷ cs) (recorded span.lo s)))
+
+ended_way : (s : Sheet) → Way s (ended s)
+unfolding ended
+ended_way s =
+    elim s.at_line_start as (λ b. Way s (cond b (record s { pending = None }) (record (appended s.line_end s) { at_line_start = true }))) [
+      | true ↦ alike_way s.at_line_start s.semicolons None s
+      | false ↦ way_trans _ _ _ (appended_way s.line_end s) (alike_way true (appended s.line_end s).semicolons (appended s.line_end s).pending (appended s.line_end s))
+    ]
+
+settled_by_way : (q : Semicolons) (s : Sheet) → Way s (settled_by q s)
+unfolding settled_by
+settled_by_way AtOnce s = way_refl s
+settled_by_way HoldsNone s = way_refl s
+settled_by_way (HoldsOne span) s = way_trans _ _ _ (alike_way s.at_line_start HoldsNone s.pending s) (written_way span (codes ";") (holding HoldsNone s))
+
+settled_way : (s : Sheet) → Way s (settled s)
+settled_way s = settled_by_way s.semicolons s
+
+-- ---- writers that write semicolons at once
+
+at_once : (q : Semicolons) → holds_semicolons q ≡ false → q ≡ AtOnce
+at_once AtOnce h = refl
+at_once HoldsNone h = absurd (false≢true (sym h))
+at_once (HoldsOne span) h = absurd (false≢true (sym h))
+
+settled_at_once : (s : Sheet) → s.semicolons ≡ AtOnce → settled s ≡ s
+unfolding settled_by
+settled_at_once s h = ap (λ q. settled_by q s) h
+
+-- a change that leaves semicolons alone
+unmoved : (f : Sheet → Sheet) (s : Sheet) → ((q : Semicolons) → f (holding q s) ≡ holding q (f s)) → (f s).semicolons ≡ s.semicolons
+unmoved f s h = ap (λ (z : Sheet). z.semicolons) (h s.semicolons)
+
+-- ---- calls before which a held semicolon is written
+
+-- what a call does once no semicolon is held
+pub record Settling (x : Item) : Type 0 where
+  pub act : Sheet → Sheet
+  pub moves : (q : Semicolons) (s : Sheet) → act (holding q s) ≡ holding q (act s)
+  pub text : (s : Sheet) → IsFront s.text (act s).text
+  pub pairs : (s : Sheet) → IsFront s.pairs (act s).pairs
+  pub is : (s : Sheet) → effect x s ≡ act (settled s)
+
+text_settling : (x : Item) (span : Option Span) (t : List ℕ) → ((s : Sheet) → effect x s ≡ written span t (settled s)) → Settling x
+text_settling x span t h =
+    record {
+      act = written span t;
+      moves = λ q s. written_moves q span t s;
+      text = λ s. (written_way span t s).text;
+      pairs = λ s. (written_way span t s).pairs;
+      is = h;
+    }
+
+literal_settling : (x : Item) (span : Span) (t : List ℕ) → ((s : Sheet) → effect x s ≡ literal_written span t (settled s)) → Settling x
+literal_settling x span t h =
+    record {
+      act = literal_written span t;
+      moves = λ q s. literal_moves q span t s;
+      text = λ s. (literal_way span t s).text;
+      pairs = λ s. (literal_way span t s).pairs;
+      is = h;
+    }
+
+pub space_settles : Settling Space
+unfolding effect
+space_settles = text_settling Space None (codes " ") (λ s. refl)
+
+pub keyword_settles : (span : Option Span) (t : List ℕ) → Settling (Keyword span t)
+unfolding effect
+keyword_settles span t = text_settling (Keyword span t) span t (λ s. refl)
+
+pub operator_settles : (span : Option Span) (t : List ℕ) → Settling (Operator span t)
+unfolding effect
+operator_settles span t = text_settling (Operator span t) span t (λ s. refl)
+
+pub param_settles : (t : List ℕ) → Settling (Param t)
+unfolding effect
+param_settles t = text_settling (Param t) None t (λ s. refl)
+
+pub property_settles : (t : List ℕ) → Settling (Property t)
+unfolding effect
+property_settles t = text_settling (Property t) None t (λ s. refl)
+
+pub line_settles : Settling Line
+unfolding effect
+line_settles =
+    record {
+      act = ended;
+      moves = ended_moves;
+      text = λ s. (ended_way s).text;
+      pairs = λ s. (ended_way s).pairs;
+      is = λ s. refl;
+    }
+
+pub lit_settles : (span : Span) (t : List ℕ) → Settling (Lit span t)
+unfolding effect
+lit_settles span t = literal_settling (Lit span t) span t (λ s. refl)
+
+pub comment_settles : (t : List ℕ) → Settling (Comment t)
+unfolding effect
+comment_settles t = text_settling (Comment t) None t (λ s. refl)
+
+pub string_settles : (span : Span) (t : List ℕ) → Settling (StrLit span t)
+unfolding effect
+string_settles span t = literal_settling (StrLit span t) span t (λ s. refl)
+
+pub str_settles : (t : List ℕ) → Settling (Str t)
+unfolding effect
+str_settles t = text_settling (Str t) None t (λ s. refl)
+
+pub symbol_settles : (span : Span) (t : List ℕ) → Settling (Symbol span t)
+unfolding effect
+symbol_settles span t = text_settling (Symbol span t) (Some span) t (λ s. refl)
+
+pub punct_settles : (span : Option Span) (t : List ℕ) → is_ending t ≡ false → Settling (Punct span t)
+unfolding effect before_punct
+punct_settles span t h =
+    text_settling (Punct span t) span t (λ s. ap (λ b. written span t (cond b (record s { semicolons = dropped s.semicolons }) (settled s))) h)
+
+pub commit_settles : Settling Commit
+unfolding effect
+commit_settles =
+    record {
+      act = λ s. s;
+      moves = λ q s. refl;
+      text = λ s. front_refl s.text;
+      pairs = λ s. front_refl s.pairs;
+      is = λ s. refl;
+    }
+
+-- the depth stays while a semicolon is written
+settled_indentation : (s : Sheet) → (settled s).indentation ≡ s.indentation
+settled_indentation s = ap (λ (z : Sheet). z.indentation) (settled_way s).same
+
+pub deeper_settles : Settling Deeper
+unfolding effect
+deeper_settles =
+    record {
+      act = λ s. record s { indentation = s.indentation + 1 };
+      moves = λ q s. refl;
+      text = λ s. front_refl s.text;
+      pairs = λ s. front_refl s.pairs;
+      is = λ s. ap (λ n. record (settled s) { indentation = n + 1 }) (sym (settled_indentation s));
+    }
+
+pub shallower_settles : Settling Shallower
+unfolding effect
+shallower_settles =
+    record {
+      act = λ s. record s { indentation = s.indentation - 1 };
+      moves = λ q s. refl;
+      text = λ s. front_refl s.text;
+      pairs = λ s. front_refl s.pairs;
+      is = λ s. ap (λ n. record (settled s) { indentation = n - 1 }) (sym (settled_indentation s));
+    }
+
+-- ---- what the writer under it keeps
+
+kept_settling : (x : Item) → Settling x → (s : Sheet) → s.semicolons ≡ AtOnce → (effect x s).semicolons ≡ AtOnce
+kept_settling x m s h =
+    ap (λ (z : Sheet). z.semicolons) (m.is s ∙ ap m.act (settled_at_once s h)) ∙ unmoved m.act s (λ q. m.moves q s) ∙ h
+
+-- before an ending too nothing is done
+punct_at_once : (span : Option Span) (t : List ℕ) (s : Sheet) → s.semicolons ≡ AtOnce → effect (Punct span t) s ≡ written span t s
+unfolding effect before_punct dropped
+punct_at_once span t s h =
+    ap (written span t)
+    (elim (is_ending t) as (λ b. cond b (record s { semicolons = dropped s.semicolons }) (settled s) ≡ s)
+    [ true ↦ ap (λ q. record s { semicolons = q }) (ap dropped h ∙ sym h) | false ↦ settled_at_once s h ])
+
+semi_at_once : (span : Option Span) (s : Sheet) → s.semicolons ≡ AtOnce → effect (Semi span) s ≡ written span (codes ";") s
+unfolding effect semicolon_by
+semi_at_once span s h = ap (λ q. semicolon_by q span s) h
+
+written_keeps : (span : Option Span) (t : List ℕ) (s : Sheet) → (written span t s).semicolons ≡ s.semicolons
+written_keeps span t s = unmoved (written span t) s (λ q. written_moves q span t s)
+
+effect_at_once : (x : Item) (s : Sheet) → s.semicolons ≡ AtOnce → (effect x s).semicolons ≡ AtOnce
+unfolding effect
+effect_at_once (Semi span) s h = ap (λ (z : Sheet). z.semicolons) (semi_at_once span s h) ∙ written_keeps span (codes ";") s ∙ h
+effect_at_once Space s h = kept_settling _ space_settles s h
+effect_at_once (Keyword span t) s h = kept_settling _ (keyword_settles span t) s h
+effect_at_once (Operator span t) s h = kept_settling _ (operator_settles span t) s h
+effect_at_once (Param t) s h = kept_settling _ (param_settles t) s h
+effect_at_once (Property t) s h = kept_settling _ (property_settles t) s h
+effect_at_once Line s h = kept_settling _ line_settles s h
+effect_at_once (Lit span t) s h = kept_settling _ (lit_settles span t) s h
+effect_at_once (Comment t) s h = kept_settling _ (comment_settles t) s h
+effect_at_once (StrLit span t) s h = kept_settling _ (string_settles span t) s h
+effect_at_once (Str t) s h = kept_settling _ (str_settles t) s h
+effect_at_once (Symbol span t) s h = kept_settling _ (symbol_settles span t) s h
+effect_at_once (Punct span t) s h = ap (λ (z : Sheet). z.semicolons) (punct_at_once span t s h) ∙ written_keeps span t s ∙ h
+effect_at_once (Position pos) s h = unmoved (pointed pos) s (λ q. pointed_moves q pos s) ∙ h
+effect_at_once Commit s h = kept_settling _ commit_settles s h
+effect_at_once Deeper s h = kept_settling _ deeper_settles s h
+effect_at_once Shallower s h = kept_settling _ shallower_settles s h
+
+-- a call of the writer under it leaves that one writing semicolons at once
+pub kept : (x : Item) (a b : Sheet) (r : Result (Unit {0}) Refusal) → WritesAtOnce a → Writes x a b r → WritesAtOnce b
+unfolding Writes
+kept x a b (Ok u) h k = λ _. ap (λ (z : Sheet). holds_semicolons z.semicolons) k.1 ∙ ap holds_semicolons (effect_at_once x a (at_once _ (h k.0)))
+kept x a b (Err e) h (earlier i j k) = subst WritesAtOnce (sym k) h
+kept x a b (Err e) h (stopped i j k) = λ l. absurd (false≢true (sym l ∙ ap (λ (z : Sheet). z.refused) k.same))
+
+-- ---- calls that don't change the depth
+
+is_deeper : Item → Bool
+is_deeper Deeper = true
+is_deeper (Semi span) = false
+is_deeper Commit = false
+is_deeper _ = false
+
+semi_isnt_deeper : (span : Option Span) → Semi span ≡ Deeper → ⊥
+unfolding is_deeper
+semi_isnt_deeper span e = false≢true (ap is_deeper e)
+
+commit_isnt_deeper : Commit ≡ Deeper → ⊥
+unfolding is_deeper
+commit_isnt_deeper e = false≢true (ap is_deeper e)
+
+-- ---- calls of the writer under it, as calls of the whole
+
+causes_held : (x y : Item) (e : Refusal) (p q : Semicolons) (a b : Sheet) → (x ≡ Deeper → y ≡ Deeper) → Causes x e a b → Causes y e (holding p a) (holding q b)
+unfolding Causes
+causes_held x y Writer p q a b d h = h
+causes_held x y OutOfMemory p q a b d h = h
+causes_held x y UnsupportedNode p q a b d h = h
+causes_held x y BadShape p q a b d h = h
+causes_held x y NameOutOfTarget p q a b d h = h
+causes_held x y PositionTooLarge p q a b d (inl h) = inl (d h.0, h.1)
+causes_held x y PositionTooLarge p q a b d (inr h) = inr h
+causes_held x y Failed p q a b d h = h
+
+-- a call of the whole does what another does on the writer under it, but for the semicolon
+abbrev Lifts : Item → Item → Semicolons → Semicolons → Sheet → Type 0
+Lifts x y p q a = WritesAtOnce a → a.refused ≡ false → effect y (holding p a) ≡ holding q (effect x a)
+
+lifted_ok : (x y : Item) (p q : Semicolons) (a b : Sheet) (u : Unit {0}) → WritesAtOnce a → Lifts x y p q a → Writes x a b (Ok u) → Writes y (holding p a) (holding q b) (Ok u)
+unfolding Writes
+lifted_ok x y p q a b u h l k = (k.0, ap (holding q) k.1 ∙ sym (l h k.0))
+
+lifted_err : (x y : Item) (p q : Semicolons) (a b : Sheet) (e : Refusal) → (x ≡ Deeper → y ≡ Deeper) → WritesAtOnce a → Lifts x y p q a → Refuses x e a b → Refuses y e (holding p a) (holding p b)
+lifted_err x y p q a b e d h l (earlier i j k) = earlier i j (ap (holding p) k)
+lifted_err x y p q a b e d h l (stopped i j k) =
+    let Text : Sheet → Type 0 = λ z. IsFront b.text z.text in
+    let Pairs : Sheet → Type 0 = λ z. IsFront b.pairs z.pairs in
+    let goal = sym (l h i) in
+    stopped i (causes_held x y e p p a b d j) (record {
+      grows = k.grows;
+      front = subst Text goal k.front;
+      more_pairs = k.more_pairs;
+      front_pairs = subst Pairs goal k.front_pairs;
+      held = inl refl;
+      same = ap (holding p) k.same;
+    })
+
+-- a call that leaves the semicolon as it is
+lifted : (x : Item) (p : Semicolons) (a b : Sheet) (r : Result (Unit {0}) Refusal) → WritesAtOnce a → Lifts x x p p a → Writes x a b r → Writes x (holding p a) (holding p b) r
+unfolding Writes
+lifted x p a b (Ok u) h l k = lifted_ok x x p p a b u h l k
+lifted x p a b (Err e) h l k = lifted_err x x p p a b e (λ d. d) h l k
+
+-- ---- the held semicolon goes out
+
+pub settles_none : (a : Sheet) → Settles (with_held None a) (with_held None a) (Ok tt)
+unfolding Settles with_held settled_by
+settles_none a = (refl, inr refl)
+
+semi_lifts : (span : Option Span) (a : Sheet) → Lifts (Semi span) Commit (HoldsOne span) HoldsNone a
+unfolding effect settled_by
+semi_lifts span a h r =
+    written_moves HoldsNone span (codes ";") a ∙ ap (holding HoldsNone) (sym (semi_at_once span a (at_once _ (h r))))
+
+pub settles_one : (span : Option Span) (a b : Sheet) (u : Unit {0}) → WritesAtOnce a → Writes (Semi span) a b (Ok u) → Settles (with_held (Some span) a) (with_held None b) (Ok tt)
+unfolding Settles with_held Writes effect
+settles_one span a b u h k =
+    let done = lifted_ok (Semi span) Commit (HoldsOne span) HoldsNone a b u h (semi_lifts span a) k in (done.1, inl done.0)
+
+pub settles_err : (span : Option Span) (a b : Sheet) (e : Refusal) → WritesAtOnce a → Writes (Semi span) a b (Err e) → Settles (with_held (Some span) a) (with_held (Some span) b) (Err e)
+unfolding Settles with_held Writes
+settles_err span a b e h k =
+    lifted_err (Semi span) Commit (HoldsOne span) HoldsNone a b e (λ d. absurd (semi_isnt_deeper span d)) h (semi_lifts span a) k
+
+-- ---- a call, after the held semicolon went out
+
+causes_on : (x : Item) (e : Refusal) (a b c : Sheet) → Way a b → Causes x e b c → Causes x e a c
+unfolding Causes
+causes_on x Writer a b c w h = let P : ℕ → Type 0 = λ n. Rises n c.faults in subst P (ap (λ (z : Sheet). z.faults) w.same) h
+causes_on x OutOfMemory a b c w h = sym (ap (λ (z : Sheet). z.takes_memory) w.same) ∙ h
+causes_on x UnsupportedNode a b c w h = h
+causes_on x BadShape a b c w h = h
+causes_on x NameOutOfTarget a b c w h = h
+causes_on x PositionTooLarge a b c w (inl h) = inl (h.0, sym (ap (λ (z : Sheet). z.indentation) w.same) ∙ h.1)
+causes_on x PositionTooLarge a b c w (inr h) = inr (sym (ap (λ (z : Sheet). z.keeps_positions) w.same) ∙ h.0, h.1)
+causes_on x Failed a b c w h = h
+
+-- from the settled sheet a call does what it does from the first one
+same_goal : (x : Item) → Settling x → (s : Sheet) → settled (settled s) ≡ settled s → effect x (settled s) ≡ effect x s
+same_goal x m s h = m.is (settled s) ∙ ap m.act h ∙ sym (m.is s)
+
+-- after it went out none is held
+settled_by_twice : (q : Semicolons) (s : Sheet) → q ≡ s.semicolons → settled (settled_by q s) ≡ settled_by q s
+unfolding settled_by
+settled_by_twice AtOnce s h = ap (λ q. settled_by q s) (sym h)
+settled_by_twice HoldsNone s h = ap (λ q. settled_by q s) (sym h)
+settled_by_twice (HoldsOne span) s h =
+    let out = written span (codes ";") (holding HoldsNone s) in
+    ap (λ q. settled_by q out) (written_keeps span (codes ";") (holding HoldsNone s))
+
+settled_twice : (s : Sheet) → settled (settled s) ≡ settled s
+settled_twice s = settled_by_twice s.semicolons s refl
+
+stopped_on : (x : Item) → Settling x → (a b c : Sheet) → b ≡ settled a → Stopped (effect x b) b c → Stopped (effect x a) a c
+stopped_on x m a b c e k =
+    let way : Way a b = (let P : Sheet → Type 0 = λ z. Way a z in subst P (sym e) (settled_way a)) in
+    let goal : effect x b ≡ effect x a = ap (effect x) e ∙ same_goal x m a (settled_twice a) in
+    let Text : Sheet → Type 0 = λ z. IsFront c.text z.text in
+    let Pairs : Sheet → Type 0 = λ z. IsFront c.pairs z.pairs in
+    let Out : Sheet → Type 0 = λ z. IsFront z.text c.text in
+    record {
+      grows = front_trans a.text b.text c.text way.text k.grows;
+      front = subst Text goal k.front;
+      more_pairs = front_trans a.pairs b.pairs c.pairs way.pairs k.more_pairs;
+      front_pairs = subst Pairs goal k.front_pairs;
+      held = inr (subst Out e k.grows);
+      same = k.same ∙ ap (λ (s : Sheet). record s { text = c.text; whole = c.whole; at_line_start = c.at_line_start; semicolons = c.semicolons; pairs = c.pairs; pending = c.pending; place = c.place; faults = c.faults; refused = true }) way.same;
+    }
+
+settled_refused : (s : Sheet) → (settled s).refused ≡ s.refused
+settled_refused s = ap (λ (z : Sheet). z.refused) (settled_way s).same
+
+joined : (x : Item) → Settling x → (a b c : Sheet) (u : Unit {0}) (r : Result (Unit {0}) Refusal) → Settles a b (Ok u) → Writes x b c r → Writes x a c r
+unfolding Settles Writes
+joined x m a b c u (Ok v) h k =
+    (sym (settled_refused a) ∙ sym (ap (λ (z : Sheet). z.refused) h.0) ∙ k.0, k.1 ∙ ap (effect x) h.0 ∙ same_goal x m a (settled_twice a))
+joined x m a b c u (Err e) (h, inl i) (earlier j k l) =
+    absurd (false≢true (sym i ∙ sym (settled_refused a) ∙ sym (ap (λ (z : Sheet). z.refused) h) ∙ j))
+joined x m a b c u (Err e) (h, inr i) (earlier j k l) = earlier (sym (ap (λ (z : Sheet). z.refused) i) ∙ j) k (l ∙ i)
+joined x m a b c u (Err e) h (stopped i j k) =
+    let way : Way a b = (let P : Sheet → Type 0 = λ z. Way a z in subst P (sym h.0) (settled_way a)) in
+    stopped (sym (ap (λ (z : Sheet). z.refused) way.same) ∙ i) (causes_on x e a b c way j) (stopped_on x m a b c h.0 k)
+
+-- a call before which a held semicolon is written
+settling_lifts : (x : Item) → Settling x → (a : Sheet) → Lifts x x HoldsNone HoldsNone a
+unfolding settled_by
+settling_lifts x m a h r =
+    m.is (holding HoldsNone a) ∙ m.moves HoldsNone a ∙ ap (holding HoldsNone) (sym (m.is a ∙ ap m.act (settled_at_once a (at_once _ (h r)))))
+
+pub settled_then : (x : Item) → Settling x → (s a b : Sheet) (p : Option (Option Span)) (u : Unit {0}) (r : Result (Unit {0}) Refusal) → Settles s (with_held p a) (Ok u) → p ≡ None → WritesAtOnce a → Writes x a b r → Writes x s (with_held p b) r
+unfolding with_held
+settled_then x m s a b p u r h n w k =
+    let P : Option (Option Span) → Type 0 = λ o. Settles s (with_held o a) (Ok u) → Writes x s (with_held o b) r in
+    subst P (sym n) (λ g. joined x m s (holding HoldsNone a) (holding HoldsNone b) u r g (lifted x HoldsNone a b r w (settling_lifts x m a) k)) h
+
+-- the held semicolon's writing was refused
+commit_causes : (x : Item) (e : Refusal) (a b : Sheet) → Causes Commit e a b → Causes x e a b
+unfolding Causes
+commit_causes x Writer a b h = h
+commit_causes x OutOfMemory a b h = h
+commit_causes x UnsupportedNode a b h = h
+commit_causes x BadShape a b h = h
+commit_causes x NameOutOfTarget a b h = h
+commit_causes x PositionTooLarge a b (inl h) = absurd (commit_isnt_deeper h.0)
+commit_causes x PositionTooLarge a b (inr h) = inr h
+commit_causes x Failed a b h = h
+
+pub settled_not : (x : Item) → Settling x → (a b : Sheet) (e : Refusal) → Settles a b (Err e) → Writes x a b (Err e)
+unfolding Settles Writes effect
+settled_not x m a b e (earlier i j k) = earlier i j k
+settled_not x m a b e (stopped i j k) =
+    let Text : Sheet → Type 0 = λ z. IsFront b.text z.text in
+    let Pairs : Sheet → Type 0 = λ z. IsFront b.pairs z.pairs in
+    stopped i (commit_causes x e a b j) (record {
+      grows = k.grows;
+      front = subst Text (sym (m.is a)) (front_trans b.text (settled a).text (m.act (settled a)).text k.front (m.text (settled a)));
+      more_pairs = k.more_pairs;
+      front_pairs = subst Pairs (sym (m.is a)) (front_trans b.pairs (settled a).pairs (m.act (settled a)).pairs k.front_pairs (m.pairs (settled a)));
+      held = k.held;
+      same = k.same;
+    })
+
+-- the depth that the next call finds
+pub settled_depth : (s a : Sheet) (p : Option (Option Span)) (u : Unit {0}) → Settles s (with_held p a) (Ok u) → a.indentation ≡ s.indentation
+unfolding Settles with_held
+settled_depth s a p u h = ap (λ (z : Sheet). z.indentation) h.0 ∙ settled_indentation s
+
+-- ---- the other calls
+
+held_or_none : (p : Option (Option Span)) (span : Option Span) (a : Sheet) → semicolon_by (semicolons_of p) span (holding (semicolons_of p) a) ≡ holding (HoldsOne span) a
+unfolding semicolon_by
+held_or_none None span a = refl
+held_or_none (Some held) span a = refl
+
+semi_held_lifts : (p : Option (Option Span)) (span : Option Span) (a : Sheet) → Lifts Commit (Semi span) (semicolons_of p) (HoldsOne span) a
+unfolding effect
+semi_held_lifts p span a h r = held_or_none p span a ∙ ap (holding (HoldsOne span)) (sym (settled_at_once a (at_once _ (h r))))
+
+-- a semicolon is held
+pub semi_ok : (p : Option (Option Span)) (span : Option Span) (a b : Sheet) (u : Unit {0}) → WritesAtOnce a → Writes Commit a b (Ok u) → Writes (Semi span) (with_held p a) (with_held (Some span) b) (Ok tt)
+unfolding with_held
+semi_ok p span a b u h k = lifted_ok Commit (Semi span) (semicolons_of p) (HoldsOne span) a b u h (semi_held_lifts p span a) k
+
+pub semi_err : (p : Option (Option Span)) (span : Option Span) (a b : Sheet) (e : Refusal) → WritesAtOnce a → Writes Commit a b (Err e) → Writes (Semi span) (with_held p a) (with_held p b) (Err e)
+unfolding with_held Writes
+semi_err p span a b e h k =
+    lifted_err Commit (Semi span) (semicolons_of p) (HoldsOne span) a b e (λ d. absurd (commit_isnt_deeper d)) h (semi_held_lifts p span a) k
+
+dropped_none : (p : Option (Option Span)) → dropped (semicolons_of p) ≡ HoldsNone
+unfolding dropped
+dropped_none None = refl
+dropped_none (Some span) = refl
+
+ending_lifts : (p : Option (Option Span)) (span : Option Span) (t : List ℕ) (a : Sheet) → is_ending t ≡ true → Lifts (Punct span t) (Punct span t) (semicolons_of p) HoldsNone a
+unfolding effect before_punct
+ending_lifts p span t a i h r =
+    let s = holding (semicolons_of p) a in
+    ap (λ b. written span t (cond b (record s { semicolons = dropped s.semicolons }) (settled s))) i ∙
+    ap (λ q. written span t (holding q a)) (dropped_none p) ∙
+    written_moves HoldsNone span t a ∙
+    ap (holding HoldsNone) (sym (punct_at_once span t a (at_once _ (h r))))
+
+-- before an ending the held semicolon is lost
+pub ending_ok : (p : Option (Option Span)) (span : Option Span) (t : List ℕ) (a b : Sheet) (u : Unit {0}) → is_ending t ≡ true → WritesAtOnce a → Writes (Punct span t) a b (Ok u) → Writes (Punct span t) (with_held p a) (with_held None b) (Ok tt)
+unfolding with_held
+ending_ok p span t a b u i h k = lifted_ok (Punct span t) (Punct span t) (semicolons_of p) HoldsNone a b u h (ending_lifts p span t a i) k
+
+pub ending_err : (p : Option (Option Span)) (span : Option Span) (t : List ℕ) (a b : Sheet) (e : Refusal) → is_ending t ≡ true → WritesAtOnce a → Writes (Punct span t) a b (Err e) → Writes (Punct span t) (with_held p a) (with_held p b) (Err e)
+unfolding with_held Writes
+ending_err p span t a b e i h k =
+    lifted_err (Punct span t) (Punct span t) (semicolons_of p) HoldsNone a b e (λ d. d) h (ending_lifts p span t a i) k
+
+-- a position passes a held semicolon by
+pub position_passes : (p : Option (Option Span)) (pos : BytePos) (a b : Sheet) (r : Result (Unit {0}) Refusal) → WritesAtOnce a → Writes (Position pos) a b r → Writes (Position pos) (with_held p a) (with_held p b) r
+unfolding with_held effect
+position_passes p pos a b r h k = lifted (Position pos) (semicolons_of p) a b r h (λ _ _. pointed_moves (semicolons_of p) pos a) k
+
+-- it says that it holds semicolons
+pub held_back : (p : Option (Option Span)) → true ≡ holds_semicolons (semicolons_of p)
+held_back None = refl
+held_back (Some span) = refl
+
+-- what the calls need
+pub ruleset calls = (kept, settled_then, settled_not, space_settles, keyword_settles, operator_settles, param_settles, property_settles, line_settles, lit_settles, comment_settles, string_settles, str_settles, symbol_settles, punct_settles, commit_settles, deeper_settles, shallower_settles, semi_ok, semi_err, ending_ok, ending_err, position_passes)

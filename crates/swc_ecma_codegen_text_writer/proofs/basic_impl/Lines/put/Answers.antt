@@ -1,0 +1,22 @@
+use Rattle.std.proofs.Common.{◌∙◌, ap}
+use Rattle.std.proofs.lemmas.Result.{err_from_is_err_and}
+use Rattle.swc_ecma_codegen_text_writer.specs.Sheet.{Sheet, appended, start_recorded, end_recorded}
+use Rattle.swc_ecma_codegen_text_writer.specs.View.{sheet_of, Reaches}
+use Rattle.swc_ecma_codegen_text_writer.proofs.Sheets.{started_alike, started_same, started_indentation}
+use Rattle.swc_ecma_codegen_text_writer.proofs.Steps.{first_halted, reached, reaches_to, reaches_then, written_some, started_written}
+use Rattle.swc_ecma_codegen_text_writer.proofs.basic_impl.Lines.put.Goals as goal
+
+pub returns-in_err-start_line : goal.returns-in_err-start_line
+unfolding Reaches
+returns-in_err-start_line g c =
+    let p = err_from_is_err_and c.from_residual.result c.from_residual.ensures.1 in
+    rw (p.1, p.2) (first_halted _ _ _ _ _ (started_written _ _ _ c.requires.some) c.in_err-start_line.ensures)
+
+pub put_in_line-requires : goal.put_in_line-requires
+unfolding Reaches
+put_in_line-requires g c = ap (λ (s : Sheet). s.refused) c.in_ok-start_line.ensures ∙ (started_same (sheet_of c.args.self.now)).refused ∙ c.requires.fresh
+
+pub returns : goal.returns
+returns g c =
+    reaches_then _ _ _ _ _ _ (reached _ _ _ _ c.in_ok-start_line.ensures) (started_alike _) (started_indentation _)
+    (λ e. reaches_to _ _ _ _ _ (ap (λ (s : Sheet). end_recorded c.args.span (appended c.args.text.now (start_recorded c.args.span s))) e ∙ written_some c.args.span c.args.text.now _ c.requires.some) c.put_in_line.ensures)

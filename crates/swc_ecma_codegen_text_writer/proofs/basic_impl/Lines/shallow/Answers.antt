@@ -1,0 +1,13 @@
+use Rattle.std.proofs.Common.{refl}
+use Rattle.swc_ecma_codegen_text_writer.specs.Sheet.{Writes, Shallower, effect, settled_by}
+use Rattle.swc_ecma_codegen_text_writer.specs.View.{sheet_of}
+use Rattle.swc_ecma_codegen_text_writer.proofs.Steps.{writes_failed}
+use Rattle.swc_ecma_codegen_text_writer.proofs.basic_impl.Lines.shallow.Goals as goal
+
+pub returns-then-self : goal.returns-then-self
+unfolding sheet_of
+returns-then-self g c = writes_failed Shallower _ c.if-self.true
+
+pub returns : goal.returns
+unfolding sheet_of Writes effect settled_by
+returns g c = (c.if-self.false, refl)

@@ -1,0 +1,240 @@
+//! Positions in a source text, and where in the printed text they stand.
+
+ghost use Rattle.std.specs.Prelude.{◌≡◌, ◌≤◌, Some, None, vec_len};
+ghost use Rattle.std.specs.List.{AllWithin};
+ghost use Rattle.std.proofs.Props.{props};
+ghost use Rattle.swc_ecma_codegen_text_writer.specs.Places.{Place, units_of, after_byte, after_text, next_line};
+ghost use Rattle.swc_ecma_codegen_text_writer.specs.Sheet.{is_same_pair, has_pair};
+ghost use Rattle.swc_ecma_codegen_text_writer.specs.Reach.{Shows, IsFrom, IsAt, IsBefore, further};
+
+use swc_ecma_codegen_common::{Answer, BytePos, LineCol, Refusal};
+
+/// A count stays here: from here on no `LineCol` tells it.
+const LIMIT: u64 = 1 << 32;
+
+/// The UTF-16 units that begin with a byte of UTF-8: none with one that goes on, two with the first of four.
+#[tactic(auto, unfolding(crate::specs::Places::units_of))]
+fn units(byte: u8) -> u64
+    ensures value { result ≡ units_of byte }
+    ensures few { result ≤ 2 }
+{
+    if byte <= 0x7f {
+        1
+    } else if byte <= 0xbf {
+        0
+    } else if byte <= 0xef {
+        1
+    } else {
+        2
+    }
+}
+
+#[tactic(auto, unfolding(crate::specs::Sheet::is_same_pair))]
+fn is_same(a: (BytePos, LineCol), b: (BytePos, LineCol)) -> bool
+    ensures { result ≡ is_same_pair a b }
+{
+    a.0.0 == b.0.0 && a.1.line == b.1.line && a.1.col == b.1.col
+}
+
+/// Whether a pair is among others.
+fn holds(pairs: &[(BytePos, LineCol)], pair: (BytePos, LineCol)) -> bool
+    ensures { result ≡ has_pair pair pairs.now }
+{
+    for other in pairs {
+        if is_same(pair, *other) {
+            return true;
+        }
+    }
+    false
+}
+
+/// A place in the printed text: its line, and its column in UTF-16 units, both from 0. A count stays at 2^32.
+#[derive(Clone, Copy, Drop)]
+pub struct Reached {
+    line: u64,
+    column: u64,
+    after_cr: bool,
+}
+
+impl Reached {
+    #[tactic(auto, unfolding(crate::specs::Reach::Shows))]
+    fn next_line(self, after_cr: bool) -> Reached
+        ensures shows { (p : Place) → Shows self p → Shows result (next_line after_cr p) }
+        ensures order { IsFrom self result }
+    {
+        let line = if self.line < LIMIT {
+            self.line + 1
+        } else {
+            self.line
+        };
+        Reached {
+            line,
+            column: 0,
+            after_cr,
+        }
+    }
+
+    /// The place after a byte that ends no line.
+    fn after_units(self, units: u64) -> Reached
+        requires { units ≤ 2 }
+        ensures shows { (p : Place) → Shows self p → Shows result (further units p) }
+        ensures order { IsFrom self result }
+    {
+        let column = if self.column < LIMIT {
+            (self.column + units).min(LIMIT)
+        } else {
+            self.column
+        };
+        Reached {
+            line: self.line,
+            column,
+            after_cr: false,
+        }
+    }
+
+    fn after(self, byte: u8) -> Reached
+        ensures shows { (p : Place) → Shows self p → Shows result (after_byte byte p) }
+        ensures order { IsFrom self result }
+    {
+        if byte == b'\n' {
+            if self.after_cr {
+                self.after_units(0)
+            } else {
+                self.next_line(false)
+            }
+        } else if byte == b'\r' {
+            self.next_line(true)
+        } else {
+            self.after_units(units(byte))
+        }
+    }
+
+    fn after_text(self, text: &str) -> Reached
+        ensures shows { (p : Place) → Shows self p → Shows result (after_text text.now p) }
+        ensures order { IsFrom self result }
+    {
+        let mut reached = self;
+        for byte in text.as_bytes() {
+            reached = reached.after(*byte);
+        }
+        reached
+    }
+}
+
+/// What records positions: the list that holds them, and the place that was reached.
+///
+/// This writer's pairs stand in the order of their places, so one that is recorded twice is among those of the place
+/// reached, at the list's end, or among those that were handed in.
+#[derive(Drop)]
+pub struct Positions<'a> {
+    list: &'a mut Vec<(BytePos, LineCol)>,
+    handed_in: usize,
+    /// The first pair that was recorded at the place reached.
+    recent: usize,
+    pending: Option<BytePos>,
+    reached: Reached,
+    ghost in_list: { (handed_in ≤ recent) × (recent ≤ vec_len list.now) } by { Prim.hlevel props },
+    ghost passed: { AllWithin (λ pair. IsBefore pair.1 reached) list.now.items handed_in recent } by { Prim.hlevel props },
+    ghost here: { AllWithin (λ pair. IsAt pair.1 reached) list.now.items recent (vec_len list.now) } by { Prim.hlevel props },
+}
+
+impl<'a> Positions<'a> {
+    ghost use Rattle.swc_ecma_codegen_text_writer.specs.Places.{origin};
+    ghost use Rattle.swc_ecma_codegen_text_writer.specs.Positions.{pairs, Counts, Records};
+
+    /// Nothing is written yet, and nothing is pending.
+    pub fn new(list: &'a mut Vec<(BytePos, LineCol)>) -> Positions<'a>
+        ensures pairs { pairs result ≡ list.old.items }
+        ensures place { Counts result origin }
+        ensures pending { result.pending ≡ None }
+        ensures lent { result.list.ghost_name ≡ list.entry.ghost_name }
+    {
+        let handed_in = list.len();
+        Positions {
+            list,
+            handed_in,
+            recent: handed_in,
+            pending: None,
+            reached: Reached {
+                line: 0,
+                column: 0,
+                after_cr: false,
+            },
+        }
+    }
+
+    /// A text was written.
+    pub fn pass(&mut self, text: &str)
+        ensures place { (p : Place) → Counts self.old p → Counts self.new (after_text text.now p) }
+        ensures pairs { pairs self.new ≡ pairs self.old }
+        ensures pending { self.new.pending ≡ self.old.pending }
+        ensures lent { self.new.list.ghost_name ≡ self.old.list.ghost_name }
+    {
+        let reached = self.reached.after_text(text);
+        if reached.line != self.reached.line || reached.column != self.reached.column {
+            self.recent = self.list.len();
+        }
+        self.reached = reached;
+    }
+
+    /// Whether a pair of the place reached stands in the list.
+    fn stands(&self, pair: (BytePos, LineCol)) -> bool
+        requires line { pair.1.line ≡ self.now.reached.line }
+        requires column { pair.1.col ≡ self.now.reached.column }
+        ensures { result ≡ has_pair pair (pairs self.now) }
+    {
+        holds(&self.list[..self.handed_in], pair) || holds(&self.list[self.recent..], pair)
+    }
+
+    /// Records that what stands at `pos` in its source text was written at the place reached. Position 0, and a pair
+    /// that stands in the list, do nothing.
+    ///
+    /// It answers `PositionTooLarge` where the line or the column is above `u32::MAX`, and `OutOfMemory` where the list
+    /// can't grow; the list is then as it was.
+    pub fn record(&mut self, pos: BytePos) -> Answer
+        ensures pairs { (p : Place) → Counts self.old p → Records pos p (pairs self.old) (pairs self.new) result }
+        ensures place { (p : Place) → Counts self.old p → Counts self.new p }
+        ensures pending { self.new.pending ≡ self.old.pending }
+        ensures lent { self.new.list.ghost_name ≡ self.old.list.ghost_name }
+    {
+        if pos.0 == 0 {
+            return Ok(());
+        }
+        if self.reached.line >= LIMIT || self.reached.column >= LIMIT {
+            return Err(Refusal::PositionTooLarge);
+        }
+        let place = LineCol {
+            line: self.reached.line as u32,
+            col: self.reached.column as u32,
+        };
+        let pair = (pos, place);
+        if self.stands(pair) {
+            return Ok(());
+        }
+        match self.list.push(pair) {
+            Ok(()) => Ok(()),
+            Err(_) => Err(Refusal::OutOfMemory),
+        }
+    }
+
+    /// What is written next, once the line has begun, stands at `pos`.
+    pub fn point(&mut self, pos: BytePos)
+        ensures pending { self.new.pending ≡ Some pos }
+        ensures pairs { pairs self.new ≡ pairs self.old }
+        ensures place { (p : Place) → Counts self.old p → Counts self.new p }
+        ensures lent { self.new.list.ghost_name ≡ self.old.list.ghost_name }
+    {
+        self.pending = Some(pos);
+    }
+
+    /// The pending position, which is pending no more.
+    pub fn take_pending(&mut self) -> Option<BytePos>
+        ensures result { result ≡ self.old.pending }
+        ensures pending { self.new.pending ≡ None }
+        ensures pairs { pairs self.new ≡ pairs self.old }
+        ensures place { (p : Place) → Counts self.old p → Counts self.new p }
+        ensures lent { self.new.list.ghost_name ≡ self.old.list.ghost_name }
+    {
+        self.pending.take()
+    }
+}
