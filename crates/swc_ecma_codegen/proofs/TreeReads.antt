@@ -10,12 +10,15 @@ use Rattle.swc_ecma_codegen_ast.specs.StmtPhrases as stmt_lists
 use Rattle.swc_ecma_codegen_ast.specs.TreePhrases.{program_phrase, is_well_formed}
 use Rattle.swc_ecma_codegen_util.specs.declared.config.Config.{Config}
 use Rattle.swc_ecma_codegen_text_writer.specs.View.{new_sheet}
-use Rattle.swc_ecma_codegen_base.specs.Run.{Env, Part, State, nothing, Follows, start, remakes_name, steps_of, steps_in}
+use Rattle.swc_ecma_codegen_base.specs.Run.{Env, Plan, Part, State, nothing, Follows, start, remakes_name, steps_of, steps_in}
 use Rattle.swc_ecma_codegen_base.specs.Escapes.{escapes_name}
+use Rattle.swc_ecma_codegen_base.specs.Named.{RecordsNames}
+use Rattle.swc_ecma_codegen_text_writer.specs.Recorded.{RecordsTruly}
+use Rattle.swc_ecma_codegen_ast.specs.Phrases.{names_in}
 use Rattle.swc_ecma_codegen_text_writer.specs.Sheet.{HoldsNone}
 use Rattle.swc_ecma_codegen_base.specs.Written.{IsLineEnd, IsNew, AddsReading, all_indent, is_indent, holds_one}
 use Rattle.swc_ecma_codegen_base.proofs.Short.{on_ok_in_short}
-use Rattle.swc_ecma_codegen_base.proofs.Phrased.{Prints, printed_reads, printed_remakes}
+use Rattle.swc_ecma_codegen_base.proofs.Phrased.{Prints, printed_reads, printed_remakes, printed_names, follows_records}
 use Rattle.swc_ecma_codegen.specs.declared.nodes.Place.TheVariants.{Plain}
 use Rattle.swc_ecma_codegen.specs.Programs as programs
 use Rattle.swc_ecma_codegen.specs.Tree.{any_items}
@@ -41,6 +44,20 @@ script_reads n a b r w s h = root_reads (OfScript n) _ a b r refl w s h
 
 pub program_reads : (n : Program AnyNode) (a b : State) (r : Result (Unit {0}) Error) → is_well_formed n ≡ true → IsNew a → Follows (programs.program any_items n nothing) a b (in_short r) → OnOk r (AddsReading (program_phrase n) a.sheet b.sheet)
 program_reads n a b r w s h = root_reads (OfProgram n) _ a b r refl w s h
+
+-- what is recorded is true
+pub steps_recorded : (p : Plan) (a b : State) (r : Result (Unit {0}) Error) → Follows p a b (in_short r) → OnOk r (RecordsTruly a.sheet b.sheet)
+steps_recorded p a b r h = on_ok_in_short _ r (follows_records p a b (in_short r) h)
+
+-- where positions are kept, each name has its own where it begins
+pub root_names : (n : Root) (p : Part) (a b : State) (r : Result (Unit {0}) Error) → p ≡ root_items n → is_well_formed_root n ≡ true → a.sheet.keeps_positions ≡ true → a.env.keeps_invalid ≡ false → Follows (p nothing) a b (in_short r) → OnOk r (RecordsNames (names_in (root_phrase n)) a.sheet b.sheet)
+root_names n p a b r same w k e h = on_ok_in_short _ r (printed_names p (root_phrase n) a b (in_short r) (subst (λ z. Prints a.env z (root_phrase n)) (sym same) (root_prints a.env e n)) w k h)
+
+pub script_names : (n : Script AnyNode) (a b : State) (r : Result (Unit {0}) Error) → is_well_formed (a_script n) ≡ true → a.sheet.keeps_positions ≡ true → a.env.keeps_invalid ≡ false → Follows (programs.script any_items n nothing) a b (in_short r) → OnOk r (RecordsNames (names_in (program_phrase (a_script n))) a.sheet b.sheet)
+script_names n a b r w k e h = root_names (OfScript n) _ a b r refl w k e h
+
+pub program_names : (n : Program AnyNode) (a b : State) (r : Result (Unit {0}) Error) → is_well_formed n ≡ true → a.sheet.keeps_positions ≡ true → a.env.keeps_invalid ≡ false → Follows (programs.program any_items n nothing) a b (in_short r) → OnOk r (RecordsNames (names_in (program_phrase n)) a.sheet b.sheet)
+program_names n a b r w k e h = root_names (OfProgram n) _ a b r refl w k e h
 
 -- which names are made anew
 pub root_remakes : (n : Root) (s : State) → is_well_formed_root n ≡ true → s.env.keeps_invalid ≡ false → remakes_name (steps_of (steps_in (root_items n) s)) ≡ escapes_name (root_phrase n)

@@ -4,6 +4,9 @@ ghost use Rattle.std.specs.Prelude.{◌≡◌, ◌≢◌, true, false, IfErr, On
 ghost use Rattle.swc_ecma_codegen_common.specs.Refusals.{in_short, reason_of};
 ghost use Rattle.swc_ecma_codegen_text_writer.specs.Told.{IsFront};
 ghost use Rattle.swc_ecma_codegen_base.specs.Run.{Part, Follows, HasCause, IsUnhindered, nothing, printed, remakes_name, steps_in, steps_of};
+ghost use Rattle.swc_ecma_codegen_ast.specs.Phrases.{names_in};
+ghost use Rattle.swc_ecma_codegen_text_writer.specs.Recorded.{RecordsTruly};
+ghost use Rattle.swc_ecma_codegen_base.specs.Named.{RecordsNames};
 ghost use Rattle.swc_ecma_codegen_base.specs.Written.{IsNew, AddsReading};
 ghost use Rattle.swc_ecma_codegen_base.specs.Ready.{IsPlainTree, IsReady};
 ghost use Rattle.swc_ecma_codegen.specs.View.{state_of};
@@ -33,6 +36,10 @@ pub trait Node: Spanned {
         ensures items { Follows (part self.now nothing) (state_of W.sheet e.old) (state_of W.sheet e.new) (in_short result) }
         // What a new emitter adds to the text, of a well-formed tree, reads as one of the tree's token lists.
         ensures reads { (root : Root) → part self.now ≡ root_items root → is_well_formed_root root ≡ true → IsNew (state_of W.sheet e.old) → OnOk result (AddsReading (root_phrase root) (W.sheet e.old.wr) (W.sheet e.new.wr)) }
+        // Each position that is recorded holds the place that the text had reached, and none is recorded twice.
+        ensures recorded { OnOk result (RecordsTruly (W.sheet e.old.wr) (W.sheet e.new.wr)) }
+        // Where positions are kept, each name of a well-formed tree has its own where it begins, unless that is 0.
+        ensures names { (root : Root) → part self.now ≡ root_items root → is_well_formed_root root ≡ true → (W.sheet e.old.wr).keeps_positions ≡ true → (W.sheet e.old.wr).keeps_invalid ≡ false → OnOk result (RecordsNames (names_in (root_phrase root)) (W.sheet e.old.wr) (W.sheet e.new.wr)) }
         // What is out is a beginning of the text of these steps.
         ensures front { IsFront (W.sheet e.new.wr).text (printed (part self.now) (state_of W.sheet e.old)).sheet.text }
         // It is refused only for the cause that the error names.
@@ -54,7 +61,7 @@ pub trait Node: Spanned {
 impl<T: EmitAt + Spanned> Node for T {
     ghost part = { λ n. T.items n Plain };
 
-    #[tactic(auto, using(crate::proofs::TreeReads::root_reads, swc_ecma_codegen_base::proofs::Made::ready_after, swc_ecma_codegen_base::proofs::Phrased::never_out_of_memory))]
+    #[tactic(auto, using(crate::proofs::TreeReads::root_reads, crate::proofs::TreeReads::steps_recorded, crate::proofs::TreeReads::root_names, swc_ecma_codegen_base::proofs::Made::ready_after, swc_ecma_codegen_base::proofs::Phrased::never_out_of_memory))]
     fn emit_with<W: WriteJs, S: SourceMapper, C: Comments>(
         &self,
         e: &mut Emitter<'_, W, S, C>,

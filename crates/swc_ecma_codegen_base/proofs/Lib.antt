@@ -12,6 +12,7 @@ pub mod Marks
 pub mod Indented
 pub mod Held
 pub mod Written
+pub mod Positions
 pub mod Printed
 pub mod Phrased
 pub mod SoFar

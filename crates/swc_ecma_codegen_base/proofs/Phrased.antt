@@ -1,5 +1,5 @@
 -- What each word writes is one of the token lists of a phrase.
-use Rattle.std.proofs.Common.{◌≡◌, ◌≢◌, ℕ, Bool, true, false, cond, List, [], ◌∷◌, ◌++◌, ◌||◌, codes, refl, sym, ap, ◌∙◌, subst, append-nil, inl, inr, Option, Result, Ok, Err, OnOk, IfErr}
+use Rattle.std.proofs.Common.{◌≡◌, ◌≢◌, ℕ, Bool, true, false, cond, List, [], ◌∷◌, ◌++◌, ◌||◌, ◌==◌, codes, refl, sym, ap, ◌∙◌, subst, append-nil, inl, inr, Option, Result, Ok, Err, OnOk, IfErr}
 use Rattle.std.specs.Str.{chars, is_utf8}
 use Rattle.std.proofs.lemmas.Bool.{and_parts, or_from, true≢false}
 use Rattle.swc_ecma_codegen_common.specs.declared.errors.Error.{Error}
@@ -19,28 +19,73 @@ use Rattle.swc_ecma_codegen_ast.specs.Parts as parts
 use Rattle.swc_ecma_codegen_ast.specs.Parts.{Gap, NoneFuse, Reduced, IsEnding, tokens_of, remarks_in}
 use Rattle.swc_ecma_codegen_ast.specs.Endings.{IsReduced}
 use Rattle.swc_ecma_codegen_ast.proofs.Dropped.{none_fuse_reduced, tokens_reduced, without_last_gap}
-use Rattle.swc_ecma_codegen_text_writer.specs.Sheet.{Sheet}
-use Rattle.swc_ecma_codegen_ast.specs.Phrases.{Phrase, Never, Nothing, One, NameOf, Then, Generates, is_possible, ◌>◌, mark}
+use Rattle.swc_ecma_codegen_common.specs.declared.positions.BytePos.{BytePos}
+use Rattle.swc_ecma_codegen_spans.specs.Spans.{dummy_span}
+use Rattle.swc_ecma_codegen_text_writer.specs.Recorded.{RecordsTruly}
+use Rattle.swc_ecma_codegen_text_writer.specs.Sheet.{Sheet, Symbol, Position, Commit}
+use Rattle.swc_ecma_codegen_text_writer.proofs.Sheets.{effect_keeps_positions}
+use Rattle.swc_ecma_codegen_ast.specs.Phrases.{Phrase, Never, Nothing, One, NameOf, Then, Generates, is_possible, names_in, ◌>◌, mark}
 use Rattle.swc_ecma_codegen_ast.specs.Phrases as phrases
 use Rattle.swc_ecma_codegen_ast.specs.SpelledNames as names
 use Rattle.swc_ecma_codegen_ast.specs.SpelledNames.{is_well_formed_name}
 use Rattle.swc_ecma_codegen_ast.specs.ValidNames.{turned}
 use Rattle.swc_ecma_codegen_ast.proofs.Reading.{reads}
-use Rattle.swc_ecma_codegen_base.specs.Run.{Env, Part, State, Step, done, steps_of, run, nothing, spelling, Follows, HasCause, remakes_name}
-use Rattle.swc_ecma_codegen_base.specs.Words.{keyword, operator, word_operator, punct, semi, name_text, question, name}
+use Rattle.swc_ecma_codegen_base.specs.Run.{Env, Plan, Part, State, Step, Guard, Token, Plain, Remake, Steps, done, step, steps_of, run, nothing, spelling, Follows, HasCause, remakes_name}
+use Rattle.swc_ecma_codegen_base.specs.Words.{keyword, operator, word_operator, punct, semi, commit_pending_semi, position, symbol, valid_symbol, name_text, question, name}
 use Rattle.swc_ecma_codegen_base.specs.Written.{AtRest, is_free, holds_one, IsNew, ReadsAs, AddsText, AddsReading, IsWord, IsMark}
 use Rattle.swc_ecma_codegen_base.specs.Escapes.{escapes_name}
-use Rattle.swc_ecma_codegen_base.proofs.Fronts.{follows_cause}
+use Rattle.swc_ecma_codegen_base.specs.Named.{RecordsNames}
+use Rattle.swc_ecma_codegen_base.proofs.Fronts.{follows_cause, run_append, run_sheet}
 use Rattle.swc_ecma_codegen_base.proofs.Held.{front}
 use Rattle.swc_ecma_codegen_base.proofs.Indented.{blanks}
+use Rattle.swc_ecma_codegen_base.proofs.Spelled.{valid_same}
+use Rattle.swc_ecma_codegen_base.proofs.Positions.{Named, named_none, named_then, named_records, name_named, name_steps, run_records}
 use Rattle.swc_ecma_codegen_base.proofs.Written.{Lays, held, held_of, tokens_append, Spelled, spelled_word, spelled_name, spelled_mark}
 use Rattle.swc_ecma_codegen_base.proofs.Printed.{chain, Makes, Writes, writes_then, writes_nothing, writes_keyword, writes_operator, writes_word_operator, writes_punct, writes_semi, writes_commit, writes_leading, writes_name_text}
+
+-- ---- the steps of a part
+
+pub steps_of_chain : (xs : List Step) → steps_of (chain xs done) ≡ xs
+unfolding steps_of chain
+steps_of_chain [] = refl
+steps_of_chain (x ∷ xs) = ap (λ z. x ∷ z) (steps_of_chain xs)
+
+steps_of_more : (xs : List Step) (rest : Steps) → steps_of (chain xs rest) ≡ xs ++ steps_of rest
+unfolding steps_of chain
+steps_of_more [] rest = refl
+steps_of_more (x ∷ xs) rest = ap (λ z. x ∷ z) (steps_of_more xs rest)
+
+-- the steps of a part, and then those of another
+steps_then : {env : Env} {p : Part} {ts : List lexical.Token} {b : Bool} → Makes env p ts b → (q : Part) → steps_of (p (q nothing) env) ≡ steps_of (p nothing env) ++ steps_of (q nothing env)
+unfolding nothing
+steps_then {env} h q =
+    let alone = ap steps_of (h.is_steps nothing) ∙ steps_of_chain h.steps in
+    ap steps_of (h.is_steps (q nothing)) ∙ steps_of_more h.steps (q nothing env) ∙ ap (λ z. z ++ steps_of (q nothing env)) (sym alone)
+
+-- Where positions are kept, the steps of a part write these names, and record the position of each where it begins.
+unfoldable pub NamedBy : Env → Part → List (BytePos × List ℕ) → Type 0
+NamedBy env p names = (s : State) → s.sheet.keeps_positions ≡ true → Named names s.sheet (run (steps_of (p nothing env)) s).sheet
+
+no_names : (env : Env) (p : Part) → NamedBy env p []
+unfolding NamedBy
+no_names env p s k = named_none s.sheet _ (run_records (steps_of (p nothing env)) s)
+
+names_then : {env : Env} {p : Part} {ts : List lexical.Token} {b : Bool} (q : Part) (xs ys : List (BytePos × List ℕ)) → Makes env p ts b → NamedBy env p xs → NamedBy env q ys → NamedBy env (λ rest. p (q rest)) (xs ++ ys)
+unfolding NamedBy
+names_then {env} {p} q xs ys m h k s keeps =
+    let here = steps_of (p nothing env) in
+    let there = steps_of (q nothing env) in
+    let P : List Step → Type 0 = λ z. Named (xs ++ ys) s.sheet (run z s).sheet in
+    let Q : State → Type 0 = λ z. Named (xs ++ ys) s.sheet z.sheet in
+    subst P (sym (steps_then m q)) (subst Q (sym (run_append here there s))
+    (named_then xs ys s.sheet (run here s).sheet (run there (run here s)).sheet (h s keeps) (k (run here s) (run_sheet (λ z. z.keeps_positions) effect_keeps_positions here s ∙ keeps))))
 
 -- A part writes a token list of a phrase, whatever comes after it, and makes no name anew but those of the phrase.
 pub record Printed (env : Env) (part : Part) (phrase : Phrase) : Type 0 where
   pub tokens : List lexical.Token
   pub generated : Generates phrase tokens
   pub writes : Makes env part tokens (escapes_name phrase)
+  pub named : NamedBy env part (names_in phrase)
 
 -- It does so where the phrase is possible.
 pub record Prints (env : Env) (part : Part) (phrase : Phrase) : Type 0 where
@@ -48,7 +93,7 @@ pub record Prints (env : Env) (part : Part) (phrase : Phrase) : Type 0 where
 
 -- one part after the other
 pub then : {env : Env} {p q : Part} {f g : Phrase} → Prints env p f → Prints env q g → Prints env (λ rest. p (q rest)) (Then f g)
-unfolding Generates is_possible escapes_name
+unfolding Generates is_possible escapes_name names_in
 then {env} {p} {q} {f} {g} h k = record {
   where_possible = λ w.
       let both = and_parts (is_possible f) (is_possible g) w in
@@ -58,6 +103,7 @@ then {env} {p} {q} {f} {g} h k = record {
         tokens = a.tokens ++ b.tokens;
         generated = (a.tokens, b.tokens, a.generated, b.generated, refl);
         writes = writes_then env p q a.tokens b.tokens a.writes b.writes;
+        named = names_then q (names_in f) (names_in g) a.writes a.named b.named;
       };
 }
 
@@ -66,7 +112,7 @@ pub after : {env : Env} {q p : Part} {f : Phrase} → Writes env q [] → Prints
 after {env} {q} {p} {f} k h = record {
   where_possible = λ w.
       let a = h.where_possible w in
-      record { tokens = a.tokens; generated = a.generated; writes = writes_then env q p [] a.tokens k a.writes };
+      record { tokens = a.tokens; generated = a.generated; writes = writes_then env q p [] a.tokens k a.writes; named = names_then p [] (names_in f) k (no_names env q) a.named };
 }
 
 or_false : (b : Bool) → (b || false) ≡ b
@@ -81,12 +127,13 @@ before {env} {p} {q} {f} h k = record {
         tokens = a.tokens;
         generated = a.generated;
         writes = subst (λ z. Makes env (λ rest. p (q rest)) a.tokens z) (or_false (escapes_name f)) (subst (λ z. Makes env (λ rest. p (q rest)) z (escapes_name f || false)) (append-nil a.tokens) (writes_then env p q a.tokens [] a.writes k));
+        named = subst (λ z. NamedBy env (λ rest. p (q rest)) z) (append-nil (names_in f)) (names_then q (names_in f) [] a.writes a.named (no_names env q));
       };
 }
 
 pub prints_nothing : {env : Env} → Prints env (λ rest. rest) Nothing
-unfolding Generates escapes_name
-prints_nothing {env} = record { where_possible = λ w. record { tokens = []; generated = refl; writes = writes_nothing env } }
+unfolding Generates escapes_name names_in
+prints_nothing {env} = record { where_possible = λ w. record { tokens = []; generated = refl; writes = writes_nothing env; named = no_names env (λ rest. rest) } }
 
 -- what is Never has no list
 pub prints_never : {env : Env} {p : Part} → Prints env p Never
@@ -94,8 +141,8 @@ unfolding is_possible
 prints_never = record { where_possible = λ w. absurd (true≢false (sym w)) }
 
 prints_one : (env : Env) (p : Part) (x : lexical.Token) → Writes env p (x ∷ []) → Prints env p (One x)
-unfolding Generates escapes_name
-prints_one env p x h = record { where_possible = λ w. record { tokens = x ∷ []; generated = refl; writes = h } }
+unfolding Generates escapes_name names_in
+prints_one env p x h = record { where_possible = λ w. record { tokens = x ∷ []; generated = refl; writes = h; named = no_names env p } }
 
 -- ---- words and punctuators, which are ASCII
 
@@ -139,9 +186,35 @@ name_spelled : (bytes : List ℕ) → is_well_formed_name bytes ≡ true → Spe
 unfolding is_well_formed_name names.spelled_name
 name_spelled bytes w = let p = and_parts (is_utf8 (turned bytes)) (is_name (chars (turned bytes))) w in spelled_name (turned bytes) p.0 p.1
 
-prints_name_text : (env : Env) (span : Span) (bytes : List ℕ) → env.keeps_invalid ≡ false → Prints env (name_text span bytes) (NameOf span.lo bytes)
-unfolding token_of value_of spelling lexical.name names.spelled_name Generates is_possible escapes_name
-prints_name_text env span bytes e = record { where_possible = λ w. record { tokens = _; generated = refl; writes = writes_name_text env span bytes e (name_spelled bytes w) } }
+-- a semicolon that is held back is written, and then the text of a name
+settled_name : Span → List ℕ → Part
+settled_name span bytes rest = commit_pending_semi (name_text span bytes rest)
+
+symbol_steps : (env : Env) (span : Span) (bytes : List ℕ) → env.keeps_invalid ≡ false → steps_of (settled_name span bytes nothing env) ≡ name_steps (span.lo.0 == 0) span.lo bytes
+unfolding settled_name name_steps commit_pending_semi valid_symbol symbol position step steps_of nothing
+symbol_steps env span bytes e =
+    let x : Step = Token Name (Symbol dummy_span (turned bytes)) in
+    ap (λ z. Plain Commit ∷ steps_of z) (valid_same span bytes nothing env e) ∙ ap (λ z. Plain Commit ∷ Remake bytes ∷ Guard (turned bytes) ∷ z)
+    (elim (span.lo.0 == 0) as (λ b. steps_of ((cond b (step x nothing) (step (Plain (Position span.lo)) (step x nothing))) env) ≡ cond b (x ∷ []) (Plain (Position span.lo) ∷ x ∷ [])) [ true ↦ refl | false ↦ refl ])
+
+names_here : (env : Env) (span : Span) (bytes : List ℕ) → env.keeps_invalid ≡ false → (turned bytes ≡ [] → ⊥) → NamedBy env (settled_name span bytes) ((span.lo, bytes) ∷ [])
+unfolding NamedBy
+names_here env span bytes e some s k =
+    let P : List Step → Type 0 = λ z. Named ((span.lo, bytes) ∷ []) s.sheet (run z s).sheet in
+    subst P (sym (symbol_steps env span bytes e)) (name_named (span.lo.0 == 0) span.lo bytes s refl some k)
+
+prints_settled_name : (env : Env) (span : Span) (bytes : List ℕ) → env.keeps_invalid ≡ false → Prints env (settled_name span bytes) (NameOf span.lo bytes)
+unfolding settled_name token_of value_of spelling lexical.name names.spelled_name Generates is_possible escapes_name names_in
+prints_settled_name env span bytes e = record {
+  where_possible = λ w.
+      let spelled = name_spelled bytes w in
+      record {
+        tokens = _;
+        generated = refl;
+        writes = writes_then env commit_pending_semi (name_text span bytes) [] _ (writes_commit env) (writes_name_text env span bytes e spelled);
+        named = names_here env span bytes e spelled.some;
+      };
+}
 
 prints_question : (env : Env) (optional : Bool) → Prints env (question optional) (cond optional (mark (codes "?")) Nothing)
 unfolding question
@@ -150,19 +223,14 @@ prints_question env false = prints_nothing
 
 -- a name, and `?` after an optional one
 pub prints_ident : (env : Env) (span : Span) (bytes : List ℕ) (optional : Bool) → env.keeps_invalid ≡ false → Prints env (name span bytes optional) (NameOf span.lo bytes > cond optional (mark (codes "?")) Nothing)
-unfolding name
-prints_ident env span bytes optional e = after (writes_leading env span.lo) (after (writes_commit env) (then (prints_name_text env span bytes e) (prints_question env optional)))
+unfolding name settled_name
+prints_ident env span bytes optional e = after (writes_leading env span.lo) (then (prints_settled_name env span bytes e) (prints_question env optional))
 
 pub prints_name : (env : Env) (span : Span) (bytes : List ℕ) → env.keeps_invalid ≡ false → Prints env (name span bytes false) (NameOf span.lo bytes)
-unfolding name question
-prints_name env span bytes e = after (writes_leading env span.lo) (after (writes_commit env) (prints_name_text env span bytes e))
+unfolding name question settled_name
+prints_name env span bytes e = after (writes_leading env span.lo) (prints_settled_name env span bytes e)
 
 -- ---- what an emission adds reads
-
-pub steps_of_chain : (xs : List Step) → steps_of (chain xs done) ≡ xs
-unfolding steps_of chain
-steps_of_chain [] = refl
-steps_of_chain (x ∷ xs) = ap (λ z. x ∷ z) (steps_of_chain xs)
 
 pub new_at_rest : (a : State) → IsNew a → AtRest a
 unfolding is_free allows
@@ -249,3 +317,19 @@ never_out_of_memory p a b r plain t h e =
     let P : Result (Unit {0}) Refusal → Type 0 = λ z. IfErr z (λ x. HasCause (p nothing a.env) x a b) in
     let k : (a.sheet.takes_memory || remakes_name (steps_of (p nothing a.env))) ≡ true = subst P (ap in_short e) (follows_cause (p nothing) a b (in_short r) h) in
     true≢false (sym k ∙ or_from _ _ t plain)
+
+-- ---- what an emission records
+
+-- where positions are kept, each name has its own where it begins
+pub printed_names : (p : Part) (f : Phrase) (a b : State) (r : Result (Unit {0}) Refusal) → Prints a.env p f → is_possible f ≡ true → a.sheet.keeps_positions ≡ true → Follows (p nothing) a b r → OnOk r (RecordsNames (names_in f) a.sheet b.sheet)
+unfolding Follows NamedBy
+printed_names p f a b (Ok u) prints w k h =
+    let P : State → Type 0 = λ z. RecordsNames (names_in f) a.sheet z.sheet in
+    subst P (sym h.1) (named_records (names_in f) a.sheet _ ((prints.where_possible w).named a k))
+printed_names p f a b (Err e) prints w k h = tt
+
+-- what is recorded is true
+pub follows_records : (p : Plan) (a b : State) (r : Result (Unit {0}) Refusal) → Follows p a b r → OnOk r (RecordsTruly a.sheet b.sheet)
+unfolding Follows
+follows_records p a b (Ok u) h = let P : State → Type 0 = λ z. RecordsTruly a.sheet z.sheet in subst P (sym h.1) (run_records (steps_of (p a.env)) a)
+follows_records p a b (Err e) h = tt

@@ -4,6 +4,7 @@ pub mod Last
 pub mod View
 pub mod Written
 pub mod Escapes
+pub mod Named
 pub mod Ready
 pub mod Starts
 pub mod Classes

@@ -298,7 +298,7 @@ impl LowerEmitter {
         self.keep(answer)
     }
 
-    /// Records a position.
+    /// Records a position. A writer that keeps none isn't asked to.
     fn record<W: WriteJs>(&mut self, cfg: &Config, wr: &mut W, pos: BytePos) -> Answer
         ensures items { Emits (step (Plain (Position pos))) (state_of cfg.now (W.sheet wr.old) self.old) (state_of cfg.now (W.sheet wr.new) self.new) result }
         ensures level { OnOk result ((W.sheet wr.new).indentation ≡ (W.sheet wr.old).indentation) }
@@ -307,6 +307,9 @@ impl LowerEmitter {
         let _ = cfg;
         if self.failed {
             return Err(Refusal::Failed);
+        }
+        if !wr.care_about_srcmap() {
+            return Ok(());
         }
         let answer = wr.add_srcmap(pos);
         self.keep(answer)

@@ -14,8 +14,9 @@ use swc_ecma_codegen_spans::Spanned;
 use swc_ecma_codegen_text_writer::JsWriter;
 use swc_ecma_codegen_tree::{AnyNode, Expr, Holds, MemberExpr, Program, Stmt};
 
-/// What links hold. All but [`look`] is made for any of it, which costs a check less than to make it for `AnyNode`.
-trait Printed: Holds<Expr<Self>>
+/// What links hold. All but [`look`] and what looks at depths is made for any of it, which costs a check less than to make it
+/// for `AnyNode`.
+pub trait Printed: Holds<Expr<Self>>
     + Holds<MemberExpr<Self>>
     + Holds<Stmt<Self>>
     + Held
@@ -131,7 +132,7 @@ fn asked<N: Printed>(alloc: Global, tree: Program<N>) -> Answers {
     }
 }
 
-/// Reads a program, and asks it. The one place that names what links hold.
+/// Reads a program, and asks it.
 pub fn look(alloc: Global, json: &[u8]) -> Result<Answers, ReadError> {
     match program_from_slice(alloc, json) {
         Ok(tree) => Ok(asked::<AnyNode>(alloc, tree)),

@@ -9,6 +9,7 @@
 //! `step` says what one is: its JSON and its tokens, with `•` for each operand.
 #![tactic(auto)]
 
+mod depths;
 mod fields;
 mod looks;
 mod nestings;

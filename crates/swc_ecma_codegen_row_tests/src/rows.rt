@@ -1,9 +1,10 @@
 //! What the words of the rows ask.
 
+use crate::depths::have_text;
 use crate::fields::{bytes, fields, json, script};
 use crate::looks::look;
 use crate::nestings::are_printed;
-use crate::runs::{prints, refuses};
+use crate::runs::{answers, prints, refuses};
 use crate::steps::{Step, all_named, is_step, program};
 use crate::trees::{has_texts, is_formed, prints_expr};
 use std::alloc::{AllocError, Global};
@@ -27,9 +28,15 @@ fn answer(alloc: Global, steps: &[Step], line: &str) -> Result<bool, AllocError>
         }
         [word, short, text] => of_text(alloc, word, short, text),
         [word, _, _, _] if is_step(word) => Ok(true),
+        [word, kind, levels, text] if word.as_str() == "deep" => {
+            Ok(have_text(alloc, kind, levels, text))
+        }
         [word, words, pretty, minified] => of_steps(alloc, steps, word, words, [pretty, minified]),
         [word, outer, place, pretty, minified] if word.as_str() == "nestings" => {
             are_printed(alloc, steps, [outer, place], [pretty, minified])
+        }
+        [word, words, short, status, text, lines] if word.as_str() == "run" => {
+            of_run(alloc, words, short, [status, text, lines])
         }
         _ => Ok(false),
     }
@@ -60,6 +67,20 @@ fn of_text(alloc: Global, word: &str, short: &str, text: &str) -> Result<bool, A
             Ok(prints_expr(alloc, &json(alloc, &short)?, text))
         }
         _ => Ok(false),
+    }
+}
+
+/// What a run with some words answers: its status, its text, and the lines on standard error.
+fn of_run(alloc: Global, words: &str, short: &str, answer: [&str; 3]) -> Result<bool, AllocError> {
+    let [status, text, lines] = answer;
+    let json = json(alloc, short)?;
+    let mut given = Vec::new(alloc);
+    for word in words.split_ascii_whitespace() {
+        given.push(String::from_str(alloc, word)?)?;
+    }
+    match status.parse() {
+        Ok(status) => Ok(answers(alloc, &given, json.as_bytes(), status, text, lines)),
+        Err(_) => Ok(false),
     }
 }
 

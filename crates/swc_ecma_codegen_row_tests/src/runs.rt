@@ -3,20 +3,27 @@
 use std::alloc::Global;
 use swc_ecma_codegen_tool::run;
 
-/// Whether a run on this input answers with this status, text and line.
-pub fn answers(alloc: Global, mut input: &[u8], status: u8, text: &str, line: &str) -> bool {
+/// Whether a run with these words on this input answers with this status, text and lines.
+pub fn answers(
+    alloc: Global,
+    words: &[String],
+    mut input: &[u8],
+    status: u8,
+    text: &str,
+    lines: &str,
+) -> bool {
     let mut out = Vec::new(alloc);
     let mut err = Vec::new(alloc);
-    let answer = run(alloc, &[], &mut input, &mut out, &mut err);
-    answer == status && out.as_slice() == text.as_bytes() && err.as_slice() == line.as_bytes()
+    let answer = run(alloc, words, &mut input, &mut out, &mut err);
+    answer == status && out.as_slice() == text.as_bytes() && err.as_slice() == lines.as_bytes()
 }
 
 /// Whether it prints this text.
 pub fn prints(alloc: Global, json: &[u8], text: &str) -> bool {
-    answers(alloc, json, 0, text, "")
+    answers(alloc, &[], json, 0, text, "")
 }
 
 /// Whether it prints nothing but this line.
 pub fn refuses(alloc: Global, json: &[u8], line: &str) -> bool {
-    answers(alloc, json, 1, "", line)
+    answers(alloc, &[], json, 1, "", line)
 }

@@ -484,6 +484,22 @@ settled_by_twice (HoldsOne span) s h =
 settled_twice : (s : Sheet) → settled (settled s) ≡ settled s
 settled_twice s = settled_by_twice s.semicolons s refl
 
+-- and a held one is lost by that
+settled_by_drops : (q : Semicolons) (s : Sheet) → q ≡ s.semicolons → (settled_by q s).semicolons ≡ dropped q
+unfolding settled_by dropped
+settled_by_drops AtOnce s h = sym h
+settled_by_drops HoldsNone s h = sym h
+settled_by_drops (HoldsOne span) s h = written_keeps span (codes ";") (holding HoldsNone s)
+
+settled_drops : (s : Sheet) → (settled s).semicolons ≡ dropped s.semicolons
+settled_drops s = settled_by_drops s.semicolons s refl
+
+dropped_twice : (q : Semicolons) → dropped (dropped q) ≡ dropped q
+unfolding dropped
+dropped_twice AtOnce = refl
+dropped_twice HoldsNone = refl
+dropped_twice (HoldsOne span) = refl
+
 stopped_on : (x : Item) → Settling x → (a b c : Sheet) → b ≡ settled a → Stopped (effect x b) b c → Stopped (effect x a) a c
 stopped_on x m a b c e k =
     let way : Way a b = (let P : Sheet → Type 0 = λ z. Way a z in subst P (sym e) (settled_way a)) in
@@ -491,12 +507,14 @@ stopped_on x m a b c e k =
     let Text : Sheet → Type 0 = λ z. IsFront c.text z.text in
     let Pairs : Sheet → Type 0 = λ z. IsFront c.pairs z.pairs in
     let Out : Sheet → Type 0 = λ z. IsFront z.text c.text in
+    let out : b.semicolons ≡ dropped a.semicolons = ap (λ (z : Sheet). z.semicolons) e ∙ settled_drops a in
+    let lost : c.semicolons ≡ dropped a.semicolons = elim k.held [ inl h ↦ h ∙ out | inr h ↦ h.0 ∙ ap dropped out ∙ dropped_twice a.semicolons ] in
     record {
       grows = front_trans a.text b.text c.text way.text k.grows;
       front = subst Text goal k.front;
       more_pairs = front_trans a.pairs b.pairs c.pairs way.pairs k.more_pairs;
       front_pairs = subst Pairs goal k.front_pairs;
-      held = inr (subst Out e k.grows);
+      held = inr (lost, subst Out e k.grows);
       same = k.same ∙ ap (λ (s : Sheet). record s { text = c.text; whole = c.whole; at_line_start = c.at_line_start; semicolons = c.semicolons; pairs = c.pairs; pending = c.pending; place = c.place; faults = c.faults; refused = true }) way.same;
     }
 

@@ -318,27 +318,27 @@ unfolding before_punct
 punct_at_once span t s h = ap (written span t) (punct_case (is_ending t) s h)
 
 -- what was refused on the way to a call's sheet refuses the call
-pub writes_halted : (x : Item) (e : Refusal) (a b : Sheet) → a.semicolons ≡ AtOnce → a.refused ≡ false → Halted e (effect x a) a b → Writes x a b (Err e)
-unfolding Writes
-writes_halted x e a b o h k =
+pub writes_halted : (x : Item) (e : Refusal) (a b : Sheet) → a.semicolons ≡ AtOnce → b.semicolons ≡ AtOnce → a.refused ≡ false → Halted e (effect x a) a b → Writes x a b (Err e)
+unfolding Writes dropped
+writes_halted x e a b o n h k =
     stopped h (reason_causes x e a b k.reason) (record {
       grows = k.grows;
       front = k.front;
       more_pairs = k.more_pairs;
       front_pairs = k.front_pairs;
-      held = inr (subst (λ (z : Sheet). IsFront z.text b.text) (sym (settled_at_once a o)) k.grows);
+      held = inr (n ∙ sym (ap dropped o), subst (λ (z : Sheet). IsFront z.text b.text) (sym (settled_at_once a o)) k.grows);
       same = k.same;
     })
 
 -- a call is a way to its sheet
-pub writes_reached : (x : Item) (a b : Sheet) (r : Result (Unit {0}) Refusal) → a.semicolons ≡ AtOnce → a.refused ≡ false → Reaches (effect x a) a b r → Writes x a b r
+pub writes_reached : (x : Item) (a b : Sheet) (r : Result (Unit {0}) Refusal) → a.semicolons ≡ AtOnce → b.semicolons ≡ AtOnce → a.refused ≡ false → Reaches (effect x a) a b r → Writes x a b r
 unfolding Reaches Writes
-writes_reached x a b (Ok u) o h k = (h, k)
-writes_reached x a b (Err e) o h k = writes_halted x e a b o h k
+writes_reached x a b (Ok u) o n h k = (h, k)
+writes_reached x a b (Err e) o n h k = writes_halted x e a b o n h k
 
 -- the same by the sheet that the call leads to
-pub writes_way : (x : Item) (goal a b : Sheet) (r : Result (Unit {0}) Refusal) → goal ≡ effect x a → a.semicolons ≡ AtOnce → a.refused ≡ false → Reaches goal a b r → Writes x a b r
-writes_way x goal a b r e o h k = writes_reached x a b r o h (subst (λ (z : Sheet). Reaches z a b r) e k)
+pub writes_way : (x : Item) (goal a b : Sheet) (r : Result (Unit {0}) Refusal) → goal ≡ effect x a → a.semicolons ≡ AtOnce → b.semicolons ≡ AtOnce → a.refused ≡ false → Reaches goal a b r → Writes x a b r
+writes_way x goal a b r e o n h k = writes_reached x a b r o n h (subst (λ (z : Sheet). Reaches z a b r) e k)
 
 pub ended_true : (s : Sheet) → s.at_line_start ≡ true → record s { pending = None } ≡ ended s
 unfolding ended

@@ -1,5 +1,6 @@
 -- The place that a writer counts.
-use Rattle.std.specs.Prelude.{◌≡◌, ℕ, ◌+◌, ◌^◌, ◌<◌, ◌≤◌, min, false}
+use Rattle.std.specs.Prelude.{◌≡◌, ℕ, ◌+◌, ◌^◌, ◌<◌, ◌≤◌, min, Bool, false, ◌&&◌, nat_le, List}
+use Rattle.std.specs.List.{list_all}
 use Rattle.swc_ecma_codegen_common.specs.declared.positions.LineCol.{LineCol}
 use Rattle.swc_ecma_codegen_text_writer.specs.Places.{Place}
 use Rattle.swc_ecma_codegen_text_writer.specs.declared.positions.Reached.{Reached}
@@ -23,3 +24,11 @@ IsAt x r = (x.line < 2 ^ 32) × ((x.line ≡ r.line) × (x.col ≡ r.column))
 -- or stands before it
 abbrev pub IsBefore : LineCol → Reached → Type 0
 IsBefore x r = (x.line < 2 ^ 32) × ((x.line ≤ r.line) × (x.line ≡ r.line → x.col < r.column))
+
+-- a character of ASCII that takes one column and ends no line
+unfoldable pub is_one_column : ℕ → Bool
+is_one_column byte = nat_le 14 byte && nat_le byte 127
+
+-- a text of these
+abbrev pub is_in_line : List ℕ → Bool
+is_in_line text = list_all is_one_column text

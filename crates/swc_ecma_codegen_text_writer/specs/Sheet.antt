@@ -211,13 +211,13 @@ Causes x PositionTooLarge old new = ((x ≡ Deeper) × (old.indentation ≡ 2 ^ 
 Causes x Failed old new = ⊥
 
 -- A call was stopped on its way: a beginning of its text is out, a beginning of its pairs is recorded, a semicolon that was held
--- back still is or is out, and nothing else changed but the count of faults.
+-- back still is, or is out and no longer held, and nothing else changed but the count of faults.
 pub record Stopped (goal old new : Sheet) : Type 0 where
   pub grows : IsFront old.text new.text
   pub front : IsFront new.text goal.text
   pub more_pairs : IsFront old.pairs new.pairs
   pub front_pairs : IsFront new.pairs goal.pairs
-  pub held : (new.semicolons ≡ old.semicolons) ⊎ IsFront (settled old).text new.text
+  pub held : (new.semicolons ≡ old.semicolons) ⊎ ((new.semicolons ≡ dropped old.semicolons) × IsFront (settled old).text new.text)
   pub same : new ≡ record old { text = new.text; whole = new.whole; at_line_start = new.at_line_start; semicolons = new.semicolons; pairs = new.pairs; pending = new.pending; place = new.place; faults = new.faults; refused = true }
 
 -- A call is refused since an earlier one was, and does nothing; or it is stopped, for the cause that its error names.

@@ -1,11 +1,11 @@
 //! Positions in a source text, and where in the printed text they stand.
 
-ghost use Rattle.std.specs.Prelude.{◌≡◌, ◌≤◌, Some, None, vec_len};
+ghost use Rattle.std.specs.Prelude.{◌≡◌, ◌≤◌, ◌<◌, ◌^◌, true, length, Some, None, vec_len};
 ghost use Rattle.std.specs.List.{AllWithin};
 ghost use Rattle.std.proofs.Props.{props};
 ghost use Rattle.swc_ecma_codegen_text_writer.specs.Places.{Place, units_of, after_byte, after_text, next_line};
 ghost use Rattle.swc_ecma_codegen_text_writer.specs.Sheet.{is_same_pair, has_pair};
-ghost use Rattle.swc_ecma_codegen_text_writer.specs.Reach.{Shows, IsFrom, IsAt, IsBefore, further};
+ghost use Rattle.swc_ecma_codegen_text_writer.specs.Reach.{Shows, IsFrom, IsAt, IsBefore, further, is_one_column, is_in_line};
 
 use swc_ecma_codegen_common::{Answer, BytePos, LineCol, Refusal};
 
@@ -27,6 +27,21 @@ fn units(byte: u8) -> u64
     } else {
         2
     }
+}
+
+/// Whether a byte is a character that takes one column and ends no line.
+#[tactic(auto, unfolding(crate::specs::Reach::is_one_column))]
+fn is_one_column(byte: u8) -> bool
+    ensures { result ≡ is_one_column byte }
+{
+    0x0e <= byte && byte <= 0x7f
+}
+
+/// Whether each character of a text is one of these, as all of `typeof` are.
+fn is_in_line(text: &[u8]) -> bool
+    ensures { result ≡ is_in_line text.now }
+{
+    text.iter().all(|byte| is_one_column(*byte))
 }
 
 #[tactic(auto, unfolding(crate::specs::Sheet::is_same_pair))]
@@ -74,9 +89,9 @@ impl Reached {
         }
     }
 
-    /// The place after a byte that ends no line.
+    /// The place after characters that end no line.
     fn after_units(self, units: u64) -> Reached
-        requires { units ≤ 2 }
+        requires { units < 2 ^ 63 }
         ensures shows { (p : Place) → Shows self p → Shows result (further units p) }
         ensures order { IsFrom self result }
     {
@@ -113,6 +128,10 @@ impl Reached {
         ensures shows { (p : Place) → Shows self p → Shows result (after_text text.now p) }
         ensures order { IsFrom self result }
     {
+        // Most texts stay in their line: "typeof" takes six columns.
+        if !text.is_empty() && is_in_line(text.as_bytes()) {
+            return self.after_units(text.len() as u64);
+        }
         let mut reached = self;
         for byte in text.as_bytes() {
             reached = reached.after(*byte);

@@ -1,5 +1,5 @@
 -- Known bytes that stay grow by nothing.
-use Rattle.std.proofs.Common.{◌≡◌, List, ℕ, [], ◌++◌, Option, None, Some, sym, ◌∙◌, append-nil}
+use Rattle.std.proofs.Common.{List, ℕ, [], Option, None, Some, sym, ◌∙◌, append-nil}
 use Rattle.std.specs.Io.KnownBytes.{Keeps, Appends}
 
 pub kept_appends : (a b : Option (List ℕ)) → Keeps a b → Appends a b []

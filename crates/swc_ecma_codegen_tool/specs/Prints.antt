@@ -1,25 +1,49 @@
 -- What a run writes.
-use Rattle.std.specs.Prelude.{◌≡◌, ℕ, List, Option}
+use Rattle.std.specs.Prelude.{◌≡◌, ℕ, Bool, true, false, List, [], Option}
 use Rattle.std.specs.Io.KnownBytes.{Appends}
 use Rattle.swc_ecma_codegen_text_writer.specs.Told.{IsFront}
 use Rattle.swc_ecma_codegen_tree.specs.declared.links.AnyNode.{AnyNode}
 use Rattle.swc_ecma_codegen_tree.specs.declared.programs.Program.{Program}
+use Rattle.swc_ecma_codegen_text_writer.specs.Sheet.{Sheet, HoldsNone}
+use Rattle.swc_ecma_codegen_text_writer.specs.View.{keeping}
+use Rattle.swc_ecma_codegen_base.specs.Run.{Part, printed, start}
 use Rattle.swc_ecma_codegen.specs.Programs.{program}
-use Rattle.swc_ecma_codegen.specs.Texts.{text_of}
+use Rattle.swc_ecma_codegen.specs.Texts.{blank_sheet}
 use Rattle.swc_ecma_codegen.specs.Tree.{any_items}
+use Rattle.swc_ecma_codegen_tool.specs.declared.words.Options.{Options}
+use Rattle.swc_ecma_codegen_tool.specs.Words.{settings_of}
+
+-- a sheet where positions are kept, none yet, if that is asked for
+unfoldable pub with_positions : Bool → Sheet → Sheet
+with_positions true s = keeping [] s
+with_positions false s = s
+
+-- a sheet where semicolons are held back, none yet, if that is asked for: then `{a;}` is written `{a}`
+unfoldable pub with_semicolons : Bool → Sheet → Sheet
+with_semicolons true s = record s { semicolons = HoldsNone }
+with_semicolons false s = s
+
+-- the sheet on which a text is made: a new one, whose lines end with LF. `--positions` keeps positions there, and
+-- `--minify` holds semicolons back.
+abbrev pub sheet_for : Options → Sheet
+sheet_for options = with_semicolons options.minify (with_positions options.positions blank_sheet)
+
+-- the text of a part, as the options ask for it
+unfoldable pub text_with : Options → Part → List ℕ
+text_with options part = (printed part (start (settings_of options) (sheet_for options))).sheet.text
 
 -- a text is that of a program
-abbrev pub IsText : List ℕ → Type 0
-IsText text = (p : Program AnyNode) × (text ≡ text_of (program any_items p))
+abbrev pub IsText : Options → List ℕ → Type 0
+IsText options text = (p : Program AnyNode) × (text ≡ text_with options (program any_items p))
 
 -- the text of one program is added to what a writer tells
-abbrev pub AddsText : Option (List ℕ) → Option (List ℕ) → Type 0
-AddsText old new = (text : List ℕ) × IsText text × Appends old new text
+abbrev pub AddsText : Options → Option (List ℕ) → Option (List ℕ) → Type 0
+AddsText options old new = (text : List ℕ) × IsText options text × Appends old new text
 
 -- a beginning of a text is added to it, which may be nothing
 abbrev pub AddsFront : List ℕ → Option (List ℕ) → Option (List ℕ) → Type 0
 AddsFront text old new = (front : List ℕ) × IsFront front text × Appends old new front
 
 -- a beginning of the text of one program is added to it
-abbrev pub AddsFrontOfText : Option (List ℕ) → Option (List ℕ) → Type 0
-AddsFrontOfText old new = (text : List ℕ) × IsText text × AddsFront text old new
+abbrev pub AddsFrontOfText : Options → Option (List ℕ) → Option (List ℕ) → Type 0
+AddsFrontOfText options old new = (text : List ℕ) × IsText options text × AddsFront text old new

@@ -32,13 +32,12 @@ impl Fault {
         }
     }
 
-    /// The fault of a refused emission.
+    /// The fault of an emission that is refused. Its text is made in memory, so a fault of its writer is want of memory.
     pub fn of_emission(error: &Error) -> Fault
         ensures { result ≢ Fault.Usage }
     {
         match error {
-            Error::Writer(_) => Fault::Writer,
-            Error::OutOfMemory => Fault::Memory,
+            Error::Writer(_) | Error::OutOfMemory => Fault::Memory,
             Error::UnsupportedNode => Fault::UnsupportedNode,
             Error::BadShape => Fault::BadShape,
             Error::NameOutOfTarget => Fault::NameOutOfTarget,

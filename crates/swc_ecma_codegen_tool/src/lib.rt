@@ -1,23 +1,32 @@
 //! The program, as a function over its words and its streams.
 #![tactic(auto)]
 
-ghost use Rattle.std.specs.Prelude.{◌≡◌, ◌≢◌, ◌⊎◌, ◌≤◌, [], length, take, Err, OnOk, OnErr, IfOk, string_bytes};
+ghost use Rattle.std.specs.Prelude.{◌≡◌, ◌≢◌, ◌⊎◌, ◌≤◌, false, true, [], length, take, Err, OnOk, OnErr, IfOk};
 ghost use Rattle.std.specs.Io.KnownBytes.{Appends};
 ghost use Rattle.std.specs.IoError.{error_kind};
-ghost use Rattle.swc_ecma_codegen_tool.specs.Prints.{IsText, AddsText, AddsFront, AddsFrontOfText};
+ghost use Rattle.swc_ecma_codegen_tool.specs.Prints.{AddsText, AddsFront, AddsFrontOfText};
+ghost use Rattle.swc_ecma_codegen_tool.specs.Words.{are_options, options_of};
 
 mod faults;
+mod texts;
+mod words;
 
 use crate::faults::Fault;
+use crate::texts::text_of;
+use crate::words::Options;
 use std::alloc::Global;
 use std::io;
 use std::io::{ErrorKind, Read, Write};
-use swc_ecma_codegen::to_code;
+use swc_ecma_codegen_common::{BytePos, LineCol};
 use swc_ecma_codegen_json::program_from_slice;
 use swc_ecma_codegen_tree::Program;
 
-/// A run of the program: `words` are those after its name, of which there may be none yet. Standard input is one
-/// program as JSON, and its text goes to `out`, whole, after it was made in memory. The answer is the status.
+/// A run of the program: `words` are those after its name. Standard input is one program as JSON, and its text goes to
+/// `out`, whole, after it was made in memory. The answer is the status.
+///
+/// The words are `--minify`, `--omit-last-semi` and `--positions`, in any order; one that is given again counts once.
+/// With `--positions`, after the text, `err` gets a line for each position of the source that was recorded: `4 0 2` says
+/// that what stands at 4 there was written in line 0, column 2.
 ///
 /// On a fault `err` gets one line, and `out` nothing, save what it took before a fault of its own. The status is 2 for
 /// wrong words, else 1: `cannot read` for a failed read and for bytes that aren't UTF-8, `bad tree` for what is no
@@ -30,18 +39,27 @@ pub fn run<R: Read, O: Write, E: Write>(
     out: &mut O,
     err: &mut E,
 ) -> u8
-    // The text of one program goes out.
-    ensures printed { result ≡ 0 → AddsText (O.contents out.old) (O.contents out.new) }
-    ensures usage { words.now ≢ [] → result ≡ 2 }
-    ensures no_usage { words.now ≡ [] → result ≢ 2 }
-    // Wrong words leave the streams alone, and a text that went out whole leaves `err` alone.
-    ensures unread { words.now ≢ [] → (input.new ≡ input.old) × (out.new ≡ out.old) }
-    ensures silent { result ≡ 0 → err.new ≡ err.old }
+    // The text of one program goes out, as the words ask for it.
+    ensures printed { result ≡ 0 → AddsText (options_of words.now) (O.contents out.old) (O.contents out.new) }
+    ensures usage { are_options words.now ≡ false → result ≡ 2 }
+    ensures no_usage { are_options words.now ≡ true → result ≢ 2 }
+    // Wrong words leave `input` and `out` alone; a text that went out whole leaves `err` alone without `--positions`.
+    ensures unread { are_options words.now ≡ false → (input.new ≡ input.old) × (out.new ≡ out.old) }
+    ensures silent { result ≡ 0 → (options_of words.now).positions ≡ false → err.new ≡ err.old }
     // Otherwise `out` is as it was, or took a beginning of such a text and no more.
-    ensures begun { result ≢ 0 → (out.new ≡ out.old) ⊎ AddsFrontOfText (O.contents out.old) (O.contents out.new) }
+    ensures begun { result ≢ 0 → (out.new ≡ out.old) ⊎ AddsFrontOfText (options_of words.now) (O.contents out.old) (O.contents out.new) }
 {
-    match print(alloc, words, input, out) {
-        Ok(()) => 0,
+    let options = match Options::of_words(words) {
+        Ok(options) => options,
+        Err(fault) => return tell(fault, err),
+    };
+    match print(alloc, options, input, out) {
+        Ok(positions) => {
+            if options.positions {
+                tell_positions(&positions, err);
+            }
+            0
+        }
         Err(fault) => tell(fault, err),
     }
 }
@@ -67,33 +85,38 @@ fn tell<E: Write>(fault: Fault, err: &mut E) -> u8
     fault.status()
 }
 
-/// Prints the program that `input` holds.
+/// Tells where the positions of the source stand in the text, counted from 0.
+fn tell_positions<E: Write>(positions: &[(BytePos, LineCol)], err: &mut E) {
+    for (pos, place) in positions {
+        let _ = writeln!(err, "{} {} {}", pos.0, place.line, place.col);
+    }
+}
+
+/// Prints the program that `input` holds, and gives the positions that were recorded: none unless they are asked for.
 fn print<R: Read, O: Write>(
     alloc: Global,
-    words: &[String],
+    options: Options,
     input: &mut R,
     out: &mut O,
-) -> Result<(), Fault>
-    ensures printed { OnOk result (AddsText (O.contents out.old) (O.contents out.new)) }
-    ensures usage { words.now ≢ [] → result ≡ Err Fault.Usage }
-    ensures no_usage { words.now ≡ [] → result ≢ Err Fault.Usage }
-    ensures unread { words.now ≢ [] → (input.new ≡ input.old) × (out.new ≡ out.old) }
-    ensures begun { OnErr result ((out.new ≡ out.old) ⊎ AddsFrontOfText (O.contents out.old) (O.contents out.new)) }
+) -> Result<Vec<(BytePos, LineCol)>, Fault>
+    ensures printed { OnOk result (AddsText options (O.contents out.old) (O.contents out.new)) }
+    ensures no_usage { result ≢ Err Fault.Usage }
+    ensures begun { OnErr result ((out.new ≡ out.old) ⊎ AddsFrontOfText options (O.contents out.old) (O.contents out.new)) }
 {
-    if !words.is_empty() {
-        return Err(Fault::Usage);
-    }
-    let text = program_text(alloc, input)?;
-    send(text.as_str(), out)
+    let tree = read_program(alloc, input)?;
+    let mut positions = Vec::new(alloc);
+    let text = text_of(alloc, options, &tree, &mut positions)?;
+    send(&text, out)?;
+    Ok(positions)
 }
 
 /// Writes a text. After a fault a beginning of it is out.
-fn send<O: Write>(text: &str, out: &mut O) -> Result<(), Fault>
+fn send<O: Write>(text: &[u8], out: &mut O) -> Result<(), Fault>
     ensures sent { OnOk result (Appends (O.contents out.old) (O.contents out.new) text.now) }
     ensures begun { OnErr result (AddsFront text.now (O.contents out.old) (O.contents out.new)) }
     ensures no_usage { result ≢ Err Fault.Usage }
 {
-    let mut rest = text.as_bytes();
+    let mut rest = text;
     for _ in 0..u64::MAX {
         if rest.is_empty() {
             return Ok(());
@@ -116,19 +139,6 @@ fn write_some<O: Write>(bytes: &[u8], out: &mut O) -> Result<usize, Fault>
         Ok(taken) => Ok(taken),
         Err(error) if error.kind() == ErrorKind::Interrupted => Ok(0),
         Err(_) => Err(Fault::Writer),
-    }
-}
-
-/// The text of the program that `input` holds.
-fn program_text<R: Read>(alloc: Global, input: &mut R) -> Result<String, Fault>
-    ensures text { IfOk result (λ text. IsText (string_bytes text)) }
-    ensures no_usage { result ≢ Err Fault.Usage }
-{
-    let program = read_program(alloc, input)?;
-    let text = to_code(alloc, &program);
-    match text {
-        Ok(text) => Ok(text),
-        Err(error) => Err(Fault::of_emission(&error)),
     }
 }
 

@@ -1,8 +1,9 @@
-use Rattle.std.proofs.Common.{refl}
-use Rattle.swc_ecma_codegen_text_writer.specs.Sheet.{Position}
-use Rattle.swc_ecma_codegen_base.specs.Run.{after_plain}
+use Rattle.std.proofs.Common.{◌≡◌, false, ◌&&◌, cond, Some, rules, refl, sym, ap, ◌∙◌}
+use Rattle.swc_ecma_codegen_common.specs.declared.positions.BytePos.{BytePos}
+use Rattle.swc_ecma_codegen_text_writer.specs.Sheet.{Sheet, Position, effect, pointed, recorded, with_pair}
+use Rattle.swc_ecma_codegen_base.specs.Run.{State, Plain, put, after_plain}
 use Rattle.swc_ecma_codegen_base.proofs.Calls.{called_kept, level, is_level}
-use Rattle.swc_ecma_codegen_base.proofs.Emitting.{emits_failed}
+use Rattle.swc_ecma_codegen_base.proofs.Emitting.{emits_failed, emits_step}
 use Rattle.swc_ecma_codegen_base.proofs.LowerEmitter.record.Goals as goal
 
 pub returns-then-self-clause-items : goal.returns-then-self-clause-items
@@ -15,3 +16,17 @@ returns-clause-items g c = called_kept (Position c.args.pos) _ c.args.self.now c
 pub returns-clause-level : goal.returns-clause-level
 unfolding is_level
 returns-clause-level g c = level _ _ _ _ _ c.add_srcmap-answer.ensures c.keep.ensures.same refl
+
+-- without positions its call would change nothing
+unrecorded : (pos : BytePos) (s : Sheet) → s.keeps_positions ≡ false → s ≡ pointed pos s
+unfolding pointed recorded
+unrecorded pos s h = sym (ap (λ b. cond (b && s.at_line_start) (record s { pending = Some pos }) (cond b (record s { pairs = with_pair pos s.place s.pairs }) s)) h)
+
+same_state : (pos : BytePos) (a : State) → a.sheet.keeps_positions ≡ false → a ≡ put (Plain (Position pos)) a
+unfolding put effect after_plain
+same_state pos a h = ap (λ z. record a { sheet = z }) (unrecorded pos a.sheet h)
+
+pub returns-then-not-care_about_srcmap-clause-items : goal.returns-then-not-care_about_srcmap-clause-items
+returns-then-not-care_about_srcmap-clause-items g c =
+    let none : c.care_about_srcmap.result ≡ false = search rules in
+    emits_step (Plain (Position c.args.pos)) _ _ c.if-self.false (same_state c.args.pos _ (sym c.care_about_srcmap.ensures ∙ none))

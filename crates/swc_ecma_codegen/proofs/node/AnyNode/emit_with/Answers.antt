@@ -1,4 +1,4 @@
-use Rattle.swc_ecma_codegen.proofs.TreeReads.{root_reads}
+use Rattle.swc_ecma_codegen.proofs.TreeReads.{root_reads, root_names}
 use Rattle.swc_ecma_codegen.proofs.TreeMade.{root_made}
 use Rattle.swc_ecma_codegen.proofs.node.AnyNode.emit_with.Goals as goal
 
@@ -7,3 +7,6 @@ returns-clause-reads g c = λ root same well fresh. root_reads root _ _ _ _ same
 
 pub returns-clause-made : goal.returns-clause-made
 returns-clause-made g c = λ root same plain ready no_fault. root_made root _ _ _ _ same plain ready no_fault c.emit.ensures.items
+
+pub returns-clause-names : goal.returns-clause-names
+returns-clause-names g c = λ root same well kept left_out. root_names root _ _ _ _ same well kept left_out c.emit.ensures.items

@@ -21,7 +21,7 @@ pub returns-in_err-send : goal.returns-in_err-send
 unfolding sheet_of Reaches
 returns-in_err-send g c x e =
     let p = err_from_is_err_and c.from_residual.result c.from_residual.ensures.1 in
-    rw (p.1, p.2) (writes_way x _ _ _ (Err _) (sym (e refl)) refl c.if-self.false (line_halted _ _ _ c.if-self-2.false c.in_err-send.ensures))
+    rw (p.1, p.2) (writes_way x _ _ _ (Err _) (sym (e refl)) refl refl c.if-self.false (line_halted _ _ _ c.if-self-2.false c.in_err-send.ensures))
 
 pub returns : goal.returns
 unfolding sheet_of Reaches

@@ -18,4 +18,4 @@ unfolding sheet_of
 put_literal-requires-clause-fresh g c = c.if-self.false
 
 pub returns : goal.returns
-returns g c x e = writes_way x _ _ _ _ (sym (e (unfold sheet_of in refl))) (unfold sheet_of in refl) (unfold sheet_of in c.if-self.false) c.put_literal.ensures
+returns g c x e = writes_way x _ _ _ _ (sym (e (unfold sheet_of in refl))) (unfold sheet_of in refl) (unfold sheet_of in refl) (unfold sheet_of in c.if-self.false) c.put_literal.ensures

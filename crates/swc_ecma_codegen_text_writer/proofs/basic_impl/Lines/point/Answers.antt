@@ -28,4 +28,4 @@ returns g c x e =
       | else-is_kept-via-then-is_kept+else-self-2 w ↦ second_false _ _ w.if-self-2.false
       | else-is_kept-via-else-is_kept w ↦ first_false _ _ (sym c.is_kept.ensures ∙ w.if-is_kept.false)
     ] in
-    writes_way x _ _ _ _ (sym (pointed_in_line c.args.pos s in_line) ∙ sym (e refl)) refl c.if-self.false c.record.ensures
+    writes_way x _ _ _ _ (sym (pointed_in_line c.args.pos s in_line) ∙ sym (e refl)) refl refl c.if-self.false c.record.ensures

@@ -1,0 +1,22 @@
+use Rattle.std.proofs.Common.{◌≡◌, ◌⊎◌, Bool, true, false, Result, Ok, Err, refl, subst}
+use Rattle.swc_ecma_codegen_tool.specs.Prints.{AddsText, AddsFrontOfText}
+use Rattle.swc_ecma_codegen_tool.specs.Words.{are_options, options_of}
+use Rattle.swc_ecma_codegen_tool.specs.declared.words.Options.{Options}
+use Rattle.swc_ecma_codegen_tool.proofs.run.Goals as goal
+
+-- what was made of words that are options is what they ask for
+is_asked : {F : Type 0} {f : F} (all : Bool) (made asked : Options) → (all ≡ true → ◌≡◌ {A = Result Options F} (Ok made) (Ok asked)) → (all ≡ false → ◌≡◌ {A = Result Options F} (Ok made) (Err f)) → made ≡ asked
+is_asked true made asked taken wrong = let same = taken refl in cc
+is_asked false made asked taken wrong = let same = wrong refl in absurd (cc)
+
+pub returns-after-options-clause-printed : goal.returns-after-options-clause-printed
+returns-after-options-clause-printed g c = λ _.
+    let same : c.in-Ok.options ≡ options_of c.args.words.now = is_asked (are_options c.args.words.now) _ _ c.in-Ok.ensures.taken c.in-Ok.ensures.wrong in
+    let Printed : Options → Type 0 = λ o. AddsText o (g.O.Write.contents c.args.out.now) (g.O.Write.contents c.print.new.out) in
+    subst Printed same c.in-Ok-print.ensures.printed
+
+pub returns-in-Err-print-clause-begun : goal.returns-in-Err-print-clause-begun
+returns-in-Err-print-clause-begun g c = λ _.
+    let same : c.in-Ok.options ≡ options_of c.args.words.now = is_asked (are_options c.args.words.now) _ _ c.in-Ok.ensures.taken c.in-Ok.ensures.wrong in
+    let Begun : Options → Type 0 = λ o. (c.print.new.out ≡ c.args.out.now) ⊎ AddsFrontOfText o (g.O.Write.contents c.args.out.now) (g.O.Write.contents c.print.new.out) in
+    subst Begun same c.in-Err-print.ensures.begun

@@ -1,0 +1,82 @@
+//! The text of a program, in memory.
+
+ghost use Rattle.std.specs.Prelude.{◌≡◌, ◌≢◌, false, [], Err, IfOk};
+ghost use Rattle.swc_ecma_codegen_text_writer.specs.View.{sheet_of};
+ghost use Rattle.swc_ecma_codegen_base.specs.Run.{printed, start};
+ghost use Rattle.swc_ecma_codegen.specs.Programs.{program};
+ghost use Rattle.swc_ecma_codegen.specs.Texts.{blank_sheet};
+ghost use Rattle.swc_ecma_codegen.specs.Tree.{any_items};
+ghost use Rattle.swc_ecma_codegen_tool.specs.Prints.{text_with, with_positions};
+
+use crate::faults::Fault;
+use crate::words::Options;
+use std::alloc::Global;
+use swc_ecma_codegen::ast::comments::CommentMaps;
+use swc_ecma_codegen::ast::mapper::NoSource;
+use swc_ecma_codegen::{Config, Emitter};
+use swc_ecma_codegen_common::{BytePos, LineCol};
+use swc_ecma_codegen_text_writer::{JsWriter, WriteJs, omit_trailing_semi};
+use swc_ecma_codegen_tree::Program;
+
+/// The text of a program as the options ask for it: lines end with LF, and four blanks are a level.
+///
+/// Of the two statements `a` and `b` it is `a;` and `b;`, each in a line of its own. With `minify` it is `a;b;`, and
+/// `a;b` with `omit_last_semi` too. With `positions` the list gets the positions of the source: 4 with line 1 and
+/// column 0, where `b` stands at 4 there.
+#[tactic(auto, unfolding(crate::specs::Prints::text_with, crate::specs::Prints::with_semicolons))]
+pub(crate) fn text_of(
+    alloc: Global,
+    options: Options,
+    tree: &Program,
+    positions: &mut Vec<(BytePos, LineCol)>,
+) -> Result<Vec<u8>, Fault>
+    requires { positions.old.items ≡ [] }
+    ensures text { IfOk result (λ text. text.items ≡ text_with options (program any_items tree.now)) }
+    ensures no_usage { result ≢ Err Fault.Usage }
+{
+    let config = options.settings();
+    let writer = new_writer(alloc, options, positions);
+    if options.minify {
+        let writer = printed_on(alloc, config, tree, omit_trailing_semi(writer))?;
+        Ok(writer.into_inner().into_inner())
+    } else {
+        let writer = printed_on(alloc, config, tree, writer)?;
+        Ok(writer.into_inner())
+    }
+}
+
+/// A writer that has written nothing. It records positions in the list, none yet, if the options ask for them.
+#[tactic(auto, unfolding(crate::specs::Prints::with_positions))]
+fn new_writer<'a>(
+    alloc: Global,
+    options: Options,
+    positions: &'a mut Vec<(BytePos, LineCol)>,
+) -> JsWriter<'a, Vec<u8>>
+    requires { positions.old.items ≡ [] }
+    ensures { sheet_of result ≡ with_positions options.positions blank_sheet }
+{
+    let kept = if options.positions {
+        Some(positions)
+    } else {
+        None
+    };
+    JsWriter::new(alloc, &NoSource, "\n", Vec::new(alloc), kept)
+}
+
+/// Prints a program to a writer, whose faults are want of memory, and gives the writer back.
+fn printed_on<W: WriteJs + Drop>(
+    alloc: Global,
+    config: Config,
+    tree: &Program,
+    wr: W,
+) -> Result<W, Fault>
+    requires { config.ascii_only ≡ false }
+    ensures sheet { IfOk result (λ w. W.sheet w ≡ (printed (program any_items tree.now) (start config (W.sheet wr))).sheet) }
+    ensures no_usage { result ≢ Err Fault.Usage }
+{
+    let mut emitter = Emitter::new(alloc, config, &NoSource, None::<CommentMaps>, wr);
+    match emitter.emit_program(tree) {
+        Ok(()) => Ok(emitter.wr),
+        Err(error) => Err(Fault::of_emission(&error)),
+    }
+}
