@@ -36,7 +36,8 @@ front_of b s = cond b (repeat s.indentation s.indent_text) []
 abbrev pub front : Sheet → List ℕ
 front s = front_of s.at_line_start s
 
-begun_sheet : Sheet → Sheet
+-- the sheet at a line's start, with the indentation out
+unfoldable pub begun_sheet : Sheet → Sheet
 begun_sheet s = record (indented s.indentation s) { at_line_start = false }
 
 started_text : (s : Sheet) → (started s).text ≡ s.text ++ front s

@@ -19,7 +19,7 @@ use Rattle.swc_ecma_codegen_base.specs.Run as run
 use Rattle.swc_ecma_codegen_base.specs.Run.{State, Step, Guard, Token, Plain, Remake, put, run}
 use Rattle.swc_ecma_codegen_base.specs.Written.{holds_one}
 use Rattle.swc_ecma_codegen_base.proofs.Fronts.{run_sheet}
-use Rattle.swc_ecma_codegen_base.proofs.Held.{written_semicolons, pointed_keeps, settled_none, unheld_settled}
+use Rattle.swc_ecma_codegen_base.proofs.Held.{begun_sheet, written_semicolons, pointed_keeps, settled_none, unheld_settled}
 
 -- ---- what is recorded is true
 
@@ -89,19 +89,15 @@ unfolding pointed
 pointed_later pos s k e =
     ap (λ b. cond (b && s.at_line_start) (record s { pending = Some pos }) (recorded pos s)) k ∙ ap (λ b. cond b (record s { pending = Some pos }) (recorded pos s)) e
 
--- the sheet at a line's start, with the indentation out
-begun : Sheet → Sheet
-begun s = record (indented s.indentation s) { at_line_start = false }
-
-started_first : (s : Sheet) → s.at_line_start ≡ true → started s ≡ pending_recorded s.pending (begun s)
-unfolding started begun
+started_first : (s : Sheet) → s.at_line_start ≡ true → started s ≡ pending_recorded s.pending (begun_sheet s)
+unfolding started begun_sheet
 started_first s e = ap (λ b. cond b (pending_recorded s.pending (record (indented s.indentation s) { at_line_start = false })) s) e
 
 started_later : (s : Sheet) → s.at_line_start ≡ false → started s ≡ s
 unfolding started
 started_later s e = ap (λ b. cond b (pending_recorded s.pending (record (indented s.indentation s) { at_line_start = false })) s) e
 
-noted_first : (pos : BytePos) (s : Sheet) → s.keeps_positions ≡ true → s.at_line_start ≡ true → started (pointed pos s) ≡ recorded pos (record (begun (record s { pending = Some pos })) { pending = None })
+noted_first : (pos : BytePos) (s : Sheet) → s.keeps_positions ≡ true → s.at_line_start ≡ true → started (pointed pos s) ≡ recorded pos (record (begun_sheet (record s { pending = Some pos })) { pending = None })
 unfolding pending_recorded
 noted_first pos s k e = ap started (pointed_first pos s k e) ∙ started_first (record s { pending = Some pos }) e
 
@@ -109,8 +105,8 @@ noted_later : (pos : BytePos) (s : Sheet) → s.keeps_positions ≡ true → s.a
 noted_later pos s k e =
     started_later (pointed pos s) (pointed_keeps (λ z. z.at_line_start) (λ z x. refl) (λ z x. refl) pos s ∙ e) ∙ pointed_later pos s k e
 
-begun_keeps : (pos : BytePos) (s : Sheet) → (record (begun (record s { pending = Some pos })) { pending = None }).keeps_positions ≡ s.keeps_positions
-unfolding begun indented appended
+begun_keeps : (pos : BytePos) (s : Sheet) → (record (begun_sheet (record s { pending = Some pos })) { pending = None }).keeps_positions ≡ s.keeps_positions
+unfolding begun_sheet indented appended
 begun_keeps pos s = refl
 
 -- what is written next has it where it begins, behind the indentation
@@ -118,7 +114,7 @@ noted_has : (pos : BytePos) (s : Sheet) → s.keeps_positions ≡ true → IsRec
 noted_has pos s k =
     let P : Sheet → Type 0 = λ z. IsRecorded pos z.place z.pairs in
     elim (cases_Bool s.at_line_start) [
-      | inl e ↦ subst P (sym (noted_first pos s k e)) (recorded_has pos (record (begun (record s { pending = Some pos })) { pending = None }) (begun_keeps pos s ∙ k))
+      | inl e ↦ subst P (sym (noted_first pos s k e)) (recorded_has pos (record (begun_sheet (record s { pending = Some pos })) { pending = None }) (begun_keeps pos s ∙ k))
       | inr e ↦ subst P (sym (noted_later pos s k e)) (recorded_has pos s k)
     ]
 
