@@ -25,3 +25,5 @@ pub mod TemplateParts
 pub mod TemplatePieces
 pub mod TemplateReads
 pub mod Integers
+pub mod BeginningLaws
+pub mod StringTokens

@@ -6,3 +6,4 @@ pub mod TemplateTexts
 pub mod ValidNames
 pub mod Punctuators
 pub mod Integers
+pub mod Beginnings

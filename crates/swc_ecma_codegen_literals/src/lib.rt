@@ -4,6 +4,7 @@
 mod classes;
 mod escapes;
 mod idents;
+pub mod laws;
 mod names;
 mod numbers;
 mod punctuators;
