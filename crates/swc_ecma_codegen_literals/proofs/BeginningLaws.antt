@@ -1,13 +1,14 @@
 -- How the spellings of names, strings and numbers begin.
-use Rattle.std.proofs.Common.{Bool, List, [], false, inl, inr, not, refl, sym, true, ℕ, nat_lt, ◌&&◌, ◌++◌, ◌==◌, ◌||◌, ◌∙◌, ◌∷◌, ◌≡◌}
+use Rattle.std.proofs.Common.{Bool, List, [], ap, codes, false, inl, inr, not, refl, subst, sym, true, ℕ, nat_lt, ◌&&◌, ◌++◌, ◌==◌, ◌||◌, ◌∙◌, ◌∷◌, ◌≡◌}
 use Rattle.std.specs.List.{list_any}
 use Rattle.std.specs.Str.{IsAscii, chars}
-use Rattle.std.proofs.lemmas.Bool.{and_parts, cases_Bool, cond-false, false≢true, not-true, or_left, or_right}
+use Rattle.std.proofs.lemmas.Bool.{and_parts, cases_Bool, cond-false, eqb-true, false≢true, not-true, or_left, or_right}
 use Rattle.swc_ecma_codegen_common.specs.declared.versions.EsVersion.{EsVersion}
-use Rattle.swc_ecma_codegen_ast.specs.Chars.{is_quote, is_start}
+use Rattle.swc_ecma_codegen_ast.specs.Chars.{begins_digit, is_digit, is_quote, is_start}
 use Rattle.swc_ecma_codegen_ast.specs.Names.{fits, is_name, name_rest}
 use Rattle.swc_ecma_codegen_ast.specs.Numbers.{is_big_integer, is_number, is_numeric}
 use Rattle.swc_ecma_codegen_ast.specs.Strings.{is_string}
+use Rattle.swc_ecma_codegen_ast.specs.Texts.{begins}
 use Rattle.swc_ecma_codegen_ast.specs.declared.names.Place.TheVariants.{Between, Escaped}
 use Rattle.swc_ecma_codegen_ast.proofs.NumberShapes.{big_numeric, number_head, number_numeric, some_number}
 use Rattle.swc_ecma_codegen_ast.proofs.StringShapes.{some_string, string_head}
@@ -34,6 +35,15 @@ number_begins text h = numeric_begins text (number_numeric text h)
 
 pub big_integer_begins : (text : List ℕ) → is_big_integer text ≡ true → begins_numeric text ≡ true
 big_integer_begins text h = numeric_begins text (big_numeric text h)
+
+-- which is no sign
+pub numeric_unsigned : (text : List ℕ) → begins_numeric text ≡ true → begins (codes "-") text ≡ false
+unfolding begins_numeric begins is_digit
+numeric_unsigned [] h = refl
+numeric_unsigned (c ∷ cs) h = elim (cases_Bool (45 == c)) [
+  | inl y ↦ absurd (false≢true (subst (λ x. (is_digit x || ((x == 46) && begins_digit cs)) ≡ true) (sym (eqb-true 45 c y)) h))
+  | inr n ↦ ap (λ b. b && true) n
+]
 
 -- a name
 pub name_begins : (text : List ℕ) → is_name text ≡ true → begins_name text ≡ true

@@ -27,3 +27,4 @@ pub mod TemplateReads
 pub mod Integers
 pub mod BeginningLaws
 pub mod StringTokens
+pub mod NumberTokens

@@ -3,6 +3,7 @@
 
 ghost use Rattle.std.specs.Prelude.{◌≡◌, ℕ, Bool, List, true, false, Some};
 ghost use Rattle.std.specs.Str.{chars, IsAscii};
+ghost use Rattle.swc_ecma_codegen_common.specs.declared.decimals.Decimal.{Decimal};
 ghost use Rattle.swc_ecma_codegen_common.specs.declared.versions.EsVersion.{EsVersion};
 ghost use Rattle.swc_ecma_codegen_ast.specs.Names.{is_name};
 ghost use Rattle.swc_ecma_codegen_ast.specs.Numbers.{is_number, is_big_integer};
@@ -10,6 +11,7 @@ ghost use Rattle.swc_ecma_codegen_ast.specs.Strings.{is_string};
 ghost use Rattle.swc_ecma_codegen_ast.specs.StringValues.{string_value};
 ghost use Rattle.swc_ecma_codegen_literals.specs.AsciiNames.{ascii_name, is_quoted_key};
 ghost use Rattle.swc_ecma_codegen_literals.specs.Beginnings.{begins_name, begins_numeric, begins_quoted};
+ghost use Rattle.swc_ecma_codegen_literals.specs.NumberTexts.{plain_text, minified_text, plain_part, minified_part, IsSignedSize};
 
 /// A string literal without octal escapes, as `quoted_utf16` gives it, is one too where these are allowed, and means the
 /// same.
@@ -35,4 +37,11 @@ pub fn spellings_begin()
 #[tactic(auto, using(crate::proofs::BeginningLaws::ascii_name_stays))]
 pub fn ascii_names_stay()
     ensures { (key : Bool) (v : EsVersion) (text : List ℕ) → IsAscii text → ascii_name key v (chars text) ≡ text }
+{}
+
+/// The text of a number is `-` where it is below zero, and then one numeric token of its size: `-5` is `-` and `5`.
+#[tactic(auto, using(crate::proofs::NumberTokens::plain_signed, crate::proofs::NumberTokens::minified_signed))]
+pub fn numbers_are_signed_sizes()
+    ensures plain { (number : Decimal) → IsSignedSize number (plain_text number) (plain_part number) }
+    ensures minified { (number : Decimal) → IsSignedSize number (minified_text number) (minified_part number) }
 {}
