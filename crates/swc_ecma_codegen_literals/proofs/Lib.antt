@@ -28,3 +28,6 @@ pub mod Integers
 pub mod BeginningLaws
 pub mod StringTokens
 pub mod NumberTokens
+pub mod SeparatedNumbers
+pub mod SeparatedTexts
+pub mod SeparatedValues

@@ -7,3 +7,4 @@ pub mod ValidNames
 pub mod Punctuators
 pub mod Integers
 pub mod Beginnings
+pub mod Separators

@@ -2,7 +2,7 @@
 //! begin.
 
 ghost use Rattle.std.specs.Prelude.{◌≡◌, ℕ, Bool, List, true, false, Some};
-ghost use Rattle.std.specs.Str.{chars, IsAscii};
+ghost use Rattle.std.specs.Str.{chars, IsAscii, IsUtf8};
 ghost use Rattle.swc_ecma_codegen_common.specs.declared.decimals.Decimal.{Decimal};
 ghost use Rattle.swc_ecma_codegen_common.specs.declared.versions.EsVersion.{EsVersion};
 ghost use Rattle.swc_ecma_codegen_ast.specs.Names.{is_name};
@@ -12,6 +12,7 @@ ghost use Rattle.swc_ecma_codegen_ast.specs.StringValues.{string_value};
 ghost use Rattle.swc_ecma_codegen_literals.specs.AsciiNames.{ascii_name, is_quoted_key};
 ghost use Rattle.swc_ecma_codegen_literals.specs.Beginnings.{begins_name, begins_numeric, begins_quoted};
 ghost use Rattle.swc_ecma_codegen_literals.specs.NumberTexts.{plain_text, minified_text, plain_part, minified_part, IsSignedSize};
+ghost use Rattle.swc_ecma_codegen_literals.specs.Separators.{without_underscores, IsWorthAsMuch};
 
 /// A string literal without octal escapes, as `quoted_utf16` gives it, is one too where these are allowed, and means the
 /// same.
@@ -44,4 +45,13 @@ pub fn ascii_names_stay()
 pub fn numbers_are_signed_sizes()
     ensures plain { (number : Decimal) → IsSignedSize number (plain_text number) (plain_part number) }
     ensures minified { (number : Decimal) → IsSignedSize number (minified_text number) (minified_part number) }
+{}
+
+/// A number without `_` is one, of the same value, and so is a big integer, of the same radix and digits. That the bytes
+/// of a text are without `_` or its characters is one and the same.
+#[tactic(auto, using(crate::proofs::SeparatedTexts::worth_as_much, crate::proofs::SeparatedTexts::chars_without, crate::proofs::SeparatedTexts::ascii_without))]
+pub fn separators_stand_for_nothing()
+    ensures worth { (text : List ℕ) → IsWorthAsMuch text (without_underscores text) }
+    ensures characters { (bytes : List ℕ) → IsUtf8 bytes → chars (without_underscores bytes) ≡ without_underscores (chars bytes) }
+    ensures ascii { (bytes : List ℕ) → IsAscii bytes → IsAscii (without_underscores bytes) }
 {}

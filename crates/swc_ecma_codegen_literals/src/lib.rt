@@ -9,6 +9,7 @@ mod names;
 mod numbers;
 mod punctuators;
 mod scripts;
+mod separators;
 mod strings;
 mod templates;
 
@@ -18,5 +19,6 @@ pub use crate::names::{holds_backslash, valid_name};
 pub use crate::numbers::{minified_number, plain_number};
 pub use crate::punctuators::Punctuator;
 pub use crate::scripts::quoted_for_inline_script;
+pub use crate::separators::without_separators;
 pub use crate::strings::quoted_utf16;
 pub use crate::templates::template_from_raw;
