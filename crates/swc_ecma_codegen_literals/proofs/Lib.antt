@@ -31,3 +31,4 @@ pub mod NumberTokens
 pub mod SeparatedNumbers
 pub mod SeparatedTexts
 pub mod SeparatedValues
+pub mod BigTokens

@@ -8,3 +8,4 @@ pub mod Punctuators
 pub mod Integers
 pub mod Beginnings
 pub mod Separators
+pub mod BigIntegers

@@ -3,14 +3,17 @@
 
 ghost use Rattle.std.specs.Prelude.{◌≡◌, ℕ, Bool, List, true, false, Some};
 ghost use Rattle.std.specs.Str.{chars, IsAscii, IsUtf8};
+ghost use Rattle.std.specs.String.{string_bytes};
 ghost use Rattle.swc_ecma_codegen_common.specs.declared.decimals.Decimal.{Decimal};
 ghost use Rattle.swc_ecma_codegen_common.specs.declared.versions.EsVersion.{EsVersion};
+ghost use Rattle.swc_ecma_codegen_tree.specs.declared.lits.BigInt.{BigInt};
 ghost use Rattle.swc_ecma_codegen_ast.specs.Names.{is_name};
 ghost use Rattle.swc_ecma_codegen_ast.specs.Numbers.{is_number, is_big_integer};
 ghost use Rattle.swc_ecma_codegen_ast.specs.Strings.{is_string};
 ghost use Rattle.swc_ecma_codegen_ast.specs.StringValues.{string_value};
 ghost use Rattle.swc_ecma_codegen_literals.specs.AsciiNames.{ascii_name, is_quoted_key};
 ghost use Rattle.swc_ecma_codegen_literals.specs.Beginnings.{begins_name, begins_numeric, begins_quoted};
+ghost use Rattle.swc_ecma_codegen_literals.specs.BigIntegers.{are_digits, big_text, big_part, IsSignedInteger};
 ghost use Rattle.swc_ecma_codegen_literals.specs.NumberTexts.{plain_text, minified_text, plain_part, minified_part, IsSignedSize};
 ghost use Rattle.swc_ecma_codegen_literals.specs.Separators.{without_underscores, IsWorthAsMuch};
 
@@ -54,4 +57,10 @@ pub fn separators_stand_for_nothing()
     ensures worth { (text : List ℕ) → IsWorthAsMuch text (without_underscores text) }
     ensures characters { (bytes : List ℕ) → IsUtf8 bytes → chars (without_underscores bytes) ≡ without_underscores (chars bytes) }
     ensures ascii { (bytes : List ℕ) → IsAscii bytes → IsAscii (without_underscores bytes) }
+{}
+
+/// The text of a big integer is `-` where it is below zero, and then, with its `n`, one token of its radix and digits.
+#[tactic(auto, using(crate::proofs::BigTokens::big_signed))]
+pub fn big_integers_are_signed_sizes()
+    ensures { (n : BigInt) → are_digits n.radix (chars (string_bytes n.digits)) ≡ true → IsSignedInteger n (big_text n) (big_part n) }
 {}

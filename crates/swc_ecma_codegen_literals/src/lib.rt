@@ -1,6 +1,7 @@
 //! The spellings of names, strings, templates and numbers.
 #![tactic(auto)]
 
+mod big_integers;
 mod classes;
 mod escapes;
 mod idents;
@@ -13,6 +14,7 @@ mod separators;
 mod strings;
 mod templates;
 
+pub use crate::big_integers::big_integer_text;
 pub use crate::classes::{TokenClass, number_class};
 pub use crate::idents::ascii_only_ident;
 pub use crate::names::{holds_backslash, valid_name};
