@@ -2,7 +2,9 @@
 
 use crate::fields::{code, fields, is_yes, target};
 use crate::reading::tokens;
-use crate::spellings::{is_decimal, is_number, is_out_of_target, is_valid_name};
+use crate::spellings::{
+    is_big_integer, is_decimal, is_number, is_out_of_target, is_valid_name, is_without_separators,
+};
 use crate::sweeps::{are_spelled, spells_always, spells_by_age, spells_wide};
 use crate::templates::{gives, gives_always, gives_each};
 use crate::values::{is_one_character, is_plain, is_string, is_template, is_worth, name};
@@ -51,6 +53,7 @@ fn of_two(alloc: Global, word: &str, text: &str, want: &str) -> Result<bool, Err
         "regex" => return Ok(is_regex(&characters(alloc, text)?) == is_yes(want)),
         "hashbang" => return Ok(is_hashbang(&characters(alloc, text)?) == is_yes(want)),
         "valid_name" => return is_valid_name(alloc, text, want),
+        "without_separators" => return is_without_separators(alloc, text, want),
         "surrogate" => return spells_always(alloc, text, want),
         "raw_text" => return gives_always(alloc, text, want),
         _ => return Ok(false),
@@ -94,6 +97,7 @@ fn of_four(
         }
         "minified" => is_number(alloc, [first, second, third], true, want),
         "plain_number" => is_number(alloc, [first, second, third], false, want),
+        "big_integer" => is_big_integer(alloc, [first, second, third], want),
         "wide" => spells_wide(alloc, first, second, [third, want]),
         "raw_range" => Ok(
             given(alloc, [first, second], [third, want], false)?

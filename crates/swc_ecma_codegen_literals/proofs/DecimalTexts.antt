@@ -30,7 +30,7 @@ signed_spells number size s = record {
   value = s.same;
 }
 
-sign_ascii : (negative : Bool) → IsAscii (sign_text negative)
+pub sign_ascii : (negative : Bool) → IsAscii (sign_text negative)
 unfolding sign_text
 sign_ascii true = fine_ascii (codes "-") refl
 sign_ascii false = fine_ascii [] refl

@@ -115,7 +115,7 @@ each_high : (bs : List ℕ) → ((k : ℕ) → k < length bs → 128 ≤ get_or 
 each_high [] h = refl
 each_high (b ∷ bs) h = and_from (nat_le 128 b) (list_all (nat_le 128) bs) (le-leb 128 b (h 0 (omega arith))) (each_high bs (λ k l. h (suc k) (omega (arith, l))))
 
-wide_char : (c : ℕ) → 128 ≤ c → list_all (nat_le 128) (encode_utf8 c) ≡ true
+pub wide_char : (c : ℕ) → 128 ≤ c → list_all (nat_le 128) (encode_utf8 c) ≡ true
 wide_char c g = each_high (encode_utf8 c) (λ k l. at k l)
   where
     at : (k : ℕ) → k < length (encode_utf8 c) → 128 ≤ get_or (encode_utf8 c) k 0

@@ -25,3 +25,10 @@ pub mod TemplateParts
 pub mod TemplatePieces
 pub mod TemplateReads
 pub mod Integers
+pub mod BeginningLaws
+pub mod StringTokens
+pub mod NumberTokens
+pub mod SeparatedNumbers
+pub mod SeparatedTexts
+pub mod SeparatedValues
+pub mod BigTokens

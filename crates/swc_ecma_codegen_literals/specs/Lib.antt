@@ -6,3 +6,6 @@ pub mod TemplateTexts
 pub mod ValidNames
 pub mod Punctuators
 pub mod Integers
+pub mod Beginnings
+pub mod Separators
+pub mod BigIntegers

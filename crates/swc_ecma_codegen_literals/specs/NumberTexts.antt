@@ -4,10 +4,13 @@ use Rattle.std.specs.Option.{option_map}
 use Rattle.std.specs.Fmt.{digits}
 use Rattle.std.specs.String.{string_bytes}
 use Rattle.std.specs.declared.string.String.{String}
+use Rattle.std.specs.Str.{IsAscii, chars}
 use Rattle.std.specs.Str.Parse.{digits_value}
 use Rattle.swc_ecma_codegen_ast.specs.Numbers.{is_number}
-use Rattle.swc_ecma_codegen_ast.specs.NumberValues.{MathValue, times_ten, over_ten, SameValue, numeric_value}
+use Rattle.swc_ecma_codegen_ast.specs.NumberValues.{MathValue, times_ten, over_ten, SameValue, exact_value, numeric_value}
 use Rattle.swc_ecma_codegen_common.specs.declared.decimals.Decimal.{Decimal}
+use Rattle.swc_ecma_codegen_ast.specs.Texts.{begins}
+use Rattle.swc_ecma_codegen_literals.specs.Beginnings.{begins_numeric}
 
 -- `12` with the point before its last n digits: `1.2` for 1, `0.12` for 2, `0.0012` for 4
 unfoldable pub with_point : List ℕ → ℕ → List ℕ
@@ -58,13 +61,19 @@ sign_text negative = if negative then codes "-" else []
 abbrev pub decimal_digits : Decimal → List ℕ
 decimal_digits number = string_bytes number.digits
 
--- the sign, and then all digits
-unfoldable pub plain_text : Decimal → List ℕ
-plain_text number = sign_text number.negative ++ plain_size (decimal_digits number) number.exponent
+-- the number without its sign, by all digits and by the shortest of these
+abbrev pub plain_part : Decimal → List ℕ
+plain_part number = plain_size (decimal_digits number) number.exponent
 
--- the sign, and then the shortest of these
+abbrev pub minified_part : Decimal → List ℕ
+minified_part number = minified_size number.negative (decimal_digits number) number.exponent
+
+-- the sign, and then that
+unfoldable pub plain_text : Decimal → List ℕ
+plain_text number = sign_text number.negative ++ plain_part number
+
 unfoldable pub minified_text : Decimal → List ℕ
-minified_text number = sign_text number.negative ++ minified_size number.negative (decimal_digits number) number.exponent
+minified_text number = sign_text number.negative ++ minified_part number
 
 -- the bytes of a text, where there is one
 abbrev pub option_text : {Z : Type 0} → Option (String Z) → Option (List ℕ)
@@ -82,3 +91,18 @@ pub record SpellsDecimal (number : Decimal) (text : List ℕ) : Type 0 where
   pub signed : text ≡ sign_text number.negative ++ literal
   pub shape : is_number literal ≡ true
   pub value : SameValue (numeric_value literal) (size_value (decimal_digits number) number.exponent)
+
+-- A text is one token for the size of a number: `5` for -5. Its characters are its bytes.
+pub record IsSizeOf (number : Decimal) (size : List ℕ) : Type 0 where
+  pub ascii : IsAscii size
+  pub characters : chars size ≡ size
+  pub front : begins_numeric size ≡ true
+  pub unsigned : begins (codes "-") size ≡ false
+  pub shape : is_number (chars size) ≡ true
+  pub value : exact_value (numeric_value (chars size)) ≡ exact_value (size_value (decimal_digits number) number.exponent)
+
+-- A text is the punctuator `-` where the number is below zero, and then such a token.
+pub record IsSignedSize (number : Decimal) (text size : List ℕ) : Type 0 where
+  pub parts : text ≡ sign_text number.negative ++ size
+  pub characters : chars text ≡ sign_text number.negative ++ chars size
+  pub token : IsSizeOf number size

@@ -44,11 +44,18 @@ pub fn plain_number(alloc: Global, number: &Decimal) -> std::result::Result<Stri
     Ok(text)
 }
 
-#[tactic(auto, unfolding(crate::specs::NumberTexts::sign_text))]
 fn sign(number: &Decimal) -> &'static str
     ensures { result.now ≡ sign_text number.now.negative }
 {
-    if number.negative() { "-" } else { "" }
+    sign_of(number.negative())
+}
+
+// `-` of a number below zero, and of negative zero.
+#[tactic(auto, unfolding(crate::specs::NumberTexts::sign_text))]
+pub(crate) fn sign_of(negative: bool) -> &'static str
+    ensures { result.now ≡ sign_text negative }
+{
+    if negative { "-" } else { "" }
 }
 
 // The one text where there is one and it is shorter than the other.
