@@ -12,8 +12,10 @@ pub mod Marks
 pub mod Indented
 pub mod Held
 pub mod Written
+pub mod Texts
 pub mod Positions
 pub mod Printed
+pub mod Literals
 pub mod Phrased
 pub mod SoFar
 pub mod Made

@@ -89,12 +89,12 @@ unfolding chain run makes_text levels
 writes_nothing env = record { steps = []; is_steps = λ rest. refl; lays = λ s r. lays_nothing s r; remakes = no_text; deep = omega arith }
 
 -- one step
-writes_step : (env : Env) (x : Step) (ts : List lexical.Token) → ((s : State) → AtRest s → Lays ts s (put x s)) → levels (x ∷ []) ≤ length ts → Makes env (step x) ts (makes_text (x ∷ []))
+pub writes_step : (env : Env) (x : Step) (ts : List lexical.Token) → ((s : State) → AtRest s → Lays ts s (put x s)) → levels (x ∷ []) ≤ length ts → Makes env (step x) ts (makes_text (x ∷ []))
 unfolding step chain run
 writes_step env x ts h k = record { steps = x ∷ []; is_steps = λ rest. refl; lays = h; remakes = λ e. e; deep = k }
 
 -- two steps
-writes_two : (env : Env) (x y : Step) (ts : List lexical.Token) → ((s : State) → AtRest s → Lays ts s (put y (put x s))) → levels (x ∷ y ∷ []) ≤ length ts → Makes env (λ rest. step x (step y rest)) ts (makes_text (x ∷ y ∷ []))
+pub writes_two : (env : Env) (x y : Step) (ts : List lexical.Token) → ((s : State) → AtRest s → Lays ts s (put y (put x s))) → levels (x ∷ y ∷ []) ≤ length ts → Makes env (λ rest. step x (step y rest)) ts (makes_text (x ∷ y ∷ []))
 unfolding step chain run
 writes_two env x y ts h k = record { steps = x ∷ y ∷ []; is_steps = λ rest. refl; lays = h; remakes = λ e. e; deep = k }
 
