@@ -13,9 +13,10 @@ pub mod Indented
 pub mod Held
 pub mod Written
 pub mod Texts
+pub mod NumberEnds
 pub mod Positions
 pub mod Printed
-pub mod Literals
+pub mod LiteralParts
 pub mod Phrased
 pub mod SoFar
 pub mod Made

@@ -21,6 +21,11 @@ settled_begun span t rest = commit_pending_semi (begun span t rest)
 unfoldable pub string : List ℕ → Part
 string t rest = step (Guard t) (step (Token Str (StrLit dummy_span t)) rest)
 
+-- a text without its sign
+unfoldable pub size_of : List ℕ → List ℕ
+size_of [] = []
+size_of (c ∷ cs) = if c == 45 then cs else c ∷ cs
+
 -- The tokens of a text that may have a sign: `-5` is two.
 unfoldable pub signed : Kind → List ℕ → List (Kind × List ℕ)
 signed kind [] = (kind, []) ∷ []
