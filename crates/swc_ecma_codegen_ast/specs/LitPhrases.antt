@@ -20,12 +20,12 @@ use Rattle.swc_ecma_codegen_ast.specs.declared.kinds.Kind.TheVariants as kinds
 use Rattle.swc_ecma_codegen_ast.specs.Chars.{is_digit}
 use Rattle.swc_ecma_codegen_ast.specs.CodeUnits.{units}
 use Rattle.swc_ecma_codegen_ast.specs.DecimalValues.{exact_size}
-use Rattle.swc_ecma_codegen_ast.specs.Numbers.{is_hex, is_octal, is_binary, is_number, is_big_integer, radix_of, big_digits}
+use Rattle.swc_ecma_codegen_ast.specs.Numbers.{is_hex, is_octal, is_binary, is_either, is_number, is_big_integer, radix_of, big_digits}
 use Rattle.swc_ecma_codegen_ast.specs.NumberValues.{DecimalFraction, numeric_value, exact_value, all_octal}
 use Rattle.swc_ecma_codegen_ast.specs.Phrases.{Phrase, Never, Nothing, One, ◌>◌, where_, word, mark}
 use Rattle.swc_ecma_codegen_ast.specs.RegularExpressions.{is_regex}
 use Rattle.swc_ecma_codegen_ast.specs.StringValues.{string_value}
-use Rattle.swc_ecma_codegen_ast.specs.Texts.{is_empty, is_same, begins}
+use Rattle.swc_ecma_codegen_ast.specs.Texts.{is_empty, is_same}
 use Rattle.swc_ecma_codegen_ast.specs.Tokens.{Token, Characters, Units, Exactly, Digits, token_of}
 use Rattle.swc_ecma_codegen_ast.specs.Tokens as tokens
 
@@ -73,13 +73,22 @@ null_lit n = word (codes "null")
 unfoldable pub is_same_number : DecimalFraction → DecimalFraction → Bool
 is_same_number a b = (a.digits == b.digits) && (a.places == b.places)
 
--- a numeric literal isn't hexadecimal, octal, binary or legacy octal, as `017`; or it stands for less than 2^128
-unfoldable pub is_held : List ℕ → Bool
-is_held text = ((radix_of text == 10) && not (begins (codes "0") text && all_octal text)) || nat_lt (numeric_value text).whole (2 ^ 128)
+-- after a zero: hexadecimal, octal, binary or legacy octal, as `xA`, `o12`, `b1010` or `12`
+unfoldable pub is_in_radix : List ℕ → Bool
+is_in_radix [] = true
+is_in_radix (c ∷ cs) = (is_either 120 88 c || (is_either 111 79 c || is_either 98 66 c)) || all_octal (c ∷ cs)
 
--- a text is one numeric token of this size, which can be compared: `1e1`, `10.0` and `0xA` of ten
+unfoldable pub is_in_decimal : List ℕ → Bool
+is_in_decimal [] = true
+is_in_decimal (c ∷ cs) = not ((c == 48) && is_in_radix cs)
+
+-- a number that is compared: a decimal one, or one below 2^128
+unfoldable pub is_compared : List ℕ → Bool
+is_compared text = is_in_decimal text || nat_lt (numeric_value text).whole (2 ^ 128)
+
+-- a text is one numeric token of this size: `1e1`, `10.0` and `0xA` of ten
 unfoldable pub spells_size : DecimalFraction → List ℕ → Bool
-spells_size size text = is_number text && (is_held text && is_same_number (exact_value (numeric_value text)) size)
+spells_size size text = is_number text && (is_compared text && is_same_number (exact_value (numeric_value text)) size)
 
 unfoldable pub number_token : DecimalFraction → Token
 number_token size = record { kind = kinds.Number; value = Exactly size }
@@ -129,11 +138,12 @@ is_digit_of Hex c = is_hex c
 
 -- `0` or no zero first
 unfoldable pub has_no_leading_zero : List ℕ → Bool
-has_no_leading_zero digits = not (begins (codes "0") digits) || is_same digits (codes "0")
+has_no_leading_zero [] = true
+has_no_leading_zero (c ∷ cs) = not (c == 48) || is_empty cs
 
 -- `FF` in hexadecimal, but not `08` in decimal
 unfoldable pub are_digits : Radix → List ℕ → Bool
-are_digits Ten digits = not (is_empty digits) && (list_all is_digit digits && has_no_leading_zero digits)
+are_digits Ten digits = not (is_empty digits) && (list_all (is_digit_of Ten) digits && has_no_leading_zero digits)
 are_digits radix digits = not (is_empty digits) && list_all (is_digit_of radix) digits
 
 -- a text is one big integer token of this radix and of these digits without `_`: `0xF_Fn` of `FF`

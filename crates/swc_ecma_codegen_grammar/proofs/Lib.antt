@@ -1,2 +1,4 @@
 pub mod Lists
+pub mod Possible
+pub mod Regexes
 pub mod Turned

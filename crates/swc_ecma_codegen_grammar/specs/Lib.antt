@@ -1,2 +1,3 @@
 pub mod Possible
 pub mod NameStates
+pub mod RegexStates

@@ -4,8 +4,11 @@
 pub mod exprs;
 pub mod forms;
 mod knot;
+mod lits;
 mod names;
+mod regexes;
 mod stmts;
+mod texts;
 
 pub use crate::forms::{Fits, WellFormed};
 pub use crate::knot::{is_well_formed, is_well_formed_expr, is_well_formed_stmt};
