@@ -1,4 +1,4 @@
 pub mod Lists
 pub mod Possible
-pub mod Regexes
+pub mod Slashes
 pub mod Turned

@@ -28,7 +28,7 @@ impl WellFormed for Null {
 impl WellFormed for Regex {
     ghost phrase = { regex };
 
-    #[tactic(auto, using(crate::proofs::Regexes::by_parts, crate::proofs::Possible::where_possible), unfolding(swc_ecma_codegen_ast::specs::LitPhrases::regex, swc_ecma_codegen_ast::specs::Phrases::is_possible))]
+    #[tactic(auto, using(crate::proofs::Slashes::by_parts, crate::proofs::Possible::where_possible), unfolding(swc_ecma_codegen_ast::specs::LitPhrases::regex, swc_ecma_codegen_ast::specs::Phrases::is_possible))]
     fn is_well_formed(&self) -> bool {
         is_body(&self.exp) && are_flags(&self.flags)
     }

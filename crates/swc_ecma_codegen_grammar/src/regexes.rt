@@ -20,7 +20,7 @@ pub(crate) struct RegexState {
 }
 
 /// After one more character, or `None` where no body goes on like this.
-#[tactic(auto, using(crate::proofs::Regexes::slash_ends), unfolding(crate::specs::RegexStates::goes_on, swc_ecma_codegen_ast::specs::RegularExpressions::ends_regex, swc_ecma_codegen_ast::specs::RegularExpressions::class_after))]
+#[tactic(auto, using(crate::proofs::Slashes::slash_ends), unfolding(crate::specs::RegexStates::goes_on, swc_ecma_codegen_ast::specs::RegularExpressions::ends_regex, swc_ecma_codegen_ast::specs::RegularExpressions::class_after))]
 fn next(state: RegexState, c: char) -> Option<RegexState>
     ensures some { IfSome result (λ s. (rest : List ℕ) → goes_on state (c ∷ rest) ≡ goes_on s rest) }
     ensures none { IfNone result ((rest : List ℕ) → goes_on state (c ∷ rest) ≡ false) }
@@ -66,8 +66,8 @@ pub(crate) fn is_body(body: &str) -> bool
     ensures { result ≡ is_regex (regex_text (chars body.now) []) }
 {
     match split_first(body) {
-        None | Some(('*', _)) => false,
-        Some(_) => is_closed(body),
+        None => false,
+        Some((c, _)) => c != '*' && is_closed(body),
     }
 }
 

@@ -20,27 +20,30 @@ unfolding all_part
 slash_ends [] = ap (λ b. b && true) no_flag
 slash_ends (c ∷ cs) = ap (λ b. is_part c && b) (slash_ends cs) ∙ false_after (is_part c)
 
-by_test : (b : Bool) (x y u v : Bool) → (cond b x y ≡ true) → (x ≡ true → u ≡ v) → (y ≡ true → u ≡ v) → u ≡ v
-by_test true x y u v h p q = p h
-by_test false x y u v h p q = q h
-
 -- After a body that its slash ends, flags follow.
 flags_follow : (i e : Bool) (body flags : List ℕ) → ends_regex i e (body ++ 47 ∷ []) ≡ true → ends_regex i e (body ++ 47 ∷ flags) ≡ all_part flags
-unfolding ends_regex
+unfolding ends_regex is_line_end
 flags_follow i true [] flags h = absurd (true≢false (sym h))
 flags_follow true false [] flags h = absurd (true≢false (sym h))
 flags_follow false false [] flags h = refl
 flags_follow i true (c ∷ cs) flags h =
     let p = and_parts (not (is_line_end c)) _ h in
     ap (λ b. b && ends_regex i false (cs ++ 47 ∷ flags)) p.0 ∙ flags_follow i false cs flags p.1
-flags_follow i false (c ∷ cs) flags h = choice ((c == 47) && not i) h
+flags_follow i false (c ∷ cs) flags h = choice ((c == 47) && not i) _ _ _ _ _ _ h (slash_ends cs) (flags_follow (class_after i c) (c == 92) cs flags)
   where
-    choice : (b : Bool) → (cond b (all_part (cs ++ 47 ∷ [])) (not (is_line_end c) && ends_regex (class_after i c) (c == 92) (cs ++ 47 ∷ []))) ≡ true →
-        cond b (all_part (cs ++ 47 ∷ flags)) (not (is_line_end c) && ends_regex (class_after i c) (c == 92) (cs ++ 47 ∷ flags)) ≡ all_part flags
-    choice true k = absurd (true≢false (sym k ∙ slash_ends cs))
-    choice false k =
-        let p = and_parts (not (is_line_end c)) _ k in
-        ap (λ b. b && ends_regex (class_after i c) (c == 92) (cs ++ 47 ∷ flags)) p.0 ∙ flags_follow (class_after i c) (c == 92) cs flags p.1
+    choice : (b a x y f g r : Bool) → (cond b a (x && f)) ≡ true → a ≡ false → (f ≡ true → g ≡ r) → cond b y (x && g) ≡ r
+    choice true a x y f g r k none more = absurd (true≢false (sym k ∙ none))
+    choice false a x y f g r k none more = let p = and_parts x f k in ap (λ b. b && g) p.0 ∙ more p.1
+
+-- a body begins with no `*`
+pub starts : (c : ℕ) (cs : List ℕ) → is_regex (regex_text (c ∷ cs) []) ≡ (not (c == 42) && ends_regex false false (c ∷ (cs ++ 47 ∷ [])))
+unfolding is_regex regex_text regex_body ends_regex
+starts c cs = choice (c == 42) (c == 47) _ _ (slash_ends cs)
+  where
+    choice : (s b a x : Bool) → a ≡ false → (not (s || b) && cond (b && true) a x) ≡ (not s && cond (b && true) a x)
+    choice true b a x none = refl
+    choice false true a x none = sym none
+    choice false false a x none = refl
 
 and_same : (a b c : Bool) → (a ≡ true → b ≡ c) → (a && b) ≡ (a && c)
 and_same true b c h = h refl
