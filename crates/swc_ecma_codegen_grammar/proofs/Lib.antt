@@ -1,3 +1,4 @@
+pub mod BigSpellings
 pub mod Lists
 pub mod Possible
 pub mod Slashes

@@ -1,3 +1,4 @@
-pub mod Possible
+pub mod BigDigits
 pub mod NameStates
+pub mod Possible
 pub mod RegexStates

@@ -1,6 +1,7 @@
 //! Which trees are well-formed.
 #![tactic(auto)]
 
+mod big_integers;
 pub mod exprs;
 pub mod forms;
 mod knot;
