@@ -128,3 +128,18 @@ fn is_zero(text: &str) -> bool
         None => false,
     }
 }
+
+/// Whether a text is one big integer of these digits.
+#[tactic(auto)]
+pub(crate) fn spells_digits(radix: Radix, digits: &str, text: &str) -> bool
+    requires { lits.are_digits radix (chars digits.now) ≡ true }
+    ensures { result ≡ lits.spells_digits radix (chars digits.now) (chars text.now) }
+{
+    match radix {
+        Radix::Decimal => match after_first(digits, '0') {
+            Some(_) => is_zero(text),
+            None => digits_follow(radix, text, digits),
+        },
+        _ => digits_follow_prefix(radix, text, digits),
+    }
+}
