@@ -3,3 +3,4 @@ pub mod Lists
 pub mod Possible
 pub mod Slashes
 pub mod Turned
+pub mod UnitsLeft

@@ -2,3 +2,4 @@ pub mod BigDigits
 pub mod NameStates
 pub mod Possible
 pub mod RegexStates
+pub mod UnitStates
