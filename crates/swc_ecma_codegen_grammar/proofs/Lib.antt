@@ -2,5 +2,6 @@ pub mod BigSpellings
 pub mod Lists
 pub mod Possible
 pub mod Slashes
+pub mod SpelledUnits
 pub mod Turned
 pub mod UnitsLeft

@@ -66,7 +66,10 @@ fn split_units(c: u32) -> (u32, Option<u32>)
     if c < 0x10000 {
         (c, None)
     } else {
-        (0xD800 + (c - 0x10000) / 0x400, Some(0xDC00 + (c - 0x10000) % 0x400))
+        (
+            0xD800 + (c - 0x10000) / 0x400,
+            Some(0xDC00 + (c - 0x10000) % 0x400),
+        )
     }
 }
 

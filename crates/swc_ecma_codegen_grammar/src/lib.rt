@@ -10,6 +10,7 @@ mod lits;
 mod names;
 mod regexes;
 mod stmts;
+mod strings;
 mod texts;
 
 pub use crate::forms::{Fits, WellFormed};
