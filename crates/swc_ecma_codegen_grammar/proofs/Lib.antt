@@ -1,4 +1,5 @@
 pub mod BigSpellings
+pub mod LastSuffix
 pub mod Lists
 pub mod Possible
 pub mod Slashes

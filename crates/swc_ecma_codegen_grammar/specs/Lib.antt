@@ -3,3 +3,4 @@ pub mod NameStates
 pub mod Possible
 pub mod RegexStates
 pub mod UnitStates
+pub mod Suffixes

@@ -13,7 +13,7 @@ use swc_ecma_codegen_ast::numerals::{is_binary, is_either, is_hex, is_octal};
 use swc_ecma_codegen_tree::Radix;
 
 #[tactic(auto, unfolding(swc_ecma_codegen_ast::specs::LitPhrases::is_digit_of))]
-fn is_digit_of(radix: Radix, c: char) -> bool
+pub(crate) fn is_digit_of(radix: Radix, c: char) -> bool
     ensures { result ≡ lits.is_digit_of radix c }
 {
     match radix {

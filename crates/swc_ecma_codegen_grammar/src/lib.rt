@@ -8,6 +8,7 @@ pub mod forms;
 mod knot;
 mod lits;
 mod names;
+mod numerals;
 mod regexes;
 mod stmts;
 mod strings;
