@@ -1,4 +1,6 @@
 pub mod BigSpellings
+pub mod DigitCounts
+pub mod DigitForms
 pub mod LastSuffix
 pub mod Lists
 pub mod Possible

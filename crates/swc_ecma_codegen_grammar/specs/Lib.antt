@@ -1,6 +1,7 @@
 pub mod BigDigits
+pub mod Mantissas
 pub mod NameStates
 pub mod Possible
 pub mod RegexStates
-pub mod UnitStates
 pub mod Suffixes
+pub mod UnitStates

@@ -8,6 +8,7 @@ pub mod forms;
 mod knot;
 mod lits;
 mod names;
+mod numbers;
 mod numerals;
 mod regexes;
 mod stmts;
