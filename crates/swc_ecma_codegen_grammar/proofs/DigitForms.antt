@@ -71,7 +71,7 @@ more_digits (x ∷ xs) ys m n h k some small l e =
       | inr more ↦ let r = same_digits xs ys (m * 10 + digit_value x) n p.1 k (omega arith) e in omega (arith, r.0)
     ]
 
-first_digit : (x : ℕ) → is_digit x ≡ true → (x == 48) ≡ false → (1 ≤ digit_value x) × (digit_value x ≤ 9)
+pub first_digit : (x : ℕ) → is_digit x ≡ true → (x == 48) ≡ false → (1 ≤ digit_value x) × (digit_value x ≤ 9)
 first_digit x h z =
     let d = digit_plus x h in
     let other : 1 ≤ digit_value x = grind (arith, nat_tests, d.0) in
@@ -169,7 +169,7 @@ cut (d ∷ ds) (x ∷ xs) a b h e =
     let r = cut ds xs a b (later d ds h) rest in
     (r.0, ap (λ t. cond t (zeros_after ds xs) None) (eq-eqb x d z) ∙ r.1, r.2)
 
-power_some : (n : ℕ) → 0 < 10 ^ n
+pub power_some : (n : ℕ) → 0 < 10 ^ n
 power_some zero = omega arith
 power_some (suc n) = rw (pow-suc 10 n) (omega (arith, power_some n))
 

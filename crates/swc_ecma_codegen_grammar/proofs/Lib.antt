@@ -3,8 +3,11 @@ pub mod DigitCounts
 pub mod DigitForms
 pub mod LastSuffix
 pub mod Lists
+pub mod MantissaLaws
+pub mod NormalDecimals
 pub mod Possible
 pub mod Slashes
 pub mod SpelledUnits
 pub mod Turned
 pub mod UnitsLeft
+pub mod WholeSizes

@@ -1,12 +1,18 @@
 //! Numbers.
 
-ghost use Rattle.std.specs.Prelude.{◌≡◌, ◌+◌, [], ◌∷◌, length, None, IfSome, IfNone};
+ghost use Rattle.std.specs.Prelude.{◌≡◌, ℕ, ◌+◌, ◌*◌, ◌^◌, ◌==◌, ◌&&◌, ◌<◌, ◌≤◌, nat_lt, [], length, true, false, None, IfSome, IfNone};
 ghost use Rattle.std.specs.Str.{chars};
+ghost use Rattle.swc_ecma_codegen_ast.specs.DecimalValues.{decimal_digits, exact_size, size_value};
+ghost use Rattle.swc_ecma_codegen_ast.specs.LitPhrases as lits;
+ghost use Rattle.swc_ecma_codegen_ast.specs.NumberValues as values;
 ghost use Rattle.swc_ecma_codegen_grammar.specs.Mantissas as parts;
 
+use crate::numerals::is_number;
 use crate::texts::{after_first, is_empty, split_first};
 use swc_ecma_codegen_ast::characters::is_digit;
-use swc_ecma_codegen_ast::numerals::is_either;
+use swc_ecma_codegen_ast::number_values::with_digit;
+use swc_ecma_codegen_ast::numerals::{hex_digit, is_either, is_octal};
+use swc_ecma_codegen_common::Decimal;
 
 /// What stands after the dot, up to an exponent.
 #[tactic(auto, unfolding(crate::specs::Mantissas::after_dot, crate::specs::Mantissas::mantissa))]
@@ -117,4 +123,183 @@ fn zeros_after(digits: &str, text: &str) -> Option<usize>
     } else {
         None
     }
+}
+
+/// The number that digits stand for, with any `_` between. `None`: 2^128 or more.
+#[tactic(auto, using(swc_ecma_codegen_ast::proofs::NumberGrowth::digits_grow), unfolding(swc_ecma_codegen_ast::specs::NumberValues::digits_after))]
+fn digits_value(radix: u128, text: &str) -> Option<u128>
+    requires { 0 < radix }
+    ensures value { IfSome result (λ value. value ≡ values.digits_after radix 0 (chars text.now)) }
+    ensures none { IfNone result (2 ^ 128 ≤ values.digits_after radix 0 (chars text.now)) }
+{
+    let mut rest = text;
+    let mut value = 0;
+    while let Some((c, more)) = split_first(rest) {
+        if let Some(digit) = hex_digit(c) {
+            match with_digit(value, radix, digit as u128) {
+                Some(sum) => value = sum,
+                None => return None,
+            }
+        }
+        rest = more;
+    }
+    Some(value)
+}
+
+/// Whether the first number is larger than the second by an exponent.
+fn exceeds(more: u128, less: u128, power: &str) -> bool
+    ensures { result ≡ (more == less + values.digits_after 10 0 (chars power.now)) }
+{
+    match digits_value(10, power) {
+        Some(size) => match less.checked_add(size) {
+            Some(sum) => more == sum,
+            None => false,
+        },
+        None => false,
+    }
+}
+
+/// Whether ten to one power, times what stands after `e`, is ten to the other.
+fn is_balanced(low: u128, high: u128, mark: &str) -> bool
+    ensures { result ≡ (low + (values.exponent_value 0 0 (chars mark.now)).tens == high + (values.exponent_value 0 0 (chars mark.now)).tenths) }
+{
+    match after_first(mark, '-') {
+        Some(power) => exceeds(low, high, power),
+        None => exceeds(high, low, mark),
+    }
+}
+
+/// The power of ten that the digits of a number are taken times.
+#[tactic(auto, unfolding(swc_ecma_codegen_ast::specs::DecimalValues::size_value, swc_ecma_codegen_ast::specs::NumberValues::times_ten, swc_ecma_codegen_ast::specs::NumberValues::over_ten))]
+fn tens(number: &Decimal) -> u32
+    ensures { result ≡ (size_value (decimal_digits number.now) number.now.exponent).tens }
+{
+    if number.exponent() < 0 {
+        0
+    } else {
+        number.exponent().unsigned_abs()
+    }
+}
+
+/// The power of ten that they are divided by.
+#[tactic(auto, unfolding(swc_ecma_codegen_ast::specs::DecimalValues::size_value, swc_ecma_codegen_ast::specs::NumberValues::times_ten, swc_ecma_codegen_ast::specs::NumberValues::over_ten))]
+fn tenths(number: &Decimal) -> u32
+    ensures { result ≡ (size_value (decimal_digits number.now) number.now.exponent).tenths }
+{
+    if number.exponent() < 0 {
+        number.exponent().unsigned_abs()
+    } else {
+        0
+    }
+}
+
+/// Whether a decimal literal stands for the size of a number.
+#[tactic(auto, unfolding(swc_ecma_codegen_ast::specs::DecimalValues::exact_size))]
+fn decimal_has_size(number: &Decimal, text: &str) -> bool
+    ensures { result ≡ lits.is_same_number (values.exact_value (values.decimal_value 0 (chars text.now))) (exact_size number.now) }
+{
+    let digits = number.digits();
+    let significant = without_zeros(text);
+    match after_first(digits, '0') {
+        Some(_) => count_digits(significant) == 0,
+        None => match zeros_after(digits, significant) {
+            Some(zeros) => {
+                let low = zeros as u128 + tenths(number) as u128;
+                let high = count_digits(after_dot(text)) as u128 + tens(number) as u128;
+                is_balanced(low, high, after_mark(text))
+            }
+            None => false,
+        },
+    }
+}
+
+#[tactic(auto, unfolding(swc_ecma_codegen_ast::specs::NumberValues::all_octal))]
+fn all_octal(text: &str) -> bool
+    ensures { result ≡ values.all_octal (chars text.now) }
+{
+    let mut rest = text;
+    while let Some((c, more)) = split_first(rest) {
+        if !is_octal(c) {
+            return false;
+        }
+        rest = more;
+    }
+    true
+}
+
+/// The radix and the digits of a number, by what stands after its `0`; `None` where it is decimal.
+#[tactic(auto, unfolding(swc_ecma_codegen_ast::specs::LitPhrases::is_in_radix, swc_ecma_codegen_ast::specs::NumberValues::zero_value, swc_ecma_codegen_ast::specs::NumberValues::digits_after))]
+fn radix_digits(text: &str) -> Option<(u128, &str)>
+    ensures some { IfSome result (λ r. (lits.is_in_radix (chars text.now) ≡ true) × (0 < r.0) × (values.zero_value (chars text.now) ≡ values.times_ten (values.digits_after r.0 0 (chars r.1.now)) 0)) }
+    ensures none { IfNone result ((lits.is_in_radix (chars text.now) ≡ false) × (values.zero_value (chars text.now) ≡ values.decimal_value 0 (chars text.now))) }
+{
+    let Some((c, rest)) = split_first(text) else {
+        return Some((8, text));
+    };
+    match c {
+        _ if is_either('x', 'X', c) => Some((16, rest)),
+        _ if is_either('o', 'O', c) => Some((8, rest)),
+        _ if is_either('b', 'B', c) => Some((2, rest)),
+        _ if all_octal(text) => Some((8, text)),
+        _ => None,
+    }
+}
+
+/// A number times ten to a power. `None`: 2^128 or more.
+#[tactic(auto, using(crate::proofs::WholeSizes::one_power, crate::proofs::WholeSizes::no_power, crate::proofs::WholeSizes::too_large))]
+fn times_power(number: u128, tens: u32) -> Option<u128>
+    ensures some { IfSome result (λ value. value ≡ number * 10 ^ tens) }
+    ensures none { IfNone result (2 ^ 128 ≤ number * 10 ^ tens) }
+{
+    let mut value = number;
+    let mut left = tens;
+    while left > 0 {
+        match value.checked_mul(10) {
+            Some(more) => value = more,
+            None => return None,
+        }
+        left -= 1;
+    }
+    Some(value)
+}
+
+/// Whether digits in another radix stand for the size of a number, below 2^128.
+fn radix_has_size(number: &Decimal, radix: u128, digits: &str) -> bool
+    requires { 0 < radix }
+    ensures { result ≡ (nat_lt (values.digits_after radix 0 (chars digits.now)) (2 ^ 128) && lits.is_same_number (values.exact_value (values.times_ten (values.digits_after radix 0 (chars digits.now)) 0)) (exact_size number.now)) }
+{
+    let Some(value) = digits_value(radix, digits) else {
+        return false;
+    };
+    if tenths(number) > 0 {
+        return false;
+    }
+    match digits_value(10, number.digits()) {
+        Some(size) => match times_power(size, tens(number)) {
+            Some(size) => value == size,
+            None => false,
+        },
+        None => false,
+    }
+}
+
+/// Whether a numeric literal stands for the size of a number; where it isn't decimal, below 2^128.
+fn has_size(number: &Decimal, text: &str) -> bool
+    ensures { result ≡ (lits.is_compared (chars text.now) && lits.is_same_number (values.exact_value (values.numeric_value (chars text.now))) (exact_size number.now)) }
+{
+    match after_first(text, '0') {
+        Some(rest) => match radix_digits(rest) {
+            Some((radix, digits)) => radix_has_size(number, radix, digits),
+            None => decimal_has_size(number, rest),
+        },
+        None => decimal_has_size(number, text),
+    }
+}
+
+/// Whether a text is one numeric token of the size of a number.
+#[tactic(auto, unfolding(swc_ecma_codegen_ast::specs::LitPhrases::spells_size))]
+pub(crate) fn spells_size(number: &Decimal, text: &str) -> bool
+    ensures { result ≡ lits.spells_size (exact_size number.now) (chars text.now) }
+{
+    is_number(text) && has_size(number, text)
 }
