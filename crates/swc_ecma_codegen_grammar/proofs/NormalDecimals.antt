@@ -63,18 +63,18 @@ pub normal_zero : (ds : List ℕ) (e : ℤ) → is_decimal ds e ≡ true → beg
 unfolding begins
 normal_zero [] e h z = absurd (false≢true z)
 normal_zero (d ∷ ds) e h z = elim (zero_or_lean (d ∷ ds) e h) [
-  | inl zero ↦ zero
+  | inl nought ↦ nought
   | inr some ↦ absurd (true≢false (sym (eq-eqb d 48 (sym (eqb-true 48 d (and_parts (48 == d) true z).0))) ∙ (lean d ds some).first))
 ]
 
 pub normal_lean : (ds : List ℕ) (e : ℤ) → is_decimal ds e ≡ true → begins (48 ∷ []) ds ≡ false → (d : ℕ) × (more : List ℕ) × (ds ≡ d ∷ more) × IsLean d more
 unfolding begins
 normal_lean [] e h z = elim (zero_or_lean [] e h) [
-  | inl zero ↦ let none : [] ≡ codes "0" = zero.0 in absurd (cc)
+  | inl nought ↦ let none : [] ≡ codes "0" = nought.0 in absurd (cc)
   | inr some ↦ absurd (no_digits some)
 ]
 normal_lean (d ∷ ds) e h z = elim (zero_or_lean (d ∷ ds) e h) [
-  | inl zero ↦ let first : d ≡ 48 = cc in absurd (false≢true (sym z ∙ ap (λ b. b && true) (eq-eqb 48 d (sym first))))
+  | inl nought ↦ let same : d ∷ ds ≡ codes "0" = nought.0 in let first : d ≡ 48 = cc in absurd (false≢true (sym z ∙ ap (λ b. b && true) (eq-eqb 48 d (sym first))))
   | inr some ↦ (d, ds, refl, lean d ds some)
 ]
 
@@ -90,7 +90,7 @@ pub normal_digits : (ds : List ℕ) (e : ℤ) → is_decimal ds e ≡ true → l
 unfolding is_digit
 normal_digits [] e h = refl
 normal_digits (d ∷ ds) e h = elim (zero_or_lean (d ∷ ds) e h) [
-  | inl zero ↦ ap (list_all is_digit) zero.0
+  | inl nought ↦ ap (list_all is_digit) nought.0
   | inr some ↦ (lean d ds some).digits
 ]
 
@@ -153,3 +153,11 @@ same_zero u v xs h p q = same_tests _ _ there back
 
 pub zero_size : (ds : List ℕ) (e : ℤ) (t : List ℕ) → is_decimal ds e ≡ true → begins (48 ∷ []) ds ≡ true → is_same_number (exact_value (decimal_value 0 t)) (exact_value (size_value ds e)) ≡ (length (stripped (mantissa t)) == 0)
 zero_size ds e t h z = same_zero (decimal_value 0 t) (size_value ds e) (mantissa t) (mantissa_digits t) (literal_whole t) (size_whole ds e ∙ ap (digits_value 10) (normal_zero ds e h z).0)
+
+-- ---- what was found of a text is what is said of its characters
+
+pub zeros_found : (ds bytes xs ys : List ℕ) (o : Option ℕ) → o ≡ zeros_after (chars bytes) xs → chars bytes ≡ ds → xs ≡ ys → zeros_after ds ys ≡ o
+zeros_found ds bytes xs ys o h e f = ap (λ d. zeros_after d ys) (sym e) ∙ (ap (zeros_after (chars bytes)) (sym f) ∙ sym h)
+
+pub same_sums : (k t t2 p p2 n n2 : ℕ) (m m2 : List ℕ) → t ≡ t2 → p ≡ p2 → n ≡ n2 → m ≡ m2 → (k + t + (exponent_value 0 0 m).tens == p + n + (exponent_value 0 0 m).tenths) ≡ (k + t2 + (exponent_value 0 0 m2).tens == p2 + n2 + (exponent_value 0 0 m2).tenths)
+same_sums k t t2 p p2 n n2 m m2 a b c d = rw (a, b, c, d) refl

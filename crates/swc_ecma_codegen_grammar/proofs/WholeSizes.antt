@@ -1,7 +1,7 @@
 -- Whole numbers beside the size of a decimal number.
 use Rattle.std.proofs.Common.{◌≡◌, ℕ, zero, suc, ◌+◌, ◌-◌, ◌*◌, ◌/◌, ◌%◌, ◌^◌, ◌<◌, ◌≤◌, ℤ, pos, negsuc, Bool, true, false, ◌&&◌, ◌==◌, cond, nat_lt, List, [], ◌∷◌, drop, refl, sym, ap, ◌∙◌, arith, subst, codes, inl, inr}
 use Rattle.std.proofs.Math.Nat.{le-mul_of_pos_right, mul-one, mul_assoc, pow-suc, pow-succ'}
-use Rattle.std.proofs.lemmas.Bool.{and_parts, eqb-true, false≢true, ne_eqb, not-true, cases_Bool, cases_lt}
+use Rattle.std.proofs.lemmas.Bool.{and_parts, eqb-true, false≢true, ne_eqb, not-true, cases_Bool}
 use Rattle.std.proofs.lemmas.Bool.Decides.{nat_tests}
 use Rattle.std.specs.Char.{digit_value}
 use Rattle.std.specs.List.{list_all}
@@ -89,26 +89,33 @@ same_part ds (negsuc k) n h some = elim (cases_Bool (begins (48 ∷ []) ds)) [
 pub radix_too_large : (x limit : ℕ) (b : Bool) → limit ≤ x → (nat_lt x limit && b) ≡ false
 radix_too_large x limit b h = let no : nat_lt x limit ≡ false = grind (arith, nat_tests) in rw no refl
 
-pub radix_part : (ds : List ℕ) (e : ℤ) (x limit : ℕ) → is_decimal ds e ≡ true → 0 < (size_value ds e).tenths → (nat_lt x limit && is_same_number (exact_value (times_ten x 0)) (exact_value (size_value ds e))) ≡ false
-radix_part ds e x limit h some = ap (λ b. nat_lt x limit && b) (same_part ds e x h some) ∙ and_false (nat_lt x limit)
+pub radix_held : (x limit : ℕ) (b : Bool) → x < limit → (nat_lt x limit && b) ≡ b
+radix_held x limit b h = let yes : nat_lt x limit ≡ true = grind (arith, nat_tests) in rw yes refl
 
-pub radix_whole : (ds : List ℕ) (e : ℤ) (x size limit : ℕ) → (size_value ds e).tenths ≤ 0 → x < limit → size ≡ digits_value 10 ds * 10 ^ (size_value ds e).tens → (nat_lt x limit && is_same_number (exact_value (times_ten x 0)) (exact_value (size_value ds e))) ≡ (x == size)
-radix_whole ds e x size limit h l s =
-    let yes : nat_lt x limit ≡ true = grind (arith, nat_tests) in
-    ap (λ b. b && is_same_number (exact_value (times_ten x 0)) (exact_value (size_value ds e))) yes ∙ (same_whole ds e x h ∙ ap (λ m. x == m) (sym s))
+pub part_size : (ds : List ℕ) (e : ℤ) (x t : ℕ) → is_decimal ds e ≡ true → t ≡ (size_value ds e).tenths → 0 < t → is_same_number (exact_value (times_ten x 0)) (exact_value (size_value ds e)) ≡ false
+part_size ds e x t h p some = same_part ds e x h (omega (arith, p, some))
 
-pub radix_over : (ds : List ℕ) (e : ℤ) (x limit : ℕ) → (size_value ds e).tenths ≤ 0 → limit ≤ digits_value 10 ds * 10 ^ (size_value ds e).tens → (nat_lt x limit && is_same_number (exact_value (times_ten x 0)) (exact_value (size_value ds e))) ≡ false
-radix_over ds e x limit h l = elim (cases_lt x limit) [
-  | inl less ↦ ap (λ b. nat_lt x limit && b) (same_whole ds e x h ∙ ne_eqb x _ (λ same. omega (arith, same, l, less))) ∙ and_false (nat_lt x limit)
-  | inr more ↦ radix_too_large x limit _ more
-]
+pub whole_size : (ds : List ℕ) (e : ℤ) (x t size : ℕ) → t ≡ (size_value ds e).tenths → t ≤ 0 → size ≡ digits_value 10 ds * 10 ^ (size_value ds e).tens → is_same_number (exact_value (times_ten x 0)) (exact_value (size_value ds e)) ≡ (x == size)
+whole_size ds e x t size p none s = same_whole ds e x (omega (arith, p, none)) ∙ ap (λ m. x == m) (sym s)
+
+pub over_size : (ds : List ℕ) (e : ℤ) (x t limit : ℕ) → t ≡ (size_value ds e).tenths → t ≤ 0 → x < limit → limit ≤ digits_value 10 ds * 10 ^ (size_value ds e).tens → is_same_number (exact_value (times_ten x 0)) (exact_value (size_value ds e)) ≡ false
+over_size ds e x t limit p none less l = same_whole ds e x (omega (arith, p, none)) ∙ ne_eqb x _ (λ same. omega (arith, same, l, less))
 
 -- the digits of a number are held, or too many
 pub digits_whole : (ds : List ℕ) (e : ℤ) → is_decimal ds e ≡ true → digits_after 10 0 (chars ds) ≡ digits_value 10 ds
 digits_whole ds e h = ap (digits_after 10 0) (normal_characters ds e h) ∙ digits_run 0 ds (normal_digits ds e h)
 
-pub over_power : (n limit t : ℕ) → limit ≤ n → limit ≤ n * 10 ^ t
+over_power : (n limit t : ℕ) → limit ≤ n → limit ≤ n * 10 ^ t
 over_power n limit t h = omega (arith, h, le-mul_of_pos_right n (power_some t))
+
+-- what was found of the digits of a number
+pub size_found : (ds bytes : List ℕ) (e : ℤ) (size digits t : ℕ) → is_decimal ds e ≡ true → size ≡ digits * 10 ^ t → digits ≡ digits_after 10 0 (chars bytes) → bytes ≡ ds → t ≡ (size_value ds e).tens → size ≡ digits_value 10 ds * 10 ^ (size_value ds e).tens
+size_found ds bytes e size digits t h s d b p =
+    let value : digits ≡ digits_value 10 ds = d ∙ (ap (λ bs. digits_after 10 0 (chars bs)) b ∙ digits_whole ds e h) in
+    s ∙ (ap (λ n. n * 10 ^ t) value ∙ ap (λ n. digits_value 10 ds * 10 ^ n) p)
+
+pub digits_over : (ds bytes : List ℕ) (e : ℤ) (limit : ℕ) → is_decimal ds e ≡ true → limit ≤ digits_after 10 0 (chars bytes) → bytes ≡ ds → limit ≤ digits_value 10 ds * 10 ^ (size_value ds e).tens
+digits_over ds bytes e limit h l b = over_power (digits_value 10 ds) limit (size_value ds e).tens (omega (arith, l, ap (λ bs. digits_after 10 0 (chars bs)) b ∙ digits_whole ds e h))
 
 -- ---- which numbers are compared
 
@@ -126,11 +133,11 @@ decimal_text : (cs : List ℕ) (size : DecimalFraction) → is_in_radix cs ≡ f
 unfolding is_compared is_in_decimal numeric_value
 decimal_text cs size r v = rw (r, v) refl
 
-pub compared_radix : (text : List ℕ) (x : ℕ) (size : DecimalFraction) → begins (48 ∷ []) text ≡ true → is_in_radix (drop 1 text) ≡ true → zero_value (drop 1 text) ≡ times_ten x 0 → (is_compared text && is_same_number (exact_value (numeric_value text)) size) ≡ (nat_lt x (2 ^ 128) && is_same_number (exact_value (times_ten x 0)) size)
-compared_radix text x size h r v = ap (λ t. is_compared t && is_same_number (exact_value (numeric_value t)) size) (zero_text text h) ∙ radix_text (drop 1 text) x size r v
+pub compared_radix : (text t : List ℕ) (x : ℕ) (size : DecimalFraction) → begins (48 ∷ []) text ≡ true → t ≡ drop 1 text → is_in_radix t ≡ true → zero_value t ≡ times_ten x 0 → (is_compared text && is_same_number (exact_value (numeric_value text)) size) ≡ (nat_lt x (2 ^ 128) && is_same_number (exact_value (times_ten x 0)) size)
+compared_radix text t x size h e r v = ap (λ s. is_compared s && is_same_number (exact_value (numeric_value s)) size) (zero_text text h ∙ ap (λ cs. 48 ∷ cs) (sym e)) ∙ radix_text t x size r v
 
-pub compared_zero : (text : List ℕ) (size : DecimalFraction) → begins (48 ∷ []) text ≡ true → is_in_radix (drop 1 text) ≡ false → zero_value (drop 1 text) ≡ decimal_value 0 (drop 1 text) → (is_compared text && is_same_number (exact_value (numeric_value text)) size) ≡ is_same_number (exact_value (decimal_value 0 (drop 1 text))) size
-compared_zero text size h r v = ap (λ t. is_compared t && is_same_number (exact_value (numeric_value t)) size) (zero_text text h) ∙ decimal_text (drop 1 text) size r v
+pub compared_zero : (text t : List ℕ) (size : DecimalFraction) → begins (48 ∷ []) text ≡ true → t ≡ drop 1 text → is_in_radix t ≡ false → zero_value t ≡ decimal_value 0 t → (is_compared text && is_same_number (exact_value (numeric_value text)) size) ≡ is_same_number (exact_value (decimal_value 0 t)) size
+compared_zero text t size h e r v = ap (λ s. is_compared s && is_same_number (exact_value (numeric_value s)) size) (zero_text text h ∙ ap (λ cs. 48 ∷ cs) (sym e)) ∙ decimal_text t size r v
 
 pub compared_decimal : (text : List ℕ) (size : DecimalFraction) → begins (48 ∷ []) text ≡ false → (is_compared text && is_same_number (exact_value (numeric_value text)) size) ≡ is_same_number (exact_value (decimal_value 0 text)) size
 unfolding is_compared is_in_decimal numeric_value begins decimal_value

@@ -263,22 +263,31 @@ fn times_power(number: u128, tens: u32) -> Option<u128>
     Some(value)
 }
 
-/// Whether digits in another radix stand for the size of a number, below 2^128.
-fn radix_has_size(number: &Decimal, radix: u128, digits: &str) -> bool
-    requires { 0 < radix }
-    ensures { result ≡ (nat_lt (values.digits_after radix 0 (chars digits.now)) (2 ^ 128) && lits.is_same_number (values.exact_value (values.times_ten (values.digits_after radix 0 (chars digits.now)) 0)) (exact_size number.now)) }
+/// Whether a whole number is the size of a number.
+fn is_size(value: u128, number: &Decimal) -> bool
+    ensures size { result ≡ lits.is_same_number (values.exact_value (values.times_ten value 0)) (exact_size number.now) }
+    ensures held { value < 2 ^ 128 }
 {
-    let Some(value) = digits_value(radix, digits) else {
-        return false;
-    };
     if tenths(number) > 0 {
         return false;
     }
     match digits_value(10, number.digits()) {
-        Some(size) => match times_power(size, tens(number)) {
+        Some(digits) => match times_power(digits, tens(number)) {
             Some(size) => value == size,
             None => false,
         },
+        None => false,
+    }
+}
+
+/// Whether digits in another radix stand for the size of a number, below 2^128.
+#[tactic(auto, using(crate::proofs::WholeSizes::radix_held, crate::proofs::WholeSizes::radix_too_large))]
+fn radix_has_size(number: &Decimal, radix: u128, digits: &str) -> bool
+    requires { 0 < radix }
+    ensures { result ≡ (nat_lt (values.digits_after radix 0 (chars digits.now)) (2 ^ 128) && lits.is_same_number (values.exact_value (values.times_ten (values.digits_after radix 0 (chars digits.now)) 0)) (exact_size number.now)) }
+{
+    match digits_value(radix, digits) {
+        Some(value) => is_size(value, number),
         None => false,
     }
 }
