@@ -1,5 +1,5 @@
 -- What spells a big integer.
-use Rattle.std.proofs.Common.{◌≡◌, ℕ, Bool, true, false, not, ◌&&◌, ◌||◌, ◌==◌, cond, if◌then◌else◌, List, [], ◌∷◌, drop, refl, sym, ap, ◌∙◌, inl, inr, arith, subst, codes}
+use Rattle.std.proofs.Common.{◌≡◌, ℕ, Bool, true, false, not, ◌&&◌, ◌==◌, cond, List, [], ◌∷◌, drop, refl, sym, ap, ◌∙◌, inl, inr, arith, subst, codes}
 use Rattle.std.proofs.lemmas.Bool.{cases_Bool, and_parts, true≢false, eqb-true, or_cases, or_from, and_from}
 use Rattle.std.proofs.lemmas.Bool.Decides.{nat_tests}
 use Rattle.std.proofs.lemmas.Grind.{common_steps}
@@ -8,7 +8,7 @@ use Rattle.swc_ecma_codegen_tree.specs.declared.lits.Radix.{Radix}
 use Rattle.swc_ecma_codegen_tree.specs.declared.lits.Radix.TheVariants.{Binary, Octal, Decimal, Hex}
 use Rattle.swc_ecma_codegen_ast.specs.Chars.{is_digit}
 use Rattle.swc_ecma_codegen_ast.specs.LitPhrases.{are_digits, has_no_leading_zero, is_digit_of, radix_number, spells_digits}
-use Rattle.swc_ecma_codegen_ast.specs.Numbers.{radix, integer, fraction, exponent, after_zero, is_numeric, is_big_integer, has_suffix, digits_in, big_digits, radix_of, is_either, is_hex, is_octal, is_binary}
+use Rattle.swc_ecma_codegen_ast.specs.Numbers.{radix, integer, fraction, after_zero, is_numeric, is_big_integer, has_suffix, digits_in, big_digits, radix_of, is_either, is_hex, is_octal, is_binary}
 use Rattle.swc_ecma_codegen_ast.specs.Texts.{is_empty, is_same, begins}
 use Rattle.swc_ecma_codegen_grammar.specs.BigDigits.{follow, follow_prefix, is_prefix}
 

@@ -1,5 +1,5 @@
 -- Each number has one form in decimal digits, without zeros before it.
-use Rattle.std.proofs.Common.{◌≡◌, ℕ, zero, suc, ◌+◌, ◌*◌, ◌^◌, ◌<◌, ◌≤◌, Bool, true, false, not, ◌&&◌, ◌==◌, nat_le, List, [], ◌∷◌, ◌++◌, Option, None, Some, length, replicate, refl, sym, ap, ◌∙◌, inl, inr, ◌⊎◌, arith, cond, eq-eqb}
+use Rattle.std.proofs.Common.{◌≡◌, ℕ, zero, suc, ◌+◌, ◌*◌, ◌^◌, ◌<◌, ◌≤◌, true, false, not, ◌==◌, nat_le, List, [], ◌∷◌, ◌++◌, Option, None, Some, length, replicate, refl, sym, ap, ◌∙◌, inl, inr, ◌⊎◌, arith, cond, eq-eqb}
 use Rattle.std.proofs.Math.Nat.{add-zero, mul_assoc, le-mul_of_pos_right, mul-one, pow-suc, pow-succ', zero-mul}
 use Rattle.std.proofs.lemmas.Bool.{cases_Bool, and_parts, and_from, cases_lt, cases_order, leb-true, true≢false, eqb-true}
 use Rattle.std.proofs.lemmas.Bool.Decides.{nat_tests}

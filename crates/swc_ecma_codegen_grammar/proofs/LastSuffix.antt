@@ -1,5 +1,5 @@
 -- The suffix of a numeric literal is its last character.
-use Rattle.std.proofs.Common.{◌≡◌, ℕ, ◌==◌, Bool, false, List, [], ◌∷◌, refl}
+use Rattle.std.proofs.Common.{◌≡◌, ℕ, ◌==◌, false, List, [], ◌∷◌, refl}
 use Rattle.swc_ecma_codegen_ast.specs.Numbers.{has_suffix}
 use Rattle.swc_ecma_codegen_grammar.specs.Suffixes.{ends_with_n}
 

@@ -1,5 +1,5 @@
 -- A decimal literal stands for its digits, its places after the dot, and its exponent.
-use Rattle.std.proofs.Common.{◌≡◌, ℕ, zero, suc, ◌+◌, ◌*◌, ◌^◌, Bool, true, false, ◌&&◌, ◌==◌, List, [], ◌∷◌, Option, None, Some, length, cond, refl, sym, ap, ◌∙◌, inl, inr, arith, eq-eqb, subst, zero-add, drop}
+use Rattle.std.proofs.Common.{◌≡◌, ℕ, suc, ◌+◌, ◌*◌, ◌^◌, Bool, true, false, ◌&&◌, ◌==◌, List, [], ◌∷◌, Option, None, Some, length, cond, refl, sym, ap, ◌∙◌, inl, inr, arith, eq-eqb, subst, zero-add, drop}
 use Rattle.std.proofs.Math.Nat.{add-zero}
 use Rattle.std.proofs.lemmas.Bool.{cases_Bool, and_from, and_parts, eqb-true, true≢false}
 use Rattle.std.specs.Char.{digit_value}
@@ -11,7 +11,7 @@ use Rattle.swc_ecma_codegen_ast.specs.LitPhrases.{is_same_number}
 use Rattle.swc_ecma_codegen_ast.specs.Numbers.{is_either}
 use Rattle.swc_ecma_codegen_ast.specs.NumberValues.{DecimalFraction, MathValue, SameValue, decimal_value, exact_value, exponent_value, fraction_value, digits_after, over_ten, times_ten}
 use Rattle.swc_ecma_codegen_ast.specs.Texts.{begins}
-use Rattle.swc_ecma_codegen_grammar.proofs.DigitForms.{digits_there, digits_back, zero_there, zero_back}
+use Rattle.swc_ecma_codegen_grammar.proofs.DigitForms.{digits_there, digits_back}
 use Rattle.swc_ecma_codegen_grammar.specs.Mantissas.{after_dot, after_mark, balanced, ends_in_some, mantissa, stripped, zeros_after}
 
 -- ---- a literal by its parts

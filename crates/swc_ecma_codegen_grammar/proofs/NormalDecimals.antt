@@ -1,6 +1,6 @@
 -- The digits of a number are `0`, or neither begin nor end with a zero.
-use Rattle.std.proofs.Common.{◌≡◌, ℕ, zero, suc, ◌+◌, ◌-◌, ◌*◌, ◌^◌, ◌<◌, ◌≤◌, ℤ, pos, negsuc, Bool, true, false, not, ◌&&◌, ◌||◌, ◌==◌, nat_le, int_le, List, [], ◌∷◌, Option, None, Some, length, refl, sym, ap, ◌∙◌, inl, inr, ◌⊎◌, arith, codes, get_or, subst, eq-eqb, zero-add}
-use Rattle.std.proofs.Math.Nat.{add-zero, le-mul_of_pos_right, zero-mul}
+use Rattle.std.proofs.Common.{◌≡◌, ℕ, zero, suc, ◌+◌, ◌-◌, ◌*◌, ◌^◌, ℤ, pos, negsuc, true, false, not, ◌&&◌, ◌||◌, ◌==◌, nat_le, int_le, List, [], ◌∷◌, Option, None, Some, length, refl, sym, ap, ◌∙◌, inl, inr, ◌⊎◌, arith, codes, get_or, eq-eqb}
+use Rattle.std.proofs.Math.Nat.{le-mul_of_pos_right, zero-mul}
 use Rattle.std.proofs.lemmas.Bool.{and_parts, eqb-true, false≢true, true≢false, leb-true, not-true, or_cases}
 use Rattle.std.proofs.lemmas.Bool.Decides.{Decides-int_eq}
 use Rattle.std.proofs.lemmas.Str.{chars-IsAscii}

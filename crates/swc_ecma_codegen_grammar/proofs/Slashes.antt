@@ -1,5 +1,5 @@
 -- The slash that ends the body of a regular expression.
-use Rattle.std.proofs.Common.{◌≡◌, ℕ, Bool, true, false, not, ◌&&◌, ◌||◌, ◌==◌, cond, List, [], ◌∷◌, ◌++◌, refl, sym, ap, ◌∙◌, append_assoc, codes}
+use Rattle.std.proofs.Common.{◌≡◌, ℕ, Bool, true, false, not, ◌&&◌, ◌||◌, ◌==◌, cond, List, [], ◌∷◌, ◌++◌, refl, sym, ap, ◌∙◌}
 use Rattle.std.proofs.lemmas.Bool.{and_parts, true≢false}
 use Rattle.swc_ecma_codegen_ast.specs.Chars.{is_line_end, is_part, is_letter, is_digit}
 use Rattle.swc_ecma_codegen_ast.specs.LitPhrases.{regex_text, is_regex_of}

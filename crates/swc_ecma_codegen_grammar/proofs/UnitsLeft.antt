@@ -1,5 +1,5 @@
 -- The code units of a text, one after another.
-use Rattle.std.proofs.Common.{◌≡◌, ◌<◌, ℕ, Bool, true, false, ◌&&◌, ◌==◌, nat_lt, cond, List, [], ◌∷◌, ◌++◌, Option, None, Some, option_to_list, refl, sym, ap, ◌∙◌}
+use Rattle.std.proofs.Common.{◌≡◌, ℕ, Bool, true, false, ◌&&◌, ◌==◌, cond, List, [], ◌∷◌, ◌++◌, Option, None, Some, option_to_list, refl, ap, ◌∙◌}
 use Rattle.swc_ecma_codegen_ast.proofs.TurnLaws.{utf16_one}
 use Rattle.swc_ecma_codegen_ast.proofs.UnitLaws.{units_escape}
 use Rattle.swc_ecma_codegen_ast.specs.CodeUnits.{escape_length, escape_unit, units, units_after, utf16}

@@ -1,6 +1,6 @@
 -- Whole numbers beside the size of a decimal number.
-use Rattle.std.proofs.Common.{◌≡◌, ℕ, zero, suc, ◌+◌, ◌-◌, ◌*◌, ◌/◌, ◌%◌, ◌^◌, ◌<◌, ◌≤◌, ℤ, pos, negsuc, Bool, true, false, ◌&&◌, ◌==◌, cond, nat_lt, List, [], ◌∷◌, drop, refl, sym, ap, ◌∙◌, arith, subst, codes, inl, inr}
-use Rattle.std.proofs.Math.Nat.{le-mul_of_pos_right, mul-one, mul_assoc, pow-suc, pow-succ'}
+use Rattle.std.proofs.Common.{◌≡◌, ℕ, suc, ◌+◌, ◌-◌, ◌*◌, ◌%◌, ◌^◌, ◌<◌, ◌≤◌, ℤ, pos, negsuc, Bool, true, false, ◌&&◌, ◌==◌, nat_lt, List, [], ◌∷◌, drop, refl, sym, ap, ◌∙◌, arith, inl, inr}
+use Rattle.std.proofs.Math.Nat.{le-mul_of_pos_right, mul-one, mul_assoc, pow-succ'}
 use Rattle.std.proofs.lemmas.Bool.{and_parts, eqb-true, false≢true, ne_eqb, not-true, cases_Bool}
 use Rattle.std.proofs.lemmas.Bool.Decides.{nat_tests}
 use Rattle.std.specs.Char.{digit_value}
@@ -12,11 +12,11 @@ use Rattle.swc_ecma_codegen_ast.specs.Chars.{is_digit}
 use Rattle.swc_ecma_codegen_ast.specs.DecimalValues.{size_value}
 use Rattle.swc_ecma_codegen_ast.specs.LitPhrases.{is_compared, is_in_decimal, is_in_radix, is_same_number}
 use Rattle.swc_ecma_codegen_ast.specs.Numbers.{is_hex}
-use Rattle.swc_ecma_codegen_ast.specs.NumberValues.{DecimalFraction, MathValue, decimal_value, digits_after, exact_value, lowest, numeric_value, over_ten, times_ten, zero_value}
+use Rattle.swc_ecma_codegen_ast.specs.NumberValues.{DecimalFraction, decimal_value, digits_after, exact_value, lowest, numeric_value, over_ten, times_ten, zero_value}
 use Rattle.swc_ecma_codegen_ast.specs.Texts.{begins}
 use Rattle.swc_ecma_codegen_grammar.proofs.DigitForms.{first_digit, power_some}
 use Rattle.swc_ecma_codegen_grammar.proofs.MantissaLaws.{swapped}
-use Rattle.swc_ecma_codegen_grammar.proofs.NormalDecimals.{IsLean, normal_characters, normal_digits, normal_lean, normal_zero}
+use Rattle.swc_ecma_codegen_grammar.proofs.NormalDecimals.{normal_characters, normal_digits, normal_lean, normal_zero}
 use Rattle.swc_ecma_codegen_grammar.specs.Mantissas.{ends_in_some}
 
 -- ---- powers of ten

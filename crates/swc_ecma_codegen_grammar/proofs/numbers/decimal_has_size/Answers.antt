@@ -1,10 +1,8 @@
-use Rattle.std.proofs.Common.{◌≡◌, ◌+◌, ◌==◌, Bool, true, false, [], ◌∷◌, List, length, None, Some, ap, sym, ◌∙◌}
+use Rattle.std.proofs.Common.{◌≡◌, ◌==◌, true, false, [], ◌∷◌, length, ap, sym, ◌∙◌}
 use Rattle.std.specs.Str.{chars}
-use Rattle.swc_ecma_codegen_ast.specs.DecimalValues.{decimal_digits, exact_size, size_value}
-use Rattle.swc_ecma_codegen_ast.specs.NumberValues.{exponent_value}
+use Rattle.swc_ecma_codegen_ast.specs.DecimalValues.{decimal_digits, exact_size}
 use Rattle.swc_ecma_codegen_ast.specs.Texts.{begins}
 use Rattle.swc_ecma_codegen_grammar.proofs.NormalDecimals.{lean_none, lean_some, normal_characters, same_sums, zero_size, zeros_found}
-use Rattle.swc_ecma_codegen_grammar.specs.Mantissas.{after_dot, after_mark, mantissa, stripped, zeros_after}
 use Rattle.swc_ecma_codegen_grammar.proofs.numbers.decimal_has_size.Goals as goal
 
 pub returns-in-Some : goal.returns-in-Some
