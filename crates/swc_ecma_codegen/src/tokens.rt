@@ -32,6 +32,7 @@ impl<W: WriteJs, S, C: Comments> Emitter<'_, W, S, C> {
     }
 
     /// Writes a keyword.
+    #[inline(never)]
     pub(crate) fn keyword(&mut self, span: Option<Span>, text: &'static str) -> Answer
         requires { begins_letter text.now ≡ true }
         ensures items { Emits (keyword span text.now) (state_of W.sheet self.old) (state_of W.sheet self.new) result }
@@ -41,6 +42,7 @@ impl<W: WriteJs, S, C: Comments> Emitter<'_, W, S, C> {
     }
 
     /// Writes an operator that is a punctuator.
+    #[inline(never)]
     pub(crate) fn operator(&mut self, mark: Punctuator) -> Answer
         ensures items { Emits (operator (spelling mark)) (state_of W.sheet self.old) (state_of W.sheet self.new) result }
         ensures level { OnOk result ((W.sheet self.new.wr).indentation ≡ (W.sheet self.old.wr).indentation) }
@@ -59,6 +61,7 @@ impl<W: WriteJs, S, C: Comments> Emitter<'_, W, S, C> {
     }
 
     /// Writes a punctuator.
+    #[inline(never)]
     pub(crate) fn punct(&mut self, mark: Punctuator) -> Answer
         ensures items { Emits (punct (spelling mark)) (state_of W.sheet self.old) (state_of W.sheet self.new) result }
         ensures level { OnOk result ((W.sheet self.new.wr).indentation ≡ (W.sheet self.old.wr).indentation) }
@@ -76,6 +79,7 @@ impl<W: WriteJs, S, C: Comments> Emitter<'_, W, S, C> {
     }
 
     /// Writes a blank.
+    #[inline(never)]
     pub(crate) fn space(&mut self) -> Answer
         ensures items { Emits (space) (state_of W.sheet self.old) (state_of W.sheet self.new) result }
         ensures level { OnOk result ((W.sheet self.new.wr).indentation ≡ (W.sheet self.old.wr).indentation) }
@@ -167,6 +171,7 @@ impl<W: WriteJs, S, C: Comments> Emitter<'_, W, S, C> {
     }
 
     /// Writes a name with its comments.
+    #[inline(never)]
     pub(crate) fn name(&mut self, span: Span, sym: &str, optional: bool) -> Answer
         ensures items { Emits (name span sym.now optional) (state_of W.sheet self.old) (state_of W.sheet self.new) result }
         ensures level { OnOk result ((W.sheet self.new.wr).indentation ≡ (W.sheet self.old.wr).indentation) }

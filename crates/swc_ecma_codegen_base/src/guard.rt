@@ -25,6 +25,9 @@ fn row(class: TokenClass) -> usize
     ensures value { result ≡ row_of class }
     ensures below { result < 63 }
 {
+    if let TokenClass::Punctuator(mark) = class {
+        return mark.place();
+    }
     match class {
         TokenClass::Punctuator(mark) => mark.place(),
         TokenClass::LessBang => PUNCTUATORS,

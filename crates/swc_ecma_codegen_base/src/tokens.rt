@@ -19,13 +19,14 @@ use crate::guard::blank_due;
 use crate::last::Last;
 use crate::starts::StartClass;
 use std::snapshot::Snapshot;
-use swc_ecma_codegen_common::{Answer, BytePos, DUMMY_SP, Refusal, Result, Span};
+use swc_ecma_codegen_common::{Answer, BytePos, DUMMY_SP, Error, Refusal, Result, Span};
 use swc_ecma_codegen_literals::Punctuator;
 use swc_ecma_codegen_text_writer::WriteJs;
 use swc_ecma_codegen_util::config::Config;
 
 impl LowerEmitter {
     /// What a call of the writer that leaves the last token answered is passed on in short.
+    #[inline]
     fn keep(&mut self, answer: Result) -> Answer
         ensures same { result ≡ in_short answer }
         ensures token { self.new.token.value ≡ self.old.token.value }
@@ -34,16 +35,26 @@ impl LowerEmitter {
     {
         match answer {
             Ok(()) => Ok(()),
-            Err(error) => {
-                let refusal = error.refusal();
-                self.failed = true;
-                self.fault = error.into_fault();
-                Err(refusal)
-            }
+            Err(error) => self.fail(error),
         }
     }
 
+    /// The error of a call is kept, and passed on in short.
+    #[cold]
+    #[inline(never)]
+    fn fail(&mut self, error: Error) -> Answer
+        ensures same { result ≡ Err (reason_of error) }
+        ensures token { self.new.token.value ≡ self.old.token.value }
+        ensures failed { self.new.failed ≡ true }
+    {
+        let refusal = error.refusal();
+        self.failed = true;
+        self.fault = error.into_fault();
+        Err(refusal)
+    }
+
     /// What a call of the writer answered is noted, with the last token, and passed on in short.
+    #[inline]
     fn settle(&mut self, answer: Result, last: Last) -> Answer
         ensures same { result ≡ in_short answer }
         ensures ok { OnOk result ((self.new.token.value ≡ last) × (self.new.failed ≡ self.old.failed)) }
@@ -56,6 +67,7 @@ impl LowerEmitter {
     }
 
     /// Writes a blank where the last token and `text`, which begins so, would fuse.
+    #[inline(always)]
     #[tactic(auto, using(crate::proofs::Emitting::emits_failed, crate::proofs::Calls::level))]
     pub(crate) fn guard<W: WriteJs>(
         &mut self,
@@ -77,11 +89,19 @@ impl LowerEmitter {
         if !blank_due(self.last, next) {
             return Ok(());
         }
+        self.part(wr)
+    }
+
+    /// Writes a blank between two tokens.
+    #[inline(never)]
+    fn part<W: WriteJs>(&mut self, wr: &mut W) -> Answer
+    {
         let answer = wr.write_space();
         self.settle(answer, Last::Apart)
     }
 
     /// The same before a punctuator.
+    #[inline(always)]
     fn guard_mark<W: WriteJs>(&mut self, cfg: &Config, wr: &mut W, mark: Punctuator) -> Answer
         ensures items { Emits (step (Guard (spelling mark))) (state_of cfg.now (W.sheet wr.old) self.old) (state_of cfg.now (W.sheet wr.new) self.new) result }
         ensures level { OnOk result ((W.sheet wr.new).indentation ≡ (W.sheet wr.old).indentation) }
@@ -91,6 +111,7 @@ impl LowerEmitter {
     }
 
     /// The same before a word of the grammar.
+    #[inline(always)]
     #[tactic(auto, using(crate::proofs::Starting::letter_start))]
     fn guard_word<W: WriteJs>(&mut self, cfg: &Config, wr: &mut W, word: &'static str) -> Answer
         requires { begins_letter word.now ≡ true }
@@ -102,6 +123,7 @@ impl LowerEmitter {
     }
 
     /// The call of a keyword.
+    #[inline(always)]
     fn put_keyword<W: WriteJs>(
         &mut self,
         cfg: &Config,
@@ -119,18 +141,20 @@ impl LowerEmitter {
     }
 
     /// The call of an operator that is a punctuator.
+    #[inline(always)]
     fn put_operator<W: WriteJs>(&mut self, cfg: &Config, wr: &mut W, mark: Punctuator) -> Answer
         requires { self.old.failed ≡ false }
         ensures items { Emits (step (Token kind.Punctuator (Operator None (spelling mark)))) (state_of cfg.now (W.sheet wr.old) self.old) (state_of cfg.now (W.sheet wr.new) self.new) result }
         ensures level { OnOk result ((W.sheet wr.new).indentation ≡ (W.sheet wr.old).indentation) }
     {
         let _ = cfg;
-        let last = Last::after(self.last, mark);
         let answer = wr.write_operator(None, mark.as_str());
+        let last = Last::after(self.last, mark);
         self.settle(answer, last)
     }
 
     /// The call of an operator that is a word.
+    #[inline(always)]
     fn put_word_operator<W: WriteJs>(
         &mut self,
         cfg: &Config,
@@ -147,30 +171,33 @@ impl LowerEmitter {
     }
 
     /// The call of a punctuator.
+    #[inline(always)]
     fn put_punct<W: WriteJs>(&mut self, cfg: &Config, wr: &mut W, mark: Punctuator) -> Answer
         requires { self.old.failed ≡ false }
         ensures items { Emits (step (Token kind.Punctuator (Punct None (spelling mark)))) (state_of cfg.now (W.sheet wr.old) self.old) (state_of cfg.now (W.sheet wr.new) self.new) result }
         ensures level { OnOk result ((W.sheet wr.new).indentation ≡ (W.sheet wr.old).indentation) }
     {
         let _ = cfg;
-        let last = Last::after(self.last, mark);
         let answer = wr.write_punct(None, mark.as_str());
+        let last = Last::after(self.last, mark);
         self.settle(answer, last)
     }
 
     /// The call of a semicolon.
+    #[inline(always)]
     fn put_semi<W: WriteJs>(&mut self, cfg: &Config, wr: &mut W) -> Answer
         requires { self.old.failed ≡ false }
         ensures items { Emits (step (Token kind.Ending (Semi None))) (state_of cfg.now (W.sheet wr.old) self.old) (state_of cfg.now (W.sheet wr.new) self.new) result }
         ensures level { OnOk result ((W.sheet wr.new).indentation ≡ (W.sheet wr.old).indentation) }
     {
         let _ = cfg;
-        let last = Last::after(self.last, Punctuator::Semicolon);
         let answer = wr.write_semi(None);
+        let last = Last::after(self.last, Punctuator::Semicolon);
         self.settle(answer, last)
     }
 
     /// The call of a name.
+    #[inline(always)]
     pub(crate) fn put_symbol<W: WriteJs>(&mut self, cfg: &Config, wr: &mut W, text: &str) -> Answer
         requires { self.old.failed ≡ false }
         ensures items { Emits (step (Token kind.Name (Symbol dummy_span text.now))) (state_of cfg.now (W.sheet wr.old) self.old) (state_of cfg.now (W.sheet wr.new) self.new) result }
@@ -182,6 +209,7 @@ impl LowerEmitter {
     }
 
     /// Writes a keyword.
+    #[inline(always)]
     #[tactic(auto, unfolding(crate::specs::Words::keyword))]
     pub fn keyword<W: WriteJs>(
         &mut self,
@@ -202,6 +230,7 @@ impl LowerEmitter {
     }
 
     /// Writes an operator that is a punctuator.
+    #[inline(always)]
     #[tactic(auto, unfolding(crate::specs::Words::operator))]
     pub fn operator<W: WriteJs>(&mut self, cfg: &Config, wr: &mut W, mark: Punctuator) -> Answer
         ensures items { Emits (operator (spelling mark)) (state_of cfg.now (W.sheet wr.old) self.old) (state_of cfg.now (W.sheet wr.new) self.new) result }
@@ -215,6 +244,7 @@ impl LowerEmitter {
     }
 
     /// Writes an operator that is a word, as `in`.
+    #[inline(always)]
     #[tactic(auto, unfolding(crate::specs::Words::word_operator))]
     pub fn word_operator<W: WriteJs>(
         &mut self,
@@ -234,6 +264,7 @@ impl LowerEmitter {
     }
 
     /// Writes a punctuator.
+    #[inline(always)]
     #[tactic(auto, unfolding(crate::specs::Words::punct))]
     pub fn punct<W: WriteJs>(&mut self, cfg: &Config, wr: &mut W, mark: Punctuator) -> Answer
         ensures items { Emits (punct (spelling mark)) (state_of cfg.now (W.sheet wr.old) self.old) (state_of cfg.now (W.sheet wr.new) self.new) result }
@@ -247,6 +278,7 @@ impl LowerEmitter {
     }
 
     /// Writes a semicolon that may be left out where it isn't needed.
+    #[inline(always)]
     #[tactic(auto, unfolding(crate::specs::Words::semi))]
     pub fn semi<W: WriteJs>(&mut self, cfg: &Config, wr: &mut W) -> Answer
         ensures items { Emits (semi) (state_of cfg.now (W.sheet wr.old) self.old) (state_of cfg.now (W.sheet wr.new) self.new) result }
@@ -260,6 +292,7 @@ impl LowerEmitter {
     }
 
     /// Writes a blank.
+    #[inline(always)]
     pub fn space<W: WriteJs>(&mut self, cfg: &Config, wr: &mut W) -> Answer
         ensures items { Emits (space) (state_of cfg.now (W.sheet wr.old) self.old) (state_of cfg.now (W.sheet wr.new) self.new) result }
         ensures level { OnOk result ((W.sheet wr.new).indentation ≡ (W.sheet wr.old).indentation) }
@@ -273,6 +306,7 @@ impl LowerEmitter {
     }
 
     /// Ends the line, unless at a line's start.
+    #[inline(always)]
     pub fn line<W: WriteJs>(&mut self, cfg: &Config, wr: &mut W) -> Answer
         ensures items { Emits (line_end) (state_of cfg.now (W.sheet wr.old) self.old) (state_of cfg.now (W.sheet wr.new) self.new) result }
         ensures level { OnOk result ((W.sheet wr.new).indentation ≡ (W.sheet wr.old).indentation) }
@@ -286,6 +320,7 @@ impl LowerEmitter {
     }
 
     /// Writes a semicolon that is held back.
+    #[inline(always)]
     pub fn commit_pending_semi<W: WriteJs>(&mut self, cfg: &Config, wr: &mut W) -> Answer
         ensures items { Emits (commit_pending_semi) (state_of cfg.now (W.sheet wr.old) self.old) (state_of cfg.now (W.sheet wr.new) self.new) result }
         ensures level { OnOk result ((W.sheet wr.new).indentation ≡ (W.sheet wr.old).indentation) }
@@ -299,6 +334,7 @@ impl LowerEmitter {
     }
 
     /// Records a position. A writer that keeps none isn't asked to.
+    #[inline(always)]
     fn record<W: WriteJs>(&mut self, cfg: &Config, wr: &mut W, pos: BytePos) -> Answer
         ensures items { Emits (step (Plain (Position pos))) (state_of cfg.now (W.sheet wr.old) self.old) (state_of cfg.now (W.sheet wr.new) self.new) result }
         ensures level { OnOk result ((W.sheet wr.new).indentation ≡ (W.sheet wr.old).indentation) }
@@ -311,11 +347,19 @@ impl LowerEmitter {
         if !wr.care_about_srcmap() {
             return Ok(());
         }
+        self.add(wr, pos)
+    }
+
+    /// Has the writer record a position.
+    #[inline(never)]
+    fn add<W: WriteJs>(&mut self, wr: &mut W, pos: BytePos) -> Answer
+    {
         let answer = wr.add_srcmap(pos);
         self.keep(answer)
     }
 
     /// Writes a blank, unless the settings are to minify.
+    #[inline(always)]
     #[tactic(auto, unfolding(crate::specs::Words::formatting_space), using(crate::proofs::Calls::skipped, crate::proofs::Calls::not_skipped))]
     pub fn formatting_space<W: WriteJs>(&mut self, cfg: &Config, wr: &mut W) -> Answer
         ensures items { Emits formatting_space (state_of cfg.now (W.sheet wr.old) self.old) (state_of cfg.now (W.sheet wr.new) self.new) result }
@@ -340,6 +384,7 @@ impl LowerEmitter {
     }
 
     /// Records a position, unless it is none.
+    #[inline(always)]
     #[tactic(auto, unfolding(crate::specs::Words::position))]
     pub fn position<W: WriteJs>(&mut self, cfg: &Config, wr: &mut W, pos: BytePos) -> Answer
         ensures items { Emits (position pos) (state_of cfg.now (W.sheet wr.old) self.old) (state_of cfg.now (W.sheet wr.new) self.new) result }
@@ -353,6 +398,7 @@ impl LowerEmitter {
     }
 
     /// Records the position before one, unless that one is none.
+    #[inline(always)]
     #[tactic(auto, unfolding(crate::specs::Words::position_before))]
     pub fn position_before<W: WriteJs>(&mut self, cfg: &Config, wr: &mut W, pos: BytePos) -> Answer
         ensures items { Emits (position_before pos) (state_of cfg.now (W.sheet wr.old) self.old) (state_of cfg.now (W.sheet wr.new) self.new) result }

@@ -1,6 +1,6 @@
 //! The bytes go out here: one call of `write` at a time, and each fault is counted.
 
-ghost use Rattle.std.specs.Prelude.{◌≡◌, ◌<◌, ◌≤◌, [], ◌++◌, length, take, IfOk, OnOk, OnErr, IsSome};
+ghost use Rattle.std.specs.Prelude.{◌≡◌, ◌<◌, ◌≤◌, [], ◌++◌, length, take, IfOk, IfErr, OnOk, OnErr, IsSome};
 ghost use Rattle.std.specs.Str.{is_utf8};
 ghost use Rattle.std.proofs.Props.{props};
 ghost use Rattle.swc_ecma_codegen_text_writer.specs.Told.{Rises, IsFront, TellsSince};
@@ -9,12 +9,15 @@ use crate::logs::{Log, Taken};
 use std::io;
 use std::io::{ErrorKind, Write};
 use std::snapshot::Snapshot;
+use swc_ecma_codegen_common::{Answer, Refusal};
 
-/// A writer, and how many calls of its `write` failed. Proofs see further how it was handed in, and what went out since.
+/// A writer, how many calls of its `write` failed, and the error of the last of these until it is taken. Proofs see further how
+/// the writer was handed in, and what went out since.
 #[derive(Drop)]
 pub struct Outlet<W: Write> {
     inner: W,
     faults: u64,
+    fault: Option<io::Error>,
     before: Snapshot<W>,
     log: Log,
     ghost tells: { TellsSince (W.contents before.value) log.bytes (W.contents inner) } by { Prim.hlevel props },
@@ -34,6 +37,7 @@ impl<W: Write> Outlet<W> {
         Outlet {
             inner,
             faults: 0,
+            fault: None,
             before,
             log: Log::new(),
         }
@@ -45,23 +49,38 @@ impl<W: Write> Outlet<W> {
         let Outlet {
             inner,
             faults: _,
+            fault: _,
             before: _,
             log: _,
         } = self;
         inner
     }
 
-    fn count_fault(&mut self)
+    /// The error that was kept, which is kept no more.
+    pub fn take_fault(&mut self) -> Option<io::Error>
+        ensures before { self.new.before ≡ self.old.before }
+        ensures log { self.new.log ≡ self.old.log }
+        ensures faults { self.new.faults ≡ self.old.faults }
+    {
+        self.fault.take()
+    }
+
+    /// Counts a fault, and keeps its error. The count stays at `u64::MAX`.
+    #[cold]
+    #[inline(never)]
+    fn count_fault(&mut self, error: io::Error)
         ensures before { self.new.before ≡ self.old.before }
         ensures log { self.new.log ≡ self.old.log }
         ensures faults { Rises self.old.faults self.new.faults }
     {
         self.faults = self.faults.saturating_add(1);
+        self.fault = Some(error);
     }
 
     /// Calls `write` once. A fault is counted, an interruption too, and so is an answer of 0, which is an error
-    /// `WriteZero` here. The count stays at `u64::MAX`.
-    fn write_once(&mut self, rest: &[u8]) -> io::Result<usize>
+    /// `WriteZero` here.
+    #[inline(always)]
+    fn write_once(&mut self, rest: &[u8]) -> Result<usize, Refusal>
         requires { 0 < length rest.now }
         ensures taken { IfOk result (λ n. (0 < n) × (n ≤ length rest.now)) }
         ensures before { self.new.before ≡ self.old.before }
@@ -69,12 +88,13 @@ impl<W: Write> Outlet<W> {
         ensures logged { IfOk result (λ n. self.new.log.bytes ≡ self.old.log.bytes ++ take n rest.now) }
         ensures faults { OnOk result (self.new.faults ≡ self.old.faults) }
         ensures nothing { OnErr result (sent self.new ≡ sent self.old) }
+        ensures reason { IfErr result (λ refusal. refusal ≡ Refusal.Writer) }
         ensures counted { OnErr result (Rises self.old.faults self.new.faults) }
     {
         match self.inner.write(rest) {
             Ok(0) => {
-                self.count_fault();
-                Err(io::Error::from(ErrorKind::WriteZero))
+                self.count_fault(io::Error::from(ErrorKind::WriteZero));
+                Err(Refusal::Writer)
             }
             Ok(n) => {
                 let taken = Taken { bytes: &rest[..n] };
@@ -82,20 +102,22 @@ impl<W: Write> Outlet<W> {
                 Ok(n)
             }
             Err(error) => {
-                self.count_fault();
-                Err(error)
+                self.count_fault(error);
+                Err(Refusal::Writer)
             }
         }
     }
 
-    /// Writes a text. After an error a beginning of it is out: of `"foo"` nothing, `f` or `fo`.
-    pub fn write_text(&mut self, text: &str) -> io::Result<()>
+    /// Writes a text. After a fault a beginning of it is out: of `"foo"` nothing, `f` or `fo`.
+    #[inline(always)]
+    pub fn write_text(&mut self, text: &str) -> Answer
         ensures before { self.new.before ≡ self.old.before }
         ensures sent { OnOk result (sent self.new ≡ sent self.old ++ text.now) }
         ensures logged { OnOk result (self.new.log.bytes ≡ self.old.log.bytes ++ text.now) }
         ensures faults { OnOk result (self.new.faults ≡ self.old.faults) }
         ensures grows { OnErr result (IsFront (sent self.old) (sent self.new)) }
         ensures front { OnErr result (IsFront (sent self.new) (sent self.old ++ text.now)) }
+        ensures reason { IfErr result (λ refusal. refusal ≡ Refusal.Writer) }
         ensures counted { OnErr result (Rises self.old.faults self.new.faults) }
         // What was text stays text, and what wasn't doesn't become it.
         ensures whole { OnOk result (is_utf8 (sent self.new) ≡ is_utf8 (sent self.old)) }
