@@ -22,7 +22,7 @@ use Rattle.swc_ecma_codegen_ast.specs.CodeUnits.{units}
 use Rattle.swc_ecma_codegen_ast.specs.DecimalValues.{exact_size}
 use Rattle.swc_ecma_codegen_ast.specs.Numbers.{is_hex, is_octal, is_binary, is_either, is_number, is_big_integer, radix_of, big_digits}
 use Rattle.swc_ecma_codegen_ast.specs.NumberValues.{DecimalFraction, numeric_value, exact_value, all_octal}
-use Rattle.swc_ecma_codegen_ast.specs.Phrases.{Phrase, Never, Nothing, One, ◌>◌, where_, word, mark}
+use Rattle.swc_ecma_codegen_ast.specs.Phrases.{Phrase, Never, One, ◌>◌, where_, word, mark}
 use Rattle.swc_ecma_codegen_ast.specs.RegularExpressions.{is_regex}
 use Rattle.swc_ecma_codegen_ast.specs.StringValues.{string_value}
 use Rattle.swc_ecma_codegen_ast.specs.Texts.{is_empty, is_same}
