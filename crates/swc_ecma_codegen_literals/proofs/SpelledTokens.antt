@@ -3,26 +3,28 @@ use Rattle.std.proofs.Common.{List, Some, ap, false, ℕ, ◌∙◌, ◌≡◌}
 use Rattle.std.specs.Str.{chars}
 use Rattle.swc_ecma_codegen_common.specs.declared.decimals.Decimal.{Decimal}
 use Rattle.swc_ecma_codegen_tree.specs.declared.lits.Radix.{Radix}
-use Rattle.swc_ecma_codegen_ast.specs.declared.kinds.Kind.TheVariants.{BigInt, Number, Str}
+use Rattle.swc_ecma_codegen_ast.specs.declared.kinds.Kind.TheVariants.{BigInt, Number}
 use Rattle.swc_ecma_codegen_ast.specs.NumberValues.{exact_value}
 use Rattle.swc_ecma_codegen_ast.specs.StringValues.{string_value}
 use Rattle.swc_ecma_codegen_ast.specs.Tokens.{Digits, Exactly, Spells, Units, Value, has_shape, value_of}
-use Rattle.swc_ecma_codegen_literals.specs.BigIntegers.{IsBigInteger, radix_number}
-use Rattle.swc_ecma_codegen_literals.specs.NumberTexts.{IsSizeOf, decimal_digits, size_value}
+use Rattle.swc_ecma_codegen_ast.specs.LitPhrases.{big_int_token, number_token, string_token}
+use Rattle.swc_ecma_codegen_literals.specs.BigIntegers.{IsBigInteger}
+use Rattle.swc_ecma_codegen_ast.specs.DecimalValues.{exact_size}
+use Rattle.swc_ecma_codegen_literals.specs.NumberTexts.{IsSizeOf}
 use Rattle.swc_ecma_codegen_literals.specs.Separators.{without_underscores}
 use Rattle.swc_ecma_codegen_literals.proofs.SeparatedTexts.{worth_as_much}
 use Rattle.swc_ecma_codegen_literals.proofs.StringTokens.{strict_is_string, strict_same}
 
-pub string_spells : (text units : List ℕ) → string_value false text ≡ Some units → Spells (record { kind = Str; value = Units (Some units) }) text
-unfolding has_shape value_of
+pub string_spells : (text units : List ℕ) → string_value false text ≡ Some units → Spells (string_token units) text
+unfolding has_shape value_of string_token
 string_spells text units h = record { shape = strict_is_string text units h; value = ap Units (strict_same text units h) }
 
-pub size_spells : (number : Decimal) (size : List ℕ) → IsSizeOf number size → Spells (record { kind = Number; value = Exactly (exact_value (size_value (decimal_digits number) number.exponent)) }) (chars size)
-unfolding has_shape value_of
+pub size_spells : (number : Decimal) (size : List ℕ) → IsSizeOf number size → Spells (number_token (exact_size number)) (chars size)
+unfolding has_shape value_of number_token
 size_spells number size s = record { shape = s.shape; value = ap Exactly s.value }
 
-pub integer_spells : (radix : Radix) (digits text : List ℕ) → IsBigInteger radix digits text → Spells (record { kind = BigInt; value = Digits (radix_number radix) digits }) text
-unfolding has_shape value_of
+pub integer_spells : (radix : Radix) (digits text : List ℕ) → IsBigInteger radix digits text → Spells (big_int_token radix digits) text
+unfolding has_shape value_of big_int_token
 integer_spells radix digits text s = record { shape = s.shape; value = λ i. Digits (s.base i) (s.value i) }
 
 -- a number and a big integer stay the same token without `_`
