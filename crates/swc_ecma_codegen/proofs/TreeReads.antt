@@ -10,8 +10,8 @@ use Rattle.swc_ecma_codegen_ast.specs.StmtPhrases as stmt_lists
 use Rattle.swc_ecma_codegen_ast.specs.TreePhrases.{program_phrase, is_well_formed}
 use Rattle.swc_ecma_codegen_util.specs.declared.config.Config.{Config}
 use Rattle.swc_ecma_codegen_text_writer.specs.View.{new_sheet}
-use Rattle.swc_ecma_codegen_base.specs.Run.{Env, Plan, Part, State, nothing, Follows, start, remakes_name, steps_of, steps_in}
-use Rattle.swc_ecma_codegen_base.specs.Escapes.{escapes_name}
+use Rattle.swc_ecma_codegen_base.specs.Run.{Env, Plan, Part, State, nothing, Follows, start, makes_text, steps_of, steps_in}
+use Rattle.swc_ecma_codegen_base.specs.Escapes.{may_make_text}
 use Rattle.swc_ecma_codegen_base.specs.Named.{RecordsNames}
 use Rattle.swc_ecma_codegen_text_writer.specs.Recorded.{RecordsTruly}
 use Rattle.swc_ecma_codegen_ast.specs.Phrases.{names_in}
@@ -60,7 +60,7 @@ pub program_names : (n : Program AnyNode) (a b : State) (r : Result (Unit {0}) E
 program_names n a b r w k e h = root_names (OfProgram n) _ a b r refl w k e h
 
 -- which names are made anew
-pub root_remakes : (n : Root) (s : State) → is_well_formed_root n ≡ true → s.env.keeps_invalid ≡ false → remakes_name (steps_of (steps_in (root_items n) s)) ≡ escapes_name (root_phrase n)
+pub root_remakes : (n : Root) (s : State) → is_well_formed_root n ≡ true → s.env.keeps_invalid ≡ false → makes_text (steps_of (steps_in (root_items n) s)) ≡ may_make_text (root_phrase n)
 root_remakes n s w e = printed_remakes (root_items n) (root_phrase n) s.env (root_prints s.env e n) w
 
 pub new_is_new : (config : Config) (bytes line_end : List ℕ) → IsLineEnd line_end → IsNew (start config (new_sheet bytes line_end))

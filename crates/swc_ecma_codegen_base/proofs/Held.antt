@@ -8,7 +8,7 @@ use Rattle.swc_ecma_codegen_base.specs.Written.{holds_one}
 
 -- ---- what recording positions leaves
 
-recorded_keeps : {A : Type 0} (f : Sheet → A) → ((s : Sheet) (x : List Pair) → f (record s { pairs = x }) ≡ f s) → (pos : BytePos) (s : Sheet) → f (recorded pos s) ≡ f s
+pub recorded_keeps : {A : Type 0} (f : Sheet → A) → ((s : Sheet) (x : List Pair) → f (record s { pairs = x }) ≡ f s) → (pos : BytePos) (s : Sheet) → f (recorded pos s) ≡ f s
 unfolding recorded
 recorded_keeps f k pos s = elim s.keeps_positions as (λ b. f (cond b (record s { pairs = with_pair pos s.place s.pairs }) s) ≡ f s) [ true ↦ k s (with_pair pos s.place s.pairs) | false ↦ refl ]
 

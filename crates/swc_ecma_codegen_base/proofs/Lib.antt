@@ -12,8 +12,11 @@ pub mod Marks
 pub mod Indented
 pub mod Held
 pub mod Written
+pub mod Texts
+pub mod NumberEnds
 pub mod Positions
 pub mod Printed
+pub mod LiteralParts
 pub mod Phrased
 pub mod SoFar
 pub mod Made

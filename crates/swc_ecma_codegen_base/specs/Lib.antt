@@ -1,5 +1,6 @@
 pub mod Run
 pub mod Words
+pub mod Literals
 pub mod Last
 pub mod View
 pub mod Written

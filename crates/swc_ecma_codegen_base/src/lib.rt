@@ -8,6 +8,7 @@ ghost use Rattle.swc_ecma_codegen_base.specs.Last.{class_of};
 mod comments;
 mod guard;
 mod last;
+mod literals;
 pub mod laws;
 mod names;
 mod refusals;
