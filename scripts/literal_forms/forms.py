@@ -36,16 +36,23 @@ def regex(exp, flags=""):
     return {"Regex": {"span": NOWHERE, "exp": exp, "flags": flags}}
 
 
-# values whose shortest spelling as a double is exact to the tree
+# values that are the shortest spelling of a double
 PLAIN = """
 0 -0 1 5 7 10 99 100 101 999 1000 1001 1024 9999 10000 12000 100000 123000 999999 1000000
 0.5 0.25 0.1 0.01 0.001 0.0001 0.00012 0.000123 0.0010 1.5 2.50 10.5 1234.5678 99.001 1000.5 0.30000000000000004
 4294967295 4294967296 281474976710655 281474976710656 999999999999999 1000000000000000 1000000000000001
-1099511627775 4503599627370495 9007199254740991 9007199254740992 1152921504606846976 9223372036854775808
-18446744073709551616 36893488147419103232 1e18 1e19 1e20 1e21 1e22 123e20 1e100 1.5e300 1.7976931348623157e308
+1099511627775 4503599627370495 9007199254740991 9007199254740992 1152921504606847000 9223372036854776000
+18446744073709552000 1e18 1e19 1e20 1e21 1e22 123e20 1e100 1.5e300 1.7976931348623157e308
 1e-6 1e-7 1.5e-7 2.2250738585072014e-308 5e-324
--1 -5 -1000 -0.5 -0.000123 -1e21 -1000000000000001 -9223372036854775808 -1e-7
+-1 -5 -1000 -0.5 -0.000123 -1e21 -1000000000000001 -1152921504606847000 -9223372036854776000 -1e-7
 Infinity -Infinity NaN
+""".split()
+
+# values that are none: node rounds them
+EXACT = """
+9007199254740993 1000000000000000001 1152921504606846976 9223372036854775807 9223372036854775808 9223372036854775809
+18446744073709551615 -1000000000000000001 -9223372036854775807 -9223372036854775808 -9223372036854775809
+0.1000000000000000055511151231257827 1.0000000000000000001 123456789012345678901234567890 1e310 -1e310 1e-330
 """.split()
 
 # each raw of a number
@@ -66,7 +73,7 @@ RAWS = {
     "1e21": "1e21 1E21 1000000000000000000000 1e2_1",
     "1000000000000001": "1000000000000001 1_000_000_000_000_001 0x38d7ea4c68001",
     "9007199254740992": "9007199254740992 0x20000000000000 0b100000000000000000000000000000000000000000000000000000",
-    "9223372036854775808": "9223372036854775808 0x8000000000000000",
+    "9223372036854776000": "9223372036854776000 9_223_372_036_854_776_000",
     "Infinity": "1e999 1e1_000 2e308 1" + "0" * 309,
 }
 
@@ -147,6 +154,7 @@ GROUPS = [
     ("booleans and null", [{"Bool": {"span": NOWHERE, "value": True}}, {"Bool": {"span": NOWHERE, "value": False}},
                            {"Null": {"span": NOWHERE}}]),
     ("numbers by their value", [number(value) for value in PLAIN]),
+    ("numbers that are no doubles, and their own values", [number(value) for value in EXACT]),
     ("numbers with a raw", [number(value, raw) for value, raws in RAWS.items() for raw in raws.split()]),
     ("big integers", BIGS),
     ("regular expressions", REGEXES),
@@ -167,6 +175,46 @@ def units(value):
     )
     encoded = spelled.encode("utf-16-be", "surrogatepass")
     return [encoded[at] * 256 + encoded[at + 1] for at in range(0, len(encoded), 2)]
+
+
+def plain(held):
+    """The digits of a decimal, without exponent."""
+    digits, exponent = held["digits"], held["exponent"]
+    if exponent < 0:
+        whole = digits.rjust(1 - exponent, "0")
+        digits, exponent = f"{whole[:exponent]}.{whole[exponent:]}", 0
+    return ("-" if held["negative"] else "") + digits + "0" * exponent
+
+
+def minified(held):
+    """The shortest of the spellings of a decimal: its digits, hexadecimal ones of an integer, or those without zeros."""
+    spelled = plain(held)
+    best = spelled
+    if held["exponent"] >= 0:
+        size = int(spelled.lstrip("-"))
+        hexadecimal = f"{'-' if held['negative'] else ''}{size:#x}"
+        if size <= 2**63 and len(hexadecimal) < len(best):
+            best = hexadecimal
+    short = re.sub(r"^(-?)0\.", r"\1.", spelled)
+    if zeros := re.match(r"\.(000+)(.*)", short):
+        short = f"{zeros[2]}e-{len(zeros[1]) + len(zeros[2])}"
+    elif zeros := re.fullmatch(r"(.*?)(000+)", short):
+        short = f"{zeros[1]}e{len(zeros[2])}"
+    return short if len(short) < len(best) else best
+
+
+def number_text(node, is_minified):
+    """A number by its value; `Infinity` that has a raw by it."""
+    value = node["value"]
+    if isinstance(value, str):
+        return node["raw"] or {name: text for text, name in SPECIAL.items()}[value]
+    return minified(value["Finite"]) if is_minified else plain(value["Finite"])
+
+
+def is_exact(node, answer):
+    """Whether node's answer is this number, and not only the double that it is rounded to."""
+    value = node["value"]
+    return isinstance(value, str) or ("Infinity" not in answer and finite(answer) == value["Finite"])
 
 
 def is_double(value, answer):

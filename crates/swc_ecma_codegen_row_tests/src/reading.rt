@@ -56,36 +56,53 @@ fn is_token(
     token: &[char],
 ) -> Result<bool, AllocError> {
     match letter {
-        "0" => Ok(found == token || is_as_much(numeric_value(found), numeric_value(token))),
-        "b" => Ok(without_separators(alloc, found)?.as_slice() == token),
+        "0" | "b" => Ok(found == token || is_as_much(value(found), value(token))),
         "s" => is_alike(string_value(alloc, true, found)?, string_value(alloc, true, token)?),
         _ => Ok(found == token),
     }
 }
 
-/// Whether two numbers are the same: `1000` and `1e3`.
-fn is_as_much(a: Option<HeldNumber>, b: Option<HeldNumber>) -> bool {
-    match (a, b) {
-        (Some(a), Some(b)) => shortened(&a) == shortened(&b),
-        _ => false,
+/// A number as digits that end with no zero, and a power of ten: 1, 3 and 0 of `1000`; 25, 0 and 1 of `2.50`.
+type Value = (u128, u128, u128);
+
+/// The value of a numeric literal; `None` where there is no room for it.
+fn value(text: &[char]) -> Option<Value> {
+    match numeric_value(text) {
+        Some(number) => Some(shortened(number, 0)),
+        None => rounded(text),
     }
 }
 
-/// A number without the zeros at its end, and a power of ten: 1, 3 and 0 of 1000; 25, 0 and 1 of 2.50.
-fn shortened(number: &HeldNumber) -> (u128, u128, u128) {
+/// The same of a large integer that ends with zeros.
+fn rounded(text: &[char]) -> Option<Value> {
+    if !text.iter().all(|c| c.is_ascii_digit()) {
+        return None;
+    }
+    let mut kept = text;
+    let mut zeros: u128 = 0;
+    for _ in 1..text.len() {
+        if let [rest @ .., '0'] = kept {
+            kept = rest;
+            zeros = zeros.saturating_add(1);
+        }
+    }
+    Some(shortened(numeric_value(kept)?, zeros))
+}
+
+/// The value of a number and so many zeros.
+fn shortened(number: HeldNumber, zeros: u128) -> Value {
     let mut whole = number.whole;
-    let mut tens = number.tens;
+    let mut tens = number.tens.saturating_add(zeros);
     for _ in 0..39 {
         if whole != 0 && whole % 10 == 0 {
             whole /= 10;
             tens = tens.saturating_add(1);
         }
     }
-    let common = if whole == 0 {
-        tens.max(number.tenths)
-    } else {
-        tens.min(number.tenths)
-    };
+    if whole == 0 {
+        return (0, 0, 0);
+    }
+    let common = tens.min(number.tenths);
     (
         whole,
         tens.saturating_sub(common),
@@ -93,15 +110,9 @@ fn shortened(number: &HeldNumber) -> (u128, u128, u128) {
     )
 }
 
-/// A big integer without the `_` between its digits.
-fn without_separators(alloc: Global, text: &[char]) -> Result<Vec<char>, AllocError> {
-    let mut found = Vec::new(alloc);
-    for c in text {
-        if *c != '_' {
-            found.push(*c)?;
-        }
-    }
-    Ok(found)
+/// Whether two values are known and the same.
+fn is_as_much(a: Option<Value>, b: Option<Value>) -> bool {
+    a.is_some() && a == b
 }
 
 /// Whether two strings have the same code units.
