@@ -245,6 +245,7 @@ lit_prints : (env : Env) (n : Lit) (place : Place) → Prints env (lit_at n plac
 unfolding lit_at lit_lists.lit
 lit_prints env (lits.Num n) Object = prints_number env n
 lit_prints env (lits.Num n) (DottedObject prop) = prints_number_object env n prop
+lit_prints env (lits.JSXText n) place = prints_never
 lit_prints env n place = prints_lit env n
 
 parts_print : {X : Type 0} (l : Linked X) (n : Expr X) (place : Place) → Prints l.env (words.expr_parts l.asks l.items n place) (lists.expr l.reads n)

@@ -6,11 +6,13 @@ use Rattle.swc_ecma_codegen_base.specs.Run.{Part}
 use Rattle.swc_ecma_codegen_base.specs.Lits.{number_lit, number_object, lit}
 use Rattle.swc_ecma_codegen.specs.declared.nodes.Place.{Place}
 use Rattle.swc_ecma_codegen.specs.declared.nodes.Place.TheVariants.{Object, DottedObject}
+use Rattle.swc_ecma_codegen.specs.Lists.{unsupported}
 
 -- `10` of `10..x` has a dot of its own, `10` of `10[x]` has none
 unfoldable pub lit_at : Lit → Place → Part
 lit_at (lits.Num n) Object rest = number_lit n rest
 lit_at (lits.Num n) (DottedObject prop) rest = number_object n prop rest
+lit_at (lits.JSXText n) place rest = unsupported rest
 lit_at n place rest = lit n rest
 
 -- the object of a member
