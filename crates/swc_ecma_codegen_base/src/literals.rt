@@ -41,6 +41,13 @@ fn number_end(text: &str) -> Last
     }
 }
 
+/// Whether a dot after a number, which may have a sign, would belong to it.
+pub(crate) fn takes_dot(text: &str) -> bool
+    ensures { result ≡ takes_dot (chars (size_of text.now)) }
+{
+    matches!(number_class(size_of(text)), TokenClass::Integer)
+}
+
 impl LowerEmitter {
     /// The call of a string.
     fn put_string<W: WriteJs>(&mut self, cfg: &Config, wr: &mut W, text: &str) -> Answer
