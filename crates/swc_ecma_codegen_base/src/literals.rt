@@ -127,13 +127,7 @@ impl LowerEmitter {
     }
 
     /// The call of the digits of a big integer, before its `n`.
-    fn put_digits<W: WriteJs>(
-        &mut self,
-        cfg: &Config,
-        wr: &mut W,
-        span: Span,
-        text: &str,
-    ) -> Answer
+    fn put_digits<W: WriteJs>(&mut self, cfg: &Config, wr: &mut W, span: Span, text: &str) -> Answer
         requires { self.old.failed ≡ false }
         ensures items { Emits (step (Plain (Lit span text.now))) (state_of cfg.now (W.sheet wr.old) self.old) (state_of cfg.now (W.sheet wr.new) self.new) result }
         ensures level { OnOk result ((W.sheet wr.new).indentation ≡ (W.sheet wr.old).indentation) }
@@ -145,13 +139,7 @@ impl LowerEmitter {
     }
 
     /// The call of the `n` after these digits.
-    fn put_suffix<W: WriteJs>(
-        &mut self,
-        cfg: &Config,
-        wr: &mut W,
-        span: Span,
-        text: &str,
-    ) -> Answer
+    fn put_suffix<W: WriteJs>(&mut self, cfg: &Config, wr: &mut W, span: Span, text: &str) -> Answer
         requires { self.old.failed ≡ false }
         ensures items { Emits (step (Ends (signed kind.BigInt (text.now ++ codes "n")) (Lit span (codes "n")))) (state_of cfg.now (W.sheet wr.old) self.old) (state_of cfg.now (W.sheet wr.new) self.new) result }
         ensures level { OnOk result ((W.sheet wr.new).indentation ≡ (W.sheet wr.old).indentation) }
@@ -205,13 +193,7 @@ impl LowerEmitter {
     }
 
     /// The call of the flags, with which it ends.
-    fn put_flags<W: WriteJs>(
-        &mut self,
-        cfg: &Config,
-        wr: &mut W,
-        exp: &str,
-        flags: &str,
-    ) -> Answer
+    fn put_flags<W: WriteJs>(&mut self, cfg: &Config, wr: &mut W, exp: &str, flags: &str) -> Answer
         requires { self.old.failed ≡ false }
         ensures items { Emits (step (Ends ((kind.Regex, regex_text exp.now flags.now) ∷ []) (calls.Str flags.now))) (state_of cfg.now (W.sheet wr.old) self.old) (state_of cfg.now (W.sheet wr.new) self.new) result }
         ensures level { OnOk result ((W.sheet wr.new).indentation ≡ (W.sheet wr.old).indentation) }
@@ -330,13 +312,7 @@ impl LowerEmitter {
 
     /// Writes a regular expression.
     #[tactic(auto, unfolding(crate::specs::Literals::regex))]
-    pub fn regex<W: WriteJs>(
-        &mut self,
-        cfg: &Config,
-        wr: &mut W,
-        exp: &str,
-        flags: &str,
-    ) -> Answer
+    pub fn regex<W: WriteJs>(&mut self, cfg: &Config, wr: &mut W, exp: &str, flags: &str) -> Answer
         ensures items { Emits (regex exp.now flags.now) (state_of cfg.now (W.sheet wr.old) self.old) (state_of cfg.now (W.sheet wr.new) self.new) result }
         ensures level { OnOk result ((W.sheet wr.new).indentation ≡ (W.sheet wr.old).indentation) }
     {

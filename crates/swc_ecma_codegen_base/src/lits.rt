@@ -149,12 +149,7 @@ impl LowerEmitter {
 
     /// The end of a directive is recorded.
     #[tactic(auto, unfolding(crate::specs::Lits::directive_end))]
-    fn directive_end<W: WriteJs>(
-        &mut self,
-        cfg: &Config,
-        wr: &mut W,
-        n: &Str,
-    ) -> Answer
+    fn directive_end<W: WriteJs>(&mut self, cfg: &Config, wr: &mut W, n: &Str) -> Answer
         ensures items { Emits (directive_end n.now) (state_of cfg.now (W.sheet wr.old) self.old) (state_of cfg.now (W.sheet wr.new) self.new) result }
         ensures level { OnOk result ((W.sheet wr.new).indentation ≡ (W.sheet wr.old).indentation) }
     {
@@ -228,12 +223,7 @@ impl LowerEmitter {
 
     /// Writes `true` or `false`.
     #[tactic(auto, unfolding(crate::specs::Lits::bool_lit))]
-    pub fn bool_lit<W: WriteJs>(
-        &mut self,
-        cfg: &Config,
-        wr: &mut W,
-        n: &Bool,
-    ) -> Answer
+    pub fn bool_lit<W: WriteJs>(&mut self, cfg: &Config, wr: &mut W, n: &Bool) -> Answer
         ensures items { Emits (bool_lit n.now) (state_of cfg.now (W.sheet wr.old) self.old) (state_of cfg.now (W.sheet wr.new) self.new) result }
         ensures level { OnOk result ((W.sheet wr.new).indentation ≡ (W.sheet wr.old).indentation) }
     {
@@ -243,12 +233,7 @@ impl LowerEmitter {
 
     /// Writes `null`.
     #[tactic(auto, unfolding(crate::specs::Lits::null_lit))]
-    pub fn null_lit<W: WriteJs>(
-        &mut self,
-        cfg: &Config,
-        wr: &mut W,
-        n: &Null,
-    ) -> Answer
+    pub fn null_lit<W: WriteJs>(&mut self, cfg: &Config, wr: &mut W, n: &Null) -> Answer
         ensures items { Emits (null_lit n.now) (state_of cfg.now (W.sheet wr.old) self.old) (state_of cfg.now (W.sheet wr.new) self.new) result }
         ensures level { OnOk result ((W.sheet wr.new).indentation ≡ (W.sheet wr.old).indentation) }
     {
@@ -259,12 +244,7 @@ impl LowerEmitter {
 
     /// Writes a regular expression.
     #[tactic(auto, unfolding(crate::specs::Lits::regex_lit))]
-    pub fn regex_lit<W: WriteJs>(
-        &mut self,
-        cfg: &Config,
-        wr: &mut W,
-        n: &Regex,
-    ) -> Answer
+    pub fn regex_lit<W: WriteJs>(&mut self, cfg: &Config, wr: &mut W, n: &Regex) -> Answer
         ensures items { Emits (regex_lit n.now) (state_of cfg.now (W.sheet wr.old) self.old) (state_of cfg.now (W.sheet wr.new) self.new) result }
         ensures level { OnOk result ((W.sheet wr.new).indentation ≡ (W.sheet wr.old).indentation) }
     {

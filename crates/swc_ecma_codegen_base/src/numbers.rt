@@ -39,11 +39,7 @@ fn is_finite(value: &NumberValue) -> bool
 
 /// `1e3` or `1000`
 #[tactic(auto, unfolding(crate::specs::Lits::decimal_text))]
-fn decimal_text(
-    alloc: Global,
-    minify: bool,
-    number: &Decimal,
-) -> std::result::Result<String, Error>
+fn decimal_text(alloc: Global, minify: bool, number: &Decimal) -> std::result::Result<String, Error>
     ensures exactly { IfOk result (λ text. string_bytes text ≡ decimal_text minify number.now) }
     ensures refused { IfErr result (λ error. error ≡ OutOfMemory) }
 {
@@ -67,9 +63,7 @@ fn by_value<'a>(
     ensures due { IfErr result (λ error. is_finite value.now ≡ true) }
 {
     match value {
-        NumberValue::Finite(number) => {
-            Ok(CowStr::Owned(decimal_text(alloc, minify, number)?))
-        }
+        NumberValue::Finite(number) => { Ok(CowStr::Owned(decimal_text(alloc, minify, number)?)) }
         NumberValue::NaN => Ok(CowStr::Borrowed("NaN")),
         _ => Ok(CowStr::Borrowed(raw)),
     }
