@@ -41,6 +41,13 @@ fn number_end(text: &str) -> Last
     }
 }
 
+/// Whether a dot after a number, which may have a sign, would belong to it.
+pub(crate) fn takes_dot(text: &str) -> bool
+    ensures { result ≡ takes_dot (chars (size_of text.now)) }
+{
+    matches!(number_class(size_of(text)), TokenClass::Integer)
+}
+
 impl LowerEmitter {
     /// The call of a string.
     fn put_string<W: WriteJs>(&mut self, cfg: &Config, wr: &mut W, text: &str) -> Answer
@@ -120,13 +127,7 @@ impl LowerEmitter {
     }
 
     /// The call of the digits of a big integer, before its `n`.
-    fn put_digits<W: WriteJs>(
-        &mut self,
-        cfg: &Config,
-        wr: &mut W,
-        span: Span,
-        text: &str,
-    ) -> Answer
+    fn put_digits<W: WriteJs>(&mut self, cfg: &Config, wr: &mut W, span: Span, text: &str) -> Answer
         requires { self.old.failed ≡ false }
         ensures items { Emits (step (Plain (Lit span text.now))) (state_of cfg.now (W.sheet wr.old) self.old) (state_of cfg.now (W.sheet wr.new) self.new) result }
         ensures level { OnOk result ((W.sheet wr.new).indentation ≡ (W.sheet wr.old).indentation) }
@@ -138,13 +139,7 @@ impl LowerEmitter {
     }
 
     /// The call of the `n` after these digits.
-    fn put_suffix<W: WriteJs>(
-        &mut self,
-        cfg: &Config,
-        wr: &mut W,
-        span: Span,
-        text: &str,
-    ) -> Answer
+    fn put_suffix<W: WriteJs>(&mut self, cfg: &Config, wr: &mut W, span: Span, text: &str) -> Answer
         requires { self.old.failed ≡ false }
         ensures items { Emits (step (Ends (signed kind.BigInt (text.now ++ codes "n")) (Lit span (codes "n")))) (state_of cfg.now (W.sheet wr.old) self.old) (state_of cfg.now (W.sheet wr.new) self.new) result }
         ensures level { OnOk result ((W.sheet wr.new).indentation ≡ (W.sheet wr.old).indentation) }
@@ -198,13 +193,7 @@ impl LowerEmitter {
     }
 
     /// The call of the flags, with which it ends.
-    fn put_flags<W: WriteJs>(
-        &mut self,
-        cfg: &Config,
-        wr: &mut W,
-        exp: &str,
-        flags: &str,
-    ) -> Answer
+    fn put_flags<W: WriteJs>(&mut self, cfg: &Config, wr: &mut W, exp: &str, flags: &str) -> Answer
         requires { self.old.failed ≡ false }
         ensures items { Emits (step (Ends ((kind.Regex, regex_text exp.now flags.now) ∷ []) (calls.Str flags.now))) (state_of cfg.now (W.sheet wr.old) self.old) (state_of cfg.now (W.sheet wr.new) self.new) result }
         ensures level { OnOk result ((W.sheet wr.new).indentation ≡ (W.sheet wr.old).indentation) }
@@ -323,13 +312,7 @@ impl LowerEmitter {
 
     /// Writes a regular expression.
     #[tactic(auto, unfolding(crate::specs::Literals::regex))]
-    pub fn regex<W: WriteJs>(
-        &mut self,
-        cfg: &Config,
-        wr: &mut W,
-        exp: &str,
-        flags: &str,
-    ) -> Answer
+    pub fn regex<W: WriteJs>(&mut self, cfg: &Config, wr: &mut W, exp: &str, flags: &str) -> Answer
         ensures items { Emits (regex exp.now flags.now) (state_of cfg.now (W.sheet wr.old) self.old) (state_of cfg.now (W.sheet wr.new) self.new) result }
         ensures level { OnOk result ((W.sheet wr.new).indentation ≡ (W.sheet wr.old).indentation) }
     {
