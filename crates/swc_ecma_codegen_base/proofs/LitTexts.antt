@@ -1,8 +1,10 @@
 -- Texts of literals, as tokens.
 use Rattle.std.proofs.Common.{◌≡◌, ℕ, Bool, true, false, cond, ◌==◌, ◌||◌, ◌&&◌, List, [], ◌∷◌, ◌++◌, codes, inl, inr, refl, sym, ap, ◌∙◌, subst, append_assoc}
 use Rattle.std.specs.Str.{chars, is_utf8, IsUtf8}
-use Rattle.std.proofs.lemmas.Bool.{and_parts, eqb-true, false_from_ne_true, or_cases, or_left, true≢false}
-use Rattle.std.proofs.lemmas.Str.{chars-append, chars-nil, chars_past_char, IsUtf8-append, IsUtf8-from_is_utf8}
+use Rattle.std.proofs.lemmas.Bool.{and_from, and_parts, cases_Bool, eqb-true, false_from_ne_true, or_cases, or_left, true≢false}
+use Rattle.std.proofs.lemmas.Str.{chars-append, chars-nil, chars_past_char, IsUtf8-append, IsUtf8-from_is_utf8, scalars-chars}
+use lib.Utf8.{scalar, scalars}
+use Rattle.swc_ecma_codegen_common.specs.declared.versions.EsVersion.{EsVersion}
 use Rattle.swc_ecma_codegen_ast.specs.declared.kinds.Kind.{Kind}
 use Rattle.swc_ecma_codegen_ast.specs.declared.kinds.Kind.TheVariants.{Punctuator, Number, BigInt, Str, Regex}
 use Rattle.swc_ecma_codegen_ast.specs.Chars.{begins_digit, is_digit}
@@ -22,9 +24,13 @@ use Rattle.swc_ecma_codegen_ast.proofs.RegexShapes.{some_regex}
 use Rattle.swc_ecma_codegen_ast.proofs.StringShapes.{some_string}
 use Rattle.swc_ecma_codegen_literals.specs.Beginnings.{begins_numeric}
 use Rattle.swc_ecma_codegen_literals.specs.NumberTexts.{sign_text}
+use Rattle.swc_ecma_codegen_literals.specs.Separators.{without_underscores}
 use Rattle.swc_ecma_codegen_literals.proofs.BeginningLaws.{big_integer_begins, number_begins, numeric_unsigned}
+use Rattle.swc_ecma_codegen_literals.proofs.SeparatedNumbers.{dropped, kept}
+use Rattle.swc_ecma_codegen_literals.proofs.SeparatedTexts.{chars_without, collected_bytes}
 use Rattle.swc_ecma_codegen_base.specs.declared.starts.StartClass.TheVariants as start
 use Rattle.swc_ecma_codegen_base.specs.Run.{spelling}
+use Rattle.swc_ecma_codegen_base.specs.Lits.{joined, may_join}
 use Rattle.swc_ecma_codegen_base.specs.Literals.{signed, size_of}
 use Rattle.swc_ecma_codegen_base.specs.Starts.{start_class, char_start, order}
 use Rattle.swc_ecma_codegen_base.proofs.OwnDots.{dotted_begins, dotted_is_number, dotted_same}
@@ -175,13 +181,13 @@ big_integer_signed value negative size u s = record {
   same = s.value;
 }
 
+some_after_sign : (negative : Bool) (size : List ℕ) → (size ≡ [] → ⊥) → sign_text negative ++ size ≡ [] → ⊥
+unfolding sign_text
+some_after_sign true size some e = absurd (cc)
+some_after_sign false size some e = some e
+
 pub some_signed : {kind : Kind} {value : Value} {negative : Bool} {t : List ℕ} → SignedToken kind value negative t → t ≡ [] → ⊥
-some_signed {kind} {value} {negative} {t} h e = none negative h.size h.spelled.some (sym h.parts ∙ e)
-  where
-    none : (b : Bool) (size : List ℕ) → (size ≡ [] → ⊥) → sign_text b ++ size ≡ [] → ⊥
-    unfolding sign_text
-    none true size some k = absurd (cc)
-    none false size some k = some k
+some_signed {kind} {value} {negative} h e = some_after_sign negative h.size h.spelled.some (sym h.parts ∙ e)
 
 -- ---- its tokens
 
@@ -268,3 +274,33 @@ with_dot value negative t h e =
       front = number_begins (chars (h.size ++ codes ".")) shape;
       same = ap (λ z. Exactly (exact_value (numeric_value z))) (dotted_chars h.size u) ∙ ap (λ z. Exactly (exact_value z)) (dotted_same (chars h.size) e) ∙ h.same;
     }
+
+-- ---- raws, and the same without `_`
+
+scalars_without : (cs : List ℕ) → scalars cs ≡ true → scalars (without_underscores cs) ≡ true
+scalars_without [] h = refl
+scalars_without (c ∷ cs) h =
+    let p = and_parts (scalar c) (scalars cs) h in
+    elim (cases_Bool (c == 95)) [
+      | inl y ↦ ap scalars (dropped c cs y) ∙ scalars_without cs p.1
+      | inr n ↦ ap scalars (kept c cs n) ∙ and_from (scalar c) (scalars (without_underscores cs)) p.0 (scalars_without cs p.1)
+    ]
+
+utf8_without : (bs : List ℕ) → IsUtf8 bs → IsUtf8 (without_underscores bs)
+utf8_without bs u = (without_underscores (chars bs), (scalars_without (chars bs) (scalars-chars bs u), collected_bytes bs u))
+
+-- a raw that spells a token
+pub record IsRawOf (x : lexical.Token) (raw : List ℕ) : Type 0 where
+  pub utf8 : IsUtf8 raw
+  pub spells : Spells x (chars raw)
+
+chosen_raw : (b : Bool) (x : lexical.Token) (raw : List ℕ) → ((text : List ℕ) → Spells x text → Spells x (without_underscores text)) → IsRawOf x raw → IsRawOf x (cond b (without_underscores raw) raw)
+chosen_raw true x raw stays h = record {
+  utf8 = utf8_without raw h.utf8;
+  spells = subst (λ z. Spells x z) (sym (chars_without raw h.utf8)) (stays (chars raw) h.spells);
+}
+chosen_raw false x raw stays h = h
+
+pub joined_raw : (x : lexical.Token) (v : EsVersion) (raw : List ℕ) → ((text : List ℕ) → Spells x text → Spells x (without_underscores text)) → IsRawOf x raw → IsRawOf x (joined v raw)
+unfolding joined
+joined_raw x v raw stays h = chosen_raw (may_join v raw) x raw stays h

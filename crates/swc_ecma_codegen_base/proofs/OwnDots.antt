@@ -69,14 +69,14 @@ zero_dot (c ∷ cs) h =
     (cond (is_either 111 79 c) (times_ten (digits_dot 8 0 cs i) 0)
     (cond (is_either 98 66 c) (times_ten (digits_dot 2 0 cs i) 0) (cond (same i) (times_ten (digits_dot 8 0 (c ∷ cs) i) 0) (decimal_dot 0 (c ∷ cs) i))))
 
+chosen_dot : (b : Bool) (c : ℕ) (cs : List ℕ) → cond b (after_zero cs) (is_digit c && digits false cs) ≡ true → cond b (zero_value (cs ++ dot)) (decimal_value 0 (c ∷ (cs ++ dot))) ≡ cond b (zero_value cs) (decimal_value 0 (c ∷ cs))
+chosen_dot true c cs h = zero_dot cs h
+chosen_dot false c cs h = decimal_dot 0 (c ∷ cs)
+
 integer_dot : (t : List ℕ) → is_integer t ≡ true → numeric_value (t ++ dot) ≡ numeric_value t
 unfolding numeric_value is_integer
 integer_dot [] h = absurd (true≢false (sym h))
-integer_dot (c ∷ cs) h = choice (c == 48) refl
-  where
-    choice : (b : Bool) → (c == 48) ≡ b → cond b (zero_value (cs ++ dot)) (decimal_value 0 (c ∷ (cs ++ dot))) ≡ cond b (zero_value cs) (decimal_value 0 (c ∷ cs))
-    choice true e = zero_dot cs (sym (ap (λ b. cond b (after_zero cs) (is_digit c && digits false cs)) e) ∙ h)
-    choice false e = decimal_dot 0 (c ∷ cs)
+integer_dot (c ∷ cs) h = chosen_dot (c == 48) c cs h
 
 -- ---- the whole
 

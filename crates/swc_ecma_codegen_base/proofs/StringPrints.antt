@@ -85,14 +85,14 @@ printed_raw config n us e h = elim (or_cases (is_directive n) (takes_raw config 
 
 -- ---- what stands between the quotes, whatever the settings
 
+chosen_string : (b : Bool) (config : Config) (n : strs.Str) → prints_raw config n ≡ b → raw_passes (spells_units (units (characters n.value))) n.raw ≡ true → IsStringOf (units (characters n.value)) (cond b (raw_text n.raw) (value_text config (string_bytes n.value)))
+unfolding value_text
+chosen_string true config n e h = printed_raw config n (units (characters n.value)) e h
+chosen_string false config n e h = value_string config.inline_script config.ascii_only config.target (characters n.value) (scalars-chars (string_bytes n.value) (IsUtf8-string_bytes n.value))
+
 written_string : (config : Config) (n : strs.Str) → raw_passes (spells_units (units (characters n.value))) n.raw ≡ true → IsStringOf (units (characters n.value)) (string_text config n)
-unfolding string_text value_text
-written_string config n h = choice (prints_raw config n) refl
-  where
-    choice : (b : Bool) → prints_raw config n ≡ b → IsStringOf (units (characters n.value)) (cond b (raw_text n.raw) (value_text config (string_bytes n.value)))
-    unfolding value_text
-    choice true e = printed_raw config n (units (characters n.value)) e h
-    choice false e = value_string config.inline_script config.ascii_only config.target (characters n.value) (scalars-chars (string_bytes n.value) (IsUtf8-string_bytes n.value))
+unfolding string_text
+written_string config n h = chosen_string (prints_raw config n) config n refl h
 
 -- ---- its parts
 
