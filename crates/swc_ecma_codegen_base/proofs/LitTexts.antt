@@ -146,7 +146,7 @@ sign_class true t h = ap start_class (minus_first t) ∙ dash_class (chars t) fa
 sign_class false t h = digit_class (chars t) h
 
 -- more behind it leaves that
-more_class : (negative : Bool) (t u : List ℕ) → IsUtf8 t → begins_digit (chars t) ≡ true → start_class (chars ((sign_text negative ++ t) ++ u)) ≡ start_class (chars (sign_text negative ++ t))
+pub more_class : (negative : Bool) (t u : List ℕ) → IsUtf8 t → begins_digit (chars t) ≡ true → start_class (chars ((sign_text negative ++ t) ++ u)) ≡ start_class (chars (sign_text negative ++ t))
 more_class negative t u i h =
     ap (λ z. start_class (chars z)) (append_assoc (sign_text negative) t u)
     ∙ sign_class negative (t ++ u) (ap begins_digit (chars-append t u i) ∙ digit_more (chars t) (chars u) h)
@@ -181,7 +181,7 @@ big_integer_signed value negative size u s = record {
   same = s.value;
 }
 
-some_after_sign : (negative : Bool) (size : List ℕ) → (size ≡ [] → ⊥) → sign_text negative ++ size ≡ [] → ⊥
+pub some_after_sign : (negative : Bool) (size : List ℕ) → (size ≡ [] → ⊥) → sign_text negative ++ size ≡ [] → ⊥
 unfolding sign_text
 some_after_sign true size some e = absurd (cc)
 some_after_sign false size some e = some e
