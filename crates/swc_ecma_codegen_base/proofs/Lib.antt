@@ -20,3 +20,11 @@ pub mod LiteralParts
 pub mod Phrased
 pub mod SoFar
 pub mod Made
+pub mod OwnDots
+pub mod LitTexts
+pub mod Remade
+pub mod LitPrints
+pub mod StringPrints
+pub mod NumberPrints
+pub mod BigPrints
+pub mod EachLit

@@ -66,7 +66,7 @@ steps_then {env} h q =
 unfoldable pub NamedBy : Env → Part → List (BytePos × List ℕ) → Type 0
 NamedBy env p names = (s : State) → s.sheet.keeps_positions ≡ true → Named names s.sheet (run (steps_of (p nothing env)) s).sheet
 
-no_names : (env : Env) (p : Part) → NamedBy env p []
+pub no_names : (env : Env) (p : Part) → NamedBy env p []
 unfolding NamedBy
 no_names env p s k = named_none s.sheet _ (run_records (steps_of (p nothing env)) s)
 
@@ -181,7 +181,7 @@ prints_word : (env : Env) (p : Part) (t : List ℕ) → IsWord t → Writes env 
 unfolding token_of value_of spelling lexical.word
 prints_word env p t w h = subst (λ z. Prints env p (phrases.word z)) w.ascii (prints_one env p _ h)
 
-prints_mark : (env : Env) (p : Part) (t : List ℕ) → Writes env p (token_of Punctuator (spelling Punctuator t) ∷ []) → Prints env p (mark t)
+pub prints_mark : (env : Env) (p : Part) (t : List ℕ) → Writes env p (token_of Punctuator (spelling Punctuator t) ∷ []) → Prints env p (mark t)
 unfolding token_of value_of spelling lexical.punctuator
 prints_mark env p t h = prints_one env p _ h
 
