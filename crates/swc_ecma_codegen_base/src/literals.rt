@@ -22,7 +22,7 @@ use swc_ecma_codegen_text_writer::WriteJs;
 use swc_ecma_codegen_util::config::Config;
 
 /// A text without its sign.
-fn size_of(text: &str) -> &str
+pub(crate) fn size_of(text: &str) -> &str
     ensures { result.now ≡ size_of text.now }
 {
     match text.strip_prefix('-') {
@@ -31,21 +31,23 @@ fn size_of(text: &str) -> &str
     }
 }
 
+/// Whether a dot after a number that is spelled so would belong to it.
+pub(crate) fn takes_dot(text: &str) -> bool
+    ensures { result ≡ takes_dot (chars text.now) }
+{
+    matches!(number_class(text), TokenClass::Integer)
+}
+
 /// The last token after a number that is spelled so.
+#[tactic(auto, unfolding(crate::specs::Last::last_at))]
 fn number_end(text: &str) -> Last
     ensures { last_at result ≡ (if takes_dot (chars text.now) then rules.IntegerEnd else rules.WordEnd) }
 {
-    match number_class(text) {
-        TokenClass::Integer => Last::IntegerEnd,
-        _ => Last::WordEnd,
+    if takes_dot(text) {
+        Last::IntegerEnd
+    } else {
+        Last::WordEnd
     }
-}
-
-/// Whether a dot after a number, which may have a sign, would belong to it.
-pub(crate) fn takes_dot(text: &str) -> bool
-    ensures { result ≡ takes_dot (chars (size_of text.now)) }
-{
-    matches!(number_class(size_of(text)), TokenClass::Integer)
 }
 
 impl LowerEmitter {

@@ -8,7 +8,7 @@ ghost use Rattle.swc_ecma_codegen_base.specs.Lits.{prints_number_raw, is_finite,
 ghost use Rattle.swc_ecma_codegen_base.specs.View.{state_of};
 
 use crate::LowerEmitter;
-use crate::literals::takes_dot;
+use crate::literals::{size_of, takes_dot};
 use crate::raws::{joined, raw_text, suits};
 use std::alloc::Global;
 use std::borrow::CowStr;
@@ -312,7 +312,7 @@ impl LowerEmitter {
         ensures items { Emits (before_property text.now pos) (state_of cfg.now (W.sheet wr.old) self.old) (state_of cfg.now (W.sheet wr.new) self.new) result }
         ensures level { OnOk result ((W.sheet wr.new).indentation ≡ (W.sheet wr.old).indentation) }
     {
-        if takes_dot(text) {
+        if takes_dot(size_of(text)) {
             self.dotted_number(cfg, wr, text)?;
             self.between_dots(cfg, comments, wr, pos)
         } else {
