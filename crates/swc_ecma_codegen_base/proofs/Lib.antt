@@ -2,6 +2,7 @@ pub mod Emitting
 pub mod Short
 pub mod Calls
 pub mod Spelled
+pub mod Anew
 pub mod Fronts
 pub mod Levels
 pub mod Strangers
