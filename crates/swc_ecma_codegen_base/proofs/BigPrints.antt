@@ -22,7 +22,7 @@ use Rattle.swc_ecma_codegen_literals.specs.NumberTexts.{sign_text}
 use Rattle.swc_ecma_codegen_literals.proofs.BigTokens.{big_signed}
 use Rattle.swc_ecma_codegen_literals.proofs.SpelledTokens.{integer_spells, integer_spells_without}
 use Rattle.swc_ecma_codegen_base.specs.Escapes.{is_spelled_anew}
-use Rattle.swc_ecma_codegen_base.specs.Lits.{begun_in, big_int_at, big_int_by, big_int_lit, big_int_text, joined, makes_big_int, prints_big_raw, raw_text}
+use Rattle.swc_ecma_codegen_base.specs.Lits.{begun_in, big_int_at, big_int_by, big_int_lit, big_int_parts, big_int_text, joined, makes_big_int, prints_big_raw, raw_text}
 use Rattle.swc_ecma_codegen_base.specs.Literals as words
 use Rattle.swc_ecma_codegen_base.specs.Literals.{size_of}
 use Rattle.swc_ecma_codegen_base.specs.Run.{Env, Remake, spelling, step}
@@ -113,8 +113,8 @@ module _ (n : trees.BigInt) (s : IsSignedInteger n (big_text n) (big_part n)) wh
 
 -- ---- a big integer
 
-own_case : (b : Bool) (env : Env) (n : trees.BigInt) → prints_big_raw env.config n ≡ b → is_big_int n ≡ true → let t : List ℕ = cond b (joined env.config.target (raw_text n.raw)) (big_text n) in Writes env (λ rest. cond b (words.big_integer n.span t rest) (words.big_digits n.span t rest)) (signed_tokens BigInt (value_of_big n) n.negative)
-unfolding prints_big_raw is_big_int
+own_case : (b : Bool) (env : Env) (n : trees.BigInt) → prints_big_raw env.config n ≡ b → is_big_int n ≡ true → let t : List ℕ = cond b (joined env.config.target (raw_text n.raw)) (big_text n) in Writes env (big_int_parts b n.span t) (signed_tokens BigInt (value_of_big n) n.negative)
+unfolding prints_big_raw is_big_int big_int_parts
 own_case true env n e w =
     let digits : List ℕ = characters n.digits in
     let value : Value = value_of_big n in
@@ -129,7 +129,7 @@ own_case false env n e w =
     let p = and_parts (are_digits n.radix digits) (raw_passes (spells_digits n.radix digits) n.raw && (is_none n.raw || not n.negative)) w in
     writes_digits n (big_signed n p.0) env
 
-writes_big_int_by : (env : Env) (in_lit : Bool) (n : trees.BigInt) → is_big_int n ≡ true → Writes env (big_int_by in_lit n.span (prints_big_raw env.config n) (big_int_text env.config n)) (signed_tokens BigInt (value_of_big n) n.negative)
+writes_big_int_by : (env : Env) (in_lit : Bool) (n : trees.BigInt) → is_big_int n ≡ true → Writes env (big_int_by in_lit (prints_big_raw env.config n) n.span (big_int_text env.config n)) (signed_tokens BigInt (value_of_big n) n.negative)
 unfolding big_int_by big_int_text
 writes_big_int_by env in_lit n w =
     let t : List ℕ = big_int_text env.config n in
@@ -141,7 +141,7 @@ pub prints_big_int_at : (env : Env) (in_lit : Bool) (n : trees.BigInt) → Print
 unfolding big_int_at phrases.big_int big_int_token is_spelled_anew
 prints_big_int_at env in_lit n =
     prints_where (is_big_int n) (λ w.
-    prints_same (big_int_at in_lit n) (λ rest. step (Remake (makes_big_int env.config n)) (big_int_by in_lit n.span (prints_big_raw env.config n) (big_int_text env.config n) rest)) (λ rest. refl)
+    prints_same (big_int_at in_lit n) (λ rest. step (Remake (makes_big_int env.config n)) (big_int_by in_lit (prints_big_raw env.config n) n.span (big_int_text env.config n) rest)) (λ rest. refl)
     (prints_signed BigInt (value_of_big n) n.negative refl (makes_remade (makes_big_int env.config n) (writes_big_int_by env in_lit n w))))
 
 -- a big integer literal

@@ -1,5 +1,5 @@
 -- What is written of `true`, `null` and a regular expression is what it reads as.
-use Rattle.std.proofs.Common.{◌≡◌, ℕ, Bool, true, false, List, [], ◌∷◌, ◌++◌, codes, None, refl, sym, ap, ◌∙◌, subst, string_bytes}
+use Rattle.std.proofs.Common.{◌≡◌, ℕ, Bool, true, false, List, [], ◌∷◌, ◌++◌, codes, None, refl, sym, ap, ◌∙◌, subst, arith, string_bytes}
 use Rattle.std.specs.Str.{chars, is_utf8, IsUtf8}
 use Rattle.std.proofs.lemmas.Bool.{and_parts}
 use Rattle.std.proofs.lemmas.Str.{chars-append, IsUtf8-append, IsUtf8-from_is_utf8, IsUtf8-string_bytes}
@@ -75,7 +75,7 @@ regex_utf8 exp flags u v = IsUtf8-append (codes "/") _ slash_utf8 (IsUtf8-append
 
 -- it begins with a slash, and what follows doesn't matter
 slash_class : (t : List ℕ) → start_class (chars (codes "/" ++ t)) ≡ start_class (chars (codes "/"))
-slash_class t = ap start_class (after_slash t) ∙ plain_class 47 (chars t) (λ e. absurd (cc)) (λ e. absurd (cc)) ∙ sym (plain_class 47 [] (λ e. absurd (cc)) (λ e. absurd (cc))) ∙ sym (ap start_class slash_chars)
+slash_class t = ap start_class (after_slash t) ∙ plain_class 47 (chars t) (λ e. omega (arith, e)) (λ e. omega (arith, e)) ∙ sym (plain_class 47 [] (λ e. omega (arith, e)) (λ e. omega (arith, e))) ∙ sym (ap start_class slash_chars)
 
 writes_regex_text : (env : Env) (exp flags : List ℕ) → IsUtf8 exp → IsUtf8 flags → is_regex (phrases.regex_text (chars exp) (chars flags)) ≡ true → Writes env (words.regex exp flags) (token_of kinds.Regex (phrases.regex_text (chars exp) (chars flags)) ∷ [])
 unfolding spelling

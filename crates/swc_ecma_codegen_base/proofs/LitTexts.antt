@@ -7,7 +7,7 @@ use lib.Utf8.{scalar, scalars}
 use Rattle.swc_ecma_codegen_common.specs.declared.versions.EsVersion.{EsVersion}
 use Rattle.swc_ecma_codegen_ast.specs.declared.kinds.Kind.{Kind}
 use Rattle.swc_ecma_codegen_ast.specs.declared.kinds.Kind.TheVariants.{Punctuator, Number, BigInt, Str, Regex}
-use Rattle.swc_ecma_codegen_ast.specs.Chars.{begins_digit, is_digit}
+use Rattle.swc_ecma_codegen_ast.specs.Chars.{begins_digit, is_digit, is_part}
 use Rattle.swc_ecma_codegen_ast.specs.GapRules.{Last, IntegerEnd, WordEnd, Mark, allows, fuses, grows, is_choice, last_after, mark_fuses}
 use Rattle.swc_ecma_codegen_ast.specs.Numbers.{is_big_integer, is_number, takes_dot}
 use Rattle.swc_ecma_codegen_ast.specs.NumberValues.{exact_value, numeric_value}
@@ -32,7 +32,7 @@ use Rattle.swc_ecma_codegen_base.specs.declared.starts.StartClass.TheVariants as
 use Rattle.swc_ecma_codegen_base.specs.Run.{spelling}
 use Rattle.swc_ecma_codegen_base.specs.Lits.{joined, may_join}
 use Rattle.swc_ecma_codegen_base.specs.Literals.{signed, size_of}
-use Rattle.swc_ecma_codegen_base.specs.Starts.{start_class, char_start, order}
+use Rattle.swc_ecma_codegen_base.specs.Starts.{start_class, char_start, mark_start, order}
 use Rattle.swc_ecma_codegen_base.proofs.OwnDots.{dotted_begins, dotted_is_number, dotted_same}
 use Rattle.swc_ecma_codegen_base.proofs.Starting.{dash_class, dot_class, plain_class, same_beginning, sample, samples}
 use Rattle.swc_ecma_codegen_base.proofs.Texts.{SpelledAs, minus_chars, minus_is_mark, owns, spelled_one, spelled_signed}
@@ -103,7 +103,7 @@ digit_class : (t : List ℕ) → begins_digit t ≡ true → start_class t ≡ s
 unfolding begins_digit is_digit char_start
 digit_class [] h = absurd (true≢false (sym h))
 digit_class (c ∷ cs) h =
-    plain_class c cs (λ e. true≢false (sym h ∙ ap is_digit e)) (λ e. true≢false (sym h ∙ ap is_digit e)) ∙ ap (λ b. cond b start.Digit _) h
+    plain_class c cs (λ e. true≢false (sym h ∙ ap is_digit e)) (λ e. true≢false (sym h ∙ ap is_digit e)) ∙ ap (λ b. cond b start.Digit (cond (is_part c || (c == 92)) start.NameCharacter (mark_start c))) h
 
 -- a minus sign and a number don't fuse
 digit_apart : (t : List ℕ) → start_class t ≡ start.Digit → fuses (Mark (codes "-")) t ≡ false
@@ -202,7 +202,9 @@ signed_split : (kind : Kind) (negative : Bool) (size : List ℕ) → IsUtf8 size
 unfolding signed sign_text
 signed_split kind true size u h = refl
 signed_split kind false [] u h = refl
-signed_split kind false (c ∷ cs) u h = ap (λ b. cond b ((Punctuator, codes "-") ∷ (kind, cs) ∷ []) ((kind, c ∷ cs) ∷ [])) (no_dash c cs u h)
+signed_split kind false (c ∷ cs) u h =
+    let f : Bool → List (Kind × List ℕ) = λ b. cond b ((Punctuator, codes "-") ∷ (kind, cs) ∷ []) ((kind, c ∷ cs) ∷ []) in
+    ap f (no_dash c cs u h)
 
 size_split : (negative : Bool) (size : List ℕ) → IsUtf8 size → begins (codes "-") (chars size) ≡ false → size_of (sign_text negative ++ size) ≡ size
 unfolding size_of sign_text

@@ -29,7 +29,7 @@ use Rattle.swc_ecma_codegen_literals.specs.NumberTexts.{IsSignedSize, plain_part
 use Rattle.swc_ecma_codegen_literals.proofs.NumberTokens.{plain_signed, minified_signed}
 use Rattle.swc_ecma_codegen_literals.proofs.SpelledTokens.{number_spells_without, size_spells}
 use Rattle.swc_ecma_codegen_base.specs.Escapes.{is_spelled_anew}
-use Rattle.swc_ecma_codegen_base.specs.Lits.{begun_in, between_dots, before_property, by_value, infinity, is_finite, is_named, joined, makes_number, named_number, not_a_number, number_at, number_by, number_lit, number_object, number_text, object_by, prints_number_raw, raw_is, raw_text, spelled_number, spelled_object, suits}
+use Rattle.swc_ecma_codegen_base.specs.Lits.{begun_in, between_dots, before_property, by_value, decimal_text, infinity, infinity_text, is_finite, is_named, joined, makes_number, named_number, not_a_number, number_at, number_by, number_lit, number_object, number_text, object_by, prints_number_raw, raw_is, raw_text, spelled_number, spelled_object, suits}
 use Rattle.swc_ecma_codegen_base.specs.Literals as words
 use Rattle.swc_ecma_codegen_base.specs.Literals.{size_of}
 use Rattle.swc_ecma_codegen_base.specs.Run.{Env, Guard, Part, Remake, Token, spelling, step}
@@ -63,12 +63,13 @@ chosen_signed true t u h k = h
 chosen_signed false t u h k = k
 
 -- a finite number by its value
-value_signed : (minify : Bool) (d : Decimal) → SignedToken Number (Exactly (exact_size d)) d.negative (cond minify (minified_text d) (plain_text d))
+value_signed : (minify : Bool) (d : Decimal) → SignedToken Number (Exactly (exact_size d)) d.negative (decimal_text minify d)
+unfolding decimal_text
 value_signed minify d =
     chosen_signed minify (minified_text d) (plain_text d) (size_signed d (minified_text d) (minified_part d) (minified_signed d)) (size_signed d (plain_text d) (plain_part d) (plain_signed d))
 
 -- and where there is no raw
-unraw_signed : (minify : Bool) (v : EsVersion) (d : Decimal) → SignedToken Number (Exactly (exact_size d)) d.negative (cond (not minify && false) (joined v []) (cond minify (minified_text d) (plain_text d)))
+unraw_signed : (minify : Bool) (v : EsVersion) (d : Decimal) → SignedToken Number (Exactly (exact_size d)) d.negative (cond (not minify && false) (joined v []) (decimal_text minify d))
 unraw_signed true v d = value_signed true d
 unraw_signed false v d = value_signed false d
 
@@ -105,8 +106,8 @@ finite_case env p each d raw =
     let kept : Bool = not config.minify && suits config.target (string_bytes raw) in
     prints_where (not d.negative && spells_size size (characters raw)) (λ w.
     let q = and_parts (not d.negative) (spells_size size (characters raw)) w in
-    let by_number : SignedToken Number (Exactly size) false (cond config.minify (minified_text d) (plain_text d)) =
-    subst (λ z. SignedToken Number (Exactly size) z (cond config.minify (minified_text d) (plain_text d))) (not-true d.negative q.0) (value_signed config.minify d) in
+    let by_number : SignedToken Number (Exactly size) false (decimal_text config.minify d) =
+    subst (λ z. SignedToken Number (Exactly size) z (decimal_text config.minify d)) (not-true d.negative q.0) (value_signed config.minify d) in
     each (Exactly size) false _ (chosen_signed kept (joined config.target (string_bytes raw)) _ (joined_signed (Exactly size) config.target (string_bytes raw) (size_raw size raw q.1)) by_number))
 
 infinite_raw : {Z : Type 0} (raw : String Z) → is_number (characters raw) ≡ true → IsRawOf (record { kind = Number; value = value_of Number (characters raw) }) (string_bytes raw)
@@ -185,7 +186,7 @@ prints_signed_name env false span = prints_number_name env span (codes "Infinity
 prints_infinity : (env : Env) (in_lit negative : Bool) (span : Span) → Prints env (infinity in_lit negative span) (after_sign negative (One (lexical.name (codes "Infinity"))))
 unfolding infinity
 prints_infinity env in_lit negative span =
-    after (writes_begun_in env in_lit span (cond negative (codes "-") (codes "Infinity"))) (after (writes_commit env) (after (writes_leading env span.lo) (prints_signed_name env negative span)))
+    after (writes_begun_in env in_lit span (infinity_text negative)) (after (writes_commit env) (after (writes_leading env span.lo) (prints_signed_name env negative span)))
 
 prints_nan : (env : Env) (in_lit : Bool) (span : Span) → Prints env (not_a_number in_lit span) (One (lexical.name (codes "NaN")))
 unfolding not_a_number

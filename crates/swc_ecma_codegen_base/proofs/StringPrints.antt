@@ -1,5 +1,6 @@
 -- What is written of a string is what it reads as, under any settings.
 use Rattle.std.proofs.Common.{◌≡◌, ℕ, Bool, true, false, not, cond, ◌||◌, ◌&&◌, List, [], ◌∷◌, codes, Option, Some, None, inl, inr, refl, sym, ap, ◌∙◌, subst, string_bytes}
+use Rattle.std.specs.Prelude.{bytes_eq}
 use Rattle.std.specs.Option.{is_some}
 use Rattle.std.specs.Str.{chars, encode_utf8_all, IsUtf8}
 use Rattle.std.specs.declared.string.String.{String}
@@ -16,7 +17,6 @@ use Rattle.swc_ecma_codegen_ast.specs.LitPhrases.{are_units, characters, raw_pas
 use Rattle.swc_ecma_codegen_ast.specs.Phrases.{One}
 use Rattle.swc_ecma_codegen_ast.specs.Strings.{is_string}
 use Rattle.swc_ecma_codegen_ast.specs.StringValues.{string_value}
-use Rattle.swc_ecma_codegen_ast.specs.Texts.{is_same}
 use Rattle.swc_ecma_codegen_ast.specs.Tokens as lexical
 use Rattle.swc_ecma_codegen_ast.specs.Tokens.{Units, token_of, value_of}
 use Rattle.swc_ecma_codegen_ast.proofs.Tables.{eq_of_same}
@@ -79,7 +79,7 @@ raw_string test us (Some raw) given h = record { utf8 = IsUtf8-string_bytes raw;
 printed_raw : (config : Config) (n : strs.Str) (us : List ℕ) → prints_raw config n ≡ true → raw_passes (spells_units us) n.raw ≡ true → IsStringOf us (raw_text n.raw)
 unfolding prints_raw is_directive takes_raw
 printed_raw config n us e h = elim (or_cases (is_directive n) (takes_raw config n) e) [
-  | inl d ↦ raw_string (has_byte 92) us n.raw (and_parts (is_same (string_bytes n.value) (codes "use strict")) (raw_is (has_byte 92) n.raw) d).1 h
+  | inl d ↦ raw_string (has_byte 92) us n.raw (and_parts (bytes_eq (string_bytes n.value) (codes "use strict")) (raw_is (has_byte 92) n.raw) d).1 h
   | inr t ↦ raw_string (λ raw. not config.ascii_only || is_ascii_text raw) us n.raw (and_parts (not config.minify) (raw_is (λ raw. not config.ascii_only || is_ascii_text raw) n.raw) t).1 h
 ]
 
