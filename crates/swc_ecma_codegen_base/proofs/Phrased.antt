@@ -24,7 +24,7 @@ use Rattle.swc_ecma_codegen_spans.specs.Spans.{dummy_span}
 use Rattle.swc_ecma_codegen_text_writer.specs.Recorded.{RecordsTruly}
 use Rattle.swc_ecma_codegen_text_writer.specs.Sheet.{Sheet, Symbol, Position, Commit}
 use Rattle.swc_ecma_codegen_text_writer.proofs.Sheets.{effect_keeps_positions}
-use Rattle.swc_ecma_codegen_ast.specs.Phrases.{Phrase, Never, Nothing, One, NameOf, Then, Generates, is_possible, names_in, ◌>◌, mark}
+use Rattle.swc_ecma_codegen_ast.specs.Phrases.{Phrase, Never, Nothing, One, NameOf, Then, Generates, is_possible, names_in, where_, ◌>◌, mark}
 use Rattle.swc_ecma_codegen_ast.specs.Phrases as phrases
 use Rattle.swc_ecma_codegen_ast.specs.SpelledNames as names
 use Rattle.swc_ecma_codegen_ast.specs.SpelledNames.{is_well_formed_name}
@@ -41,7 +41,7 @@ use Rattle.swc_ecma_codegen_base.proofs.Indented.{blanks}
 use Rattle.swc_ecma_codegen_base.proofs.Spelled.{valid_same}
 use Rattle.swc_ecma_codegen_base.proofs.Positions.{Named, named_none, named_then, named_records, name_named, name_steps, run_records}
 use Rattle.swc_ecma_codegen_base.proofs.Written.{Lays, held, held_of, tokens_append, Spelled, spelled_word, spelled_name, spelled_mark}
-use Rattle.swc_ecma_codegen_base.proofs.Printed.{chain, Makes, Writes, writes_whatever, writes_then, writes_nothing, writes_keyword, writes_operator, writes_word_operator, writes_punct, writes_semi, writes_commit, writes_leading, writes_name_text}
+use Rattle.swc_ecma_codegen_base.proofs.Printed.{chain, Makes, Writes, writes_whatever, writes_then, writes_same, writes_nothing, writes_keyword, writes_operator, writes_word_operator, writes_punct, writes_semi, writes_commit, writes_leading, writes_name_text}
 
 -- ---- the steps of a part
 
@@ -66,7 +66,7 @@ steps_then {env} h q =
 unfoldable pub NamedBy : Env → Part → List (BytePos × List ℕ) → Type 0
 NamedBy env p names = (s : State) → s.sheet.keeps_positions ≡ true → Named names s.sheet (run (steps_of (p nothing env)) s).sheet
 
-no_names : (env : Env) (p : Part) → NamedBy env p []
+pub no_names : (env : Env) (p : Part) → NamedBy env p []
 unfolding NamedBy
 no_names env p s k = named_none s.sheet _ (run_records (steps_of (p nothing env)) s)
 
@@ -115,7 +115,7 @@ after {env} {q} {p} {f} k h = record {
       record { tokens = a.tokens; generated = a.generated; writes = writes_then env q p [] a.tokens k a.writes; named = names_then p [] (names_in f) k (no_names env q) a.named };
 }
 
-or_false : (b : Bool) → (b || false) ≡ b
+pub or_false : (b : Bool) → (b || false) ≡ b
 or_false true = refl
 or_false false = refl
 
@@ -140,6 +140,26 @@ pub prints_never : {env : Env} {p : Part} → Prints env p Never
 unfolding is_possible
 prints_never = record { where_possible = λ w. absurd (true≢false (sym w)) }
 
+-- a phrase on a condition
+pub prints_where : {env : Env} {p : Part} {f : Phrase} (b : Bool) → (b ≡ true → Prints env p f) → Prints env p (where_ b f)
+unfolding where_
+prints_where true h = h refl
+prints_where false h = prints_never
+
+-- a part that is written as another is
+pub prints_same : {env : Env} {f : Phrase} (p q : Part) → ((rest : Plan) → p rest env ≡ q rest env) → Prints env q f → Prints env p f
+unfolding NamedBy
+prints_same {env} {f} p q e h = record {
+  where_possible = λ w.
+      let a = h.where_possible w in
+      record {
+        tokens = a.tokens;
+        generated = a.generated;
+        writes = writes_same env p q a.tokens e a.writes;
+        named = λ s k. let P : Steps → Type 0 = λ z. Named (names_in f) s.sheet (run (steps_of z) s).sheet in subst P (sym (e nothing)) (a.named s k);
+      };
+}
+
 -- a token, whose text may be made anew where it is a literal
 pub prints_made : (env : Env) (p : Part) (x : lexical.Token) → Makes env p (x ∷ []) (may_make_text (One x)) → Prints env p (One x)
 unfolding Generates names_in
@@ -161,7 +181,7 @@ prints_word : (env : Env) (p : Part) (t : List ℕ) → IsWord t → Writes env 
 unfolding token_of value_of spelling lexical.word
 prints_word env p t w h = subst (λ z. Prints env p (phrases.word z)) w.ascii (prints_one env p _ h)
 
-prints_mark : (env : Env) (p : Part) (t : List ℕ) → Writes env p (token_of Punctuator (spelling Punctuator t) ∷ []) → Prints env p (mark t)
+pub prints_mark : (env : Env) (p : Part) (t : List ℕ) → Writes env p (token_of Punctuator (spelling Punctuator t) ∷ []) → Prints env p (mark t)
 unfolding token_of value_of spelling lexical.punctuator
 prints_mark env p t h = prints_one env p _ h
 

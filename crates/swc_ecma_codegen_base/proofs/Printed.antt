@@ -80,6 +80,10 @@ writes_then env p q ts us {a} {b} h k = record {
 pub writes_whatever : {env : Env} {p : Part} {ts : List lexical.Token} (b : Bool) → Writes env p ts → Makes env p ts b
 writes_whatever b h = record { steps = h.steps; is_steps = h.is_steps; lays = h.lays; remakes = λ e. no_text (h.remakes e); deep = h.deep }
 
+-- a text may be made anew, whether it is or not
+pub makes_some : {env : Env} {p : Part} {ts : List lexical.Token} {made : Bool} → Makes env p ts made → Makes env p ts true
+makes_some h = record { steps = h.steps; is_steps = h.is_steps; lays = h.lays; remakes = λ e. refl; deep = h.deep }
+
 -- a part that is written as another is
 pub writes_same : (env : Env) (p q : Part) (ts : List lexical.Token) {a : Bool} → ((rest : Plan) → p rest env ≡ q rest env) → Makes env q ts a → Makes env p ts a
 writes_same env p q ts e h = record { steps = h.steps; is_steps = λ rest. e rest ∙ h.is_steps rest; lays = h.lays; remakes = h.remakes; deep = h.deep }

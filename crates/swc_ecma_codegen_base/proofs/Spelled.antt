@@ -1,4 +1,4 @@
--- Names, by the text that they are written with.
+-- Names and literals, by the text that they are written with.
 use Rattle.std.proofs.Common.{◌≡◌, true, false, cond, List, ℕ, Bool, Result, Ok, Err, refl, sym, ap, subst}
 use Rattle.swc_ecma_codegen_common.specs.declared.errors.Refusal.{Refusal}
 use Rattle.swc_ecma_codegen_common.specs.declared.errors.Refusal.TheVariants.{OutOfMemory}
@@ -20,7 +20,7 @@ backslash : (b : Bool) → (b ≡ false → ⊥) → b ≡ true
 backslash true h = refl
 backslash false h = absurd (h refl)
 
-marked_with : (a b : State) → b ≡ record a { failed = true } → b ≡ record a { sheet = b.sheet; failed = true }
+pub marked_with : (a b : State) → b ≡ record a { failed = true } → b ≡ record a { sheet = b.sheet; failed = true }
 marked_with a b eq = let P : State → Type 0 = λ s. s ≡ record a { sheet = s.sheet; failed = true } in subst P (sym eq) refl
 
 pub not_remade : (span : Span) (name : List ℕ) (e : Refusal) (a b : State) → a.failed ≡ false → e ≡ OutOfMemory → (has_byte 92 name ≡ false → ⊥) → b ≡ record a { failed = true } → Emits (valid_symbol span name) a b (Err e)
