@@ -3,6 +3,7 @@ pub mod Short
 pub mod Calls
 pub mod Spelled
 pub mod Anew
+pub mod RawTexts
 pub mod Fronts
 pub mod Levels
 pub mod Strangers
