@@ -1,10 +1,10 @@
-use Rattle.std.proofs.Common.{refl, sym, subst}
+use Rattle.std.proofs.Common.{◌≡◌, true, false, refl, sym, subst, ◌∙◌}
 use Rattle.swc_ecma_codegen_text_writer.specs.Sheet.{appended}
 use Rattle.swc_ecma_codegen_text_writer.specs.Reach.{Shows}
 use Rattle.swc_ecma_codegen_text_writer.specs.View.{sheet_of, Reaches, HasReason}
 use Rattle.swc_ecma_codegen_text_writer.proofs.Sheets.{front_refl}
 use Rattle.swc_ecma_codegen_text_writer.proofs.Steps.{sent_sheet, place_on}
-use Rattle.swc_ecma_codegen_text_writer.proofs.basic_impl.Lines.send.Goals as goal
+use Rattle.swc_ecma_codegen_text_writer.proofs.basic_impl.Lines.hand_on.Goals as goal
 
 pub returns-in-Ok : goal.returns-in-Ok
 unfolding sheet_of Reaches
