@@ -1,6 +1,6 @@
 //! The writer over an `io::Write`.
 
-ghost use Rattle.std.specs.Prelude.{◌≡◌, false};
+ghost use Rattle.std.specs.Prelude.{◌≡◌, false, true};
 ghost use Rattle.std.proofs.Props.{props};
 ghost use Rattle.swc_ecma_codegen_text_writer.specs.Places.{origin, after_text};
 ghost use Rattle.swc_ecma_codegen_text_writer.specs.Kept.{IsCounted};
@@ -13,6 +13,14 @@ use std::io::Write;
 use swc_ecma_codegen_common::{Answer, BytePos, Error, LineCol, Refusal, Result, Span};
 
 const DEFAULT_INDENT: &str = "    ";
+
+/// Whether nothing of a span is recorded, as of one that stands nowhere: position 0 never is.
+#[inline(always)]
+fn is_nowhere(span: Span) -> bool
+    ensures { result ≡ true → (span.lo.0 ≡ 0) × (span.hi.0 ≡ 0) }
+{
+    span.lo.0 == 0 && span.hi.0 == 0
+}
 
 /// A `JsWriter` with any `K` that keeps its positions, or keeps none. Since `K` is a parameter, its own functions know of
 /// no `&mut` in it, and `into_inner` may take it by value.
@@ -79,7 +87,7 @@ impl<'a, W: Write> JsWriter<'a, W> {
 }
 
 impl<'a, W: Write, K: KeepsPositions> Lines<'a, W, K> {
-    ghost use Rattle.std.specs.Prelude.{◌<◌, true, length, IsSome, Some, None, Err};
+    ghost use Rattle.std.specs.Prelude.{◌<◌, length, IsSome, Some, None, Err};
     ghost use Rattle.std.specs.Str.{is_utf8};
     ghost use Rattle.swc_ecma_codegen_common.specs.Refusals.{in_short, reason_of};
     ghost use Rattle.swc_ecma_codegen_text_writer.specs.Told.{told};
@@ -312,15 +320,15 @@ impl<'a, W: Write, K: KeepsPositions> Lines<'a, W, K> {
         }
     }
 
-    /// The same with a span. Position 0 isn't recorded, so of a span that stands nowhere nothing is.
+    /// The same with a span.
     #[inline(always)]
     fn write_with(&mut self, span: Span, text: &str) -> Answer
         ensures { WritesText (Some span) text.now (sheet_of self.old) (sheet_of self.new) result }
     {
-        if span.lo.0 != 0 || span.hi.0 != 0 {
-            return self.write_spanned(span, text);
+        if is_nowhere(span) {
+            return self.write_plain(text);
         }
-        self.write_plain(text)
+        self.write_spanned(span, text)
     }
 
     /// The same without a span. Most texts are one byte, as a blank and most punctuators are.

@@ -62,7 +62,8 @@ impl<W: Write> Outlet<W> {
     /// The error that was kept, which is kept no more.
     pub fn take_fault(&mut self) -> Option<io::Error>
         ensures before { self.new.before ≡ self.old.before }
-        ensures log { self.new.log ≡ self.old.log }
+        ensures sent { sent self.new ≡ sent self.old }
+        ensures logged { self.new.log.bytes ≡ self.old.log.bytes }
         ensures faults { self.new.faults ≡ self.old.faults }
     {
         self.fault.take()

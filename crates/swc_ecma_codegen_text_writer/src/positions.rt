@@ -227,7 +227,7 @@ impl<'a> Positions<'a> {
     /// Records a position that isn't 0.
     #[inline(never)]
     fn note(&mut self, pos: BytePos) -> Answer
-        requires { ¬ (pos.0 ≡ 0) }
+        requires { 0 < pos.0 }
         ensures pairs { (p : Place) → Counts self.old p → Records pos p (pairs self.old) (pairs self.new) result }
         ensures place { (p : Place) → Counts self.old p → Counts self.new p }
         ensures pending { self.new.pending ≡ self.old.pending }

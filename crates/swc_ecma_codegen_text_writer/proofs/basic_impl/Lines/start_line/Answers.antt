@@ -6,3 +6,7 @@ use Rattle.swc_ecma_codegen_text_writer.proofs.basic_impl.Lines.start_line.Goals
 pub returns-then-not-self : goal.returns-then-not-self
 unfolding sheet_of Reaches
 returns-then-not-self g c = sym (started_false _ c.if-not-self.true)
+
+pub begin_line-requires-clause-start : goal.begin_line-requires-clause-start
+unfolding sheet_of
+begin_line-requires-clause-start g c = c.if-not-self.false
