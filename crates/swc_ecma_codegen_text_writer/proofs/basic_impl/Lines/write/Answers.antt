@@ -1,4 +1,4 @@
-use Rattle.std.proofs.Common.{◌∙◌, ap, Option, Some}
+use Rattle.std.proofs.Common.{◌∙◌, ap, Option}
 use Rattle.swc_ecma_codegen_common.specs.declared.positions.Span.{Span}
 use Rattle.swc_ecma_codegen_text_writer.specs.Sheet.{written}
 use Rattle.swc_ecma_codegen_text_writer.specs.View.{sheet_of}
