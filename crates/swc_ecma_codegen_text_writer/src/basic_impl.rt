@@ -320,7 +320,7 @@ impl<'a, W: Write, K: KeepsPositions> Lines<'a, W, K> {
         }
     }
 
-    /// The same with a span.
+    /// The same with a span. One that stands nowhere takes the shorter way, since none of it is recorded.
     #[inline(always)]
     fn write_with(&mut self, span: Span, text: &str) -> Answer
         ensures { WritesText (Some span) text.now (sheet_of self.old) (sheet_of self.new) result }
