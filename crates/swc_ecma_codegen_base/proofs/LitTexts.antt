@@ -8,7 +8,7 @@ use Rattle.swc_ecma_codegen_common.specs.declared.versions.EsVersion.{EsVersion}
 use Rattle.swc_ecma_codegen_ast.specs.declared.kinds.Kind.{Kind}
 use Rattle.swc_ecma_codegen_ast.specs.declared.kinds.Kind.TheVariants.{Punctuator, Number, BigInt, Str, Regex}
 use Rattle.swc_ecma_codegen_ast.specs.Chars.{begins_digit, is_digit, is_part}
-use Rattle.swc_ecma_codegen_ast.specs.GapRules.{Last, IntegerEnd, WordEnd, Mark, allows, fuses, grows, is_choice, last_after, mark_fuses}
+use Rattle.swc_ecma_codegen_ast.specs.GapRules.{IntegerEnd, WordEnd, Mark, allows, fuses, grows, is_choice, last_after, mark_fuses}
 use Rattle.swc_ecma_codegen_ast.specs.Numbers.{is_big_integer, is_number, takes_dot}
 use Rattle.swc_ecma_codegen_ast.specs.NumberValues.{exact_value, numeric_value}
 use Rattle.swc_ecma_codegen_ast.specs.Parts.{tokens_of}
@@ -33,7 +33,7 @@ use Rattle.swc_ecma_codegen_base.specs.Run.{spelling}
 use Rattle.swc_ecma_codegen_base.specs.Lits.{joined, may_join}
 use Rattle.swc_ecma_codegen_base.specs.Literals.{signed, size_of}
 use Rattle.swc_ecma_codegen_base.specs.Starts.{start_class, char_start, mark_start, order}
-use Rattle.swc_ecma_codegen_base.proofs.OwnDots.{dotted_begins, dotted_is_number, dotted_same}
+use Rattle.swc_ecma_codegen_base.proofs.OwnDots.{dotted_is_number, dotted_same}
 use Rattle.swc_ecma_codegen_base.proofs.Starting.{dash_class, dot_class, plain_class, same_beginning, sample, samples}
 use Rattle.swc_ecma_codegen_base.proofs.Texts.{SpelledAs, minus_chars, minus_is_mark, owns, spelled_one, spelled_signed}
 use Rattle.swc_ecma_codegen_base.proofs.Written.{Spelled}

@@ -1,5 +1,5 @@
 -- What is written of a number is what it reads as, under any settings.
-use Rattle.std.proofs.Common.{◌≡◌, ℕ, Bool, true, false, not, cond, ◌==◌, ◌&&◌, List, [], ◌∷◌, ◌++◌, codes, nat_lt, ◌-◌, Option, Some, None, is_none, inl, inr, refl, sym, ap, ◌∙◌, subst, append-nil, string_bytes}
+use Rattle.std.proofs.Common.{◌≡◌, ℕ, Bool, true, false, not, cond, ◌==◌, ◌&&◌, List, [], ◌∷◌, codes, nat_lt, ◌-◌, Option, Some, None, is_none, inl, inr, refl, sym, ap, ◌∙◌, subst, append-nil, string_bytes}
 use Rattle.std.specs.Str.{chars, is_utf8}
 use Rattle.std.specs.declared.string.String.{String}
 use Rattle.std.proofs.lemmas.Bool.{and_parts, cases_Bool, eqb-true, not-true, true≢false}

@@ -7,7 +7,7 @@ use Rattle.swc_ecma_codegen_common.specs.declared.errors.Error.TheVariants as er
 use Rattle.swc_ecma_codegen_common.specs.declared.errors.Refusal.{Refusal}
 use Rattle.swc_ecma_codegen_common.specs.Refusals.{in_short}
 use Rattle.swc_ecma_codegen_common.specs.declared.positions.Span.{Span}
-use Rattle.swc_ecma_codegen_ast.specs.declared.kinds.Kind.TheVariants.{Word, Name, Punctuator, Ending}
+use Rattle.swc_ecma_codegen_ast.specs.declared.kinds.Kind.TheVariants.{Word, Name, Punctuator}
 use Rattle.swc_ecma_codegen_ast.specs.Tokens as lexical
 use Rattle.swc_ecma_codegen_ast.specs.Tokens.{token_of, value_of}
 use Rattle.swc_ecma_codegen_ast.specs.Names.{is_word, is_name}

@@ -16,7 +16,7 @@ use Rattle.swc_ecma_codegen_base.proofs.Emitting.{minified_same, pretty_same}
 use Rattle.swc_ecma_codegen_base.proofs.Fronts.{run_append}
 use Rattle.swc_ecma_codegen_base.proofs.Levels.{levels, rise, levels_append}
 use Rattle.swc_ecma_codegen_base.proofs.Spelled.{valid_same}
-use Rattle.swc_ecma_codegen_base.proofs.Written.{Lays, lays_then, lays_nothing, lays_blank, lays_line, lays_commit, lays_position, lays_token, lays_punct, lays_semi, lays_placed, Spelled, spelled_ending, own_put, punct_put, semi_put}
+use Rattle.swc_ecma_codegen_base.proofs.Written.{Lays, lays_then, lays_nothing, lays_blank, lays_line, lays_commit, lays_position, lays_token, lays_punct, lays_semi, lays_placed, Spelled, own_put, punct_put, semi_put}
 
 -- some steps, and then more
 unfoldable pub chain : List Step → Steps → Steps

@@ -1,13 +1,9 @@
 -- Parts whose text may be made anew, in memory.
-use Rattle.std.proofs.Common.{◌≡◌, ℕ, Bool, true, false, cond, List, [], ◌∷◌, codes, nat_lt, refl, sym, ap, ◌∙◌, subst, arith}
-use Rattle.std.specs.Str.{chars}
-use Rattle.swc_ecma_codegen_common.specs.declared.positions.BytePos.{BytePos}
+use Rattle.std.proofs.Common.{◌≡◌, ℕ, Bool, true, false, List, [], ◌∷◌, codes, refl, sym, subst, arith}
 use Rattle.swc_ecma_codegen_common.specs.declared.positions.Span.{Span}
 use Rattle.swc_ecma_codegen_ast.specs.declared.kinds.Kind.{Kind}
-use Rattle.swc_ecma_codegen_ast.specs.declared.kinds.Kind.TheVariants.{Punctuator, Number}
 use Rattle.swc_ecma_codegen_ast.specs.LitPhrases.{after_sign}
-use Rattle.swc_ecma_codegen_ast.specs.Numbers.{takes_dot}
-use Rattle.swc_ecma_codegen_ast.specs.Phrases.{Phrase, One, Generates, names_in}
+use Rattle.swc_ecma_codegen_ast.specs.Phrases.{One, Generates, names_in}
 use Rattle.swc_ecma_codegen_ast.specs.Tokens as lexical
 use Rattle.swc_ecma_codegen_ast.specs.Tokens.{Value}
 use Rattle.swc_ecma_codegen_base.specs.Escapes.{is_spelled_anew, may_make_text}

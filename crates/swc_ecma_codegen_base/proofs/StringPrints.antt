@@ -1,10 +1,10 @@
 -- What is written of a string is what it reads as, under any settings.
-use Rattle.std.proofs.Common.{◌≡◌, ℕ, Bool, true, false, not, cond, ◌||◌, ◌&&◌, List, [], ◌∷◌, codes, Option, Some, None, inl, inr, refl, sym, ap, ◌∙◌, subst, string_bytes}
+use Rattle.std.proofs.Common.{◌≡◌, ℕ, Bool, true, false, not, cond, ◌||◌, List, [], ◌∷◌, codes, Option, Some, None, inl, inr, refl, sym, ap, ◌∙◌, subst, string_bytes}
 use Rattle.std.specs.Prelude.{bytes_eq}
 use Rattle.std.specs.Option.{is_some}
 use Rattle.std.specs.Str.{chars, encode_utf8_all, IsUtf8}
 use Rattle.std.specs.declared.string.String.{String}
-use Rattle.std.proofs.lemmas.Bool.{and_parts, cases_Bool, or_cases, true≢false}
+use Rattle.std.proofs.lemmas.Bool.{and_parts, or_cases, true≢false}
 use Rattle.std.proofs.lemmas.Str.{scalars-chars, IsUtf8-string_bytes}
 use lib.Utf8.{scalars}
 use Rattle.swc_ecma_codegen_common.specs.declared.versions.EsVersion.{EsVersion}
@@ -14,7 +14,6 @@ use Rattle.swc_ecma_codegen_ast.specs.declared.kinds.Kind.TheVariants.{Str}
 use Rattle.swc_ecma_codegen_ast.specs.CodeUnits.{units}
 use Rattle.swc_ecma_codegen_ast.specs.LitPhrases as phrases
 use Rattle.swc_ecma_codegen_ast.specs.LitPhrases.{are_units, characters, raw_passes, spells_units, string_token}
-use Rattle.swc_ecma_codegen_ast.specs.Phrases.{One}
 use Rattle.swc_ecma_codegen_ast.specs.Strings.{is_string}
 use Rattle.swc_ecma_codegen_ast.specs.StringValues.{string_value}
 use Rattle.swc_ecma_codegen_ast.specs.Tokens as lexical

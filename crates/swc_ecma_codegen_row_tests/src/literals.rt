@@ -61,12 +61,7 @@ fn is_printed(
 }
 
 /// Whether a script has these texts in the columns. An empty one is that of the column before.
-fn are_printed(
-    alloc: Global,
-    json: &str,
-    texts: &str,
-    tokens: &str,
-) -> Result<bool, AllocError> {
+fn are_printed(alloc: Global, json: &str, texts: &str, tokens: &str) -> Result<bool, AllocError> {
     let mut texts = texts.split('¦');
     let mut text = "";
     for words in COLUMNS {

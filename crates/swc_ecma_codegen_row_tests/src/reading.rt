@@ -39,9 +39,8 @@ fn are_tokens(alloc: Global, found: &[&[char]], tokens: &str) -> Result<bool, Al
     for token in tokens.split_ascii_whitespace() {
         let (letter, spelling) = token.split_once(':').unwrap_or(("", ""));
         match left {
-            [first, rest @ ..] if is_token(alloc, letter, first, &characters(alloc, spelling)?)? => {
-                left = rest
-            }
+            [first, rest @ ..] if is_token(alloc, letter, first, &characters(alloc, spelling)?)? =>
+                { left = rest }
             _ => return Ok(false),
         }
     }
@@ -57,7 +56,10 @@ fn is_token(
 ) -> Result<bool, AllocError> {
     match letter {
         "0" | "b" => Ok(found == token || is_as_much(value(found), value(token))),
-        "s" => is_alike(string_value(alloc, true, found)?, string_value(alloc, true, token)?),
+        "s" => is_alike(
+            string_value(alloc, true, found)?,
+            string_value(alloc, true, token)?,
+        ),
         _ => Ok(found == token),
     }
 }

@@ -33,7 +33,12 @@ pub fn prints(alloc: Global, json: &[u8], text: &str) -> bool {
 }
 
 /// Whether it prints this text with these words.
-pub fn prints_with(alloc: Global, words: &str, json: &[u8], text: &str) -> Result<bool, AllocError> {
+pub fn prints_with(
+    alloc: Global,
+    words: &str,
+    json: &[u8],
+    text: &str,
+) -> Result<bool, AllocError> {
     let words = given(alloc, words)?;
     Ok(answers(alloc, &words, json, 0, text, ""))
 }

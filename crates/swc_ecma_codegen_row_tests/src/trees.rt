@@ -94,8 +94,5 @@ pub fn is_printed_with(
     } else {
         tokens_within(alloc, &tree)?
     };
-    Ok(
-        prints_with(alloc, words, json.as_bytes(), text)?
-            && reads_as(alloc, text, &read)?,
-    )
+    Ok(prints_with(alloc, words, json.as_bytes(), text)? && reads_as(alloc, text, &read)?)
 }
