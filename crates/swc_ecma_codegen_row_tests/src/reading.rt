@@ -75,14 +75,23 @@ fn value(text: &[char]) -> Option<Value> {
     }
 }
 
+/// A number without a dot at its end: `1000.` in `1000..x`.
+fn without_dot(text: &[char]) -> &[char] {
+    match text {
+        [digits @ .., '.'] => digits,
+        _ => text,
+    }
+}
+
 /// The same of a large integer that ends with zeros.
 fn rounded(text: &[char]) -> Option<Value> {
-    if !text.iter().all(|c| c.is_ascii_digit()) {
+    let digits = without_dot(text);
+    if !digits.iter().all(|c| c.is_ascii_digit()) {
         return None;
     }
-    let mut kept = text;
+    let mut kept = digits;
     let mut zeros: u128 = 0;
-    for _ in 1..text.len() {
+    for _ in 1..digits.len() {
         if let [rest @ .., '0'] = kept {
             kept = rest;
             zeros = zeros.saturating_add(1);
