@@ -86,18 +86,19 @@ fn without_dot(text: &[char]) -> &[char] {
 /// The same of a large integer that ends with zeros.
 fn rounded(text: &[char]) -> Option<Value> {
     let digits = without_dot(text);
-    if !digits.iter().all(|c| c.is_ascii_digit()) {
-        return None;
-    }
-    let mut kept = digits;
-    let mut zeros: u128 = 0;
-    for _ in 1..digits.len() {
-        if let [rest @ .., '0'] = kept {
-            kept = rest;
-            zeros = zeros.saturating_add(1);
+    let mut zeros: usize = 0;
+    for c in digits {
+        if !c.is_ascii_digit() {
+            return None;
         }
+        zeros = if *c == '0' {
+            zeros.saturating_add(1)
+        } else {
+            0
+        };
     }
-    Some(shortened(numeric_value(kept)?, zeros))
+    let kept = digits.get(..digits.len().saturating_sub(zeros))?;
+    Some(shortened(numeric_value(kept)?, zeros as u128))
 }
 
 /// The value of a number and so many zeros.
