@@ -89,15 +89,14 @@ fn rounded(text: &[char]) -> Option<Value> {
     if !digits.iter().all(|c| c.is_ascii_digit()) {
         return None;
     }
-    let mut kept = digits;
-    let mut zeros: u128 = 0;
+    let mut end = digits.len();
     for _ in 1..digits.len() {
-        if let [rest @ .., '0'] = kept {
-            kept = rest;
-            zeros = zeros.saturating_add(1);
+        if digits.get(end.saturating_sub(1)) == Some(&'0') {
+            end = end.saturating_sub(1);
         }
     }
-    Some(shortened(numeric_value(kept)?, zeros))
+    let zeros = digits.len().saturating_sub(end);
+    Some(shortened(numeric_value(digits.get(..end)?)?, zeros as u128))
 }
 
 /// The value of a number and so many zeros.
