@@ -86,10 +86,13 @@ fn without_dot(text: &[char]) -> &[char] {
 /// The same of a large integer that ends with zeros.
 fn rounded(text: &[char]) -> Option<Value> {
     let digits = without_dot(text);
-    let mut zeros: usize = 0;
-    for c in digits {
-        if !c.is_ascii_digit() {
-            return None;
+    if !digits.iter().all(|c| c.is_ascii_digit()) {
+        return None;
+    }
+    let mut end = digits.len();
+    for _ in 1..digits.len() {
+        if digits.get(end.saturating_sub(1)) == Some(&'0') {
+            end = end.saturating_sub(1);
         }
         zeros = if *c == '0' {
             zeros.saturating_add(1)
@@ -97,8 +100,8 @@ fn rounded(text: &[char]) -> Option<Value> {
             0
         };
     }
-    let kept = digits.get(..digits.len().saturating_sub(zeros))?;
-    Some(shortened(numeric_value(kept)?, zeros as u128))
+    let zeros = digits.len().saturating_sub(end);
+    Some(shortened(numeric_value(digits.get(..end)?)?, zeros as u128))
 }
 
 /// The value of a number and so many zeros.
