@@ -94,11 +94,6 @@ fn rounded(text: &[char]) -> Option<Value> {
         if digits.get(end.saturating_sub(1)) == Some(&'0') {
             end = end.saturating_sub(1);
         }
-        zeros = if *c == '0' {
-            zeros.saturating_add(1)
-        } else {
-            0
-        };
     }
     let zeros = digits.len().saturating_sub(end);
     Some(shortened(numeric_value(digits.get(..end)?)?, zeros as u128))
