@@ -3,7 +3,7 @@
 ghost use Rattle.std.specs.Prelude.{◌≡◌, ◌≢◌, false, true, IsTrue, is_none, IfErr, OnErr, OnOk, Err, IsOk};
 ghost use Rattle.swc_ecma_codegen_common.specs.Refusals.{in_short, reason_of};
 ghost use Rattle.swc_ecma_codegen_text_writer.specs.Told.{IsFront};
-ghost use Rattle.swc_ecma_codegen_base.specs.Run.{Follows, HasCause, IsUnhindered, nothing, printed, remakes_name, steps_in, steps_of, start};
+ghost use Rattle.swc_ecma_codegen_base.specs.Run.{Follows, HasCause, IsUnhindered, nothing, printed, makes_text, steps_in, steps_of, start};
 
 use crate::nodes::{EmitAt, Place};
 use std::alloc::Global;
@@ -111,8 +111,8 @@ impl<'a, W: WriteJs, S: SourceMapper, C: Comments> Emitter<'a, W, S, C> {
         ensures front { IsFront (W.sheet self.new.wr).text (printed (program any_items node.now) (state_of W.sheet self.old)).sheet.text }
         // It is refused only for the cause that the error names.
         ensures cause { IfErr result (λ error. HasCause (steps_in (program any_items node.now) (state_of W.sheet self.old)) (reason_of error) (state_of W.sheet self.old) (state_of W.sheet self.new)) }
-        // Where no name is made anew, and no call of the writer takes memory, none is wanting.
-        ensures no_memory { remakes_name (steps_of (steps_in (program any_items node.now) (state_of W.sheet self.old))) ≡ false → (W.sheet self.old.wr).takes_memory ≡ false → result ≢ Err Error.OutOfMemory }
+        // Where no text is made anew, and no call of the writer takes memory, none is wanting.
+        ensures no_memory { makes_text (steps_of (steps_in (program any_items node.now) (state_of W.sheet self.old))) ≡ false → (W.sheet self.old.wr).takes_memory ≡ false → result ≢ Err Error.OutOfMemory }
         // Where nothing stands in its way, it is made.
         ensures succeeds { IsUnhindered (steps_in (program any_items node.now) (state_of W.sheet self.old)) (state_of W.sheet self.old) (state_of W.sheet self.new) → IsOk result }
         // Where it is ready, and the writer counts no fault, a plain tree is printed.
@@ -143,8 +143,8 @@ impl<'a, W: WriteJs, S: SourceMapper, C: Comments> Emitter<'a, W, S, C> {
         ensures front { IsFront (W.sheet self.new.wr).text (printed (script any_items node.now) (state_of W.sheet self.old)).sheet.text }
         // It is refused only for the cause that the error names.
         ensures cause { IfErr result (λ error. HasCause (steps_in (script any_items node.now) (state_of W.sheet self.old)) (reason_of error) (state_of W.sheet self.old) (state_of W.sheet self.new)) }
-        // Where no name is made anew, and no call of the writer takes memory, none is wanting.
-        ensures no_memory { remakes_name (steps_of (steps_in (script any_items node.now) (state_of W.sheet self.old))) ≡ false → (W.sheet self.old.wr).takes_memory ≡ false → result ≢ Err Error.OutOfMemory }
+        // Where no text is made anew, and no call of the writer takes memory, none is wanting.
+        ensures no_memory { makes_text (steps_of (steps_in (script any_items node.now) (state_of W.sheet self.old))) ≡ false → (W.sheet self.old.wr).takes_memory ≡ false → result ≢ Err Error.OutOfMemory }
         // Where nothing stands in its way, it is made.
         ensures succeeds { IsUnhindered (steps_in (script any_items node.now) (state_of W.sheet self.old)) (state_of W.sheet self.old) (state_of W.sheet self.new) → IsOk result }
         // Where it is ready, and the writer counts no fault, a plain tree is printed.

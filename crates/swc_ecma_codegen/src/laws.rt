@@ -12,7 +12,7 @@ ghost use Rattle.swc_ecma_codegen_ast.specs.Phrases.{Generates, is_possible};
 ghost use Rattle.swc_ecma_codegen_ast.specs.TreePhrases.{expr_phrase, stmt_phrase};
 ghost use Rattle.swc_ecma_codegen_text_writer.specs.Sheet.{HoldsNone};
 ghost use Rattle.swc_ecma_codegen_text_writer.specs.View.{new_sheet};
-ghost use Rattle.swc_ecma_codegen_base.specs.Run.{Follows, State, nothing, remakes_name, start, steps_in, steps_of};
+ghost use Rattle.swc_ecma_codegen_base.specs.Run.{Follows, State, nothing, makes_text, start, steps_in, steps_of};
 ghost use Rattle.swc_ecma_codegen_base.specs.Written.{IsLineEnd, IsNew, AddsReading, all_indent};
 ghost use Rattle.swc_ecma_codegen_base.specs.Ready.{IsReady};
 ghost use Rattle.swc_ecma_codegen_util.specs.Starts.{expr_starts, any_starts};
@@ -21,7 +21,7 @@ ghost use Rattle.swc_ecma_codegen.specs.Answers.{any_answers};
 ghost use Rattle.swc_ecma_codegen.specs.Exprs.{expr as expr_items};
 ghost use Rattle.swc_ecma_codegen.specs.Stmts.{stmt as stmt_items};
 ghost use Rattle.swc_ecma_codegen.specs.Tree.{any_items};
-ghost use Rattle.swc_ecma_codegen_base.specs.Escapes.{escapes_name};
+ghost use Rattle.swc_ecma_codegen_base.specs.Escapes.{may_make_text};
 ghost use Rattle.swc_ecma_codegen.specs.Roots.{Root, root_items, root_phrase, is_well_formed_root};
 ghost use Rattle.swc_ecma_codegen.specs.FirstTokens.{joins_a_word};
 ghost use Rattle.swc_ecma_codegen.specs.View.{state_of};
@@ -87,10 +87,11 @@ pub fn first_token_is_told(expr: &Expr) -> bool
     expr.starts_with_alpha_num()
 }
 
-/// Among the steps of an emission of a well-formed tree a name is made anew exactly where a name of the tree holds a
-/// backslash, over a writer that leaves out U+0000 after one: what the clauses `cause`, `no_memory` and `succeeds` of
-/// `emit_with` ask of memory.
+/// No step of an emission of a well-formed tree makes a text anew, in memory, where no name of the tree holds a backslash and
+/// no number, no big integer and no string stands in it, over a writer that leaves out U+0000 after one: what the clauses
+/// `cause`, `no_memory` and `succeeds` of `emit_with` ask of memory. Of a tree with such, these clauses speak of its steps:
+/// one takes memory where the text of a literal isn't its raw.
 #[tactic(auto, using(crate::proofs::TreeReads::root_remakes))]
-pub fn plain_names_take_no_memory()
-    ensures { (root : Root) (s : State) → is_well_formed_root root ≡ true → s.env.keeps_invalid ≡ false → remakes_name (steps_of (steps_in (root_items root) s)) ≡ escapes_name (root_phrase root) }
+pub fn plain_trees_take_no_memory()
+    ensures { (root : Root) (s : State) → is_well_formed_root root ≡ true → s.env.keeps_invalid ≡ false → may_make_text (root_phrase root) ≡ false → makes_text (steps_of (steps_in (root_items root) s)) ≡ false }
 {}

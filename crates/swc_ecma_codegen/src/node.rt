@@ -3,7 +3,7 @@
 ghost use Rattle.std.specs.Prelude.{◌≡◌, ◌≢◌, true, false, IfErr, OnErr, OnOk, Err, IsOk};
 ghost use Rattle.swc_ecma_codegen_common.specs.Refusals.{in_short, reason_of};
 ghost use Rattle.swc_ecma_codegen_text_writer.specs.Told.{IsFront};
-ghost use Rattle.swc_ecma_codegen_base.specs.Run.{Part, Follows, HasCause, IsUnhindered, nothing, printed, remakes_name, steps_in, steps_of};
+ghost use Rattle.swc_ecma_codegen_base.specs.Run.{Part, Follows, HasCause, IsUnhindered, nothing, printed, makes_text, steps_in, steps_of};
 ghost use Rattle.swc_ecma_codegen_ast.specs.Phrases.{names_in};
 ghost use Rattle.swc_ecma_codegen_text_writer.specs.Recorded.{RecordsTruly};
 ghost use Rattle.swc_ecma_codegen_base.specs.Named.{RecordsNames};
@@ -44,8 +44,8 @@ pub trait Node: Spanned {
         ensures front { IsFront (W.sheet e.new.wr).text (printed (part self.now) (state_of W.sheet e.old)).sheet.text }
         // It is refused only for the cause that the error names.
         ensures cause { IfErr result (λ error. HasCause (steps_in (part self.now) (state_of W.sheet e.old)) (reason_of error) (state_of W.sheet e.old) (state_of W.sheet e.new)) }
-        // Where no name is made anew, and no call of the writer takes memory, none is wanting.
-        ensures no_memory { remakes_name (steps_of (steps_in (part self.now) (state_of W.sheet e.old))) ≡ false → (W.sheet e.old.wr).takes_memory ≡ false → result ≢ Err Error.OutOfMemory }
+        // Where no text is made anew, and no call of the writer takes memory, none is wanting.
+        ensures no_memory { makes_text (steps_of (steps_in (part self.now) (state_of W.sheet e.old))) ≡ false → (W.sheet e.old.wr).takes_memory ≡ false → result ≢ Err Error.OutOfMemory }
         // Where nothing stands in its way, it is made.
         ensures succeeds { IsUnhindered (steps_in (part self.now) (state_of W.sheet e.old)) (state_of W.sheet e.old) (state_of W.sheet e.new) → IsOk result }
         // Where it is ready, and the writer counts no fault, a plain tree is printed.

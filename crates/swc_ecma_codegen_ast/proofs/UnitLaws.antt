@@ -54,7 +54,7 @@ units_skip (suc skip) [] = refl
 units_skip (suc skip) (c ∷ cs) = units_skip skip cs
 
 -- a written escape stands for its unit
-units_escape : (text rest : List ℕ) (unit : ℕ) → IsWrittenUnit text unit rest → units_after 0 (92 ∷ text) ≡ utf16 unit ++ units_after 0 rest
+pub units_escape : (text rest : List ℕ) (unit : ℕ) → IsWrittenUnit text unit rest → units_after 0 (92 ∷ text) ≡ utf16 unit ++ units_after 0 rest
 unfolding units_after
 units_escape text rest unit h =
     let one = utf16_one unit h.2 in

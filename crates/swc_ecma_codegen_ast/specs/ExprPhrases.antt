@@ -25,6 +25,7 @@ use Rattle.swc_ecma_codegen_ast.specs.Tokens.{Token}
 use Rattle.swc_ecma_codegen_ast.specs.Tokens as tokens
 use Rattle.swc_ecma_codegen_ast.specs.declared.roles.Role.{Role}
 use Rattle.swc_ecma_codegen_ast.specs.declared.roles.Role.TheVariants.{Expression, MemberExpression}
+use Rattle.swc_ecma_codegen_ast.specs.LitPhrases.{lit}
 use Rattle.swc_ecma_codegen_ast.specs.NamePhrases.{ident, ident_name}
 
 -- an expression that a link holds
@@ -95,6 +96,7 @@ expr f (exprs.Member n) = f n.node.value MemberExpression
 expr f (exprs.Cond n) = cond_expr f n
 expr f (exprs.Seq n) = seq_expr f n
 expr f (exprs.Ident n) = ident n
+expr f (exprs.Lit n) = lit n
 expr f (exprs.Paren n) = paren_expr f n
 -- what isn't printed yet
 expr f n = Never

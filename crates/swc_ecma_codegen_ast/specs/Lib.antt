@@ -1,12 +1,14 @@
 pub mod Chars
 pub mod CodeUnits
 pub mod CommentMaps
+pub mod DecimalValues
 pub mod Endings
 pub mod ExprPhrases
 pub mod GapRules
 pub mod Hashbangs
 pub mod HeldNumbers
 pub mod Jsx
+pub mod LitPhrases
 pub mod LongestMatch
 pub mod SpelledNames
 pub mod NamePhrases

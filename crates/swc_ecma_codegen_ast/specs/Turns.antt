@@ -8,6 +8,11 @@ use Rattle.swc_ecma_codegen_ast.specs.CodeUnits.{utf16}
 use Rattle.swc_ecma_codegen_ast.specs.StringValues.{before, begins_octal, string_rest}
 use Rattle.swc_ecma_codegen_ast.specs.TemplateValues.{cooked_rest}
 
+-- a text that begins with the next character, if there is one, and goes on with `tail`
+unfoldable pub ahead : Option ℕ → List ℕ → List ℕ
+ahead None tail = []
+ahead (Some c) tail = c ∷ tail
+
 -- what a text stands for, by what its first character does and what the rest stands for from each place
 unfoldable pub after : Turn → (Place → Option (List ℕ)) → Option (List ℕ)
 after Malformed rest = None

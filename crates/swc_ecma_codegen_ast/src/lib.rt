@@ -2,14 +2,14 @@
 //! that its text is read by.
 #![tactic(auto)]
 
-mod characters;
+pub mod characters;
 pub mod comments;
 mod gaps;
 pub mod kinds;
 pub mod mapper;
 pub mod names;
 pub mod number_values;
-mod numerals;
+pub mod numerals;
 mod punctuation;
 pub mod reader;
 pub mod reading_laws;
@@ -17,7 +17,7 @@ pub mod roles;
 mod shapes;
 pub mod string_values;
 pub mod template_values;
-mod turns;
+pub mod turns;
 pub mod units;
 
 pub use crate::shapes::is_hashbang;

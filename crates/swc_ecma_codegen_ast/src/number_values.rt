@@ -30,7 +30,7 @@ fn decimal_digit(c: char) -> Option<u128>
 }
 
 /// One more digit: 25 and 3 are 253. `None`: there is no room.
-fn with_digit(n: u128, radix: u128, digit: u128) -> Option<u128>
+pub fn with_digit(n: u128, radix: u128, digit: u128) -> Option<u128>
     ensures sum { IfSome result (λ sum. sum ≡ n * radix + digit) }
     ensures none { IfNone result (2 ^ 128 ≤ n * radix + digit) }
 {

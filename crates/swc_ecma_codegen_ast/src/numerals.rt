@@ -6,15 +6,17 @@ ghost use Rattle.swc_ecma_codegen_ast.specs.Numbers as numbers;
 
 use crate::characters::is_digit;
 
+/// An octal digit.
 #[tactic(auto, unfolding(crate::specs::Numbers::is_octal))]
-pub(crate) fn is_octal(c: char) -> bool
+pub fn is_octal(c: char) -> bool
     ensures { result ≡ numbers.is_octal c }
 {
     '0' <= c && c <= '7'
 }
 
+/// A hexadecimal digit.
 #[tactic(auto, unfolding(crate::specs::Numbers::is_hex))]
-fn is_hex(c: char) -> bool
+pub fn is_hex(c: char) -> bool
     ensures { result ≡ numbers.is_hex c }
 {
     is_digit(c) || ('A' <= c && c <= 'F') || ('a' <= c && c <= 'f')
@@ -22,22 +24,24 @@ fn is_hex(c: char) -> bool
 
 /// The value of a hexadecimal digit.
 #[tactic(auto, unfolding(crate::specs::Numbers::is_hex, crate::specs::Chars::is_digit))]
-pub(crate) fn hex_digit(c: char) -> Option<u32>
+pub fn hex_digit(c: char) -> Option<u32>
     ensures digit { IfSome result (λ digit. (numbers.is_hex c ≡ true) × (digit ≡ digit_value c) × (digit < 16)) }
     ensures none { IfNone result (numbers.is_hex c ≡ false) }
 {
     c.to_digit(16)
 }
 
+/// A binary digit.
 #[tactic(auto, unfolding(crate::specs::Numbers::is_binary))]
-fn is_binary(c: char) -> bool
+pub fn is_binary(c: char) -> bool
     ensures { result ≡ numbers.is_binary c }
 {
     c == '0' || c == '1'
 }
 
+/// One of two characters.
 #[tactic(auto, unfolding(crate::specs::Numbers::is_either))]
-pub(crate) fn is_either(a: char, b: char, c: char) -> bool
+pub fn is_either(a: char, b: char, c: char) -> bool
     ensures { result ≡ numbers.is_either a b c }
 {
     c == a || c == b

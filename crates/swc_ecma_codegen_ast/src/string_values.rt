@@ -1,33 +1,26 @@
 //! What strings stand for, as plain programs. ECMA-262, sections 12.9.4 and B.1.2.
 
-ghost use Rattle.std.specs.Prelude.{ℕ, Bool, ◌≡◌, ◌∷◌, true, is_some, Some, None, IfOk, IfSome, IfNone, if◌then◌else◌};
+ghost use Rattle.std.specs.Prelude.{ℕ, Bool, List, ◌≡◌, ◌&&◌, ◌==◌, [], ◌∷◌, true, false, not, is_some, Some, None, IfOk, IfSome, IfNone, if◌then◌else◌};
 ghost use Rattle.swc_ecma_codegen_ast.specs.declared.units.Place.TheVariants.{Between, Escaped, Octal};
 ghost use Rattle.swc_ecma_codegen_ast.specs.Chars as chars;
+ghost use Rattle.swc_ecma_codegen_ast.specs.Numbers as numbers;
 ghost use Rattle.swc_ecma_codegen_ast.specs.StringValues as values;
-ghost use Rattle.swc_ecma_codegen_ast.specs.Turns.{IsOctalDue, IsReached, IsStringTurn};
+ghost use Rattle.swc_ecma_codegen_ast.specs.Turns.{IsOctalDue, IsReached, IsStringTurn, ahead};
 
-use crate::characters::{begins_digit, is_digit, is_quote};
-use crate::turns::{Turn, braced_turn, due_turn, escape_turn, unicode_turn};
+use crate::characters::{is_digit, is_quote};
+use crate::turns::{
+    Turn, braced_turn, due_turn, escape_turn, first, is_digit_next, is_octal_next, unicode_turn,
+};
 use crate::units::{Place, push_utf16};
 use std::alloc::{AllocError, Global};
 
-#[tactic(auto, unfolding(crate::specs::StringValues::begins_octal, crate::specs::Numbers::is_octal))]
-fn begins_octal(text: &[char]) -> bool
-    ensures { result ≡ values.begins_octal text.now }
-{
-    match text {
-        [] => false,
-        [c, ..] => '0' <= *c && *c <= '7',
-    }
-}
-
 /// A character that no backslash stands before.
-#[tactic(auto, unfolding(crate::specs::StringValues::string_rest, crate::specs::Texts::is_empty, crate::specs::Numbers::is_either, crate::specs::Turns::after, crate::specs::Turns::IsReached, crate::specs::Turns::LeadsOn))]
-fn between_turn(quote: char, c: char, rest: &[char]) -> Turn
-    ensures { (sloppy : Bool) → IsStringTurn quote sloppy Between c rest.now result }
+#[tactic(auto, using(crate::proofs::TurnLaws::empty_ahead), unfolding(crate::specs::StringValues::string_rest, crate::specs::Numbers::is_either, crate::specs::Turns::after, crate::specs::Turns::IsReached, crate::specs::Turns::LeadsOn))]
+fn between_turn(quote: char, c: char, next: Option<char>) -> Turn
+    ensures { (sloppy : Bool) (tail : List ℕ) → IsStringTurn quote sloppy Between c (ahead next tail) result }
 {
     match c {
-        _ if c == quote && rest.is_empty() => Turn::Ends,
+        _ if c == quote && next.is_none() => Turn::Ends,
         _ if c == quote => Turn::Malformed,
         '\\' => Turn::Goes(Place::Escaped),
         '\n' | '\r' => Turn::Malformed,
@@ -35,53 +28,76 @@ fn between_turn(quote: char, c: char, rest: &[char]) -> Turn
     }
 }
 
-/// A digit after a backslash.
-#[tactic(auto, using(crate::proofs::TurnLaws::utf16_one), unfolding(crate::specs::StringValues::string_rest, crate::specs::Chars::is_digit, crate::specs::Numbers::is_octal, crate::specs::Turns::after, crate::specs::Turns::IsReached, crate::specs::Turns::IsOctalDue, crate::specs::Turns::LeadsOn))]
-fn digit_turn(sloppy: bool, c: char, rest: &[char]) -> Turn
-    requires { chars.is_digit c ≡ true }
-    ensures { (q : ℕ) → IsStringTurn q sloppy Escaped c rest.now result }
+/// The first digit of an octal escape.
+#[tactic(auto, using(crate::proofs::TurnLaws::utf16_one, crate::proofs::TurnLaws::digit_ahead, crate::proofs::TurnLaws::octal_ahead), unfolding(crate::specs::StringValues::string_rest, crate::specs::Numbers::is_octal, crate::specs::Turns::after, crate::specs::Turns::IsReached, crate::specs::Turns::IsOctalDue, crate::specs::Turns::LeadsOn))]
+fn octal_start(c: char, next: Option<char>) -> Turn
+    requires octal { numbers.is_octal c ≡ true }
+    requires some { ((c == 48) && not (chars.begins_digit (ahead next []))) ≡ false }
+    ensures { (q : ℕ) (tail : List ℕ) → IsStringTurn q true Escaped c (ahead next tail) result }
 {
     let value = c as u32 - '0' as u32;
+    if !is_octal_next(next) {
+        Turn::Gives(value, Place::Between)
+    } else if c <= '3' {
+        Turn::Goes(Place::Octal { more: 1, value })
+    } else {
+        Turn::Goes(Place::Octal { more: 0, value })
+    }
+}
+
+/// A digit after a backslash.
+#[tactic(auto, using(crate::proofs::TurnLaws::utf16_one, crate::proofs::TurnLaws::digit_ahead), unfolding(crate::specs::StringValues::string_rest, crate::specs::Chars::is_digit, crate::specs::Numbers::is_octal, crate::specs::Turns::after, crate::specs::Turns::IsReached, crate::specs::Turns::LeadsOn))]
+fn digit_turn(sloppy: bool, c: char, next: Option<char>) -> Turn
+    requires { chars.is_digit c ≡ true }
+    ensures { (q : ℕ) (tail : List ℕ) → IsStringTurn q sloppy Escaped c (ahead next tail) result }
+{
     match c {
-        '0' if !begins_digit(rest) => Turn::Gives(0, Place::Between),
+        '0' if !is_digit_next(next) => Turn::Gives(0, Place::Between),
         _ if !sloppy => Turn::Malformed,
         '8' | '9' => Turn::Gives(c as u32, Place::Between),
-        _ if !begins_octal(rest) => Turn::Gives(value, Place::Between),
-        '0' | '1' | '2' | '3' => Turn::Goes(Place::Octal { more: 1, value }),
-        _ => Turn::Goes(Place::Octal { more: 0, value }),
+        _ => octal_start(c, next),
     }
 }
 
 /// A further digit of an octal escape.
-#[tactic(auto, using(crate::proofs::TurnLaws::utf16_one), unfolding(crate::specs::StringValues::string_rest, crate::specs::StringValues::begins_octal, crate::specs::Numbers::is_octal, crate::specs::Turns::after, crate::specs::Turns::IsReached, crate::specs::Turns::IsOctalDue, crate::specs::Turns::LeadsOn))]
-fn octal_turn(more: u32, value: u32, c: char, rest: &[char]) -> Turn
+#[tactic(auto, using(crate::proofs::TurnLaws::utf16_one, crate::proofs::TurnLaws::octal_ahead), unfolding(crate::specs::StringValues::string_rest, crate::specs::Numbers::is_octal, crate::specs::Turns::after, crate::specs::Turns::IsReached, crate::specs::Turns::IsOctalDue, crate::specs::Turns::LeadsOn))]
+fn octal_turn(more: u32, value: u32, c: char, next: Option<char>) -> Turn
     requires due { IsOctalDue more value }
-    requires octal { values.begins_octal (c ∷ rest.now) ≡ true }
-    ensures { (q : ℕ) (sloppy : Bool) → IsStringTurn q sloppy (Octal more value) c rest.now result }
+    requires octal { numbers.is_octal c ≡ true }
+    ensures { (q : ℕ) (sloppy : Bool) (tail : List ℕ) → IsStringTurn q sloppy (Octal more value) c (ahead next tail) result }
 {
     let value = value * 8 + (c as u32 - '0' as u32);
     match more {
-        1 if begins_octal(rest) => Turn::Goes(Place::Octal { more: 0, value }),
+        1 if is_octal_next(next) => Turn::Goes(Place::Octal { more: 0, value }),
         _ => Turn::Gives(value, Place::Between),
     }
 }
 
-/// What one character does.
-#[tactic(auto, unfolding(crate::specs::StringValues::string_rest, crate::specs::Turns::after, crate::specs::Turns::IsReached, crate::specs::Turns::LeadsOn))]
+/// What one character does; `next` is the one after it, if there is one.
+#[tactic(auto, unfolding(crate::specs::StringValues::string_rest, crate::specs::StringValues::begins_octal, crate::specs::Turns::after, crate::specs::Turns::IsReached, crate::specs::Turns::LeadsOn))]
+pub fn string_turn(quote: char, sloppy: bool, place: Place, c: char, next: Option<char>) -> Turn
+    requires { IsReached place (c ∷ []) }
+    ensures { (tail : List ℕ) → IsStringTurn quote sloppy place c (ahead next tail) result }
+{
+    match place {
+        Place::Between => between_turn(quote, c, next),
+        Place::Escaped if is_digit(c) => digit_turn(sloppy, c, next),
+        Place::Escaped => escape_turn(c, next),
+        Place::Due { digits, value } => due_turn(digits, value, c),
+        Place::Unicode => unicode_turn(c),
+        Place::Braced { some, value } => braced_turn(some, value, c),
+        Place::Octal { more, value } => octal_turn(more, value, c, next),
+        Place::Continued => Turn::Goes(Place::Between),
+    }
+}
+
+/// What one character does before the rest.
+#[tactic(auto, using(crate::proofs::TurnLaws::reached_first))]
 fn turn(quote: char, sloppy: bool, place: Place, c: char, rest: &[char]) -> Turn
     requires { IsReached place (c ∷ rest.now) }
     ensures { IsStringTurn quote sloppy place c rest.now result }
 {
-    match place {
-        Place::Between => between_turn(quote, c, rest),
-        Place::Escaped if is_digit(c) => digit_turn(sloppy, c, rest),
-        Place::Escaped => escape_turn(c, rest),
-        Place::Due { digits, value } => due_turn(digits, value, c),
-        Place::Unicode => unicode_turn(c),
-        Place::Braced { some, value } => braced_turn(some, value, c),
-        Place::Octal { more, value } => octal_turn(more, value, c, rest),
-        Place::Continued => Turn::Goes(Place::Between),
-    }
+    string_turn(quote, sloppy, place, c, first(rest))
 }
 
 #[tactic(auto, unfolding(crate::specs::StringValues::string_rest, crate::specs::Turns::after, crate::specs::Turns::LeadsOn))]

@@ -1,15 +1,15 @@
 //! What the text of a template stands for, as plain programs. ECMA-262, section 12.9.6.
 
-ghost use Rattle.std.specs.Prelude.{◌≡◌, ◌∷◌, true, is_some, Some, None, IfOk, IfSome, IfNone, if◌then◌else◌};
+ghost use Rattle.std.specs.Prelude.{ℕ, List, ◌≡◌, ◌∷◌, true, is_some, Some, None, IfOk, IfSome, IfNone, if◌then◌else◌};
 ghost use Rattle.swc_ecma_codegen_ast.specs.declared.units.Place.TheVariants.{Between, Escaped};
 ghost use Rattle.swc_ecma_codegen_ast.specs.Chars as chars;
 ghost use Rattle.swc_ecma_codegen_ast.specs.StringValues.{before};
 ghost use Rattle.swc_ecma_codegen_ast.specs.TemplateValues as values;
-ghost use Rattle.swc_ecma_codegen_ast.specs.Turns.{IsReached, IsTemplateTurn};
+ghost use Rattle.swc_ecma_codegen_ast.specs.Turns.{IsReached, IsTemplateTurn, ahead};
 
-use crate::characters::{begins_digit, is_digit};
+use crate::characters::is_digit;
 use crate::shapes::begins;
-use crate::turns::{Turn, braced_turn, due_turn, escape_turn, unicode_turn};
+use crate::turns::{Turn, braced_turn, due_turn, escape_turn, first, is_digit_next, unicode_turn};
 use crate::units::{Place, push_utf16};
 use std::alloc::{AllocError, Global};
 
@@ -29,13 +29,13 @@ fn between_turn(c: char, rest: &[char]) -> Turn
 }
 
 /// A digit after a backslash.
-#[tactic(auto, using(crate::proofs::TurnLaws::utf16_one), unfolding(crate::specs::TemplateValues::cooked_rest, crate::specs::Chars::is_digit, crate::specs::Turns::after, crate::specs::Turns::IsReached, crate::specs::Turns::LeadsOn))]
-fn digit_turn(c: char, rest: &[char]) -> Turn
+#[tactic(auto, using(crate::proofs::TurnLaws::utf16_one, crate::proofs::TurnLaws::digit_ahead), unfolding(crate::specs::TemplateValues::cooked_rest, crate::specs::Chars::is_digit, crate::specs::Turns::after, crate::specs::Turns::IsReached, crate::specs::Turns::LeadsOn))]
+fn digit_turn(c: char, next: Option<char>) -> Turn
     requires { chars.is_digit c ≡ true }
-    ensures { IsTemplateTurn Escaped c rest.now result }
+    ensures { (tail : List ℕ) → IsTemplateTurn Escaped c (ahead next tail) result }
 {
     match c {
-        '0' if !begins_digit(rest) => Turn::Gives(0, Place::Between),
+        '0' if !is_digit_next(next) => Turn::Gives(0, Place::Between),
         _ => Turn::Malformed,
     }
 }
@@ -48,8 +48,8 @@ fn turn(place: Place, c: char, rest: &[char]) -> Turn
 {
     match place {
         Place::Between => between_turn(c, rest),
-        Place::Escaped if is_digit(c) => digit_turn(c, rest),
-        Place::Escaped => escape_turn(c, rest),
+        Place::Escaped if is_digit(c) => digit_turn(c, first(rest)),
+        Place::Escaped => escape_turn(c, first(rest)),
         Place::Due { digits, value } => due_turn(digits, value, c),
         Place::Unicode => unicode_turn(c),
         Place::Braced { some, value } => braced_turn(some, value, c),

@@ -1,18 +1,21 @@
-//! What one character of a string or a template does, as plain programs: the rules that both share.
+//! What one character of a string or a template does, as plain programs: the rules that both share. `next` is the
+//! character after it, if there is one.
 
-ghost use Rattle.std.specs.Prelude.{ℕ, ◌≡◌, ◌<◌, ◌≤◌, List, true, false};
+ghost use Rattle.std.specs.Prelude.{ℕ, ◌≡◌, ◌<◌, ◌≤◌, List, [], ◌∷◌, drop, true, false};
 ghost use Rattle.swc_ecma_codegen_ast.specs.declared.units.Place.TheVariants.{Escaped, Due, Unicode, Braced};
 ghost use Rattle.swc_ecma_codegen_ast.specs.Numbers as numbers;
 ghost use Rattle.swc_ecma_codegen_ast.specs.Chars as chars;
-ghost use Rattle.swc_ecma_codegen_ast.specs.Turns.{IsDue, IsTurn};
+ghost use Rattle.swc_ecma_codegen_ast.specs.StringValues as values;
+ghost use Rattle.swc_ecma_codegen_ast.specs.Texts as texts;
+ghost use Rattle.swc_ecma_codegen_ast.specs.Turns.{IsDue, IsTurn, ahead};
 
-use crate::numerals::hex_digit;
-use crate::shapes::begins;
+use crate::characters::is_digit;
+use crate::numerals::{hex_digit, is_octal};
 use crate::units::Place;
 
 /// What one character does.
 #[derive(Clone, Copy)]
-pub(crate) enum Turn {
+pub enum Turn {
     /// No text goes on like this.
     Malformed,
     /// The text ends here.
@@ -23,9 +26,53 @@ pub(crate) enum Turn {
     Gives(u32, Place),
 }
 
+/// The first character of a text.
+#[tactic(auto, using(crate::proofs::TurnLaws::ahead_first), unfolding(crate::specs::Turns::ahead))]
+pub(crate) fn first(text: &[char]) -> Option<char>
+    ensures { text.now ≡ ahead result (drop 1 text.now) }
+{
+    match text {
+        [] => None,
+        [c, ..] => Some(*c),
+    }
+}
+
+/// Whether a decimal digit is next.
+#[tactic(auto, unfolding(crate::specs::Chars::begins_digit, crate::specs::Turns::ahead))]
+pub fn is_digit_next(next: Option<char>) -> bool
+    ensures { result ≡ chars.begins_digit (ahead next []) }
+{
+    match next {
+        None => false,
+        Some(c) => is_digit(c),
+    }
+}
+
+/// Whether an octal digit is next.
+#[tactic(auto, unfolding(crate::specs::StringValues::begins_octal, crate::specs::Turns::ahead))]
+pub fn is_octal_next(next: Option<char>) -> bool
+    ensures { result ≡ values.begins_octal (ahead next []) }
+{
+    match next {
+        None => false,
+        Some(c) => is_octal(c),
+    }
+}
+
+/// Whether it is LF.
+#[tactic(auto, unfolding(crate::specs::Texts::begins, crate::specs::Turns::ahead))]
+pub fn is_line_feed_next(next: Option<char>) -> bool
+    ensures { result ≡ texts.begins (10 ∷ []) (ahead next []) }
+{
+    match next {
+        None => false,
+        Some(c) => c == '\n',
+    }
+}
+
 /// A digit of `\x41` or `\u0041`.
 #[tactic(auto, using(crate::proofs::TurnLaws::utf16_one), unfolding(crate::specs::StringValues::string_rest, crate::specs::TemplateValues::cooked_rest, crate::specs::Turns::after, crate::specs::Turns::IsReached, crate::specs::Turns::IsDue, crate::specs::Turns::LeadsOn))]
-pub(crate) fn due_turn(digits: u32, value: u32, c: char) -> Turn
+pub fn due_turn(digits: u32, value: u32, c: char) -> Turn
     requires { IsDue digits value }
     ensures { (rest : List ℕ) → IsTurn (Due digits value) c rest result }
 {
@@ -42,7 +89,7 @@ pub(crate) fn due_turn(digits: u32, value: u32, c: char) -> Turn
 
 /// What follows `\u`.
 #[tactic(auto, unfolding(crate::specs::StringValues::string_rest, crate::specs::TemplateValues::cooked_rest, crate::specs::Turns::after, crate::specs::Turns::IsReached, crate::specs::Turns::IsDue, crate::specs::Turns::LeadsOn))]
-pub(crate) fn unicode_turn(c: char) -> Turn
+pub fn unicode_turn(c: char) -> Turn
     ensures { (rest : List ℕ) → IsTurn Unicode c rest result }
 {
     match hex_digit(c) {
@@ -57,7 +104,7 @@ pub(crate) fn unicode_turn(c: char) -> Turn
 
 /// A digit of `\u{1f600}`, or its brace.
 #[tactic(auto, using(crate::proofs::TurnLaws::string_too_large, crate::proofs::TurnLaws::cooked_too_large), unfolding(crate::specs::StringValues::string_rest, crate::specs::TemplateValues::cooked_rest, crate::specs::Turns::after, crate::specs::Turns::IsReached, crate::specs::Turns::LeadsOn))]
-pub(crate) fn braced_turn(some: bool, value: u32, c: char) -> Turn
+pub fn braced_turn(some: bool, value: u32, c: char) -> Turn
     requires { value ≤ 1114111 }
     ensures { (rest : List ℕ) → IsTurn (Braced some value) c rest result }
 {
@@ -76,10 +123,10 @@ pub(crate) fn braced_turn(some: bool, value: u32, c: char) -> Turn
 }
 
 /// A character after a backslash, but no digit.
-#[tactic(auto, using(crate::proofs::TurnLaws::utf16_one), unfolding(crate::specs::StringValues::string_rest, crate::specs::StringValues::single_escape, crate::specs::TemplateValues::cooked_rest, crate::specs::Chars::is_digit, crate::specs::Numbers::is_octal, crate::specs::Turns::after, crate::specs::Turns::IsReached, crate::specs::Turns::IsDue, crate::specs::Turns::LeadsOn))]
-pub(crate) fn escape_turn(c: char, rest: &[char]) -> Turn
+#[tactic(auto, using(crate::proofs::TurnLaws::utf16_one, crate::proofs::TurnLaws::feed_ahead), unfolding(crate::specs::StringValues::string_rest, crate::specs::StringValues::single_escape, crate::specs::TemplateValues::cooked_rest, crate::specs::Chars::is_digit, crate::specs::Numbers::is_octal, crate::specs::Turns::after, crate::specs::Turns::IsReached, crate::specs::Turns::IsDue, crate::specs::Turns::LeadsOn))]
+pub fn escape_turn(c: char, next: Option<char>) -> Turn
     requires { chars.is_digit c ≡ false }
-    ensures { IsTurn Escaped c rest.now result }
+    ensures { (tail : List ℕ) → IsTurn Escaped c (ahead next tail) result }
 {
     match c {
         'x' => Turn::Goes(Place::Due {
@@ -87,7 +134,7 @@ pub(crate) fn escape_turn(c: char, rest: &[char]) -> Turn
             value: 0,
         }),
         'u' => Turn::Goes(Place::Unicode),
-        '\r' if begins(&['\n'], rest) => Turn::Goes(Place::Continued),
+        '\r' if is_line_feed_next(next) => Turn::Goes(Place::Continued),
         '\r' | '\n' | '\u{2028}' | '\u{2029}' => Turn::Goes(Place::Between),
         'b' => Turn::Gives(8, Place::Between),
         't' => Turn::Gives(9, Place::Between),

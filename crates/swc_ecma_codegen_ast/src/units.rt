@@ -55,7 +55,7 @@ pub(crate) fn push_utf16(units: &mut Vec<u16>, code: u32) -> Result<(), AllocErr
 
 /// The value of four hexadecimal digits, where it is from D800 to DFFF.
 #[tactic(auto, unfolding(crate::specs::CodeUnits::begins_like, crate::specs::CodeUnits::is_high_digit, crate::specs::Numbers::is_either))]
-fn surrogate_value(a: char, b: char, c: char, d: char) -> Option<u32>
+pub fn surrogate_value(a: char, b: char, c: char, d: char) -> Option<u32>
     ensures some { IfSome result (λ unit. (code_units.begins_like (code_units.four_digits []) (a ∷ b ∷ c ∷ d ∷ []) ≡ true) × (unit ≡ digits_value 16 (a ∷ b ∷ c ∷ d ∷ [])) × (unit < 65536)) }
     ensures none { IfNone result (code_units.begins_like (code_units.four_digits []) (a ∷ b ∷ c ∷ d ∷ []) ≡ false) }
 {

@@ -1,5 +1,5 @@
 -- Calls of a writer, as steps of an emission.
-use Rattle.std.proofs.Common.{◌≡◌, true, false, cond, [], ◌∷◌, List, ℕ, Result, Ok, Err, OnOk, OnErr, refl, sym, ◌∙◌, ap, subst, Bool}
+use Rattle.std.proofs.Common.{◌≡◌, true, false, cond, List, ℕ, Result, Ok, Err, OnOk, OnErr, refl, sym, ◌∙◌, ap, subst, Bool}
 use Rattle.std.specs.Str.{chars}
 use Rattle.swc_ecma_codegen_common.specs.declared.errors.Refusal.{Refusal}
 use Rattle.swc_ecma_codegen_util.specs.declared.config.Config.{Config}
@@ -13,7 +13,7 @@ use Rattle.swc_ecma_codegen_base.specs.declared.last.Last.{Last}
 use Rattle.swc_ecma_codegen_base.specs.declared.last.Last.TheVariants as last
 use Rattle.swc_ecma_codegen_base.specs.Last.{last_at}
 use Rattle.swc_ecma_codegen_base.specs.View.{state_of}
-use Rattle.swc_ecma_codegen_base.specs.Run.{Part, when_minified, no_part, State, Step, Guard, Token, Plain, IsRefused, Emits, put, step, text_of, after_token, after_plain}
+use Rattle.swc_ecma_codegen_base.specs.Run.{Part, when_minified, no_part, State, Step, Guard, Token, Plain, Ends, IsRefused, Emits, put, step, text_of, after_token, after_tokens, after_plain}
 use Rattle.swc_ecma_codegen_base.proofs.Emitting.{emits_step, emits_refused, follows_same, minified_same, pretty_same}
 
 -- ---- what no call changes
@@ -100,6 +100,17 @@ pub called : (kind : Kind) (item : Item) (config : Config) (e f : LowerEmitter) 
 unfolding put IsRefused
 called kind item config e f old new l answer r fresh w ok err eq last =
     step_called (Token kind item) item config e f old new r refl (λ err z h. h) fresh (subst (λ z. Writes item old new z) (sym eq) w)
+    (on_ok r (λ h. (ap last_at h.0 ∙ last, h.1)) ok) (on_err r (λ h. (ap last_at h.0, h.1)) err)
+
+-- a call with which tokens end
+pub called_ends : (tokens : List (Kind × List ℕ)) (item : Item) (config : Config) (e f : LowerEmitter) (old new : Sheet) (l : Last) (answer r : Result (Unit {0}) Refusal)
+    → e.failed ≡ false → Writes item old new answer
+    → OnOk r ((f.token.value ≡ l) × (f.failed ≡ e.failed)) → OnErr r ((f.token.value ≡ e.token.value) × (f.failed ≡ true)) → r ≡ answer
+    → last_at l ≡ after_tokens tokens (last_at e.token.value)
+    → Emits (step (Ends tokens item)) (state_of config old e) (state_of config new f) r
+unfolding put IsRefused
+called_ends tokens item config e f old new l answer r fresh w ok err eq last =
+    step_called (Ends tokens item) item config e f old new r refl (λ err z h. h) fresh (subst (λ z. Writes item old new z) (sym eq) w)
     (on_ok r (λ h. (ap last_at h.0 ∙ last, h.1)) ok) (on_err r (λ h. (ap last_at h.0, h.1)) err)
 
 -- a call that writes no token, after which another is the last one

@@ -6,7 +6,7 @@ use Rattle.swc_ecma_codegen_common.specs.declared.errors.Refusal.TheVariants.{Fa
 use Rattle.swc_ecma_codegen_ast.specs.GapRules.{fuses, Apart}
 use Rattle.swc_ecma_codegen_text_writer.specs.Sheet.{Space, effect}
 use Rattle.swc_ecma_codegen_base.specs.declared.refusals.Unprintable.{Unprintable}
-use Rattle.swc_ecma_codegen_base.specs.Run.{Env, Plan, Part, State, Step, Guard, Token, Plain, Steps, next, IsRefused, Halts, earlier, stopped, reached, Follows, run, steps_of, refusal_of, unprintable_in, put, step, refuse, nothing, when_minified}
+use Rattle.swc_ecma_codegen_base.specs.Run.{Env, Plan, Part, State, Step, Guard, Token, Plain, Ends, Steps, next, IsRefused, Halts, earlier, stopped, reached, Follows, run, steps_of, refusal_of, unprintable_in, put, step, refuse, nothing, when_minified}
 
 -- an earlier refusal is not forgotten
 pub put_failed : (x : Step) (s : State) → (put x s).failed ≡ s.failed
@@ -14,6 +14,7 @@ unfolding put
 put_failed (Guard t) s = elim (fuses s.last (chars t)) as (λ b. (cond b (record s { sheet = effect Space s.sheet; last = Apart }) s).failed ≡ s.failed) [ true ↦ refl | false ↦ refl ]
 put_failed (Token kind x) s = refl
 put_failed (Plain x) s = refl
+put_failed (Ends tokens x) s = refl
 put_failed x s = refl
 
 pub put_env : (x : Step) (s : State) → (put x s).env ≡ s.env
@@ -21,6 +22,7 @@ unfolding put
 put_env (Guard t) s = elim (fuses s.last (chars t)) as (λ b. (cond b (record s { sheet = effect Space s.sheet; last = Apart }) s).env ≡ s.env) [ true ↦ refl | false ↦ refl ]
 put_env (Token kind x) s = refl
 put_env (Plain x) s = refl
+put_env (Ends tokens x) s = refl
 put_env x s = refl
 
 halts_later : (x : Step) {xs : Steps} {e : Refusal} {a b : State} → a.failed ≡ false → Halts xs e (put x a) b → Halts (next x xs) e a b

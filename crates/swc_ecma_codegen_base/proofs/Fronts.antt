@@ -10,7 +10,7 @@ use Rattle.swc_ecma_codegen_text_writer.proofs.Sheets.{front_refl, front_trans, 
 use Rattle.swc_ecma_codegen_base.specs.declared.refusals.Unprintable.{Unprintable}
 use Rattle.swc_ecma_codegen_base.specs.declared.refusals.Unprintable.TheVariants as unprintable
 use Rattle.swc_ecma_codegen_base.specs.Run as run
-use Rattle.swc_ecma_codegen_base.specs.Run.{State, Step, Guard, Token, Plain, Remake, put, run, IsRefused, Steps, steps_of, unprintable_in, refusal_of, Stops, Halts, reached, Plan, Follows, remakes_name, has_backslash, deepens, HasCause, IsUnhindered}
+use Rattle.swc_ecma_codegen_base.specs.Run.{State, Step, Guard, Token, Plain, Ends, Remake, put, run, IsRefused, Steps, steps_of, unprintable_in, refusal_of, Stops, Halts, reached, Plan, Follows, makes_text, deepens, HasCause, IsUnhindered}
 
 -- ---- what steps do to a sheet
 
@@ -20,7 +20,8 @@ unfolding put
 put_sheet f k (Guard t) a = elim (fuses a.last (chars t)) as (λ b. f (cond b (record a { sheet = effect Space a.sheet; last = Apart }) a).sheet ≡ f a.sheet) [ true ↦ k Space a.sheet | false ↦ refl ]
 put_sheet f k (Token kind x) a = k x a.sheet
 put_sheet f k (Plain x) a = k x a.sheet
-put_sheet f k (Remake name) a = refl
+put_sheet f k (Ends tokens x) a = k x a.sheet
+put_sheet f k (Remake due) a = refl
 
 pub run_sheet : {A : Type 0} (f : Sheet → A) → ((x : Item) (s : Sheet) → f (effect x s) ≡ f s) → (xs : List Step) (a : State) → f (run xs a).sheet ≡ f a.sheet
 unfolding run
@@ -35,7 +36,8 @@ unfolding put
 put_grows (Guard t) a = elim (fuses a.last (chars t)) as (λ b. IsFront a.sheet.text (cond b (record a { sheet = effect Space a.sheet; last = Apart }) a).sheet.text) [ true ↦ effect_grows Space a.sheet | false ↦ front_refl a.sheet.text ]
 put_grows (Token kind x) a = effect_grows x a.sheet
 put_grows (Plain x) a = effect_grows x a.sheet
-put_grows (Remake name) a = front_refl a.sheet.text
+put_grows (Ends tokens x) a = effect_grows x a.sheet
+put_grows (Remake due) a = front_refl a.sheet.text
 
 run_grows : (xs : List Step) (a : State) → IsFront a.sheet.text (run xs a).sheet.text
 unfolding run
@@ -58,7 +60,8 @@ unfolding IsRefused put
 refused_front (Guard t) e a new h = let P : Bool → Type 0 = λ b. IsFront new.text (cond b (record a { sheet = effect Space a.sheet; last = Apart }) a).sheet.text in subst P (sym h.0) (refuses_front a.sheet new h.1)
 refused_front (Token kind x) e a new h = refuses_front a.sheet new h
 refused_front (Plain x) e a new h = refuses_front a.sheet new h
-refused_front (Remake name) e a new h = let P : Sheet → Type 0 = λ s. IsFront s.text a.sheet.text in subst P (sym h.2) (front_refl a.sheet.text)
+refused_front (Ends tokens x) e a new h = refuses_front a.sheet new h
+refused_front (Remake due) e a new h = let P : Sheet → Type 0 = λ s. IsFront s.text a.sheet.text in subst P (sym h.2) (front_refl a.sheet.text)
 
 stops_front : (xs : List Step) (e : Refusal) (a b : State) → Stops xs e a b → IsFront b.sheet.text (run xs a).sheet.text
 unfolding run
@@ -97,14 +100,15 @@ or_right : (x y : Bool) → y ≡ true → (x || y) ≡ true
 or_right true y h = refl
 or_right false y h = h
 
--- a name among the steps
-remakes-append : (front : List Step) (name : List ℕ) (rest : List Step) → has_backslash name ≡ true → remakes_name (front ++ (Remake name ∷ rest)) ≡ true
-unfolding remakes_name
-remakes-append [] name rest h = or_left (has_backslash name) (remakes_name rest) h
-remakes-append (Remake n ∷ xs) name rest h = or_right (has_backslash n) (remakes_name (xs ++ (Remake name ∷ rest))) (remakes-append xs name rest h)
-remakes-append (Guard t ∷ xs) name rest h = remakes-append xs name rest h
-remakes-append (Token kind x ∷ xs) name rest h = remakes-append xs name rest h
-remakes-append (Plain x ∷ xs) name rest h = remakes-append xs name rest h
+-- a text that is made among the steps
+remakes-append : (front : List Step) (due : Bool) (rest : List Step) → due ≡ true → makes_text (front ++ (Remake due ∷ rest)) ≡ true
+unfolding makes_text
+remakes-append [] due rest h = or_left due (makes_text rest) h
+remakes-append (Remake b ∷ xs) due rest h = or_right b (makes_text (xs ++ (Remake due ∷ rest))) (remakes-append xs due rest h)
+remakes-append (Guard t ∷ xs) due rest h = remakes-append xs due rest h
+remakes-append (Token kind x ∷ xs) due rest h = remakes-append xs due rest h
+remakes-append (Plain x ∷ xs) due rest h = remakes-append xs due rest h
+remakes-append (Ends tokens x ∷ xs) due rest h = remakes-append xs due rest h
 
 -- a call that is refused after some steps
 call_cause : (xs : Steps) (front : List Step) (step : Step) (rest : List Step) (x : Item) (e : Refusal) (a b : State) → steps_of xs ≡ front ++ (step ∷ rest) → (x ≡ Deeper → deepens step) → Refuses x e (run front a).sheet b.sheet → HasCause xs e a b
@@ -117,7 +121,7 @@ call_cause xs front step rest x NameOutOfTarget a b split deep (earlier h k eq) 
 call_cause xs front step rest x PositionTooLarge a b split deep (earlier h k eq) = absurd (cc)
 call_cause xs front step rest x Failed a b split deep (earlier h k eq) = or_right a.failed a.sheet.refused (sym (run_sheet (λ s. s.refused) effect_refused front a) ∙ h)
 call_cause xs front step rest x Writer a b split deep (stopped h k s) = let P : ℕ → Type 0 = λ n. Rises n b.sheet.faults in subst P (run_sheet (λ z. z.faults) effect_faults front a) k
-call_cause xs front step rest x OutOfMemory a b split deep (stopped h k s) = or_left a.sheet.takes_memory (remakes_name (steps_of xs)) (sym (run_sheet (λ z. z.takes_memory) effect_takes_memory front a) ∙ k)
+call_cause xs front step rest x OutOfMemory a b split deep (stopped h k s) = or_left a.sheet.takes_memory (makes_text (steps_of xs)) (sym (run_sheet (λ z. z.takes_memory) effect_takes_memory front a) ∙ k)
 call_cause xs front step rest x UnsupportedNode a b split deep (stopped h k s) = absurd k
 call_cause xs front step rest x BadShape a b split deep (stopped h k s) = absurd k
 call_cause xs front step rest x NameOutOfTarget a b split deep (stopped h k s) = absurd k
@@ -133,9 +137,10 @@ unfolding IsRefused deepens HasCause
 refused_cause xs front (Guard t) rest e a b split h = call_cause xs front (Guard t) rest Space e a b split space_no_deeper h.1
 refused_cause xs front (Token kind x) rest e a b split h = call_cause xs front (Token kind x) rest x e a b split (λ d. d) h
 refused_cause xs front (Plain x) rest e a b split h = call_cause xs front (Plain x) rest x e a b split (λ d. d) h
-refused_cause xs front (Remake name) rest e a b split h =
+refused_cause xs front (Ends tokens x) rest e a b split h = call_cause xs front (Ends tokens x) rest x e a b split (λ d. d) h
+refused_cause xs front (Remake due) rest e a b split h =
     let P : Refusal → Type 0 = λ z. HasCause xs z a b in
-    subst P (sym h.0) (or_right a.sheet.takes_memory (remakes_name (steps_of xs)) (ap remakes_name split ∙ remakes-append front name rest h.1))
+    subst P (sym h.0) (or_right a.sheet.takes_memory (makes_text (steps_of xs)) (ap makes_text split ∙ remakes-append front due rest h.1))
 
 reached_cause : (xs : Steps) (r : Unprintable) (a b : State) → unprintable_in xs ≡ Some r → b ≡ record (run (steps_of xs) a) { failed = true } → HasCause xs (refusal_of r) a b
 unfolding HasCause refusal_of

@@ -1,14 +1,14 @@
 -- What calls leave of a sheet, and a semicolon that is held back.
-use Rattle.std.proofs.Common.{◌≡◌, ℕ, Bool, true, false, cond, List, [], ◌∷◌, ◌++◌, codes, refl, sym, ap, ◌∙◌, subst, append_assoc, append-nil, Option, Some, None, ◌&&◌}
+use Rattle.std.proofs.Common.{◌≡◌, ℕ, Bool, true, false, cond, List, [], ◌∷◌, ◌++◌, codes, refl, sym, ap, ◌∙◌, append_assoc, append-nil, Option, Some, None, ◌&&◌}
 use Rattle.std.specs.List.{repeat}
 use Rattle.swc_ecma_codegen_common.specs.declared.positions.BytePos.{BytePos}
 use Rattle.swc_ecma_codegen_common.specs.declared.positions.Span.{Span}
-use Rattle.swc_ecma_codegen_text_writer.specs.Sheet.{Sheet, Pair, Semicolons, AtOnce, HoldsNone, HoldsOne, holds_semicolons, recorded, with_pair, start_recorded, end_recorded, pending_recorded, appended, indented, started, written, ended, pointed, settled, settled_by, dropped}
+use Rattle.swc_ecma_codegen_text_writer.specs.Sheet.{Sheet, Pair, Semicolons, AtOnce, HoldsNone, HoldsOne, holds_semicolons, recorded, with_pair, start_recorded, end_recorded, pending_recorded, appended, indented, started, written, pointed, settled, settled_by, dropped}
 use Rattle.swc_ecma_codegen_base.specs.Written.{holds_one}
 
 -- ---- what recording positions leaves
 
-recorded_keeps : {A : Type 0} (f : Sheet → A) → ((s : Sheet) (x : List Pair) → f (record s { pairs = x }) ≡ f s) → (pos : BytePos) (s : Sheet) → f (recorded pos s) ≡ f s
+pub recorded_keeps : {A : Type 0} (f : Sheet → A) → ((s : Sheet) (x : List Pair) → f (record s { pairs = x }) ≡ f s) → (pos : BytePos) (s : Sheet) → f (recorded pos s) ≡ f s
 unfolding recorded
 recorded_keeps f k pos s = elim s.keeps_positions as (λ b. f (cond b (record s { pairs = with_pair pos s.place s.pairs }) s) ≡ f s) [ true ↦ k s (with_pair pos s.place s.pairs) | false ↦ refl ]
 

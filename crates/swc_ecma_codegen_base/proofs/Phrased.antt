@@ -1,13 +1,13 @@
 -- What each word writes is one of the token lists of a phrase.
 use Rattle.std.proofs.Common.{◌≡◌, ◌≢◌, ℕ, Bool, true, false, cond, List, [], ◌∷◌, ◌++◌, ◌||◌, ◌==◌, codes, refl, sym, ap, ◌∙◌, subst, append-nil, inl, inr, Option, Result, Ok, Err, OnOk, IfErr}
 use Rattle.std.specs.Str.{chars, is_utf8}
-use Rattle.std.proofs.lemmas.Bool.{and_parts, or_from, true≢false}
+use Rattle.std.proofs.lemmas.Bool.{and_parts, or_from, false_from_ne_true, true≢false}
 use Rattle.swc_ecma_codegen_common.specs.declared.errors.Error.{Error}
 use Rattle.swc_ecma_codegen_common.specs.declared.errors.Error.TheVariants as errors
 use Rattle.swc_ecma_codegen_common.specs.declared.errors.Refusal.{Refusal}
 use Rattle.swc_ecma_codegen_common.specs.Refusals.{in_short}
 use Rattle.swc_ecma_codegen_common.specs.declared.positions.Span.{Span}
-use Rattle.swc_ecma_codegen_ast.specs.declared.kinds.Kind.TheVariants.{Word, Name, Punctuator, Ending}
+use Rattle.swc_ecma_codegen_ast.specs.declared.kinds.Kind.TheVariants.{Word, Name, Punctuator}
 use Rattle.swc_ecma_codegen_ast.specs.Tokens as lexical
 use Rattle.swc_ecma_codegen_ast.specs.Tokens.{token_of, value_of}
 use Rattle.swc_ecma_codegen_ast.specs.Names.{is_word, is_name}
@@ -24,16 +24,16 @@ use Rattle.swc_ecma_codegen_spans.specs.Spans.{dummy_span}
 use Rattle.swc_ecma_codegen_text_writer.specs.Recorded.{RecordsTruly}
 use Rattle.swc_ecma_codegen_text_writer.specs.Sheet.{Sheet, Symbol, Position, Commit}
 use Rattle.swc_ecma_codegen_text_writer.proofs.Sheets.{effect_keeps_positions}
-use Rattle.swc_ecma_codegen_ast.specs.Phrases.{Phrase, Never, Nothing, One, NameOf, Then, Generates, is_possible, names_in, ◌>◌, mark}
+use Rattle.swc_ecma_codegen_ast.specs.Phrases.{Phrase, Never, Nothing, One, NameOf, Then, Generates, is_possible, names_in, where_, ◌>◌, mark}
 use Rattle.swc_ecma_codegen_ast.specs.Phrases as phrases
 use Rattle.swc_ecma_codegen_ast.specs.SpelledNames as names
 use Rattle.swc_ecma_codegen_ast.specs.SpelledNames.{is_well_formed_name}
 use Rattle.swc_ecma_codegen_ast.specs.ValidNames.{turned}
 use Rattle.swc_ecma_codegen_ast.proofs.Reading.{reads}
-use Rattle.swc_ecma_codegen_base.specs.Run.{Env, Plan, Part, State, Step, Guard, Token, Plain, Remake, Steps, done, step, steps_of, run, nothing, spelling, Follows, HasCause, remakes_name}
+use Rattle.swc_ecma_codegen_base.specs.Run.{Env, Plan, Part, State, Step, Guard, Token, Plain, Remake, Steps, done, step, steps_of, run, nothing, spelling, Follows, HasCause, has_backslash, makes_text}
 use Rattle.swc_ecma_codegen_base.specs.Words.{keyword, operator, word_operator, punct, semi, commit_pending_semi, position, symbol, valid_symbol, name_text, question, name}
 use Rattle.swc_ecma_codegen_base.specs.Written.{AtRest, is_free, holds_one, IsNew, ReadsAs, AddsText, AddsReading, IsWord, IsMark}
-use Rattle.swc_ecma_codegen_base.specs.Escapes.{escapes_name}
+use Rattle.swc_ecma_codegen_base.specs.Escapes.{may_make_text}
 use Rattle.swc_ecma_codegen_base.specs.Named.{RecordsNames}
 use Rattle.swc_ecma_codegen_base.proofs.Fronts.{follows_cause, run_append, run_sheet}
 use Rattle.swc_ecma_codegen_base.proofs.Held.{front}
@@ -41,7 +41,7 @@ use Rattle.swc_ecma_codegen_base.proofs.Indented.{blanks}
 use Rattle.swc_ecma_codegen_base.proofs.Spelled.{valid_same}
 use Rattle.swc_ecma_codegen_base.proofs.Positions.{Named, named_none, named_then, named_records, name_named, name_steps, run_records}
 use Rattle.swc_ecma_codegen_base.proofs.Written.{Lays, held, held_of, tokens_append, Spelled, spelled_word, spelled_name, spelled_mark}
-use Rattle.swc_ecma_codegen_base.proofs.Printed.{chain, Makes, Writes, writes_then, writes_nothing, writes_keyword, writes_operator, writes_word_operator, writes_punct, writes_semi, writes_commit, writes_leading, writes_name_text}
+use Rattle.swc_ecma_codegen_base.proofs.Printed.{chain, Makes, Writes, writes_whatever, writes_then, writes_same, writes_nothing, writes_keyword, writes_operator, writes_word_operator, writes_punct, writes_semi, writes_commit, writes_leading, writes_name_text}
 
 -- ---- the steps of a part
 
@@ -66,7 +66,7 @@ steps_then {env} h q =
 unfoldable pub NamedBy : Env → Part → List (BytePos × List ℕ) → Type 0
 NamedBy env p names = (s : State) → s.sheet.keeps_positions ≡ true → Named names s.sheet (run (steps_of (p nothing env)) s).sheet
 
-no_names : (env : Env) (p : Part) → NamedBy env p []
+pub no_names : (env : Env) (p : Part) → NamedBy env p []
 unfolding NamedBy
 no_names env p s k = named_none s.sheet _ (run_records (steps_of (p nothing env)) s)
 
@@ -84,7 +84,7 @@ names_then {env} {p} q xs ys m h k s keeps =
 pub record Printed (env : Env) (part : Part) (phrase : Phrase) : Type 0 where
   pub tokens : List lexical.Token
   pub generated : Generates phrase tokens
-  pub writes : Makes env part tokens (escapes_name phrase)
+  pub writes : Makes env part tokens (may_make_text phrase)
   pub named : NamedBy env part (names_in phrase)
 
 -- It does so where the phrase is possible.
@@ -93,7 +93,7 @@ pub record Prints (env : Env) (part : Part) (phrase : Phrase) : Type 0 where
 
 -- one part after the other
 pub then : {env : Env} {p q : Part} {f g : Phrase} → Prints env p f → Prints env q g → Prints env (λ rest. p (q rest)) (Then f g)
-unfolding Generates is_possible escapes_name names_in
+unfolding Generates is_possible may_make_text names_in
 then {env} {p} {q} {f} {g} h k = record {
   where_possible = λ w.
       let both = and_parts (is_possible f) (is_possible g) w in
@@ -115,7 +115,7 @@ after {env} {q} {p} {f} k h = record {
       record { tokens = a.tokens; generated = a.generated; writes = writes_then env q p [] a.tokens k a.writes; named = names_then p [] (names_in f) k (no_names env q) a.named };
 }
 
-or_false : (b : Bool) → (b || false) ≡ b
+pub or_false : (b : Bool) → (b || false) ≡ b
 or_false true = refl
 or_false false = refl
 
@@ -126,13 +126,13 @@ before {env} {p} {q} {f} h k = record {
       record {
         tokens = a.tokens;
         generated = a.generated;
-        writes = subst (λ z. Makes env (λ rest. p (q rest)) a.tokens z) (or_false (escapes_name f)) (subst (λ z. Makes env (λ rest. p (q rest)) z (escapes_name f || false)) (append-nil a.tokens) (writes_then env p q a.tokens [] a.writes k));
+        writes = subst (λ z. Makes env (λ rest. p (q rest)) a.tokens z) (or_false (may_make_text f)) (subst (λ z. Makes env (λ rest. p (q rest)) z (may_make_text f || false)) (append-nil a.tokens) (writes_then env p q a.tokens [] a.writes k));
         named = subst (λ z. NamedBy env (λ rest. p (q rest)) z) (append-nil (names_in f)) (names_then q (names_in f) [] a.writes a.named (no_names env q));
       };
 }
 
 pub prints_nothing : {env : Env} → Prints env (λ rest. rest) Nothing
-unfolding Generates escapes_name names_in
+unfolding Generates may_make_text names_in
 prints_nothing {env} = record { where_possible = λ w. record { tokens = []; generated = refl; writes = writes_nothing env; named = no_names env (λ rest. rest) } }
 
 -- what is Never has no list
@@ -140,9 +140,34 @@ pub prints_never : {env : Env} {p : Part} → Prints env p Never
 unfolding is_possible
 prints_never = record { where_possible = λ w. absurd (true≢false (sym w)) }
 
-prints_one : (env : Env) (p : Part) (x : lexical.Token) → Writes env p (x ∷ []) → Prints env p (One x)
-unfolding Generates escapes_name names_in
-prints_one env p x h = record { where_possible = λ w. record { tokens = x ∷ []; generated = refl; writes = h; named = no_names env p } }
+-- a phrase on a condition
+pub prints_where : {env : Env} {p : Part} {f : Phrase} (b : Bool) → (b ≡ true → Prints env p f) → Prints env p (where_ b f)
+unfolding where_
+prints_where true h = h refl
+prints_where false h = prints_never
+
+-- a part that is written as another is
+pub prints_same : {env : Env} {f : Phrase} (p q : Part) → ((rest : Plan) → p rest env ≡ q rest env) → Prints env q f → Prints env p f
+unfolding NamedBy
+prints_same {env} {f} p q e h = record {
+  where_possible = λ w.
+      let a = h.where_possible w in
+      record {
+        tokens = a.tokens;
+        generated = a.generated;
+        writes = writes_same env p q a.tokens e a.writes;
+        named = λ s k. let P : Steps → Type 0 = λ z. Named (names_in f) s.sheet (run (steps_of z) s).sheet in subst P (sym (e nothing)) (a.named s k);
+      };
+}
+
+-- a token, whose text may be made anew where it is a literal
+pub prints_made : (env : Env) (p : Part) (x : lexical.Token) → Makes env p (x ∷ []) (may_make_text (One x)) → Prints env p (One x)
+unfolding Generates names_in
+prints_made env p x h = record { where_possible = λ w. record { tokens = x ∷ []; generated = refl; writes = h; named = no_names env p } }
+
+pub prints_one : (env : Env) (p : Part) (x : lexical.Token) → Writes env p (x ∷ []) → Prints env p (One x)
+unfolding Generates may_make_text names_in
+prints_one env p x h = prints_made env p x (writes_whatever (may_make_text (One x)) h)
 
 -- ---- words and punctuators, which are ASCII
 
@@ -156,7 +181,7 @@ prints_word : (env : Env) (p : Part) (t : List ℕ) → IsWord t → Writes env 
 unfolding token_of value_of spelling lexical.word
 prints_word env p t w h = subst (λ z. Prints env p (phrases.word z)) w.ascii (prints_one env p _ h)
 
-prints_mark : (env : Env) (p : Part) (t : List ℕ) → Writes env p (token_of Punctuator (spelling Punctuator t) ∷ []) → Prints env p (mark t)
+pub prints_mark : (env : Env) (p : Part) (t : List ℕ) → Writes env p (token_of Punctuator (spelling Punctuator t) ∷ []) → Prints env p (mark t)
 unfolding token_of value_of spelling lexical.punctuator
 prints_mark env p t h = prints_one env p _ h
 
@@ -194,7 +219,7 @@ symbol_steps : (env : Env) (span : Span) (bytes : List ℕ) → env.keeps_invali
 unfolding settled_name name_steps commit_pending_semi valid_symbol symbol position step steps_of nothing
 symbol_steps env span bytes e =
     let x : Step = Token Name (Symbol dummy_span (turned bytes)) in
-    ap (λ z. Plain Commit ∷ steps_of z) (valid_same span bytes nothing env e) ∙ ap (λ z. Plain Commit ∷ Remake bytes ∷ Guard (turned bytes) ∷ z)
+    ap (λ z. Plain Commit ∷ steps_of z) (valid_same span bytes nothing env e) ∙ ap (λ z. Plain Commit ∷ Remake (has_backslash bytes) ∷ Guard (turned bytes) ∷ z)
     (elim (span.lo.0 == 0) as (λ b. steps_of ((cond b (step x nothing) (step (Plain (Position span.lo)) (step x nothing))) env) ≡ cond b (x ∷ []) (Plain (Position span.lo) ∷ x ∷ [])) [ true ↦ refl | false ↦ refl ])
 
 names_here : (env : Env) (span : Span) (bytes : List ℕ) → env.keeps_invalid ≡ false → (turned bytes ≡ [] → ⊥) → NamedBy env (settled_name span bytes) ((span.lo, bytes) ∷ [])
@@ -204,7 +229,7 @@ names_here env span bytes e some s k =
     subst P (sym (symbol_steps env span bytes e)) (name_named (span.lo.0 == 0) span.lo bytes s refl some k)
 
 prints_settled_name : (env : Env) (span : Span) (bytes : List ℕ) → env.keeps_invalid ≡ false → Prints env (settled_name span bytes) (NameOf span.lo bytes)
-unfolding settled_name token_of value_of spelling lexical.name names.spelled_name Generates is_possible escapes_name names_in
+unfolding settled_name token_of value_of spelling lexical.name names.spelled_name Generates is_possible may_make_text names_in
 prints_settled_name env span bytes e = record {
   where_possible = λ w.
       let spelled = name_spelled bytes w in
@@ -303,19 +328,20 @@ unfolding Follows
 printed_reads p f a b (Ok u) n prints w k = let P : State → Type 0 = λ z. AddsReading f a.sheet z.sheet in subst P (sym k.1) (steps_read p f a n prints w)
 printed_reads p f a b (Err e) n prints w k = tt
 
--- which names are made anew
-pub printed_remakes : (p : Part) (f : Phrase) (env : Env) → Prints env p f → is_possible f ≡ true → remakes_name (steps_of (p nothing env)) ≡ escapes_name f
+-- no text is made anew where nothing of the phrase may be
+pub printed_remakes : (p : Part) (f : Phrase) (env : Env) → Prints env p f → is_possible f ≡ true → may_make_text f ≡ false → makes_text (steps_of (p nothing env)) ≡ false
 unfolding nothing
-printed_remakes p f env prints w =
+printed_remakes p f env prints w none =
     let h = prints.where_possible w in
-    ap (λ z. remakes_name (steps_of z)) (h.writes.is_steps nothing) ∙ ap remakes_name (steps_of_chain h.writes.steps) ∙ h.writes.remakes
+    ap (λ z. makes_text (steps_of z)) (h.writes.is_steps nothing) ∙ ap makes_text (steps_of_chain h.writes.steps)
+    ∙ false_from_ne_true (makes_text h.writes.steps) (λ e. true≢false (sym (h.writes.remakes e) ∙ none))
 
 -- an emission without calls that take memory, and without such a name, isn't refused for want of memory
-pub never_out_of_memory : (p : Part) (a b : State) (r : Result (Unit {0}) Error) → remakes_name (steps_of (p nothing a.env)) ≡ false → a.sheet.takes_memory ≡ false → Follows (p nothing) a b (in_short r) → r ≢ Err errors.OutOfMemory
+pub never_out_of_memory : (p : Part) (a b : State) (r : Result (Unit {0}) Error) → makes_text (steps_of (p nothing a.env)) ≡ false → a.sheet.takes_memory ≡ false → Follows (p nothing) a b (in_short r) → r ≢ Err errors.OutOfMemory
 unfolding HasCause
 never_out_of_memory p a b r plain t h e =
     let P : Result (Unit {0}) Refusal → Type 0 = λ z. IfErr z (λ x. HasCause (p nothing a.env) x a b) in
-    let k : (a.sheet.takes_memory || remakes_name (steps_of (p nothing a.env))) ≡ true = subst P (ap in_short e) (follows_cause (p nothing) a b (in_short r) h) in
+    let k : (a.sheet.takes_memory || makes_text (steps_of (p nothing a.env))) ≡ true = subst P (ap in_short e) (follows_cause (p nothing) a b (in_short r) h) in
     true≢false (sym k ∙ or_from _ _ t plain)
 
 -- ---- what an emission records

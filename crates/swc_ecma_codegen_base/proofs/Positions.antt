@@ -1,10 +1,9 @@
 -- What an emission records: places that are true, and the position of each name where it begins.
-use Rattle.std.proofs.Common.{◌≡◌, ◌⊎◌, ℕ, Bool, true, false, cond, ◌||◌, ◌&&◌, ◌==◌, List, [], ◌∷◌, ◌++◌, append_assoc, append-nil, codes, arith, Option, Some, None, refl, sym, ap, ◌∙◌, subst, inl, inr}
+use Rattle.std.proofs.Common.{◌≡◌, ℕ, Bool, true, false, cond, ◌||◌, ◌&&◌, ◌==◌, List, [], ◌∷◌, ◌++◌, append_assoc, append-nil, codes, arith, Some, None, refl, sym, ap, ◌∙◌, subst, inl, inr}
 use Rattle.std.proofs.lemmas.Bool.{cases_Bool, or_cases, or_left, or_right, true≢false}
 use Rattle.std.proofs.lemmas.Bool.Decides.{nat_tests}
 use Rattle.std.specs.Str.{chars}
 use Rattle.swc_ecma_codegen_common.specs.declared.positions.BytePos.{BytePos}
-use Rattle.swc_ecma_codegen_common.specs.declared.positions.Span.{Span}
 use Rattle.swc_ecma_codegen_spans.specs.Spans.{dummy_span}
 use Rattle.swc_ecma_codegen_ast.specs.declared.kinds.Kind.TheVariants.{Name}
 use Rattle.swc_ecma_codegen_ast.specs.GapRules.{fuses, Apart}
@@ -15,8 +14,7 @@ use Rattle.swc_ecma_codegen_text_writer.specs.Sheet.{Sheet, Pair, Space, Symbol,
 use Rattle.swc_ecma_codegen_text_writer.proofs.Pairs.{after_both, records_refl, records_trans, pointed_records, started_records, effect_records}
 use Rattle.swc_ecma_codegen_text_writer.proofs.Sheets.{effect_keeps_positions}
 use Rattle.swc_ecma_codegen_base.specs.Named.{IsRecorded, NamesStand, RecordsNames}
-use Rattle.swc_ecma_codegen_base.specs.Run as run
-use Rattle.swc_ecma_codegen_base.specs.Run.{State, Step, Guard, Token, Plain, Remake, put, run}
+use Rattle.swc_ecma_codegen_base.specs.Run.{State, Step, Guard, Token, Plain, Ends, Remake, put, run, has_backslash}
 use Rattle.swc_ecma_codegen_base.specs.Written.{holds_one}
 use Rattle.swc_ecma_codegen_base.proofs.Fronts.{run_sheet}
 use Rattle.swc_ecma_codegen_base.proofs.Held.{begun_sheet, written_semicolons, pointed_keeps, settled_none, unheld_settled}
@@ -28,7 +26,8 @@ unfolding put
 put_records (Guard t) a = elim (fuses a.last (chars t)) as (λ b. RecordsTruly a.sheet (cond b (record a { sheet = effect Space a.sheet; last = Apart }) a).sheet) [ true ↦ effect_records Space a.sheet | false ↦ records_refl a.sheet ]
 put_records (Token kind x) a = effect_records x a.sheet
 put_records (Plain x) a = effect_records x a.sheet
-put_records (Remake name) a = records_refl a.sheet
+put_records (Ends tokens x) a = effect_records x a.sheet
+put_records (Remake due) a = records_refl a.sheet
 
 pub run_records : (xs : List Step) (a : State) → RecordsTruly a.sheet (run xs a).sheet
 unfolding run
@@ -207,7 +206,7 @@ placed_named pos bytes s some h k =
 
 unfoldable pub name_steps : Bool → BytePos → List ℕ → List Step
 name_steps b pos bytes =
-    Plain Commit ∷ Remake bytes ∷ Guard (turned bytes) ∷ cond b (Token Name (Symbol dummy_span (turned bytes)) ∷ []) (Plain (Position pos) ∷ Token Name (Symbol dummy_span (turned bytes)) ∷ [])
+    Plain Commit ∷ Remake (has_backslash bytes) ∷ Guard (turned bytes) ∷ cond b (Token Name (Symbol dummy_span (turned bytes)) ∷ []) (Plain (Position pos) ∷ Token Name (Symbol dummy_span (turned bytes)) ∷ [])
 
 guard_unheld : (t : List ℕ) (a : State) → holds_one a.sheet.semicolons ≡ false → holds_one (put (Guard t) a).sheet.semicolons ≡ false
 unfolding put effect
@@ -217,11 +216,11 @@ guard_unheld t a h =
 
 -- where a name begins: what was held back is written, and the blank that is due
 before_name : List ℕ → List Step
-before_name bytes = Plain Commit ∷ Remake bytes ∷ Guard (turned bytes) ∷ []
+before_name bytes = Plain Commit ∷ Remake (has_backslash bytes) ∷ Guard (turned bytes) ∷ []
 
 before_unheld : (bytes : List ℕ) (s : State) → holds_one (run (before_name bytes) s).sheet.semicolons ≡ false
 unfolding before_name run put effect
-before_unheld bytes s = guard_unheld (turned bytes) (put (Remake bytes) (put (Plain Commit) s)) (settled_none s.sheet)
+before_unheld bytes s = guard_unheld (turned bytes) (put (Remake (has_backslash bytes)) (put (Plain Commit) s)) (settled_none s.sheet)
 
 pub name_named : (b : Bool) (pos : BytePos) (bytes : List ℕ) (s : State) → b ≡ (pos.0 == 0) → (turned bytes ≡ [] → ⊥) → s.sheet.keeps_positions ≡ true → Named ((pos, bytes) ∷ []) s.sheet (run (name_steps b pos bytes) s).sheet
 unfolding name_steps before_name run put effect

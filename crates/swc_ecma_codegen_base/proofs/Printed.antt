@@ -1,6 +1,6 @@
 -- What each word writes, whatever comes after it.
 use Rattle.std.proofs.Common.{◌≡◌, ℕ, ◌≤◌, Bool, true, false, cond, ◌||◌, List, [], ◌∷◌, ◌++◌, length, length-append, arith, ◌==◌, codes, refl, sym, ap, ◌∙◌, subst, inl, inr, Option, Some, None}
-use Rattle.std.proofs.lemmas.Bool.{cases_Bool}
+use Rattle.std.proofs.lemmas.Bool.{cases_Bool, or_cases, or_left, or_right, true≢false}
 use Rattle.swc_ecma_codegen_common.specs.declared.positions.BytePos.{BytePos}
 use Rattle.swc_ecma_codegen_common.specs.declared.positions.Span.{Span}
 use Rattle.swc_ecma_codegen_spans.specs.Spans.{dummy_span}
@@ -9,14 +9,14 @@ use Rattle.swc_ecma_codegen_ast.specs.Tokens as lexical
 use Rattle.swc_ecma_codegen_ast.specs.Tokens.{token_of}
 use Rattle.swc_ecma_codegen_text_writer.specs.Sheet.{Semi, Space, Keyword, Operator, Line, Symbol, Punct, Position, Commit, effect}
 use Rattle.swc_ecma_codegen_ast.specs.ValidNames.{turned}
-use Rattle.swc_ecma_codegen_base.specs.Run.{Env, Plan, Part, State, Step, Guard, Token, Plain, Remake, Steps, next, put, run, step, spelling, text_of, after_token, after_plain, when_minified, no_part, has_backslash, remakes_name}
+use Rattle.swc_ecma_codegen_base.specs.Run.{Env, Plan, Part, State, Step, Guard, Token, Plain, Ends, Remake, Steps, next, put, run, step, spelling, text_of, after_token, after_plain, when_minified, no_part, has_backslash, makes_text}
 use Rattle.swc_ecma_codegen_base.specs.Words.{keyword, operator, word_operator, punct, semi, space, formatting_space, line_end, formatting_line, commit_pending_semi, position, position_before, leading_comments, trailing_comments, symbol, valid_symbol, name_text}
 use Rattle.swc_ecma_codegen_base.specs.Written.{AtRest}
 use Rattle.swc_ecma_codegen_base.proofs.Emitting.{minified_same, pretty_same}
 use Rattle.swc_ecma_codegen_base.proofs.Fronts.{run_append}
 use Rattle.swc_ecma_codegen_base.proofs.Levels.{levels, rise, levels_append}
 use Rattle.swc_ecma_codegen_base.proofs.Spelled.{valid_same}
-use Rattle.swc_ecma_codegen_base.proofs.Written.{Lays, lays_then, lays_nothing, lays_blank, lays_line, lays_commit, lays_position, lays_token, lays_punct, lays_semi, lays_placed, Spelled, spelled_ending, own_put, punct_put, semi_put}
+use Rattle.swc_ecma_codegen_base.proofs.Written.{Lays, lays_then, lays_nothing, lays_blank, lays_line, lays_commit, lays_position, lays_token, lays_punct, lays_semi, lays_placed, Spelled, own_put, punct_put, semi_put}
 
 -- some steps, and then more
 unfoldable pub chain : List Step → Steps → Steps
@@ -28,13 +28,13 @@ unfolding chain
 chain_append [] ys rest = refl
 chain_append (x ∷ xs) ys rest = ap (λ z. next x z) (chain_append xs ys rest)
 
--- A part is these steps, whatever comes after it, and they write these tokens; `remade` says that a name is among them
--- that is made anew, in memory. They make no more levels than tokens.
-pub record Makes (env : Env) (part : Part) (ts : List lexical.Token) (remade : Bool) : Type 0 where
+-- A part is these steps, whatever comes after it, and they write these tokens; where `made` is false, none of their texts is
+-- made anew, in memory. They make no more levels than tokens.
+pub record Makes (env : Env) (part : Part) (ts : List lexical.Token) (made : Bool) : Type 0 where
   pub steps : List Step
   pub is_steps : (rest : Plan) → part rest env ≡ chain steps (rest env)
   pub lays : (s : State) → AtRest s → Lays ts s (run steps s)
-  pub remakes : remakes_name steps ≡ remade
+  pub remakes : makes_text steps ≡ true → made ≡ true
   pub deep : levels steps ≤ length ts
 
 abbrev pub Writes : Env → Part → List lexical.Token → Type 0
@@ -48,13 +48,20 @@ or_none : (a : Bool) → ((a || false) || false) ≡ a
 or_none true = refl
 or_none false = refl
 
-remakes_append : (xs ys : List Step) → remakes_name (xs ++ ys) ≡ (remakes_name xs || remakes_name ys)
-unfolding remakes_name
+remakes_append : (xs ys : List Step) → makes_text (xs ++ ys) ≡ (makes_text xs || makes_text ys)
+unfolding makes_text
 remakes_append [] ys = refl
 remakes_append (Guard t ∷ xs) ys = remakes_append xs ys
 remakes_append (Token kind x ∷ xs) ys = remakes_append xs ys
 remakes_append (Plain x ∷ xs) ys = remakes_append xs ys
-remakes_append (Remake name ∷ xs) ys = ap (λ z. has_backslash name || z) (remakes_append xs ys) ∙ or_assoc (has_backslash name) (remakes_name xs) (remakes_name ys)
+remakes_append (Ends tokens x ∷ xs) ys = remakes_append xs ys
+remakes_append (Remake due ∷ xs) ys = ap (λ z. due || z) (remakes_append xs ys) ∙ or_assoc due (makes_text xs) (makes_text ys)
+
+or_either : (x y a b : Bool) → (x || y) ≡ true → (x ≡ true → a ≡ true) → (y ≡ true → b ≡ true) → (a || b) ≡ true
+or_either x y a b h f g = elim (or_cases x y h) [ inl e ↦ or_left a b (f e) | inr e ↦ or_right a b (g e) ]
+
+no_text : {b : Bool} → false ≡ true → b ≡ true
+no_text h = absurd (true≢false (sym h))
 
 -- one part after the other
 pub writes_then : (env : Env) (p q : Part) (ts us : List lexical.Token) {a b : Bool} → Makes env p ts a → Makes env q us b → Makes env (λ rest. p (q rest)) (ts ++ us) (a || b)
@@ -65,27 +72,35 @@ writes_then env p q ts us {a} {b} h k = record {
       let a = h.lays s r in
       let P : State → Type 0 = λ z. Lays (ts ++ us) s z in
       subst P (sym (run_append h.steps k.steps s)) (lays_then ts us s (run h.steps s) (run k.steps (run h.steps s)) a (k.lays (run h.steps s) a.rest));
-  remakes = remakes_append h.steps k.steps ∙ ap (λ z. z || remakes_name k.steps) h.remakes ∙ ap (λ z. a || z) k.remakes;
+  remakes = λ e. or_either (makes_text h.steps) (makes_text k.steps) a b (sym (remakes_append h.steps k.steps) ∙ e) h.remakes k.remakes;
   deep = let x = h.deep in let y = k.deep in omega (arith, x, y, levels_append h.steps k.steps, length-append ts us);
 }
+
+-- none of its texts is made anew, so none is where some may be
+pub writes_whatever : {env : Env} {p : Part} {ts : List lexical.Token} (b : Bool) → Writes env p ts → Makes env p ts b
+writes_whatever b h = record { steps = h.steps; is_steps = h.is_steps; lays = h.lays; remakes = λ e. no_text (h.remakes e); deep = h.deep }
+
+-- a text may be made anew, whether it is or not
+pub makes_some : {env : Env} {p : Part} {ts : List lexical.Token} {made : Bool} → Makes env p ts made → Makes env p ts true
+makes_some h = record { steps = h.steps; is_steps = h.is_steps; lays = h.lays; remakes = λ e. refl; deep = h.deep }
 
 -- a part that is written as another is
 pub writes_same : (env : Env) (p q : Part) (ts : List lexical.Token) {a : Bool} → ((rest : Plan) → p rest env ≡ q rest env) → Makes env q ts a → Makes env p ts a
 writes_same env p q ts e h = record { steps = h.steps; is_steps = λ rest. e rest ∙ h.is_steps rest; lays = h.lays; remakes = h.remakes; deep = h.deep }
 
 pub writes_nothing : (env : Env) → Writes env (λ rest. rest) []
-unfolding chain run remakes_name levels
-writes_nothing env = record { steps = []; is_steps = λ rest. refl; lays = λ s r. lays_nothing s r; remakes = refl; deep = omega arith }
+unfolding chain run makes_text levels
+writes_nothing env = record { steps = []; is_steps = λ rest. refl; lays = λ s r. lays_nothing s r; remakes = no_text; deep = omega arith }
 
 -- one step
-writes_step : (env : Env) (x : Step) (ts : List lexical.Token) → ((s : State) → AtRest s → Lays ts s (put x s)) → levels (x ∷ []) ≤ length ts → Makes env (step x) ts (remakes_name (x ∷ []))
+pub writes_step : (env : Env) (x : Step) (ts : List lexical.Token) → ((s : State) → AtRest s → Lays ts s (put x s)) → levels (x ∷ []) ≤ length ts → Makes env (step x) ts (makes_text (x ∷ []))
 unfolding step chain run
-writes_step env x ts h k = record { steps = x ∷ []; is_steps = λ rest. refl; lays = h; remakes = refl; deep = k }
+writes_step env x ts h k = record { steps = x ∷ []; is_steps = λ rest. refl; lays = h; remakes = λ e. e; deep = k }
 
 -- two steps
-writes_two : (env : Env) (x y : Step) (ts : List lexical.Token) → ((s : State) → AtRest s → Lays ts s (put y (put x s))) → levels (x ∷ y ∷ []) ≤ length ts → Makes env (λ rest. step x (step y rest)) ts (remakes_name (x ∷ y ∷ []))
+pub writes_two : (env : Env) (x y : Step) (ts : List lexical.Token) → ((s : State) → AtRest s → Lays ts s (put y (put x s))) → levels (x ∷ y ∷ []) ≤ length ts → Makes env (λ rest. step x (step y rest)) ts (makes_text (x ∷ y ∷ []))
 unfolding step chain run
-writes_two env x y ts h k = record { steps = x ∷ y ∷ []; is_steps = λ rest. refl; lays = h; remakes = refl; deep = k }
+writes_two env x y ts h k = record { steps = x ∷ y ∷ []; is_steps = λ rest. refl; lays = h; remakes = λ e. e; deep = k }
 
 -- one of two parts
 pub writes_if : (env : Env) (b : Bool) (p q : Part) (ts : List lexical.Token) → Writes env p ts → Writes env q ts → Writes env (λ rest. cond b (p rest) (q rest)) ts
@@ -101,29 +116,29 @@ writes_minified env p q ts h k = elim (cases_Bool env.config.minify) [
 -- ---- tokens
 
 pub writes_keyword : (env : Env) (span : Option Span) (t : List ℕ) → Spelled Word t → Writes env (keyword span t) (token_of Word (spelling Word t) ∷ [])
-unfolding keyword put effect text_of after_token own_put remakes_name levels rise
+unfolding keyword put effect text_of after_token own_put makes_text levels rise
 writes_keyword env span t p = writes_two env (Guard t) (Token Word (Keyword span t)) _ (λ s r. lays_token Word span t s p r) (omega arith)
 
 pub writes_operator : (env : Env) (t : List ℕ) → Spelled Punctuator t → Writes env (operator t) (token_of Punctuator (spelling Punctuator t) ∷ [])
-unfolding operator put effect text_of after_token own_put remakes_name levels rise
+unfolding operator put effect text_of after_token own_put makes_text levels rise
 writes_operator env t p = writes_two env (Guard t) (Token Punctuator (Operator None t)) _ (λ s r. lays_token Punctuator None t s p r) (omega arith)
 
 pub writes_word_operator : (env : Env) (t : List ℕ) → Spelled Word t → Writes env (word_operator t) (token_of Word (spelling Word t) ∷ [])
-unfolding word_operator put effect text_of after_token own_put remakes_name levels rise
+unfolding word_operator put effect text_of after_token own_put makes_text levels rise
 writes_word_operator env t p = writes_two env (Guard t) (Token Word (Operator None t)) _ (λ s r. lays_token Word None t s p r) (omega arith)
 
 pub writes_punct : (env : Env) (t : List ℕ) → Spelled Punctuator t → Writes env (punct t) (token_of Punctuator (spelling Punctuator t) ∷ [])
-unfolding punct put effect text_of after_token punct_put remakes_name levels rise
+unfolding punct put effect text_of after_token punct_put makes_text levels rise
 writes_punct env t p = writes_two env (Guard t) (Token Punctuator (Punct None t)) _ (λ s r. lays_punct None t s p r) (omega arith)
 
 pub writes_semi : (env : Env) → Writes env semi (token_of Ending (spelling Ending (codes ";")) ∷ [])
-unfolding semi put effect text_of after_token semi_put remakes_name levels rise
+unfolding semi put effect text_of after_token semi_put makes_text levels rise
 writes_semi env = writes_two env (Guard (codes ";")) (Token Ending (Semi None)) _ (λ s r. lays_semi None s r) (omega arith)
 
 -- ---- what stands between
 
 pub writes_space : (env : Env) → Writes env space []
-unfolding space put after_plain remakes_name levels rise
+unfolding space put after_plain makes_text levels rise
 writes_space env = writes_step env (Plain Space) [] (λ s r. lays_blank s r) (omega arith)
 
 pub writes_formatting_space : (env : Env) → Writes env formatting_space []
@@ -131,7 +146,7 @@ unfolding formatting_space no_part
 writes_formatting_space env = writes_minified env no_part space [] (writes_nothing env) (writes_space env)
 
 pub writes_line : (env : Env) → Writes env line_end []
-unfolding line_end put after_plain remakes_name levels rise
+unfolding line_end put after_plain makes_text levels rise
 writes_line env = writes_step env (Plain Line) [] (λ s r. lays_line s r) (omega arith)
 
 pub writes_formatting_line : (env : Env) → Writes env formatting_line []
@@ -139,11 +154,11 @@ unfolding formatting_line no_part
 writes_formatting_line env = writes_minified env no_part line_end [] (writes_nothing env) (writes_line env)
 
 pub writes_commit : (env : Env) → Writes env commit_pending_semi []
-unfolding commit_pending_semi put effect after_plain remakes_name levels rise
+unfolding commit_pending_semi put effect after_plain makes_text levels rise
 writes_commit env = writes_step env (Plain Commit) [] (λ s r. lays_commit s r) (omega arith)
 
 recorded : (env : Env) (pos : BytePos) → Writes env (step (Plain (Position pos))) []
-unfolding put effect after_plain remakes_name levels rise
+unfolding put effect after_plain makes_text levels rise
 recorded env pos = writes_step env (Plain (Position pos)) [] (λ s r. lays_position pos s r) (omega arith)
 
 pub writes_position : (env : Env) (pos : BytePos) → Writes env (position pos) []
@@ -165,17 +180,17 @@ writes_trailing env b pos = writes_nothing env
 -- ---- names
 
 name_token : (env : Env) (t : List ℕ) → Spelled Name t → Writes env (λ rest. step (Guard t) (step (Token Name (Symbol dummy_span t)) rest)) (token_of Name (spelling Name t) ∷ [])
-unfolding put effect text_of after_token own_put remakes_name levels rise
+unfolding put effect text_of after_token own_put makes_text levels rise
 name_token env t p = writes_two env (Guard t) (Token Name (Symbol dummy_span t)) _ (λ s r. lays_token Name (Some dummy_span) t s p r) (omega arith)
 
 -- with a position, which stands after the blank that is due
 placed_token : (env : Env) (pos : BytePos) (t : List ℕ) → Spelled Name t → Writes env (λ rest. step (Guard t) (step (Plain (Position pos)) (step (Token Name (Symbol dummy_span t)) rest))) (token_of Name (spelling Name t) ∷ [])
-unfolding step chain run put effect text_of after_token after_plain own_put remakes_name levels rise
+unfolding step chain run put effect text_of after_token after_plain own_put makes_text levels rise
 placed_token env pos t p = record {
   steps = Guard t ∷ Plain (Position pos) ∷ Token Name (Symbol dummy_span t) ∷ [];
   is_steps = λ rest. refl;
   lays = λ s r. lays_placed pos Name (Some dummy_span) t s p r;
-  remakes = refl;
+  remakes = no_text;
   deep = omega arith;
 }
 
@@ -188,9 +203,9 @@ unfolding symbol position
 writes_symbol env span t p = symbol_at env span.lo (span.lo.0 == 0) t p
 
 pub writes_name_text : (env : Env) (span : Span) (bytes : List ℕ) → env.keeps_invalid ≡ false → Spelled Name (turned bytes) → Makes env (name_text span bytes) (token_of Name (spelling Name (turned bytes)) ∷ []) (has_backslash bytes)
-unfolding valid_symbol put remakes_name levels
+unfolding valid_symbol put makes_text levels
 writes_name_text env span bytes e p =
     let P : Bool → Type 0 = λ z. Makes env (name_text span bytes) (token_of Name (spelling Name (turned bytes)) ∷ []) z in
     subst P (or_none (has_backslash bytes))
     (writes_same env (name_text span bytes) (valid_symbol span bytes) _ (λ rest. valid_same span bytes rest env e)
-    (writes_then env (step (Remake bytes)) (symbol span (turned bytes)) [] (token_of Name (spelling Name (turned bytes)) ∷ []) (writes_step env (Remake bytes) [] (λ s r. lays_nothing s r) (omega arith)) (writes_symbol env span (turned bytes) p)))
+    (writes_then env (step (Remake (has_backslash bytes))) (symbol span (turned bytes)) [] (token_of Name (spelling Name (turned bytes)) ∷ []) (writes_step env (Remake (has_backslash bytes)) [] (λ s r. lays_nothing s r) (omega arith)) (writes_symbol env span (turned bytes) p)))

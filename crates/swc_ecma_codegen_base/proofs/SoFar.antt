@@ -1,5 +1,5 @@
 -- After a call the text reads as the tokens so far and those of the call, whatever follows that doesn't fuse.
-use Rattle.std.proofs.Common.{◌≡◌, ℕ, Bool, true, false, ◌&&◌, cond, List, [], ◌∷◌, ◌++◌, codes, refl, sym, ap, ◌∙◌, subst, append_assoc, append-nil, inl, inr, Option, Ok}
+use Rattle.std.proofs.Common.{◌≡◌, ℕ, Bool, true, false, ◌&&◌, cond, List, [], ◌∷◌, ◌++◌, codes, refl, sym, ap, ◌∙◌, subst, append_assoc, append-nil, inl, Option, Ok}
 use Rattle.std.specs.Str.{chars}
 use Rattle.std.proofs.lemmas.Str.{chars-nil, chars-append, IsUtf8-nil, IsUtf8-append}
 use Rattle.swc_ecma_codegen_common.specs.declared.positions.BytePos.{BytePos}
@@ -63,6 +63,12 @@ unfolding Generates is_possible
 one_so_far part x old tokens a b prints e h =
     let p = prints.where_possible refl in
     subst (λ z. ReadsSoFar old (tokens ++ z) b) p.generated (emitted_so_far part old tokens p.tokens a b p.writes e h)
+
+-- a part that writes one of the token lists of a phrase
+pub phrase_so_far : (part : Part) (f : Phrase) (old : List ℕ) (tokens : List lexical.Token) (a b : State) → Prints a.env part f → is_possible f ≡ true → Emits part a b (Ok tt) → ReadsSoFar old tokens a → (ts : List lexical.Token) × Generates f ts × ReadsSoFar old (tokens ++ ts) b
+phrase_so_far part f old tokens a b prints w e h =
+    let p = prints.where_possible w in
+    (p.tokens, p.generated, emitted_so_far part old tokens p.tokens a b p.writes e h)
 
 pub keyword_so_far : (span : Option Span) (t old : List ℕ) (tokens : List lexical.Token) (a b : State) → IsWord t → Emits (keyword span t) a b (Ok tt) → ReadsSoFar old tokens a → ReadsSoFar old (tokens ++ lexical.word t ∷ []) b
 keyword_so_far span t old tokens a b w e h = one_so_far (keyword span t) (lexical.word t) old tokens a b (prints_keyword a.env span t w) e h

@@ -1,5 +1,5 @@
 -- What steps write: tokens, and blanks between them.
-use Rattle.std.proofs.Common.{◌≡◌, ℕ, Bool, true, false, cond, List, [], ◌∷◌, ◌++◌, Option, Some, None, codes, refl, sym, ap, ◌∙◌, subst, append_assoc, append-nil, inl, inr, ◌==◌, ◌||◌, ◌&&◌}
+use Rattle.std.proofs.Common.{◌≡◌, ℕ, Bool, true, false, cond, List, [], ◌∷◌, ◌++◌, Option, None, codes, refl, sym, ap, ◌∙◌, subst, append_assoc, append-nil, inl, inr, ◌==◌, ◌||◌}
 use Rattle.std.specs.List.{repeat}
 use Rattle.std.specs.Str.{chars, is_utf8, IsUtf8}
 use Rattle.std.proofs.lemmas.Bool.{and_parts, eqb-true, or_cases, true≢false}
@@ -21,12 +21,12 @@ use Rattle.swc_ecma_codegen_ast.proofs.Reading.{blank_fuses}
 use Rattle.swc_ecma_codegen_common.specs.declared.positions.BytePos.{BytePos}
 use Rattle.swc_ecma_codegen_common.specs.declared.positions.Span.{Span}
 use Rattle.swc_ecma_codegen_ast.specs.Parts.{Reduced, IsEnding}
-use Rattle.swc_ecma_codegen_ast.proofs.Dropped.{reduced_same, reduced_after}
-use Rattle.swc_ecma_codegen_text_writer.specs.Sheet.{Sheet, Semicolons, AtOnce, HoldsNone, HoldsOne, holds_semicolons, Space, Line, Position, Commit, appended, indented, started, written, ended, pointed, settled, settled_by, semicolon_by, dropped, before_punct, is_ending, effect}
-use Rattle.swc_ecma_codegen_text_writer.proofs.Sheets.{Alike, written_alike, written_same, ended_alike, pointed_alike, settled_alike, alike_same}
+use Rattle.swc_ecma_codegen_ast.proofs.Dropped.{reduced_after}
+use Rattle.swc_ecma_codegen_text_writer.specs.Sheet.{Sheet, Semicolons, AtOnce, HoldsNone, HoldsOne, holds_semicolons, Space, Line, appended, written, ended, pointed, settled, settled_by, semicolon_by, dropped, before_punct, is_ending, effect}
+use Rattle.swc_ecma_codegen_text_writer.proofs.Sheets.{written_same, pointed_alike, alike_same}
 use Rattle.swc_ecma_codegen_base.specs.Run.{State, Guard, put, spelling}
 use Rattle.swc_ecma_codegen_base.specs.Written.{IsLineEnd, is_indent, all_indent, is_free, holds_one, AtRest}
-use Rattle.swc_ecma_codegen_base.proofs.Held.{front_of, front, written_text, in_line, written_semicolons, pointed_keeps, settled_none, unheld_settled, unheld_dropped, dropped_none, dropped_holds}
+use Rattle.swc_ecma_codegen_base.proofs.Held.{front_of, front, written_text, in_line, written_semicolons, pointed_keeps, settled_none}
 use Rattle.swc_ecma_codegen_base.proofs.Indented.{indent_append, indent_repeat, indent_utf8, indent_chars, blanks, blanks_text, indent_blank, blanks_pieces, blanks_remarks}
 
 -- what is asked for and isn't out yet: a semicolon that is held back, where it would stand
@@ -115,13 +115,13 @@ pub lays_nothing : (s : State) → AtRest s → Lays [] s s
 lays_nothing s r = lays_same s s refl refl refl refl r
 
 -- the parts that are asked for go out, where no semicolon is held back
-laid_out : (a b : State) (out more ys : List parts.Part) → holds_one a.sheet.semicolons ≡ false → holds_one b.sheet.semicolons ≡ false → Reduced (held b.sheet ++ more) ys → Reduced (held a.sheet ++ (out ++ more)) (out ++ ys)
+pub laid_out : (a b : State) (out more ys : List parts.Part) → holds_one a.sheet.semicolons ≡ false → holds_one b.sheet.semicolons ≡ false → Reduced (held b.sheet ++ more) ys → Reduced (held a.sheet ++ (out ++ more)) (out ++ ys)
 laid_out a b out more ys h k r =
     subst (λ z. Reduced (held_of z a.sheet ++ (out ++ more)) (out ++ ys)) (sym h) (reduced_after out more ys (subst (λ z. Reduced (held_of z b.sheet ++ more) ys) k r))
 
 -- ---- texts, and the indentation at a line's start
 
-front_indent : (s : Sheet) → all_indent s.indent_text ≡ true → all_indent (front s) ≡ true
+pub front_indent : (s : Sheet) → all_indent s.indent_text ≡ true → all_indent (front s) ≡ true
 unfolding all_indent
 front_indent s h = elim s.at_line_start as (λ b. all_indent (front_of b s) ≡ true) [ true ↦ indent_repeat s.indentation s.indent_text h | false ↦ refl ]
 
@@ -142,7 +142,7 @@ still_holds span t s = ap holds_semicolons (written_semicolons span t s)
 
 -- ---- blanks and line ends
 
-apart_alone : (t : List ℕ) → fuses Apart t ≡ false
+pub apart_alone : (t : List ℕ) → fuses Apart t ≡ false
 unfolding fuses
 apart_alone [] = refl
 apart_alone (c ∷ n) = refl
@@ -176,14 +176,14 @@ unfolding fuses
 nothing_fuses k = refl
 
 -- indentation before what may stand first, and nothing before what stands in a line
-after_indent : (k : Last) (u : List ℕ) (xs : List parts.Part) → all_indent u ≡ true → is_free k ≡ true → ((t : List ℕ) → allows k t ≡ true) → NoneFuse Apart xs → NoneFuse k (Gap (blanks u) ∷ xs)
+pub after_indent : (k : Last) (u : List ℕ) (xs : List parts.Part) → all_indent u ≡ true → is_free k ≡ true → ((t : List ℕ) → allows k t ≡ true) → NoneFuse Apart xs → NoneFuse k (Gap (blanks u) ∷ xs)
 unfolding NoneFuse blanks last_after_gap pieces_text piece_text all_indent all_pieces
 after_indent k [] xs h e a n = (refl, nothing_fuses k, a [], free_apart k e xs n)
 after_indent k (c ∷ cs) xs h e a n =
     let p = and_parts (is_indent c) (all_indent cs) h in
     (blanks_pieces (c ∷ cs) h, blank_fuses k c (pieces_text (blanks cs)) (indent_blank c p.0), a (c ∷ pieces_text (blanks cs)), n)
 
-in_a_line : (k : Last) (xs : List parts.Part) → ((t : List ℕ) → allows k t ≡ true) → NoneFuse k xs → NoneFuse k (Gap (blanks []) ∷ xs)
+pub in_a_line : (k : Last) (xs : List parts.Part) → ((t : List ℕ) → allows k t ≡ true) → NoneFuse k xs → NoneFuse k (Gap (blanks []) ∷ xs)
 unfolding NoneFuse blanks last_after_gap pieces_text all_pieces
 in_a_line k xs a n = (refl, nothing_fuses k, a [], n)
 
@@ -198,7 +198,7 @@ blank_apart k (c ∷ cs) xs h a n =
 
 -- ---- a semicolon that is held back goes out
 
-abbrev settle : State → State
+abbrev pub settle : State → State
 settle s = record s { sheet = settled s.sheet }
 
 settle_by : Semicolons → State → State
@@ -215,7 +215,7 @@ settled_at (HoldsOne span) s e r = record {
   allowed = r.allowed;
 }
 
-settle_rest : (s : State) → AtRest s → AtRest (settle s)
+pub settle_rest : (s : State) → AtRest s → AtRest (settle s)
 unfolding settle_by
 settle_rest s r = settled_at s.sheet.semicolons s refl r
 
@@ -327,7 +327,7 @@ lays_blank s r = lays_settled s _ [] r (blank_here (settle s) (settled_none s.sh
 line_put : Bool → State → State
 line_put b s = record s { sheet = cond b (record s.sheet { pending = None }) (record (appended s.sheet.line_end s.sheet) { at_line_start = true }); last = Apart }
 
-apart_open : (t : List ℕ) → allows Apart t ≡ true
+pub apart_open : (t : List ℕ) → allows Apart t ≡ true
 unfolding allows
 apart_open t = refl
 
@@ -438,7 +438,7 @@ unfolding allows
 less_bang_allows true m t = refl
 less_bang_allows false m t = refl
 
-mark_allows : (k : Last) (m t : List ℕ) → allows (mark_after k m) t ≡ true
+pub mark_allows : (k : Last) (m t : List ℕ) → allows (mark_after k m) t ≡ true
 unfolding mark_after allows is_same
 mark_allows (Mark l) m t = less_bang_allows _ m t
 mark_allows k m t = refl
@@ -491,14 +491,14 @@ punct_put span t s = record s { sheet = written span t (before_punct t s.sheet);
 unfoldable pub semi_put : Option Span → State → State
 semi_put span s = record s { sheet = semicolon_by s.sheet.semicolons span s.sheet; last = after Ending (codes ";") s }
 
-free_last : (k : Last) (kind : Kind) (t : List ℕ) → is_free k ≡ true → last_after k kind t ≡ last_after Apart kind t
+pub free_last : (k : Last) (kind : Kind) (t : List ℕ) → is_free k ≡ true → last_after k kind t ≡ last_after Apart kind t
 unfolding is_free
 free_last Start kind t e = sym (same_after kind t)
 free_last Apart kind t e = refl
 free_last k kind t e = absurd (true≢false (sym e))
 
 -- a token, which may stand after what is there
-own_fits : (kind : Kind) (t : List ℕ) (k : Last) (more : List parts.Part) → Spelled kind t → fuses k (chars t) ≡ false → ((u : List ℕ) → allows k u ≡ true) → NoneFuse (last_after k kind (spelling kind t)) more → NoneFuse k (Own kind (spelling kind t) ∷ more)
+pub own_fits : (kind : Kind) (t : List ℕ) (k : Last) (more : List parts.Part) → Spelled kind t → fuses k (chars t) ≡ false → ((u : List ℕ) → allows k u ≡ true) → NoneFuse (last_after k kind (spelling kind t)) more → NoneFuse k (Own kind (spelling kind t) ∷ more)
 unfolding NoneFuse
 own_fits kind t k more p f a n = (p.shape, ap (λ z. fuses k z) (sym p.same) ∙ f, record { child = λ e. absurd (p.no_child e); first = λ e. absurd (p.no_hashbang e) }, a (spelling kind t), n)
 
@@ -690,7 +690,7 @@ unfolding guard_put
 passed_case true t s e = apart_alone (chars t)
 passed_case false t s e = e
 
-after_guard : (t : List ℕ) (s : State) → fuses (put (Guard t) s).last (chars t) ≡ false
+pub after_guard : (t : List ℕ) (s : State) → fuses (put (Guard t) s).last (chars t) ≡ false
 unfolding put guard_put
 after_guard t s = passed_case (fuses s.last (chars t)) t s refl
 

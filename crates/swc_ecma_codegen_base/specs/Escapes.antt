@@ -1,12 +1,22 @@
--- What of a tree takes memory.
-use Rattle.std.specs.Prelude.{Bool, false, ◌||◌}
+-- What of a tree may take memory.
+use Rattle.std.specs.Prelude.{Bool, true, false, ◌||◌}
 use Rattle.swc_ecma_codegen_ast.specs.Phrases.{Phrase, Never, Nothing, One, NameOf, Then}
+use Rattle.swc_ecma_codegen_ast.specs.declared.kinds.Kind.{Kind}
+use Rattle.swc_ecma_codegen_ast.specs.declared.kinds.Kind.TheVariants.{Number, BigInt, Str}
 use Rattle.swc_ecma_codegen_base.specs.Run.{has_backslash}
 
--- a name of the tree holds a backslash: only the text of such a name is made anew, in memory
-unfoldable pub escapes_name : Phrase → Bool
-escapes_name Never = false
-escapes_name Nothing = false
-escapes_name (One x) = false
-escapes_name (NameOf at bytes) = has_backslash bytes
-escapes_name (Then a b) = escapes_name a || escapes_name b
+-- a literal whose text may be another than its raw
+unfoldable pub is_spelled_anew : Kind → Bool
+is_spelled_anew Number = true
+is_spelled_anew BigInt = true
+is_spelled_anew Str = true
+is_spelled_anew kind = false
+
+-- A name of the tree holds a backslash, or a string, a number or a big integer stands in it: only the text of such is made
+-- anew, in memory.
+unfoldable pub may_make_text : Phrase → Bool
+may_make_text Never = false
+may_make_text Nothing = false
+may_make_text (One x) = is_spelled_anew x.kind
+may_make_text (NameOf at bytes) = has_backslash bytes
+may_make_text (Then a b) = may_make_text a || may_make_text b

@@ -1,5 +1,7 @@
 pub mod Run
 pub mod Words
+pub mod Literals
+pub mod Lits
 pub mod Last
 pub mod View
 pub mod Written

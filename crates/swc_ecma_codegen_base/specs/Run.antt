@@ -21,8 +21,11 @@ pub data Step : Type 0 where
   Token : (kind : Kind) → (item : Item) → Step
   -- a call that writes no token
   Plain : (item : Item) → Step
-  -- the text of a name is made anew, in memory
-  Remake : (name : List ℕ) → Step
+  -- a call with which these tokens end, each as it is spelled: those that it wrote, or the plain calls before it. So `/a/g` is
+  -- one token of four calls, and `-5` two of one.
+  Ends : (tokens : List (Kind × List ℕ)) → (item : Item) → Step
+  -- a text is made anew in memory, where that is due
+  Remake : (due : Bool) → Step
 
 -- the text that a call hands over
 unfoldable pub text_of : Item → List ℕ
@@ -54,6 +57,11 @@ spelling kind t = chars t
 unfoldable pub after_token : Kind → List ℕ → Last → Last
 after_token kind t last = last_after last kind (spelling kind t)
 
+-- the last token after some
+unfoldable pub after_tokens : List (Kind × List ℕ) → Last → Last
+after_tokens [] last = last
+after_tokens (x ∷ xs) last = after_tokens xs (after_token x.0 x.1 last)
+
 -- a blank and a line end part the last token from the next one
 unfoldable pub after_plain : Item → Last → Last
 after_plain Space last = Apart
@@ -78,7 +86,8 @@ unfoldable pub put : Step → State → State
 put (Guard t) s = if fuses s.last (chars t) then record s { sheet = effect Space s.sheet; last = Apart } else s
 put (Token kind x) s = record s { sheet = effect x s.sheet; last = after_token kind (text_of x) s.last }
 put (Plain x) s = record s { sheet = effect x s.sheet; last = after_plain x s.last }
-put (Remake name) s = s
+put (Ends tokens x) s = record s { sheet = effect x s.sheet; last = after_tokens tokens s.last }
+put (Remake due) s = s
 
 -- steps that are made, in order
 unfoldable pub run : List Step → State → State
@@ -89,12 +98,13 @@ run (x ∷ xs) s = run xs (put x s)
 abbrev pub has_backslash : List ℕ → Bool
 has_backslash name = has_byte 92 name
 
--- a step is refused: its call of the writer is, or memory for a name with a backslash
+-- a step is refused: its call of the writer is, or memory where it is due
 unfoldable pub IsRefused : Step → Refusal → State → Sheet → Type 0
 IsRefused (Guard t) e a new = (fuses a.last (chars t) ≡ true) × Refuses Space e a.sheet new
 IsRefused (Token kind x) e a new = Refuses x e a.sheet new
 IsRefused (Plain x) e a new = Refuses x e a.sheet new
-IsRefused (Remake name) e a new = (e ≡ OutOfMemory) × (has_backslash name ≡ true) × (new ≡ a.sheet)
+IsRefused (Ends tokens x) e a new = Refuses x e a.sheet new
+IsRefused (Remake due) e a new = (e ≡ OutOfMemory) × (due ≡ true) × (new ≡ a.sheet)
 
 -- the error that a node that can't be printed is refused with
 unfoldable pub refusal_of : Unprintable → Refusal
@@ -178,20 +188,22 @@ when_minified part other rest env = if env.config.minify then part rest env else
 unfoldable pub no_part : Part
 no_part rest = rest
 
--- a name of these steps is made anew, in memory
-unfoldable pub remakes_name : List Step → Bool
-remakes_name [] = false
-remakes_name (Remake name ∷ xs) = has_backslash name || remakes_name xs
-remakes_name (Guard t ∷ xs) = remakes_name xs
-remakes_name (Token kind x ∷ xs) = remakes_name xs
-remakes_name (Plain x ∷ xs) = remakes_name xs
+-- a text of these steps is made anew, in memory
+unfoldable pub makes_text : List Step → Bool
+makes_text [] = false
+makes_text (Remake due ∷ xs) = due || makes_text xs
+makes_text (Guard t ∷ xs) = makes_text xs
+makes_text (Token kind x ∷ xs) = makes_text xs
+makes_text (Plain x ∷ xs) = makes_text xs
+makes_text (Ends tokens x ∷ xs) = makes_text xs
 
 -- a step that makes the indentation deeper
 unfoldable pub deepens : Step → Type 0
 deepens (Token kind x) = x ≡ Deeper
 deepens (Plain x) = x ≡ Deeper
 deepens (Guard t) = ⊥
-deepens (Remake name) = ⊥
+deepens (Ends tokens x) = x ≡ Deeper
+deepens (Remake due) = ⊥
 
 -- The indentation would pass its limit at one of the steps.
 pub record PassesLimit (xs : List Step) (a : State) : Type 0 where
@@ -214,7 +226,7 @@ pub record IsReached (xs : Steps) (r : Unprintable) (a b : State) : Type 0 where
 -- An emission is refused only for the cause that its error names.
 unfoldable pub HasCause : Steps → Refusal → State → State → Type 0
 HasCause xs Writer a b = Rises a.sheet.faults b.sheet.faults
-HasCause xs OutOfMemory a b = (a.sheet.takes_memory || remakes_name (steps_of xs)) ≡ true
+HasCause xs OutOfMemory a b = (a.sheet.takes_memory || makes_text (steps_of xs)) ≡ true
 HasCause xs PositionTooLarge a b = PassesLimit (steps_of xs) a ⊎ IsTooFar a b
 HasCause xs Failed a b = (a.failed || a.sheet.refused) ≡ true
 HasCause xs UnsupportedNode a b = IsReached xs unprintable.UnsupportedNode a b
@@ -222,13 +234,13 @@ HasCause xs BadShape a b = IsReached xs unprintable.BadShape a b
 HasCause xs NameOutOfTarget a b = IsReached xs unprintable.NameOutOfTarget a b
 
 -- Nothing stands in the way of an emission: nothing was refused before, the writer counts no fault and its count isn't
--- at its last value, neither it nor a name asks for memory, the indentation stays in its limit, no position stands too far,
+-- at its last value, neither it nor a text asks for memory, the indentation stays in its limit, no position stands too far,
 -- and each node can be printed.
 pub record IsUnhindered (xs : Steps) (a b : State) : Type 0 where
   pub fresh : (a.failed || a.sheet.refused) ≡ false
   pub no_fault : b.sheet.faults ≡ a.sheet.faults
   pub can_count : a.sheet.faults < 2 ^ 64 - 1
-  pub no_memory : (a.sheet.takes_memory || remakes_name (steps_of xs)) ≡ false
+  pub no_memory : (a.sheet.takes_memory || makes_text (steps_of xs)) ≡ false
   pub within : PassesLimit (steps_of xs) a → ⊥
   pub near : IsTooFar a b → ⊥
   pub printable : unprintable_in xs ≡ None

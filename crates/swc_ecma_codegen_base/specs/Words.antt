@@ -6,7 +6,7 @@ use Rattle.swc_ecma_codegen_spans.specs.Spans.{dummy_span}
 use Rattle.swc_ecma_codegen_ast.specs.declared.kinds.Kind.TheVariants.{Word, Name, Punctuator, Ending}
 use Rattle.swc_ecma_codegen_text_writer.specs.Sheet.{Semi, Space, Keyword, Operator, Line, Symbol, Punct, Position, Commit}
 use Rattle.swc_ecma_codegen_ast.specs.ValidNames.{turned}
-use Rattle.swc_ecma_codegen_base.specs.Run.{Part, step, Guard, Token, Plain, Remake, when_minified, no_part}
+use Rattle.swc_ecma_codegen_base.specs.Run.{Part, step, Guard, Token, Plain, Remake, when_minified, no_part, has_backslash}
 
 -- a keyword
 unfoldable pub keyword : Option Span → List ℕ → Part
@@ -79,7 +79,7 @@ symbol span t rest = step (Guard t) (start_of span (step (Token Name (Symbol dum
 
 -- A name in which U+0000 after a backslash is left out.
 unfoldable pub valid_symbol : Span → List ℕ → Part
-valid_symbol span name rest = step (Remake name) (symbol span (turned name) rest)
+valid_symbol span name rest = step (Remake (has_backslash name)) (symbol span (turned name) rest)
 
 -- the text of a name, as the writer takes names
 unfoldable pub name_text : Span → List ℕ → Part

@@ -26,7 +26,7 @@ use swc_ecma_codegen_util::config::Config;
 
 impl LowerEmitter {
     /// What a call of the writer that leaves the last token answered is passed on in short.
-    fn keep(&mut self, answer: Result) -> Answer
+    pub(crate) fn keep(&mut self, answer: Result) -> Answer
         ensures same { result ≡ in_short answer }
         ensures token { self.new.token.value ≡ self.old.token.value }
         ensures ok { OnOk result (self.new.failed ≡ self.old.failed) }
@@ -44,7 +44,7 @@ impl LowerEmitter {
     }
 
     /// What a call of the writer answered is noted, with the last token, and passed on in short.
-    fn settle(&mut self, answer: Result, last: Last) -> Answer
+    pub(crate) fn settle(&mut self, answer: Result, last: Last) -> Answer
         ensures same { result ≡ in_short answer }
         ensures ok { OnOk result ((self.new.token.value ≡ last) × (self.new.failed ≡ self.old.failed)) }
         ensures err { OnErr result ((self.new.token.value ≡ self.old.token.value) × (self.new.failed ≡ true)) }
@@ -82,7 +82,12 @@ impl LowerEmitter {
     }
 
     /// The same before a punctuator.
-    fn guard_mark<W: WriteJs>(&mut self, cfg: &Config, wr: &mut W, mark: Punctuator) -> Answer
+    pub(crate) fn guard_mark<W: WriteJs>(
+        &mut self,
+        cfg: &Config,
+        wr: &mut W,
+        mark: Punctuator,
+    ) -> Answer
         ensures items { Emits (step (Guard (spelling mark))) (state_of cfg.now (W.sheet wr.old) self.old) (state_of cfg.now (W.sheet wr.new) self.new) result }
         ensures level { OnOk result ((W.sheet wr.new).indentation ≡ (W.sheet wr.old).indentation) }
         ensures fresh { OnOk result (self.new.failed ≡ false) }

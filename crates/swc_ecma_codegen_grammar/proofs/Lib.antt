@@ -1,2 +1,13 @@
+pub mod BigSpellings
+pub mod DigitCounts
+pub mod DigitForms
+pub mod LastSuffix
 pub mod Lists
+pub mod MantissaLaws
+pub mod NormalDecimals
+pub mod Possible
+pub mod Slashes
+pub mod SpelledUnits
 pub mod Turned
+pub mod UnitsLeft
+pub mod WholeSizes

@@ -1,2 +1,7 @@
-pub mod Possible
+pub mod BigDigits
+pub mod Mantissas
 pub mod NameStates
+pub mod Possible
+pub mod RegexStates
+pub mod Suffixes
+pub mod UnitStates

@@ -117,6 +117,7 @@ impl<N: Fits> WellFormed for Expr<N> {
             Expr::Cond(node) => node.is_well_formed(),
             Expr::Seq(node) => node.is_well_formed(),
             Expr::Ident(node) => node.is_well_formed(),
+            Expr::Lit(node) => node.is_well_formed(),
             Expr::Paren(node) => node.is_well_formed(),
             _ => false,
         }

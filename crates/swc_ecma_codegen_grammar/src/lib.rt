@@ -1,11 +1,19 @@
 //! Which trees are well-formed.
 #![tactic(auto)]
 
+mod big_integers;
+mod code_units;
 pub mod exprs;
 pub mod forms;
 mod knot;
+mod lits;
 mod names;
+mod numbers;
+mod numerals;
+mod regexes;
 mod stmts;
+mod strings;
+mod texts;
 
 pub use crate::forms::{Fits, WellFormed};
 pub use crate::knot::{is_well_formed, is_well_formed_expr, is_well_formed_stmt};

@@ -8,6 +8,7 @@ ghost use Rattle.swc_ecma_codegen_ast.specs.NamePhrases.{ident, ident_name};
 ghost use Rattle.swc_ecma_codegen_grammar.specs.NameStates.{goes_on, IsNext};
 
 use crate::forms::WellFormed;
+use crate::texts::split_first;
 use swc_ecma_codegen_ast::names::{NameTurn, Place, turn};
 use swc_ecma_codegen_tree::{Ident, IdentName};
 
@@ -57,16 +58,6 @@ fn may_end(state: NameState) -> bool
     ensures { result ≡ goes_on state [] }
 {
     matches!(state.place, Place::Between) && !state.first
-}
-
-/// The first character of a text, and what follows it.
-fn split_first(text: &str) -> Option<(char, &str)>
-    ensures some { IfSome result (λ r. chars text.now ≡ r.0 ∷ chars r.1.now) }
-    ensures none { IfNone result (chars text.now ≡ []) }
-{
-    let mut chars = text.chars();
-    let c = chars.next()?;
-    Some((c, chars.as_str()))
 }
 
 /// Whether it is a name.

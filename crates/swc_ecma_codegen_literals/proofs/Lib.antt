@@ -32,3 +32,4 @@ pub mod SeparatedNumbers
 pub mod SeparatedTexts
 pub mod SeparatedValues
 pub mod BigTokens
+pub mod SpelledTokens

@@ -7,13 +7,14 @@ use Rattle.swc_ecma_codegen_common.specs.declared.decimals.Decimal.{Decimal}
 use Rattle.swc_ecma_codegen_ast.specs.Numbers.{has_suffix, is_number, is_numeric}
 use Rattle.swc_ecma_codegen_ast.specs.NumberValues.{exact_value, numeric_value}
 use Rattle.swc_ecma_codegen_ast.proofs.NumberForms.{same_form}
-use Rattle.swc_ecma_codegen_literals.specs.NumberTexts.{IsSignedSize, IsSizeOf, decimal_digits, minified_part, minified_text, plain_part, plain_text, sign_text, size_value}
+use Rattle.swc_ecma_codegen_ast.specs.DecimalValues.{decimal_digits, size_value, exact_size}
+use Rattle.swc_ecma_codegen_literals.specs.NumberTexts.{IsSignedSize, IsSizeOf, minified_part, minified_text, plain_part, plain_text, sign_text}
 use Rattle.swc_ecma_codegen_literals.proofs.BeginningLaws.{numeric_begins, numeric_unsigned}
 use Rattle.swc_ecma_codegen_literals.proofs.DecimalTexts.{sign_ascii}
 use Rattle.swc_ecma_codegen_literals.proofs.NumberLiterals.{Spells, fine_ascii, fine_suffix, minified_spells, plain_spells}
 
 size_from_spells : (number : Decimal) (size : List ℕ) → Spells size (size_value (decimal_digits number) number.exponent) → IsSizeOf number size
-unfolding is_number
+unfolding is_number exact_size
 size_from_spells number size s =
     let ascii = fine_ascii size s.fine in
     let same = chars-IsAscii size ascii in

@@ -1,14 +1,13 @@
 -- How a big integer is spelled, up to its `n`. ECMA-262, section 12.9.3.
-use Rattle.std.specs.Prelude.{◌≡◌, ℕ, Bool, true, not, List, [], ◌∷◌, ◌++◌, ◌&&◌, ◌||◌, ◌==◌, codes}
-use Rattle.std.specs.List.{list_all}
+use Rattle.std.specs.Prelude.{◌≡◌, ℕ, true, List, [], ◌++◌, codes}
 use Rattle.std.specs.Str.{IsAscii, chars}
 use Rattle.std.specs.String.{string_bytes}
 use Rattle.swc_ecma_codegen_tree.specs.declared.lits.BigInt.{BigInt}
 use Rattle.swc_ecma_codegen_tree.specs.declared.lits.Radix.{Radix}
 use Rattle.swc_ecma_codegen_tree.specs.declared.lits.Radix.TheVariants.{Binary, Octal, Decimal as Ten, Hex}
-use Rattle.swc_ecma_codegen_ast.specs.Chars.{begins_digit, is_digit}
-use Rattle.swc_ecma_codegen_ast.specs.Numbers.{is_binary, is_octal, is_hex, is_big_integer, radix_of, big_digits}
-use Rattle.swc_ecma_codegen_ast.specs.Texts.{is_empty}
+use Rattle.swc_ecma_codegen_ast.specs.Chars.{begins_digit}
+use Rattle.swc_ecma_codegen_ast.specs.LitPhrases.{radix_number}
+use Rattle.swc_ecma_codegen_ast.specs.Numbers.{is_big_integer, radix_of, big_digits}
 use Rattle.swc_ecma_codegen_literals.specs.NumberTexts.{sign_text}
 use Rattle.swc_ecma_codegen_literals.specs.Separators.{without_underscores}
 
@@ -26,32 +25,6 @@ big_part n = radix_prefix n.radix ++ without_underscores (string_bytes n.digits)
 -- the sign, and then that
 unfoldable pub big_text : BigInt → List ℕ
 big_text n = sign_text n.negative ++ big_part n
-
--- ---- digits that are well-formed
-
-unfoldable pub radix_number : Radix → ℕ
-radix_number Binary = 2
-radix_number Octal = 8
-radix_number Ten = 10
-radix_number Hex = 16
-
-unfoldable pub is_digit_of : Radix → ℕ → Bool
-is_digit_of Binary c = is_binary c
-is_digit_of Octal c = is_octal c
-is_digit_of Ten c = is_digit c
-is_digit_of Hex c = is_hex c
-
--- `0` or no zero first
-unfoldable pub has_no_leading_zero : List ℕ → Bool
-has_no_leading_zero [] = true
-has_no_leading_zero (c ∷ cs) = not (c == 48) || is_empty cs
-
--- `FF` in hexadecimal, but not `08` in decimal
-unfoldable pub are_digits : Radix → List ℕ → Bool
-are_digits Ten digits = not (is_empty digits) && (list_all (is_digit_of Ten) digits && has_no_leading_zero digits)
-are_digits radix digits = not (is_empty digits) && list_all (is_digit_of radix) digits
-
--- ---- the token
 
 -- A text is one big integer token of this radix and of these digits.
 pub record IsBigInteger (radix : Radix) (digits text : List ℕ) : Type 0 where

@@ -6,8 +6,9 @@ use Rattle.std.specs.String.{string_bytes}
 use Rattle.std.specs.declared.string.String.{String}
 use Rattle.std.specs.Str.{IsAscii, chars}
 use Rattle.std.specs.Str.Parse.{digits_value}
+use Rattle.swc_ecma_codegen_ast.specs.DecimalValues.{decimal_digits, exact_size, size_value}
 use Rattle.swc_ecma_codegen_ast.specs.Numbers.{is_number}
-use Rattle.swc_ecma_codegen_ast.specs.NumberValues.{MathValue, times_ten, over_ten, SameValue, exact_value, numeric_value}
+use Rattle.swc_ecma_codegen_ast.specs.NumberValues.{SameValue, exact_value, numeric_value}
 use Rattle.swc_ecma_codegen_common.specs.declared.decimals.Decimal.{Decimal}
 use Rattle.swc_ecma_codegen_ast.specs.Texts.{begins}
 use Rattle.swc_ecma_codegen_literals.specs.Beginnings.{begins_numeric}
@@ -58,9 +59,6 @@ minified_size negative ds e = shorter_size (short_size negative ds e) (shorter_s
 unfoldable pub sign_text : Bool → List ℕ
 sign_text negative = if negative then codes "-" else []
 
-abbrev pub decimal_digits : Decimal → List ℕ
-decimal_digits number = string_bytes number.digits
-
 -- the number without its sign, by all digits and by the shortest of these
 abbrev pub plain_part : Decimal → List ℕ
 plain_part number = plain_size (decimal_digits number) number.exponent
@@ -80,11 +78,6 @@ abbrev pub option_text : {Z : Type 0} → Option (String Z) → Option (List ℕ
 option_text None = None
 option_text (Some text) = Some (string_bytes text)
 
--- what the digits of a decimal number, times ten to its exponent, are
-unfoldable pub size_value : List ℕ → ℤ → MathValue
-size_value ds (pos n) = times_ten (digits_value 10 ds) n
-size_value ds (negsuc n) = over_ten (digits_value 10 ds) (suc n)
-
 -- A text is the sign of a number, and then one numeric literal of its size.
 pub record SpellsDecimal (number : Decimal) (text : List ℕ) : Type 0 where
   pub literal : List ℕ
@@ -99,7 +92,7 @@ pub record IsSizeOf (number : Decimal) (size : List ℕ) : Type 0 where
   pub front : begins_numeric size ≡ true
   pub unsigned : begins (codes "-") size ≡ false
   pub shape : is_number (chars size) ≡ true
-  pub value : exact_value (numeric_value (chars size)) ≡ exact_value (size_value (decimal_digits number) number.exponent)
+  pub value : exact_value (numeric_value (chars size)) ≡ exact_size number
 
 -- A text is the punctuator `-` where the number is below zero, and then such a token.
 pub record IsSignedSize (number : Decimal) (text size : List ℕ) : Type 0 where

@@ -7,14 +7,19 @@ ghost use Rattle.std.specs.String.{string_bytes};
 ghost use Rattle.swc_ecma_codegen_common.specs.declared.decimals.Decimal.{Decimal};
 ghost use Rattle.swc_ecma_codegen_common.specs.declared.versions.EsVersion.{EsVersion};
 ghost use Rattle.swc_ecma_codegen_tree.specs.declared.lits.BigInt.{BigInt};
+ghost use Rattle.swc_ecma_codegen_tree.specs.declared.lits.Radix.{Radix};
+ghost use Rattle.swc_ecma_codegen_ast.specs.declared.kinds.Kind.TheVariants.{BigInt as BigIntKind, Number};
+ghost use Rattle.swc_ecma_codegen_ast.specs.DecimalValues.{exact_size};
+ghost use Rattle.swc_ecma_codegen_ast.specs.LitPhrases.{are_digits, big_int_token, number_token, string_token};
 ghost use Rattle.swc_ecma_codegen_ast.specs.Names.{is_name};
 ghost use Rattle.swc_ecma_codegen_ast.specs.Numbers.{is_number, is_big_integer};
 ghost use Rattle.swc_ecma_codegen_ast.specs.Strings.{is_string};
 ghost use Rattle.swc_ecma_codegen_ast.specs.StringValues.{string_value};
+ghost use Rattle.swc_ecma_codegen_ast.specs.Tokens.{Spells, Value};
 ghost use Rattle.swc_ecma_codegen_literals.specs.AsciiNames.{ascii_name, is_quoted_key};
 ghost use Rattle.swc_ecma_codegen_literals.specs.Beginnings.{begins_name, begins_numeric, begins_quoted};
-ghost use Rattle.swc_ecma_codegen_literals.specs.BigIntegers.{are_digits, big_text, big_part, IsSignedInteger};
-ghost use Rattle.swc_ecma_codegen_literals.specs.NumberTexts.{plain_text, minified_text, plain_part, minified_part, IsSignedSize};
+ghost use Rattle.swc_ecma_codegen_literals.specs.BigIntegers.{big_text, big_part, IsBigInteger, IsSignedInteger};
+ghost use Rattle.swc_ecma_codegen_literals.specs.NumberTexts.{plain_text, minified_text, plain_part, minified_part, IsSignedSize, IsSizeOf};
 ghost use Rattle.swc_ecma_codegen_literals.specs.Separators.{without_underscores, IsWorthAsMuch};
 
 /// A string literal without octal escapes, as `quoted_utf16` gives it, is one too where these are allowed, and means the
@@ -63,4 +68,14 @@ pub fn separators_stand_for_nothing()
 #[tactic(auto, using(crate::proofs::BigTokens::big_signed))]
 pub fn big_integers_are_signed_sizes()
     ensures { (n : BigInt) → are_digits n.radix (chars (string_bytes n.digits)) ≡ true → IsSignedInteger n (big_text n) (big_part n) }
+{}
+
+/// The spellings are tokens: a string literal without octal escapes is one of its units, the size of a number one of its
+/// value, a big integer one of its radix and digits. A number or a big integer stays the same token without `_`.
+pub fn spellings_are_tokens()
+    ensures string { (text units : List ℕ) → string_value false text ≡ Some units → Spells (string_token units) text }
+    ensures number { (number : Decimal) (size : List ℕ) → IsSizeOf number size → Spells (number_token (exact_size number)) (chars size) }
+    ensures big_integer { (radix : Radix) (digits text : List ℕ) → IsBigInteger radix digits text → Spells (big_int_token radix digits) text }
+    ensures number_without { (value : Value) (text : List ℕ) → Spells (record { kind = Number; value = value }) text → Spells (record { kind = Number; value = value }) (without_underscores text) }
+    ensures big_integer_without { (value : Value) (text : List ℕ) → Spells (record { kind = BigIntKind; value = value }) text → Spells (record { kind = BigIntKind; value = value }) (without_underscores text) }
 {}

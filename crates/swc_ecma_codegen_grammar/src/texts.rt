@@ -1,0 +1,35 @@
+//! Texts, one character after another.
+
+ghost use Rattle.std.specs.Prelude.{◌≡◌, [], ◌∷◌, drop, true, false, IfSome, IfNone};
+ghost use Rattle.std.specs.Str.{chars};
+ghost use Rattle.swc_ecma_codegen_ast.specs.Texts as texts;
+
+/// The first character of a text, and what follows it.
+pub(crate) fn split_first(text: &str) -> Option<(char, &str)>
+    ensures some { IfSome result (λ r. chars text.now ≡ r.0 ∷ chars r.1.now) }
+    ensures none { IfNone result (chars text.now ≡ []) }
+{
+    let mut chars = text.chars();
+    let c = chars.next()?;
+    Some((c, chars.as_str()))
+}
+
+/// What follows this character at the beginning of a text, or `None` where another stands there.
+#[tactic(auto, unfolding(swc_ecma_codegen_ast::specs::Texts::begins))]
+pub(crate) fn after_first(text: &str, c: char) -> Option<&str>
+    ensures some { IfSome result (λ rest. (texts.begins (c ∷ []) (chars text.now) ≡ true) × (chars rest.now ≡ drop 1 (chars text.now))) }
+    ensures none { IfNone result (texts.begins (c ∷ []) (chars text.now) ≡ false) }
+{
+    match split_first(text) {
+        Some((d, rest)) if c == d => Some(rest),
+        _ => None,
+    }
+}
+
+/// Whether no character is left.
+#[tactic(auto, unfolding(swc_ecma_codegen_ast::specs::Texts::is_empty))]
+pub(crate) fn is_empty(text: &str) -> bool
+    ensures { result ≡ texts.is_empty (chars text.now) }
+{
+    split_first(text).is_none()
+}
