@@ -1,4 +1,5 @@
 pub mod Run
+pub mod Targets
 pub mod Words
 pub mod Literals
 pub mod Lits
