@@ -15,8 +15,7 @@ IsRecorded pos p pairs = (pos.0 ≡ 0) ⊎ (has_pair (pair_at pos p) pairs ≡ t
 unfoldable pub NamesStand : Config → Place → List ℕ → List Pair → List (BytePos × List ℕ) → Type 0
 NamesStand config p text pairs [] = ⊤
 NamesStand config p text pairs (x ∷ xs) =
-    let name : List ℕ = written_name config x.1 in
-    (before rest : List ℕ) × (text ≡ before ++ (name ++ rest)) × IsRecorded x.0 (after_text before p) pairs × NamesStand config (after_text name (after_text before p)) rest pairs xs
+    (before rest : List ℕ) × (text ≡ before ++ (written_name config x.1 ++ rest)) × IsRecorded x.0 (after_text before p) pairs × NamesStand config (after_text (written_name config x.1) (after_text before p)) rest pairs xs
 
 -- From one sheet to another these names were written, with their positions.
 pub record RecordsNames (config : Config) (names : List (BytePos × List ℕ)) (old new : Sheet) : Type 0 where
