@@ -10,12 +10,13 @@ use Rattle.swc_ecma_codegen_ast.specs.Tokens.{token_of}
 use Rattle.swc_ecma_codegen_text_writer.specs.Sheet.{Semi, Space, Keyword, Operator, Line, Symbol, Punct, Position, Commit, effect}
 use Rattle.swc_ecma_codegen_ast.specs.ValidNames.{turned}
 use Rattle.swc_ecma_codegen_base.specs.Run.{Env, Plan, Part, State, Step, Guard, Token, Plain, Ends, Remake, Steps, next, put, run, step, spelling, text_of, after_token, after_plain, when_minified, no_part, has_backslash, makes_text}
-use Rattle.swc_ecma_codegen_base.specs.Words.{keyword, operator, word_operator, punct, semi, space, formatting_space, line_end, formatting_line, commit_pending_semi, position, position_before, leading_comments, trailing_comments, symbol, valid_symbol, name_text}
+use Rattle.swc_ecma_codegen_base.specs.Words.{keyword, operator, word_operator, punct, semi, space, formatting_space, line_end, formatting_line, commit_pending_semi, position, position_before, leading_comments, trailing_comments, symbol, spelled_symbol, valid_symbol, name_text}
+use Rattle.swc_ecma_codegen_base.specs.Targets.{is_escaped, in_ascii, is_out_name, written_name}
 use Rattle.swc_ecma_codegen_base.specs.Written.{AtRest}
 use Rattle.swc_ecma_codegen_base.proofs.Emitting.{minified_same, pretty_same}
 use Rattle.swc_ecma_codegen_base.proofs.Fronts.{run_append}
 use Rattle.swc_ecma_codegen_base.proofs.Levels.{levels, rise, levels_append}
-use Rattle.swc_ecma_codegen_base.proofs.Spelled.{valid_same}
+use Rattle.swc_ecma_codegen_base.proofs.Spelled.{valid_same, spelled_same}
 use Rattle.swc_ecma_codegen_base.proofs.Written.{Lays, lays_then, lays_nothing, lays_blank, lays_line, lays_commit, lays_position, lays_token, lays_punct, lays_semi, lays_placed, Spelled, spelled_ending, own_put, punct_put, semi_put}
 
 -- some steps, and then more
@@ -44,9 +45,9 @@ or_assoc : (a b c : Bool) → (a || (b || c)) ≡ ((a || b) || c)
 or_assoc true b c = refl
 or_assoc false b c = refl
 
-or_none : (a : Bool) → ((a || false) || false) ≡ a
-or_none true = refl
-or_none false = refl
+or_no : (a : Bool) → (a || false) ≡ a
+or_no true = refl
+or_no false = refl
 
 remakes_append : (xs ys : List Step) → makes_text (xs ++ ys) ≡ (makes_text xs || makes_text ys)
 unfolding makes_text
@@ -202,10 +203,21 @@ pub writes_symbol : (env : Env) (span : Span) (t : List ℕ) → Spelled Name t 
 unfolding symbol position
 writes_symbol env span t p = symbol_at env span.lo (span.lo.0 == 0) t p
 
-pub writes_name_text : (env : Env) (span : Span) (bytes : List ℕ) → env.keeps_invalid ≡ false → Spelled Name (turned bytes) → Makes env (name_text span bytes) (token_of Name (spelling Name (turned bytes)) ∷ []) (has_backslash bytes)
-unfolding valid_symbol put makes_text levels
-writes_name_text env span bytes e p =
-    let P : Bool → Type 0 = λ z. Makes env (name_text span bytes) (token_of Name (spelling Name (turned bytes)) ∷ []) z in
-    subst P (or_none (has_backslash bytes))
-    (writes_same env (name_text span bytes) (valid_symbol span bytes) _ (λ rest. valid_same span bytes rest env e)
-    (writes_then env (step (Remake (has_backslash bytes))) (symbol span (turned bytes)) [] (token_of Name (spelling Name (turned bytes)) ∷ []) (writes_step env (Remake (has_backslash bytes)) [] (λ s r. lays_nothing s r) (omega arith)) (writes_symbol env span (turned bytes) p)))
+-- a text that is made anew, where that is due, and then a part
+writes_remade : (env : Env) (due : Bool) (p : Part) (ts : List lexical.Token) {b : Bool} → Makes env p ts b → Makes env (λ rest. step (Remake due) (p rest)) ts (due || b)
+unfolding put makes_text levels
+writes_remade env due p ts {b} h =
+    subst (λ z. Makes env (λ rest. step (Remake due) (p rest)) ts (z || b)) (or_no due) (writes_then env (step (Remake due)) p [] ts (writes_step env (Remake due) [] (λ s r. lays_nothing s r) (omega arith)) h)
+
+writes_spelled_symbol : (env : Env) (span : Span) (t : List ℕ) → is_out_name env.config t ≡ false → Spelled Name (in_ascii env.config t) → Makes env (spelled_symbol span t) (token_of Name (spelling Name (in_ascii env.config t)) ∷ []) (is_escaped env.config t)
+writes_spelled_symbol env span t o p =
+    let u : List ℕ = in_ascii env.config t in
+    let due : Bool = is_escaped env.config t in
+    writes_same env (spelled_symbol span t) (λ rest. step (Remake due) (symbol span u rest)) _ (λ rest. spelled_same span t rest env o)
+    (subst (λ z. Makes env (λ rest. step (Remake due) (symbol span u rest)) (token_of Name (spelling Name u) ∷ []) z) (or_no due) (writes_remade env due (symbol span u) _ (writes_symbol env span u p)))
+
+pub writes_name_text : (env : Env) (span : Span) (bytes : List ℕ) → env.keeps_invalid ≡ false → is_out_name env.config (turned bytes) ≡ false → Spelled Name (written_name env.config bytes) → Makes env (name_text span bytes) (token_of Name (spelling Name (written_name env.config bytes)) ∷ []) (has_backslash bytes || is_escaped env.config (turned bytes))
+unfolding valid_symbol written_name
+writes_name_text env span bytes e o p =
+    writes_same env (name_text span bytes) (valid_symbol span bytes) _ (λ rest. valid_same span bytes rest env e)
+    (writes_remade env (has_backslash bytes) (spelled_symbol span (turned bytes)) _ (writes_spelled_symbol env span (turned bytes) o p))
