@@ -1,5 +1,6 @@
 pub mod Emitting
 pub mod Short
+pub mod Targets
 pub mod Calls
 pub mod Spelled
 pub mod Fronts
