@@ -24,6 +24,8 @@ use Rattle.swc_ecma_codegen_tree.specs.declared.exprs.SeqExpr.{SeqExpr}
 use Rattle.swc_ecma_codegen_tree.specs.declared.exprs.ParenExpr.{ParenExpr}
 use Rattle.swc_ecma_codegen_tree.specs.declared.exprs.Expr.{Expr}
 use Rattle.swc_ecma_codegen_tree.specs.declared.exprs.Expr.TheVariants as exprs
+use Rattle.swc_ecma_codegen_tree.specs.declared.lits.Lit.{Lit}
+use Rattle.swc_ecma_codegen_tree.specs.declared.lits.Lit.TheVariants as lits
 use Rattle.swc_ecma_codegen_common.specs.Operators.{unary_text, binary_text, update_text}
 use Rattle.swc_ecma_codegen_spans.specs.Spans.{expr_span}
 use Rattle.swc_ecma_codegen_util.specs.Starts as starts
@@ -34,17 +36,21 @@ use Rattle.swc_ecma_codegen_ast.specs.Texts.{is_same, is_among}
 use Rattle.swc_ecma_codegen_ast.specs.Phrases.{Phrase, One, ◌>◌, mark}
 use Rattle.swc_ecma_codegen_ast.specs.NamePhrases as names
 use Rattle.swc_ecma_codegen_ast.specs.ExprPhrases as lists
+use Rattle.swc_ecma_codegen_ast.specs.LitPhrases as lit_lists
 use Rattle.swc_ecma_codegen_ast.specs.declared.roles.Role.TheVariants.{MemberExpression}
 use Rattle.swc_ecma_codegen_base.specs.Run.{Env, Part}
 use Rattle.swc_ecma_codegen_base.specs.Words.{operator, space, formatting_space, position, leading_comments, trailing_comments}
 use Rattle.swc_ecma_codegen_base.proofs.Printed.{Writes, writes_then, writes_if, writes_nothing, writes_space, writes_formatting_space, writes_commit, writes_position, writes_position_before, writes_leading, writes_trailing}
 use Rattle.swc_ecma_codegen_base.specs.Written.{IsWord, IsMark}
+use Rattle.swc_ecma_codegen_base.proofs.EachLit.{prints_lit}
+use Rattle.swc_ecma_codegen_base.proofs.NumberPrints.{prints_number, prints_number_object}
 use Rattle.swc_ecma_codegen_base.proofs.Phrased.{Prints, then, after, before, prints_never, prints_keyword, prints_word_operator, prints_operator, prints_punct, prints_ident, prints_name}
 use Rattle.swc_ecma_codegen.specs.declared.nodes.Place.{Place}
-use Rattle.swc_ecma_codegen.specs.declared.nodes.Place.TheVariants.{Plain, LeftOperand}
+use Rattle.swc_ecma_codegen.specs.declared.nodes.Place.TheVariants.{Plain, LeftOperand, Object, DottedObject}
 use Rattle.swc_ecma_codegen.specs.Answers.{Answers, place_of}
 use Rattle.swc_ecma_codegen.specs.Operands.{is_word_op, operand_space}
 use Rattle.swc_ecma_codegen.specs.Exprs as words
+use Rattle.swc_ecma_codegen.specs.Lits.{lit_at}
 use Rattle.swc_ecma_codegen.proofs.Linked.{Linked, expr_at}
 use Rattle.swc_ecma_codegen.proofs.ListParts.{some_listed_prints}
 
@@ -64,8 +70,8 @@ writes_opened env span = writes_then env (leading_comments span.lo) (position sp
 
 writes_bin_opened : (env : Env) (place : Place) (span : Span) → Writes env (words.bin_opened place span) []
 unfolding words.bin_opened
-writes_bin_opened env Plain span = writes_opened env span
 writes_bin_opened env LeftOperand span = writes_nothing env
+writes_bin_opened env place span = writes_opened env span
 
 writes_unary_gap : (env : Env) (op : UnaryOp) (arg : Answers) → Writes env (words.unary_gap op arg) []
 unfolding words.unary_gap
@@ -75,9 +81,9 @@ writes_comments_before : (env : Env) (pos : BytePos) → Writes env (words.comme
 unfolding words.comments_before
 writes_comments_before env pos = writes_if env (pos.0 == 0) (λ rest. rest) (leading_comments (record { 0 = pos.0 - 1 })) [] (writes_nothing env) (writes_leading env (record { 0 = pos.0 - 1 }))
 
-writes_closed : (env : Env) (inner : Bool) (span : Span) → Writes env (words.expr_closed inner span) []
+writes_closed : (env : Env) (left : Bool) (span : Span) → Writes env (words.expr_closed left span) []
 unfolding words.expr_closed
-writes_closed env inner span = writes_if env inner (λ rest. rest) (trailing_comments true span.hi) [] (writes_nothing env) (writes_trailing env true span.hi)
+writes_closed env left span = writes_if env left (λ rest. rest) (trailing_comments true span.hi) [] (writes_nothing env) (writes_trailing env true span.hi)
 
 -- ---- operators
 
@@ -212,7 +218,7 @@ member_prop_prints l n = prints_never
 
 pub member_prints : {X : Type 0} (l : Linked X) (n : MemberExpr X) → Prints l.env (words.member l.items n) (lists.member_expr l.reads n)
 unfolding words.member lists.member_expr
-member_prints l n = after (writes_opened l.env n.span) (then (expr_at l n.obj Plain) (before (member_prop_prints l n.prop) (writes_position l.env n.span.hi)))
+member_prints l n = after (writes_opened l.env n.span) (then (expr_at l n.obj (words.object_place n.prop)) (before (member_prop_prints l n.prop) (writes_position l.env n.span.hi)))
 
 cond_prints : {X : Type 0} (l : Linked X) (n : CondExpr X) → Prints l.env (words.choice l.items n) (lists.cond_expr l.reads n)
 unfolding words.choice lists.cond_expr
@@ -235,6 +241,13 @@ paren_prints l n =
     (then (expr_at l n.expr Plain)
     (after (writes_position_before l.env n.span.hi) (prints_punct l.env (codes ")") paren_closes_is_mark)))))
 
+lit_prints : (env : Env) (n : Lit) (place : Place) → Prints env (lit_at n place) (lit_lists.lit n)
+unfolding lit_at lit_lists.lit
+lit_prints env (lits.Num n) Object = prints_number env n
+lit_prints env (lits.Num n) (DottedObject prop) = prints_number_object env n prop
+lit_prints env (lits.JSXText n) place = prints_never
+lit_prints env n place = prints_lit env n
+
 parts_print : {X : Type 0} (l : Linked X) (n : Expr X) (place : Place) → Prints l.env (words.expr_parts l.asks l.items n place) (lists.expr l.reads n)
 unfolding words.expr_parts lists.expr
 parts_print l (exprs.This n) place = this_prints l.env n
@@ -245,10 +258,11 @@ parts_print l (exprs.Member n) place = l.law n.node.value Plain MemberExpression
 parts_print l (exprs.Cond n) place = cond_prints l n
 parts_print l (exprs.Seq n) place = seq_prints l n
 parts_print l (exprs.Ident n) place = ident_prints l n
+parts_print l (exprs.Lit n) place = lit_prints l.env n place
 parts_print l (exprs.Paren n) place = paren_prints l n
 parts_print l n place = prints_never
 
 -- the comments after it
 pub expr_prints : {X : Type 0} (l : Linked X) (n : Expr X) (place : Place) → Prints l.env (words.expr l.asks l.items n place) (lists.expr l.reads n)
 unfolding words.expr
-expr_prints l n place = before (parts_print l n place) (writes_closed l.env (words.is_inner n place) (expr_span (place_of l.asks) n))
+expr_prints l n place = before (parts_print l n place) (writes_closed l.env (words.leaves_comments n place) (expr_span (place_of l.asks) n))

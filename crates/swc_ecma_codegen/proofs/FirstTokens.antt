@@ -1,5 +1,6 @@
 -- How the text of a node begins, by the first token of its lists.
-use Rattle.std.proofs.Common.{◌≡◌, ℕ, Bool, true, false, cond, List, [], ◌∷◌, ◌++◌, map, codes, refl, sym, ap, ◌∙◌, subst}
+use Rattle.std.proofs.Common.{◌≡◌, ℕ, Bool, true, false, cond, List, [], ◌∷◌, ◌++◌, map, codes, refl, sym, ap, ◌∙◌, subst, Option, Some, None}
+use Rattle.std.specs.declared.string.String.{String}
 use Rattle.std.proofs.lemmas.Bool.{true≢false}
 use denote.Hole.Holds.{Such}
 use Rattle.swc_ecma_codegen_common.specs.Operators.{update_text}
@@ -12,6 +13,11 @@ use Rattle.swc_ecma_codegen_tree.specs.declared.links.AnyNode.TheFolds.{claims}
 use Rattle.swc_ecma_codegen_tree.specs.declared.expr_links.ExprBox.{ExprBox}
 use Rattle.swc_ecma_codegen_tree.specs.declared.exprs.Expr.{Expr}
 use Rattle.swc_ecma_codegen_tree.specs.declared.exprs.Expr.TheVariants as exprs
+use Rattle.swc_ecma_codegen_common.specs.declared.decimals.Decimal.{Decimal}
+use Rattle.swc_ecma_codegen_tree.specs.declared.lits.Lit.{Lit}
+use Rattle.swc_ecma_codegen_tree.specs.declared.lits.Lit.TheVariants as lits
+use Rattle.swc_ecma_codegen_tree.specs.declared.lits.NumberValue.{NumberValue}
+use Rattle.swc_ecma_codegen_tree.specs.declared.lits.NumberValue.TheVariants.{Finite, Infinity, NegInfinity, NaN}
 use Rattle.swc_ecma_codegen_tree.specs.declared.stmts.Stmt.{Stmt}
 use Rattle.swc_ecma_codegen_tree.specs.declared.stmts.Stmt.TheVariants as stmts
 use Rattle.swc_ecma_codegen_ast.specs.Tokens.{Token}
@@ -23,10 +29,11 @@ use Rattle.swc_ecma_codegen_ast.specs.declared.roles.Role.{Role}
 use Rattle.swc_ecma_codegen_ast.specs.declared.roles.Role.TheVariants.{Expression, Statement, MemberExpression}
 use Rattle.swc_ecma_codegen_ast.specs.NamePhrases as names
 use Rattle.swc_ecma_codegen_ast.specs.ExprPhrases as lists
+use Rattle.swc_ecma_codegen_ast.specs.LitPhrases as lit_lists
 use Rattle.swc_ecma_codegen_ast.specs.StmtPhrases as stmt_lists
 use Rattle.swc_ecma_codegen_ast.specs.TreePhrases.{node_phrase, phrase, expr_phrase}
 use Rattle.swc_ecma_codegen_ast.proofs.TreeLaws.{phrase_of}
-use Rattle.swc_ecma_codegen_util.specs.Starts.{is_word_op, update_starts, first_starts, expr_starts, stmt_starts, node_starts, any_starts}
+use Rattle.swc_ecma_codegen_util.specs.Starts.{is_word_op, lit_starts, update_starts, first_starts, expr_starts, stmt_starts, node_starts, any_starts}
 use Rattle.swc_ecma_codegen_util.proofs.Begins.{starts_of}
 use Rattle.swc_ecma_codegen.specs.FirstTokens.{joins_a_word}
 
@@ -82,6 +89,56 @@ begins_never : (b : Bool) → Begins Never b
 unfolding Generates
 begins_never b = record { some = λ k. k; told = λ y ys k j. absurd k }
 
+-- a token that is no word begins as it likes
+begins_other : (x : Token) (b : Bool) → joins_a_word x.kind ≡ false → Begins (One x) b
+unfolding Generates
+begins_other x b e = record {
+  some = λ k. nothing_first x [] k;
+  told = λ y ys k j. absurd (true≢false (sym j ∙ ap (λ (z : Token). joins_a_word z.kind) (same_first y x ys [] k) ∙ e));
+}
+
+begins_where : (c : Bool) (f : Phrase) (b : Bool) → Begins f b → Begins (phrases.where_ c f) b
+unfolding phrases.where_
+begins_where true f b h = h
+begins_where false f b h = begins_never b
+
+begins_signed : (negative : Bool) (x : Token) → Begins (lit_lists.after_sign negative (One x)) true
+unfolding lit_lists.after_sign
+begins_signed true x = begins_then _ _ _ (begins_mark _ true)
+begins_signed false x = begins_true x
+
+begins_finite : {Z : Type 0} (d : Decimal) (raw : Option (String Z)) → Begins (lit_lists.finite d raw) true
+unfolding lit_lists.finite
+begins_finite d None = begins_signed d.negative _
+begins_finite d (Some raw) = begins_where _ _ _ (begins_true _)
+
+begins_infinity : {Z : Type 0} (raw : Option (String Z)) → Begins (lit_lists.infinity raw) true
+unfolding lit_lists.infinity
+begins_infinity None = begins_true _
+begins_infinity (Some raw) = begins_where _ _ _ (begins_true _)
+
+begins_without_raw : {Z : Type 0} (raw : Option (String Z)) (f : Phrase) (b : Bool) → Begins f b → Begins (lit_lists.without_raw raw f) b
+unfolding lit_lists.without_raw
+begins_without_raw None f b h = h
+begins_without_raw (Some raw) f b h = begins_never b
+
+begins_number : {Z : Type 0} (value : NumberValue) (raw : Option (String Z)) → Begins (lit_lists.number_of value raw) true
+unfolding lit_lists.number_of
+begins_number (Finite d) raw = begins_finite d raw
+begins_number Infinity raw = begins_infinity raw
+begins_number NegInfinity raw = begins_without_raw raw _ true (begins_signed true _)
+begins_number NaN raw = begins_without_raw raw _ true (begins_true _)
+
+begins_lit : (n : Lit) → Begins (lit_lists.lit n) (lit_starts n)
+unfolding lit_starts lit_lists.lit lit_lists.str_lit lit_lists.string_token lit_lists.bool_lit lit_lists.null_lit lit_lists.number lit_lists.big_int lit_lists.regex tokens.token_of joins_a_word
+begins_lit (lits.Str n) = begins_where _ _ _ (begins_other _ false refl)
+begins_lit (lits.Bool n) = begins_true _
+begins_lit (lits.Null n) = begins_true _
+begins_lit (lits.Num n) = begins_number n.value n.raw
+begins_lit (lits.BigInt n) = begins_where _ _ _ (begins_signed n.negative _)
+begins_lit (lits.Regex n) = begins_where _ _ _ (begins_other _ false refl)
+begins_lit (lits.JSXText n) = begins_never false
+
 begins_unary : (op : UnaryOp) → Begins (One (lists.unary_op op)) (is_word_op op)
 unfolding lists.unary_op is_word_op
 begins_unary unary.Minus = begins_mark _ false
@@ -115,6 +172,7 @@ expr_begins reads starts law (exprs.Member n) = law n.node.value MemberExpressio
 expr_begins reads starts law (exprs.Cond n) = begins_then _ _ _ (law n.test.node.value Expression)
 expr_begins reads starts law (exprs.Seq n) = seq_begins reads starts law n.exprs.items
 expr_begins reads starts law (exprs.Ident n) = begins_then _ _ _ (begins_name _ _)
+expr_begins reads starts law (exprs.Lit n) = begins_lit n
 expr_begins reads starts law (exprs.Paren n) = begins_then _ _ _ (begins_mark _ false)
 expr_begins reads starts law n = begins_never _
 

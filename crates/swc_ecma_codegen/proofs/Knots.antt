@@ -18,10 +18,9 @@ use Rattle.swc_ecma_codegen_spans.specs.Spans.{expr_span, stmt_span}
 use Rattle.swc_ecma_codegen_base.specs.Run.{Plan, Part, refuse}
 use Rattle.swc_ecma_codegen_base.specs.Words.{trailing_comments}
 use Rattle.swc_ecma_codegen.specs.declared.nodes.Place.{Place}
-use Rattle.swc_ecma_codegen.specs.declared.nodes.Place.TheVariants.{Plain, LeftOperand}
 use Rattle.swc_ecma_codegen.specs.Answers.{Answers, any_answers}
 use Rattle.swc_ecma_codegen.specs.Lists.{comma, listed, unsupported}
-use Rattle.swc_ecma_codegen.specs.Exprs.{this, unary, update, update_parts, bin, bin_trailing, member, member_prop, computed_prop_name, choice, seq, held, paren, ident, opened, expr_parts, expr_closed, is_inner, expr}
+use Rattle.swc_ecma_codegen.specs.Exprs.{this, unary, update, update_parts, bin, bin_trailing, member, member_prop, object_place, computed_prop_name, choice, seq, held, paren, ident, opened, expr_parts, expr_closed, leaves_comments, expr}
 use Rattle.swc_ecma_codegen.specs.Stmts.{empty_stmt, expr_stmt, stmt_parts, stmt}
 use Rattle.swc_ecma_codegen.specs.Tree.{node_items, any_items}
 
@@ -33,15 +32,13 @@ listed_mapped g e d same first [] rest = refl
 listed_mapped g e d same first (x ∷ xs) rest = ap (λ part. comma first (part (listed e false (map g xs) rest))) (same x) ∙ ap (λ after. comma first (d x after)) (listed_mapped g e d same false xs rest)
 
 member_mapped : {X Y : Type 0} (g : X → Y) (asks : Y → Answers) (items : Y → Place → Part) (span : Span) (obj : ExprBox X) (prop : MemberProp X) (place : Place) (rest : Plan) → node_items asks items (map-AnyNode X Y g (nodes.MemberExpr (record { span = span; obj = obj; prop = prop }))) place rest ≡ member (λ x. items (g x)) (record { span = span; obj = obj; prop = prop }) rest
-unfolding node_items member member_prop computed_prop_name unsupported refuse
+unfolding node_items member member_prop object_place computed_prop_name unsupported refuse
 member_mapped g asks items span obj (member_props.Ident n) place rest = refl
 member_mapped g asks items span obj (member_props.Computed n) place rest = refl
 member_mapped g asks items span obj n place rest = refl
 
 expr_mapped : {X Y : Type 0} (g : X → Y) (asks : Y → Answers) (items : Y → Place → Part) (n : Expr X) (place : Place) (rest : Plan) → node_items asks items (map-AnyNode X Y g (nodes.Expr n)) place rest ≡ expr (λ x. asks (g x)) (λ x. items (g x)) n place rest
-unfolding node_items expr expr_parts expr_closed expr_span is_inner unsupported refuse this unary update update_parts bin bin_trailing choice seq paren ident
-expr_mapped g asks items (exprs.Bin n) Plain rest = refl
-expr_mapped g asks items (exprs.Bin n) LeftOperand rest = refl
+unfolding node_items expr expr_parts expr_closed expr_span leaves_comments unsupported refuse this unary update update_parts bin bin_trailing choice seq paren ident
 expr_mapped {X} g asks items (exprs.Seq n) place rest = ap (opened n.span) (listed_mapped {A = ExprBox X} _ (held items) (held (λ x. items (g x))) (λ x. refl) true n.exprs.items (trailing_comments true n.span.hi rest))
 expr_mapped g asks items n place rest = refl
 

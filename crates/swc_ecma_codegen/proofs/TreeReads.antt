@@ -59,9 +59,9 @@ script_names n a b r w k e h = root_names (OfScript n) _ a b r refl w k e h
 pub program_names : (n : Program AnyNode) (a b : State) (r : Result (Unit {0}) Error) → is_well_formed n ≡ true → a.sheet.keeps_positions ≡ true → a.env.keeps_invalid ≡ false → Follows (programs.program any_items n nothing) a b (in_short r) → OnOk r (RecordsNames (names_in (program_phrase n)) a.sheet b.sheet)
 program_names n a b r w k e h = root_names (OfProgram n) _ a b r refl w k e h
 
--- which names are made anew
-pub root_remakes : (n : Root) (s : State) → is_well_formed_root n ≡ true → s.env.keeps_invalid ≡ false → makes_text (steps_of (steps_in (root_items n) s)) ≡ may_make_text (root_phrase n)
-root_remakes n s w e = printed_remakes (root_items n) (root_phrase n) s.env (root_prints s.env e n) w
+-- no text is made anew where nothing of the tree may be
+pub root_remakes : (n : Root) (s : State) → is_well_formed_root n ≡ true → s.env.keeps_invalid ≡ false → may_make_text (root_phrase n) ≡ false → makes_text (steps_of (steps_in (root_items n) s)) ≡ false
+root_remakes n s w e none = printed_remakes (root_items n) (root_phrase n) s.env (root_prints s.env e n) w none
 
 pub new_is_new : (config : Config) (bytes line_end : List ℕ) → IsLineEnd line_end → IsNew (start config (new_sheet bytes line_end))
 unfolding all_indent is_indent holds_one

@@ -27,10 +27,11 @@ use Rattle.swc_ecma_codegen_util.specs.Starts as starts
 use Rattle.swc_ecma_codegen_base.specs.Run.{Part}
 use Rattle.swc_ecma_codegen_base.specs.Words.{keyword, operator, word_operator, punct, space, formatting_space, commit_pending_semi, start_of, end_of, last_of, leading_comments, trailing_comments, name}
 use Rattle.swc_ecma_codegen.specs.declared.nodes.Place.{Place}
-use Rattle.swc_ecma_codegen.specs.declared.nodes.Place.TheVariants.{Plain, LeftOperand}
+use Rattle.swc_ecma_codegen.specs.declared.nodes.Place.TheVariants.{Plain, LeftOperand, Object, DottedObject}
 use Rattle.swc_ecma_codegen.specs.Answers.{Answers, place_of}
 use Rattle.swc_ecma_codegen.specs.Operands.{is_word_op, space_after, operand_space}
 use Rattle.swc_ecma_codegen.specs.Lists.{listed, unsupported}
+use Rattle.swc_ecma_codegen.specs.Lits.{lit_at, is_number_object}
 
 -- one blank where it is needed, else what the settings want
 unfoldable pub blank : Bool → Part
@@ -95,8 +96,8 @@ bin_trailing asks items n rest =
 
 -- an inner left operand has no comments before it, and its start isn't recorded
 unfoldable pub bin_opened : Place → Span → Part
-bin_opened Plain span rest = opened span rest
 bin_opened LeftOperand span rest = rest
+bin_opened place span rest = opened span rest
 
 unfoldable pub bin : {X : Type 0} → (X → Answers) → (X → Place → Part) → BinExpr X → Place → Part
 bin asks items n place rest = bin_opened place n.span (items n.left.node.value LeftOperand (bin_trailing asks items n rest))
@@ -114,8 +115,14 @@ member_prop items (member_props.Ident n) rest = comments_before n.span.lo (punct
 member_prop items (member_props.Computed n) rest = computed_prop_name items n rest
 member_prop items n rest = unsupported rest
 
+-- the place of the object before it
+unfoldable pub object_place : {X : Type 0} → MemberProp X → Place
+object_place (member_props.Ident n) = DottedObject n.span.lo
+object_place (member_props.PrivateName n) = DottedObject n.span.lo
+object_place (member_props.Computed n) = Object
+
 unfoldable pub member : {X : Type 0} → (X → Place → Part) → MemberExpr X → Part
-member items n rest = opened n.span (items n.obj.node.value Plain (member_prop items n.prop (end_of n.span rest)))
+member items n rest = opened n.span (items n.obj.node.value (object_place n.prop) (member_prop items n.prop (end_of n.span rest)))
 
 unfoldable pub choice : {X : Type 0} → (X → Place → Part) → CondExpr X → Part
 choice items n rest =
@@ -143,17 +150,23 @@ expr_parts asks items (exprs.Member n) place rest = items n.node.value Plain res
 expr_parts asks items (exprs.Cond n) place rest = choice items n rest
 expr_parts asks items (exprs.Seq n) place rest = seq items n rest
 expr_parts asks items (exprs.Ident n) place rest = ident n rest
+expr_parts asks items (exprs.Lit n) place rest = lit_at n place rest
 expr_parts asks items (exprs.Paren n) place rest = paren items n rest
 expr_parts asks items n place rest = unsupported rest
 
--- an inner left operand: its comments are left where they are
-unfoldable pub is_inner : {X : Type 0} → Expr X → Place → Bool
-is_inner (exprs.Bin n) LeftOperand = true
-is_inner n place = false
+unfoldable pub is_left_operand : Place → Bool
+is_left_operand LeftOperand = true
+is_left_operand place = false
+
+-- Its comments are left where they are: those of an inner left operand, and of a number that is an object.
+unfoldable pub leaves_comments : {X : Type 0} → Expr X → Place → Bool
+leaves_comments (exprs.Bin n) place = is_left_operand place
+leaves_comments (exprs.Lit n) place = is_number_object n place
+leaves_comments n place = false
 
 -- the comments after an expression
 unfoldable pub expr_closed : Bool → Span → Part
-expr_closed inner span rest = if inner then rest else trailing_comments true span.hi rest
+expr_closed left span rest = if left then rest else trailing_comments true span.hi rest
 
 unfoldable pub expr : {X : Type 0} → (X → Answers) → (X → Place → Part) → Expr X → Place → Part
-expr asks items n place rest = expr_parts asks items n place (expr_closed (is_inner n place) (expr_span (place_of asks) n) rest)
+expr asks items n place rest = expr_parts asks items n place (expr_closed (leaves_comments n place) (expr_span (place_of asks) n) rest)

@@ -2,6 +2,7 @@ pub mod Operands
 pub mod Answers
 pub mod View
 pub mod Lists
+pub mod Lits
 pub mod Exprs
 pub mod Stmts
 pub mod Programs

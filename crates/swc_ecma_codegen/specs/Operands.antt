@@ -13,6 +13,10 @@ use Rattle.swc_ecma_codegen_common.specs.declared.operators.UpdateOp.TheVariants
 use Rattle.swc_ecma_codegen_tree.specs.declared.exprs.Expr.{Expr}
 use Rattle.swc_ecma_codegen_tree.specs.declared.exprs.Expr.TheVariants as exprs
 use Rattle.swc_ecma_codegen_tree.specs.declared.exprs.UpdateExpr.{UpdateExpr}
+use Rattle.swc_ecma_codegen_tree.specs.declared.lits.Lit.{Lit}
+use Rattle.swc_ecma_codegen_tree.specs.declared.lits.Lit.TheVariants as lits
+use Rattle.swc_ecma_codegen_tree.specs.declared.lits.NumberValue.{NumberValue}
+use Rattle.swc_ecma_codegen_tree.specs.declared.lits.NumberValue.TheVariants as values
 use Rattle.swc_ecma_codegen.specs.declared.operands.OperandKind.{OperandKind}
 use Rattle.swc_ecma_codegen.specs.declared.operands.OperandKind.TheVariants as kinds
 
@@ -20,10 +24,21 @@ use Rattle.swc_ecma_codegen.specs.declared.operands.OperandKind.TheVariants as k
 unfoldable pub update_kind : {X : Type 0} → UpdateExpr X → OperandKind
 update_kind n = if n.prefix then kinds.Prefix n.op else kinds.Postfix n.op
 
--- an expression, by its operator
+-- a number with a sign: `-1`, `-0`, `-Infinity`
+unfoldable pub is_negative : NumberValue → Bool
+is_negative (values.Finite d) = d.negative
+is_negative values.NegInfinity = true
+is_negative value = false
+
+unfoldable pub lit_kind : Lit → OperandKind
+lit_kind (lits.Num n) = if is_negative n.value then kinds.Negative else kinds.Other
+lit_kind n = kinds.Other
+
+-- an expression, by its operator or its sign
 unfoldable pub expr_kind : {X : Type 0} → (X → OperandKind) → Expr X → OperandKind
 expr_kind kind (exprs.Unary n) = kinds.Unary n.op
 expr_kind kind (exprs.Update n) = update_kind n
+expr_kind kind (exprs.Lit n) = lit_kind n
 expr_kind kind n = kinds.Other
 
 unfoldable pub node_kind : {X : Type 0} → (X → OperandKind) → AnyNode-F X → OperandKind
@@ -84,11 +99,17 @@ bang_space arg op sign = sign_repeats op sign
 unfoldable pub update_space : {X : Type 0} → UpdateExpr X → BinaryOp → Bool
 update_space n op = if n.prefix then update_repeats op n.op else false
 
+-- a blank is due between the operator and a sign of a number: `a- -1`
+unfoldable pub negative_space : OperandKind → BinaryOp → Bool
+negative_space kinds.Negative op = sign_repeats op unary.Minus
+negative_space kind op = false
+
 -- a blank is due between an operator that is no word and its right operand
 unfoldable pub expr_space : {X : Type 0} → (X → OperandKind) → (X → BinaryOp → Bool) → Expr X → BinaryOp → Bool
 expr_space kind space (exprs.Unary n) op = bang_space (kind n.arg.node.value) op n.op
 expr_space kind space (exprs.Update n) op = update_space n op
 expr_space kind space (exprs.Bin n) op = space n.left.node.value op
+expr_space kind space (exprs.Lit n) op = negative_space (lit_kind n) op
 expr_space kind space n op = false
 
 unfoldable pub node_space : {X : Type 0} → (X → OperandKind) → (X → BinaryOp → Bool) → AnyNode-F X → BinaryOp → Bool
@@ -98,10 +119,11 @@ node_space kind space n op = false
 unfoldable pub any_space : AnyNode → BinaryOp → Bool
 any_space = para-AnyNode (BinaryOp → Bool) (node_space (λ p. any_kind p.0) (λ p. p.1))
 
--- a blank is due between a sign and its operand: `- -a`, `+ ++a`
+-- a blank is due between a sign and its operand: `- -a`, `+ ++a`, `- -1`
 unfoldable pub operand_space : UnaryOp → OperandKind → Bool
 operand_space unary.Plus (kinds.Prefix update.PlusPlus) = true
 operand_space unary.Plus (kinds.Unary unary.Plus) = true
 operand_space unary.Minus (kinds.Prefix update.MinusMinus) = true
 operand_space unary.Minus (kinds.Unary unary.Minus) = true
+operand_space unary.Minus kinds.Negative = true
 operand_space op kind = false

@@ -111,7 +111,7 @@ impl<'a, W: WriteJs, S: SourceMapper, C: Comments> Emitter<'a, W, S, C> {
         ensures front { IsFront (W.sheet self.new.wr).text (printed (program any_items node.now) (state_of W.sheet self.old)).sheet.text }
         // It is refused only for the cause that the error names.
         ensures cause { IfErr result (λ error. HasCause (steps_in (program any_items node.now) (state_of W.sheet self.old)) (reason_of error) (state_of W.sheet self.old) (state_of W.sheet self.new)) }
-        // Where no name is made anew, and no call of the writer takes memory, none is wanting.
+        // Where no text is made anew, and no call of the writer takes memory, none is wanting.
         ensures no_memory { makes_text (steps_of (steps_in (program any_items node.now) (state_of W.sheet self.old))) ≡ false → (W.sheet self.old.wr).takes_memory ≡ false → result ≢ Err Error.OutOfMemory }
         // Where nothing stands in its way, it is made.
         ensures succeeds { IsUnhindered (steps_in (program any_items node.now) (state_of W.sheet self.old)) (state_of W.sheet self.old) (state_of W.sheet self.new) → IsOk result }
@@ -143,7 +143,7 @@ impl<'a, W: WriteJs, S: SourceMapper, C: Comments> Emitter<'a, W, S, C> {
         ensures front { IsFront (W.sheet self.new.wr).text (printed (script any_items node.now) (state_of W.sheet self.old)).sheet.text }
         // It is refused only for the cause that the error names.
         ensures cause { IfErr result (λ error. HasCause (steps_in (script any_items node.now) (state_of W.sheet self.old)) (reason_of error) (state_of W.sheet self.old) (state_of W.sheet self.new)) }
-        // Where no name is made anew, and no call of the writer takes memory, none is wanting.
+        // Where no text is made anew, and no call of the writer takes memory, none is wanting.
         ensures no_memory { makes_text (steps_of (steps_in (script any_items node.now) (state_of W.sheet self.old))) ≡ false → (W.sheet self.old.wr).takes_memory ≡ false → result ≢ Err Error.OutOfMemory }
         // Where nothing stands in its way, it is made.
         ensures succeeds { IsUnhindered (steps_in (script any_items node.now) (state_of W.sheet self.old)) (state_of W.sheet self.old) (state_of W.sheet self.new) → IsOk result }

@@ -2,11 +2,12 @@
 
 ghost use Rattle.std.specs.Prelude.{◌≡◌, Some, None, OnOk};
 ghost use Rattle.swc_ecma_codegen_base.specs.Run.{Emits};
-ghost use Rattle.swc_ecma_codegen.specs.Exprs.{ident, ident_name, this, unary_op, unary_gap, unary, update_parts, update, binary_op, before_op, after_op, bin_trailing, bin_opened, bin, computed_prop_name, member_prop, member, choice, seq, paren, expr_parts, is_inner, expr_closed, expr};
+ghost use Rattle.swc_ecma_codegen.specs.Exprs.{ident, ident_name, this, unary_op, unary_gap, unary, update_parts, update, binary_op, before_op, after_op, bin_trailing, bin_opened, bin, computed_prop_name, member_prop, object_place, member, choice, seq, paren, expr_parts, is_left_operand, leaves_comments, expr_closed, expr};
 ghost use Rattle.swc_ecma_codegen_util.specs.Starts.{is_word_op as is_word_unary};
 ghost use Rattle.swc_ecma_codegen.specs.View.{state_of};
 
 use crate::emitter::Emitter;
+use crate::lits::is_number_object;
 use crate::marks::{binary_mark, unary_mark, update_mark};
 use crate::nodes::{AskEnds, AskKind, AskSpace, AskStarts, Asked, EmitAt, Held, Place};
 use crate::operands::{is_word_op, operand_space, space_after};
@@ -21,14 +22,36 @@ use swc_ecma_codegen_tree::{
     SeqExpr, ThisExpr, UnaryExpr, UpdateExpr,
 };
 
-/// Whether it is an inner left operand, as `a + b` in `a + b + c`: its comments are left where they are.
-#[tactic(auto, unfolding(crate::specs::Exprs::is_inner))]
-fn is_inner<N>(node: &Expr<N>, place: Place) -> bool
-    ensures { result ≡ is_inner node.now place }
+/// Whether it is the place of a left operand.
+#[tactic(auto, unfolding(crate::specs::Exprs::is_left_operand))]
+fn is_left_operand(place: Place) -> bool
+    ensures { result ≡ is_left_operand place }
 {
-    match (node, place) {
-        (Expr::Bin(_), Place::LeftOperand) => true,
+    matches!(place, Place::LeftOperand)
+}
+
+/// Whether the comments after it are left where they are: those of an inner left operand, as `a + b` in `a + b + c`, and of
+/// a number that is an object, as `10` in `10..x`.
+#[tactic(auto, unfolding(crate::specs::Exprs::leaves_comments))]
+fn leaves_comments<N>(node: &Expr<N>, place: Place) -> bool
+    ensures { result ≡ leaves_comments node.now place }
+{
+    match node {
+        Expr::Bin(_) => is_left_operand(place),
+        Expr::Lit(lit) => is_number_object(lit, place),
         _ => false,
+    }
+}
+
+/// The place of the object before a property.
+#[tactic(auto, unfolding(crate::specs::Exprs::object_place))]
+fn object_place<N>(prop: &MemberProp<N>) -> Place
+    ensures { result ≡ object_place prop.now }
+{
+    match prop {
+        MemberProp::Ident(name) => Place::DottedObject(name.span.lo),
+        MemberProp::PrivateName(name) => Place::DottedObject(name.span.lo),
+        MemberProp::Computed(_) => Place::Object,
     }
 }
 
@@ -50,10 +73,11 @@ impl<N: Held> EmitAt for Expr<N> {
             Expr::Cond(node) => node.emit_at(e, place)?,
             Expr::Seq(node) => node.emit_at(e, place)?,
             Expr::Ident(node) => node.emit_at(e, place)?,
+            Expr::Lit(node) => node.emit_at(e, place)?,
             Expr::Paren(node) => node.emit_at(e, place)?,
             _ => e.unsupported()?,
         }
-        e.expr_closed(is_inner(self, place), expr_place(self))?;
+        e.expr_closed(leaves_comments(self, place), expr_place(self))?;
         Ok(())
     }
 }
@@ -68,7 +92,7 @@ impl<N: Held> EmitAt for MemberExpr<N> {
         place: Place,
     ) -> Answer {
         e.opened(self.span)?;
-        self.obj.held().emit_at(e, Place::Plain)?;
+        self.obj.held().emit_at(e, object_place(&self.prop))?;
         e.member_prop(&self.prop)?;
         e.end_of(self.span)?;
         Ok(())
@@ -243,13 +267,13 @@ impl EmitAt for IdentName {
 }
 
 impl<W: WriteJs, S: SourceMapper, C: Comments> Emitter<'_, W, S, C> {
-    /// Writes the comments after an expression.
+    /// Writes the comments after an expression, unless they are left where they are.
     #[tactic(auto, unfolding(crate::specs::Exprs::expr_closed))]
-    fn expr_closed(&mut self, inner: bool, span: Span) -> Answer
-        ensures items { Emits (expr_closed inner span) (state_of W.sheet self.old) (state_of W.sheet self.new) result }
+    fn expr_closed(&mut self, left: bool, span: Span) -> Answer
+        ensures items { Emits (expr_closed left span) (state_of W.sheet self.old) (state_of W.sheet self.new) result }
         ensures level { OnOk result ((W.sheet self.new.wr).indentation ≡ (W.sheet self.old.wr).indentation) }
     {
-        if inner {
+        if left {
             return Ok(());
         }
         self.trailing_comments(span.hi, true)
@@ -279,8 +303,8 @@ impl<W: WriteJs, S: SourceMapper, C: Comments> Emitter<'_, W, S, C> {
         ensures level { OnOk result ((W.sheet self.new.wr).indentation ≡ (W.sheet self.old.wr).indentation) }
     {
         match place {
-            Place::Plain => self.opened(span),
             Place::LeftOperand => Ok(()),
+            _ => self.opened(span),
         }
     }
 

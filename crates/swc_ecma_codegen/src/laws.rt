@@ -87,10 +87,11 @@ pub fn first_token_is_told(expr: &Expr) -> bool
     expr.starts_with_alpha_num()
 }
 
-/// Among the steps of an emission of a well-formed tree a name is made anew exactly where a name of the tree holds a
-/// backslash, over a writer that leaves out U+0000 after one: what the clauses `cause`, `no_memory` and `succeeds` of
-/// `emit_with` ask of memory.
+/// No step of an emission of a well-formed tree makes a text anew, in memory, where no name of the tree holds a backslash and
+/// no number, no big integer and no string stands in it, over a writer that leaves out U+0000 after one: what the clauses
+/// `cause`, `no_memory` and `succeeds` of `emit_with` ask of memory. Of a tree with such, these clauses speak of its steps:
+/// one takes memory where the text of a literal isn't its raw.
 #[tactic(auto, using(crate::proofs::TreeReads::root_remakes))]
-pub fn plain_names_take_no_memory()
-    ensures { (root : Root) (s : State) → is_well_formed_root root ≡ true → s.env.keeps_invalid ≡ false → makes_text (steps_of (steps_in (root_items root) s)) ≡ may_make_text (root_phrase root) }
+pub fn plain_trees_take_no_memory()
+    ensures { (root : Root) (s : State) → is_well_formed_root root ≡ true → s.env.keeps_invalid ≡ false → may_make_text (root_phrase root) ≡ false → makes_text (steps_of (steps_in (root_items root) s)) ≡ false }
 {}

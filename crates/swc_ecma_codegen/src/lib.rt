@@ -9,6 +9,7 @@ mod knot;
 pub mod laws;
 mod link_laws;
 mod lists;
+mod lits;
 mod marks;
 mod node;
 pub mod nodes;

@@ -44,7 +44,7 @@ pub trait Node: Spanned {
         ensures front { IsFront (W.sheet e.new.wr).text (printed (part self.now) (state_of W.sheet e.old)).sheet.text }
         // It is refused only for the cause that the error names.
         ensures cause { IfErr result (λ error. HasCause (steps_in (part self.now) (state_of W.sheet e.old)) (reason_of error) (state_of W.sheet e.old) (state_of W.sheet e.new)) }
-        // Where no name is made anew, and no call of the writer takes memory, none is wanting.
+        // Where no text is made anew, and no call of the writer takes memory, none is wanting.
         ensures no_memory { makes_text (steps_of (steps_in (part self.now) (state_of W.sheet e.old))) ≡ false → (W.sheet e.old.wr).takes_memory ≡ false → result ≢ Err Error.OutOfMemory }
         // Where nothing stands in its way, it is made.
         ensures succeeds { IsUnhindered (steps_in (part self.now) (state_of W.sheet e.old)) (state_of W.sheet e.old) (state_of W.sheet e.new) → IsOk result }

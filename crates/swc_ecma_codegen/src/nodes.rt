@@ -10,7 +10,7 @@ use crate::emitter::Emitter;
 use crate::operands::OperandKind;
 use swc_ecma_codegen_ast::comments::Comments;
 use swc_ecma_codegen_ast::mapper::SourceMapper;
-use swc_ecma_codegen_common::{Answer, BinaryOp, Span};
+use swc_ecma_codegen_common::{Answer, BinaryOp, BytePos, Span};
 use swc_ecma_codegen_text_writer::WriteJs;
 
 /// Where a node stands in the one above it.
@@ -20,6 +20,10 @@ pub enum Place {
     Plain,
     /// The left operand of a binary operator: `a + b` in `a + b + c`.
     LeftOperand,
+    /// The object of a property in brackets: `1` in `1[a]`.
+    Object,
+    /// The object of a property after a dot, and where the property stands: `1` in `1..a`.
+    DottedObject(BytePos),
 }
 
 /// What a node tells those above it.

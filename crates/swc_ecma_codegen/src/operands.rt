@@ -3,12 +3,12 @@
 ghost use Rattle.std.specs.Prelude.{◌≡◌, Bool};
 ghost use Rattle.swc_ecma_codegen_common.specs.declared.operators.BinaryOp.{BinaryOp as Op};
 ghost use Rattle.swc_ecma_codegen.specs.declared.operands.OperandKind.{OperandKind as Kind};
-ghost use Rattle.swc_ecma_codegen.specs.Operands.{update_kind, expr_kind, any_kind, is_word_op, begins_greater, is_less, space_after, sign_repeats, update_repeats, is_decrement, bang_space, update_space, expr_space, any_space, operand_space};
+ghost use Rattle.swc_ecma_codegen.specs.Operands.{update_kind, is_negative, lit_kind, expr_kind, any_kind, is_word_op, begins_greater, is_less, space_after, sign_repeats, update_repeats, is_decrement, bang_space, update_space, negative_space, expr_space, any_space, operand_space};
 
 use swc_ecma_codegen_common::{BinaryOp, UnaryOp, UpdateOp};
-use swc_ecma_codegen_tree::{AnyNode, Expr, UpdateExpr};
+use swc_ecma_codegen_tree::{AnyNode, Expr, Lit, NumberValue, UpdateExpr};
 
-/// An operand, by its operator.
+/// An operand, by its operator or its sign.
 #[derive(Debug, Clone, Copy, PartialEq, Eq)]
 pub enum OperandKind {
     /// `typeof a`
@@ -17,15 +17,17 @@ pub enum OperandKind {
     Prefix(UpdateOp),
     /// `a++`
     Postfix(UpdateOp),
+    /// `-1` as one number.
+    Negative,
     /// Any other expression.
     Other,
 }
 
-/// What tells its operator.
+/// What tells its operator or its sign.
 pub trait Operand {
     ghost kind: { Self → Kind };
 
-    /// Its operator.
+    /// Its operator or its sign.
     fn operand_kind(&self) -> OperandKind
         ensures { result ≡ kind self.now };
 }
@@ -50,6 +52,28 @@ fn kind_of_update<N>(node: &UpdateExpr<N>) -> OperandKind
     }
 }
 
+/// Whether a number has a sign, as `-1` and `-0`.
+#[tactic(auto, unfolding(crate::specs::Operands::is_negative))]
+fn is_negative(value: &NumberValue) -> bool
+    ensures { result ≡ is_negative value.now }
+{
+    match value {
+        NumberValue::Finite(number) => number.negative(),
+        NumberValue::NegInfinity => true,
+        NumberValue::Infinity | NumberValue::NaN => false,
+    }
+}
+
+#[tactic(auto, unfolding(crate::specs::Operands::lit_kind))]
+fn kind_of_lit(node: &Lit) -> OperandKind
+    ensures { result ≡ lit_kind node.now }
+{
+    match node {
+        Lit::Num(number) if is_negative(&number.value) => OperandKind::Negative,
+        _ => OperandKind::Other,
+    }
+}
+
 impl<N: Operand> Operand for Expr<N> {
     ghost kind = { expr_kind N.kind };
 
@@ -58,6 +82,7 @@ impl<N: Operand> Operand for Expr<N> {
         match self {
             Expr::Unary(node) => OperandKind::Unary(node.op),
             Expr::Update(node) => kind_of_update(node),
+            Expr::Lit(node) => kind_of_lit(node),
             _ => OperandKind::Other,
         }
     }
@@ -164,6 +189,17 @@ fn bang_space(arg: OperandKind, op: BinaryOp, sign: UnaryOp) -> bool
     }
 }
 
+/// Whether a blank is due between an operator and the sign of a number: `a- -1`
+#[tactic(auto, unfolding(crate::specs::Operands::negative_space))]
+fn negative_space(kind: OperandKind, op: BinaryOp) -> bool
+    ensures { result ≡ negative_space kind op }
+{
+    match kind {
+        OperandKind::Negative => sign_repeats(op, UnaryOp::Minus),
+        _ => false,
+    }
+}
+
 impl<N: SpaceBefore> SpaceBefore for Expr<N> {
     ghost space = { expr_space N.kind N.space };
 
@@ -173,6 +209,7 @@ impl<N: SpaceBefore> SpaceBefore for Expr<N> {
             Expr::Unary(node) => bang_space(node.arg.held().operand_kind(), op, node.op),
             Expr::Update(node) => node.prefix && update_repeats(op, node.op),
             Expr::Bin(node) => node.left.held().require_space_before(op),
+            Expr::Lit(node) => negative_space(kind_of_lit(node), op),
             _ => false,
         }
     }
@@ -190,7 +227,7 @@ impl SpaceBefore for AnyNode {
     }
 }
 
-/// Whether a blank is due between a sign and its operand: `- -a`. swc's `should_emit_whitespace_before_operand`.
+/// Whether a blank is due between a sign and its operand: `- -a`, `- -1`. swc's `should_emit_whitespace_before_operand`.
 #[tactic(auto, unfolding(crate::specs::Operands::operand_space))]
 pub(crate) fn operand_space(op: UnaryOp, arg: OperandKind) -> bool
     ensures { result ≡ operand_space op arg }
@@ -200,6 +237,7 @@ pub(crate) fn operand_space(op: UnaryOp, arg: OperandKind) -> bool
         (UnaryOp::Plus, OperandKind::Unary(UnaryOp::Plus)) => true,
         (UnaryOp::Minus, OperandKind::Prefix(UpdateOp::MinusMinus)) => true,
         (UnaryOp::Minus, OperandKind::Unary(UnaryOp::Minus)) => true,
+        (UnaryOp::Minus, OperandKind::Negative) => true,
         _ => false,
     }
 }

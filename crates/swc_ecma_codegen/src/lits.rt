@@ -1,0 +1,161 @@
+//! Literals.
+//!
+//! Calls of the lower emitter that spell a text are never inlined: each needs more of the stack than others, which would be
+//! part of the frames that are there once for each level of a tree.
+
+ghost use Rattle.std.specs.Prelude.{◌≡◌, OnOk};
+ghost use Rattle.swc_ecma_codegen_base.specs.Run.{Emits};
+ghost use Rattle.swc_ecma_codegen_base.specs.Lits.{str_lit, bool_lit, null_lit, number_lit, number_object, big_int_lit, regex_lit, lit};
+ghost use Rattle.swc_ecma_codegen.specs.Lits.{lit_at, is_object, is_number_object};
+ghost use Rattle.swc_ecma_codegen.specs.View.{state_of};
+
+use crate::emitter::Emitter;
+use crate::nodes::{EmitAt, Place};
+use swc_ecma_codegen_ast::comments::Comments;
+use swc_ecma_codegen_ast::mapper::SourceMapper;
+use swc_ecma_codegen_common::{Answer, BytePos};
+use swc_ecma_codegen_text_writer::WriteJs;
+use swc_ecma_codegen_tree::{BigInt, Bool, Lit, Null, Number, Regex, Str};
+
+/// Whether it is the place of a member's object.
+#[tactic(auto, unfolding(crate::specs::Lits::is_object))]
+fn is_object(place: Place) -> bool
+    ensures { result ≡ is_object place }
+{
+    match place {
+        Place::Object | Place::DottedObject(_) => true,
+        Place::Plain | Place::LeftOperand => false,
+    }
+}
+
+/// Whether it is a number that is an object, as `10` of `10..x`.
+#[tactic(auto, unfolding(crate::specs::Lits::is_number_object))]
+pub(crate) fn is_number_object(node: &Lit, place: Place) -> bool
+    ensures { result ≡ is_number_object node.now place }
+{
+    match node {
+        Lit::Num(_) => is_object(place),
+        _ => false,
+    }
+}
+
+impl EmitAt for Lit {
+    ghost items = { lit_at };
+
+    #[tactic(auto, unfolding(crate::specs::Lits::lit_at))]
+    fn emit_at<W: WriteJs, S: SourceMapper, C: Comments>(
+        &self,
+        e: &mut Emitter<'_, W, S, C>,
+        place: Place,
+    ) -> Answer {
+        match (self, place) {
+            (Lit::Num(node), Place::Object) => e.number_lit(node),
+            (Lit::Num(node), Place::DottedObject(prop)) => e.number_object(node, prop),
+            (Lit::JSXText(_), _) => e.unsupported(),
+            _ => e.lit(self),
+        }
+    }
+}
+
+impl EmitAt for Str {
+    ghost items = { λ n _. str_lit n };
+
+    fn emit_at<W: WriteJs, S: SourceMapper, C: Comments>(
+        &self,
+        e: &mut Emitter<'_, W, S, C>,
+        place: Place,
+    ) -> Answer {
+        e.lower.str_lit(&e.cfg, &e.comments, &mut e.wr, self)
+    }
+}
+
+impl EmitAt for Bool {
+    ghost items = { λ n _. bool_lit n };
+
+    fn emit_at<W: WriteJs, S: SourceMapper, C: Comments>(
+        &self,
+        e: &mut Emitter<'_, W, S, C>,
+        place: Place,
+    ) -> Answer {
+        e.lower.bool_lit(&e.cfg, &mut e.wr, self)
+    }
+}
+
+impl EmitAt for Null {
+    ghost items = { λ n _. null_lit n };
+
+    fn emit_at<W: WriteJs, S: SourceMapper, C: Comments>(
+        &self,
+        e: &mut Emitter<'_, W, S, C>,
+        place: Place,
+    ) -> Answer {
+        e.lower.null_lit(&e.cfg, &mut e.wr, self)
+    }
+}
+
+impl EmitAt for Number {
+    ghost items = { λ n _. number_lit n };
+
+    fn emit_at<W: WriteJs, S: SourceMapper, C: Comments>(
+        &self,
+        e: &mut Emitter<'_, W, S, C>,
+        place: Place,
+    ) -> Answer {
+        e.number_lit(self)
+    }
+}
+
+impl EmitAt for BigInt {
+    ghost items = { λ n _. big_int_lit n };
+
+    fn emit_at<W: WriteJs, S: SourceMapper, C: Comments>(
+        &self,
+        e: &mut Emitter<'_, W, S, C>,
+        place: Place,
+    ) -> Answer {
+        e.lower.big_int_lit(&e.cfg, &e.comments, &mut e.wr, self)
+    }
+}
+
+impl EmitAt for Regex {
+    ghost items = { λ n _. regex_lit n };
+
+    fn emit_at<W: WriteJs, S: SourceMapper, C: Comments>(
+        &self,
+        e: &mut Emitter<'_, W, S, C>,
+        place: Place,
+    ) -> Answer {
+        e.lower.regex_lit(&e.cfg, &mut e.wr, self)
+    }
+}
+
+impl<W: WriteJs, S, C: Comments> Emitter<'_, W, S, C> {
+    /// Writes a literal.
+    #[inline(never)]
+    fn lit(&mut self, node: &Lit) -> Answer
+        ensures items { Emits (lit node.now) (state_of W.sheet self.old) (state_of W.sheet self.new) result }
+        ensures level { OnOk result ((W.sheet self.new.wr).indentation ≡ (W.sheet self.old.wr).indentation) }
+    {
+        self.lower.lit(&self.cfg, &self.comments, &mut self.wr, node)
+    }
+
+    /// Writes a number.
+    #[inline(never)]
+    fn number_lit(&mut self, node: &Number) -> Answer
+        ensures items { Emits (number_lit node.now) (state_of W.sheet self.old) (state_of W.sheet self.new) result }
+        ensures level { OnOk result ((W.sheet self.new.wr).indentation ≡ (W.sheet self.old.wr).indentation) }
+    {
+        self.lower.number_lit(&self.cfg, &self.comments, &mut self.wr, node)
+    }
+
+    /// Writes a number before the dot of a property, which stands at `prop`: with a dot of its own, where the other one would
+    /// be its.
+    #[inline(never)]
+    fn number_object(&mut self, node: &Number, prop: BytePos) -> Answer
+        ensures items { Emits (number_object node.now prop) (state_of W.sheet self.old) (state_of W.sheet self.new) result }
+        ensures level { OnOk result ((W.sheet self.new.wr).indentation ≡ (W.sheet self.old.wr).indentation) }
+    {
+        self.lower
+            .number_object(&self.cfg, &self.comments, &mut self.wr, node, prop)
+    }
+}
