@@ -39,7 +39,7 @@ pub trait Node: Spanned {
         // Each position that is recorded holds the place that the text had reached, and none is recorded twice.
         ensures recorded { OnOk result (RecordsTruly (W.sheet e.old.wr) (W.sheet e.new.wr)) }
         // Where positions are kept, each name of a well-formed tree has its own where it begins, unless that is 0.
-        ensures names { (root : Root) → part self.now ≡ root_items root → is_well_formed_root root ≡ true → (W.sheet e.old.wr).keeps_positions ≡ true → (W.sheet e.old.wr).keeps_invalid ≡ false → OnOk result (RecordsNames (names_in (root_phrase root)) (W.sheet e.old.wr) (W.sheet e.new.wr)) }
+        ensures names { (root : Root) → part self.now ≡ root_items root → is_well_formed_root root ≡ true → (W.sheet e.old.wr).keeps_positions ≡ true → (W.sheet e.old.wr).keeps_invalid ≡ false → OnOk result (RecordsNames e.old.cfg (names_in (root_phrase root)) (W.sheet e.old.wr) (W.sheet e.new.wr)) }
         // What is out is a beginning of the text of these steps.
         ensures front { IsFront (W.sheet e.new.wr).text (printed (part self.now) (state_of W.sheet e.old)).sheet.text }
         // It is refused only for the cause that the error names.
@@ -49,7 +49,7 @@ pub trait Node: Spanned {
         // Where nothing stands in its way, it is made.
         ensures succeeds { IsUnhindered (steps_in (part self.now) (state_of W.sheet e.old)) (state_of W.sheet e.old) (state_of W.sheet e.new) → IsOk result }
         // Where it is ready, and the writer counts no fault, a plain tree is printed.
-        ensures made { (root : Root) → part self.now ≡ root_items root → IsPlainTree (root_phrase root) (W.sheet e.old.wr).indentation → IsReady (state_of W.sheet e.old) → (W.sheet e.new.wr).faults ≡ (W.sheet e.old.wr).faults → IsOk result }
+        ensures made { (root : Root) → part self.now ≡ root_items root → IsPlainTree e.old.cfg (root_phrase root) (W.sheet e.old.wr).indentation → IsReady (state_of W.sheet e.old) → (W.sheet e.new.wr).faults ≡ (W.sheet e.old.wr).faults → IsOk result }
         // It is ready again for the next.
         ensures ready { OnOk result (IsReady (state_of W.sheet e.old) → IsReady (state_of W.sheet e.new)) }
         ensures marked { OnErr result ((state_of W.sheet e.new).failed ≡ true) }

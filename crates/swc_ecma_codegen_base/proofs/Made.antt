@@ -1,8 +1,9 @@
 -- When an emission of a tree is made, and what is left after it.
 use Rattle.std.proofs.Common.{◌≡◌, ◌+◌, ◌^◌, ◌<◌, true, false, cond, if◌then◌else◌, inl, inr, List, [], ◌∷◌, ◌++◌, length, length-append, Result, Ok, Err, None, Option, Some, OnOk, IsOk, refl, sym, ap, ◌∙◌, subst, arith}
-use Rattle.std.proofs.lemmas.Bool.{cases_Bool, or_from, true≢false}
+use Rattle.std.proofs.lemmas.Bool.{cases_Bool, or_from, true_from_ne_false, true≢false}
 use Rattle.swc_ecma_codegen_common.specs.declared.errors.Error.{Error}
 use Rattle.swc_ecma_codegen_common.specs.declared.errors.Refusal.{Refusal}
+use Rattle.swc_ecma_codegen_common.specs.declared.errors.Refusal.TheVariants as refusals
 use Rattle.swc_ecma_codegen_common.specs.Refusals.{in_short}
 use Rattle.swc_ecma_codegen_base.specs.declared.refusals.Unprintable.{Unprintable}
 use Rattle.swc_ecma_codegen_text_writer.proofs.Sheets.{effect_refused, effect_faults, effect_takes_memory, effect_keeps_positions}
@@ -10,12 +11,12 @@ use Rattle.swc_ecma_codegen_ast.specs.Tokens.{Token as LexicalToken}
 use Rattle.swc_ecma_codegen_ast.specs.Phrases.{Phrase, Never, Nothing, One, NameOf, Then, Generates, is_possible}
 use Rattle.swc_ecma_codegen_base.specs.declared.refusals.Unprintable.TheVariants.{NameOutOfTarget}
 use Rattle.swc_ecma_codegen_base.specs.Targets.{is_out}
-use Rattle.swc_ecma_codegen_base.specs.Run.{Env, Plan, Part, Step, State, run, steps_of, unprintable_in, nothing, Follows, PassesLimit, IsUnhindered, earlier, stopped, reached}
+use Rattle.swc_ecma_codegen_base.specs.Run.{Env, Plan, Part, Step, State, run, steps_of, unprintable_in, nothing, Follows, HasCause, PassesLimit, IsUnhindered, earlier, stopped, reached}
 use Rattle.swc_ecma_codegen_base.specs.Ready.{token_count, IsPlainTree, IsReady}
 use Rattle.swc_ecma_codegen_base.proofs.Emitting.{put_failed, put_env}
-use Rattle.swc_ecma_codegen_base.proofs.Fronts.{run_sheet, follows_succeeds}
+use Rattle.swc_ecma_codegen_base.proofs.Fronts.{run_sheet, follows_cause, follows_succeeds}
 use Rattle.swc_ecma_codegen_base.proofs.Levels.{levels, stays_within}
-use Rattle.swc_ecma_codegen_base.proofs.Phrased.{Prints, steps_of_chain, goes_on, printed_remakes}
+use Rattle.swc_ecma_codegen_base.proofs.Phrased.{Prints, steps_of_chain, goes_on, made_not_out, printed_remakes}
 use Rattle.swc_ecma_codegen_base.proofs.Targets.{plain_not_out}
 
 -- each list of a phrase has as many tokens
@@ -42,6 +43,19 @@ ends_where_out p f env prints w = elim (cases_Bool (is_out env.config f)) [
   | inl o ↦ prints.where_out w o nothing ∙ ap (λ b. cond b (Some NameOutOfTarget) None) (sym o)
   | inr o ↦ printable p f env prints w o ∙ ap (λ b. cond b (Some NameOutOfTarget) None) (sym o)
 ]
+
+-- so where it was made, all could
+pub follows_in_target : (p : Part) (f : Phrase) (a b : State) (r : Result (Unit {0}) Refusal) → Prints a.env p f → is_possible f ≡ true → Follows (p nothing) a b r → OnOk r (is_out a.env.config f ≡ false)
+unfolding Follows
+follows_in_target p f a b (Ok u) prints w h = made_not_out p f a.env prints w h.0
+follows_in_target p f a b (Err e) prints w h = tt
+
+-- and where a name was refused, some couldn't
+pub follows_out_of_target : (p : Part) (f : Phrase) (a b : State) → Prints a.env p f → is_possible f ≡ true → Follows (p nothing) a b (Err refusals.NameOutOfTarget) → is_out a.env.config f ≡ true
+unfolding HasCause
+follows_out_of_target p f a b prints w h =
+    let k = (follows_cause (p nothing) a b (Err refusals.NameOutOfTarget) h).refusal in
+    true_from_ne_false (is_out a.env.config f) (λ o. let z = sym k ∙ printable p f a.env prints w o in absurd (cc))
 
 -- and with room for as many levels as tokens it comes to no limit
 pub within : (p : Part) (f : Phrase) (a : State) → Prints a.env p f → is_possible f ≡ true → is_out a.env.config f ≡ false → a.sheet.indentation + token_count f < 2 ^ 32 → PassesLimit (steps_of (p nothing a.env)) a → ⊥
