@@ -8,7 +8,7 @@ pub returns-then-self-clause-items : goal.returns-then-self-clause-items
 returns-then-self-clause-items g c = λ rest. emits_failed _ _ c.if-self.true
 
 pub returns-in-Ok-clause-items : goal.returns-in-Ok-clause-items
-returns-in-Ok-clause-items g c = spelled_in_ascii _ _ _ _ _ _ c.requires c.in-Ok.ensures.out_of_target (c.deref.ensures ∙ c.in-Ok.ensures.exactly) c.symbol-in-Ok.ensures.items
+returns-in-Ok-clause-items g c = spelled_in_ascii _ _ _ _ _ _ c.requires c.in-Ok.ensures.out_of_target (c.deref.ensures ∙ c.in-Ok.ensures.exactly) c.symbol.ensures.items
 
 pub returns-in-Err-clause-items : goal.returns-in-Err-clause-items
 returns-in-Err-clause-items g c =
