@@ -3,6 +3,8 @@ pub mod Short
 pub mod Targets
 pub mod Calls
 pub mod Spelled
+pub mod Anew
+pub mod RawTexts
 pub mod Fronts
 pub mod Levels
 pub mod Strangers
@@ -21,3 +23,11 @@ pub mod LiteralParts
 pub mod Phrased
 pub mod SoFar
 pub mod Made
+pub mod OwnDots
+pub mod LitTexts
+pub mod Remade
+pub mod LitPrints
+pub mod StringPrints
+pub mod NumberPrints
+pub mod BigPrints
+pub mod EachLit

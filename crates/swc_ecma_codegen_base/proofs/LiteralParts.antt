@@ -60,7 +60,7 @@ literal_lays : (kind : Kind) (span : Span) (t : List ℕ) (s : State) → Spelle
 unfolding put effect text_of owns tokens_of after_tokens
 literal_lays kind span t s p r = lays_guarded ((kind, t) ∷ []) t t s _ (spelled_one kind t p) refl r (literal_adds span t (settled (put (Guard t) s).sheet) p.some) refl
 
-literal_token : (env : Env) (kind : Kind) (span : Span) (t : List ℕ) → Spelled kind t → Writes env (λ rest. step (Guard t) (step (Token kind (StrLit span t)) rest)) (token_of kind (spelling kind t) ∷ [])
+pub literal_token : (env : Env) (kind : Kind) (span : Span) (t : List ℕ) → Spelled kind t → Writes env (λ rest. step (Guard t) (step (Token kind (StrLit span t)) rest)) (token_of kind (spelling kind t) ∷ [])
 unfolding makes_text levels rise
 literal_token env kind span t p = writes_two env (Guard t) (Token kind (StrLit span t)) _ (λ s r. literal_lays kind span t s p r) (omega arith)
 

@@ -7,7 +7,7 @@ use Rattle.swc_ecma_codegen_common.specs.declared.errors.Error.TheVariants as er
 use Rattle.swc_ecma_codegen_common.specs.declared.errors.Refusal.{Refusal}
 use Rattle.swc_ecma_codegen_common.specs.Refusals.{in_short}
 use Rattle.swc_ecma_codegen_common.specs.declared.positions.Span.{Span}
-use Rattle.swc_ecma_codegen_ast.specs.declared.kinds.Kind.TheVariants.{Word, Name, Punctuator, Ending}
+use Rattle.swc_ecma_codegen_ast.specs.declared.kinds.Kind.TheVariants.{Word, Name, Punctuator}
 use Rattle.swc_ecma_codegen_ast.specs.Tokens as lexical
 use Rattle.swc_ecma_codegen_ast.specs.Tokens.{token_of, value_of}
 use Rattle.swc_ecma_codegen_ast.specs.Names.{is_word, is_name}
@@ -45,7 +45,7 @@ use Rattle.swc_ecma_codegen_base.proofs.Spelled.{valid_same, spelled_same, out_s
 use Rattle.swc_ecma_codegen_base.proofs.Positions.{Named, named_none, named_then, named_records, name_named, name_steps, name_call, run_records}
 use Rattle.swc_ecma_codegen_base.proofs.Targets.{Names, names_in_ascii, plain_not_out}
 use Rattle.swc_ecma_codegen_base.proofs.Written.{Lays, held, held_of, tokens_append, Spelled, spelled_word, spelled_name, spelled_mark}
-use Rattle.swc_ecma_codegen_base.proofs.Printed.{chain, Makes, Writes, writes_whatever, writes_then, writes_same, writes_nothing, writes_keyword, writes_operator, writes_word_operator, writes_punct, writes_semi, writes_commit, writes_leading, writes_name_text}
+use Rattle.swc_ecma_codegen_base.proofs.Printed.{chain, or_false, Makes, Writes, writes_whatever, writes_then, writes_same, writes_nothing, writes_keyword, writes_operator, writes_word_operator, writes_punct, writes_semi, writes_commit, writes_leading, writes_name_text}
 
 -- ---- the steps of a part
 
@@ -70,7 +70,7 @@ steps_then {env} h q =
 unfoldable pub NamedBy : Env → Part → List (BytePos × List ℕ) → Type 0
 NamedBy env p names = (s : State) → s.sheet.keeps_positions ≡ true → Named env.config names s.sheet (run (steps_of (p nothing env)) s).sheet
 
-no_names : (env : Env) (p : Part) → NamedBy env p []
+pub no_names : (env : Env) (p : Part) → NamedBy env p []
 unfolding NamedBy
 no_names env p s k = named_none env.config s.sheet _ (run_records (steps_of (p nothing env)) s)
 
@@ -140,10 +140,6 @@ after {env} {q} {p} {f} k h = record {
   where_out = λ w o rest. goes_on k (p rest) ∙ h.where_out w o rest;
 }
 
-pub or_false : (b : Bool) → (b || false) ≡ b
-or_false true = refl
-or_false false = refl
-
 pub before : {env : Env} {p q : Part} {f : Phrase} → Prints env p f → Writes env q [] → Prints env (λ rest. p (q rest)) f
 before {env} {p} {q} {f} h k = record {
   where_possible = λ w o.
@@ -209,7 +205,7 @@ prints_word : (env : Env) (p : Part) (t : List ℕ) → IsWord t → Writes env 
 unfolding token_of value_of spelling lexical.word
 prints_word env p t w h = subst (λ z. Prints env p (phrases.word z)) w.ascii (prints_one env p _ h)
 
-prints_mark : (env : Env) (p : Part) (t : List ℕ) → Writes env p (token_of Punctuator (spelling Punctuator t) ∷ []) → Prints env p (mark t)
+pub prints_mark : (env : Env) (p : Part) (t : List ℕ) → Writes env p (token_of Punctuator (spelling Punctuator t) ∷ []) → Prints env p (mark t)
 unfolding token_of value_of spelling lexical.punctuator
 prints_mark env p t h = prints_one env p _ h
 

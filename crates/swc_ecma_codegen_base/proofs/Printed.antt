@@ -17,7 +17,7 @@ use Rattle.swc_ecma_codegen_base.proofs.Emitting.{minified_same, pretty_same}
 use Rattle.swc_ecma_codegen_base.proofs.Fronts.{run_append}
 use Rattle.swc_ecma_codegen_base.proofs.Levels.{levels, rise, levels_append}
 use Rattle.swc_ecma_codegen_base.proofs.Spelled.{valid_same, spelled_same}
-use Rattle.swc_ecma_codegen_base.proofs.Written.{Lays, lays_then, lays_nothing, lays_blank, lays_line, lays_commit, lays_position, lays_token, lays_punct, lays_semi, lays_placed, Spelled, spelled_ending, own_put, punct_put, semi_put}
+use Rattle.swc_ecma_codegen_base.proofs.Written.{Lays, lays_then, lays_nothing, lays_blank, lays_line, lays_commit, lays_position, lays_token, lays_punct, lays_semi, lays_placed, Spelled, own_put, punct_put, semi_put}
 
 -- some steps, and then more
 unfoldable pub chain : List Step → Steps → Steps
@@ -45,9 +45,9 @@ or_assoc : (a b c : Bool) → (a || (b || c)) ≡ ((a || b) || c)
 or_assoc true b c = refl
 or_assoc false b c = refl
 
-or_no : (a : Bool) → (a || false) ≡ a
-or_no true = refl
-or_no false = refl
+pub or_false : (b : Bool) → (b || false) ≡ b
+or_false true = refl
+or_false false = refl
 
 remakes_append : (xs ys : List Step) → makes_text (xs ++ ys) ≡ (makes_text xs || makes_text ys)
 unfolding makes_text
@@ -97,6 +97,11 @@ writes_nothing env = record { steps = []; is_steps = λ rest. refl; lays = λ s 
 pub writes_step : (env : Env) (x : Step) (ts : List lexical.Token) → ((s : State) → AtRest s → Lays ts s (put x s)) → levels (x ∷ []) ≤ length ts → Makes env (step x) ts (makes_text (x ∷ []))
 unfolding step chain run
 writes_step env x ts h k = record { steps = x ∷ []; is_steps = λ rest. refl; lays = h; remakes = λ e. e; deep = k }
+
+-- a text is made anew, where that is due
+pub writes_remake : (env : Env) (due : Bool) → Makes env (step (Remake due)) [] due
+unfolding put makes_text levels
+writes_remake env due = subst (λ z. Makes env (step (Remake due)) [] z) (or_false due) (writes_step env (Remake due) [] (λ s r. lays_nothing s r) (omega arith))
 
 -- two steps
 pub writes_two : (env : Env) (x y : Step) (ts : List lexical.Token) → ((s : State) → AtRest s → Lays ts s (put y (put x s))) → levels (x ∷ y ∷ []) ≤ length ts → Makes env (λ rest. step x (step y rest)) ts (makes_text (x ∷ y ∷ []))
@@ -203,21 +208,16 @@ pub writes_symbol : (env : Env) (span : Span) (t : List ℕ) → Spelled Name t 
 unfolding symbol position
 writes_symbol env span t p = symbol_at env span.lo (span.lo.0 == 0) t p
 
--- a text that is made anew, where that is due, and then a part
-writes_remade : (env : Env) (due : Bool) (p : Part) (ts : List lexical.Token) {b : Bool} → Makes env p ts b → Makes env (λ rest. step (Remake due) (p rest)) ts (due || b)
-unfolding put makes_text levels
-writes_remade env due p ts {b} h =
-    subst (λ z. Makes env (λ rest. step (Remake due) (p rest)) ts (z || b)) (or_no due) (writes_then env (step (Remake due)) p [] ts (writes_step env (Remake due) [] (λ s r. lays_nothing s r) (omega arith)) h)
-
 writes_spelled_symbol : (env : Env) (span : Span) (t : List ℕ) → is_out_name env.config t ≡ false → Spelled Name (in_ascii env.config t) → Makes env (spelled_symbol span t) (token_of Name (spelling Name (in_ascii env.config t)) ∷ []) (is_escaped env.config t)
 writes_spelled_symbol env span t o p =
     let u : List ℕ = in_ascii env.config t in
     let due : Bool = is_escaped env.config t in
     writes_same env (spelled_symbol span t) (λ rest. step (Remake due) (symbol span u rest)) _ (λ rest. spelled_same span t rest env o)
-    (subst (λ z. Makes env (λ rest. step (Remake due) (symbol span u rest)) (token_of Name (spelling Name u) ∷ []) z) (or_no due) (writes_remade env due (symbol span u) _ (writes_symbol env span u p)))
+    (subst (λ z. Makes env (λ rest. step (Remake due) (symbol span u rest)) (token_of Name (spelling Name u) ∷ []) z) (or_false due)
+    (writes_then env (step (Remake due)) (symbol span u) [] _ (writes_remake env due) (writes_symbol env span u p)))
 
 pub writes_name_text : (env : Env) (span : Span) (bytes : List ℕ) → env.keeps_invalid ≡ false → is_out_name env.config (turned bytes) ≡ false → Spelled Name (written_name env.config bytes) → Makes env (name_text span bytes) (token_of Name (spelling Name (written_name env.config bytes)) ∷ []) (has_backslash bytes || is_escaped env.config (turned bytes))
 unfolding valid_symbol written_name
 writes_name_text env span bytes e o p =
     writes_same env (name_text span bytes) (valid_symbol span bytes) _ (λ rest. valid_same span bytes rest env e)
-    (writes_remade env (has_backslash bytes) (spelled_symbol span (turned bytes)) _ (writes_spelled_symbol env span (turned bytes) o p))
+    (writes_then env (step (Remake (has_backslash bytes))) (spelled_symbol span (turned bytes)) [] _ (writes_remake env (has_backslash bytes)) (writes_spelled_symbol env span (turned bytes) o p))

@@ -1,5 +1,5 @@
 -- After a call the text reads as the tokens so far and those of the call, whatever follows that doesn't fuse.
-use Rattle.std.proofs.Common.{◌≡◌, ℕ, Bool, true, false, ◌&&◌, cond, List, [], ◌∷◌, ◌++◌, codes, refl, sym, ap, ◌∙◌, subst, append_assoc, append-nil, inl, inr, Option, None, Ok}
+use Rattle.std.proofs.Common.{◌≡◌, ℕ, Bool, true, false, ◌&&◌, cond, List, [], ◌∷◌, ◌++◌, codes, refl, sym, ap, ◌∙◌, subst, append_assoc, append-nil, inl, Option, None, Ok}
 use Rattle.std.specs.Str.{chars}
 use Rattle.std.proofs.lemmas.Str.{chars-nil, chars-append, IsUtf8-nil, IsUtf8-append}
 use Rattle.swc_ecma_codegen_common.specs.declared.positions.BytePos.{BytePos}
@@ -65,6 +65,17 @@ one_so_far part x old tokens a b prints e h =
     let p = prints.where_possible refl refl in
     subst (λ z. ReadsSoFar old (tokens ++ z) b) p.generated (emitted_so_far part old tokens p.tokens a b p.writes e h)
 
+-- a part that was made comes to its end
+emitted_ends : (part : Part) (a b : State) → Emits part a b (Ok tt) → unprintable_in (part nothing a.env) ≡ None
+unfolding Follows
+emitted_ends part a b e = (e nothing b (Ok tt) (emits_nothing b)).0
+
+-- a part that writes one of the token lists of a phrase
+pub phrase_so_far : (part : Part) (f : Phrase) (old : List ℕ) (tokens : List lexical.Token) (a b : State) → Prints a.env part f → is_possible f ≡ true → Emits part a b (Ok tt) → ReadsSoFar old tokens a → (ts : List lexical.Token) × Generates f ts × ReadsSoFar old (tokens ++ ts) b
+phrase_so_far part f old tokens a b prints w e h =
+    let p = prints.where_possible w (made_not_out part f a.env prints w (emitted_ends part a b e)) in
+    (p.tokens, p.generated, emitted_so_far part old tokens p.tokens a b p.writes e h)
+
 pub keyword_so_far : (span : Option Span) (t old : List ℕ) (tokens : List lexical.Token) (a b : State) → IsWord t → Emits (keyword span t) a b (Ok tt) → ReadsSoFar old tokens a → ReadsSoFar old (tokens ++ lexical.word t ∷ []) b
 keyword_so_far span t old tokens a b w e h = one_so_far (keyword span t) (lexical.word t) old tokens a b (prints_keyword a.env span t w) e h
 
@@ -91,17 +102,10 @@ unfolding is_possible
 name_possible at bytes true w = ap (λ z. z && true) w
 name_possible at bytes false w = ap (λ z. z && true) w
 
--- a part that was made comes to its end
-emitted_ends : (part : Part) (a b : State) → Emits part a b (Ok tt) → unprintable_in (part nothing a.env) ≡ None
-unfolding Follows
-emitted_ends part a b e = (e nothing b (Ok tt) (emits_nothing b)).0
-
 pub name_so_far : (span : Span) (bytes : List ℕ) (optional : Bool) (old : List ℕ) (tokens : List lexical.Token) (a b : State) → a.env.keeps_invalid ≡ false → is_well_formed_name bytes ≡ true → Emits (name span bytes optional) a b (Ok tt) → ReadsSoFar old tokens a → ReadsSoFar old (tokens ++ name_tokens bytes optional) b
 name_so_far span bytes optional old tokens a b v w e h =
-    let prints = prints_ident a.env span bytes optional v in
-    let possible = name_possible span.lo bytes optional w in
-    let p = prints.where_possible possible (made_not_out (name span bytes optional) _ a.env prints possible (emitted_ends (name span bytes optional) a b e)) in
-    subst (λ z. ReadsSoFar old (tokens ++ z) b) (name_list span.lo bytes optional p.tokens p.generated) (emitted_so_far (name span bytes optional) old tokens p.tokens a b p.writes e h)
+    let p = phrase_so_far (name span bytes optional) _ old tokens a b (prints_ident a.env span bytes optional v) (name_possible span.lo bytes optional w) e h in
+    subst (λ z. ReadsSoFar old (tokens ++ z) b) (name_list span.lo bytes optional p.0 p.1) p.2
 
 -- nothing was written yet
 pub new_so_far : (s : State) → IsNew s → holds_semicolons s.sheet.semicolons ≡ false → ReadsSoFar s.sheet.text [] s

@@ -1,7 +1,6 @@
 -- Names in ASCII: which are out of a target, and what is written of the others.
-use Rattle.std.proofs.Common.{◌≡◌, ℕ, suc, ◌<◌, ◌≤◌, Bool, true, false, not, ◌&&◌, cond, List, [], ◌∷◌, nat_lt, slice_index, refl, sym, ap, ◌∙◌, subst, inl, inr, arith}
-use Rattle.std.specs.Prelude.{MatchBool}
-use Rattle.std.specs.Str.{IsAscii, IsNotAscii, IsUtf8, chars, is_utf8}
+use Rattle.std.proofs.Common.{◌≡◌, ℕ, suc, true, false, not, ◌&&◌, cond, List, [], ◌∷◌, refl, sym, ap, ◌∙◌, subst, inl, inr}
+use Rattle.std.specs.Str.{IsNotAscii, chars, is_utf8}
 use Rattle.std.proofs.lemmas.Bool.{cases_lt, cases_Bool, lt-ltb, and_from, and_parts, or_from, or_parts, not-true, false≢true, false_from_ne_true}
 use Rattle.std.proofs.lemmas.Str.{IsUtf8-from_is_utf8, is_utf8-from_IsUtf8, IsUtf8-from_ascii}
 use Rattle.swc_ecma_codegen_ast.specs.Names.{is_name, name_value}
@@ -15,27 +14,13 @@ use Rattle.swc_ecma_codegen_base.specs.Run.{has_backslash}
 use Rattle.swc_ecma_codegen_base.specs.Targets.{is_escaped, in_ascii, is_out_name, is_out}
 use Rattle.swc_ecma_codegen_base.specs.Escapes.{may_make_text}
 
--- ---- ASCII by bytes
-
-pub ascii_bytes : (t : List ℕ) → IsAscii t → is_ascii_text t ≡ true
-ascii_bytes [] h = refl
-ascii_bytes (c ∷ cs) h = and_from (nat_lt c 128) (is_ascii_text cs) (lt-ltb c 128 (h 0)) (ascii_bytes cs (λ i. h (suc i)))
-
-pub other_bytes : (t : List ℕ) → IsNotAscii t → is_ascii_text t ≡ false
-other_bytes t n = false_from_ne_true (is_ascii_text t) (λ a. let l : slice_index t n.0 < 128 = ascii_from_all t a n.0 in omega (arith, l, n.1))
-
+-- some byte isn't ASCII
 not_ascii : (t : List ℕ) → is_ascii_text t ≡ false → IsNotAscii t
 not_ascii [] h = absurd (false≢true (sym h))
 not_ascii (c ∷ cs) h = elim (cases_lt c 128) [
   | inl l ↦ let n = not_ascii cs (sym (ap (λ b. b && is_ascii_text cs) (lt-ltb c 128 l)) ∙ h) in (suc n.0, n.1)
   | inr g ↦ (0, g)
 ]
-
--- what `is_ascii` answers of a text tells whether it is made anew
-pub told_escaped : (config : Config) (t : List ℕ) (told : Bool) → config.ascii_only ≡ true → MatchBool told (IsAscii t) (IsNotAscii t) → not told ≡ is_escaped config t
-unfolding is_escaped
-told_escaped config t true e h = sym (ap (λ b. b && not (is_ascii_text t)) e ∙ ap not (ascii_bytes t h))
-told_escaped config t false e h = sym (ap (λ b. b && not (is_ascii_text t)) e ∙ ap not (other_bytes t h))
 
 -- ---- names that can't be written
 

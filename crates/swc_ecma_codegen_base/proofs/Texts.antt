@@ -97,11 +97,11 @@ spelled_one kind t p = record {
   allowed = λ k u. p.allowed k u;
 }
 
-minus_is_mark : Spelled Punctuator (codes "-")
+pub minus_is_mark : Spelled Punctuator (codes "-")
 unfolding is_punctuator is_among is_same punctuators chars is_utf8 lib.Utf8.encode
 minus_is_mark = spelled_mark (codes "-") refl refl refl
 
-minus_chars : chars (codes "-") ≡ codes "-"
+pub minus_chars : chars (codes "-") ≡ codes "-"
 unfolding chars lib.Utf8.encode
 minus_chars = refl
 

@@ -1,7 +1,8 @@
 -- What is written of each literal. ECMA-262, section 12.9; `emit_lit` of swc and the functions below it.
-use Rattle.std.specs.Prelude.{ℕ, ◌-◌, Bool, true, false, not, ◌&&◌, ◌||◌, if◌then◌else◌, nat_lt, List, [], ◌∷◌, codes, length, Option, Some, None, is_none, string_bytes}
+use Rattle.std.specs.Prelude.{ℕ, ◌-◌, ◌==◌, Bool, true, false, not, ◌&&◌, ◌||◌, if◌then◌else◌, nat_lt, List, [], ◌∷◌, codes, length, Option, Some, None, is_none, string_bytes, bytes_eq}
 use Rattle.std.specs.Str.{chars, encode_utf8_all}
 use Rattle.std.specs.declared.string.String.{String}
+use Rattle.swc_ecma_codegen_common.specs.declared.decimals.Decimal.{Decimal}
 use Rattle.swc_ecma_codegen_common.specs.declared.positions.BytePos.{BytePos}
 use Rattle.swc_ecma_codegen_common.specs.declared.positions.Span.{Span}
 use Rattle.swc_ecma_codegen_common.specs.declared.versions.EsVersion.{EsVersion}
@@ -17,8 +18,7 @@ use Rattle.swc_ecma_codegen_tree.specs.declared.lits.NumberValue.TheVariants.{Fi
 use Rattle.swc_ecma_codegen_tree.specs.declared.lits.BigInt.{BigInt}
 use Rattle.swc_ecma_codegen_tree.specs.declared.lits.Regex.{Regex}
 use Rattle.swc_ecma_codegen_spans.specs.Spans.{dummy_span}
-use Rattle.swc_ecma_codegen_ast.specs.Texts.{is_same, begins}
-use Rattle.swc_ecma_codegen_ast.specs.Numbers.{takes_dot}
+use Rattle.swc_ecma_codegen_ast.specs.Numbers.{is_either, takes_dot}
 use Rattle.swc_ecma_codegen_util.specs.declared.config.Config.{Config}
 use Rattle.swc_ecma_codegen_literals.specs.AsciiNames.{is_ascii_text}
 use Rattle.swc_ecma_codegen_literals.specs.BigIntegers.{big_text}
@@ -48,7 +48,7 @@ raw_text (Some raw) = string_bytes raw
 
 -- A directive with a backslash is printed as it was spelled: `'use\x20strict'`.
 unfoldable pub is_directive : Str → Bool
-is_directive n = is_same (string_bytes n.value) (codes "use strict") && raw_is (has_byte 92) n.raw
+is_directive n = bytes_eq (string_bytes n.value) (codes "use strict") && raw_is (has_byte 92) n.raw
 
 -- a raw that the settings take as it is: `'a'`, where nothing is minified
 unfoldable pub takes_raw : Config → Str → Bool
@@ -117,7 +117,8 @@ makes_joined v raw = may_join v raw && has_byte 95 raw
 
 -- `0b11`, `0o17`
 unfoldable pub is_new_radix : List ℕ → Bool
-is_new_radix raw = nat_lt 2 (length raw) && ((begins (codes "0b") raw || begins (codes "0B") raw) || (begins (codes "0o") raw || begins (codes "0O") raw))
+is_new_radix (a ∷ b ∷ c ∷ cs) = (a == 48) && (is_either 98 66 b || is_either 111 79 b)
+is_new_radix raw = false
 
 -- a raw that a version has: `0b11` is `3` for one that hasn't it
 unfoldable pub suits : EsVersion → List ℕ → Bool
@@ -130,9 +131,12 @@ unfoldable pub is_finite : NumberValue → Bool
 is_finite (Finite d) = true
 is_finite v = false
 
+unfoldable pub decimal_text : Bool → Decimal → List ℕ
+decimal_text minify d = if minify then minified_text d else plain_text d
+
 -- a number by its value; of one that is infinite the raw stays
 unfoldable pub by_value : Bool → NumberValue → List ℕ → List ℕ
-by_value minify (Finite d) raw = if minify then minified_text d else plain_text d
+by_value minify (Finite d) raw = decimal_text minify d
 by_value minify NaN raw = codes "NaN"
 by_value minify v raw = raw
 
@@ -147,10 +151,14 @@ makes_number config n = if prints_number_raw config n then makes_joined config.t
 unfoldable pub is_named : Number → Bool
 is_named n = is_none n.raw && not (is_finite n.value)
 
+-- how `Infinity` begins
+unfoldable pub infinity_text : Bool → List ℕ
+infinity_text negative = if negative then codes "-" else codes "Infinity"
+
 -- `Infinity`, `-Infinity`
 unfoldable pub infinity : Bool → Bool → Span → Part
 infinity in_lit negative span rest =
-    begun_in in_lit span (if negative then codes "-" else codes "Infinity")
+    begun_in in_lit span (infinity_text negative)
     (commit_pending_semi (leading_comments span.lo (sign negative span (number_name span (codes "Infinity") rest))))
 
 -- `NaN`
@@ -209,11 +217,14 @@ unfoldable pub makes_big_int : Config → BigInt → Bool
 makes_big_int config n = if prints_big_raw config n then makes_joined config.target (raw_text n.raw) else true
 
 -- a big integer by this text, which is the whole or what stands before the `n`
-unfoldable pub big_int_by : Bool → Span → Bool → List ℕ → Part
-big_int_by in_lit span whole t rest = begun_in in_lit span t (leading_comments span.lo (if whole then big_integer span t rest else big_digits span t rest))
+unfoldable pub big_int_parts : Bool → Span → List ℕ → Part
+big_int_parts whole span t rest = if whole then big_integer span t rest else big_digits span t rest
+
+unfoldable pub big_int_by : Bool → Bool → Span → List ℕ → Part
+big_int_by in_lit whole span t rest = begun_in in_lit span t (leading_comments span.lo (big_int_parts whole span t rest))
 
 unfoldable pub big_int_at : Bool → BigInt → Part
-big_int_at in_lit n rest env = step (Remake (makes_big_int env.config n)) (big_int_by in_lit n.span (prints_big_raw env.config n) (big_int_text env.config n) rest) env
+big_int_at in_lit n rest env = step (Remake (makes_big_int env.config n)) (big_int_by in_lit (prints_big_raw env.config n) n.span (big_int_text env.config n) rest) env
 
 -- `1n`
 abbrev pub big_int_lit : BigInt → Part

@@ -22,7 +22,7 @@ use swc_ecma_codegen_text_writer::WriteJs;
 use swc_ecma_codegen_util::config::Config;
 
 /// A text without its sign.
-fn size_of(text: &str) -> &str
+pub(crate) fn size_of(text: &str) -> &str
     ensures { result.now ≡ size_of text.now }
 {
     match text.strip_prefix('-') {
@@ -31,13 +31,22 @@ fn size_of(text: &str) -> &str
     }
 }
 
+/// Whether a dot after a number that is spelled so would belong to it.
+pub(crate) fn takes_dot(text: &str) -> bool
+    ensures { result ≡ takes_dot (chars text.now) }
+{
+    matches!(number_class(text), TokenClass::Integer)
+}
+
 /// The last token after a number that is spelled so.
+#[tactic(auto, unfolding(crate::specs::Last::last_at))]
 fn number_end(text: &str) -> Last
     ensures { last_at result ≡ (if takes_dot (chars text.now) then rules.IntegerEnd else rules.WordEnd) }
 {
-    match number_class(text) {
-        TokenClass::Integer => Last::IntegerEnd,
-        _ => Last::WordEnd,
+    if takes_dot(text) {
+        Last::IntegerEnd
+    } else {
+        Last::WordEnd
     }
 }
 
@@ -120,13 +129,7 @@ impl LowerEmitter {
     }
 
     /// The call of the digits of a big integer, before its `n`.
-    fn put_digits<W: WriteJs>(
-        &mut self,
-        cfg: &Config,
-        wr: &mut W,
-        span: Span,
-        text: &str,
-    ) -> Answer
+    fn put_digits<W: WriteJs>(&mut self, cfg: &Config, wr: &mut W, span: Span, text: &str) -> Answer
         requires { self.old.failed ≡ false }
         ensures items { Emits (step (Plain (Lit span text.now))) (state_of cfg.now (W.sheet wr.old) self.old) (state_of cfg.now (W.sheet wr.new) self.new) result }
         ensures level { OnOk result ((W.sheet wr.new).indentation ≡ (W.sheet wr.old).indentation) }
@@ -138,13 +141,7 @@ impl LowerEmitter {
     }
 
     /// The call of the `n` after these digits.
-    fn put_suffix<W: WriteJs>(
-        &mut self,
-        cfg: &Config,
-        wr: &mut W,
-        span: Span,
-        text: &str,
-    ) -> Answer
+    fn put_suffix<W: WriteJs>(&mut self, cfg: &Config, wr: &mut W, span: Span, text: &str) -> Answer
         requires { self.old.failed ≡ false }
         ensures items { Emits (step (Ends (signed kind.BigInt (text.now ++ codes "n")) (Lit span (codes "n")))) (state_of cfg.now (W.sheet wr.old) self.old) (state_of cfg.now (W.sheet wr.new) self.new) result }
         ensures level { OnOk result ((W.sheet wr.new).indentation ≡ (W.sheet wr.old).indentation) }
@@ -198,13 +195,7 @@ impl LowerEmitter {
     }
 
     /// The call of the flags, with which it ends.
-    fn put_flags<W: WriteJs>(
-        &mut self,
-        cfg: &Config,
-        wr: &mut W,
-        exp: &str,
-        flags: &str,
-    ) -> Answer
+    fn put_flags<W: WriteJs>(&mut self, cfg: &Config, wr: &mut W, exp: &str, flags: &str) -> Answer
         requires { self.old.failed ≡ false }
         ensures items { Emits (step (Ends ((kind.Regex, regex_text exp.now flags.now) ∷ []) (calls.Str flags.now))) (state_of cfg.now (W.sheet wr.old) self.old) (state_of cfg.now (W.sheet wr.new) self.new) result }
         ensures level { OnOk result ((W.sheet wr.new).indentation ≡ (W.sheet wr.old).indentation) }
@@ -323,13 +314,7 @@ impl LowerEmitter {
 
     /// Writes a regular expression.
     #[tactic(auto, unfolding(crate::specs::Literals::regex))]
-    pub fn regex<W: WriteJs>(
-        &mut self,
-        cfg: &Config,
-        wr: &mut W,
-        exp: &str,
-        flags: &str,
-    ) -> Answer
+    pub fn regex<W: WriteJs>(&mut self, cfg: &Config, wr: &mut W, exp: &str, flags: &str) -> Answer
         ensures items { Emits (regex exp.now flags.now) (state_of cfg.now (W.sheet wr.old) self.old) (state_of cfg.now (W.sheet wr.new) self.new) result }
         ensures level { OnOk result ((W.sheet wr.new).indentation ≡ (W.sheet wr.old).indentation) }
     {

@@ -10,6 +10,7 @@ ghost use Rattle.swc_ecma_codegen_base.specs.Written.{ReadsSoFar, name_tokens};
 ghost use Rattle.swc_ecma_codegen_base.specs.View.{state_of};
 
 use crate::LowerEmitter;
+use crate::raws::is_ascii;
 use crate::starts::StartClass;
 use swc_ecma_codegen_ast::comments::Comments;
 use swc_ecma_codegen_common::{Answer, Refusal, Span};
@@ -22,7 +23,7 @@ use swc_ecma_codegen_util::config::Config;
 fn is_escaped(cfg: &Config, text: &str) -> bool
     ensures { result ≡ is_escaped cfg.now text.now }
 {
-    cfg.ascii_only && !text.is_ascii()
+    cfg.ascii_only && !is_ascii(text)
 }
 
 impl LowerEmitter {

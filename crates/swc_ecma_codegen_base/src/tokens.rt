@@ -82,7 +82,12 @@ impl LowerEmitter {
     }
 
     /// The same before a punctuator.
-    pub(crate) fn guard_mark<W: WriteJs>(&mut self, cfg: &Config, wr: &mut W, mark: Punctuator) -> Answer
+    pub(crate) fn guard_mark<W: WriteJs>(
+        &mut self,
+        cfg: &Config,
+        wr: &mut W,
+        mark: Punctuator,
+    ) -> Answer
         ensures items { Emits (step (Guard (spelling mark))) (state_of cfg.now (W.sheet wr.old) self.old) (state_of cfg.now (W.sheet wr.new) self.new) result }
         ensures level { OnOk result ((W.sheet wr.new).indentation ≡ (W.sheet wr.old).indentation) }
         ensures fresh { OnOk result (self.new.failed ≡ false) }

@@ -1,0 +1,17 @@
+use Rattle.std.proofs.Common.{refl, ap, ◌∙◌}
+use Rattle.swc_ecma_codegen_common.specs.Refusals.{reason_of}
+use Rattle.swc_ecma_codegen_base.specs.Lits.{big_int_at, big_int_by}
+use Rattle.swc_ecma_codegen_base.proofs.Anew.{spelled_anew, not_anew}
+use Rattle.swc_ecma_codegen_base.proofs.Emitting.{emits_failed}
+use Rattle.swc_ecma_codegen_base.proofs.LowerEmitter.big_int_at.Goals as goal
+
+pub returns-then-self-clause-items : goal.returns-then-self-clause-items
+returns-then-self-clause-items g c = λ rest. emits_failed _ _ c.if-self.true
+
+pub returns-in-Ok-clause-items : goal.returns-in-Ok-clause-items
+unfolding big_int_at
+returns-in-Ok-clause-items g c = spelled_anew (big_int_at c.args.in_lit c.args.n.now) _ (big_int_by c.args.in_lit c.prints_big_raw-whole.result c.args.n.now.span) _ _ _ _ _ c.if-self.false (λ rest. refl) (c.deref.ensures.value ∙ c.in-Ok.ensures.exactly) c.big_int_by-in-Ok.ensures.items
+
+pub returns-in-Err-clause-items : goal.returns-in-Err-clause-items
+unfolding big_int_at
+returns-in-Err-clause-items g c = not_anew (big_int_at c.args.in_lit c.args.n.now) _ _ _ _ _ c.if-self.false (λ rest. refl) (c.refusal.ensures ∙ ap reason_of c.in-Err.ensures.refused) (c.in-Err.ensures.due) refl

@@ -1,0 +1,128 @@
+-- What is written of a string is what it reads as, under any settings.
+use Rattle.std.proofs.Common.{◌≡◌, ℕ, Bool, true, false, not, cond, ◌||◌, List, [], ◌∷◌, codes, Option, Some, None, inl, inr, refl, sym, ap, ◌∙◌, subst, string_bytes}
+use Rattle.std.specs.Prelude.{bytes_eq}
+use Rattle.std.specs.Option.{is_some}
+use Rattle.std.specs.Str.{chars, encode_utf8_all, IsUtf8}
+use Rattle.std.specs.declared.string.String.{String}
+use Rattle.std.proofs.lemmas.Bool.{and_parts, or_cases, true≢false}
+use Rattle.std.proofs.lemmas.Str.{scalars-chars, IsUtf8-string_bytes}
+use lib.Utf8.{scalars}
+use Rattle.swc_ecma_codegen_common.specs.declared.versions.EsVersion.{EsVersion}
+use Rattle.swc_ecma_codegen_tree.specs.declared.lits.Str as strs
+use Rattle.swc_ecma_codegen_util.specs.declared.config.Config.{Config}
+use Rattle.swc_ecma_codegen_ast.specs.declared.kinds.Kind.TheVariants.{Str}
+use Rattle.swc_ecma_codegen_ast.specs.CodeUnits.{units}
+use Rattle.swc_ecma_codegen_ast.specs.LitPhrases as phrases
+use Rattle.swc_ecma_codegen_ast.specs.LitPhrases.{are_units, characters, raw_passes, spells_units, string_token}
+use Rattle.swc_ecma_codegen_ast.specs.Strings.{is_string}
+use Rattle.swc_ecma_codegen_ast.specs.StringValues.{string_value}
+use Rattle.swc_ecma_codegen_ast.specs.Tokens as lexical
+use Rattle.swc_ecma_codegen_ast.specs.Tokens.{Units, token_of, value_of}
+use Rattle.swc_ecma_codegen_ast.proofs.Tables.{eq_of_same}
+use Rattle.swc_ecma_codegen_literals.specs.AsciiNames.{is_ascii_text}
+use Rattle.swc_ecma_codegen_literals.specs.InlineScripts.{inline_text}
+use Rattle.swc_ecma_codegen_literals.specs.StringTexts.{quoted_text}
+use Rattle.swc_ecma_codegen_literals.specs.ValidNames.{has_byte}
+use Rattle.swc_ecma_codegen_literals.proofs.InlineMarks.{at_once}
+use Rattle.swc_ecma_codegen_literals.proofs.InlineQuoted.{inline_value}
+use Rattle.swc_ecma_codegen_literals.proofs.InlineTexts.{marked_scalars}
+use Rattle.swc_ecma_codegen_literals.proofs.QuotedTexts.{literal_chars, quoted_scalars, quoted_value}
+use Rattle.swc_ecma_codegen_literals.proofs.StringTokens.{strict_same}
+use Rattle.swc_ecma_codegen_base.specs.Escapes.{is_spelled_anew}
+use Rattle.swc_ecma_codegen_base.specs.Lits.{begun_in, raw_is, raw_text, is_directive, takes_raw, prints_raw, value_text, string_text, directive_end, string_by, string_at, str_lit}
+use Rattle.swc_ecma_codegen_base.specs.Literals as words
+use Rattle.swc_ecma_codegen_base.specs.Run.{Env, Remake, spelling, step}
+use Rattle.swc_ecma_codegen_base.specs.Words.{end_of}
+use Rattle.swc_ecma_codegen_base.proofs.LitTexts.{spelled_string}
+use Rattle.swc_ecma_codegen_base.proofs.LiteralParts.{writes_settled_begun, writes_string}
+use Rattle.swc_ecma_codegen_base.proofs.Phrased.{Prints, prints_same, prints_where}
+use Rattle.swc_ecma_codegen_base.proofs.Printed.{Writes, writes_if, writes_nothing, writes_position, writes_then}
+use Rattle.swc_ecma_codegen_base.proofs.Remade.{makes_remade, prints_anew, writes_begun_in}
+
+-- a text is one string of these units
+record IsStringOf (us t : List ℕ) : Type 0 where
+  pub utf8 : IsUtf8 t
+  pub value : string_value true (chars t) ≡ Some us
+
+-- ---- a string by its value
+
+inline_string : (a : Bool) (v : EsVersion) (text : List ℕ) → scalars text ≡ true → IsStringOf (units text) (encode_utf8_all (inline_text (quoted_text a v text)))
+inline_string a v text s = record {
+  utf8 = (inline_text (quoted_text a v text), (ap scalars (at_once (quoted_text a v text)) ∙ marked_scalars 0 (quoted_text a v text) (quoted_scalars a v text s), refl));
+  value = strict_same _ (units text) (inline_value a v text (encode_utf8_all (inline_text (quoted_text a v text))) s refl);
+}
+
+quoted_string : (a : Bool) (v : EsVersion) (text : List ℕ) → scalars text ≡ true → IsStringOf (units text) (encode_utf8_all (quoted_text a v text))
+quoted_string a v text s = record {
+  utf8 = (quoted_text a v text, (quoted_scalars a v text s, refl));
+  value = strict_same _ (units text) (ap (string_value false) (literal_chars a v text (encode_utf8_all (quoted_text a v text)) s refl) ∙ quoted_value a v text s);
+}
+
+value_string : (inline a : Bool) (v : EsVersion) (text : List ℕ) → scalars text ≡ true → IsStringOf (units text) (encode_utf8_all (cond inline (inline_text (quoted_text a v text)) (quoted_text a v text)))
+value_string true a v text s = inline_string a v text s
+value_string false a v text s = quoted_string a v text s
+
+-- ---- a string by its raw
+
+units_same : (o : Option (List ℕ)) (us : List ℕ) → are_units o us ≡ true → o ≡ Some us
+unfolding are_units
+units_same None us h = absurd (true≢false (sym h))
+units_same (Some vs) us h = ap Some (eq_of_same vs us h)
+
+raw_string : {Z : Type 0} (test : List ℕ → Bool) (us : List ℕ) (raw : Option (String Z)) → raw_is test raw ≡ true → raw_passes (spells_units us) raw ≡ true → IsStringOf us (raw_text raw)
+unfolding raw_is raw_text raw_passes spells_units
+raw_string test us None given h = absurd (true≢false (sym given))
+raw_string test us (Some raw) given h = record { utf8 = IsUtf8-string_bytes raw; value = units_same (string_value true (characters raw)) us h }
+
+-- a raw that is printed is there
+printed_raw : (config : Config) (n : strs.Str) (us : List ℕ) → prints_raw config n ≡ true → raw_passes (spells_units us) n.raw ≡ true → IsStringOf us (raw_text n.raw)
+unfolding prints_raw is_directive takes_raw
+printed_raw config n us e h = elim (or_cases (is_directive n) (takes_raw config n) e) [
+  | inl d ↦ raw_string (has_byte 92) us n.raw (and_parts (bytes_eq (string_bytes n.value) (codes "use strict")) (raw_is (has_byte 92) n.raw) d).1 h
+  | inr t ↦ raw_string (λ raw. not config.ascii_only || is_ascii_text raw) us n.raw (and_parts (not config.minify) (raw_is (λ raw. not config.ascii_only || is_ascii_text raw) n.raw) t).1 h
+]
+
+-- ---- what stands between the quotes, whatever the settings
+
+chosen_string : (b : Bool) (config : Config) (n : strs.Str) → prints_raw config n ≡ b → raw_passes (spells_units (units (characters n.value))) n.raw ≡ true → IsStringOf (units (characters n.value)) (cond b (raw_text n.raw) (value_text config (string_bytes n.value)))
+unfolding value_text
+chosen_string true config n e h = printed_raw config n (units (characters n.value)) e h
+chosen_string false config n e h = value_string config.inline_script config.ascii_only config.target (characters n.value) (scalars-chars (string_bytes n.value) (IsUtf8-string_bytes n.value))
+
+written_string : (config : Config) (n : strs.Str) → raw_passes (spells_units (units (characters n.value))) n.raw ≡ true → IsStringOf (units (characters n.value)) (string_text config n)
+unfolding string_text
+written_string config n h = chosen_string (prints_raw config n) config n refl h
+
+-- ---- its parts
+
+writes_directive_end : (env : Env) (n : strs.Str) → Writes env (directive_end n) []
+unfolding directive_end
+writes_directive_end env n = writes_if env (is_directive n) (end_of n.span) (λ rest. rest) [] (writes_position env n.span.hi) (writes_nothing env)
+
+units_token : (t us : List ℕ) → string_value true (chars t) ≡ Some us → token_of Str (spelling Str t) ≡ string_token us
+unfolding token_of value_of spelling string_token
+units_token t us h = let f : Option (List ℕ) → lexical.Token = λ z. record { kind = Str; value = Units z } in ap f h
+
+string_shape : (t us : List ℕ) → string_value true (chars t) ≡ Some us → is_string (chars t) ≡ true
+unfolding is_string
+string_shape t us h = ap is_some h
+
+writes_string_by : (env : Env) (in_lit : Bool) (n : strs.Str) (us t : List ℕ) → IsStringOf us t → Writes env (string_by in_lit n t) (string_token us ∷ [])
+unfolding string_by
+writes_string_by env in_lit n us t h =
+    let own : Writes env (words.string t) (string_token us ∷ []) = subst (λ z. Writes env (words.string t) (z ∷ [])) (units_token t us h.value) (writes_string env t (spelled_string t h.utf8 (string_shape t us h.value))) in
+    writes_then env (begun_in in_lit n.span t) _ [] (string_token us ∷ []) (writes_begun_in env in_lit n.span t)
+    (writes_then env (words.settled_begun n.span t) _ [] (string_token us ∷ []) (writes_settled_begun env n.span t)
+    (writes_then env (words.string t) (directive_end n) (string_token us ∷ []) [] own (writes_directive_end env n)))
+
+pub prints_string_at : (env : Env) (in_lit : Bool) (n : strs.Str) → Prints env (string_at in_lit n) (phrases.str_lit n)
+unfolding string_at phrases.str_lit string_token is_spelled_anew
+prints_string_at env in_lit n =
+    let us : List ℕ = units (characters n.value) in
+    prints_where (raw_passes (spells_units us) n.raw) (λ w.
+    prints_same (string_at in_lit n) (λ rest. step (Remake (not (prints_raw env.config n))) (string_by in_lit n (string_text env.config n) rest)) (λ rest. refl)
+    (prints_anew (string_token us) refl (makes_remade (not (prints_raw env.config n)) (writes_string_by env in_lit n us (string_text env.config n) (written_string env.config n w)))))
+
+-- a string literal
+pub prints_str : (env : Env) (n : strs.Str) → Prints env (str_lit n) (phrases.str_lit n)
+prints_str env n = prints_string_at env false n
