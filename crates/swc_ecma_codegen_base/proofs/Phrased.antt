@@ -33,7 +33,7 @@ use Rattle.swc_ecma_codegen_ast.proofs.Reading.{reads}
 use Rattle.swc_ecma_codegen_util.specs.declared.config.Config.{Config}
 use Rattle.swc_ecma_codegen_base.specs.declared.refusals.Unprintable.TheVariants.{NameOutOfTarget}
 use Rattle.swc_ecma_codegen_base.specs.Run.{Env, Plan, Part, State, Step, Guard, Token, Plain, Remake, Steps, done, step, steps_of, unprintable_in, refuse, run, nothing, spelling, Follows, HasCause, has_backslash, makes_text}
-use Rattle.swc_ecma_codegen_base.specs.Targets.{is_escaped, is_out_name, written_name, is_out}
+use Rattle.swc_ecma_codegen_base.specs.Targets.{wants_escapes, is_out_name, written_name, is_out}
 use Rattle.swc_ecma_codegen_base.specs.Words.{keyword, operator, word_operator, punct, semi, commit_pending_semi, position, symbol, valid_symbol, name_text, question, name}
 use Rattle.swc_ecma_codegen_base.specs.Written.{AtRest, is_free, holds_one, IsNew, ReadsAs, AddsText, AddsReading, IsWord, IsMark}
 use Rattle.swc_ecma_codegen_base.specs.Escapes.{may_make_text}
@@ -246,7 +246,7 @@ symbol_steps env span bytes e o =
     let x : Step = Token Name (Symbol dummy_span t) in
     ap (λ z. Plain Commit ∷ steps_of z) (valid_same span bytes nothing env e)
     ∙ ap (λ z. Plain Commit ∷ Remake (has_backslash bytes) ∷ steps_of z) (spelled_same span (turned bytes) nothing env o)
-    ∙ ap (λ z. Plain Commit ∷ Remake (has_backslash bytes) ∷ Remake (is_escaped env.config (turned bytes)) ∷ Guard t ∷ z)
+    ∙ ap (λ z. Plain Commit ∷ Remake (has_backslash bytes) ∷ Remake (wants_escapes env.config (turned bytes)) ∷ Guard t ∷ z)
     (elim (span.lo.0 == 0) as (λ b. steps_of ((cond b (step x nothing) (step (Plain (Position span.lo)) (step x nothing))) env) ≡ name_call b span.lo t) [ true ↦ refl | false ↦ refl ])
 
 names_here : (env : Env) (span : Span) (bytes : List ℕ) → env.keeps_invalid ≡ false → is_out_name env.config (turned bytes) ≡ false → (written_name env.config bytes ≡ [] → ⊥) → NamedBy env (settled_name span bytes) ((span.lo, bytes) ∷ [])

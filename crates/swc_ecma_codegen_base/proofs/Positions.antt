@@ -18,7 +18,7 @@ use Rattle.swc_ecma_codegen_text_writer.proofs.Sheets.{effect_keeps_positions}
 use Rattle.swc_ecma_codegen_base.specs.Named.{IsRecorded, NamesStand, RecordsNames}
 use Rattle.swc_ecma_codegen_base.specs.Run as run
 use Rattle.swc_ecma_codegen_base.specs.Run.{State, Step, Guard, Token, Plain, Ends, Remake, put, run, has_backslash}
-use Rattle.swc_ecma_codegen_base.specs.Targets.{is_escaped, written_name}
+use Rattle.swc_ecma_codegen_base.specs.Targets.{wants_escapes, written_name}
 use Rattle.swc_ecma_codegen_base.specs.Written.{holds_one}
 use Rattle.swc_ecma_codegen_base.proofs.Fronts.{run_sheet}
 use Rattle.swc_ecma_codegen_base.proofs.Held.{begun_sheet, written_semicolons, pointed_keeps, settled_none, unheld_settled}
@@ -215,7 +215,7 @@ name_call b pos t = cond b (Token Name (Symbol dummy_span t) ∷ []) (Plain (Pos
 
 unfoldable pub name_steps : Config → Bool → BytePos → List ℕ → List Step
 name_steps config b pos bytes =
-    Plain Commit ∷ Remake (has_backslash bytes) ∷ Remake (is_escaped config (turned bytes)) ∷ Guard (written_name config bytes) ∷ name_call b pos (written_name config bytes)
+    Plain Commit ∷ Remake (has_backslash bytes) ∷ Remake (wants_escapes config (turned bytes)) ∷ Guard (written_name config bytes) ∷ name_call b pos (written_name config bytes)
 
 guard_unheld : (t : List ℕ) (a : State) → holds_one a.sheet.semicolons ≡ false → holds_one (put (Guard t) a).sheet.semicolons ≡ false
 unfolding put effect
@@ -225,11 +225,11 @@ guard_unheld t a h =
 
 -- where a name begins: what was held back is written, and the blank that is due
 before_name : Config → List ℕ → List Step
-before_name config bytes = Plain Commit ∷ Remake (has_backslash bytes) ∷ Remake (is_escaped config (turned bytes)) ∷ Guard (written_name config bytes) ∷ []
+before_name config bytes = Plain Commit ∷ Remake (has_backslash bytes) ∷ Remake (wants_escapes config (turned bytes)) ∷ Guard (written_name config bytes) ∷ []
 
 before_unheld : (config : Config) (bytes : List ℕ) (s : State) → holds_one (run (before_name config bytes) s).sheet.semicolons ≡ false
 unfolding before_name run put effect
-before_unheld config bytes s = guard_unheld (written_name config bytes) (put (Remake (is_escaped config (turned bytes))) (put (Remake (has_backslash bytes)) (put (Plain Commit) s))) (settled_none s.sheet)
+before_unheld config bytes s = guard_unheld (written_name config bytes) (put (Remake (wants_escapes config (turned bytes))) (put (Remake (has_backslash bytes)) (put (Plain Commit) s))) (settled_none s.sheet)
 
 pub name_named : (config : Config) (b : Bool) (pos : BytePos) (bytes : List ℕ) (s : State) → b ≡ (pos.0 == 0) → (written_name config bytes ≡ [] → ⊥) → s.sheet.keeps_positions ≡ true → Named config ((pos, bytes) ∷ []) s.sheet (run (name_steps config b pos bytes) s).sheet
 unfolding name_steps name_call before_name run put effect

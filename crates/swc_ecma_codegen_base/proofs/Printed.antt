@@ -11,7 +11,7 @@ use Rattle.swc_ecma_codegen_text_writer.specs.Sheet.{Semi, Space, Keyword, Opera
 use Rattle.swc_ecma_codegen_ast.specs.ValidNames.{turned}
 use Rattle.swc_ecma_codegen_base.specs.Run.{Env, Plan, Part, State, Step, Guard, Token, Plain, Ends, Remake, Steps, next, put, run, step, spelling, text_of, after_token, after_plain, when_minified, no_part, has_backslash, makes_text}
 use Rattle.swc_ecma_codegen_base.specs.Words.{keyword, operator, word_operator, punct, semi, space, formatting_space, line_end, formatting_line, commit_pending_semi, position, position_before, leading_comments, trailing_comments, symbol, spelled_symbol, valid_symbol, name_text}
-use Rattle.swc_ecma_codegen_base.specs.Targets.{is_escaped, in_ascii, is_out_name, written_name}
+use Rattle.swc_ecma_codegen_base.specs.Targets.{wants_escapes, in_ascii, is_out_name, written_name}
 use Rattle.swc_ecma_codegen_base.specs.Written.{AtRest}
 use Rattle.swc_ecma_codegen_base.proofs.Emitting.{minified_same, pretty_same}
 use Rattle.swc_ecma_codegen_base.proofs.Fronts.{run_append}
@@ -208,15 +208,15 @@ pub writes_symbol : (env : Env) (span : Span) (t : List ℕ) → Spelled Name t 
 unfolding symbol position
 writes_symbol env span t p = symbol_at env span.lo (span.lo.0 == 0) t p
 
-writes_spelled_symbol : (env : Env) (span : Span) (t : List ℕ) → is_out_name env.config t ≡ false → Spelled Name (in_ascii env.config t) → Makes env (spelled_symbol span t) (token_of Name (spelling Name (in_ascii env.config t)) ∷ []) (is_escaped env.config t)
+writes_spelled_symbol : (env : Env) (span : Span) (t : List ℕ) → is_out_name env.config t ≡ false → Spelled Name (in_ascii env.config t) → Makes env (spelled_symbol span t) (token_of Name (spelling Name (in_ascii env.config t)) ∷ []) (wants_escapes env.config t)
 writes_spelled_symbol env span t o p =
     let u : List ℕ = in_ascii env.config t in
-    let due : Bool = is_escaped env.config t in
+    let due : Bool = wants_escapes env.config t in
     writes_same env (spelled_symbol span t) (λ rest. step (Remake due) (symbol span u rest)) _ (λ rest. spelled_same span t rest env o)
     (subst (λ z. Makes env (λ rest. step (Remake due) (symbol span u rest)) (token_of Name (spelling Name u) ∷ []) z) (or_false due)
     (writes_then env (step (Remake due)) (symbol span u) [] _ (writes_remake env due) (writes_symbol env span u p)))
 
-pub writes_name_text : (env : Env) (span : Span) (bytes : List ℕ) → env.keeps_invalid ≡ false → is_out_name env.config (turned bytes) ≡ false → Spelled Name (written_name env.config bytes) → Makes env (name_text span bytes) (token_of Name (spelling Name (written_name env.config bytes)) ∷ []) (has_backslash bytes || is_escaped env.config (turned bytes))
+pub writes_name_text : (env : Env) (span : Span) (bytes : List ℕ) → env.keeps_invalid ≡ false → is_out_name env.config (turned bytes) ≡ false → Spelled Name (written_name env.config bytes) → Makes env (name_text span bytes) (token_of Name (spelling Name (written_name env.config bytes)) ∷ []) (has_backslash bytes || wants_escapes env.config (turned bytes))
 unfolding valid_symbol written_name
 writes_name_text env span bytes e o p =
     writes_same env (name_text span bytes) (valid_symbol span bytes) _ (λ rest. valid_same span bytes rest env e)

@@ -11,52 +11,52 @@ use Rattle.swc_ecma_codegen_literals.specs.AsciiNames.{is_out_of_target, ascii_n
 use Rattle.swc_ecma_codegen_literals.specs.ValidNames.{has_byte}
 use Rattle.swc_ecma_codegen_base.specs.declared.refusals.Unprintable.TheVariants.{NameOutOfTarget}
 use Rattle.swc_ecma_codegen_base.specs.Run.{Env, Plan, State, Remake, step, refuse, refusal_of, has_backslash, Follows, Emits, IsRefused}
-use Rattle.swc_ecma_codegen_base.specs.Targets.{is_escaped, in_ascii, is_out_name}
+use Rattle.swc_ecma_codegen_base.specs.Targets.{wants_escapes, in_ascii, is_out_name}
 use Rattle.swc_ecma_codegen_base.specs.Words.{symbol, spelled_symbol, valid_symbol, name_text}
 use Rattle.swc_ecma_codegen_base.proofs.Emitting.{emits_refused, emits_refusal, follows_remade, follows_same}
 use Rattle.swc_ecma_codegen_base.proofs.Targets.{kept_is_in, kept_text, escaped_text, out_by_settings}
 
 -- ---- a text by the settings
 
-pub spelled_same : (span : Span) (t : List ℕ) (rest : Plan) (env : Env) → is_out_name env.config t ≡ false → spelled_symbol span t rest env ≡ step (Remake (is_escaped env.config t)) (symbol span (in_ascii env.config t) rest) env
+pub spelled_same : (span : Span) (t : List ℕ) (rest : Plan) (env : Env) → is_out_name env.config t ≡ false → spelled_symbol span t rest env ≡ step (Remake (wants_escapes env.config t)) (symbol span (in_ascii env.config t) rest) env
 unfolding spelled_symbol
-spelled_same span t rest env o = ap (λ b. cond b (refuse NameOutOfTarget rest env) (step (Remake (is_escaped env.config t)) (symbol span (in_ascii env.config t) rest) env)) o
+spelled_same span t rest env o = ap (λ b. cond b (refuse NameOutOfTarget rest env) (step (Remake (wants_escapes env.config t)) (symbol span (in_ascii env.config t) rest) env)) o
 
 pub out_same : (span : Span) (t : List ℕ) (rest : Plan) (env : Env) → is_out_name env.config t ≡ true → spelled_symbol span t rest env ≡ refuse NameOutOfTarget rest env
 unfolding spelled_symbol
-out_same span t rest env o = ap (λ b. cond b (refuse NameOutOfTarget rest env) (step (Remake (is_escaped env.config t)) (symbol span (in_ascii env.config t) rest) env)) o
+out_same span t rest env o = ap (λ b. cond b (refuse NameOutOfTarget rest env) (step (Remake (wants_escapes env.config t)) (symbol span (in_ascii env.config t) rest) env)) o
 
 -- the text that the settings ask for is written
 spelled_follows : (span : Span) (t u : List ℕ) (rest : Plan) (a c : State) (r : Result (Unit {0}) Refusal) → is_out_name a.env.config t ≡ false → u ≡ in_ascii a.env.config t → Follows (symbol span u rest) a c r → Follows (spelled_symbol span t rest) a c r
 spelled_follows span t u rest a c r o e h =
     let P : List ℕ → Type 0 = λ z. Follows (symbol span z rest) a c r in
-    follows_same (spelled_symbol span t rest) (step (Remake (is_escaped a.env.config t)) (symbol span (in_ascii a.env.config t) rest)) a c r (spelled_same span t rest a.env o)
-    (follows_remade (is_escaped a.env.config t) (symbol span (in_ascii a.env.config t) rest) a c r (subst P e h))
+    follows_same (spelled_symbol span t rest) (step (Remake (wants_escapes a.env.config t)) (symbol span (in_ascii a.env.config t) rest)) a c r (spelled_same span t rest a.env o)
+    (follows_remade (wants_escapes a.env.config t) (symbol span (in_ascii a.env.config t) rest) a c r (subst P e h))
 
 spelled : (span : Span) (t u : List ℕ) (a b : State) (r : Result (Unit {0}) Refusal) → is_out_name a.env.config t ≡ false → u ≡ in_ascii a.env.config t → Emits (symbol span u) a b r → Emits (spelled_symbol span t) a b r
 spelled span t u a b (Ok x) o e h = λ rest c r f. spelled_follows span t u rest a c r o e (h rest c r f)
 spelled span t u a b (Err x) o e h = λ rest. spelled_follows span t u rest a b (Err x) o e (h rest)
 
 -- as it is
-pub spelled_as_it_is : (span : Span) (t : List ℕ) (a b : State) (r : Result (Unit {0}) Refusal) → is_escaped a.env.config t ≡ false → Emits (symbol span t) a b r → Emits (spelled_symbol span t) a b r
+pub spelled_as_it_is : (span : Span) (t : List ℕ) (a b : State) (r : Result (Unit {0}) Refusal) → wants_escapes a.env.config t ≡ false → Emits (symbol span t) a b r → Emits (spelled_symbol span t) a b r
 spelled_as_it_is span t a b r k h = spelled span t t a b r (kept_is_in a.env.config t k) (sym (kept_text a.env.config t k)) h
 
 -- in ASCII
-pub spelled_in_ascii : (span : Span) (t u : List ℕ) (a b : State) (r : Result (Unit {0}) Refusal) → is_escaped a.env.config t ≡ true → (is_out_of_target false a.env.config.target (chars t) ≡ true → ⊥) → u ≡ ascii_name false a.env.config.target (chars t) → Emits (symbol span u) a b r → Emits (spelled_symbol span t) a b r
+pub spelled_in_ascii : (span : Span) (t u : List ℕ) (a b : State) (r : Result (Unit {0}) Refusal) → wants_escapes a.env.config t ≡ true → (is_out_of_target false a.env.config.target (chars t) ≡ true → ⊥) → u ≡ ascii_name false a.env.config.target (chars t) → Emits (symbol span u) a b r → Emits (spelled_symbol span t) a b r
 spelled_in_ascii span t u a b r k o e h = spelled span t u a b r (out_by_settings a.env.config t k ∙ false_from_ne_true _ o) (e ∙ sym (escaped_text a.env.config t k)) h
 
 pub marked_with : (a b : State) → b ≡ record a { failed = true } → b ≡ record a { sheet = b.sheet; failed = true }
 marked_with a b eq = let P : State → Type 0 = λ s. s ≡ record a { sheet = s.sheet; failed = true } in subst P (sym eq) refl
 
 -- or it can't be, or memory is wanting
-pub not_spelled : (span : Span) (t : List ℕ) (e : Refusal) (a b : State) → a.failed ≡ false → is_escaped a.env.config t ≡ true → (is_out_of_target false a.env.config.target (chars t) ≡ true → e ≡ refusals.NameOutOfTarget) → (is_out_of_target false a.env.config.target (chars t) ≡ false → e ≡ OutOfMemory) → b ≡ record a { failed = true } → Emits (spelled_symbol span t) a b (Err e)
+pub not_spelled : (span : Span) (t : List ℕ) (e : Refusal) (a b : State) → a.failed ≡ false → wants_escapes a.env.config t ≡ true → (is_out_of_target false a.env.config.target (chars t) ≡ true → e ≡ refusals.NameOutOfTarget) → (is_out_of_target false a.env.config.target (chars t) ≡ false → e ≡ OutOfMemory) → b ≡ record a { failed = true } → Emits (spelled_symbol span t) a b (Err e)
 unfolding IsRefused refusal_of
 not_spelled span t e a b fresh k out refused marked rest =
     let same = out_by_settings a.env.config t k in
     elim (cases_Bool (is_out_of_target false a.env.config.target (chars t))) [
       | inl o ↦ follows_same (spelled_symbol span t rest) (refuse NameOutOfTarget rest) a b (Err e) (out_same span t rest a.env (same ∙ o)) (emits_refusal NameOutOfTarget e a b fresh (out o) marked rest)
-      | inr o ↦ follows_same (spelled_symbol span t rest) (step (Remake (is_escaped a.env.config t)) (symbol span (in_ascii a.env.config t) rest)) a b (Err e) (spelled_same span t rest a.env (same ∙ o))
-          (emits_refused (Remake (is_escaped a.env.config t)) e a b fresh (marked_with a b marked) (refused o, k, ap (λ (s : State). s.sheet) marked) (symbol span (in_ascii a.env.config t) rest))
+      | inr o ↦ follows_same (spelled_symbol span t rest) (step (Remake (wants_escapes a.env.config t)) (symbol span (in_ascii a.env.config t) rest)) a b (Err e) (spelled_same span t rest a.env (same ∙ o))
+          (emits_refused (Remake (wants_escapes a.env.config t)) e a b fresh (marked_with a b marked) (refused o, k, ap (λ (s : State). s.sheet) marked) (symbol span (in_ascii a.env.config t) rest))
     ]
 
 -- ---- as the writer takes names

@@ -11,7 +11,7 @@ use Rattle.swc_ecma_codegen_literals.specs.AsciiNames.{is_ascii_text, is_quoted_
 use Rattle.swc_ecma_codegen_literals.proofs.NameTexts.{escaped_answer, in_target}
 use Rattle.swc_ecma_codegen_literals.proofs.SpelledTexts.{ascii_from_all}
 use Rattle.swc_ecma_codegen_base.specs.Run.{has_backslash}
-use Rattle.swc_ecma_codegen_base.specs.Targets.{is_escaped, in_ascii, is_out_name, is_out}
+use Rattle.swc_ecma_codegen_base.specs.Targets.{wants_escapes, in_ascii, is_out_name, is_out}
 use Rattle.swc_ecma_codegen_base.specs.Escapes.{may_make_text}
 
 -- some byte isn't ASCII
@@ -24,15 +24,15 @@ not_ascii (c ∷ cs) h = elim (cases_lt c 128) [
 
 -- ---- names that can't be written
 
-pub out_is_escaped : (config : Config) (t : List ℕ) → is_out_name config t ≡ true → is_escaped config t ≡ true
-unfolding is_out_name is_escaped
-out_is_escaped config t o =
+pub out_wants_escapes : (config : Config) (t : List ℕ) → is_out_name config t ≡ true → wants_escapes config t ≡ true
+unfolding is_out_name wants_escapes
+out_wants_escapes config t o =
     let p = and_parts config.ascii_only (is_out_of_target false config.target (chars t)) o in
     and_from config.ascii_only (not (is_ascii_text t)) p.0 (ap not (false_from_ne_true (is_ascii_text t) (λ a. false≢true (sym (in_target false config.target t (ascii_from_all t a)) ∙ p.1))))
 
 -- what is written as it is isn't out
-pub kept_is_in : (config : Config) (t : List ℕ) → is_escaped config t ≡ false → is_out_name config t ≡ false
-kept_is_in config t k = false_from_ne_true (is_out_name config t) (λ o. false≢true (sym k ∙ out_is_escaped config t o))
+pub kept_is_in : (config : Config) (t : List ℕ) → wants_escapes config t ≡ false → is_out_name config t ≡ false
+kept_is_in config t k = false_from_ne_true (is_out_name config t) (λ o. false≢true (sym k ∙ out_wants_escapes config t o))
 
 -- where no text is made anew, none is out
 pub plain_not_out : (config : Config) (f : Phrase) → may_make_text config f ≡ false → is_out config f ≡ false
@@ -40,7 +40,7 @@ unfolding may_make_text is_out
 plain_not_out config Never h = refl
 plain_not_out config Nothing h = refl
 plain_not_out config (One x) h = refl
-plain_not_out config (NameOf at bytes) h = kept_is_in config (turned bytes) (or_parts (has_backslash bytes) (is_escaped config (turned bytes)) h).1
+plain_not_out config (NameOf at bytes) h = kept_is_in config (turned bytes) (or_parts (has_backslash bytes) (wants_escapes config (turned bytes)) h).1
 plain_not_out config (Then a b) h =
     let p = or_parts (may_make_text config a) (may_make_text config b) h in
     or_from (is_out config a) (is_out config b) (plain_not_out config a p.0) (plain_not_out config b p.1)
@@ -56,16 +56,16 @@ bare_not_out config (Then a b) h = or_from (is_out config a) (is_out config b) (
 
 -- ---- what is written of the others
 
-pub kept_text : (config : Config) (t : List ℕ) → is_escaped config t ≡ false → in_ascii config t ≡ t
+pub kept_text : (config : Config) (t : List ℕ) → wants_escapes config t ≡ false → in_ascii config t ≡ t
 unfolding in_ascii
 kept_text config t k = ap (λ b. cond b (ascii_name false config.target (chars t)) t) k
 
-pub escaped_text : (config : Config) (t : List ℕ) → is_escaped config t ≡ true → in_ascii config t ≡ ascii_name false config.target (chars t)
+pub escaped_text : (config : Config) (t : List ℕ) → wants_escapes config t ≡ true → in_ascii config t ≡ ascii_name false config.target (chars t)
 unfolding in_ascii
 escaped_text config t k = ap (λ b. cond b (ascii_name false config.target (chars t)) t) k
 
-pub out_by_settings : (config : Config) (t : List ℕ) → is_escaped config t ≡ true → is_out_name config t ≡ is_out_of_target false config.target (chars t)
-unfolding is_escaped is_out_name
+pub out_by_settings : (config : Config) (t : List ℕ) → wants_escapes config t ≡ true → is_out_name config t ≡ is_out_of_target false config.target (chars t)
+unfolding wants_escapes is_out_name
 out_by_settings config t e = ap (λ b. b && is_out_of_target false config.target (chars t)) (and_parts config.ascii_only (not (is_ascii_text t)) e).0
 
 -- a text is a name of the same characters as another
@@ -75,8 +75,8 @@ pub record Names (t u : List ℕ) : Type 0 where
   pub value : name_value (chars u) ≡ name_value (chars t)
 
 -- its escapes stand for the characters that they were made of
-escaped_names : (config : Config) (t : List ℕ) → is_utf8 t ≡ true → is_name (chars t) ≡ true → is_escaped config t ≡ true → is_out_name config t ≡ false → Names t (in_ascii config t)
-unfolding is_escaped is_quoted_key
+escaped_names : (config : Config) (t : List ℕ) → is_utf8 t ≡ true → is_name (chars t) ≡ true → wants_escapes config t ≡ true → is_out_name config t ≡ false → Names t (in_ascii config t)
+unfolding wants_escapes is_quoted_key
 escaped_names config t u n e o =
     let p = and_parts config.ascii_only (not (is_ascii_text t)) e in
     let h = escaped_answer false config.target t (name_escapes false config.target (chars t)) (IsUtf8-from_is_utf8 t u) (not_ascii t (not-true (is_ascii_text t) p.1)) refl (sym (out_by_settings config t e) ∙ o) refl in
@@ -84,7 +84,7 @@ escaped_names config t u n e o =
     (record { utf8 = is_utf8-from_IsUtf8 _ (IsUtf8-from_ascii _ h.ascii); shape = h.name refl ∙ n; value = h.value refl n })
 
 pub names_in_ascii : (config : Config) (t : List ℕ) → is_utf8 t ≡ true → is_name (chars t) ≡ true → is_out_name config t ≡ false → Names t (in_ascii config t)
-names_in_ascii config t u n o = elim (cases_Bool (is_escaped config t)) [
+names_in_ascii config t u n o = elim (cases_Bool (wants_escapes config t)) [
   | inl e ↦ escaped_names config t u n e o
   | inr k ↦ subst (λ z. Names t z) (sym (kept_text config t k)) (record { utf8 = u; shape = n; value = refl })
 ]

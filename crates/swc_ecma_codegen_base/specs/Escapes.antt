@@ -6,7 +6,7 @@ use Rattle.swc_ecma_codegen_ast.specs.declared.kinds.Kind.TheVariants.{Number, B
 use Rattle.swc_ecma_codegen_ast.specs.ValidNames.{turned}
 use Rattle.swc_ecma_codegen_util.specs.declared.config.Config.{Config}
 use Rattle.swc_ecma_codegen_base.specs.Run.{has_backslash}
-use Rattle.swc_ecma_codegen_base.specs.Targets.{is_escaped}
+use Rattle.swc_ecma_codegen_base.specs.Targets.{wants_escapes}
 
 -- a literal whose text may be another than its raw
 unfoldable pub is_spelled_anew : Kind → Bool
@@ -21,5 +21,5 @@ unfoldable pub may_make_text : Config → Phrase → Bool
 may_make_text config Never = false
 may_make_text config Nothing = false
 may_make_text config (One x) = is_spelled_anew x.kind
-may_make_text config (NameOf at bytes) = has_backslash bytes || is_escaped config (turned bytes)
+may_make_text config (NameOf at bytes) = has_backslash bytes || wants_escapes config (turned bytes)
 may_make_text config (Then a b) = may_make_text config a || may_make_text config b

@@ -7,12 +7,12 @@ use Rattle.swc_ecma_codegen_util.specs.declared.config.Config.{Config}
 use Rattle.swc_ecma_codegen_literals.specs.AsciiNames.{is_ascii_text, is_out_of_target, ascii_name}
 
 -- A text of a name is made anew in ASCII.
-unfoldable pub is_escaped : Config → List ℕ → Bool
-is_escaped config t = config.ascii_only && not (is_ascii_text t)
+unfoldable pub wants_escapes : Config → List ℕ → Bool
+wants_escapes config t = config.ascii_only && not (is_ascii_text t)
 
 -- a text of a name, in ASCII where the settings ask for that: `\u00e9`
 unfoldable pub in_ascii : Config → List ℕ → List ℕ
-in_ascii config t = if is_escaped config t then ascii_name false config.target (chars t) else t
+in_ascii config t = if wants_escapes config t then ascii_name false config.target (chars t) else t
 
 -- In ASCII no escape of a name stands for one of its characters: for one above U+FFFF, up to ECMAScript 5.
 unfoldable pub is_out_name : Config → List ℕ → Bool

@@ -8,7 +8,7 @@ use Rattle.swc_ecma_codegen_text_writer.specs.Sheet.{Semi, Space, Keyword, Opera
 use Rattle.swc_ecma_codegen_ast.specs.ValidNames.{turned}
 use Rattle.swc_ecma_codegen_base.specs.declared.refusals.Unprintable.TheVariants.{NameOutOfTarget}
 use Rattle.swc_ecma_codegen_base.specs.Run.{Part, step, Guard, Token, Plain, Remake, refuse, when_minified, no_part, has_backslash}
-use Rattle.swc_ecma_codegen_base.specs.Targets.{is_escaped, in_ascii, is_out_name}
+use Rattle.swc_ecma_codegen_base.specs.Targets.{wants_escapes, in_ascii, is_out_name}
 
 -- a keyword
 unfoldable pub keyword : Option Span → List ℕ → Part
@@ -84,7 +84,7 @@ symbol span t rest = step (Guard t) (start_of span (step (Token Name (Symbol dum
 unfoldable pub spelled_symbol : Span → List ℕ → Part
 spelled_symbol span t rest env =
     if is_out_name env.config t then refuse NameOutOfTarget rest env
-    else step (Remake (is_escaped env.config t)) (symbol span (in_ascii env.config t) rest) env
+    else step (Remake (wants_escapes env.config t)) (symbol span (in_ascii env.config t) rest) env
 
 -- A name in which U+0000 after a backslash is left out.
 unfoldable pub valid_symbol : Span → List ℕ → Part

@@ -2,7 +2,7 @@
 
 ghost use Rattle.std.specs.Prelude.{◌≡◌, ℕ, OnOk, IsNone, List, ◌++◌, false, true};
 ghost use Rattle.swc_ecma_codegen_base.specs.Run.{Emits};
-ghost use Rattle.swc_ecma_codegen_base.specs.Targets.{is_escaped};
+ghost use Rattle.swc_ecma_codegen_base.specs.Targets.{wants_escapes};
 ghost use Rattle.swc_ecma_codegen_base.specs.Words.{name, name_text, symbol, spelled_symbol, valid_symbol, question};
 ghost use Rattle.swc_ecma_codegen_ast.specs.Tokens.{Token};
 ghost use Rattle.swc_ecma_codegen_ast.specs.SpelledNames.{is_well_formed_name};
@@ -19,9 +19,9 @@ use swc_ecma_codegen_text_writer::WriteJs;
 use swc_ecma_codegen_util::config::Config;
 
 /// Whether a text of a name is made anew in ASCII.
-#[tactic(auto, unfolding(crate::specs::Targets::is_escaped))]
-fn is_escaped(cfg: &Config, text: &str) -> bool
-    ensures { result ≡ is_escaped cfg.now text.now }
+#[tactic(auto, unfolding(crate::specs::Targets::wants_escapes))]
+fn wants_escapes(cfg: &Config, text: &str) -> bool
+    ensures { result ≡ wants_escapes cfg.now text.now }
 {
     cfg.ascii_only && !is_ascii(text)
 }
@@ -47,7 +47,7 @@ impl LowerEmitter {
         span: Span,
         text: &str,
     ) -> Answer
-        requires { is_escaped cfg.now text.now ≡ true }
+        requires { wants_escapes cfg.now text.now ≡ true }
         ensures items { Emits (spelled_symbol span text.now) (state_of cfg.now (W.sheet wr.old) self.old) (state_of cfg.now (W.sheet wr.new) self.new) result }
         ensures level { OnOk result ((W.sheet wr.new).indentation ≡ (W.sheet wr.old).indentation) }
     {
@@ -74,7 +74,7 @@ impl LowerEmitter {
         ensures items { Emits (spelled_symbol span text.now) (state_of cfg.now (W.sheet wr.old) self.old) (state_of cfg.now (W.sheet wr.new) self.new) result }
         ensures level { OnOk result ((W.sheet wr.new).indentation ≡ (W.sheet wr.old).indentation) }
     {
-        if is_escaped(cfg, text) {
+        if wants_escapes(cfg, text) {
             return self.ascii_symbol(cfg, wr, span, text);
         }
         self.symbol(cfg, wr, span, text)
