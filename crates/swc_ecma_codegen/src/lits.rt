@@ -136,7 +136,8 @@ impl<W: WriteJs, S, C: Comments> Emitter<'_, W, S, C> {
         ensures items { Emits (lit node.now) (state_of W.sheet self.old) (state_of W.sheet self.new) result }
         ensures level { OnOk result ((W.sheet self.new.wr).indentation ≡ (W.sheet self.old.wr).indentation) }
     {
-        self.lower.lit(&self.cfg, &self.comments, &mut self.wr, node)
+        self.lower
+            .lit(&self.cfg, &self.comments, &mut self.wr, node)
     }
 
     /// Writes a number.
@@ -145,7 +146,8 @@ impl<W: WriteJs, S, C: Comments> Emitter<'_, W, S, C> {
         ensures items { Emits (number_lit node.now) (state_of W.sheet self.old) (state_of W.sheet self.new) result }
         ensures level { OnOk result ((W.sheet self.new.wr).indentation ≡ (W.sheet self.old.wr).indentation) }
     {
-        self.lower.number_lit(&self.cfg, &self.comments, &mut self.wr, node)
+        self.lower
+            .number_lit(&self.cfg, &self.comments, &mut self.wr, node)
     }
 
     /// Writes a number before the dot of a property, which stands at `prop`: with a dot of its own, where the other one would

@@ -85,6 +85,7 @@ fn node_text<N: Printed>(alloc: Global, expr: &Expr<N>) -> Result<String, Error>
         Expr::Cond(node) => to_code(alloc, node),
         Expr::Seq(node) => to_code(alloc, node),
         Expr::Ident(node) => to_code(alloc, node),
+        Expr::Lit(node) => to_code(alloc, node),
         Expr::Paren(node) => to_code(alloc, node),
         _ => Err(Error::UnsupportedNode),
     }

@@ -6,11 +6,13 @@
 //! that begin with `#` say where the rows come from.
 //!
 //! A tree is also written in steps, each after those of its operands: `a b + c *` for `(a + b) * c`. A row `operator` or
-//! `step` says what one is: its JSON and its tokens, with `•` for each operand.
+//! `step` says what one is: its JSON and its tokens, with `•` for each operand. A token has a letter for its kind before
+//! it: `w` a word, `n` a name, `p` a punctuator, `0` a number, `b` a big integer, `s` a string, `r` a regular expression.
 #![tactic(auto)]
 
 mod depths;
 mod fields;
+mod literals;
 mod looks;
 mod nestings;
 mod reading;

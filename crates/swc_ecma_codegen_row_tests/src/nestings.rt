@@ -1,4 +1,4 @@
-//! Every operator as an operand of another.
+//! Every operator, and some literals, as an operand of another.
 
 use crate::steps::{Step, all_named, named};
 use crate::trees::{has_texts, reads_back};

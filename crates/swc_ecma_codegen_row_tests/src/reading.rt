@@ -2,18 +2,24 @@
 
 use std::alloc::{AllocError, Global};
 use swc_ecma_codegen_ast::kinds::Kind;
+use swc_ecma_codegen_ast::number_values::{HeldNumber, numeric_value};
 use swc_ecma_codegen_ast::reader::{characters, read_tokens};
+use swc_ecma_codegen_ast::string_values::string_value;
 
-/// A letter for each kind.
+/// A letter for each kind, as in the rows.
 fn kind_of(letter: &str) -> Kind {
     match letter {
         "n" => Kind::Name,
         "w" => Kind::Word,
+        "0" => Kind::Number,
+        "b" => Kind::BigInt,
+        "s" => Kind::Str,
+        "r" => Kind::Regex,
         _ => Kind::Punctuator,
     }
 }
 
-/// Whether a text reads as these tokens.
+/// Whether a text reads as these tokens. A number, a big integer or a string may be spelled otherwise there.
 pub fn reads_as(alloc: Global, text: &str, tokens: &str) -> Result<bool, AllocError> {
     let text = characters(alloc, text)?;
     let mut kinds = Vec::new(alloc);
@@ -24,18 +30,97 @@ pub fn reads_as(alloc: Global, text: &str, tokens: &str) -> Result<bool, AllocEr
     }
     match read_tokens(alloc, &text, &kinds)? {
         None => Ok(false),
-        Some(found) => are_spelled(alloc, &found, tokens),
+        Some(found) => are_tokens(alloc, &found, tokens),
     }
 }
 
-fn are_spelled(alloc: Global, found: &[&[char]], tokens: &str) -> Result<bool, AllocError> {
+fn are_tokens(alloc: Global, found: &[&[char]], tokens: &str) -> Result<bool, AllocError> {
     let mut left = found;
     for token in tokens.split_ascii_whitespace() {
-        let (_, spelling) = token.split_once(':').unwrap_or(("", ""));
+        let (letter, spelling) = token.split_once(':').unwrap_or(("", ""));
         match left {
-            [first, rest @ ..] if *first == characters(alloc, spelling)?.as_slice() => left = rest,
+            [first, rest @ ..] if is_token(alloc, letter, first, &characters(alloc, spelling)?)? =>
+                { left = rest }
             _ => return Ok(false),
         }
     }
     Ok(left.is_empty())
+}
+
+/// Whether a text is this token of this kind.
+fn is_token(
+    alloc: Global,
+    letter: &str,
+    found: &[char],
+    token: &[char],
+) -> Result<bool, AllocError> {
+    match letter {
+        "0" | "b" => Ok(found == token || is_as_much(value(found), value(token))),
+        "s" => is_alike(
+            string_value(alloc, true, found)?,
+            string_value(alloc, true, token)?,
+        ),
+        _ => Ok(found == token),
+    }
+}
+
+/// A number as digits that end with no zero, and a power of ten: 1, 3 and 0 of `1000`; 25, 0 and 1 of `2.50`.
+type Value = (u128, u128, u128);
+
+/// The value of a numeric literal; `None` where there is no room for it.
+fn value(text: &[char]) -> Option<Value> {
+    match numeric_value(text) {
+        Some(number) => Some(shortened(number, 0)),
+        None => rounded(text),
+    }
+}
+
+/// The same of a large integer that ends with zeros.
+fn rounded(text: &[char]) -> Option<Value> {
+    if !text.iter().all(|c| c.is_ascii_digit()) {
+        return None;
+    }
+    let mut kept = text;
+    let mut zeros: u128 = 0;
+    for _ in 1..text.len() {
+        if let [rest @ .., '0'] = kept {
+            kept = rest;
+            zeros = zeros.saturating_add(1);
+        }
+    }
+    Some(shortened(numeric_value(kept)?, zeros))
+}
+
+/// The value of a number and so many zeros.
+fn shortened(number: HeldNumber, zeros: u128) -> Value {
+    let mut whole = number.whole;
+    let mut tens = number.tens.saturating_add(zeros);
+    for _ in 0..39 {
+        if whole != 0 && whole % 10 == 0 {
+            whole /= 10;
+            tens = tens.saturating_add(1);
+        }
+    }
+    if whole == 0 {
+        return (0, 0, 0);
+    }
+    let common = tens.min(number.tenths);
+    (
+        whole,
+        tens.saturating_sub(common),
+        number.tenths.saturating_sub(common),
+    )
+}
+
+/// Whether two values are known and the same.
+fn is_as_much(a: Option<Value>, b: Option<Value>) -> bool {
+    a.is_some() && a == b
+}
+
+/// Whether two strings have the same code units.
+fn is_alike(a: Option<Vec<u16>>, b: Option<Vec<u16>>) -> Result<bool, AllocError> {
+    match (a, b) {
+        (Some(a), Some(b)) => Ok(a.as_slice() == b.as_slice()),
+        _ => Ok(false),
+    }
 }

@@ -2,11 +2,12 @@
 
 use crate::depths::have_text;
 use crate::fields::{bytes, fields, json, script};
+use crate::literals;
 use crate::looks::look;
 use crate::nestings::are_printed;
-use crate::runs::{answers, prints, refuses};
+use crate::runs::{answers, given, prints, refuses};
 use crate::steps::{Step, all_named, is_step, program};
-use crate::trees::{has_texts, is_formed, prints_expr};
+use crate::trees::{has_texts, is_formed, is_printed_with, prints_expr};
 use std::alloc::{AllocError, Global};
 use swc_ecma_codegen_common::Error;
 use swc_ecma_codegen_json::ReadError;
@@ -31,9 +32,15 @@ fn answer(alloc: Global, steps: &[Step], line: &str) -> Result<bool, AllocError>
         [word, kind, levels, text] if word.as_str() == "deep" => {
             Ok(have_text(alloc, kind, levels, text))
         }
+        [word, words, made_of, text] if word.as_str() == "prints" => {
+            is_printed_with(alloc, steps, words, [made_of, text])
+        }
         [word, words, pretty, minified] => of_steps(alloc, steps, word, words, [pretty, minified]),
         [word, outer, place, pretty, minified] if word.as_str() == "nestings" => {
             are_printed(alloc, steps, [outer, place], [pretty, minified])
+        }
+        [word, literal, tokens, texts, of_member] if word.as_str() == "literal" => {
+            literals::has_texts(alloc, literal, tokens, [texts, of_member])
         }
         [word, words, short, status, text, lines] if word.as_str() == "run" => {
             of_run(alloc, words, short, [status, text, lines])
@@ -66,6 +73,7 @@ fn of_text(alloc: Global, word: &str, short: &str, text: &str) -> Result<bool, A
             let short = script(alloc, short)?;
             Ok(prints_expr(alloc, &json(alloc, &short)?, text))
         }
+        "well_formed_literal" => literals::is_formed(alloc, short, text == "yes"),
         _ => Ok(false),
     }
 }
@@ -74,10 +82,7 @@ fn of_text(alloc: Global, word: &str, short: &str, text: &str) -> Result<bool, A
 fn of_run(alloc: Global, words: &str, short: &str, answer: [&str; 3]) -> Result<bool, AllocError> {
     let [status, text, lines] = answer;
     let json = json(alloc, short)?;
-    let mut given = Vec::new(alloc);
-    for word in words.split_ascii_whitespace() {
-        given.push(String::from_str(alloc, word)?)?;
-    }
+    let given = given(alloc, words)?;
     match status.parse() {
         Ok(status) => Ok(answers(alloc, &given, json.as_bytes(), status, text, lines)),
         Err(_) => Ok(false),

@@ -135,9 +135,14 @@ pub fn program(alloc: Global, steps: &[&Step]) -> Result<String, AllocError> {
     json(alloc, script(alloc, &expr)?.as_str())
 }
 
+/// The tokens of that expression.
+pub fn tokens_within(alloc: Global, steps: &[&Step]) -> Result<String, AllocError> {
+    made(alloc, steps, Part::Tokens)
+}
+
 /// The tokens of that script.
 pub fn tokens(alloc: Global, steps: &[&Step]) -> Result<String, AllocError> {
-    let mut tokens = made(alloc, steps, Part::Tokens)?;
+    let mut tokens = tokens_within(alloc, steps)?;
     tokens.push_str(" p:;")?;
     Ok(tokens)
 }

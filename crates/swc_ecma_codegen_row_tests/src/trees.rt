@@ -2,8 +2,8 @@
 
 use crate::looks::{Answers, Texts, look};
 use crate::reading::reads_as;
-use crate::runs::prints;
-use crate::steps::{Step, program, tokens};
+use crate::runs::{prints, prints_with};
+use crate::steps::{Step, all_named, program, tokens, tokens_within};
 use std::alloc::{AllocError, Global};
 
 /// The texts of a program that is well-formed, or isn't.
@@ -76,4 +76,23 @@ pub fn prints_expr(alloc: Global, json: &str, text: &str) -> bool {
         }
         None => false,
     }
+}
+
+/// Whether a run with these words prints this text of a tree in steps, and it reads back.
+pub fn is_printed_with(
+    alloc: Global,
+    steps: &[Step],
+    words: &str,
+    [made_of, text]: [&str; 2],
+) -> Result<bool, AllocError> {
+    let Some(tree) = all_named(alloc, steps, made_of)? else {
+        return Ok(false);
+    };
+    let json = program(alloc, &tree)?;
+    let read = if text.trim_end().ends_with(';') {
+        tokens(alloc, &tree)?
+    } else {
+        tokens_within(alloc, &tree)?
+    };
+    Ok(prints_with(alloc, words, json.as_bytes(), text)? && reads_as(alloc, text, &read)?)
 }

@@ -1,5 +1,5 @@
 -- The place after some bytes.
-use Rattle.std.proofs.Common.{◌≡◌, ℕ, ◌+◌, List, [], ◌∷◌, ◌++◌, true, false, cond, eqb, nat_le, ◌&&◌, refl, sym, ap, ◌∙◌, arith, length, ◌<◌, take, get_or}
+use Rattle.std.proofs.Common.{◌≡◌, ℕ, ◌+◌, List, [], ◌∷◌, ◌++◌, true, false, cond, eqb, nat_le, refl, sym, ap, ◌∙◌, arith, length, ◌<◌, take, get_or}
 use Rattle.std.proofs.lemmas.Bool.{ne_eqb, and_parts, true≢false}
 use Rattle.std.proofs.lemmas.List.{take_more}
 use Rattle.swc_ecma_codegen_text_writer.specs.Places.{Place, units_of, after_lf, after_byte, after_text, next_line}

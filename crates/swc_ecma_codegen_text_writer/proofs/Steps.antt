@@ -11,6 +11,7 @@ use Rattle.swc_ecma_codegen_text_writer.specs.Told.{IsFront}
 use Rattle.swc_ecma_codegen_text_writer.specs.Places.{Place, origin, after_text}
 use Rattle.swc_ecma_codegen_text_writer.specs.Sheet.{Sheet, Pair, with_pair, pointed, Item, Causes, earlier, stopped, Writes, Semicolons, AtOnce, appended, indented, start_recorded, end_recorded, pending_recorded, recorded, started, written, literal_written, ended, settled, settled_by, semicolon_by, dropped, is_ending, before_punct, effect, Deeper}
 use Rattle.swc_ecma_codegen_text_writer.specs.View.{HasReason, Halted, Reaches, Prefaces}
+use Rattle.swc_ecma_codegen_text_writer.proofs.Recording.{records_none}
 use Rattle.swc_ecma_codegen_text_writer.proofs.Sheets.{Alike, alike_refl, alike_trans, start_alike, end_alike, pending_alike, appended_alike, indented_alike, front_refl, front_append, front_trans}
 
 -- ---- copies
@@ -155,6 +156,27 @@ unfolding written
 written_some span [] s h = absurd (omega (arith, h))
 written_some span (c ∷ cs) s h = refl
 
+-- in a line a text is written as it is
+pub written_in_line : (t : List ℕ) (s : Sheet) → 0 < length t → s.at_line_start ≡ false → appended t s ≡ written None t s
+unfolding start_recorded end_recorded
+written_in_line t s h k = ap (appended t) (sym (started_false s k)) ∙ written_some None t s h
+
+same_case : (b : Bool) (s : Sheet) → cond b s s ≡ s
+same_case true s = refl
+same_case false s = refl
+
+-- position 0 is never recorded
+recorded_none : (pos : BytePos) (s : Sheet) → pos.0 ≡ 0 → recorded pos s ≡ s
+unfolding recorded Records
+recorded_none pos s h =
+    ap (λ (z : List Pair). cond s.keeps_positions (record s { pairs = z }) s) (sym (records_none pos s.place s.pairs h)) ∙ same_case s.keeps_positions s
+
+-- so nothing of a span that stands nowhere
+pub written_nowhere : (span : Span) (t : List ℕ) (s : Sheet) → span.lo.0 ≡ 0 → span.hi.0 ≡ 0 → written (Some span) t s ≡ written None t s
+unfolding written start_recorded end_recorded
+written_nowhere span [] s h k = refl
+written_nowhere span (c ∷ cs) s h k = recorded_none span.hi _ k ∙ ap (appended (c ∷ cs)) (recorded_none span.lo (started s) h)
+
 -- from there to the end of a text
 pub started_written : (span : Option Span) (t : List ℕ) (s : Sheet) → 0 < length t → Alike (started s) (written span t s)
 started_written span t s h =
@@ -174,6 +196,10 @@ literal_some span (c ∷ cs) s h = refl
 -- the place after what was sent before and now
 pub place_on : (before t after : List ℕ) → after ≡ before ++ t → after_text after origin ≡ after_text t (after_text before origin)
 place_on before t after h = ap (λ z. after_text z origin) h ∙ after_append before t origin
+
+-- the same sheet, by what it has of an outlet
+pub outlet_same : (s : Sheet) (x : List ℕ) (b : Bool) (p : Place) (n : ℕ) → x ≡ s.text → b ≡ s.whole → p ≡ s.place → n ≡ s.faults → record s { text = x; whole = b; place = p; faults = n } ≡ s
+outlet_same s x b p n h k l m = λ i. record s { text = h i; whole = k i; place = l i; faults = m i }
 
 -- the sheet after a text that went out, by its parts
 pub new_place : (bytes : List ℕ) → bytes ≡ [] → after_text bytes origin ≡ origin

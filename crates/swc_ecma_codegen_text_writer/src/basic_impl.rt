@@ -1,6 +1,6 @@
 //! The writer over an `io::Write`.
 
-ghost use Rattle.std.specs.Prelude.{◌≡◌, false};
+ghost use Rattle.std.specs.Prelude.{◌≡◌, false, true};
 ghost use Rattle.std.proofs.Props.{props};
 ghost use Rattle.swc_ecma_codegen_text_writer.specs.Places.{origin, after_text};
 ghost use Rattle.swc_ecma_codegen_text_writer.specs.Kept.{IsCounted};
@@ -9,11 +9,18 @@ use crate::WriteJs;
 use crate::kept::{KeepsPositions, Kept};
 use crate::outlet::Outlet;
 use std::alloc::Global;
-use std::io;
 use std::io::Write;
-use swc_ecma_codegen_common::{Answer, BytePos, LineCol, Refusal, Result, Span};
+use swc_ecma_codegen_common::{Answer, BytePos, Error, LineCol, Refusal, Result, Span};
 
 const DEFAULT_INDENT: &str = "    ";
+
+/// Whether nothing of a span is recorded, as of one that stands nowhere: position 0 never is.
+#[inline(always)]
+fn is_nowhere(span: Span) -> bool
+    ensures { result ≡ true → (span.lo.0 ≡ 0) × (span.hi.0 ≡ 0) }
+{
+    span.lo.0 == 0 && span.hi.0 == 0
+}
 
 /// A `JsWriter` with any `K` that keeps its positions, or keeps none. Since `K` is a parameter, its own functions know of
 /// no `&mut` in it, and `into_inner` may take it by value.
@@ -26,7 +33,6 @@ pub struct Lines<'a, W: Write, K: KeepsPositions> {
     indent: u32,
     line_start: bool,
     failed: bool,
-    fault: Option<io::Error>,
     kept: K,
     ghost counted: { failed ≡ false → IsCounted (K.keeps kept) (K.reached kept) (after_text outlet.log.bytes origin) } by { Prim.hlevel props },
 }
@@ -75,16 +81,15 @@ impl<'a, W: Write> JsWriter<'a, W> {
             indent: 0,
             line_start: true,
             failed: false,
-            fault: None,
             kept: Kept::new(srcmap),
         }
     }
 }
 
 impl<'a, W: Write, K: KeepsPositions> Lines<'a, W, K> {
-    ghost use Rattle.std.specs.Prelude.{◌<◌, true, length, IsSome, Some, None};
+    ghost use Rattle.std.specs.Prelude.{◌<◌, length, IsSome, Some, None, Err};
     ghost use Rattle.std.specs.Str.{is_utf8};
-    ghost use Rattle.swc_ecma_codegen_common.specs.Refusals.{in_short};
+    ghost use Rattle.swc_ecma_codegen_common.specs.Refusals.{in_short, reason_of};
     ghost use Rattle.swc_ecma_codegen_text_writer.specs.Told.{told};
     ghost use Rattle.swc_ecma_codegen_text_writer.specs.Sheet.{Writes, Deeper, Shallower, appended, indented, recorded, start_recorded, end_recorded, pending_recorded, started, written, literal_written};
     ghost use Rattle.swc_ecma_codegen_text_writer.specs.View.{sheet_of, new_sheet, keeping, Prefaces, Tells, Reaches, WritesText, WritesLiteral, WritesLine, WritesPosition, WritesNothing};
@@ -132,7 +137,6 @@ impl<'a, W: Write, K: KeepsPositions> Lines<'a, W, K> {
             indent: _,
             line_start: _,
             failed: _,
-            fault: _,
             kept: _,
         } = self;
         outlet.into_inner()
@@ -146,18 +150,31 @@ impl<'a, W: Write, K: KeepsPositions> Lines<'a, W, K> {
     }
 
     /// Sends a text out as it is.
+    #[inline(never)]
     fn send(&mut self, text: &str) -> Answer
         requires { (sheet_of self.old).refused ≡ false }
         ensures { Reaches (appended text.now (sheet_of self.old)) (sheet_of self.old) (sheet_of self.new) result }
     {
+        self.hand_on(text, true)
+    }
+
+    /// The same, where it is called. A text needs to be counted only where positions are kept.
+    #[inline(always)]
+    fn hand_on(&mut self, text: &str, counts: bool) -> Answer
+        requires fresh { (sheet_of self.old).refused ≡ false }
+        requires counted { counts ≡ false → (sheet_of self.old).keeps_positions ≡ false }
+        ensures { Reaches (appended text.now (sheet_of self.old)) (sheet_of self.old) (sheet_of self.new) result }
+    {
         match self.outlet.write_text(text) {
             Ok(()) => {
+                if !counts {
+                    return Ok(());
+                }
                 self.kept.pass(text);
                 Ok(())
             }
-            Err(error) => {
+            Err(_) => {
                 self.failed = true;
-                self.fault = Some(error);
                 Err(Refusal::Writer)
             }
         }
@@ -176,6 +193,7 @@ impl<'a, W: Write, K: KeepsPositions> Lines<'a, W, K> {
     }
 
     /// Records a position, where positions are kept.
+    #[inline(always)]
     fn record(&mut self, pos: BytePos) -> Answer
         requires { (sheet_of self.old).refused ≡ false }
         ensures { Reaches (recorded pos (sheet_of self.old)) (sheet_of self.old) (sheet_of self.new) result }
@@ -209,6 +227,7 @@ impl<'a, W: Write, K: KeepsPositions> Lines<'a, W, K> {
     }
 
     /// Records where a span starts.
+    #[inline(always)]
     #[tactic(auto, unfolding(crate::specs::View::Reaches, crate::specs::Sheet::start_recorded))]
     fn record_start(&mut self, span: Option<Span>) -> Answer
         requires { (sheet_of self.old).refused ≡ false }
@@ -221,6 +240,7 @@ impl<'a, W: Write, K: KeepsPositions> Lines<'a, W, K> {
     }
 
     /// Records where a span ends.
+    #[inline(always)]
     #[tactic(auto, unfolding(crate::specs::View::Reaches, crate::specs::Sheet::end_recorded))]
     fn record_end(&mut self, span: Option<Span>) -> Answer
         requires { (sheet_of self.old).refused ≡ false }
@@ -232,7 +252,8 @@ impl<'a, W: Write, K: KeepsPositions> Lines<'a, W, K> {
         }
     }
 
-    /// Sends the indentation, at a line's start, and records the position that is pending.
+    /// At a line's start, sends the indentation, and records the position that is pending.
+    #[inline(always)]
     fn start_line(&mut self) -> Answer
         requires { (sheet_of self.old).refused ≡ false }
         ensures { Reaches (started (sheet_of self.old)) (sheet_of self.old) (sheet_of self.new) result }
@@ -240,22 +261,34 @@ impl<'a, W: Write, K: KeepsPositions> Lines<'a, W, K> {
         if !self.line_start {
             return Ok(());
         }
+        self.begin_line()
+    }
+
+    /// Sends the indentation, and records the position that is pending.
+    #[inline(never)]
+    fn begin_line(&mut self) -> Answer
+        requires fresh { (sheet_of self.old).refused ≡ false }
+        requires start { (sheet_of self.old).at_line_start ≡ true }
+        ensures { Reaches (started (sheet_of self.old)) (sheet_of self.old) (sheet_of self.new) result }
+    {
         self.indent()?;
         self.set_line_start(false);
         self.record_pending()
     }
 
     /// Sends a text in a line, and records its span.
+    #[inline(always)]
     fn put_in_line(&mut self, span: Option<Span>, text: &str) -> Answer
         requires { (sheet_of self.old).refused ≡ false }
         ensures { Reaches (end_recorded span (appended text.now (start_recorded span (sheet_of self.old)))) (sheet_of self.old) (sheet_of self.new) result }
     {
         self.record_start(span)?;
-        self.send(text)?;
+        self.hand_on(text, true)?;
         self.record_end(span)
     }
 
     /// Writes a text that isn't empty.
+    #[inline(always)]
     fn put(&mut self, span: Option<Span>, text: &str) -> Answer
         requires fresh { (sheet_of self.old).refused ≡ false }
         requires some { 0 < length text.now }
@@ -277,7 +310,85 @@ impl<'a, W: Write, K: KeepsPositions> Lines<'a, W, K> {
     }
 
     /// Writes a text, after the indentation at a line's start.
+    #[inline(always)]
     fn write(&mut self, span: Option<Span>, text: &str) -> Answer
+        ensures { WritesText span text.now (sheet_of self.old) (sheet_of self.new) result }
+    {
+        match span {
+            None => self.write_plain(text),
+            Some(span) => self.write_with(span, text),
+        }
+    }
+
+    /// The same with a span. One that stands nowhere takes the shorter way, since none of it is recorded.
+    #[inline(always)]
+    fn write_with(&mut self, span: Span, text: &str) -> Answer
+        ensures { WritesText (Some span) text.now (sheet_of self.old) (sheet_of self.new) result }
+    {
+        if is_nowhere(span) {
+            return self.write_plain(text);
+        }
+        self.write_spanned(span, text)
+    }
+
+    /// The same without a span. Most texts are one byte, as a blank and most punctuators are.
+    #[inline(always)]
+    fn write_plain(&mut self, text: &str) -> Answer
+        ensures { WritesText None text.now (sheet_of self.old) (sheet_of self.new) result }
+    {
+        if text.len() == 1 {
+            self.write_byte(text)
+        } else {
+            self.write_bytes(text)
+        }
+    }
+
+    /// Writes a text of one byte: in most calls it is only sent.
+    #[inline(never)]
+    fn write_byte(&mut self, text: &str) -> Answer
+        requires { length text.now ≡ 1 }
+        ensures { WritesText None text.now (sheet_of self.old) (sheet_of self.new) result }
+    {
+        if self.failed || self.line_start || self.kept.is_kept() {
+            return self.write_counted_byte(text);
+        }
+        if text.len() != 1 {
+            unreachable!();
+        }
+        self.hand_on(text, false)
+    }
+
+    /// The same where positions are kept, or at a line's start.
+    #[inline(never)]
+    fn write_counted_byte(&mut self, text: &str) -> Answer
+        requires { length text.now ≡ 1 }
+        ensures { WritesText None text.now (sheet_of self.old) (sheet_of self.new) result }
+    {
+        if text.len() != 1 {
+            unreachable!();
+        }
+        self.write_here(None, text)
+    }
+
+    /// Writes a text of any length, without a span.
+    #[inline(never)]
+    fn write_bytes(&mut self, text: &str) -> Answer
+        ensures { WritesText None text.now (sheet_of self.old) (sheet_of self.new) result }
+    {
+        self.write_here(None, text)
+    }
+
+    /// Writes a text, and records its span.
+    #[inline(never)]
+    fn write_spanned(&mut self, span: Span, text: &str) -> Answer
+        ensures { WritesText (Some span) text.now (sheet_of self.old) (sheet_of self.new) result }
+    {
+        self.write_here(Some(span), text)
+    }
+
+    /// Writes a text, where it is called.
+    #[inline(always)]
+    fn write_here(&mut self, span: Option<Span>, text: &str) -> Answer
         ensures { WritesText span text.now (sheet_of self.old) (sheet_of self.new) result }
     {
         if self.failed {
@@ -303,6 +414,7 @@ impl<'a, W: Write, K: KeepsPositions> Lines<'a, W, K> {
     }
 
     /// Writes the line's end, unless at a line's start, where it forgets the position that is pending.
+    #[inline(always)]
     fn end_line(&mut self) -> Answer
         ensures { WritesLine (sheet_of self.old) (sheet_of self.new) result }
     {
@@ -362,6 +474,7 @@ impl<'a, W: Write, K: KeepsPositions> Lines<'a, W, K> {
     }
 
     /// Does nothing, for a call that has nothing to do here.
+    #[inline(always)]
     fn nothing(&mut self) -> Answer
         ensures { WritesNothing (sheet_of self.old) (sheet_of self.new) result }
     {
@@ -372,15 +485,26 @@ impl<'a, W: Write, K: KeepsPositions> Lines<'a, W, K> {
     }
 
     /// The answer of a call, with the error that the writer under it gave.
-    #[tactic(auto, unfolding(crate::specs::View::sheet_of))]
+    #[inline]
     fn answer(&mut self, answer: Answer) -> Result
         ensures answer { in_short result ≡ answer }
         ensures same { sheet_of self.new ≡ sheet_of self.old }
     {
         match answer {
             Ok(()) => Ok(()),
-            Err(refusal) => Err(refusal.with_fault(self.fault.take())),
+            Err(refusal) => Err(self.refuse(refusal)),
         }
+    }
+
+    /// The error of a refusal, with the one that the writer under it gave.
+    #[cold]
+    #[inline(never)]
+    #[tactic(auto, unfolding(crate::specs::View::sheet_of))]
+    fn refuse(&mut self, refusal: Refusal) -> Error
+        ensures reason { reason_of result ≡ refusal }
+        ensures same { sheet_of self.new ≡ sheet_of self.old }
+    {
+        refusal.with_fault(self.outlet.take_fault())
     }
 }
 
@@ -399,24 +523,28 @@ impl<W: Write, K: KeepsPositions> WriteJs for Lines<'_, W, K> {
         self.answer(answer)
     }
 
+    #[inline]
     #[tactic(auto, unfolding(crate::specs::Sheet::effect), using(crate::proofs::Steps::semicolon_at_once))]
     fn write_semi(&mut self, span: Option<Span>) -> Result {
         let answer = self.write(span, ";");
         self.answer(answer)
     }
 
+    #[inline]
     #[tactic(auto, unfolding(crate::specs::Sheet::effect), using(crate::proofs::Steps::text_at_once))]
     fn write_space(&mut self) -> Result {
         let answer = self.write(None, " ");
         self.answer(answer)
     }
 
+    #[inline]
     #[tactic(auto, unfolding(crate::specs::Sheet::effect), using(crate::proofs::Steps::text_at_once))]
     fn write_keyword(&mut self, span: Option<Span>, s: &'static str) -> Result {
         let answer = self.write(span, s);
         self.answer(answer)
     }
 
+    #[inline]
     #[tactic(auto, unfolding(crate::specs::Sheet::effect), using(crate::proofs::Steps::text_at_once))]
     fn write_operator(&mut self, span: Option<Span>, s: &str) -> Result {
         let answer = self.write(span, s);
@@ -435,6 +563,7 @@ impl<W: Write, K: KeepsPositions> WriteJs for Lines<'_, W, K> {
         self.answer(answer)
     }
 
+    #[inline]
     #[tactic(auto, unfolding(crate::specs::Sheet::effect), using(crate::proofs::Steps::line_at_once))]
     fn write_line(&mut self) -> Result {
         let answer = self.end_line();
@@ -465,18 +594,21 @@ impl<W: Write, K: KeepsPositions> WriteJs for Lines<'_, W, K> {
         self.answer(answer)
     }
 
+    #[inline]
     #[tactic(auto, unfolding(crate::specs::Sheet::effect), using(crate::proofs::Steps::text_at_once))]
     fn write_symbol(&mut self, span: Span, s: &str) -> Result {
         let answer = self.write(Some(span), s);
         self.answer(answer)
     }
 
+    #[inline]
     #[tactic(auto, unfolding(crate::specs::Sheet::effect), using(crate::proofs::Steps::punct_at_once))]
     fn write_punct(&mut self, span: Option<Span>, s: &'static str) -> Result {
         let answer = self.write(span, s);
         self.answer(answer)
     }
 
+    #[inline(always)]
     #[tactic(auto, unfolding(crate::specs::View::sheet_of))]
     fn care_about_srcmap(&self) -> bool {
         self.kept.is_kept()
@@ -488,12 +620,14 @@ impl<W: Write, K: KeepsPositions> WriteJs for Lines<'_, W, K> {
         self.answer(answer)
     }
 
+    #[inline]
     #[tactic(auto, unfolding(crate::specs::Sheet::effect), using(crate::proofs::Steps::settled_at_once))]
     fn commit_pending_semi(&mut self) -> Result {
         let answer = self.nothing();
         self.answer(answer)
     }
 
+    #[inline(always)]
     #[tactic(auto, unfolding(crate::specs::View::sheet_of))]
     fn can_ignore_invalid_unicodes(&mut self) -> bool {
         false

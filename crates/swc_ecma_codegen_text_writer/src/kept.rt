@@ -97,6 +97,7 @@ impl KeepsPositions for Kept<'_> {
     }
 
     #[tactic(auto, unfolding(crate::specs::Kept::pairs_in, crate::specs::Kept::pending_in, crate::specs::Kept::reached_in, crate::specs::Kept::RecordsIn))]
+    #[inline(always)]
     fn pass(&mut self, text: &str) {
         if let Some(positions) = &mut self.positions {
             positions.pass(text);
@@ -104,6 +105,7 @@ impl KeepsPositions for Kept<'_> {
     }
 
     #[tactic(auto, unfolding(crate::specs::Kept::pairs_in, crate::specs::Kept::pending_in, crate::specs::Kept::reached_in, crate::specs::Kept::RecordsIn))]
+    #[inline(always)]
     fn record(&mut self, pos: BytePos) -> Answer {
         match &mut self.positions {
             None => Ok(()),

@@ -10,11 +10,17 @@ use std::io;
 use std::io::{ErrorKind, Write};
 use std::snapshot::Snapshot;
 
-/// A writer, and how many calls of its `write` failed. Proofs see further how it was handed in, and what went out since.
+/// A call of `write` failed: that is counted, and its error is kept.
+#[derive(Clone, Copy)]
+pub struct Fault {}
+
+/// A writer, how many calls of its `write` failed, and the error of the last of these until it is taken. Proofs see further how
+/// the writer was handed in, and what went out since.
 #[derive(Drop)]
 pub struct Outlet<W: Write> {
     inner: W,
     faults: u64,
+    fault: Option<io::Error>,
     before: Snapshot<W>,
     log: Log,
     ghost tells: { TellsSince (W.contents before.value) log.bytes (W.contents inner) } by { Prim.hlevel props },
@@ -34,6 +40,7 @@ impl<W: Write> Outlet<W> {
         Outlet {
             inner,
             faults: 0,
+            fault: None,
             before,
             log: Log::new(),
         }
@@ -45,23 +52,39 @@ impl<W: Write> Outlet<W> {
         let Outlet {
             inner,
             faults: _,
+            fault: _,
             before: _,
             log: _,
         } = self;
         inner
     }
 
-    fn count_fault(&mut self)
+    /// The error that was kept, which is kept no more.
+    pub fn take_fault(&mut self) -> Option<io::Error>
+        ensures before { self.new.before ≡ self.old.before }
+        ensures sent { sent self.new ≡ sent self.old }
+        ensures logged { self.new.log.bytes ≡ self.old.log.bytes }
+        ensures faults { self.new.faults ≡ self.old.faults }
+    {
+        self.fault.take()
+    }
+
+    /// Counts a fault, and keeps its error. The count stays at `u64::MAX`.
+    #[cold]
+    #[inline(never)]
+    fn count_fault(&mut self, error: io::Error)
         ensures before { self.new.before ≡ self.old.before }
         ensures log { self.new.log ≡ self.old.log }
         ensures faults { Rises self.old.faults self.new.faults }
     {
         self.faults = self.faults.saturating_add(1);
+        self.fault = Some(error);
     }
 
     /// Calls `write` once. A fault is counted, an interruption too, and so is an answer of 0, which is an error
-    /// `WriteZero` here. The count stays at `u64::MAX`.
-    fn write_once(&mut self, rest: &[u8]) -> io::Result<usize>
+    /// `WriteZero` here.
+    #[inline(always)]
+    fn write_once(&mut self, rest: &[u8]) -> Result<usize, Fault>
         requires { 0 < length rest.now }
         ensures taken { IfOk result (λ n. (0 < n) × (n ≤ length rest.now)) }
         ensures before { self.new.before ≡ self.old.before }
@@ -73,8 +96,8 @@ impl<W: Write> Outlet<W> {
     {
         match self.inner.write(rest) {
             Ok(0) => {
-                self.count_fault();
-                Err(io::Error::from(ErrorKind::WriteZero))
+                self.count_fault(io::Error::from(ErrorKind::WriteZero));
+                Err(Fault {})
             }
             Ok(n) => {
                 let taken = Taken { bytes: &rest[..n] };
@@ -82,14 +105,15 @@ impl<W: Write> Outlet<W> {
                 Ok(n)
             }
             Err(error) => {
-                self.count_fault();
-                Err(error)
+                self.count_fault(error);
+                Err(Fault {})
             }
         }
     }
 
-    /// Writes a text. After an error a beginning of it is out: of `"foo"` nothing, `f` or `fo`.
-    pub fn write_text(&mut self, text: &str) -> io::Result<()>
+    /// Writes a text. After a fault a beginning of it is out: of `"foo"` nothing, `f` or `fo`.
+    #[inline(always)]
+    pub fn write_text(&mut self, text: &str) -> Result<(), Fault>
         ensures before { self.new.before ≡ self.old.before }
         ensures sent { OnOk result (sent self.new ≡ sent self.old ++ text.now) }
         ensures logged { OnOk result (self.new.log.bytes ≡ self.old.log.bytes ++ text.now) }

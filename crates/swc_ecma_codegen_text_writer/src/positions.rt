@@ -183,6 +183,7 @@ impl<'a> Positions<'a> {
     }
 
     /// A text was written.
+    #[inline(never)]
     pub fn pass(&mut self, text: &str)
         ensures place { (p : Place) → Counts self.old p → Counts self.new (after_text text.now p) }
         ensures pairs { pairs self.new ≡ pairs self.old }
@@ -210,6 +211,7 @@ impl<'a> Positions<'a> {
     ///
     /// It answers `PositionTooLarge` where the line or the column is above `u32::MAX`, and `OutOfMemory` where the list
     /// can't grow; the list is then as it was.
+    #[inline(always)]
     pub fn record(&mut self, pos: BytePos) -> Answer
         ensures pairs { (p : Place) → Counts self.old p → Records pos p (pairs self.old) (pairs self.new) result }
         ensures place { (p : Place) → Counts self.old p → Counts self.new p }
@@ -219,6 +221,18 @@ impl<'a> Positions<'a> {
         if pos.0 == 0 {
             return Ok(());
         }
+        self.note(pos)
+    }
+
+    /// Records a position that isn't 0.
+    #[inline(never)]
+    fn note(&mut self, pos: BytePos) -> Answer
+        requires { 0 < pos.0 }
+        ensures pairs { (p : Place) → Counts self.old p → Records pos p (pairs self.old) (pairs self.new) result }
+        ensures place { (p : Place) → Counts self.old p → Counts self.new p }
+        ensures pending { self.new.pending ≡ self.old.pending }
+        ensures lent { self.new.list.ghost_name ≡ self.old.list.ghost_name }
+    {
         if self.reached.line >= LIMIT || self.reached.column >= LIMIT {
             return Err(Refusal::PositionTooLarge);
         }

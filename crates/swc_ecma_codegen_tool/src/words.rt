@@ -1,10 +1,19 @@
 //! The words of a run.
 
 ghost use Rattle.std.specs.Prelude.{◌≡◌, false, true, Err, Ok};
-ghost use Rattle.swc_ecma_codegen_tool.specs.Words.{are_options, is_given, is_option, options_of, settings_of};
+ghost use Rattle.swc_ecma_codegen_tool.specs.Words.{
+  are_options,
+  is_given,
+  is_option,
+  last_version,
+  options_of,
+  settings_of,
+  version_named,
+};
 
 use crate::faults::Fault;
 use swc_ecma_codegen::Config;
+use swc_ecma_codegen_common::EsVersion;
 
 /// What the words of a run ask for. A word that is given again asks for nothing more.
 #[derive(Debug, Clone, Copy, PartialEq, Eq)]
@@ -13,6 +22,10 @@ pub struct Options {
     pub minify: bool,
     /// `--omit-last-semi`: a semicolon that is held back at the end is left out.
     pub omit_last_semi: bool,
+    /// `--inline-script`: strings hold neither `</script` nor `<!--` nor `-->`.
+    pub inline_script: bool,
+    /// `--target es5`: literals are spelled for this version. The last one counts.
+    pub target: EsVersion,
     /// `--positions`: standard error gets the positions of the source, with where they stand in the text.
     pub positions: bool,
 }
@@ -29,17 +42,41 @@ impl Options {
         Ok(Options {
             minify: is_given(words, "--minify"),
             omit_last_semi: is_given(words, "--omit-last-semi"),
+            inline_script: is_given(words, "--inline-script"),
+            target: last_version(words),
             positions: is_given(words, "--positions"),
         })
     }
 
-    /// The settings that they ask for: `--minify` and `--omit-last-semi`, and else the default ones.
+    /// The settings that they ask for, and else the default ones.
     pub fn settings(self) -> Config
         ensures { result ≡ settings_of self }
     {
         Config::default()
+            .with_target(self.target)
             .with_minify(self.minify)
             .with_omit_last_semi(self.omit_last_semi)
+            .with_inline_script(self.inline_script)
+    }
+}
+
+/// The version of the language that a word names.
+fn version_named(word: &str) -> Option<EsVersion>
+    ensures { result ≡ version_named word.now }
+{
+    match word {
+        "es3" => Some(EsVersion::Es3),
+        "es5" => Some(EsVersion::Es5),
+        "es2015" => Some(EsVersion::Es2015),
+        "es2016" => Some(EsVersion::Es2016),
+        "es2017" => Some(EsVersion::Es2017),
+        "es2018" => Some(EsVersion::Es2018),
+        "es2019" => Some(EsVersion::Es2019),
+        "es2020" => Some(EsVersion::Es2020),
+        "es2021" => Some(EsVersion::Es2021),
+        "es2022" => Some(EsVersion::Es2022),
+        "esnext" => Some(EsVersion::EsNext),
+        _ => None,
     }
 }
 
@@ -47,14 +84,29 @@ impl Options {
 fn is_option(word: &str) -> bool
     ensures { result ≡ is_option word.now }
 {
-    matches!(word, "--minify" | "--omit-last-semi" | "--positions")
+    matches!(
+        word,
+        "--minify" | "--omit-last-semi" | "--inline-script" | "--positions" | "--target"
+    )
 }
 
-/// Whether each of these words is an option.
+/// Whether each of these words is an option, and the name of a version comes after each `--target`, and nowhere else.
 fn are_options(words: &[String]) -> bool
     ensures { result ≡ are_options words.now }
 {
-    words.iter().all(|word| is_option(word.as_str()))
+    let mut version_is_due = false;
+    for word in words {
+        let fits = if version_is_due {
+            version_named(word).is_some()
+        } else {
+            is_option(word)
+        };
+        if !fits {
+            return false;
+        }
+        version_is_due = word.as_str() == "--target";
+    }
+    !version_is_due
 }
 
 /// Whether a word stands among these.
@@ -62,4 +114,15 @@ fn is_given(words: &[String], word: &str) -> bool
     ensures { result ≡ is_given word.now words.now }
 {
     words.iter().any(|given| given.as_str() == word)
+}
+
+/// The version of the last name of one among these words; the latest where there is none.
+fn last_version(words: &[String]) -> EsVersion
+    ensures { result ≡ last_version EsVersion.EsNext words.now }
+{
+    let mut version = EsVersion::latest();
+    for word in words {
+        version = version_named(word).unwrap_or(version);
+    }
+    version
 }

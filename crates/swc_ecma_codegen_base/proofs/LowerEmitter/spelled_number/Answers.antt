@@ -10,7 +10,7 @@ returns-then-self-clause-items g c = λ rest. emits_failed _ _ c.if-self.true
 
 pub returns-in-Ok-clause-items : goal.returns-in-Ok-clause-items
 unfolding spelled_number
-returns-in-Ok-clause-items g c = spelled_anew (spelled_number c.args.in_lit c.args.n.now) _ (number_by c.args.in_lit c.args.n.now.span) _ _ _ _ _ c.if-self.false (λ rest. refl) (c.deref.ensures.value ∙ c.in-Ok.ensures.exactly) c.number_by-in-Ok.ensures.items
+returns-in-Ok-clause-items g c = spelled_anew (spelled_number c.args.in_lit c.args.n.now) _ (number_by c.args.in_lit c.args.n.now.span) _ _ _ _ _ c.if-self.false (λ rest. refl) (c.deref.ensures.value ∙ c.in-Ok.ensures.exactly) c.number_by.ensures.items
 
 pub returns-in-Err-clause-items : goal.returns-in-Err-clause-items
 unfolding spelled_number

@@ -10,7 +10,7 @@ returns-then-self-clause-items g c = λ rest. emits_failed _ _ c.if-self.true
 
 pub returns-in-Ok-clause-items : goal.returns-in-Ok-clause-items
 unfolding string_at
-returns-in-Ok-clause-items g c = spelled_anew (string_at c.args.in_lit c.args.n.now) _ (string_by c.args.in_lit c.args.n.now) _ _ _ _ _ c.if-self.false (λ rest. refl) (c.deref.ensures.value ∙ c.in-Ok.ensures.exactly) c.string_by-in-Ok.ensures.items
+returns-in-Ok-clause-items g c = spelled_anew (string_at c.args.in_lit c.args.n.now) _ (string_by c.args.in_lit c.args.n.now) _ _ _ _ _ c.if-self.false (λ rest. refl) (c.deref.ensures.value ∙ c.in-Ok.ensures.exactly) c.string_by.ensures.items
 
 pub returns-in-Err-clause-items : goal.returns-in-Err-clause-items
 unfolding string_at

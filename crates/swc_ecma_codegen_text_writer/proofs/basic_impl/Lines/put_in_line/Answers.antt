@@ -1,4 +1,5 @@
 use Rattle.std.proofs.Common.{sym, ◌∙◌, ap, subst, Err}
+use Rattle.std.proofs.lemmas.Bool.{true≢false}
 use Rattle.std.proofs.lemmas.Result.{err_from_is_err_and}
 use Rattle.swc_ecma_codegen_text_writer.specs.Sheet.{Sheet, appended, start_recorded, end_recorded}
 use Rattle.swc_ecma_codegen_text_writer.specs.View.{sheet_of, Reaches}
@@ -12,24 +13,27 @@ returns-in_err-record_start g c =
     let p = err_from_is_err_and c.from_residual.result c.from_residual.ensures.1 in
     rw (p.1, p.2) (first_halted _ _ _ _ _ (alike_trans _ _ _ (appended_alike c.args.text.now _) (end_alike c.args.span _)) c.in_err-record_start.ensures)
 
-pub send-requires : goal.send-requires
+pub hand_on-requires-clause-fresh : goal.hand_on-requires-clause-fresh
 unfolding Reaches
-send-requires g c = ap (λ (s : Sheet). s.refused) c.in_ok-record_start.ensures ∙ (alike_same _ _ (start_alike c.args.span (sheet_of c.args.self.now))).refused ∙ c.requires
+hand_on-requires-clause-fresh g c = ap (λ (s : Sheet). s.refused) c.in_ok-record_start.ensures ∙ (alike_same _ _ (start_alike c.args.span (sheet_of c.args.self.now))).refused ∙ c.requires
 
-pub returns-in_err-send : goal.returns-in_err-send
+pub hand_on-requires-clause-counted : goal.hand_on-requires-clause-counted
+hand_on-requires-clause-counted g c e = absurd (true≢false e)
+
+pub returns-in_err-hand_on : goal.returns-in_err-hand_on
 unfolding Reaches
-returns-in_err-send g c =
-    let p = err_from_is_err_and c.from_residual-in_err-send.result c.from_residual-in_err-send.ensures.1 in
+returns-in_err-hand_on g c =
+    let p = err_from_is_err_and c.from_residual-in_err-hand_on.result c.from_residual-in_err-hand_on.ensures.1 in
     rw (p.1, p.2)
     (reaches_then _ _ _ _ _ (Err _) c.in_ok-record_start.ensures (start_alike c.args.span _) (start_indentation c.args.span _)
-    (λ e. first_halted _ _ _ _ _ (subst (λ (z : Sheet). Alike (appended c.args.text.now z) (end_recorded c.args.span (appended c.args.text.now (start_recorded c.args.span (sheet_of c.args.self.now))))) (sym e) (end_alike c.args.span _)) c.in_err-send.ensures))
+    (λ e. first_halted _ _ _ _ _ (subst (λ (z : Sheet). Alike (appended c.args.text.now z) (end_recorded c.args.span (appended c.args.text.now (start_recorded c.args.span (sheet_of c.args.self.now))))) (sym e) (end_alike c.args.span _)) c.in_err-hand_on.ensures))
 
 pub record_end-requires : goal.record_end-requires
 unfolding Reaches appended
-record_end-requires g c = ap (λ (s : Sheet). s.refused) (c.in_ok-send.ensures ∙ ap (appended c.args.text.now) c.in_ok-record_start.ensures) ∙ (alike_same _ _ (start_alike c.args.span (sheet_of c.args.self.now))).refused ∙ c.requires
+record_end-requires g c = ap (λ (s : Sheet). s.refused) (c.in_ok-hand_on.ensures ∙ ap (appended c.args.text.now) c.in_ok-record_start.ensures) ∙ (alike_same _ _ (start_alike c.args.span (sheet_of c.args.self.now))).refused ∙ c.requires
 
 pub returns : goal.returns
 unfolding appended
 returns g c =
-    reaches_then _ _ _ _ _ _ (reached _ _ _ _ c.in_ok-send.ensures ∙ ap (appended c.args.text.now) (reached _ _ _ _ c.in_ok-record_start.ensures)) (alike_trans _ _ _ (start_alike c.args.span _) (appended_alike c.args.text.now _)) (start_indentation c.args.span _)
+    reaches_then _ _ _ _ _ _ (reached _ _ _ _ c.in_ok-hand_on.ensures ∙ ap (appended c.args.text.now) (reached _ _ _ _ c.in_ok-record_start.ensures)) (alike_trans _ _ _ (start_alike c.args.span _) (appended_alike c.args.text.now _)) (start_indentation c.args.span _)
     (λ e. reaches_to _ _ _ _ _ (ap (end_recorded c.args.span) e) c.record_end.ensures)

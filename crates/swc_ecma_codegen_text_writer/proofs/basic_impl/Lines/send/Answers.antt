@@ -1,27 +1,5 @@
-use Rattle.std.proofs.Common.{refl, sym, subst}
-use Rattle.swc_ecma_codegen_text_writer.specs.Sheet.{appended}
-use Rattle.swc_ecma_codegen_text_writer.specs.Reach.{Shows}
-use Rattle.swc_ecma_codegen_text_writer.specs.View.{sheet_of, Reaches, HasReason}
-use Rattle.swc_ecma_codegen_text_writer.proofs.Sheets.{front_refl}
-use Rattle.swc_ecma_codegen_text_writer.proofs.Steps.{sent_sheet, place_on}
+use Rattle.std.proofs.lemmas.Bool.{true≢false}
 use Rattle.swc_ecma_codegen_text_writer.proofs.basic_impl.Lines.send.Goals as goal
 
-pub returns-in-Ok : goal.returns-in-Ok
-unfolding sheet_of Reaches
-returns-in-Ok g c =
-    sent_sheet c.args.text.now (sheet_of c.args.self.now) _ _ _ _ _ _ _ _ c.in-Ok.ensures.sent c.in-Ok.ensures.whole c.in-Ok.ensures.faults (place_on _ _ _ c.in-Ok.ensures.logged) c.pass.ensures.keeps c.pass.ensures.keeps c.pass.ensures.pairs c.pass.ensures.pending
-
-pub returns-in-Err : goal.returns-in-Err
-unfolding sheet_of Reaches HasReason appended
-returns-in-Err g c = record {
-  reason = c.in-Err.ensures.counted;
-  grows = c.in-Err.ensures.grows;
-  front = c.in-Err.ensures.front;
-  more_pairs = front_refl _;
-  front_pairs = front_refl _;
-  same = refl;
-}
-
--- the place is that after what went out before and the text
-pub invariant_of-self : goal.invariant_of-self
-invariant_of-self g c = record { counted = λ f e. subst (λ z. Shows (g.K.KeepsPositions.reached c.pass.new.self) z) (sym (place_on _ _ _ c.in-Ok.ensures.logged)) (c.pass.ensures.counted _ (c.args.self.now.counted f) e) }
+pub hand_on-requires-clause-counted : goal.hand_on-requires-clause-counted
+hand_on-requires-clause-counted g c e = absurd (true≢false e)

@@ -1,31 +1,5 @@
-use Rattle.std.proofs.Common.{arith, inl, inr}
-use Rattle.swc_ecma_codegen_text_writer.proofs.Recording.{records_none, records_far, records_old, records_new, records_refused}
-use Rattle.swc_ecma_codegen_text_writer.specs.Sheet.{IsFar}
-use Rattle.swc_ecma_codegen_text_writer.proofs.positions.Positions.record.Goals.{then-self-ge-LIMIT-via-then-self-ge-LIMIT, then-self-ge-LIMIT-via-else-self-ge-LIMIT+then-self-ge-LIMIT-2}
+use Rattle.swc_ecma_codegen_text_writer.proofs.Recording.{records_none}
 use Rattle.swc_ecma_codegen_text_writer.proofs.positions.Positions.record.Goals as goal
 
 pub returns-then-pos-eq0-clause-pairs : goal.returns-then-pos-eq0-clause-pairs
 returns-then-pos-eq0-clause-pairs c = λ p h. records_none c.args.pos p c.args.self.now.list.now.items c.if-pos-eq0.true
-
-pub returns-then-self-ge-LIMIT-clause-pairs : goal.returns-then-self-ge-LIMIT-clause-pairs
-unfolding IsFar
-returns-then-self-ge-LIMIT-clause-pairs c = λ p h.
-    let far : IsFar p =
-    elim c.then-self-ge-LIMIT.branch [
-      | then-self-ge-LIMIT-via-then-self-ge-LIMIT w ↦ inl (omega arith)
-      | then-self-ge-LIMIT-via-else-self-ge-LIMIT+then-self-ge-LIMIT-2 w ↦ inr (omega arith)
-    ] in
-    records_far c.args.pos p c.args.self.now.list.now.items far
-
-pub returns-then-stands-clause-pairs : goal.returns-then-stands-clause-pairs
-returns-then-stands-clause-pairs c = λ p h.
-    let w = c.args.self.now in
-    records_old c.args.pos p w.list.now.items c.stands.result w.reached h (omega arith) (omega arith) c.stands.ensures c.if-stands.true
-
-pub returns-in-Ok-clause-pairs : goal.returns-in-Ok-clause-pairs
-returns-in-Ok-clause-pairs c = λ p h.
-    let w = c.args.self.now in
-    records_new c.args.pos p w.list.now.items c.push.new.self.items c.stands.result w.reached h (omega arith) (omega arith) c.if-pos-eq0.false c.stands.ensures c.if-stands.false c.in-Ok.ensures.items
-
-pub returns-in-Err-clause-pairs : goal.returns-in-Err-clause-pairs
-returns-in-Err-clause-pairs c = λ p h. records_refused c.args.pos p c.args.self.now.list.now.items c.push.new.self.items c.in-Err.ensures.items

@@ -1,0 +1,94 @@
+//! What is printed of literals, with several settings.
+
+use crate::fields::{json, script};
+use crate::looks::look;
+use crate::reading::reads_as;
+use crate::runs::prints_with;
+use std::alloc::{AllocError, Global};
+
+/// The words of the columns.
+const COLUMNS: [&str; 10] = [
+    "--target es2022",
+    "--target es2020",
+    "--target es5",
+    "--inline-script",
+    "--minify --target es2022",
+    "--minify --target es2020",
+    "--minify --target es5",
+    "--minify --target es3",
+    "--minify --inline-script",
+    "--minify",
+];
+
+/// The script of a literal, in its short form.
+fn alone(alloc: Global, literal: &str) -> Result<String, AllocError> {
+    let short = format!(in alloc; "{{\"Lit\":{literal}}}")?;
+    json(alloc, &script(alloc, &short)?)
+}
+
+/// The script of its member `x`.
+fn as_object(alloc: Global, literal: &str) -> Result<String, AllocError> {
+    let mut short = String::new(alloc);
+    short.push_str(r#"{"Member":{"span":~,"obj":{"Lit":"#)?;
+    short.push_str(literal)?;
+    short.push_str(r#"},"prop":{"Ident":{"span":~,"sym":"x"}}}}"#)?;
+    json(alloc, &script(alloc, &short)?)
+}
+
+/// Whether a literal is well-formed, or isn't.
+pub fn is_formed(alloc: Global, literal: &str, well_formed: bool) -> Result<bool, AllocError> {
+    match look(alloc, alone(alloc, literal)?.as_bytes()) {
+        Ok(look) => Ok(look.well_formed == Some(well_formed)),
+        Err(_) => Ok(false),
+    }
+}
+
+/// Whether a run with the words of a column prints this text, and what ends the statement, and it reads as these tokens.
+fn is_printed(
+    alloc: Global,
+    json: &str,
+    words: &str,
+    text: &str,
+    tokens: &str,
+) -> Result<bool, AllocError> {
+    let end = if words.starts_with("--minify") {
+        ";"
+    } else {
+        ";\n"
+    };
+    let text = format!(in alloc; "{text}{end}")?;
+    Ok(prints_with(alloc, words, json.as_bytes(), &text)? && reads_as(alloc, &text, tokens)?)
+}
+
+/// Whether a script has these texts in the columns. An empty one is that of the column before.
+fn are_printed(alloc: Global, json: &str, texts: &str, tokens: &str) -> Result<bool, AllocError> {
+    let mut texts = texts.split('¦');
+    let mut text = "";
+    for words in COLUMNS {
+        match texts.next() {
+            Some("") => {}
+            Some(next) => text = next,
+            None => return Ok(false),
+        }
+        if !is_printed(alloc, json, words, text, tokens)? {
+            return Ok(false);
+        }
+    }
+    Ok(texts.next().is_none())
+}
+
+/// Whether a literal is well-formed and has these texts in the columns, by itself and as the object of its member `x`.
+pub fn has_texts(
+    alloc: Global,
+    literal: &str,
+    tokens: &str,
+    [texts, of_member]: [&str; 2],
+) -> Result<bool, AllocError> {
+    let ended = format!(in alloc; "{tokens} p:;")?;
+    let member = format!(in alloc; "{tokens} p:. n:x p:;")?;
+    Ok(
+        is_formed(alloc, literal, true)?
+            && are_printed(alloc, &alone(alloc, literal)?, texts, &ended)?
+            && are_printed(alloc, &as_object(alloc, literal)?, of_member, &member)?,
+    )
+}

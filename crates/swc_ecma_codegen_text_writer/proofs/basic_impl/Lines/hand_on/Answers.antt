@@ -1,0 +1,38 @@
+use Rattle.std.proofs.Common.{refl, sym, subst, ◌∙◌}
+use Rattle.std.proofs.lemmas.Bool.{true≢false}
+use Rattle.swc_ecma_codegen_text_writer.specs.Sheet.{appended}
+use Rattle.swc_ecma_codegen_text_writer.specs.Reach.{Shows}
+use Rattle.swc_ecma_codegen_text_writer.specs.View.{sheet_of, Reaches, HasReason}
+use Rattle.swc_ecma_codegen_text_writer.proofs.Sheets.{front_refl}
+use Rattle.swc_ecma_codegen_text_writer.proofs.Steps.{sent_sheet, place_on}
+use Rattle.swc_ecma_codegen_text_writer.proofs.basic_impl.Lines.hand_on.Goals as goal
+
+pub returns-then-not-counts : goal.returns-then-not-counts
+unfolding sheet_of Reaches
+returns-then-not-counts g c =
+    sent_sheet c.args.text.now (sheet_of c.args.self.now) _ _ _ _ _ _ _ _ c.in-Ok.ensures.sent c.in-Ok.ensures.whole c.in-Ok.ensures.faults (place_on _ _ _ c.in-Ok.ensures.logged) refl refl refl refl
+
+pub returns-else-not-counts : goal.returns-else-not-counts
+unfolding sheet_of Reaches
+returns-else-not-counts g c =
+    sent_sheet c.args.text.now (sheet_of c.args.self.now) _ _ _ _ _ _ _ _ c.in-Ok.ensures.sent c.in-Ok.ensures.whole c.in-Ok.ensures.faults (place_on _ _ _ c.in-Ok.ensures.logged) c.pass.ensures.keeps c.pass.ensures.keeps c.pass.ensures.pairs c.pass.ensures.pending
+
+pub returns-in-Err : goal.returns-in-Err
+unfolding sheet_of Reaches HasReason appended
+returns-in-Err g c = record {
+  reason = c.in-Err.ensures.counted;
+  grows = c.in-Err.ensures.grows;
+  front = c.in-Err.ensures.front;
+  more_pairs = front_refl _;
+  front_pairs = front_refl _;
+  same = refl;
+}
+
+-- no positions are kept
+pub invariant_of-self : goal.invariant_of-self
+unfolding sheet_of
+invariant_of-self g c = record { counted = λ f e. absurd (true≢false (sym e ∙ c.requires.counted c.if-not-counts.true)) }
+
+-- the place is that after what went out before and the text
+pub invariant_of-self-in-Ok : goal.invariant_of-self-in-Ok
+invariant_of-self-in-Ok g c = record { counted = λ f e. subst (λ z. Shows (g.K.KeepsPositions.reached c.pass.new.self) z) (sym (place_on _ _ _ c.in-Ok.ensures.logged)) (c.pass.ensures.counted _ (c.args.self.now.counted f) e) }
