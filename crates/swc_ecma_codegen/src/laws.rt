@@ -91,17 +91,17 @@ pub fn first_token_is_told(expr: &Expr) -> bool
 }
 
 /// No step of an emission of a well-formed tree makes a text anew, in memory, where no name of the tree holds a backslash, or
-/// isn't ASCII under `ascii_only`, and no number, no big integer and no string stands in it, over a writer that leaves out U+0000 after one: what the clauses
-/// `cause`, `no_memory` and `succeeds` of `emit_with` ask of memory. Of a tree with such, these clauses speak of its steps:
-/// one takes memory where the text of a literal isn't its raw.
+/// isn't ASCII under `ascii_only`, and no number, no big integer and no string stands in it, over a writer that leaves out
+/// U+0000 after a backslash: what the clauses `cause`, `no_memory` and `succeeds` of `emit_with` ask of memory. Of a tree with
+/// such, these clauses speak of its steps: one takes memory where the text of a literal isn't its raw.
 #[tactic(auto, using(crate::proofs::TreeReads::root_remakes))]
 pub fn plain_trees_take_no_memory()
     ensures { (root : Root) (s : State) → is_well_formed_root root ≡ true → s.env.keeps_invalid ≡ false → may_make_text s.env.config (root_phrase root) ≡ false → makes_text (steps_of (steps_in (root_items root) s)) ≡ false }
 {}
 
-/// An emission of a well-formed tree comes to a node that can't be printed exactly where some name of the tree can't be
-/// spelled in ASCII for the target, under `ascii_only`, and so answers `NameOutOfTarget` for no other cause. All other trees
-/// are printed, and none that holds such a name is.
+/// An emission of a well-formed tree comes to a node that can't be printed exactly where some name of the tree is to be
+/// written in ASCII and can't be for the target. So it answers `NameOutOfTarget` for no other cause, and a tree that holds
+/// such a name is never printed as a whole.
 #[tactic(auto, using(crate::proofs::TreeReads::root_ends, crate::proofs::TreeReads::root_in_target, crate::proofs::TreeReads::root_out_of_target))]
 pub fn names_out_of_target_are_refused()
     ensures steps { (root : Root) (s : State) → is_well_formed_root root ≡ true → s.env.keeps_invalid ≡ false → unprintable_in (steps_in (root_items root) s) ≡ (if is_out s.env.config (root_phrase root) then Some NameOutOfTarget else None) }
