@@ -31,6 +31,9 @@ use Rattle.swc_ecma_codegen_ast.specs.SpelledNames.{is_well_formed_name}
 use Rattle.swc_ecma_codegen_ast.specs.ValidNames.{turned}
 use Rattle.swc_ecma_codegen_ast.proofs.Reading.{reads}
 use Rattle.swc_ecma_codegen_util.specs.declared.config.Config.{Config}
+use Rattle.swc_ecma_codegen_literals.specs.AsciiNames.{is_ascii_text}
+use Rattle.swc_ecma_codegen_literals.proofs.NameTexts.{ascii_chars}
+use Rattle.swc_ecma_codegen_literals.proofs.SpelledTexts.{ascii_from_all}
 use Rattle.swc_ecma_codegen_base.specs.declared.refusals.Unprintable.TheVariants.{NameOutOfTarget}
 use Rattle.swc_ecma_codegen_base.specs.Run.{Env, Plan, Part, State, Step, Guard, Token, Plain, Remake, Steps, done, step, steps_of, unprintable_in, refuse, run, nothing, spelling, Follows, HasCause, has_backslash, makes_text}
 use Rattle.swc_ecma_codegen_base.specs.Targets.{wants_escapes, is_out_name, written_name, is_out}
@@ -195,31 +198,34 @@ prints_one env p x h = prints_made env p x (writes_whatever (may_make_text env.c
 
 -- ---- words and punctuators, which are ASCII
 
+ascii_same : (t : List ℕ) → is_ascii_text t ≡ true → chars t ≡ t
+ascii_same t a = (ascii_chars t (ascii_from_all t a)).0
+
 word_spelled : (t : List ℕ) → IsWord t → Spelled Word t
-word_spelled t w = spelled_word t w.utf8 (ap is_word w.ascii ∙ w.shape)
+word_spelled t w = spelled_word t w.utf8 (ap is_word (ascii_same t w.ascii) ∙ w.shape)
 
 mark_spelled : (t : List ℕ) → IsMark t → Spelled Punctuator t
-mark_spelled t w = spelled_mark t w.utf8 w.ascii w.shape
+mark_spelled t w = spelled_mark t w.utf8 (ascii_same t w.ascii) w.shape
 
 prints_word : (env : Env) (p : Part) (t : List ℕ) → IsWord t → Writes env p (token_of Word (spelling Word t) ∷ []) → Prints env p (phrases.word t)
 unfolding token_of value_of spelling lexical.word
-prints_word env p t w h = subst (λ z. Prints env p (phrases.word z)) w.ascii (prints_one env p _ h)
+prints_word env p t w h = subst (λ z. Prints env p (phrases.word z)) (ascii_same t w.ascii) (prints_one env p _ h)
 
 pub prints_mark : (env : Env) (p : Part) (t : List ℕ) → Writes env p (token_of Punctuator (spelling Punctuator t) ∷ []) → Prints env p (mark t)
 unfolding token_of value_of spelling lexical.punctuator
 prints_mark env p t h = prints_one env p _ h
 
 pub prints_keyword : (env : Env) (span : Option Span) (t : List ℕ) → IsWord t → Prints env (keyword span t) (phrases.word t)
-prints_keyword env span t w = prints_word env (keyword span t) t w (writes_keyword env span t (word_spelled t w))
+prints_keyword env span t w = prints_word env (keyword span t) t w (writes_keyword env span t (word_spelled t w) w.ascii)
 
 pub prints_word_operator : (env : Env) (t : List ℕ) → IsWord t → Prints env (word_operator t) (phrases.word t)
-prints_word_operator env t w = prints_word env (word_operator t) t w (writes_word_operator env t (word_spelled t w))
+prints_word_operator env t w = prints_word env (word_operator t) t w (writes_word_operator env t (word_spelled t w) w.ascii)
 
 pub prints_operator : (env : Env) (t : List ℕ) → IsMark t → Prints env (operator t) (mark t)
-prints_operator env t w = prints_mark env (operator t) t (writes_operator env t (mark_spelled t w))
+prints_operator env t w = prints_mark env (operator t) t (writes_operator env t (mark_spelled t w) w.ascii)
 
 pub prints_punct : (env : Env) (t : List ℕ) → IsMark t → Prints env (punct t) (mark t)
-prints_punct env t w = prints_mark env (punct t) t (writes_punct env t (mark_spelled t w))
+prints_punct env t w = prints_mark env (punct t) t (writes_punct env t (mark_spelled t w) w.ascii)
 
 question_is_mark : IsMark (codes "?")
 unfolding is_punctuator is_among is_same punctuators chars is_utf8 lib.Utf8.encode
@@ -231,7 +237,7 @@ prints_semi env = prints_one env semi _ (writes_semi env)
 
 -- ---- names
 
-name_written : (config : Config) (bytes : List ℕ) → is_well_formed_name bytes ≡ true → is_out_name config (turned bytes) ≡ false → Names (turned bytes) (written_name config bytes)
+name_written : (config : Config) (bytes : List ℕ) → is_well_formed_name bytes ≡ true → is_out_name config (turned bytes) ≡ false → Names config (turned bytes) (written_name config bytes)
 unfolding is_well_formed_name names.spelled_name written_name
 name_written config bytes w o = let p = and_parts (is_utf8 (turned bytes)) (is_name (chars (turned bytes))) w in names_in_ascii config (turned bytes) p.0 p.1 o
 
@@ -269,7 +275,7 @@ prints_settled_name env span bytes e = record {
       record {
         tokens = _;
         generated = ap (λ z. lexical.name z ∷ []) h.value;
-        writes = writes_then env commit_pending_semi (name_text span bytes) [] _ (writes_commit env) (writes_name_text env span bytes e o spelled);
+        writes = writes_then env commit_pending_semi (name_text span bytes) [] _ (writes_commit env) (writes_name_text env span bytes e o spelled h.ascii);
         named = names_here env span bytes e o spelled.some;
       };
   where_out = λ w o rest. name_out env span bytes rest e o;

@@ -1,5 +1,5 @@
 -- Names in ASCII: which are out of a target, and what is written of the others.
-use Rattle.std.proofs.Common.{◌≡◌, ℕ, suc, true, false, not, ◌&&◌, cond, List, [], ◌∷◌, refl, sym, ap, ◌∙◌, subst, inl, inr}
+use Rattle.std.proofs.Common.{◌≡◌, ℕ, suc, Bool, true, false, not, ◌&&◌, cond, List, [], ◌∷◌, refl, sym, ap, ◌∙◌, subst, inl, inr}
 use Rattle.std.specs.Str.{IsNotAscii, chars, is_utf8}
 use Rattle.std.proofs.lemmas.Bool.{cases_lt, cases_Bool, lt-ltb, and_from, and_parts, or_from, or_parts, not-true, false≢true, false_from_ne_true}
 use Rattle.std.proofs.lemmas.Str.{IsUtf8-from_is_utf8, is_utf8-from_IsUtf8, IsUtf8-from_ascii}
@@ -13,6 +13,7 @@ use Rattle.swc_ecma_codegen_literals.proofs.SpelledTexts.{ascii_from_all}
 use Rattle.swc_ecma_codegen_base.specs.Run.{has_backslash}
 use Rattle.swc_ecma_codegen_base.specs.Targets.{wants_escapes, in_ascii, is_out_name, is_out}
 use Rattle.swc_ecma_codegen_base.specs.Escapes.{may_make_text}
+use Rattle.swc_ecma_codegen_base.proofs.RawTexts.{ascii_is}
 
 -- some byte isn't ASCII
 not_ascii : (t : List ℕ) → is_ascii_text t ≡ false → IsNotAscii t
@@ -68,23 +69,32 @@ pub out_by_settings : (config : Config) (t : List ℕ) → wants_escapes config 
 unfolding wants_escapes is_out_name
 out_by_settings config t e = ap (λ b. b && is_out_of_target false config.target (chars t)) (and_parts config.ascii_only (not (is_ascii_text t)) e).0
 
--- a text is a name of the same characters as another
-pub record Names (t u : List ℕ) : Type 0 where
+-- A text is a name of the same characters as another, in ASCII where the settings ask for that.
+pub record Names (config : Config) (t u : List ℕ) : Type 0 where
   pub utf8 : is_utf8 u ≡ true
   pub shape : is_name (chars u) ≡ true
   pub value : name_value (chars u) ≡ name_value (chars t)
+  pub ascii : config.ascii_only ≡ true → is_ascii_text u ≡ true
 
 -- its escapes stand for the characters that they were made of
-escaped_names : (config : Config) (t : List ℕ) → is_utf8 t ≡ true → is_name (chars t) ≡ true → wants_escapes config t ≡ true → is_out_name config t ≡ false → Names t (in_ascii config t)
+escaped_names : (config : Config) (t : List ℕ) → is_utf8 t ≡ true → is_name (chars t) ≡ true → wants_escapes config t ≡ true → is_out_name config t ≡ false → Names config t (in_ascii config t)
 unfolding wants_escapes is_quoted_key
 escaped_names config t u n e o =
     let p = and_parts config.ascii_only (not (is_ascii_text t)) e in
     let h = escaped_answer false config.target t (name_escapes false config.target (chars t)) (IsUtf8-from_is_utf8 t u) (not_ascii t (not-true (is_ascii_text t) p.1)) refl (sym (out_by_settings config t e) ∙ o) refl in
-    subst (λ z. Names t z) (h.exactly ∙ sym (escaped_text config t e))
-    (record { utf8 = is_utf8-from_IsUtf8 _ (IsUtf8-from_ascii _ h.ascii); shape = h.name refl ∙ n; value = h.value refl n })
+    subst (λ z. Names config t z) (h.exactly ∙ sym (escaped_text config t e))
+    (record { utf8 = is_utf8-from_IsUtf8 _ (IsUtf8-from_ascii _ h.ascii); shape = h.name refl ∙ n; value = h.value refl n; ascii = λ _. sym (ascii_is true _ h.ascii) })
 
-pub names_in_ascii : (config : Config) (t : List ℕ) → is_utf8 t ≡ true → is_name (chars t) ≡ true → is_out_name config t ≡ false → Names t (in_ascii config t)
+not_false : (b : Bool) → not b ≡ false → b ≡ true
+not_false true h = refl
+not_false false h = absurd (false≢true (sym h))
+
+kept_ascii : (config : Config) (t : List ℕ) → wants_escapes config t ≡ false → config.ascii_only ≡ true → is_ascii_text t ≡ true
+unfolding wants_escapes
+kept_ascii config t k e = not_false (is_ascii_text t) (sym (ap (λ b. b && not (is_ascii_text t)) e) ∙ k)
+
+pub names_in_ascii : (config : Config) (t : List ℕ) → is_utf8 t ≡ true → is_name (chars t) ≡ true → is_out_name config t ≡ false → Names config t (in_ascii config t)
 names_in_ascii config t u n o = elim (cases_Bool (wants_escapes config t)) [
   | inl e ↦ escaped_names config t u n e o
-  | inr k ↦ subst (λ z. Names t z) (sym (kept_text config t k)) (record { utf8 = u; shape = n; value = refl })
+  | inr k ↦ subst (λ z. Names config t z) (sym (kept_text config t k)) (record { utf8 = u; shape = n; value = refl; ascii = λ e. kept_ascii config t k e })
 ]
