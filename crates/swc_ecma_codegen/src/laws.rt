@@ -25,6 +25,7 @@ ghost use Rattle.swc_ecma_codegen.specs.Exprs.{expr as expr_items};
 ghost use Rattle.swc_ecma_codegen.specs.Stmts.{stmt as stmt_items};
 ghost use Rattle.swc_ecma_codegen.specs.Tree.{any_items};
 ghost use Rattle.swc_ecma_codegen_base.specs.Escapes.{may_make_text};
+ghost use Rattle.swc_ecma_codegen_base.specs.Ascii.{keeps_other, may_keep_other, WantsAscii};
 ghost use Rattle.swc_ecma_codegen.specs.Roots.{Root, root_items, root_phrase, is_well_formed_root};
 ghost use Rattle.swc_ecma_codegen.specs.FirstTokens.{joins_a_word};
 ghost use Rattle.swc_ecma_codegen.specs.View.{state_of};
@@ -76,6 +77,7 @@ pub fn new_emitter_reads()
     ensures new { (config : Config) (bytes line_end : List ℕ) → IsLineEnd line_end → IsNew (start config (new_sheet bytes line_end)) }
     ensures holding { (config : Config) (bytes line_end : List ℕ) → IsLineEnd line_end → IsNew (start config (record (new_sheet bytes line_end) { semicolons = HoldsNone })) }
     ensures ready { (config : Config) (bytes line_end : List ℕ) → IsReady (start config (new_sheet bytes line_end)) }
+    ensures ascii { (config : Config) (bytes line_end : List ℕ) → config.ascii_only ≡ true → IsLineEnd line_end → WantsAscii (start config (new_sheet bytes line_end)) }
     ensures indented { (config : Config) (bytes line_end indent : List ℕ) → IsLineEnd line_end → all_indent indent ≡ true → IsNew (start config (record (new_sheet bytes line_end) { indent_text = indent })) }
 {}
 
@@ -97,6 +99,14 @@ pub fn first_token_is_told(expr: &Expr) -> bool
 #[tactic(auto, using(crate::proofs::TreeReads::root_remakes))]
 pub fn plain_trees_take_no_memory()
     ensures { (root : Root) (s : State) → is_well_formed_root root ≡ true → s.env.keeps_invalid ≡ false → may_make_text s.env.config (root_phrase root) ≡ false → makes_text (steps_of (steps_in (root_items root) s)) ≡ false }
+{}
+
+/// No text stands as it is in the tree and isn't ASCII, among the steps of an emission of a well-formed tree whose names can
+/// all be written, where each regular expression of the tree is ASCII and no string of it reads `use strict`: what the
+/// clause `ascii` of `emit_with` asks. With such a string it asks that this one has no backslash, or is ASCII.
+#[tactic(auto, using(crate::proofs::TreeReads::root_keeps))]
+pub fn plain_trees_keep_no_other_text()
+    ensures { (root : Root) (s : State) → is_well_formed_root root ≡ true → s.env.keeps_invalid ≡ false → is_out s.env.config (root_phrase root) ≡ false → may_keep_other (root_phrase root) ≡ false → keeps_other (steps_of (steps_in (root_items root) s)) ≡ false }
 {}
 
 /// An emission of a well-formed tree comes to a node that can't be printed exactly where some name of the tree is to be

@@ -14,7 +14,7 @@ use Rattle.swc_ecma_codegen_ast.specs.declared.kinds.Kind.TheVariants.{Name}
 use Rattle.swc_ecma_codegen_text_writer.specs.Sheet.{Item, Semi, Space, Keyword, Operator, Param, Property, Line, Lit, Comment, StrLit, Str, Symbol, Punct, Position, Commit, Deeper, Shallower, Sheet, Semicolons, AtOnce, HoldsNone, HoldsOne, appended, written, literal_written, ended, pointed, settled, settled_by, semicolon_by, before_punct, is_ending, dropped, effect}
 use Rattle.swc_ecma_codegen_text_writer.proofs.Sheets.{effect_indent_text, effect_line_end, settled_same}
 use Rattle.swc_ecma_codegen_literals.specs.AsciiNames.{is_ascii_text}
-use Rattle.swc_ecma_codegen_base.specs.Ascii.{is_other_value, keeps_other, are_ascii, keeps_tokens, may_keep_other, AddsAscii}
+use Rattle.swc_ecma_codegen_base.specs.Ascii.{is_other_value, keeps_other, are_ascii, keeps_tokens, may_keep_other, WantsAscii, AddsAscii}
 use Rattle.swc_ecma_codegen_base.specs.Run.{Env, Part, Plan, State, Step, Guard, Token, Plain, Ends, Remake, put, run, steps_of, unprintable_in, nothing, text_of, Follows}
 use Rattle.swc_ecma_codegen_base.specs.Targets.{is_out}
 use Rattle.swc_ecma_codegen_base.proofs.Hands.{tokens_keep}
@@ -151,14 +151,14 @@ part_steps {p} {f} {env} prints w o e n =
     ap are_ascii same ∙ h.hands.ascii e (sym (ap keeps_other same) ∙ n)
 
 -- under ASCII only what is added is ASCII, save what stands as it is
-pub printed_ascii : (p : Part) (f : Phrase) (a b : State) (r : Result (Unit {0}) Refusal) → Prints a.env p f → is_possible f ≡ true → a.env.config.ascii_only ≡ true → is_ascii_text a.sheet.indent_text ≡ true → is_ascii_text a.sheet.line_end ≡ true → keeps_other (steps_of (p nothing a.env)) ≡ false → Follows (p nothing) a b r → OnOk r (AddsAscii a.sheet.text b.sheet.text)
+pub printed_ascii : (p : Part) (f : Phrase) (a b : State) (r : Result (Unit {0}) Refusal) → Prints a.env p f → is_possible f ≡ true → WantsAscii a → keeps_other (steps_of (p nothing a.env)) ≡ false → Follows (p nothing) a b r → OnOk r (AddsAscii a.sheet.text b.sheet.text)
 unfolding Follows
-printed_ascii p f a b (Ok u) prints w e i l n k =
-    let begin : Goes a.sheet.text a.sheet = record { lines = record { indent_text = i; line_end = l }; adds = adds_none a.sheet.text } in
-    let end = run_goes a.sheet.text (steps_of (p nothing a.env)) a (part_steps prints w (made_not_out p f a.env prints w k.0) e n) begin in
+printed_ascii p f a b (Ok u) prints w s n k =
+    let begin : Goes a.sheet.text a.sheet = record { lines = record { indent_text = s.indent_text; line_end = s.line_end }; adds = adds_none a.sheet.text } in
+    let end = run_goes a.sheet.text (steps_of (p nothing a.env)) a (part_steps prints w (made_not_out p f a.env prints w k.0) s.by_settings n) begin in
     let P : State → Type 0 = λ z. AddsAscii a.sheet.text z.sheet.text in
     subst P (sym k.1) end.adds
-printed_ascii p f a b (Err x) prints w e i l n k = tt
+printed_ascii p f a b (Err x) prints w s n k = tt
 
 -- ---- what may stand as it is, by the tree
 

@@ -11,7 +11,7 @@ use Rattle.swc_ecma_codegen_ast.specs.Tokens.{Value, Characters, Units}
 use Rattle.swc_ecma_codegen_text_writer.specs.Sheet.{Item, StrLit, Str}
 use Rattle.swc_ecma_codegen_literals.specs.AsciiNames.{is_ascii_text}
 use Rattle.swc_ecma_codegen_literals.specs.ValidNames.{has_byte}
-use Rattle.swc_ecma_codegen_base.specs.Run.{Step, Guard, Token, Plain, Ends, Remake, text_of}
+use Rattle.swc_ecma_codegen_base.specs.Run.{State, Step, Guard, Token, Plain, Ends, Remake, text_of}
 
 -- what a directive stands for
 unfoldable pub is_strict : Option (List ℕ) → Bool
@@ -68,6 +68,14 @@ may_keep_other Nothing = false
 may_keep_other (One x) = is_other_value x.kind x.value
 may_keep_other (NameOf at bytes) = false
 may_keep_other (Then a b) = may_keep_other a || may_keep_other b
+
+-- An emission is to write ASCII: the settings ask for it, lines are indented by ASCII and end with it, and U+0000 after a
+-- backslash is left out of names.
+pub record WantsAscii (s : State) : Type 0 where
+  pub by_settings : s.env.config.ascii_only ≡ true
+  pub leaves_out : s.env.keeps_invalid ≡ false
+  pub indent_text : is_ascii_text s.sheet.indent_text ≡ true
+  pub line_end : is_ascii_text s.sheet.line_end ≡ true
 
 -- what a text is longer by is ASCII
 pub record AddsAscii (old new : List ℕ) : Type 0 where
