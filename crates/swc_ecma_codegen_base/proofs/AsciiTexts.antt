@@ -167,7 +167,7 @@ kept_alone true = refl
 kept_alone false = refl
 
 kept_listed : (f : Phrase) (ts : List lexical.Token) → Generates f ts → keeps_tokens ts ≡ may_keep_other f
-unfolding Generates keeps_tokens may_keep_other
+unfolding Generates keeps_tokens may_keep_other is_other_value lexical.name
 kept_listed Never ts g = absurd g
 kept_listed Nothing ts g = ap keeps_tokens g
 kept_listed (One x) ts g = ap keeps_tokens g ∙ kept_alone (is_other_value x.kind x.value)
