@@ -1,5 +1,5 @@
 -- Calls of a writer, as steps of an emission.
-use Rattle.std.proofs.Common.{◌≡◌, true, false, cond, [], ◌∷◌, List, ℕ, Result, Ok, Err, OnOk, OnErr, refl, sym, ◌∙◌, ap, subst, Bool}
+use Rattle.std.proofs.Common.{◌≡◌, true, false, cond, List, ℕ, Result, Ok, Err, OnOk, OnErr, refl, sym, ◌∙◌, ap, subst, Bool}
 use Rattle.std.specs.Str.{chars}
 use Rattle.swc_ecma_codegen_common.specs.declared.errors.Refusal.{Refusal}
 use Rattle.swc_ecma_codegen_util.specs.declared.config.Config.{Config}

@@ -1,9 +1,9 @@
 -- What calls leave of a sheet, and a semicolon that is held back.
-use Rattle.std.proofs.Common.{◌≡◌, ℕ, Bool, true, false, cond, List, [], ◌∷◌, ◌++◌, codes, refl, sym, ap, ◌∙◌, subst, append_assoc, append-nil, Option, Some, None, ◌&&◌}
+use Rattle.std.proofs.Common.{◌≡◌, ℕ, Bool, true, false, cond, List, [], ◌∷◌, ◌++◌, codes, refl, sym, ap, ◌∙◌, append_assoc, append-nil, Option, Some, None, ◌&&◌}
 use Rattle.std.specs.List.{repeat}
 use Rattle.swc_ecma_codegen_common.specs.declared.positions.BytePos.{BytePos}
 use Rattle.swc_ecma_codegen_common.specs.declared.positions.Span.{Span}
-use Rattle.swc_ecma_codegen_text_writer.specs.Sheet.{Sheet, Pair, Semicolons, AtOnce, HoldsNone, HoldsOne, holds_semicolons, recorded, with_pair, start_recorded, end_recorded, pending_recorded, appended, indented, started, written, ended, pointed, settled, settled_by, dropped}
+use Rattle.swc_ecma_codegen_text_writer.specs.Sheet.{Sheet, Pair, Semicolons, AtOnce, HoldsNone, HoldsOne, holds_semicolons, recorded, with_pair, start_recorded, end_recorded, pending_recorded, appended, indented, started, written, pointed, settled, settled_by, dropped}
 use Rattle.swc_ecma_codegen_base.specs.Written.{holds_one}
 
 -- ---- what recording positions leaves

@@ -6,7 +6,7 @@ use Rattle.std.proofs.lemmas.List.Folds.{list_all-append}
 use Rattle.swc_ecma_codegen_common.specs.declared.positions.Span.{Span}
 use Rattle.swc_ecma_codegen_spans.specs.Spans.{dummy_span}
 use Rattle.swc_ecma_codegen_ast.specs.declared.kinds.Kind.{Kind}
-use Rattle.swc_ecma_codegen_ast.specs.declared.kinds.Kind.TheVariants.{Name, Punctuator, Number, BigInt, Str, Regex}
+use Rattle.swc_ecma_codegen_ast.specs.declared.kinds.Kind.TheVariants.{Name, Number, BigInt, Str, Regex}
 use Rattle.swc_ecma_codegen_ast.specs.Tokens as lexical
 use Rattle.swc_ecma_codegen_ast.specs.Tokens.{token_of, value_of, has_shape}
 use Rattle.swc_ecma_codegen_ast.specs.Numbers.{is_numeric, is_big_integer, has_suffix}
@@ -18,7 +18,7 @@ use Rattle.swc_ecma_codegen_text_writer.specs.Sheet.{Sheet, Lit, StrLit, Punct, 
 use Rattle.swc_ecma_codegen_literals.specs.AsciiNames.{is_ascii_text}
 use Rattle.swc_ecma_codegen_literals.specs.ValidNames.{has_byte}
 use Rattle.swc_ecma_codegen_base.specs.Ascii.{is_strict, is_kept_directive, is_kept, is_other, is_other_value, keeps_other, are_ascii, keeps_tokens}
-use Rattle.swc_ecma_codegen_base.specs.Run.{Env, Part, State, Step, Guard, Token, Plain, Ends, put, run, step, spelling, text_of, after_token, after_tokens, after_plain, makes_text}
+use Rattle.swc_ecma_codegen_base.specs.Run.{Env, State, Step, Guard, Token, Plain, Ends, put, run, step, spelling, text_of, after_tokens, after_plain, makes_text}
 use Rattle.swc_ecma_codegen_base.specs.Starts.{start_class}
 use Rattle.swc_ecma_codegen_base.specs.Words.{start_of, leading_comments, commit_pending_semi}
 use Rattle.swc_ecma_codegen_base.specs.Literals as words

@@ -1,5 +1,5 @@
 -- The last token after a number or a big integer.
-use Rattle.std.proofs.Common.{◌≡◌, ℕ, Bool, true, false, cond, not, ◌==◌, ◌&&◌, List, [], ◌∷◌, ◌++◌, codes, nat_lt, ◌-◌, ◌<◌, refl, sym, ap, ◌∙◌, subst, arith}
+use Rattle.std.proofs.Common.{◌≡◌, ℕ, Bool, true, false, cond, not, ◌==◌, ◌&&◌, List, [], ◌∷◌, ◌++◌, codes, nat_lt, ◌-◌, refl, sym, ap, ◌∙◌}
 use Rattle.std.specs.Str.{chars, chars_after, IsUtf8}
 use Rattle.std.proofs.lemmas.Bool.{eqb-true, true≢false}
 use Rattle.std.proofs.lemmas.Str.{chars-nil, chars-append, IsUtf8-past_char}

@@ -1,10 +1,9 @@
 -- What an emission records: places that are true, and the position of each name where it begins.
-use Rattle.std.proofs.Common.{◌≡◌, ◌⊎◌, ℕ, Bool, true, false, cond, ◌||◌, ◌&&◌, ◌==◌, List, [], ◌∷◌, ◌++◌, append_assoc, append-nil, codes, arith, Option, Some, None, refl, sym, ap, ◌∙◌, subst, inl, inr}
+use Rattle.std.proofs.Common.{◌≡◌, ℕ, Bool, true, false, cond, ◌||◌, ◌&&◌, ◌==◌, List, [], ◌∷◌, ◌++◌, append_assoc, append-nil, codes, arith, Some, None, refl, sym, ap, ◌∙◌, subst, inl, inr}
 use Rattle.std.proofs.lemmas.Bool.{cases_Bool, or_cases, or_left, or_right, true≢false}
 use Rattle.std.proofs.lemmas.Bool.Decides.{nat_tests}
 use Rattle.std.specs.Str.{chars}
 use Rattle.swc_ecma_codegen_common.specs.declared.positions.BytePos.{BytePos}
-use Rattle.swc_ecma_codegen_common.specs.declared.positions.Span.{Span}
 use Rattle.swc_ecma_codegen_spans.specs.Spans.{dummy_span}
 use Rattle.swc_ecma_codegen_ast.specs.declared.kinds.Kind.TheVariants.{Name}
 use Rattle.swc_ecma_codegen_ast.specs.GapRules.{fuses, Apart}
@@ -16,7 +15,6 @@ use Rattle.swc_ecma_codegen_text_writer.specs.Sheet.{Sheet, Pair, Space, Symbol,
 use Rattle.swc_ecma_codegen_text_writer.proofs.Pairs.{after_both, records_refl, records_trans, pointed_records, started_records, effect_records}
 use Rattle.swc_ecma_codegen_text_writer.proofs.Sheets.{effect_keeps_positions}
 use Rattle.swc_ecma_codegen_base.specs.Named.{IsRecorded, NamesStand, RecordsNames}
-use Rattle.swc_ecma_codegen_base.specs.Run as run
 use Rattle.swc_ecma_codegen_base.specs.Run.{State, Step, Guard, Token, Plain, Ends, Remake, put, run, has_backslash}
 use Rattle.swc_ecma_codegen_base.specs.Targets.{wants_escapes, written_name}
 use Rattle.swc_ecma_codegen_base.specs.Written.{holds_one}

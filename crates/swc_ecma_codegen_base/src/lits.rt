@@ -281,6 +281,7 @@ impl LowerEmitter {
                 self.begun(cfg, comments, wr, n.span, "/")?;
                 self.regex_lit(cfg, wr, n)
             }
+            // JSX text is no expression.
             Lit::JSXText(_) => Ok(()),
         }
     }

@@ -60,21 +60,28 @@ fn is_printed(
     Ok(prints_with(alloc, words, json.as_bytes(), &text)? && reads_as(alloc, &text, tokens)?)
 }
 
-/// Whether a script has these texts in the columns. An empty one is that of the column before.
+/// The texts of the columns. An empty one is that of the column before.
+fn in_columns(alloc: Global, texts: &str) -> Result<Vec<String>, AllocError> {
+    let mut found: Vec<String> = Vec::new(alloc);
+    for text in texts.split('¦') {
+        let text = match found.last() {
+            Some(last) if text.is_empty() => last.clone()?,
+            _ => String::from_str(alloc, text)?,
+        };
+        found.push(text)?;
+    }
+    Ok(found)
+}
+
+/// Whether a script has these texts in the columns.
 fn are_printed(alloc: Global, json: &str, texts: &str, tokens: &str) -> Result<bool, AllocError> {
-    let mut texts = texts.split('¦');
-    let mut text = "";
-    for words in COLUMNS {
-        match texts.next() {
-            Some("") => {}
-            Some(next) => text = next,
-            None => return Ok(false),
-        }
+    let texts = in_columns(alloc, texts)?;
+    for (words, text) in COLUMNS.into_iter().zip(&texts) {
         if !is_printed(alloc, json, words, text, tokens)? {
             return Ok(false);
         }
     }
-    Ok(texts.next().is_none())
+    Ok(texts.len() == COLUMNS.len())
 }
 
 /// Whether a literal is well-formed and has these texts in the columns, by itself and as the object of its member `x`.

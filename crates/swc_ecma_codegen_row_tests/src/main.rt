@@ -8,6 +8,7 @@
 //! A tree is also written in steps, each after those of its operands: `a b + c *` for `(a + b) * c`. A row `operator` or
 //! `step` says what one is: its JSON and its tokens, with `•` for each operand. A token has a letter for its kind before
 //! it: `w` a word, `n` a name, `p` a punctuator, `0` a number, `b` a big integer, `s` a string, `r` a regular expression.
+//! A row `literal` says of one, in JSON, which tokens it is, and its texts with the words of each column of `literals`.
 #![tactic(auto)]
 
 mod depths;

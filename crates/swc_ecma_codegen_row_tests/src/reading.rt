@@ -75,20 +75,28 @@ fn value(text: &[char]) -> Option<Value> {
     }
 }
 
+/// A number without a dot at its end: `1000.` in `1000..x`.
+fn without_dot(text: &[char]) -> &[char] {
+    match text {
+        [digits @ .., '.'] => digits,
+        _ => text,
+    }
+}
+
 /// The same of a large integer that ends with zeros.
 fn rounded(text: &[char]) -> Option<Value> {
-    if !text.iter().all(|c| c.is_ascii_digit()) {
+    let digits = without_dot(text);
+    if !digits.iter().all(|c| c.is_ascii_digit()) {
         return None;
     }
-    let mut kept = text;
-    let mut zeros: u128 = 0;
-    for _ in 1..text.len() {
-        if let [rest @ .., '0'] = kept {
-            kept = rest;
-            zeros = zeros.saturating_add(1);
+    let mut end = digits.len();
+    for _ in 1..digits.len() {
+        if digits.get(end.saturating_sub(1)) == Some(&'0') {
+            end = end.saturating_sub(1);
         }
     }
-    Some(shortened(numeric_value(kept)?, zeros))
+    let zeros = digits.len().saturating_sub(end);
+    Some(shortened(numeric_value(digits.get(..end)?)?, zeros as u128))
 }
 
 /// The value of a number and so many zeros.

@@ -2,7 +2,6 @@ use Rattle.std.proofs.Common.{refl}
 use Rattle.swc_ecma_codegen_ast.specs.declared.kinds.Kind.TheVariants.{BigInt}
 use Rattle.swc_ecma_codegen_ast.specs.GapRules.{last_after}
 use Rattle.swc_ecma_codegen_text_writer.specs.Sheet.{StrLit}
-use Rattle.swc_ecma_codegen_base.specs.Last.{last_at}
 use Rattle.swc_ecma_codegen_base.specs.Run.{after_token, text_of, spelling}
 use Rattle.swc_ecma_codegen_base.proofs.Calls.{called, level, is_level}
 use Rattle.swc_ecma_codegen_base.proofs.LowerEmitter.put_big_integer.Goals as goal

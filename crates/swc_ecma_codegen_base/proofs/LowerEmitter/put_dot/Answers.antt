@@ -2,8 +2,8 @@ use Rattle.std.proofs.Common.{refl, ◌++◌, codes, None, sym, ◌∙◌}
 use Rattle.swc_ecma_codegen_ast.specs.declared.kinds.Kind.TheVariants.{Number}
 use Rattle.swc_ecma_codegen_text_writer.specs.Sheet.{Punct}
 use Rattle.swc_ecma_codegen_base.specs.Last.{last_at}
-use Rattle.swc_ecma_codegen_base.specs.Literals.{signed, size_of}
-use Rattle.swc_ecma_codegen_base.proofs.NumberEnds.{number_end, after_number, dot_end}
+use Rattle.swc_ecma_codegen_base.specs.Literals.{signed}
+use Rattle.swc_ecma_codegen_base.proofs.NumberEnds.{after_number, dot_end}
 use Rattle.swc_ecma_codegen_base.proofs.Calls.{called_ends, level, is_level}
 use Rattle.swc_ecma_codegen_base.proofs.LowerEmitter.put_dot.Goals as goal
 

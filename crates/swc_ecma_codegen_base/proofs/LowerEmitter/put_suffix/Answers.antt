@@ -1,11 +1,9 @@
 use Rattle.std.proofs.Common.{refl, ◌++◌, codes, sym, ◌∙◌}
 use Rattle.swc_ecma_codegen_ast.specs.declared.kinds.Kind.TheVariants.{BigInt}
-use Rattle.swc_ecma_codegen_ast.specs.GapRules.{WordEnd}
-use Rattle.std.specs.Str.{chars, IsUtf8}
 use Rattle.swc_ecma_codegen_text_writer.specs.Sheet.{Lit}
 use Rattle.swc_ecma_codegen_base.specs.Last.{last_at}
-use Rattle.swc_ecma_codegen_base.specs.Literals.{signed, size_of}
-use Rattle.swc_ecma_codegen_base.proofs.NumberEnds.{number_end, after_big, big_end}
+use Rattle.swc_ecma_codegen_base.specs.Literals.{signed}
+use Rattle.swc_ecma_codegen_base.proofs.NumberEnds.{after_big, big_end}
 use Rattle.swc_ecma_codegen_base.proofs.Calls.{called_ends, level, is_level}
 use Rattle.swc_ecma_codegen_base.proofs.LowerEmitter.put_suffix.Goals as goal
 
