@@ -10,4 +10,4 @@ returns-then-is_in_line-clause-place c p h =
     let some : text ≡ [] → ⊥ = search rules in
     let same : c.as_bytes.result.now ≡ text = c.as_bytes.ensures.value in
     let plain : is_in_line text ≡ true = ap is_in_line (sym same) ∙ sym c.is_in_line.ensures ∙ c.if-is_in_line.true in
-    c.move_to.ensures.place _ (subst (Shows c.after_units.result) (sym (in_line text p some plain)) (c.after_units.ensures.shows p h))
+    c.move_to.ensures.place _ (subst (Shows c.after_units-reached.result) (sym (in_line text p some plain)) (c.after_units-reached.ensures.shows p h))
