@@ -32,6 +32,7 @@ use Rattle.swc_ecma_codegen_base.proofs.LiteralParts.{writes_big_digits, writes_
 use Rattle.swc_ecma_codegen_base.proofs.NumberEnds.{size_utf8}
 use Rattle.swc_ecma_codegen_base.proofs.Phrased.{Prints, prints_same, prints_where}
 use Rattle.swc_ecma_codegen_base.proofs.Printed.{Writes, writes_leading, writes_then}
+use Rattle.swc_ecma_codegen_base.proofs.RawTexts.{ascii_is}
 use Rattle.swc_ecma_codegen_base.proofs.Remade.{makes_remade, prints_signed, writes_begun_in}
 
 abbrev value_of_big : trees.BigInt → Value
@@ -108,7 +109,7 @@ module _ (n : trees.BigInt) (s : IsSignedInteger n (big_text n) (big_part n)) wh
   some_digits e = some_after_sign n.negative (big_part n) (some_part (big_part n) s.front) (sym s.parts ∙ e)
 
   writes_digits : (env : Env) → Writes env (words.big_digits n.span (big_text n)) (signed_tokens BigInt (value_of_big n) n.negative)
-  writes_digits env = subst (λ z. Writes env (words.big_digits n.span (big_text n)) z) (signed_written digits_signed) (writes_big_digits env n.span (big_text n) (signed_spelled digits_signed) suffix_class some_digits)
+  writes_digits env = subst (λ z. Writes env (words.big_digits n.span (big_text n)) z) (signed_written digits_signed) (writes_big_digits env n.span (big_text n) (signed_spelled digits_signed) suffix_class some_digits (sym (ascii_is true (big_text n) s.ascii)))
 
 -- ---- a big integer
 

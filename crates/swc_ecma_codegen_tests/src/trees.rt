@@ -1,7 +1,5 @@
 //! Trees for the tests.
 
-ghost use Rattle.std.specs.Prelude.{◌≡◌, false};
-
 use std::alloc::Global;
 use swc_ecma_codegen::laws::{
     emitted_boxed_stmt_reads, emitted_expr_box_reads, emitted_expr_reads,
@@ -151,9 +149,7 @@ pub(crate) fn expr_of<N: Holds<Stmt<N>> + Holds<Expr<N>> + Drop>(
 }
 
 /// The settings of these tests.
-pub(crate) fn settings(minify: bool) -> Config
-    ensures { result.ascii_only ≡ false }
-{
+pub(crate) fn settings(minify: bool) -> Config {
     Config {
         target: EsVersion::latest(),
         ascii_only: false,
