@@ -1,5 +1,5 @@
 -- What is written of a string is what it reads as, under any settings.
-use Rattle.std.proofs.Common.{◌≡◌, ℕ, Bool, true, false, not, cond, ◌==◌, ◌||◌, List, [], ◌∷◌, codes, Option, Some, None, inl, inr, refl, sym, ap, ◌∙◌, subst, string_bytes}
+use Rattle.std.proofs.Common.{◌≡◌, ℕ, Bool, true, false, not, cond, if◌then◌else◌, ◌==◌, ◌||◌, List, [], ◌∷◌, codes, Option, Some, None, inl, inr, refl, sym, ap, ◌∙◌, subst, string_bytes}
 use Rattle.std.specs.Prelude.{bytes_eq}
 use Rattle.std.specs.Option.{is_some}
 use Rattle.std.specs.Str.{chars, encode_utf8_all, IsAscii, IsUtf8}
@@ -38,7 +38,7 @@ use Rattle.swc_ecma_codegen_base.specs.Escapes.{is_spelled_anew}
 use Rattle.swc_ecma_codegen_base.specs.Lits.{begun_in, raw_is, raw_text, is_directive, takes_raw, prints_raw, value_text, string_text, directive_end, string_by, string_at, str_lit}
 use Rattle.swc_ecma_codegen_base.specs.Literals as words
 use Rattle.swc_ecma_codegen_base.specs.Run.{Env, Plain, Plan, Remake, nothing, spelling, step, steps_of, text_of}
-use Rattle.swc_ecma_codegen_base.specs.Scripts.{is_str, is_string_call, string_by_value, strings_after, AreSafe}
+use Rattle.swc_ecma_codegen_base.specs.Scripts.{is_str, is_string_call, string_by_value, strings_after, value_strings, AreSafe}
 use Rattle.swc_ecma_codegen_base.specs.Words.{commit_pending_semi, end_of, leading_comments, position}
 use Rattle.swc_ecma_codegen_base.proofs.LitTexts.{spelled_string}
 use Rattle.swc_ecma_codegen_base.proofs.LiteralParts.{writes_settled_begun, writes_string}
@@ -155,7 +155,7 @@ writes_string_by env in_lit n us t h =
 
 -- ---- its value
 
--- Blanks and positions aside, what comes after a position, or after the beginning of a literal, is what follows.
+-- no string is among the steps of a position, or of the beginning of a literal
 position_strings : (anew : Bool) (pos : BytePos) (rest : Plan) (env : Env) → strings_after anew (steps_of (position pos rest env)) ≡ strings_after anew (steps_of (rest env))
 unfolding position step steps_of strings_after
 position_strings anew pos rest env =
@@ -185,12 +185,21 @@ unfolding words.string directive_end step steps_of strings_after string_by_value
 own_string true n t env = ap (λ z. t ∷ z) (ends_by true (is_directive n) n.span.hi env)
 own_string false n t env = ends_by false (is_directive n) n.span.hi env
 
--- of a string by its value its text is one that is printed so
+-- a string by a text, which is one by its value where texts are made anew
 string_strings : (anew in_lit : Bool) (n : strs.Str) (t : List ℕ) (env : Env) → strings_after anew (steps_of (string_by in_lit n t nothing env)) ≡ cond anew (t ∷ []) []
 unfolding string_by
 string_strings anew in_lit n t env =
     begun_in_strings anew in_lit n.span t (words.settled_begun n.span t (words.string t (directive_end n nothing))) env
     ∙ settled_strings anew n.span t (words.string t (directive_end n nothing)) env ∙ own_string anew n t env
+
+told_strings : (by_raw : Bool) (config : Config) (n : strs.Str) → cond (not by_raw) (cond by_raw (raw_text n.raw) (value_text config (string_bytes n.value)) ∷ []) [] ≡ cond by_raw [] (value_text config (string_bytes n.value) ∷ [])
+told_strings true config n = refl
+told_strings false config n = refl
+
+-- exactly where its raw isn't printed
+pub value_strings_told : (env : Env) (in_lit : Bool) (n : strs.Str) → value_strings (steps_of (string_at in_lit n nothing env)) ≡ (if prints_raw env.config n then [] else value_text env.config (string_bytes n.value) ∷ [])
+unfolding string_at string_text step steps_of strings_after
+value_strings_told env in_lit n = string_strings (not (prints_raw env.config n)) in_lit n (string_text env.config n) env ∙ told_strings (prints_raw env.config n) env.config n
 
 value_safe : (config : Config) (n : strs.Str) → config.inline_script ≡ true → IsInlineSafe (chars (value_text config (string_bytes n.value)))
 unfolding value_text

@@ -30,8 +30,8 @@ strings_after anew (Plain x ∷ xs) = strings_after anew xs
 strings_after anew (Ends tokens x ∷ xs) = strings_after anew xs
 strings_after anew (Remake due ∷ xs) = strings_after due xs
 
--- The strings that these steps print by their value, as they are written: `"a"` of the steps of a string without a raw. Of one
--- that is printed as it was spelled the text isn't made anew.
+-- The strings that these steps print by their value, as they are written: `"a"` of a string without a raw. One that is printed
+-- as it was spelled, `'a'`, isn't among them, since its text isn't made anew.
 abbrev pub value_strings : List Step → List (List ℕ)
 value_strings xs = strings_after false xs
 
