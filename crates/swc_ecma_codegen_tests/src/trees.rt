@@ -38,7 +38,7 @@ pub(crate) const DECREMENT: &str =
 
 /// `é, "é</script>", 0b11, 𝒫`, at no place; the string has no raw
 pub(crate) const LITERALS: &str =
-    r#"{"Script":{"span":{"lo":0,"hi":0},"body":[{"Expr":{"span":{"lo":0,"hi":0},"expr":{"Seq":{"span":{"lo":0,"hi":0},"exprs":[{"Ident":{"span":{"lo":0,"hi":0},"sym":"é","optional":false}},{"Lit":{"Str":{"span":{"lo":0,"hi":0},"value":"é</script>","raw":null}}},{"Lit":{"Num":{"span":{"lo":0,"hi":0},"value":{"Finite":{"negative":false,"digits":"3","exponent":0}},"raw":"0b11"}}},{"Ident":{"span":{"lo":0,"hi":0},"sym":"𝒫","optional":false}}]}}}],"shebang":null}}"#;
+    r#"{"Script":{"span":{"lo":0,"hi":0},"body":[{"Expr":{"span":{"lo":0,"hi":0},"expr":{"Seq":{"span":{"lo":0,"hi":0},"exprs":[{"Ident":{"span":{"lo":0,"hi":0},"sym":"é","optional":false}},{"Lit":{"Str":{"span":{"lo":0,"hi":0},"value":"é</script>","raw":null}}},{"Lit":{"Num":{"span":{"lo":0,"hi":0},"value":{"Finite":{"negative":false,"digits":"3","exponent":0}},"raw":"0b11"}}},{"Ident":{"span":{"lo":0,"hi":0},"sym":"𝒫","optional":false}}]}}}}],"shebang":null}}"#;
 
 /// What links hold. A test is made for any of it, which costs a check less than to make it for `AnyNode`.
 pub(crate) trait Tree: Holds<Expr<Self>>
