@@ -18,7 +18,9 @@ use Rattle.swc_ecma_codegen_base.specs.Escapes.{may_make_text}
 use Rattle.swc_ecma_codegen_base.specs.Named.{RecordsNames}
 use Rattle.swc_ecma_codegen_literals.specs.AsciiNames.{is_ascii_text}
 use Rattle.swc_ecma_codegen_base.specs.Ascii.{keeps_other, may_keep_other, AddsAscii, WantsAscii}
+use Rattle.swc_ecma_codegen_base.specs.Scripts.{value_strings, AddsSafe}
 use Rattle.swc_ecma_codegen_base.proofs.AsciiTexts.{printed_ascii, printed_keeps}
+use Rattle.swc_ecma_codegen_base.proofs.ScriptTexts.{printed_safe}
 use Rattle.swc_ecma_codegen_text_writer.specs.Recorded.{RecordsTruly}
 use Rattle.swc_ecma_codegen_ast.specs.Phrases.{names_in}
 use Rattle.swc_ecma_codegen_text_writer.specs.Sheet.{HoldsNone}
@@ -75,6 +77,16 @@ script_ascii n a b r w s k h = root_ascii (OfScript n) _ a b r refl w s k h
 
 pub program_ascii : (n : Program AnyNode) (a b : State) (r : Result (Unit {0}) Error) → is_well_formed n ≡ true → WantsAscii a → keeps_other (steps_of (programs.program any_items n nothing a.env)) ≡ false → Follows (programs.program any_items n nothing) a b (in_short r) → OnOk r (AddsAscii a.sheet.text b.sheet.text)
 program_ascii n a b r w s k h = root_ascii (OfProgram n) _ a b r refl w s k h
+
+-- under `inline_script` each string that is printed by its value is safe inside a script
+pub root_safe : (n : Root) (p : Part) (a b : State) (r : Result (Unit {0}) Error) → p ≡ root_items n → is_well_formed_root n ≡ true → a.env.config.inline_script ≡ true → a.env.keeps_invalid ≡ false → Follows (p nothing) a b (in_short r) → OnOk r (AddsSafe (value_strings (steps_of (p nothing a.env))) a.sheet.text b.sheet.text)
+root_safe n p a b r same w i e h = on_ok_in_short _ r (printed_safe p (root_phrase n) a b (in_short r) (subst (λ z. Prints a.env z (root_phrase n)) (sym same) (root_prints a.env e n)) w i h)
+
+pub script_safe : (n : Script AnyNode) (a b : State) (r : Result (Unit {0}) Error) → is_well_formed (a_script n) ≡ true → a.env.config.inline_script ≡ true → a.env.keeps_invalid ≡ false → Follows (programs.script any_items n nothing) a b (in_short r) → OnOk r (AddsSafe (value_strings (steps_of (programs.script any_items n nothing a.env))) a.sheet.text b.sheet.text)
+script_safe n a b r w i e h = root_safe (OfScript n) _ a b r refl w i e h
+
+pub program_safe : (n : Program AnyNode) (a b : State) (r : Result (Unit {0}) Error) → is_well_formed n ≡ true → a.env.config.inline_script ≡ true → a.env.keeps_invalid ≡ false → Follows (programs.program any_items n nothing) a b (in_short r) → OnOk r (AddsSafe (value_strings (steps_of (programs.program any_items n nothing a.env))) a.sheet.text b.sheet.text)
+program_safe n a b r w i e h = root_safe (OfProgram n) _ a b r refl w i e h
 
 -- no text stands as it is that isn't ASCII, where no such token is in the tree
 pub root_keeps : (n : Root) (s : State) → is_well_formed_root n ≡ true → s.env.keeps_invalid ≡ false → is_out s.env.config (root_phrase n) ≡ false → may_keep_other (root_phrase n) ≡ false → keeps_other (steps_of (steps_in (root_items n) s)) ≡ false

@@ -4,9 +4,11 @@
 //! What is printed of a well-formed tree reads back as the tree's tokens, by longest match: `a < !--b` isn't printed as
 //! the start of a comment, nor `a - -b` as a decrement.
 
-ghost use Rattle.std.specs.Prelude.{◌≡◌, ℕ, true, false, if◌then◌else◌, List, ◌∷◌, OnOk, Ok, Err, Some, None};
+ghost use Rattle.std.specs.Prelude.{◌≡◌, ℕ, Bool, true, false, if◌then◌else◌, List, [], ◌∷◌, OnOk, Ok, Err, Some, None};
 ghost use Rattle.swc_ecma_codegen_common.specs.declared.errors.Refusal.TheVariants as refusals;
 ghost use Rattle.swc_ecma_codegen_common.specs.Refusals.{in_short};
+ghost use Rattle.std.specs.String.{string_bytes};
+ghost use Rattle.swc_ecma_codegen_tree.specs.declared.lits.Str.{Str};
 ghost use Rattle.swc_ecma_codegen_util.specs.declared.config.Config.{Config};
 ghost use Rattle.swc_ecma_codegen_ast.specs.Tokens.{Token};
 ghost use Rattle.swc_ecma_codegen_ast.specs.Phrases.{Generates, is_possible};
@@ -14,7 +16,9 @@ ghost use Rattle.swc_ecma_codegen_ast.specs.TreePhrases.{expr_phrase, stmt_phras
 ghost use Rattle.swc_ecma_codegen_text_writer.specs.Sheet.{HoldsNone};
 ghost use Rattle.swc_ecma_codegen_text_writer.specs.View.{new_sheet};
 ghost use Rattle.swc_ecma_codegen_base.specs.declared.refusals.Unprintable.TheVariants.{NameOutOfTarget};
-ghost use Rattle.swc_ecma_codegen_base.specs.Run.{Follows, State, nothing, makes_text, start, steps_in, steps_of, unprintable_in};
+ghost use Rattle.swc_ecma_codegen_base.specs.Run.{Env, Follows, State, nothing, makes_text, start, steps_in, steps_of, unprintable_in};
+ghost use Rattle.swc_ecma_codegen_base.specs.Lits.{prints_raw, string_at, value_text};
+ghost use Rattle.swc_ecma_codegen_base.specs.Scripts.{value_strings};
 ghost use Rattle.swc_ecma_codegen_base.specs.Targets.{is_out};
 ghost use Rattle.swc_ecma_codegen_base.specs.Written.{IsLineEnd, IsNew, AddsReading, all_indent};
 ghost use Rattle.swc_ecma_codegen_base.specs.Ready.{IsReady};
@@ -108,6 +112,13 @@ pub fn plain_trees_take_no_memory()
 #[tactic(auto, using(crate::proofs::TreeReads::root_keeps))]
 pub fn plain_trees_keep_no_other_text()
     ensures { (root : Root) (s : State) → is_well_formed_root root ≡ true → s.env.keeps_invalid ≡ false → is_out s.env.config (root_phrase root) ≡ false → may_keep_other (root_phrase root) ≡ false → keeps_other (steps_of (steps_in (root_items root) s)) ≡ false }
+{}
+
+/// A string literal is printed by its value exactly where its raw isn't printed: it is one of the strings that the clause
+/// `inline` of `emit_with` speaks of.
+#[tactic(auto, using(swc_ecma_codegen_base::proofs::StringPrints::value_strings_told))]
+pub fn strings_by_value_are_told()
+    ensures { (env : Env) (in_lit : Bool) (n : Str) → value_strings (steps_of (string_at in_lit n nothing env)) ≡ (if prints_raw env.config n then [] else value_text env.config (string_bytes n.value) ∷ []) }
 {}
 
 /// An emission of a well-formed tree comes to a node that can't be printed exactly where some name of the tree is to be

@@ -3,6 +3,7 @@ pub mod Short
 pub mod Targets
 pub mod NumeralTexts
 pub mod Hands
+pub mod ValueStrings
 pub mod Calls
 pub mod Spelled
 pub mod Anew
@@ -25,6 +26,7 @@ pub mod LiteralParts
 pub mod Phrased
 pub mod SoFar
 pub mod AsciiTexts
+pub mod ScriptTexts
 pub mod Made
 pub mod OwnDots
 pub mod LitTexts

@@ -19,24 +19,25 @@ use Rattle.swc_ecma_codegen_literals.specs.AsciiNames.{is_ascii_text}
 use Rattle.swc_ecma_codegen_literals.specs.ValidNames.{has_byte}
 use Rattle.swc_ecma_codegen_base.specs.Ascii.{is_strict, is_kept_directive, is_kept, is_other, is_other_value, keeps_other, are_ascii, keeps_tokens}
 use Rattle.swc_ecma_codegen_base.specs.Run.{Env, State, Step, Guard, Token, Plain, Ends, put, run, step, spelling, text_of, after_tokens, after_plain, makes_text}
+use Rattle.swc_ecma_codegen_base.specs.Scripts.{is_string_call}
 use Rattle.swc_ecma_codegen_base.specs.Starts.{start_class}
 use Rattle.swc_ecma_codegen_base.specs.Words.{start_of, leading_comments, commit_pending_semi}
 use Rattle.swc_ecma_codegen_base.specs.Literals as words
 use Rattle.swc_ecma_codegen_base.specs.Written.{AtRest, holds_one}
 use Rattle.swc_ecma_codegen_base.proofs.Held.{settled_none, unheld_settled}
-use Rattle.swc_ecma_codegen_base.proofs.Hands.{Hands, hands_ascii}
+use Rattle.swc_ecma_codegen_base.proofs.Hands.{Hands, has_string, holds_string, hands_ascii}
 use Rattle.swc_ecma_codegen_base.proofs.Levels.{levels, rise}
 use Rattle.swc_ecma_codegen_base.proofs.NumeralTexts.{numeric_ascii, ascii_by_chars}
 use Rattle.swc_ecma_codegen_base.proofs.Starting.{same_beginning, sample}
 use Rattle.swc_ecma_codegen_base.proofs.Written.{Lays, lays_then, lays_settled, lays_guard, settle, settle_rest, after_guard, Spelled}
 use Rattle.swc_ecma_codegen_base.proofs.Texts.{Adds, adds_written, adds_literal, adds_more, owns, SpelledAs, spelled_one, lays_texts}
-use Rattle.swc_ecma_codegen_base.proofs.Printed.{chain, Makes, Writes, writes_then, writes_step, writes_two, writes_position, writes_commit, writes_leading}
+use Rattle.swc_ecma_codegen_base.proofs.Printed.{chain, no_text, Makes, Writes, writes_then, writes_step, writes_two, writes_position, writes_commit, writes_leading}
 
 -- ---- what stands before a literal
 
 pub writes_guard : (env : Env) (t : List ℕ) → Writes env (step (Guard t)) []
-unfolding makes_text levels are_ascii
-writes_guard env t = writes_step env (Guard t) [] (λ s r. lays_guard t s r) (omega arith) (hands_ascii env _ [] refl)
+unfolding makes_text levels are_ascii has_string is_string_call
+writes_guard env t = writes_step env (Guard t) [] (λ s r. lays_guard t s r) (omega arith) (hands_ascii env _ [] refl no_text)
 
 pub writes_begun : (env : Env) (span : Span) (t : List ℕ) → Writes env (words.begun span t) []
 unfolding words.begun
@@ -85,12 +86,12 @@ literal_handed env kind span t p a = writes_two env (Guard t) (Token kind (StrLi
 
 -- in ASCII
 pub literal_token : (env : Env) (kind : Kind) (span : Span) (t : List ℕ) → Spelled kind t → is_ascii_text t ≡ true → Writes env (λ rest. step (Guard t) (step (Token kind (StrLit span t)) rest)) (token_of kind (spelling kind t) ∷ [])
-unfolding are_ascii text_of
-literal_token env kind span t p a = literal_handed env kind span t p (hands_ascii env _ _ (and_from (is_ascii_text t) true a refl))
+unfolding are_ascii has_string is_string_call holds_string text_of token_of
+literal_token env kind span t p a = literal_handed env kind span t p (hands_ascii env _ _ (and_from (is_ascii_text t) true a refl) (λ s. s))
 
 -- a string, which is in ASCII where the settings ask for that, save a directive that stands as it is
 string_handed : (env : Env) (t : List ℕ) → (env.config.ascii_only ≡ true → (is_ascii_text t || is_kept_directive t) ≡ true) → Hands env (Guard t ∷ Token Str (StrLit dummy_span t) ∷ []) (token_of Str (spelling Str t) ∷ [])
-unfolding are_ascii keeps_other is_other is_kept is_kept_directive text_of keeps_tokens is_other_value token_of value_of spelling
+unfolding are_ascii has_string is_string_call holds_string keeps_other is_other is_kept is_kept_directive text_of keeps_tokens is_other_value token_of value_of spelling
 string_handed env t k = record {
   ascii = λ e n. and_from (is_ascii_text t) true (elim (or_cases (is_ascii_text t) (is_kept_directive t) (k e)) [
     | inl a ↦ a
@@ -99,6 +100,7 @@ string_handed env t k = record {
   keeps = λ n.
       let d = (and_parts (is_kept_directive t) (not (is_ascii_text t)) (either_none (is_kept_directive t && not (is_ascii_text t)) n)).0 in
       or_left (is_strict (string_value true (chars t))) false (and_parts (has_byte 92 t) (is_strict (string_value true (chars t))) d).1;
+  strings = λ s. s;
 }
 
 pub writes_string : (env : Env) (t : List ℕ) → Spelled Str t → (env.config.ascii_only ≡ true → (is_ascii_text t || is_kept_directive t) ≡ true) → Writes env (words.string t) (token_of Str (spelling Str t) ∷ [])
@@ -124,8 +126,8 @@ unfolding put effect
 number_lays xs t s p some r = lays_guarded xs t t s _ p refl r (literal_adds dummy_span t (settled (put (Guard t) s).sheet) some) refl
 
 pub writes_number : (env : Env) (t : List ℕ) → SpelledAs (words.signed Number t) t → (t ≡ [] → ⊥) → is_ascii_text t ≡ true → Writes env (words.number t) (tokens_of (owns (words.signed Number t)))
-unfolding words.number makes_text levels rise are_ascii text_of
-writes_number env t p some a = writes_two env (Guard t) (Ends (words.signed Number t) (StrLit dummy_span t)) _ (λ s r. number_lays (words.signed Number t) t s p some r) (omega arith) (hands_ascii env _ _ (and_from (is_ascii_text t) true a refl))
+unfolding words.number makes_text levels rise are_ascii has_string is_string_call text_of
+writes_number env t p some a = writes_two env (Guard t) (Ends (words.signed Number t) (StrLit dummy_span t)) _ (λ s r. number_lays (words.signed Number t) t s p some r) (omega arith) (hands_ascii env _ _ (and_from (is_ascii_text t) true a refl) no_text)
 
 -- ---- one text by two calls
 
@@ -161,12 +163,12 @@ unfolding step chain run
 writes_three env x y z ts h k a = record { steps = x ∷ y ∷ z ∷ []; is_steps = λ rest. refl; lays = h; remakes = λ e. e; deep = omega (arith, k); hands = a }
 
 pub writes_dotted : (env : Env) (t : List ℕ) → SpelledAs (words.signed Number (t ++ codes ".")) (t ++ codes ".") → start_class (chars (t ++ codes ".")) ≡ start_class (chars t) → (t ≡ [] → ⊥) → is_ascii_text t ≡ true → Writes env (words.dotted_number t) (tokens_of (owns (words.signed Number (t ++ codes "."))))
-unfolding words.dotted_number makes_text levels rise are_ascii text_of
-writes_dotted env t p e some a = writes_three env (Guard t) (Plain (StrLit dummy_span t)) (Ends (words.signed Number (t ++ codes ".")) (Punct None (codes "."))) _ (λ s r. dotted_lays (words.signed Number (t ++ codes ".")) t s p e some r) refl (hands_ascii env _ _ (and_from (is_ascii_text t) true a refl))
+unfolding words.dotted_number makes_text levels rise are_ascii has_string is_string_call text_of
+writes_dotted env t p e some a = writes_three env (Guard t) (Plain (StrLit dummy_span t)) (Ends (words.signed Number (t ++ codes ".")) (Punct None (codes "."))) _ (λ s r. dotted_lays (words.signed Number (t ++ codes ".")) t s p e some r) refl (hands_ascii env _ _ (and_from (is_ascii_text t) true a refl) no_text)
 
 pub writes_big_digits : (env : Env) (span : Span) (t : List ℕ) → SpelledAs (words.signed BigInt (t ++ codes "n")) (t ++ codes "n") → start_class (chars (t ++ codes "n")) ≡ start_class (chars t) → (t ≡ [] → ⊥) → is_ascii_text t ≡ true → Writes env (words.big_digits span t) (tokens_of (owns (words.signed BigInt (t ++ codes "n"))))
-unfolding words.big_digits makes_text levels rise are_ascii text_of
-writes_big_digits env span t p e some a = writes_three env (Guard t) (Plain (Lit span t)) (Ends (words.signed BigInt (t ++ codes "n")) (Lit span (codes "n"))) _ (λ s r. big_lays (words.signed BigInt (t ++ codes "n")) span t s p e some r) refl (hands_ascii env _ _ (and_from (is_ascii_text t) true a refl))
+unfolding words.big_digits makes_text levels rise are_ascii has_string is_string_call text_of
+writes_big_digits env span t p e some a = writes_three env (Guard t) (Plain (Lit span t)) (Ends (words.signed BigInt (t ++ codes "n")) (Lit span (codes "n"))) _ (λ s r. big_lays (words.signed BigInt (t ++ codes "n")) span t s p e some r) refl (hands_ascii env _ _ (and_from (is_ascii_text t) true a refl) no_text)
 
 -- ---- a regular expression
 
@@ -225,13 +227,14 @@ either_other true false h e f = true≢false (sym f)
 either_other false b h e f = true≢false (sym e)
 
 regex_handed : (env : Env) (exp flags : List ℕ) → Spelled Regex (words.regex_text exp flags) → Hands env (regex_steps exp flags) (token_of Regex (spelling Regex (words.regex_text exp flags)) ∷ [])
-unfolding regex_steps are_ascii keeps_other is_other is_kept text_of keeps_tokens is_other_value token_of value_of spelling
+unfolding regex_steps are_ascii has_string is_string_call keeps_other is_other is_kept text_of keeps_tokens is_other_value token_of value_of spelling
 regex_handed env exp flags p = record {
   ascii = λ e n. neither (is_ascii_text exp) (is_ascii_text flags) n;
   keeps = λ n.
       let text : List ℕ = words.regex_text exp flags in
       or_left (not (is_ascii_text (chars text))) false (not_from_false (is_ascii_text (chars text)) (false_from_ne_true (is_ascii_text (chars text)) (λ a.
       let q = parts_ascii exp flags (ascii_by_chars text p.utf8 a) in either_other (is_ascii_text exp) (is_ascii_text flags) n q.0 q.1)));
+  strings = no_text;
 }
 
 pub writes_regex : (env : Env) (exp flags : List ℕ) → Spelled Regex (words.regex_text exp flags) → start_class (chars (words.regex_text exp flags)) ≡ start_class (chars (codes "/")) → Writes env (words.regex exp flags) (token_of Regex (spelling Regex (words.regex_text exp flags)) ∷ [])

@@ -34,6 +34,7 @@ use Rattle.swc_ecma_codegen_base.specs.Lits.{begun_in, between_dots, before_prop
 use Rattle.swc_ecma_codegen_base.specs.Literals as words
 use Rattle.swc_ecma_codegen_base.specs.Literals.{size_of}
 use Rattle.swc_ecma_codegen_base.specs.Run.{Env, Guard, Part, Remake, Token, spelling, step}
+use Rattle.swc_ecma_codegen_base.specs.Scripts.{is_str}
 use Rattle.swc_ecma_codegen_base.specs.Words.{leading_comments}
 use Rattle.swc_ecma_codegen_base.proofs.LitTexts.{IsRawOf, SignedToken, joined_raw, number_signed, signed_class, signed_size, signed_spelled, signed_tokens, signed_written, some_signed, with_dot}
 use Rattle.swc_ecma_codegen_base.proofs.LiteralParts.{literal_token, writes_dotted, writes_number, writes_number_name, writes_settled_begun}
@@ -159,20 +160,20 @@ writes_number_by env in_lit span value negative t h =
     (writes_then env (words.settled_begun span t) (words.number t) [] (signed_tokens Number value negative) (writes_settled_begun env span t) (writes_number_text env value negative t h))
 
 prints_spelled : (env : Env) (in_lit : Bool) (n : trees.Number) → (is_none n.raw && not (is_finite n.value)) ≡ false → Prints env (spelled_number in_lit n) (phrases.number n)
-unfolding spelled_number number_text prints_number_raw written_text phrases.number is_spelled_anew
+unfolding spelled_number number_text prints_number_raw written_text phrases.number is_spelled_anew is_str
 prints_spelled env in_lit n e =
     let due : Bool = makes_number env.config n in
     let p : List ℕ → Part = λ t rest. step (Remake due) (number_by in_lit n.span t rest) in
     prints_same (spelled_number in_lit n) (p (number_text env.config n)) (λ rest. refl)
-    (spelled_case env p (λ value negative t h. prints_signed Number value negative refl (makes_remade due (writes_number_by env in_lit n.span value negative t h))) n.value n.raw e)
+    (spelled_case env p (λ value negative t h. prints_signed Number value negative refl refl (makes_remade due (writes_number_by env in_lit n.span value negative t h))) n.value n.raw e)
 
 -- ---- numbers that are names
 
 prints_number_name : (env : Env) (span : Span) (t : List ℕ) → Spelled Name t → is_ascii_text t ≡ true → name_value (chars t) ≡ t → Prints env (words.number_name span t) (One (lexical.name t))
-unfolding lexical.name token_of value_of spelling
+unfolding lexical.name token_of value_of spelling is_str
 prints_number_name env span t p a e =
     let f : List ℕ → lexical.Token = λ z. record { kind = Name; value = Characters z } in
-    prints_one env (words.number_name span t) (lexical.name t) (subst (λ z. Writes env (words.number_name span t) (z ∷ [])) (ap f e) (writes_number_name env span t p a))
+    prints_one env (words.number_name span t) (lexical.name t) (subst (λ z. Writes env (words.number_name span t) (z ∷ [])) (ap f e) (writes_number_name env span t p a)) refl
 
 infinity_spelled : Spelled Name (codes "Infinity")
 unfolding is_name name_rest fits is_start is_part is_letter is_digit chars is_utf8 lib.Utf8.encode
@@ -252,12 +253,12 @@ writes_object_by env span pos value negative t h =
     (property_case (takes_dot (chars (size_of t))) env pos value negative t h refl)
 
 prints_spelled_object : (env : Env) (n : trees.Number) (pos : BytePos) → (is_none n.raw && not (is_finite n.value)) ≡ false → Prints env (spelled_object n pos) (phrases.number n)
-unfolding spelled_object number_text prints_number_raw written_text phrases.number is_spelled_anew
+unfolding spelled_object number_text prints_number_raw written_text phrases.number is_spelled_anew is_str
 prints_spelled_object env n pos e =
     let due : Bool = makes_number env.config n in
     let p : List ℕ → Part = λ t rest. step (Remake due) (object_by n.span pos t rest) in
     prints_same (spelled_object n pos) (p (number_text env.config n)) (λ rest. refl)
-    (spelled_case env p (λ value negative t h. prints_signed Number value negative refl (makes_remade due (writes_object_by env n.span pos value negative t h))) n.value n.raw e)
+    (spelled_case env p (λ value negative t h. prints_signed Number value negative refl refl (makes_remade due (writes_object_by env n.span pos value negative t h))) n.value n.raw e)
 
 -- with its own dot where the next one would be read into it, it is the same number
 pub prints_number_object : (env : Env) (n : trees.Number) (pos : BytePos) → Prints env (number_object n pos) (phrases.number n)

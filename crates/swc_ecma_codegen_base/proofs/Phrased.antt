@@ -41,11 +41,14 @@ use Rattle.swc_ecma_codegen_base.specs.Words.{keyword, operator, word_operator, 
 use Rattle.swc_ecma_codegen_base.specs.Written.{AtRest, is_free, holds_one, IsNew, ReadsAs, AddsText, AddsReading, IsWord, IsMark}
 use Rattle.swc_ecma_codegen_base.specs.Escapes.{may_make_text}
 use Rattle.swc_ecma_codegen_base.specs.Named.{RecordsNames}
+use Rattle.swc_ecma_codegen_base.specs.Scripts.{is_str, strings_after, AreSafe}
 use Rattle.swc_ecma_codegen_base.proofs.Fronts.{follows_cause, run_append, run_sheet}
+use Rattle.swc_ecma_codegen_base.proofs.Hands.{has_string, holds_string}
 use Rattle.swc_ecma_codegen_base.proofs.Held.{front}
 use Rattle.swc_ecma_codegen_base.proofs.Indented.{blanks}
 use Rattle.swc_ecma_codegen_base.proofs.Spelled.{valid_same, spelled_same, out_same}
 use Rattle.swc_ecma_codegen_base.proofs.Positions.{Named, named_none, named_then, named_records, name_named, name_steps, name_call, run_records}
+use Rattle.swc_ecma_codegen_base.proofs.ValueStrings.{none_by_value, steps_safe}
 use Rattle.swc_ecma_codegen_base.proofs.Targets.{Names, names_in_ascii, plain_not_out}
 use Rattle.swc_ecma_codegen_base.proofs.Written.{Lays, held, held_of, tokens_append, Spelled, spelled_word, spelled_name, spelled_mark}
 use Rattle.swc_ecma_codegen_base.proofs.Printed.{chain, or_false, Makes, Writes, writes_whatever, writes_then, writes_same, writes_nothing, writes_keyword, writes_operator, writes_word_operator, writes_punct, writes_semi, writes_commit, writes_leading, writes_name_text}
@@ -87,12 +90,32 @@ names_then {env} {p} q xs ys m h k s keeps =
     subst P (sym (steps_then m q)) (subst Q (sym (run_append here there s))
     (named_then env.config xs ys s.sheet (run here s).sheet (run there (run here s)).sheet (h s keeps) (k (run here s) (run_sheet (λ z. z.keeps_positions) effect_keeps_positions here s ∙ keeps))))
 
+-- Under `inline_script` the strings of a part that are printed by their value are safe, whatever was before it.
+unfoldable pub IsSafe : Env → Part → Type 0
+IsSafe env p = env.config.inline_script ≡ true → (anew : Bool) → AreSafe (strings_after anew (steps_of (p nothing env)))
+
+-- a part without strings
+pub no_strings : {env : Env} {p : Part} {ts : List lexical.Token} {b : Bool} → Makes env p ts b → holds_string ts ≡ false → IsSafe env p
+unfolding IsSafe AreSafe nothing
+no_strings {env} {p} {ts} h none e anew =
+    let same : steps_of (p nothing env) ≡ h.steps = ap steps_of (h.is_steps nothing) ∙ steps_of_chain h.steps in
+    let no : has_string h.steps ≡ false = false_from_ne_true (has_string h.steps) (λ s. true≢false (sym (h.hands.strings s) ∙ none)) in
+    subst AreSafe (sym (ap (strings_after anew) same ∙ none_by_value anew h.steps no)) tt
+
+safe_then : {env : Env} {p : Part} {ts : List lexical.Token} {b : Bool} (q : Part) → Makes env p ts b → IsSafe env p → IsSafe env q → IsSafe env (λ rest. p (q rest))
+unfolding IsSafe
+safe_then {env} {p} q m h k e anew =
+    let here = steps_of (p nothing env) in
+    let there = steps_of (q nothing env) in
+    subst (λ z. AreSafe (strings_after anew z)) (sym (steps_then m q)) (steps_safe here there (h e) (k e) anew)
+
 -- A part writes a token list of a phrase, whatever comes after it, and makes no name anew but those of the phrase.
 pub record Printed (env : Env) (part : Part) (phrase : Phrase) : Type 0 where
   pub tokens : List lexical.Token
   pub generated : Generates phrase tokens
   pub writes : Makes env part tokens (may_make_text env.config phrase)
   pub named : NamedBy env part (names_in phrase)
+  pub safe : IsSafe env part
 
 -- It does so where the phrase is possible and all its names can be written; else it ends where one can't be, whatever
 -- comes after it.
@@ -128,6 +151,7 @@ then {env} {p} {q} {f} {g} h k = record {
         generated = (a.tokens, b.tokens, a.generated, b.generated, refl);
         writes = writes_then env p q a.tokens b.tokens a.writes b.writes;
         named = names_then q (names_in f) (names_in g) a.writes a.named b.named;
+        safe = safe_then q a.writes a.safe b.safe;
       };
   where_out = λ w o rest.
       let both = and_parts (is_possible f) (is_possible g) w in
@@ -136,14 +160,22 @@ then {env} {p} {q} {f} {g} h k = record {
 
 -- a part before or after one that writes no token
 pub after : {env : Env} {q p : Part} {f : Phrase} → Writes env q [] → Prints env p f → Prints env (λ rest. q (p rest)) f
+unfolding holds_string
 after {env} {q} {p} {f} k h = record {
   where_possible = λ w o.
       let a = h.where_possible w o in
-      record { tokens = a.tokens; generated = a.generated; writes = writes_then env q p [] a.tokens k a.writes; named = names_then p [] (names_in f) k (no_names env q) a.named };
+      record {
+        tokens = a.tokens;
+        generated = a.generated;
+        writes = writes_then env q p [] a.tokens k a.writes;
+        named = names_then p [] (names_in f) k (no_names env q) a.named;
+        safe = safe_then p k (no_strings k refl) a.safe;
+      };
   where_out = λ w o rest. goes_on k (p rest) ∙ h.where_out w o rest;
 }
 
 pub before : {env : Env} {p q : Part} {f : Phrase} → Prints env p f → Writes env q [] → Prints env (λ rest. p (q rest)) f
+unfolding holds_string
 before {env} {p} {q} {f} h k = record {
   where_possible = λ w o.
       let a = h.where_possible w o in
@@ -153,13 +185,14 @@ before {env} {p} {q} {f} h k = record {
         generated = a.generated;
         writes = subst (λ z. Makes env (λ rest. p (q rest)) a.tokens z) (or_false made) (subst (λ z. Makes env (λ rest. p (q rest)) z (made || false)) (append-nil a.tokens) (writes_then env p q a.tokens [] a.writes k));
         named = subst (λ z. NamedBy env (λ rest. p (q rest)) z) (append-nil (names_in f)) (names_then q (names_in f) [] a.writes a.named (no_names env q));
+        safe = safe_then q a.writes a.safe (no_strings k refl);
       };
   where_out = λ w o rest. h.where_out w o (q rest);
 }
 
 pub prints_nothing : {env : Env} → Prints env (λ rest. rest) Nothing
-unfolding Generates is_out may_make_text names_in
-prints_nothing {env} = record { where_possible = λ w o. record { tokens = []; generated = refl; writes = writes_nothing env; named = no_names env (λ rest. rest) }; where_out = λ w o. absurd (true≢false (sym o)) }
+unfolding Generates is_out may_make_text names_in holds_string
+prints_nothing {env} = record { where_possible = λ w o. record { tokens = []; generated = refl; writes = writes_nothing env; named = no_names env (λ rest. rest); safe = no_strings (writes_nothing env) refl }; where_out = λ w o. absurd (true≢false (sym o)) }
 
 -- what is Never has no list
 pub prints_never : {env : Env} {p : Part} → Prints env p Never
@@ -174,7 +207,7 @@ prints_where false h = prints_never
 
 -- a part that is written as another is
 pub prints_same : {env : Env} {f : Phrase} (p q : Part) → ((rest : Plan) → p rest env ≡ q rest env) → Prints env q f → Prints env p f
-unfolding NamedBy
+unfolding NamedBy IsSafe
 prints_same {env} {f} p q e h = record {
   where_possible = λ w o.
       let a = h.where_possible w o in
@@ -183,18 +216,24 @@ prints_same {env} {f} p q e h = record {
         generated = a.generated;
         writes = writes_same env p q a.tokens e a.writes;
         named = λ s k. let P : Steps → Type 0 = λ z. Named env.config (names_in f) s.sheet (run (steps_of z) s).sheet in subst P (sym (e nothing)) (a.named s k);
+        safe = λ i anew. subst (λ z. AreSafe (strings_after anew (steps_of z))) (sym (e nothing)) (a.safe i anew);
       };
   where_out = λ w o rest. ap unprintable_in (e rest) ∙ h.where_out w o rest;
 }
 
 -- a token, whose text may be made anew where it is a literal
-pub prints_made : (env : Env) (p : Part) (x : lexical.Token) → Makes env p (x ∷ []) (may_make_text env.config (One x)) → Prints env p (One x)
+pub prints_made : (env : Env) (p : Part) (x : lexical.Token) → Makes env p (x ∷ []) (may_make_text env.config (One x)) → IsSafe env p → Prints env p (One x)
 unfolding Generates is_out names_in
-prints_made env p x h = record { where_possible = λ w o. record { tokens = x ∷ []; generated = refl; writes = h; named = no_names env p }; where_out = λ w o. absurd (true≢false (sym o)) }
+prints_made env p x h safe = record { where_possible = λ w o. record { tokens = x ∷ []; generated = refl; writes = h; named = no_names env p; safe = safe }; where_out = λ w o. absurd (true≢false (sym o)) }
 
-pub prints_one : (env : Env) (p : Part) (x : lexical.Token) → Writes env p (x ∷ []) → Prints env p (One x)
+-- one that is no string
+pub no_string : {env : Env} {p : Part} {x : lexical.Token} {b : Bool} → Makes env p (x ∷ []) b → is_str x.kind ≡ false → IsSafe env p
+unfolding holds_string
+no_string {env} {p} {x} h none = no_strings h (or_from (is_str x.kind) false none refl)
+
+pub prints_one : (env : Env) (p : Part) (x : lexical.Token) → Writes env p (x ∷ []) → is_str x.kind ≡ false → Prints env p (One x)
 unfolding Generates may_make_text names_in
-prints_one env p x h = prints_made env p x (writes_whatever (may_make_text env.config (One x)) h)
+prints_one env p x h none = prints_made env p x (writes_whatever (may_make_text env.config (One x)) h) (no_string h none)
 
 -- ---- words and punctuators, which are ASCII
 
@@ -208,12 +247,12 @@ mark_spelled : (t : List ℕ) → IsMark t → Spelled Punctuator t
 mark_spelled t w = spelled_mark t w.utf8 (ascii_same t w.ascii) w.shape
 
 prints_word : (env : Env) (p : Part) (t : List ℕ) → IsWord t → Writes env p (token_of Word (spelling Word t) ∷ []) → Prints env p (phrases.word t)
-unfolding token_of value_of spelling lexical.word
-prints_word env p t w h = subst (λ z. Prints env p (phrases.word z)) (ascii_same t w.ascii) (prints_one env p _ h)
+unfolding token_of value_of spelling lexical.word is_str
+prints_word env p t w h = subst (λ z. Prints env p (phrases.word z)) (ascii_same t w.ascii) (prints_one env p _ h refl)
 
 pub prints_mark : (env : Env) (p : Part) (t : List ℕ) → Writes env p (token_of Punctuator (spelling Punctuator t) ∷ []) → Prints env p (mark t)
-unfolding token_of value_of spelling lexical.punctuator
-prints_mark env p t h = prints_one env p _ h
+unfolding token_of value_of spelling lexical.punctuator is_str
+prints_mark env p t h = prints_one env p _ h refl
 
 pub prints_keyword : (env : Env) (span : Option Span) (t : List ℕ) → IsWord t → Prints env (keyword span t) (phrases.word t)
 prints_keyword env span t w = prints_word env (keyword span t) t w (writes_keyword env span t (word_spelled t w) w.ascii)
@@ -232,8 +271,8 @@ unfolding is_punctuator is_among is_same punctuators chars is_utf8 lib.Utf8.enco
 question_is_mark = record { utf8 = refl; ascii = refl; shape = refl }
 
 pub prints_semi : (env : Env) → Prints env semi phrases.ending
-unfolding token_of value_of spelling lexical.ending
-prints_semi env = prints_one env semi _ (writes_semi env)
+unfolding token_of value_of spelling lexical.ending is_str
+prints_semi env = prints_one env semi _ (writes_semi env) refl
 
 -- ---- names
 
@@ -267,16 +306,18 @@ unfolding settled_name commit_pending_semi valid_symbol step refuse unprintable_
 name_out env span bytes rest e o = ap unprintable_in (valid_same span bytes rest env e) ∙ ap unprintable_in (out_same span (turned bytes) rest env o)
 
 prints_settled_name : (env : Env) (span : Span) (bytes : List ℕ) → env.keeps_invalid ≡ false → Prints env (settled_name span bytes) (NameOf span.lo bytes)
-unfolding settled_name token_of value_of spelling lexical.name names.spelled_name Generates is_possible is_out may_make_text names_in
+unfolding settled_name token_of value_of spelling lexical.name names.spelled_name Generates is_possible is_out may_make_text names_in is_str
 prints_settled_name env span bytes e = record {
   where_possible = λ w o.
       let h = name_written env.config bytes w o in
       let spelled = spelled_name (written_name env.config bytes) h.utf8 h.shape in
+      let m = writes_then env commit_pending_semi (name_text span bytes) [] _ (writes_commit env) (writes_name_text env span bytes e o spelled h.ascii) in
       record {
         tokens = _;
         generated = ap (λ z. lexical.name z ∷ []) h.value;
-        writes = writes_then env commit_pending_semi (name_text span bytes) [] _ (writes_commit env) (writes_name_text env span bytes e o spelled h.ascii);
+        writes = m;
         named = names_here env span bytes e o spelled.some;
+        safe = no_string m refl;
       };
   where_out = λ w o rest. name_out env span bytes rest e o;
 }

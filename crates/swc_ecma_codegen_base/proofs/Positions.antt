@@ -23,7 +23,7 @@ use Rattle.swc_ecma_codegen_base.proofs.Held.{begun_sheet, written_semicolons, p
 
 -- ---- what is recorded is true
 
-put_records : (x : Step) (a : State) → RecordsTruly a.sheet (put x a).sheet
+pub put_records : (x : Step) (a : State) → RecordsTruly a.sheet (put x a).sheet
 unfolding put
 put_records (Guard t) a = elim (fuses a.last (chars t)) as (λ b. RecordsTruly a.sheet (cond b (record a { sheet = effect Space a.sheet; last = Apart }) a).sheet) [ true ↦ effect_records Space a.sheet | false ↦ records_refl a.sheet ]
 put_records (Token kind x) a = effect_records x a.sheet

@@ -13,11 +13,12 @@ use Rattle.swc_ecma_codegen_base.specs.Run.{Env, Plan, Part, State, Step, Guard,
 use Rattle.swc_ecma_codegen_base.specs.Words.{keyword, operator, word_operator, punct, semi, space, formatting_space, line_end, formatting_line, commit_pending_semi, position, position_before, leading_comments, trailing_comments, symbol, spelled_symbol, valid_symbol, name_text}
 use Rattle.swc_ecma_codegen_literals.specs.AsciiNames.{is_ascii_text}
 use Rattle.swc_ecma_codegen_base.specs.Ascii.{is_kept, is_other, keeps_other, are_ascii}
+use Rattle.swc_ecma_codegen_base.specs.Scripts.{is_string_call}
 use Rattle.swc_ecma_codegen_base.specs.Targets.{wants_escapes, in_ascii, is_out_name, written_name}
 use Rattle.swc_ecma_codegen_base.specs.Written.{AtRest}
 use Rattle.swc_ecma_codegen_base.proofs.Emitting.{minified_same, pretty_same}
 use Rattle.swc_ecma_codegen_base.proofs.Fronts.{run_append}
-use Rattle.swc_ecma_codegen_base.proofs.Hands.{Hands, hands_ascii, hands_by_settings, hands_then}
+use Rattle.swc_ecma_codegen_base.proofs.Hands.{Hands, has_string, hands_ascii, hands_by_settings, hands_then}
 use Rattle.swc_ecma_codegen_base.proofs.Levels.{levels, rise, levels_append}
 use Rattle.swc_ecma_codegen_base.proofs.Spelled.{valid_same, spelled_same}
 use Rattle.swc_ecma_codegen_base.proofs.Written.{Lays, lays_then, lays_nothing, lays_blank, lays_line, lays_commit, lays_position, lays_token, lays_punct, lays_semi, lays_placed, Spelled, own_put, punct_put, semi_put}
@@ -65,7 +66,7 @@ remakes_append (Remake due ∷ xs) ys = ap (λ z. due || z) (remakes_append xs y
 or_either : (x y a b : Bool) → (x || y) ≡ true → (x ≡ true → a ≡ true) → (y ≡ true → b ≡ true) → (a || b) ≡ true
 or_either x y a b h f g = elim (or_cases x y h) [ inl e ↦ or_left a b (f e) | inr e ↦ or_right a b (g e) ]
 
-no_text : {b : Bool} → false ≡ true → b ≡ true
+pub no_text : {b : Bool} → false ≡ true → b ≡ true
 no_text h = absurd (true≢false (sym h))
 
 -- one part after the other
@@ -95,8 +96,8 @@ pub writes_same : (env : Env) (p q : Part) (ts : List lexical.Token) {a : Bool} 
 writes_same env p q ts e h = record { steps = h.steps; is_steps = λ rest. e rest ∙ h.is_steps rest; lays = h.lays; remakes = h.remakes; deep = h.deep; hands = h.hands }
 
 pub writes_nothing : (env : Env) → Writes env (λ rest. rest) []
-unfolding chain run makes_text levels are_ascii
-writes_nothing env = record { steps = []; is_steps = λ rest. refl; lays = λ s r. lays_nothing s r; remakes = no_text; deep = omega arith; hands = hands_ascii env [] [] refl }
+unfolding chain run makes_text levels are_ascii has_string is_string_call
+writes_nothing env = record { steps = []; is_steps = λ rest. refl; lays = λ s r. lays_nothing s r; remakes = no_text; deep = omega arith; hands = hands_ascii env [] [] refl no_text }
 
 -- one step
 pub writes_step : (env : Env) (x : Step) (ts : List lexical.Token) → ((s : State) → AtRest s → Lays ts s (put x s)) → levels (x ∷ []) ≤ length ts → Hands env (x ∷ []) ts → Makes env (step x) ts (makes_text (x ∷ []))
@@ -105,8 +106,8 @@ writes_step env x ts h k a = record { steps = x ∷ []; is_steps = λ rest. refl
 
 -- a text is made anew, where that is due
 pub writes_remake : (env : Env) (due : Bool) → Makes env (step (Remake due)) [] due
-unfolding put makes_text levels are_ascii
-writes_remake env due = subst (λ z. Makes env (step (Remake due)) [] z) (or_false due) (writes_step env (Remake due) [] (λ s r. lays_nothing s r) (omega arith) (hands_ascii env _ [] refl))
+unfolding put makes_text levels are_ascii has_string is_string_call
+writes_remake env due = subst (λ z. Makes env (step (Remake due)) [] z) (or_false due) (writes_step env (Remake due) [] (λ s r. lays_nothing s r) (omega arith) (hands_ascii env _ [] refl no_text))
 
 -- two steps
 pub writes_two : (env : Env) (x y : Step) (ts : List lexical.Token) → ((s : State) → AtRest s → Lays ts s (put y (put x s))) → levels (x ∷ y ∷ []) ≤ length ts → Hands env (x ∷ y ∷ []) ts → Makes env (λ rest. step x (step y rest)) ts (makes_text (x ∷ y ∷ []))
@@ -131,50 +132,50 @@ guarded_ascii : (t : List ℕ) → is_ascii_text t ≡ true → (is_ascii_text t
 guarded_ascii t a = and_from (is_ascii_text t) true a refl
 
 pub writes_keyword : (env : Env) (span : Option Span) (t : List ℕ) → Spelled Word t → is_ascii_text t ≡ true → Writes env (keyword span t) (token_of Word (spelling Word t) ∷ [])
-unfolding keyword put effect text_of after_token own_put makes_text levels rise are_ascii
-writes_keyword env span t p a = writes_two env (Guard t) (Token Word (Keyword span t)) _ (λ s r. lays_token Word span t s p r) (omega arith) (hands_ascii env _ _ (guarded_ascii t a))
+unfolding keyword put effect text_of after_token own_put makes_text levels rise are_ascii has_string is_string_call
+writes_keyword env span t p a = writes_two env (Guard t) (Token Word (Keyword span t)) _ (λ s r. lays_token Word span t s p r) (omega arith) (hands_ascii env _ _ (guarded_ascii t a) no_text)
 
 pub writes_operator : (env : Env) (t : List ℕ) → Spelled Punctuator t → is_ascii_text t ≡ true → Writes env (operator t) (token_of Punctuator (spelling Punctuator t) ∷ [])
-unfolding operator put effect text_of after_token own_put makes_text levels rise are_ascii
-writes_operator env t p a = writes_two env (Guard t) (Token Punctuator (Operator None t)) _ (λ s r. lays_token Punctuator None t s p r) (omega arith) (hands_ascii env _ _ (guarded_ascii t a))
+unfolding operator put effect text_of after_token own_put makes_text levels rise are_ascii has_string is_string_call
+writes_operator env t p a = writes_two env (Guard t) (Token Punctuator (Operator None t)) _ (λ s r. lays_token Punctuator None t s p r) (omega arith) (hands_ascii env _ _ (guarded_ascii t a) no_text)
 
 pub writes_word_operator : (env : Env) (t : List ℕ) → Spelled Word t → is_ascii_text t ≡ true → Writes env (word_operator t) (token_of Word (spelling Word t) ∷ [])
-unfolding word_operator put effect text_of after_token own_put makes_text levels rise are_ascii
-writes_word_operator env t p a = writes_two env (Guard t) (Token Word (Operator None t)) _ (λ s r. lays_token Word None t s p r) (omega arith) (hands_ascii env _ _ (guarded_ascii t a))
+unfolding word_operator put effect text_of after_token own_put makes_text levels rise are_ascii has_string is_string_call
+writes_word_operator env t p a = writes_two env (Guard t) (Token Word (Operator None t)) _ (λ s r. lays_token Word None t s p r) (omega arith) (hands_ascii env _ _ (guarded_ascii t a) no_text)
 
 pub writes_punct : (env : Env) (t : List ℕ) → Spelled Punctuator t → is_ascii_text t ≡ true → Writes env (punct t) (token_of Punctuator (spelling Punctuator t) ∷ [])
-unfolding punct put effect text_of after_token punct_put makes_text levels rise are_ascii
-writes_punct env t p a = writes_two env (Guard t) (Token Punctuator (Punct None t)) _ (λ s r. lays_punct None t s p r) (omega arith) (hands_ascii env _ _ (guarded_ascii t a))
+unfolding punct put effect text_of after_token punct_put makes_text levels rise are_ascii has_string is_string_call
+writes_punct env t p a = writes_two env (Guard t) (Token Punctuator (Punct None t)) _ (λ s r. lays_punct None t s p r) (omega arith) (hands_ascii env _ _ (guarded_ascii t a) no_text)
 
 pub writes_semi : (env : Env) → Writes env semi (token_of Ending (spelling Ending (codes ";")) ∷ [])
-unfolding semi put effect text_of after_token semi_put makes_text levels rise are_ascii
-writes_semi env = writes_two env (Guard (codes ";")) (Token Ending (Semi None)) _ (λ s r. lays_semi None s r) (omega arith) (hands_ascii env _ _ refl)
+unfolding semi put effect text_of after_token semi_put makes_text levels rise are_ascii has_string is_string_call
+writes_semi env = writes_two env (Guard (codes ";")) (Token Ending (Semi None)) _ (λ s r. lays_semi None s r) (omega arith) (hands_ascii env _ _ refl no_text)
 
 -- ---- what stands between
 
 pub writes_space : (env : Env) → Writes env space []
-unfolding space put text_of after_plain makes_text levels rise are_ascii
-writes_space env = writes_step env (Plain Space) [] (λ s r. lays_blank s r) (omega arith) (hands_ascii env _ [] refl)
+unfolding space put text_of after_plain makes_text levels rise are_ascii has_string is_string_call
+writes_space env = writes_step env (Plain Space) [] (λ s r. lays_blank s r) (omega arith) (hands_ascii env _ [] refl no_text)
 
 pub writes_formatting_space : (env : Env) → Writes env formatting_space []
 unfolding formatting_space no_part
 writes_formatting_space env = writes_minified env no_part space [] (writes_nothing env) (writes_space env)
 
 pub writes_line : (env : Env) → Writes env line_end []
-unfolding line_end put text_of after_plain makes_text levels rise are_ascii
-writes_line env = writes_step env (Plain Line) [] (λ s r. lays_line s r) (omega arith) (hands_ascii env _ [] refl)
+unfolding line_end put text_of after_plain makes_text levels rise are_ascii has_string is_string_call
+writes_line env = writes_step env (Plain Line) [] (λ s r. lays_line s r) (omega arith) (hands_ascii env _ [] refl no_text)
 
 pub writes_formatting_line : (env : Env) → Writes env formatting_line []
 unfolding formatting_line no_part
 writes_formatting_line env = writes_minified env no_part line_end [] (writes_nothing env) (writes_line env)
 
 pub writes_commit : (env : Env) → Writes env commit_pending_semi []
-unfolding commit_pending_semi put effect text_of after_plain makes_text levels rise are_ascii
-writes_commit env = writes_step env (Plain Commit) [] (λ s r. lays_commit s r) (omega arith) (hands_ascii env _ [] refl)
+unfolding commit_pending_semi put effect text_of after_plain makes_text levels rise are_ascii has_string is_string_call
+writes_commit env = writes_step env (Plain Commit) [] (λ s r. lays_commit s r) (omega arith) (hands_ascii env _ [] refl no_text)
 
 recorded : (env : Env) (pos : BytePos) → Writes env (step (Plain (Position pos))) []
-unfolding put effect text_of after_plain makes_text levels rise are_ascii
-recorded env pos = writes_step env (Plain (Position pos)) [] (λ s r. lays_position pos s r) (omega arith) (hands_ascii env _ [] refl)
+unfolding put effect text_of after_plain makes_text levels rise are_ascii has_string is_string_call
+recorded env pos = writes_step env (Plain (Position pos)) [] (λ s r. lays_position pos s r) (omega arith) (hands_ascii env _ [] refl no_text)
 
 pub writes_position : (env : Env) (pos : BytePos) → Writes env (position pos) []
 unfolding position
@@ -195,19 +196,19 @@ writes_trailing env b pos = writes_nothing env
 -- ---- names
 
 name_token : (env : Env) (t : List ℕ) → Spelled Name t → (env.config.ascii_only ≡ true → is_ascii_text t ≡ true) → Writes env (λ rest. step (Guard t) (step (Token Name (Symbol dummy_span t)) rest)) (token_of Name (spelling Name t) ∷ [])
-unfolding put effect text_of after_token own_put makes_text levels rise are_ascii keeps_other is_other is_kept
-name_token env t p a = writes_two env (Guard t) (Token Name (Symbol dummy_span t)) _ (λ s r. lays_token Name (Some dummy_span) t s p r) (omega arith) (hands_by_settings env _ _ (λ e. guarded_ascii t (a e)) refl)
+unfolding put effect text_of after_token own_put makes_text levels rise are_ascii has_string is_string_call keeps_other is_other is_kept
+name_token env t p a = writes_two env (Guard t) (Token Name (Symbol dummy_span t)) _ (λ s r. lays_token Name (Some dummy_span) t s p r) (omega arith) (hands_by_settings env _ _ (λ e. guarded_ascii t (a e)) refl no_text)
 
 -- with a position, which stands after the blank that is due
 placed_token : (env : Env) (pos : BytePos) (t : List ℕ) → Spelled Name t → (env.config.ascii_only ≡ true → is_ascii_text t ≡ true) → Writes env (λ rest. step (Guard t) (step (Plain (Position pos)) (step (Token Name (Symbol dummy_span t)) rest))) (token_of Name (spelling Name t) ∷ [])
-unfolding step chain run put effect text_of after_token after_plain own_put makes_text levels rise are_ascii keeps_other is_other is_kept
+unfolding step chain run put effect text_of after_token after_plain own_put makes_text levels rise are_ascii has_string is_string_call keeps_other is_other is_kept
 placed_token env pos t p a = record {
   steps = Guard t ∷ Plain (Position pos) ∷ Token Name (Symbol dummy_span t) ∷ [];
   is_steps = λ rest. refl;
   lays = λ s r. lays_placed pos Name (Some dummy_span) t s p r;
   remakes = no_text;
   deep = omega arith;
-  hands = hands_by_settings env _ _ (λ e. guarded_ascii t (a e)) refl;
+  hands = hands_by_settings env _ _ (λ e. guarded_ascii t (a e)) refl no_text;
 }
 
 symbol_at : (env : Env) (pos : BytePos) (b : Bool) (t : List ℕ) → Spelled Name t → (env.config.ascii_only ≡ true → is_ascii_text t ≡ true) → Writes env (λ rest. step (Guard t) (cond b (step (Token Name (Symbol dummy_span t)) rest) (step (Plain (Position pos)) (step (Token Name (Symbol dummy_span t)) rest)))) (token_of Name (spelling Name t) ∷ [])

@@ -1,5 +1,5 @@
 -- What is written of a string is what it reads as, under any settings.
-use Rattle.std.proofs.Common.{◌≡◌, ℕ, Bool, true, false, not, cond, ◌||◌, List, [], ◌∷◌, codes, Option, Some, None, inl, inr, refl, sym, ap, ◌∙◌, subst, string_bytes}
+use Rattle.std.proofs.Common.{◌≡◌, ℕ, Bool, true, false, not, cond, if◌then◌else◌, ◌==◌, ◌||◌, List, [], ◌∷◌, codes, Option, Some, None, inl, inr, refl, sym, ap, ◌∙◌, subst, string_bytes}
 use Rattle.std.specs.Prelude.{bytes_eq}
 use Rattle.std.specs.Option.{is_some}
 use Rattle.std.specs.Str.{chars, encode_utf8_all, IsAscii, IsUtf8}
@@ -8,6 +8,8 @@ use Rattle.std.proofs.lemmas.Bool.{and_from, and_parts, or_cases, or_left, or_ri
 use Rattle.std.proofs.lemmas.Slice.Eq.{bytes_eq-Decides}
 use Rattle.std.proofs.lemmas.Str.{scalars-chars, IsUtf8-string_bytes}
 use lib.Utf8.{scalars}
+use Rattle.swc_ecma_codegen_common.specs.declared.positions.BytePos.{BytePos}
+use Rattle.swc_ecma_codegen_common.specs.declared.positions.Span.{Span}
 use Rattle.swc_ecma_codegen_common.specs.declared.versions.EsVersion.{EsVersion}
 use Rattle.swc_ecma_codegen_tree.specs.declared.lits.Str as strs
 use Rattle.swc_ecma_codegen_util.specs.declared.config.Config.{Config}
@@ -21,12 +23,13 @@ use Rattle.swc_ecma_codegen_ast.specs.Texts.{is_same}
 use Rattle.swc_ecma_codegen_ast.specs.Tokens as lexical
 use Rattle.swc_ecma_codegen_ast.specs.Tokens.{Units, token_of, value_of}
 use Rattle.swc_ecma_codegen_ast.proofs.Tables.{eq_of_same}
+use Rattle.swc_ecma_codegen_text_writer.specs.Sheet.{Position}
 use Rattle.swc_ecma_codegen_literals.specs.AsciiNames.{is_ascii_text}
-use Rattle.swc_ecma_codegen_literals.specs.InlineScripts.{inline_text}
+use Rattle.swc_ecma_codegen_literals.specs.InlineScripts.{inline_text, IsInlineSafe}
 use Rattle.swc_ecma_codegen_literals.specs.StringTexts.{quoted_text}
 use Rattle.swc_ecma_codegen_literals.specs.ValidNames.{has_byte}
 use Rattle.swc_ecma_codegen_literals.proofs.InlineMarks.{at_once}
-use Rattle.swc_ecma_codegen_literals.proofs.InlineQuoted.{inline_ascii, inline_value}
+use Rattle.swc_ecma_codegen_literals.proofs.InlineQuoted.{inline_ascii, inline_safe, inline_value}
 use Rattle.swc_ecma_codegen_literals.proofs.InlineTexts.{marked_scalars}
 use Rattle.swc_ecma_codegen_literals.proofs.QuotedTexts.{literal_ascii, literal_chars, quoted_scalars, quoted_value}
 use Rattle.swc_ecma_codegen_literals.proofs.StringTokens.{strict_same}
@@ -34,11 +37,12 @@ use Rattle.swc_ecma_codegen_base.specs.Ascii.{is_strict, is_kept_directive}
 use Rattle.swc_ecma_codegen_base.specs.Escapes.{is_spelled_anew}
 use Rattle.swc_ecma_codegen_base.specs.Lits.{begun_in, raw_is, raw_text, is_directive, takes_raw, prints_raw, value_text, string_text, directive_end, string_by, string_at, str_lit}
 use Rattle.swc_ecma_codegen_base.specs.Literals as words
-use Rattle.swc_ecma_codegen_base.specs.Run.{Env, Remake, spelling, step}
-use Rattle.swc_ecma_codegen_base.specs.Words.{end_of}
+use Rattle.swc_ecma_codegen_base.specs.Run.{Env, Plain, Plan, Remake, nothing, spelling, step, steps_of, text_of}
+use Rattle.swc_ecma_codegen_base.specs.Scripts.{is_str, is_string_call, string_by_value, strings_after, value_strings, AreSafe}
+use Rattle.swc_ecma_codegen_base.specs.Words.{commit_pending_semi, end_of, leading_comments, position}
 use Rattle.swc_ecma_codegen_base.proofs.LitTexts.{spelled_string}
 use Rattle.swc_ecma_codegen_base.proofs.LiteralParts.{writes_settled_begun, writes_string}
-use Rattle.swc_ecma_codegen_base.proofs.Phrased.{Prints, prints_same, prints_where}
+use Rattle.swc_ecma_codegen_base.proofs.Phrased.{IsSafe, Prints, prints_same, prints_where}
 use Rattle.swc_ecma_codegen_base.proofs.Printed.{Writes, writes_if, writes_nothing, writes_position, writes_then}
 use Rattle.swc_ecma_codegen_base.proofs.RawTexts.{ascii_is}
 use Rattle.swc_ecma_codegen_base.proofs.Remade.{makes_remade, prints_anew, writes_begun_in}
@@ -149,13 +153,77 @@ writes_string_by env in_lit n us t h =
     (writes_then env (words.settled_begun n.span t) _ [] (string_token us ∷ []) (writes_settled_begun env n.span t)
     (writes_then env (words.string t) (directive_end n) (string_token us ∷ []) [] own (writes_directive_end env n)))
 
+-- ---- its value
+
+-- no string is among the steps of a position, or of the beginning of a literal
+position_strings : (anew : Bool) (pos : BytePos) (rest : Plan) (env : Env) → strings_after anew (steps_of (position pos rest env)) ≡ strings_after anew (steps_of (rest env))
+unfolding position step steps_of strings_after
+position_strings anew pos rest env =
+    elim (pos.0 == 0) as (λ b. strings_after anew (steps_of ((cond b rest (step (Plain (Position pos)) rest)) env)) ≡ strings_after anew (steps_of (rest env)))
+    [ true ↦ refl | false ↦ refl ]
+
+begun_strings : (anew : Bool) (span : Span) (t : List ℕ) (rest : Plan) (env : Env) → strings_after anew (steps_of (words.begun span t rest env)) ≡ strings_after anew (steps_of (rest env))
+unfolding words.begun leading_comments step steps_of strings_after
+begun_strings anew span t rest env = position_strings anew span.lo rest env
+
+settled_strings : (anew : Bool) (span : Span) (t : List ℕ) (rest : Plan) (env : Env) → strings_after anew (steps_of (words.settled_begun span t rest env)) ≡ strings_after anew (steps_of (rest env))
+unfolding words.settled_begun commit_pending_semi step steps_of strings_after
+settled_strings anew span t rest env = begun_strings anew span t rest env
+
+begun_in_strings : (anew in_lit : Bool) (span : Span) (t : List ℕ) (rest : Plan) (env : Env) → strings_after anew (steps_of (begun_in in_lit span t rest env)) ≡ strings_after anew (steps_of (rest env))
+unfolding begun_in
+begun_in_strings anew true span t rest env = begun_strings anew span t rest env
+begun_in_strings anew false span t rest env = refl
+
+ends_by : (anew b : Bool) (pos : BytePos) (env : Env) → strings_after anew (steps_of ((cond b (position pos nothing) nothing) env)) ≡ []
+unfolding nothing steps_of strings_after
+ends_by anew true pos env = position_strings anew pos nothing env
+ends_by anew false pos env = refl
+
+own_string : (anew : Bool) (n : strs.Str) (t : List ℕ) (env : Env) → strings_after anew (steps_of (words.string t (directive_end n nothing) env)) ≡ cond anew (t ∷ []) []
+unfolding words.string directive_end step steps_of strings_after string_by_value is_string_call is_str text_of
+own_string true n t env = ap (λ z. t ∷ z) (ends_by true (is_directive n) n.span.hi env)
+own_string false n t env = ends_by false (is_directive n) n.span.hi env
+
+-- a string by a text, which is one by its value where texts are made anew
+string_strings : (anew in_lit : Bool) (n : strs.Str) (t : List ℕ) (env : Env) → strings_after anew (steps_of (string_by in_lit n t nothing env)) ≡ cond anew (t ∷ []) []
+unfolding string_by
+string_strings anew in_lit n t env =
+    begun_in_strings anew in_lit n.span t (words.settled_begun n.span t (words.string t (directive_end n nothing))) env
+    ∙ settled_strings anew n.span t (words.string t (directive_end n nothing)) env ∙ own_string anew n t env
+
+told_strings : (by_raw : Bool) (config : Config) (n : strs.Str) → cond (not by_raw) (cond by_raw (raw_text n.raw) (value_text config (string_bytes n.value)) ∷ []) [] ≡ cond by_raw [] (value_text config (string_bytes n.value) ∷ [])
+told_strings true config n = refl
+told_strings false config n = refl
+
+-- exactly where its raw isn't printed
+pub value_strings_told : (env : Env) (in_lit : Bool) (n : strs.Str) → value_strings (steps_of (string_at in_lit n nothing env)) ≡ (if prints_raw env.config n then [] else value_text env.config (string_bytes n.value) ∷ [])
+unfolding string_at string_text step steps_of strings_after
+value_strings_told env in_lit n = string_strings (not (prints_raw env.config n)) in_lit n (string_text env.config n) env ∙ told_strings (prints_raw env.config n) env.config n
+
+value_safe : (config : Config) (n : strs.Str) → config.inline_script ≡ true → IsInlineSafe (chars (value_text config (string_bytes n.value)))
+unfolding value_text
+value_safe config n e =
+    let quoted : List ℕ = quoted_text config.ascii_only config.target (characters n.value) in
+    inline_safe config.ascii_only config.target (characters n.value) _ (scalars-chars (string_bytes n.value) (IsUtf8-string_bytes n.value)) (ap (λ b. encode_utf8_all (cond b (inline_text quoted) quoted)) e)
+
+chosen_safe : (by_raw : Bool) (config : Config) (n : strs.Str) → config.inline_script ≡ true → AreSafe (cond (not by_raw) (cond by_raw (raw_text n.raw) (value_text config (string_bytes n.value)) ∷ []) [])
+unfolding AreSafe
+chosen_safe true config n e = tt
+chosen_safe false config n e = (value_safe config n e, tt)
+
+string_safe : (env : Env) (in_lit : Bool) (n : strs.Str) → IsSafe env (λ rest. step (Remake (not (prints_raw env.config n))) (string_by in_lit n (string_text env.config n) rest))
+unfolding IsSafe string_text step steps_of strings_after
+string_safe env in_lit n e anew =
+    subst AreSafe (sym (string_strings (not (prints_raw env.config n)) in_lit n (string_text env.config n) env)) (chosen_safe (prints_raw env.config n) env.config n e)
+
 pub prints_string_at : (env : Env) (in_lit : Bool) (n : strs.Str) → Prints env (string_at in_lit n) (phrases.str_lit n)
 unfolding string_at phrases.str_lit string_token is_spelled_anew
 prints_string_at env in_lit n =
     let us : List ℕ = units (characters n.value) in
     prints_where (raw_passes (spells_units us) n.raw) (λ w.
     prints_same (string_at in_lit n) (λ rest. step (Remake (not (prints_raw env.config n))) (string_by in_lit n (string_text env.config n) rest)) (λ rest. refl)
-    (prints_anew (string_token us) refl (makes_remade (not (prints_raw env.config n)) (writes_string_by env in_lit n us (string_text env.config n) (written_string env.config n w)))))
+    (prints_anew (string_token us) refl (makes_remade (not (prints_raw env.config n)) (writes_string_by env in_lit n us (string_text env.config n) (written_string env.config n w))) (string_safe env in_lit n)))
 
 -- a string literal
 pub prints_str : (env : Env) (n : strs.Str) → Prints env (str_lit n) (phrases.str_lit n)

@@ -8,6 +8,7 @@ pub mod View
 pub mod Written
 pub mod Escapes
 pub mod Ascii
+pub mod Scripts
 pub mod Named
 pub mod Ready
 pub mod Starts
