@@ -19,7 +19,7 @@ struct Emitted {
 }
 
 /// The emission of a tree with some settings.
-fn emitted<N: Tree>(alloc: Global, tree: &Program<N>, config: Config) -> Emitted {
+fn emission<N: Tree>(alloc: Global, tree: &Program<N>, config: Config) -> Emitted {
     let wr = JsWriter::new(alloc, &NoSource, "\n", Vec::new(alloc), None);
     let mut emitter = Emitter::new(alloc, config, &NoSource, None::<CommentMaps>, wr);
     let answer = tree.emit_with(&mut emitter);
@@ -33,7 +33,7 @@ fn emitted<N: Tree>(alloc: Global, tree: &Program<N>, config: Config) -> Emitted
 
 /// Whether a tree has this text with some settings.
 fn has_text<N: Tree>(alloc: Global, tree: &Program<N>, config: Config, text: &str) -> bool {
-    let emitted = emitted(alloc, tree, config);
+    let emitted = emission(alloc, tree, config);
     emitted.answer.is_ok() && emitted.nothing.is_ok() && emitted.text.as_slice() == text.as_bytes()
 }
 
@@ -99,7 +99,7 @@ pub(crate) fn refuse_a_name<N: Tree>(alloc: Global) -> Result<bool, Fail> {
     let config = Config::default().with_ascii_only(true);
     let mut all = true;
     for target in [EsVersion::Es3, EsVersion::Es5] {
-        let emitted = emitted(alloc, &tree, config.with_target(target));
+        let emitted = emission(alloc, &tree, config.with_target(target));
         all = all && matches!(&emitted.answer, Err(Error::NameOutOfTarget));
         all = all && matches!(&emitted.nothing, Err(Error::Failed));
         all = all && emitted.text.as_slice() == b"\\u00e9, \"\\xe9</script>\", 3, ".as_slice();
