@@ -138,12 +138,16 @@ STRING_RAWS = {
     "\x001": ['"\\x001"', '"\\0001"'],
     "\u2028": ['"\u2028"', '"\\u2028"'],
     "\U0001f600": ['"\U0001f600"', '"\\ud83d\\ude00"', '"\\u{1F600}"'],
+    "漢字": ['"漢字"', "'\\u6f22字'"],
+    "é\"'": ["'é\"\\''"],
+    "a\U0001f60a\u2764\ufe0fb": ['"a\U0001f60a\u2764\ufe0fb"', "'a\\ud83d\\ude0a\u2764\\ufe0fb'"],
     "\\ud83d": ['"\\ud83d"', '"\\uD83D"', '"\\u{d83d}"'],
     "é": ['"é"', '"\\xe9"', "'\\351'"],
     "</script>": ['"</script>"', "'<\\/script>'"],
     "<!--": ['"<!--"'],
     "-->": ["'-->'"],
-    "use strict": ['"use strict"', "'use strict'", "'use\\x20strict'", '"use\\u0020strict"', '"use s\\\ntrict"'],
+    "use strict": ['"use strict"', "'use strict'", "'use\\x20strict'", '"use\\u0020strict"', '"use s\\\ntrict"',
+                   "'use s\\\u2028trict'"],
     "use asm": ["'use\\x20asm'"],
 }  # fmt: skip
 

@@ -14,11 +14,13 @@ use Rattle.swc_ecma_codegen_util.specs.Defaults.{default_config}
 use Rattle.swc_ecma_codegen_text_writer.specs.View.{new_sheet}
 use Rattle.swc_ecma_codegen_base.specs.Run.{Env, Part, State, nothing, unprintable_in, Follows, HasCause, PassesLimit, IsTooFar, start, steps_in, steps_of}
 use Rattle.swc_ecma_codegen_base.specs.declared.refusals.Unprintable.{Unprintable}
+use Rattle.swc_ecma_codegen_base.specs.Targets.{is_out}
 use Rattle.swc_ecma_codegen_base.specs.Ready.{token_count, IsPlainTree, IsReady}
 use Rattle.swc_ecma_codegen_base.specs.Written.{ReadsAs}
 use Rattle.swc_ecma_codegen_base.proofs.Short.{is_ok_in_short}
 use Rattle.swc_ecma_codegen_base.proofs.Phrased.{Prints, steps_read, whole_reads}
 use Rattle.swc_ecma_codegen_base.proofs.Made.{plain_made, printable, within}
+use Rattle.swc_ecma_codegen_base.proofs.Targets.{bare_not_out}
 use Rattle.swc_ecma_codegen.specs.Programs as programs
 use Rattle.swc_ecma_codegen.specs.Tree.{any_items}
 use Rattle.swc_ecma_codegen.specs.Texts.{blank_sheet, text_of, IsOfWriter, GivesCause}
@@ -29,13 +31,13 @@ part_prints : (n : Root) (p : Part) (env : Env) → env.keeps_invalid ≡ false 
 part_prints n p env e same = subst (λ z. Prints env z (root_phrase n)) (sym same) (root_prints env e n)
 
 -- whatever the root is, and whatever refers to it
-pub root_made : (n : Root) (p : Part) (a b : State) (r : Result (Unit {0}) Error) → p ≡ root_items n → IsPlainTree (root_phrase n) a.sheet.indentation → IsReady a → b.sheet.faults ≡ a.sheet.faults → Follows (p nothing) a b (in_short r) → IsOk r
+pub root_made : (n : Root) (p : Part) (a b : State) (r : Result (Unit {0}) Error) → p ≡ root_items n → IsPlainTree a.env.config (root_phrase n) a.sheet.indentation → IsReady a → b.sheet.faults ≡ a.sheet.faults → Follows (p nothing) a b (in_short r) → IsOk r
 root_made n p a b r same t s e h = is_ok_in_short r (plain_made p (root_phrase n) a b (in_short r) (part_prints n p a.env s.leaves_out same) t s e h)
 
-pub script_made : (n : Script AnyNode) (a b : State) (r : Result (Unit {0}) Error) → IsPlainTree (program_phrase (a_script n)) a.sheet.indentation → IsReady a → b.sheet.faults ≡ a.sheet.faults → Follows (programs.script any_items n nothing) a b (in_short r) → IsOk r
+pub script_made : (n : Script AnyNode) (a b : State) (r : Result (Unit {0}) Error) → IsPlainTree a.env.config (program_phrase (a_script n)) a.sheet.indentation → IsReady a → b.sheet.faults ≡ a.sheet.faults → Follows (programs.script any_items n nothing) a b (in_short r) → IsOk r
 script_made n a b r t s e h = root_made (OfScript n) _ a b r refl t s e h
 
-pub program_made : (n : Program AnyNode) (a b : State) (r : Result (Unit {0}) Error) → IsPlainTree (program_phrase n) a.sheet.indentation → IsReady a → b.sheet.faults ≡ a.sheet.faults → Follows (programs.program any_items n nothing) a b (in_short r) → IsOk r
+pub program_made : (n : Program AnyNode) (a b : State) (r : Result (Unit {0}) Error) → IsPlainTree a.env.config (program_phrase n) a.sheet.indentation → IsReady a → b.sheet.faults ≡ a.sheet.faults → Follows (programs.program any_items n nothing) a b (in_short r) → IsOk r
 program_made n a b r t s e h = root_made (OfProgram n) _ a b r refl t s e h
 
 -- a new emitter over a new writer
@@ -44,20 +46,24 @@ new_is_ready config bytes line_end = record { none_failed = refl; none_refused =
 
 -- ---- a text in memory
 
+-- all names can be written as they are
+default_not_out : (n : Root) → is_out default_config (root_phrase n) ≡ false
+default_not_out n = bare_not_out default_config (root_phrase n) refl
+
 pub code_reads : (n : Root) (p : Part) → p ≡ root_items n → is_well_formed_root n ≡ true → ReadsAs false (root_phrase n) (text_of p)
 code_reads n p same w =
     let a : State = start default_config blank_sheet in
-    whole_reads false (root_phrase n) (text_of p) (steps_read p (root_phrase n) a (new_is_new default_config [] (10 ∷ []) (inl refl)) (part_prints n p a.env refl same) w)
+    whole_reads false (root_phrase n) (text_of p) (steps_read p (root_phrase n) a (new_is_new default_config [] (10 ∷ []) (inl refl)) (part_prints n p a.env refl same) w (default_not_out n))
 
 root_printable : (n : Root) (p : Part) → p ≡ root_items n → is_well_formed_root n ≡ true → unprintable_in (steps_in p (start default_config blank_sheet)) ≡ None
-root_printable n p same w = let a : State = start default_config blank_sheet in printable p (root_phrase n) a.env (part_prints n p a.env refl same) w
+root_printable n p same w = let a : State = start default_config blank_sheet in printable p (root_phrase n) a.env (part_prints n p a.env refl same) w (default_not_out n)
 
 no_refusal : (r : Unprintable) → ◌≡◌ {A = Option Unprintable} (Some r) None → ⊥
 no_refusal r h = absurd (cc)
 
 -- it comes to no limit, and keeps no position
 no_limit : (n : Root) (p : Part) → p ≡ root_items n → is_well_formed_root n ≡ true → token_count (root_phrase n) < 2 ^ 32 → (b : State) → PassesLimit (steps_of (steps_in p (start default_config blank_sheet))) (start default_config blank_sheet) ⊎ IsTooFar (start default_config blank_sheet) b → ⊥
-no_limit n p same w room b (inl h) = within p (root_phrase n) (start default_config blank_sheet) (part_prints n p _ refl same) w (omega (arith, room)) h
+no_limit n p same w room b (inl h) = within p (root_phrase n) (start default_config blank_sheet) (part_prints n p _ refl same) w (default_not_out n) (omega (arith, room)) h
 no_limit n p same w room b (inr h) = true≢false (sym h.0)
 
 -- of a well-formed tree memory alone can be wanting, besides the writer

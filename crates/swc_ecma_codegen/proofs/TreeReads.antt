@@ -1,5 +1,5 @@
 -- What an emission of a well-formed tree adds to a text reads as one of the tree's token lists.
-use Rattle.std.proofs.Common.{◌≡◌, ℕ, true, false, List, refl, sym, subst, Result, OnOk}
+use Rattle.std.proofs.Common.{◌≡◌, ℕ, true, false, if◌then◌else◌, List, refl, sym, ap, subst, inl, inr, Option, Some, None, Result, Ok, Err, OnOk}
 use Rattle.swc_ecma_codegen_common.specs.declared.errors.Error.{Error}
 use Rattle.swc_ecma_codegen_common.specs.Refusals.{in_short}
 use Rattle.swc_ecma_codegen_tree.specs.declared.links.AnyNode.{AnyNode}
@@ -10,15 +10,24 @@ use Rattle.swc_ecma_codegen_ast.specs.StmtPhrases as stmt_lists
 use Rattle.swc_ecma_codegen_ast.specs.TreePhrases.{program_phrase, is_well_formed}
 use Rattle.swc_ecma_codegen_util.specs.declared.config.Config.{Config}
 use Rattle.swc_ecma_codegen_text_writer.specs.View.{new_sheet}
-use Rattle.swc_ecma_codegen_base.specs.Run.{Env, Plan, Part, State, nothing, Follows, start, makes_text, steps_of, steps_in}
+use Rattle.swc_ecma_codegen_common.specs.declared.errors.Refusal.TheVariants as refusals
+use Rattle.swc_ecma_codegen_base.specs.declared.refusals.Unprintable.TheVariants.{NameOutOfTarget}
+use Rattle.swc_ecma_codegen_base.specs.Run.{Env, Plan, Part, State, nothing, Follows, start, makes_text, steps_of, steps_in, unprintable_in}
+use Rattle.swc_ecma_codegen_base.specs.Targets.{is_out}
 use Rattle.swc_ecma_codegen_base.specs.Escapes.{may_make_text}
 use Rattle.swc_ecma_codegen_base.specs.Named.{RecordsNames}
+use Rattle.swc_ecma_codegen_literals.specs.AsciiNames.{is_ascii_text}
+use Rattle.swc_ecma_codegen_base.specs.Ascii.{keeps_other, may_keep_other, AddsAscii, WantsAscii}
+use Rattle.swc_ecma_codegen_base.specs.Scripts.{value_strings, AddsSafe}
+use Rattle.swc_ecma_codegen_base.proofs.AsciiTexts.{printed_ascii, printed_keeps}
+use Rattle.swc_ecma_codegen_base.proofs.ScriptTexts.{printed_safe}
 use Rattle.swc_ecma_codegen_text_writer.specs.Recorded.{RecordsTruly}
 use Rattle.swc_ecma_codegen_ast.specs.Phrases.{names_in}
 use Rattle.swc_ecma_codegen_text_writer.specs.Sheet.{HoldsNone}
 use Rattle.swc_ecma_codegen_base.specs.Written.{IsLineEnd, IsNew, AddsReading, all_indent, is_indent, holds_one}
 use Rattle.swc_ecma_codegen_base.proofs.Short.{on_ok_in_short}
 use Rattle.swc_ecma_codegen_base.proofs.Phrased.{Prints, printed_reads, printed_remakes, printed_names, follows_records}
+use Rattle.swc_ecma_codegen_base.proofs.Made.{ends_where_out, follows_in_target, follows_out_of_target}
 use Rattle.swc_ecma_codegen.specs.declared.nodes.Place.TheVariants.{Plain}
 use Rattle.swc_ecma_codegen.specs.Programs as programs
 use Rattle.swc_ecma_codegen.specs.Tree.{any_items}
@@ -50,18 +59,57 @@ pub steps_recorded : (p : Plan) (a b : State) (r : Result (Unit {0}) Error) → 
 steps_recorded p a b r h = on_ok_in_short _ r (follows_records p a b (in_short r) h)
 
 -- where positions are kept, each name has its own where it begins
-pub root_names : (n : Root) (p : Part) (a b : State) (r : Result (Unit {0}) Error) → p ≡ root_items n → is_well_formed_root n ≡ true → a.sheet.keeps_positions ≡ true → a.env.keeps_invalid ≡ false → Follows (p nothing) a b (in_short r) → OnOk r (RecordsNames (names_in (root_phrase n)) a.sheet b.sheet)
+pub root_names : (n : Root) (p : Part) (a b : State) (r : Result (Unit {0}) Error) → p ≡ root_items n → is_well_formed_root n ≡ true → a.sheet.keeps_positions ≡ true → a.env.keeps_invalid ≡ false → Follows (p nothing) a b (in_short r) → OnOk r (RecordsNames a.env.config (names_in (root_phrase n)) a.sheet b.sheet)
 root_names n p a b r same w k e h = on_ok_in_short _ r (printed_names p (root_phrase n) a b (in_short r) (subst (λ z. Prints a.env z (root_phrase n)) (sym same) (root_prints a.env e n)) w k h)
 
-pub script_names : (n : Script AnyNode) (a b : State) (r : Result (Unit {0}) Error) → is_well_formed (a_script n) ≡ true → a.sheet.keeps_positions ≡ true → a.env.keeps_invalid ≡ false → Follows (programs.script any_items n nothing) a b (in_short r) → OnOk r (RecordsNames (names_in (program_phrase (a_script n))) a.sheet b.sheet)
+pub script_names : (n : Script AnyNode) (a b : State) (r : Result (Unit {0}) Error) → is_well_formed (a_script n) ≡ true → a.sheet.keeps_positions ≡ true → a.env.keeps_invalid ≡ false → Follows (programs.script any_items n nothing) a b (in_short r) → OnOk r (RecordsNames a.env.config (names_in (program_phrase (a_script n))) a.sheet b.sheet)
 script_names n a b r w k e h = root_names (OfScript n) _ a b r refl w k e h
 
-pub program_names : (n : Program AnyNode) (a b : State) (r : Result (Unit {0}) Error) → is_well_formed n ≡ true → a.sheet.keeps_positions ≡ true → a.env.keeps_invalid ≡ false → Follows (programs.program any_items n nothing) a b (in_short r) → OnOk r (RecordsNames (names_in (program_phrase n)) a.sheet b.sheet)
+pub program_names : (n : Program AnyNode) (a b : State) (r : Result (Unit {0}) Error) → is_well_formed n ≡ true → a.sheet.keeps_positions ≡ true → a.env.keeps_invalid ≡ false → Follows (programs.program any_items n nothing) a b (in_short r) → OnOk r (RecordsNames a.env.config (names_in (program_phrase n)) a.sheet b.sheet)
 program_names n a b r w k e h = root_names (OfProgram n) _ a b r refl w k e h
 
+-- under ASCII only what is added is ASCII, save what stands as it is
+pub root_ascii : (n : Root) (p : Part) (a b : State) (r : Result (Unit {0}) Error) → p ≡ root_items n → is_well_formed_root n ≡ true → WantsAscii a → keeps_other (steps_of (p nothing a.env)) ≡ false → Follows (p nothing) a b (in_short r) → OnOk r (AddsAscii a.sheet.text b.sheet.text)
+root_ascii n p a b r same w s k h = on_ok_in_short _ r (printed_ascii p (root_phrase n) a b (in_short r) (subst (λ z. Prints a.env z (root_phrase n)) (sym same) (root_prints a.env s.leaves_out n)) w s k h)
+
+pub script_ascii : (n : Script AnyNode) (a b : State) (r : Result (Unit {0}) Error) → is_well_formed (a_script n) ≡ true → WantsAscii a → keeps_other (steps_of (programs.script any_items n nothing a.env)) ≡ false → Follows (programs.script any_items n nothing) a b (in_short r) → OnOk r (AddsAscii a.sheet.text b.sheet.text)
+script_ascii n a b r w s k h = root_ascii (OfScript n) _ a b r refl w s k h
+
+pub program_ascii : (n : Program AnyNode) (a b : State) (r : Result (Unit {0}) Error) → is_well_formed n ≡ true → WantsAscii a → keeps_other (steps_of (programs.program any_items n nothing a.env)) ≡ false → Follows (programs.program any_items n nothing) a b (in_short r) → OnOk r (AddsAscii a.sheet.text b.sheet.text)
+program_ascii n a b r w s k h = root_ascii (OfProgram n) _ a b r refl w s k h
+
+-- under `inline_script` each string that is printed by its value is safe inside a script
+pub root_safe : (n : Root) (p : Part) (a b : State) (r : Result (Unit {0}) Error) → p ≡ root_items n → is_well_formed_root n ≡ true → a.env.config.inline_script ≡ true → a.env.keeps_invalid ≡ false → Follows (p nothing) a b (in_short r) → OnOk r (AddsSafe (value_strings (steps_of (p nothing a.env))) a.sheet.text b.sheet.text)
+root_safe n p a b r same w i e h = on_ok_in_short _ r (printed_safe p (root_phrase n) a b (in_short r) (subst (λ z. Prints a.env z (root_phrase n)) (sym same) (root_prints a.env e n)) w i h)
+
+pub script_safe : (n : Script AnyNode) (a b : State) (r : Result (Unit {0}) Error) → is_well_formed (a_script n) ≡ true → a.env.config.inline_script ≡ true → a.env.keeps_invalid ≡ false → Follows (programs.script any_items n nothing) a b (in_short r) → OnOk r (AddsSafe (value_strings (steps_of (programs.script any_items n nothing a.env))) a.sheet.text b.sheet.text)
+script_safe n a b r w i e h = root_safe (OfScript n) _ a b r refl w i e h
+
+pub program_safe : (n : Program AnyNode) (a b : State) (r : Result (Unit {0}) Error) → is_well_formed n ≡ true → a.env.config.inline_script ≡ true → a.env.keeps_invalid ≡ false → Follows (programs.program any_items n nothing) a b (in_short r) → OnOk r (AddsSafe (value_strings (steps_of (programs.program any_items n nothing a.env))) a.sheet.text b.sheet.text)
+program_safe n a b r w i e h = root_safe (OfProgram n) _ a b r refl w i e h
+
+-- no text stands as it is that isn't ASCII, where no such token is in the tree
+pub root_keeps : (n : Root) (s : State) → is_well_formed_root n ≡ true → s.env.keeps_invalid ≡ false → is_out s.env.config (root_phrase n) ≡ false → may_keep_other (root_phrase n) ≡ false → keeps_other (steps_of (steps_in (root_items n) s)) ≡ false
+root_keeps n s w e o none = printed_keeps (root_items n) (root_phrase n) s.env (root_prints s.env e n) w o none
+
+-- a new emitter over a new writer
+pub new_wants_ascii : (config : Config) (bytes line_end : List ℕ) → config.ascii_only ≡ true → IsLineEnd line_end → WantsAscii (start config (new_sheet bytes line_end))
+new_wants_ascii config bytes line_end e (inl h) = record { by_settings = e; leaves_out = refl; indent_text = refl; line_end = ap is_ascii_text h }
+new_wants_ascii config bytes line_end e (inr h) = record { by_settings = e; leaves_out = refl; indent_text = refl; line_end = ap is_ascii_text h }
+
 -- no text is made anew where nothing of the tree may be
-pub root_remakes : (n : Root) (s : State) → is_well_formed_root n ≡ true → s.env.keeps_invalid ≡ false → may_make_text (root_phrase n) ≡ false → makes_text (steps_of (steps_in (root_items n) s)) ≡ false
+pub root_remakes : (n : Root) (s : State) → is_well_formed_root n ≡ true → s.env.keeps_invalid ≡ false → may_make_text s.env.config (root_phrase n) ≡ false → makes_text (steps_of (steps_in (root_items n) s)) ≡ false
 root_remakes n s w e none = printed_remakes (root_items n) (root_phrase n) s.env (root_prints s.env e n) w none
+
+-- an emission comes to a node that can't be printed exactly where a name of the tree is out of the target
+pub root_ends : (n : Root) (s : State) → is_well_formed_root n ≡ true → s.env.keeps_invalid ≡ false → unprintable_in (steps_in (root_items n) s) ≡ (if is_out s.env.config (root_phrase n) then Some NameOutOfTarget else None)
+root_ends n s w e = ends_where_out (root_items n) (root_phrase n) s.env (root_prints s.env e n) w
+
+pub root_in_target : (n : Root) (a b : State) → is_well_formed_root n ≡ true → a.env.keeps_invalid ≡ false → Follows (root_items n nothing) a b (Ok tt) → is_out a.env.config (root_phrase n) ≡ false
+root_in_target n a b w e h = follows_in_target (root_items n) (root_phrase n) a b (Ok tt) (root_prints a.env e n) w h
+
+pub root_out_of_target : (n : Root) (a b : State) → is_well_formed_root n ≡ true → a.env.keeps_invalid ≡ false → Follows (root_items n nothing) a b (Err refusals.NameOutOfTarget) → is_out a.env.config (root_phrase n) ≡ true
+root_out_of_target n a b w e h = follows_out_of_target (root_items n) (root_phrase n) a b (root_prints a.env e n) w h
 
 pub new_is_new : (config : Config) (bytes line_end : List ℕ) → IsLineEnd line_end → IsNew (start config (new_sheet bytes line_end))
 unfolding all_indent is_indent holds_one

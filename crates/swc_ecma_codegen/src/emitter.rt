@@ -17,7 +17,7 @@ use swc_ecma_codegen_util::config::Config;
 
 /// Prints nodes to a writer. Once a call was refused, each further call that gives a `Result` answers `Failed`.
 ///
-/// Until they are supported, `comments` is `None`, and names are printed as they are: `ascii_only` is false.
+/// Until they are supported, `comments` is `None`.
 #[derive(Drop)]
 pub struct Emitter<'a, W, S, C> {
     /// The settings.
@@ -29,7 +29,6 @@ pub struct Emitter<'a, W, S, C> {
     /// Where the text goes.
     pub wr: W,
     pub(crate) lower: LowerEmitter,
-    ghost names_as_they_are: { cfg.ascii_only ≡ false },
     ghost no_comments: { IsTrue (is_none comments) },
 }
 
@@ -42,12 +41,13 @@ impl<'a, W: WriteJs, S: SourceMapper, C: Comments> Emitter<'a, W, S, C> {
     ghost use Rattle.swc_ecma_codegen_ast.specs.Phrases.{names_in};
     ghost use Rattle.swc_ecma_codegen_text_writer.specs.Recorded.{RecordsTruly};
     ghost use Rattle.swc_ecma_codegen_base.specs.Named.{RecordsNames};
+    ghost use Rattle.swc_ecma_codegen_base.specs.Ascii.{keeps_other, AddsAscii, WantsAscii};
+    ghost use Rattle.swc_ecma_codegen_base.specs.Scripts.{value_strings, AddsSafe};
     ghost use Rattle.swc_ecma_codegen_base.specs.Written.{IsNew, AddsReading};
     ghost use Rattle.swc_ecma_codegen_base.specs.Ready.{IsPlainTree, IsReady};
 
     /// An emitter that has written nothing. Takes no memory.
     pub fn new(alloc: Global, cfg: Config, cm: &'a S, comments: Option<C>, wr: W) -> Self
-        requires ascii { cfg.ascii_only ≡ false }
         requires comments { IsTrue (is_none comments) }
         ensures state { state_of W.sheet result ≡ start cfg (W.sheet wr) }
         ensures wr { result.wr ≡ wr }
@@ -97,7 +97,7 @@ impl<'a, W: WriteJs, S: SourceMapper, C: Comments> Emitter<'a, W, S, C> {
     }
 
     /// Prints a program. swc's `emit_program`.
-    #[tactic(auto, using(crate::proofs::TreeReads::program_reads, crate::proofs::TreeReads::steps_recorded, crate::proofs::TreeReads::program_names, crate::proofs::TreeMade::program_made, swc_ecma_codegen_base::proofs::Made::ready_after, swc_ecma_codegen_base::proofs::Phrased::never_out_of_memory))]
+    #[tactic(auto, using(crate::proofs::TreeReads::program_reads, crate::proofs::TreeReads::steps_recorded, crate::proofs::TreeReads::program_names, crate::proofs::TreeReads::program_ascii, crate::proofs::TreeReads::program_safe, crate::proofs::TreeMade::program_made, swc_ecma_codegen_base::proofs::Made::ready_after, swc_ecma_codegen_base::proofs::Phrased::never_out_of_memory))]
     pub fn emit_program(&mut self, node: &Program) -> Result
         // The steps of the tree are made, and it comes to no node that can't be printed; or it halts.
         ensures items { Follows (program any_items node.now nothing) (state_of W.sheet self.old) (state_of W.sheet self.new) (in_short result) }
@@ -106,7 +106,13 @@ impl<'a, W: WriteJs, S: SourceMapper, C: Comments> Emitter<'a, W, S, C> {
         // Each position that is recorded holds the place that the text had reached, and none is recorded twice.
         ensures recorded { OnOk result (RecordsTruly (W.sheet self.old.wr) (W.sheet self.new.wr)) }
         // Where positions are kept, each name of a well-formed tree has its own where it begins, unless that is 0.
-        ensures names { is_well_formed node.now ≡ true → (W.sheet self.old.wr).keeps_positions ≡ true → (W.sheet self.old.wr).keeps_invalid ≡ false → OnOk result (RecordsNames (names_in (program_phrase node.now)) (W.sheet self.old.wr) (W.sheet self.new.wr)) }
+        ensures names { is_well_formed node.now ≡ true → (W.sheet self.old.wr).keeps_positions ≡ true → (W.sheet self.old.wr).keeps_invalid ≡ false → OnOk result (RecordsNames self.old.cfg (names_in (program_phrase node.now)) (W.sheet self.old.wr) (W.sheet self.new.wr)) }
+        // Where the settings ask for ASCII, what is added is, unless a text that stands as it is in the tree isn't: a regular
+        // expression, or a directive with a backslash.
+        ensures ascii { is_well_formed node.now ≡ true → WantsAscii (state_of W.sheet self.old) → keeps_other (steps_of (steps_in (program any_items node.now) (state_of W.sheet self.old))) ≡ false → OnOk result (AddsAscii (W.sheet self.old.wr).text (W.sheet self.new.wr).text) }
+        // Under `inline_script` no string of a well-formed tree that is printed by its value ends a script of an HTML page, or
+        // opens or closes a comment there: it holds no `<!--`, no `-->`, and no `</script` before `>` or ASCII whitespace.
+        ensures inline { is_well_formed node.now ≡ true → self.old.cfg.inline_script ≡ true → (W.sheet self.old.wr).keeps_invalid ≡ false → OnOk result (AddsSafe (value_strings (steps_of (steps_in (program any_items node.now) (state_of W.sheet self.old)))) (W.sheet self.old.wr).text (W.sheet self.new.wr).text) }
         // What is out is a beginning of the text of these steps.
         ensures front { IsFront (W.sheet self.new.wr).text (printed (program any_items node.now) (state_of W.sheet self.old)).sheet.text }
         // It is refused only for the cause that the error names.
@@ -116,7 +122,7 @@ impl<'a, W: WriteJs, S: SourceMapper, C: Comments> Emitter<'a, W, S, C> {
         // Where nothing stands in its way, it is made.
         ensures succeeds { IsUnhindered (steps_in (program any_items node.now) (state_of W.sheet self.old)) (state_of W.sheet self.old) (state_of W.sheet self.new) → IsOk result }
         // Where it is ready, and the writer counts no fault, a plain tree is printed.
-        ensures made { IsPlainTree (program_phrase node.now) (W.sheet self.old.wr).indentation → IsReady (state_of W.sheet self.old) → (W.sheet self.new.wr).faults ≡ (W.sheet self.old.wr).faults → IsOk result }
+        ensures made { IsPlainTree self.old.cfg (program_phrase node.now) (W.sheet self.old.wr).indentation → IsReady (state_of W.sheet self.old) → (W.sheet self.new.wr).faults ≡ (W.sheet self.old.wr).faults → IsOk result }
         // It is ready again for the next.
         ensures ready { OnOk result (IsReady (state_of W.sheet self.old) → IsReady (state_of W.sheet self.new)) }
         ensures marked { OnErr result ((state_of W.sheet self.new).failed ≡ true) }
@@ -129,7 +135,7 @@ impl<'a, W: WriteJs, S: SourceMapper, C: Comments> Emitter<'a, W, S, C> {
 
     /// Prints a script: the text of each statement, and then a semicolon that is held back, unless the settings leave
     /// it out. swc's `emit_script`.
-    #[tactic(auto, using(crate::proofs::TreeReads::script_reads, crate::proofs::TreeReads::steps_recorded, crate::proofs::TreeReads::script_names, crate::proofs::TreeMade::script_made, swc_ecma_codegen_base::proofs::Made::ready_after, swc_ecma_codegen_base::proofs::Phrased::never_out_of_memory))]
+    #[tactic(auto, using(crate::proofs::TreeReads::script_reads, crate::proofs::TreeReads::steps_recorded, crate::proofs::TreeReads::script_names, crate::proofs::TreeReads::script_ascii, crate::proofs::TreeReads::script_safe, crate::proofs::TreeMade::script_made, swc_ecma_codegen_base::proofs::Made::ready_after, swc_ecma_codegen_base::proofs::Phrased::never_out_of_memory))]
     pub fn emit_script(&mut self, node: &Script) -> Result
         // The steps of the tree are made, and it comes to no node that can't be printed; or it halts.
         ensures items { Follows (script any_items node.now nothing) (state_of W.sheet self.old) (state_of W.sheet self.new) (in_short result) }
@@ -138,7 +144,13 @@ impl<'a, W: WriteJs, S: SourceMapper, C: Comments> Emitter<'a, W, S, C> {
         // Each position that is recorded holds the place that the text had reached, and none is recorded twice.
         ensures recorded { OnOk result (RecordsTruly (W.sheet self.old.wr) (W.sheet self.new.wr)) }
         // Where positions are kept, each name of a well-formed tree has its own where it begins, unless that is 0.
-        ensures names { is_well_formed (Program.Script node.now) ≡ true → (W.sheet self.old.wr).keeps_positions ≡ true → (W.sheet self.old.wr).keeps_invalid ≡ false → OnOk result (RecordsNames (names_in (program_phrase (Program.Script node.now))) (W.sheet self.old.wr) (W.sheet self.new.wr)) }
+        ensures names { is_well_formed (Program.Script node.now) ≡ true → (W.sheet self.old.wr).keeps_positions ≡ true → (W.sheet self.old.wr).keeps_invalid ≡ false → OnOk result (RecordsNames self.old.cfg (names_in (program_phrase (Program.Script node.now))) (W.sheet self.old.wr) (W.sheet self.new.wr)) }
+        // Where the settings ask for ASCII, what is added is, unless a text that stands as it is in the tree isn't: a regular
+        // expression, or a directive with a backslash.
+        ensures ascii { is_well_formed (Program.Script node.now) ≡ true → WantsAscii (state_of W.sheet self.old) → keeps_other (steps_of (steps_in (script any_items node.now) (state_of W.sheet self.old))) ≡ false → OnOk result (AddsAscii (W.sheet self.old.wr).text (W.sheet self.new.wr).text) }
+        // Under `inline_script` no string of a well-formed tree that is printed by its value ends a script of an HTML page, or
+        // opens or closes a comment there: it holds no `<!--`, no `-->`, and no `</script` before `>` or ASCII whitespace.
+        ensures inline { is_well_formed (Program.Script node.now) ≡ true → self.old.cfg.inline_script ≡ true → (W.sheet self.old.wr).keeps_invalid ≡ false → OnOk result (AddsSafe (value_strings (steps_of (steps_in (script any_items node.now) (state_of W.sheet self.old)))) (W.sheet self.old.wr).text (W.sheet self.new.wr).text) }
         // What is out is a beginning of the text of these steps.
         ensures front { IsFront (W.sheet self.new.wr).text (printed (script any_items node.now) (state_of W.sheet self.old)).sheet.text }
         // It is refused only for the cause that the error names.
@@ -148,7 +160,7 @@ impl<'a, W: WriteJs, S: SourceMapper, C: Comments> Emitter<'a, W, S, C> {
         // Where nothing stands in its way, it is made.
         ensures succeeds { IsUnhindered (steps_in (script any_items node.now) (state_of W.sheet self.old)) (state_of W.sheet self.old) (state_of W.sheet self.new) → IsOk result }
         // Where it is ready, and the writer counts no fault, a plain tree is printed.
-        ensures made { IsPlainTree (program_phrase (Program.Script node.now)) (W.sheet self.old.wr).indentation → IsReady (state_of W.sheet self.old) → (W.sheet self.new.wr).faults ≡ (W.sheet self.old.wr).faults → IsOk result }
+        ensures made { IsPlainTree self.old.cfg (program_phrase (Program.Script node.now)) (W.sheet self.old.wr).indentation → IsReady (state_of W.sheet self.old) → (W.sheet self.new.wr).faults ≡ (W.sheet self.old.wr).faults → IsOk result }
         // It is ready again for the next.
         ensures ready { OnOk result (IsReady (state_of W.sheet self.old) → IsReady (state_of W.sheet self.new)) }
         ensures marked { OnErr result ((state_of W.sheet self.new).failed ≡ true) }

@@ -4,15 +4,22 @@
 //! What is printed of a well-formed tree reads back as the tree's tokens, by longest match: `a < !--b` isn't printed as
 //! the start of a comment, nor `a - -b` as a decrement.
 
-ghost use Rattle.std.specs.Prelude.{◌≡◌, ℕ, true, false, List, ◌∷◌, OnOk};
+ghost use Rattle.std.specs.Prelude.{◌≡◌, ℕ, Bool, true, false, if◌then◌else◌, List, [], ◌∷◌, OnOk, Ok, Err, Some, None};
+ghost use Rattle.swc_ecma_codegen_common.specs.declared.errors.Refusal.TheVariants as refusals;
 ghost use Rattle.swc_ecma_codegen_common.specs.Refusals.{in_short};
+ghost use Rattle.std.specs.String.{string_bytes};
+ghost use Rattle.swc_ecma_codegen_tree.specs.declared.lits.Str.{Str};
 ghost use Rattle.swc_ecma_codegen_util.specs.declared.config.Config.{Config};
 ghost use Rattle.swc_ecma_codegen_ast.specs.Tokens.{Token};
 ghost use Rattle.swc_ecma_codegen_ast.specs.Phrases.{Generates, is_possible};
 ghost use Rattle.swc_ecma_codegen_ast.specs.TreePhrases.{expr_phrase, stmt_phrase};
 ghost use Rattle.swc_ecma_codegen_text_writer.specs.Sheet.{HoldsNone};
 ghost use Rattle.swc_ecma_codegen_text_writer.specs.View.{new_sheet};
-ghost use Rattle.swc_ecma_codegen_base.specs.Run.{Follows, State, nothing, makes_text, start, steps_in, steps_of};
+ghost use Rattle.swc_ecma_codegen_base.specs.declared.refusals.Unprintable.TheVariants.{NameOutOfTarget};
+ghost use Rattle.swc_ecma_codegen_base.specs.Run.{Env, Follows, State, nothing, makes_text, start, steps_in, steps_of, unprintable_in};
+ghost use Rattle.swc_ecma_codegen_base.specs.Lits.{prints_raw, string_at, value_text};
+ghost use Rattle.swc_ecma_codegen_base.specs.Scripts.{value_strings};
+ghost use Rattle.swc_ecma_codegen_base.specs.Targets.{is_out};
 ghost use Rattle.swc_ecma_codegen_base.specs.Written.{IsLineEnd, IsNew, AddsReading, all_indent};
 ghost use Rattle.swc_ecma_codegen_base.specs.Ready.{IsReady};
 ghost use Rattle.swc_ecma_codegen_util.specs.Starts.{expr_starts, any_starts};
@@ -22,6 +29,7 @@ ghost use Rattle.swc_ecma_codegen.specs.Exprs.{expr as expr_items};
 ghost use Rattle.swc_ecma_codegen.specs.Stmts.{stmt as stmt_items};
 ghost use Rattle.swc_ecma_codegen.specs.Tree.{any_items};
 ghost use Rattle.swc_ecma_codegen_base.specs.Escapes.{may_make_text};
+ghost use Rattle.swc_ecma_codegen_base.specs.Ascii.{keeps_other, may_keep_other, WantsAscii};
 ghost use Rattle.swc_ecma_codegen.specs.Roots.{Root, root_items, root_phrase, is_well_formed_root};
 ghost use Rattle.swc_ecma_codegen.specs.FirstTokens.{joins_a_word};
 ghost use Rattle.swc_ecma_codegen.specs.View.{state_of};
@@ -68,11 +76,13 @@ pub fn emitted_stmt_reads<W: WriteJs, S: SourceMapper, C: Comments>(
 }
 
 /// A new emitter over a new `JsWriter`, whose lines end with LF or with CR and LF, is one that these laws speak of; and
-/// after `set_indent_str` of blanks and tabs, and inside `omit_trailing_semi`. It is ready, whatever its lines end with.
+/// after `set_indent_str` of blanks and tabs, and inside `omit_trailing_semi`. It is ready, whatever its lines end with. Under
+/// `ascii_only` it is one that is to write ASCII.
 pub fn new_emitter_reads()
     ensures new { (config : Config) (bytes line_end : List ℕ) → IsLineEnd line_end → IsNew (start config (new_sheet bytes line_end)) }
     ensures holding { (config : Config) (bytes line_end : List ℕ) → IsLineEnd line_end → IsNew (start config (record (new_sheet bytes line_end) { semicolons = HoldsNone })) }
     ensures ready { (config : Config) (bytes line_end : List ℕ) → IsReady (start config (new_sheet bytes line_end)) }
+    ensures ascii { (config : Config) (bytes line_end : List ℕ) → config.ascii_only ≡ true → IsLineEnd line_end → WantsAscii (start config (new_sheet bytes line_end)) }
     ensures indented { (config : Config) (bytes line_end indent : List ℕ) → IsLineEnd line_end → all_indent indent ≡ true → IsNew (start config (record (new_sheet bytes line_end) { indent_text = indent })) }
 {}
 
@@ -87,11 +97,36 @@ pub fn first_token_is_told(expr: &Expr) -> bool
     expr.starts_with_alpha_num()
 }
 
-/// No step of an emission of a well-formed tree makes a text anew, in memory, where no name of the tree holds a backslash and
-/// no number, no big integer and no string stands in it, over a writer that leaves out U+0000 after one: what the clauses
-/// `cause`, `no_memory` and `succeeds` of `emit_with` ask of memory. Of a tree with such, these clauses speak of its steps:
-/// one takes memory where the text of a literal isn't its raw.
+/// No step of an emission of a well-formed tree makes a text anew, in memory, where no name of the tree holds a backslash, or
+/// isn't ASCII under `ascii_only`, and no number, no big integer and no string stands in it, over a writer that leaves out
+/// U+0000 after a backslash: what the clauses `cause`, `no_memory` and `succeeds` of `emit_with` ask of memory. Of a tree with
+/// such, these clauses speak of its steps: one takes memory where the text of a literal isn't its raw.
 #[tactic(auto, using(crate::proofs::TreeReads::root_remakes))]
 pub fn plain_trees_take_no_memory()
-    ensures { (root : Root) (s : State) → is_well_formed_root root ≡ true → s.env.keeps_invalid ≡ false → may_make_text (root_phrase root) ≡ false → makes_text (steps_of (steps_in (root_items root) s)) ≡ false }
+    ensures { (root : Root) (s : State) → is_well_formed_root root ≡ true → s.env.keeps_invalid ≡ false → may_make_text s.env.config (root_phrase root) ≡ false → makes_text (steps_of (steps_in (root_items root) s)) ≡ false }
+{}
+
+/// No text stands as it is in the tree and isn't ASCII, among the steps of an emission of a well-formed tree whose names can
+/// all be written, where each regular expression of the tree is ASCII and no string of it reads `use strict`: what the
+/// clause `ascii` of `emit_with` asks. With such a string it asks that this one has no backslash, or is ASCII.
+#[tactic(auto, using(crate::proofs::TreeReads::root_keeps))]
+pub fn plain_trees_keep_no_other_text()
+    ensures { (root : Root) (s : State) → is_well_formed_root root ≡ true → s.env.keeps_invalid ≡ false → is_out s.env.config (root_phrase root) ≡ false → may_keep_other (root_phrase root) ≡ false → keeps_other (steps_of (steps_in (root_items root) s)) ≡ false }
+{}
+
+/// A string literal is printed by its value exactly where its raw isn't printed: it is one of the strings that the clause
+/// `inline` of `emit_with` speaks of.
+#[tactic(auto, using(swc_ecma_codegen_base::proofs::StringPrints::value_strings_told))]
+pub fn strings_by_value_are_told()
+    ensures { (env : Env) (in_lit : Bool) (n : Str) → value_strings (steps_of (string_at in_lit n nothing env)) ≡ (if prints_raw env.config n then [] else value_text env.config (string_bytes n.value) ∷ []) }
+{}
+
+/// An emission of a well-formed tree comes to a node that can't be printed exactly where some name of the tree is to be
+/// written in ASCII and can't be for the target. So it answers `NameOutOfTarget` for no other cause, and a tree that holds
+/// such a name is never printed as a whole.
+#[tactic(auto, using(crate::proofs::TreeReads::root_ends, crate::proofs::TreeReads::root_in_target, crate::proofs::TreeReads::root_out_of_target))]
+pub fn names_out_of_target_are_refused()
+    ensures steps { (root : Root) (s : State) → is_well_formed_root root ≡ true → s.env.keeps_invalid ≡ false → unprintable_in (steps_in (root_items root) s) ≡ (if is_out s.env.config (root_phrase root) then Some NameOutOfTarget else None) }
+    ensures printed { (root : Root) (a b : State) → is_well_formed_root root ≡ true → a.env.keeps_invalid ≡ false → Follows (root_items root nothing) a b (Ok tt) → is_out a.env.config (root_phrase root) ≡ false }
+    ensures refused { (root : Root) (a b : State) → is_well_formed_root root ≡ true → a.env.keeps_invalid ≡ false → Follows (root_items root nothing) a b (Err refusals.NameOutOfTarget) → is_out a.env.config (root_phrase root) ≡ true }
 {}

@@ -7,6 +7,8 @@ ghost use Rattle.swc_ecma_codegen_base.specs.Run.{Part, Follows, HasCause, IsUnh
 ghost use Rattle.swc_ecma_codegen_ast.specs.Phrases.{names_in};
 ghost use Rattle.swc_ecma_codegen_text_writer.specs.Recorded.{RecordsTruly};
 ghost use Rattle.swc_ecma_codegen_base.specs.Named.{RecordsNames};
+ghost use Rattle.swc_ecma_codegen_base.specs.Ascii.{keeps_other, AddsAscii, WantsAscii};
+ghost use Rattle.swc_ecma_codegen_base.specs.Scripts.{value_strings, AddsSafe};
 ghost use Rattle.swc_ecma_codegen_base.specs.Written.{IsNew, AddsReading};
 ghost use Rattle.swc_ecma_codegen_base.specs.Ready.{IsPlainTree, IsReady};
 ghost use Rattle.swc_ecma_codegen.specs.View.{state_of};
@@ -39,7 +41,13 @@ pub trait Node: Spanned {
         // Each position that is recorded holds the place that the text had reached, and none is recorded twice.
         ensures recorded { OnOk result (RecordsTruly (W.sheet e.old.wr) (W.sheet e.new.wr)) }
         // Where positions are kept, each name of a well-formed tree has its own where it begins, unless that is 0.
-        ensures names { (root : Root) → part self.now ≡ root_items root → is_well_formed_root root ≡ true → (W.sheet e.old.wr).keeps_positions ≡ true → (W.sheet e.old.wr).keeps_invalid ≡ false → OnOk result (RecordsNames (names_in (root_phrase root)) (W.sheet e.old.wr) (W.sheet e.new.wr)) }
+        ensures names { (root : Root) → part self.now ≡ root_items root → is_well_formed_root root ≡ true → (W.sheet e.old.wr).keeps_positions ≡ true → (W.sheet e.old.wr).keeps_invalid ≡ false → OnOk result (RecordsNames e.old.cfg (names_in (root_phrase root)) (W.sheet e.old.wr) (W.sheet e.new.wr)) }
+        // Where the settings ask for ASCII, what is added is, unless a text that stands as it is in the tree isn't: a regular
+        // expression, or a directive with a backslash.
+        ensures ascii { (root : Root) → part self.now ≡ root_items root → is_well_formed_root root ≡ true → WantsAscii (state_of W.sheet e.old) → keeps_other (steps_of (steps_in (part self.now) (state_of W.sheet e.old))) ≡ false → OnOk result (AddsAscii (W.sheet e.old.wr).text (W.sheet e.new.wr).text) }
+        // Under `inline_script` no string of a well-formed tree that is printed by its value ends a script of an HTML page, or
+        // opens or closes a comment there: it holds no `<!--`, no `-->`, and no `</script` before `>` or ASCII whitespace.
+        ensures inline { (root : Root) → part self.now ≡ root_items root → is_well_formed_root root ≡ true → e.old.cfg.inline_script ≡ true → (W.sheet e.old.wr).keeps_invalid ≡ false → OnOk result (AddsSafe (value_strings (steps_of (steps_in (part self.now) (state_of W.sheet e.old)))) (W.sheet e.old.wr).text (W.sheet e.new.wr).text) }
         // What is out is a beginning of the text of these steps.
         ensures front { IsFront (W.sheet e.new.wr).text (printed (part self.now) (state_of W.sheet e.old)).sheet.text }
         // It is refused only for the cause that the error names.
@@ -49,7 +57,7 @@ pub trait Node: Spanned {
         // Where nothing stands in its way, it is made.
         ensures succeeds { IsUnhindered (steps_in (part self.now) (state_of W.sheet e.old)) (state_of W.sheet e.old) (state_of W.sheet e.new) → IsOk result }
         // Where it is ready, and the writer counts no fault, a plain tree is printed.
-        ensures made { (root : Root) → part self.now ≡ root_items root → IsPlainTree (root_phrase root) (W.sheet e.old.wr).indentation → IsReady (state_of W.sheet e.old) → (W.sheet e.new.wr).faults ≡ (W.sheet e.old.wr).faults → IsOk result }
+        ensures made { (root : Root) → part self.now ≡ root_items root → IsPlainTree e.old.cfg (root_phrase root) (W.sheet e.old.wr).indentation → IsReady (state_of W.sheet e.old) → (W.sheet e.new.wr).faults ≡ (W.sheet e.old.wr).faults → IsOk result }
         // It is ready again for the next.
         ensures ready { OnOk result (IsReady (state_of W.sheet e.old) → IsReady (state_of W.sheet e.new)) }
         ensures marked { OnErr result ((state_of W.sheet e.new).failed ≡ true) }
@@ -61,7 +69,7 @@ pub trait Node: Spanned {
 impl<T: EmitAt + Spanned> Node for T {
     ghost part = { λ n. T.items n Plain };
 
-    #[tactic(auto, using(crate::proofs::TreeReads::root_reads, crate::proofs::TreeReads::steps_recorded, crate::proofs::TreeReads::root_names, swc_ecma_codegen_base::proofs::Made::ready_after, swc_ecma_codegen_base::proofs::Phrased::never_out_of_memory))]
+    #[tactic(auto, using(crate::proofs::TreeReads::root_reads, crate::proofs::TreeReads::steps_recorded, crate::proofs::TreeReads::root_names, crate::proofs::TreeReads::root_ascii, crate::proofs::TreeReads::root_safe, swc_ecma_codegen_base::proofs::Made::ready_after, swc_ecma_codegen_base::proofs::Phrased::never_out_of_memory))]
     fn emit_with<W: WriteJs, S: SourceMapper, C: Comments>(
         &self,
         e: &mut Emitter<'_, W, S, C>,

@@ -8,6 +8,7 @@ pub mod GapRules
 pub mod Hashbangs
 pub mod HeldNumbers
 pub mod Jsx
+pub mod ListFormats
 pub mod LitPhrases
 pub mod LongestMatch
 pub mod SpelledNames

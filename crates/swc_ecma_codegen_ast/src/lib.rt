@@ -6,6 +6,7 @@ pub mod characters;
 pub mod comments;
 mod gaps;
 pub mod kinds;
+pub mod list_format;
 pub mod mapper;
 pub mod names;
 pub mod number_values;
@@ -20,6 +21,7 @@ pub mod template_values;
 pub mod turns;
 pub mod units;
 
+pub use crate::list_format::ListFormat;
 pub use crate::shapes::is_hashbang;
 pub use crate::shapes::is_regex;
 pub use swc_ecma_codegen_common::AssignOp;

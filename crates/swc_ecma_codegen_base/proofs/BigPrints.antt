@@ -25,6 +25,7 @@ use Rattle.swc_ecma_codegen_base.specs.Lits.{begun_in, big_int_at, big_int_by, b
 use Rattle.swc_ecma_codegen_base.specs.Literals as words
 use Rattle.swc_ecma_codegen_base.specs.Literals.{size_of}
 use Rattle.swc_ecma_codegen_base.specs.Run.{Env, Remake, spelling, step}
+use Rattle.swc_ecma_codegen_base.specs.Scripts.{is_str}
 use Rattle.swc_ecma_codegen_base.specs.Starts.{start_class}
 use Rattle.swc_ecma_codegen_base.specs.Words.{leading_comments}
 use Rattle.swc_ecma_codegen_base.proofs.LitTexts.{IsRawOf, SignedToken, big_integer_signed, joined_raw, more_class, signed_spelled, signed_tokens, signed_written, some_after_sign, spelled_big_integer}
@@ -32,6 +33,7 @@ use Rattle.swc_ecma_codegen_base.proofs.LiteralParts.{writes_big_digits, writes_
 use Rattle.swc_ecma_codegen_base.proofs.NumberEnds.{size_utf8}
 use Rattle.swc_ecma_codegen_base.proofs.Phrased.{Prints, prints_same, prints_where}
 use Rattle.swc_ecma_codegen_base.proofs.Printed.{Writes, writes_leading, writes_then}
+use Rattle.swc_ecma_codegen_base.proofs.RawTexts.{ascii_is}
 use Rattle.swc_ecma_codegen_base.proofs.Remade.{makes_remade, prints_signed, writes_begun_in}
 
 abbrev value_of_big : trees.BigInt → Value
@@ -108,7 +110,7 @@ module _ (n : trees.BigInt) (s : IsSignedInteger n (big_text n) (big_part n)) wh
   some_digits e = some_after_sign n.negative (big_part n) (some_part (big_part n) s.front) (sym s.parts ∙ e)
 
   writes_digits : (env : Env) → Writes env (words.big_digits n.span (big_text n)) (signed_tokens BigInt (value_of_big n) n.negative)
-  writes_digits env = subst (λ z. Writes env (words.big_digits n.span (big_text n)) z) (signed_written digits_signed) (writes_big_digits env n.span (big_text n) (signed_spelled digits_signed) suffix_class some_digits)
+  writes_digits env = subst (λ z. Writes env (words.big_digits n.span (big_text n)) z) (signed_written digits_signed) (writes_big_digits env n.span (big_text n) (signed_spelled digits_signed) suffix_class some_digits (sym (ascii_is true (big_text n) s.ascii)))
 
 -- ---- a big integer
 
@@ -137,11 +139,11 @@ writes_big_int_by env in_lit n w =
     (writes_then env (leading_comments n.span.lo) _ [] ts (writes_leading env n.span.lo) (own_case (prints_big_raw env.config n) env n refl w))
 
 pub prints_big_int_at : (env : Env) (in_lit : Bool) (n : trees.BigInt) → Prints env (big_int_at in_lit n) (phrases.big_int n)
-unfolding big_int_at phrases.big_int big_int_token is_spelled_anew
+unfolding big_int_at phrases.big_int big_int_token is_spelled_anew is_str
 prints_big_int_at env in_lit n =
     prints_where (is_big_int n) (λ w.
     prints_same (big_int_at in_lit n) (λ rest. step (Remake (makes_big_int env.config n)) (big_int_by in_lit (prints_big_raw env.config n) n.span (big_int_text env.config n) rest)) (λ rest. refl)
-    (prints_signed BigInt (value_of_big n) n.negative refl (makes_remade (makes_big_int env.config n) (writes_big_int_by env in_lit n w))))
+    (prints_signed BigInt (value_of_big n) n.negative refl refl (makes_remade (makes_big_int env.config n) (writes_big_int_by env in_lit n w))))
 
 -- a big integer literal
 pub prints_big_int : (env : Env) (n : trees.BigInt) → Prints env (big_int_lit n) (phrases.big_int n)

@@ -1,12 +1,12 @@
 -- Steps that are made, and steps that are refused.
-use Rattle.std.proofs.Common.{◌≡◌, true, false, cond, [], ◌∷◌, Result, Ok, Err, None, refl, sym, ◌∙◌, ap, subst}
+use Rattle.std.proofs.Common.{◌≡◌, Bool, true, false, cond, [], ◌∷◌, Result, Ok, Err, None, refl, sym, ◌∙◌, ap, subst}
 use Rattle.std.specs.Str.{chars}
 use Rattle.swc_ecma_codegen_common.specs.declared.errors.Refusal.{Refusal}
 use Rattle.swc_ecma_codegen_common.specs.declared.errors.Refusal.TheVariants.{Failed}
 use Rattle.swc_ecma_codegen_ast.specs.GapRules.{fuses, Apart}
 use Rattle.swc_ecma_codegen_text_writer.specs.Sheet.{Space, effect}
 use Rattle.swc_ecma_codegen_base.specs.declared.refusals.Unprintable.{Unprintable}
-use Rattle.swc_ecma_codegen_base.specs.Run.{Env, Plan, Part, State, Step, Guard, Token, Plain, Ends, Steps, next, IsRefused, Halts, earlier, stopped, reached, Follows, run, steps_of, refusal_of, unprintable_in, put, step, refuse, nothing, when_minified}
+use Rattle.swc_ecma_codegen_base.specs.Run.{Env, Plan, Part, State, Step, Guard, Token, Plain, Ends, Remake, Steps, next, IsRefused, Halts, earlier, stopped, reached, Follows, run, steps_of, refusal_of, unprintable_in, put, step, refuse, nothing, when_minified}
 
 -- an earlier refusal is not forgotten
 pub put_failed : (x : Step) (s : State) → (put x s).failed ≡ s.failed
@@ -36,6 +36,18 @@ pub follows_step : (x : Step) (rest : Plan) (a c : State) (r : Result (Unit {0})
 unfolding Follows step run steps_of unprintable_in
 follows_step x rest a c (Ok u) f h = let P : Env → Type 0 = λ v. (unprintable_in (rest v) ≡ None) × (c ≡ run (steps_of (rest v)) (put x a)) in subst P (put_env x a) h
 follows_step x rest a c (Err e) f h = let P : Env → Type 0 = λ v. Halts (rest v) e (put x a) c in halts_later x f (subst P (put_env x a) h)
+
+-- that a text is made anew changes nothing of where an emission stands
+halts_remade : (due : Bool) {xs : Steps} {e : Refusal} {a b : State} → Halts xs e a b → Halts (next (Remake due) xs) e a b
+unfolding run steps_of unprintable_in put
+halts_remade due (earlier h k eq) = earlier h k eq
+halts_remade due (stopped h) = stopped (record { front = Remake due ∷ h.front; step = h.step; rest = h.rest; split = ap (λ zs. Remake due ∷ zs) h.split; fresh = h.fresh; marked = h.marked; refuses = h.refuses })
+halts_remade due (reached r h k eq m) = reached r h k eq m
+
+pub follows_remade : (due : Bool) (rest : Plan) (a c : State) (r : Result (Unit {0}) Refusal) → Follows rest a c r → Follows (step (Remake due) rest) a c r
+unfolding Follows step run steps_of unprintable_in put
+follows_remade due rest a c (Ok u) h = h
+follows_remade due rest a c (Err e) h = halts_remade due h
 
 -- a step that is made
 pub emits_step : (x : Step) (a b : State) → a.failed ≡ false → b ≡ put x a → (rest : Plan) (c : State) (r : Result (Unit {0}) Refusal) → Follows rest b c r → Follows (step x rest) a c r

@@ -1,5 +1,9 @@
 pub mod Emitting
 pub mod Short
+pub mod Targets
+pub mod NumeralTexts
+pub mod Hands
+pub mod ValueStrings
 pub mod Calls
 pub mod Spelled
 pub mod Anew
@@ -21,6 +25,8 @@ pub mod Printed
 pub mod LiteralParts
 pub mod Phrased
 pub mod SoFar
+pub mod AsciiTexts
+pub mod ScriptTexts
 pub mod Made
 pub mod OwnDots
 pub mod LitTexts

@@ -16,6 +16,7 @@ use Rattle.swc_ecma_codegen_ast.specs.Tokens.{token_of}
 use Rattle.swc_ecma_codegen_base.specs.Lits.{bool_text, bool_lit, null_lit, regex_lit}
 use Rattle.swc_ecma_codegen_base.specs.Literals as words
 use Rattle.swc_ecma_codegen_base.specs.Run.{Env, spelling}
+use Rattle.swc_ecma_codegen_base.specs.Scripts.{is_str}
 use Rattle.swc_ecma_codegen_base.specs.Starts.{start_class}
 use Rattle.swc_ecma_codegen_base.specs.Written.{IsWord}
 use Rattle.swc_ecma_codegen_base.proofs.LitTexts.{spelled_regex}
@@ -85,9 +86,9 @@ writes_regex_text env exp flags u v h =
     (writes_regex env exp flags (spelled_regex (words.regex_text exp flags) (regex_utf8 exp flags u v) (ap is_regex same ∙ h)) (slash_class (exp ++ (codes "/" ++ flags))))
 
 pub prints_regex : (env : Env) (n : Regex) → Prints env (regex_lit n) (phrases.regex n)
-unfolding regex_lit phrases.regex is_regex_of
+unfolding regex_lit phrases.regex is_regex_of token_of is_str
 prints_regex env n =
     prints_where (is_regex_of (characters n.exp) (characters n.flags)) (λ w.
     let p = and_parts (is_regex (phrases.regex_text (characters n.exp) [])) (is_regex (phrases.regex_text (characters n.exp) (characters n.flags))) w in
     prints_one env (regex_lit n) (token_of kinds.Regex (phrases.regex_text (characters n.exp) (characters n.flags)))
-    (writes_regex_text env (string_bytes n.exp) (string_bytes n.flags) (IsUtf8-string_bytes n.exp) (IsUtf8-string_bytes n.flags) p.1))
+    (writes_regex_text env (string_bytes n.exp) (string_bytes n.flags) (IsUtf8-string_bytes n.exp) (IsUtf8-string_bytes n.flags) p.1) refl)

@@ -1,33 +1,43 @@
 -- What the parts of literals write.
-use Rattle.std.proofs.Common.{◌≡◌, ℕ, false, List, [], ◌∷◌, ◌++◌, codes, refl, sym, ap, ◌∙◌, subst, append_assoc, append-nil, arith, None}
+use Rattle.std.proofs.Common.{◌≡◌, ℕ, Bool, true, false, not, ◌&&◌, ◌||◌, nat_lt, List, [], ◌∷◌, ◌++◌, codes, refl, sym, ap, ◌∙◌, subst, append_assoc, append-nil, inl, inr, arith, None}
 use Rattle.std.specs.Str.{chars}
+use Rattle.std.proofs.lemmas.Bool.{and_from, and_parts, or_cases, or_left, or_parts, not_from_false, false_from_ne_true, true≢false}
+use Rattle.std.proofs.lemmas.List.Folds.{list_all-append}
 use Rattle.swc_ecma_codegen_common.specs.declared.positions.Span.{Span}
 use Rattle.swc_ecma_codegen_spans.specs.Spans.{dummy_span}
 use Rattle.swc_ecma_codegen_ast.specs.declared.kinds.Kind.{Kind}
 use Rattle.swc_ecma_codegen_ast.specs.declared.kinds.Kind.TheVariants.{Name, Number, BigInt, Str, Regex}
 use Rattle.swc_ecma_codegen_ast.specs.Tokens as lexical
-use Rattle.swc_ecma_codegen_ast.specs.Tokens.{token_of}
+use Rattle.swc_ecma_codegen_ast.specs.Tokens.{token_of, value_of, has_shape}
+use Rattle.swc_ecma_codegen_ast.specs.Numbers.{is_numeric, is_big_integer, has_suffix}
+use Rattle.swc_ecma_codegen_ast.specs.StringValues.{string_value}
 use Rattle.swc_ecma_codegen_ast.specs.GapRules.{Last, fuses}
 use Rattle.swc_ecma_codegen_ast.specs.Parts.{tokens_of}
 use Rattle.swc_ecma_codegen_text_writer.specs.Sheet as calls
 use Rattle.swc_ecma_codegen_text_writer.specs.Sheet.{Sheet, Lit, StrLit, Punct, effect, written, literal_written, settled, before_punct, is_ending}
+use Rattle.swc_ecma_codegen_literals.specs.AsciiNames.{is_ascii_text}
+use Rattle.swc_ecma_codegen_literals.specs.ValidNames.{has_byte}
+use Rattle.swc_ecma_codegen_base.specs.Ascii.{is_strict, is_kept_directive, is_kept, is_other, is_other_value, keeps_other, are_ascii, keeps_tokens}
 use Rattle.swc_ecma_codegen_base.specs.Run.{Env, State, Step, Guard, Token, Plain, Ends, put, run, step, spelling, text_of, after_tokens, after_plain, makes_text}
+use Rattle.swc_ecma_codegen_base.specs.Scripts.{is_string_call}
 use Rattle.swc_ecma_codegen_base.specs.Starts.{start_class}
 use Rattle.swc_ecma_codegen_base.specs.Words.{start_of, leading_comments, commit_pending_semi}
 use Rattle.swc_ecma_codegen_base.specs.Literals as words
 use Rattle.swc_ecma_codegen_base.specs.Written.{AtRest, holds_one}
 use Rattle.swc_ecma_codegen_base.proofs.Held.{settled_none, unheld_settled}
+use Rattle.swc_ecma_codegen_base.proofs.Hands.{Hands, has_string, holds_string, hands_ascii}
 use Rattle.swc_ecma_codegen_base.proofs.Levels.{levels, rise}
+use Rattle.swc_ecma_codegen_base.proofs.NumeralTexts.{numeric_ascii, ascii_by_chars}
 use Rattle.swc_ecma_codegen_base.proofs.Starting.{same_beginning, sample}
 use Rattle.swc_ecma_codegen_base.proofs.Written.{Lays, lays_then, lays_settled, lays_guard, settle, settle_rest, after_guard, Spelled}
 use Rattle.swc_ecma_codegen_base.proofs.Texts.{Adds, adds_written, adds_literal, adds_more, owns, SpelledAs, spelled_one, lays_texts}
-use Rattle.swc_ecma_codegen_base.proofs.Printed.{chain, Makes, Writes, writes_then, writes_step, writes_two, writes_position, writes_commit, writes_leading}
+use Rattle.swc_ecma_codegen_base.proofs.Printed.{chain, no_text, Makes, Writes, writes_then, writes_step, writes_two, writes_position, writes_commit, writes_leading}
 
 -- ---- what stands before a literal
 
 pub writes_guard : (env : Env) (t : List ℕ) → Writes env (step (Guard t)) []
-unfolding makes_text levels
-writes_guard env t = writes_step env (Guard t) [] (λ s r. lays_guard t s r) (omega arith)
+unfolding makes_text levels are_ascii has_string is_string_call
+writes_guard env t = writes_step env (Guard t) [] (λ s r. lays_guard t s r) (omega arith) (hands_ascii env _ [] refl no_text)
 
 pub writes_begun : (env : Env) (span : Span) (t : List ℕ) → Writes env (words.begun span t) []
 unfolding words.begun
@@ -56,25 +66,58 @@ literal_adds span (c ∷ cs) s some = adds_literal span c cs s
 
 -- ---- one token by one call
 
+-- what stands as it is, and is ASCII
+ascii_of_kept : (kept a : Bool) → kept ≡ true → (kept && not a) ≡ false → a ≡ true
+ascii_of_kept true true h n = refl
+ascii_of_kept true false h n = absurd (true≢false n)
+ascii_of_kept false a h n = absurd (true≢false (sym h))
+
+either_none : (b : Bool) → (b || false) ≡ true → b ≡ true
+either_none true h = refl
+either_none false h = h
+
 literal_lays : (kind : Kind) (span : Span) (t : List ℕ) (s : State) → Spelled kind t → AtRest s → Lays (token_of kind (spelling kind t) ∷ []) s (put (Token kind (StrLit span t)) (put (Guard t) s))
 unfolding put effect text_of owns tokens_of after_tokens
 literal_lays kind span t s p r = lays_guarded ((kind, t) ∷ []) t t s _ (spelled_one kind t p) refl r (literal_adds span t (settled (put (Guard t) s).sheet) p.some) refl
 
-pub literal_token : (env : Env) (kind : Kind) (span : Span) (t : List ℕ) → Spelled kind t → Writes env (λ rest. step (Guard t) (step (Token kind (StrLit span t)) rest)) (token_of kind (spelling kind t) ∷ [])
+literal_handed : (env : Env) (kind : Kind) (span : Span) (t : List ℕ) → Spelled kind t → Hands env (Guard t ∷ Token kind (StrLit span t) ∷ []) (token_of kind (spelling kind t) ∷ []) → Writes env (λ rest. step (Guard t) (step (Token kind (StrLit span t)) rest)) (token_of kind (spelling kind t) ∷ [])
 unfolding makes_text levels rise
-literal_token env kind span t p = writes_two env (Guard t) (Token kind (StrLit span t)) _ (λ s r. literal_lays kind span t s p r) (omega arith)
+literal_handed env kind span t p a = writes_two env (Guard t) (Token kind (StrLit span t)) _ (λ s r. literal_lays kind span t s p r) (omega arith) a
 
-pub writes_string : (env : Env) (t : List ℕ) → Spelled Str t → Writes env (words.string t) (token_of Str (spelling Str t) ∷ [])
+-- in ASCII
+pub literal_token : (env : Env) (kind : Kind) (span : Span) (t : List ℕ) → Spelled kind t → is_ascii_text t ≡ true → Writes env (λ rest. step (Guard t) (step (Token kind (StrLit span t)) rest)) (token_of kind (spelling kind t) ∷ [])
+unfolding are_ascii has_string is_string_call holds_string text_of token_of
+literal_token env kind span t p a = literal_handed env kind span t p (hands_ascii env _ _ (and_from (is_ascii_text t) true a refl) (λ s. s))
+
+-- a string, which is in ASCII where the settings ask for that, save a directive that stands as it is
+string_handed : (env : Env) (t : List ℕ) → (env.config.ascii_only ≡ true → (is_ascii_text t || is_kept_directive t) ≡ true) → Hands env (Guard t ∷ Token Str (StrLit dummy_span t) ∷ []) (token_of Str (spelling Str t) ∷ [])
+unfolding are_ascii has_string is_string_call holds_string keeps_other is_other is_kept is_kept_directive text_of keeps_tokens is_other_value token_of value_of spelling
+string_handed env t k = record {
+  ascii = λ e n. and_from (is_ascii_text t) true (elim (or_cases (is_ascii_text t) (is_kept_directive t) (k e)) [
+    | inl a ↦ a
+    | inr d ↦ ascii_of_kept (is_kept_directive t) (is_ascii_text t) d (or_parts (is_kept_directive t && not (is_ascii_text t)) false n).0
+  ]) refl;
+  keeps = λ n.
+      let d = (and_parts (is_kept_directive t) (not (is_ascii_text t)) (either_none (is_kept_directive t && not (is_ascii_text t)) n)).0 in
+      or_left (is_strict (string_value true (chars t))) false (and_parts (has_byte 92 t) (is_strict (string_value true (chars t))) d).1;
+  strings = λ s. s;
+}
+
+pub writes_string : (env : Env) (t : List ℕ) → Spelled Str t → (env.config.ascii_only ≡ true → (is_ascii_text t || is_kept_directive t) ≡ true) → Writes env (words.string t) (token_of Str (spelling Str t) ∷ [])
 unfolding words.string
-writes_string env t p = literal_token env Str dummy_span t p
+writes_string env t p k = literal_handed env Str dummy_span t p (string_handed env t k)
 
-pub writes_number_name : (env : Env) (span : Span) (t : List ℕ) → Spelled Name t → Writes env (words.number_name span t) (token_of Name (spelling Name t) ∷ [])
+pub writes_number_name : (env : Env) (span : Span) (t : List ℕ) → Spelled Name t → is_ascii_text t ≡ true → Writes env (words.number_name span t) (token_of Name (spelling Name t) ∷ [])
 unfolding words.number_name
-writes_number_name env span t p = literal_token env Name span t p
+writes_number_name env span t p a = literal_token env Name span t p a
+
+big_ascii : (t : List ℕ) → Spelled BigInt t → is_ascii_text t ≡ true
+unfolding has_shape spelling is_big_integer
+big_ascii t p = ascii_by_chars t p.utf8 (numeric_ascii (chars t) (and_parts (is_numeric (chars t)) (has_suffix (chars t)) p.shape).0)
 
 pub writes_big_integer : (env : Env) (span : Span) (t : List ℕ) → Spelled BigInt t → Writes env (words.big_integer span t) (token_of BigInt (spelling BigInt t) ∷ [])
 unfolding words.big_integer
-writes_big_integer env span t p = literal_token env BigInt span t p
+writes_big_integer env span t p = literal_token env BigInt span t p (big_ascii t p)
 
 -- ---- several tokens by one call
 
@@ -82,9 +125,9 @@ number_lays : (xs : List (Kind × List ℕ)) (t : List ℕ) (s : State) → Spel
 unfolding put effect
 number_lays xs t s p some r = lays_guarded xs t t s _ p refl r (literal_adds dummy_span t (settled (put (Guard t) s).sheet) some) refl
 
-pub writes_number : (env : Env) (t : List ℕ) → SpelledAs (words.signed Number t) t → (t ≡ [] → ⊥) → Writes env (words.number t) (tokens_of (owns (words.signed Number t)))
-unfolding words.number makes_text levels rise
-writes_number env t p some = writes_two env (Guard t) (Ends (words.signed Number t) (StrLit dummy_span t)) _ (λ s r. number_lays (words.signed Number t) t s p some r) (omega arith)
+pub writes_number : (env : Env) (t : List ℕ) → SpelledAs (words.signed Number t) t → (t ≡ [] → ⊥) → is_ascii_text t ≡ true → Writes env (words.number t) (tokens_of (owns (words.signed Number t)))
+unfolding words.number makes_text levels rise are_ascii has_string is_string_call text_of
+writes_number env t p some a = writes_two env (Guard t) (Ends (words.signed Number t) (StrLit dummy_span t)) _ (λ s r. number_lays (words.signed Number t) t s p some r) (omega arith) (hands_ascii env _ _ (and_from (is_ascii_text t) true a refl) no_text)
 
 -- ---- one text by two calls
 
@@ -115,17 +158,17 @@ big_lays xs span t s p e some r =
     lays_guarded xs (t ++ codes "n") t s _ p e r (adds_more t (codes "n") (settled there.sheet) mid _ h k) refl
 
 -- three steps
-writes_three : (env : Env) (x y z : Step) (ts : List lexical.Token) → ((s : State) → AtRest s → Lays ts s (put z (put y (put x s)))) → levels (x ∷ y ∷ z ∷ []) ≡ 0 → Makes env (λ rest. step x (step y (step z rest))) ts (makes_text (x ∷ y ∷ z ∷ []))
+writes_three : (env : Env) (x y z : Step) (ts : List lexical.Token) → ((s : State) → AtRest s → Lays ts s (put z (put y (put x s)))) → levels (x ∷ y ∷ z ∷ []) ≡ 0 → Hands env (x ∷ y ∷ z ∷ []) ts → Makes env (λ rest. step x (step y (step z rest))) ts (makes_text (x ∷ y ∷ z ∷ []))
 unfolding step chain run
-writes_three env x y z ts h k = record { steps = x ∷ y ∷ z ∷ []; is_steps = λ rest. refl; lays = h; remakes = λ e. e; deep = omega (arith, k) }
+writes_three env x y z ts h k a = record { steps = x ∷ y ∷ z ∷ []; is_steps = λ rest. refl; lays = h; remakes = λ e. e; deep = omega (arith, k); hands = a }
 
-pub writes_dotted : (env : Env) (t : List ℕ) → SpelledAs (words.signed Number (t ++ codes ".")) (t ++ codes ".") → start_class (chars (t ++ codes ".")) ≡ start_class (chars t) → (t ≡ [] → ⊥) → Writes env (words.dotted_number t) (tokens_of (owns (words.signed Number (t ++ codes "."))))
-unfolding words.dotted_number makes_text levels rise
-writes_dotted env t p e some = writes_three env (Guard t) (Plain (StrLit dummy_span t)) (Ends (words.signed Number (t ++ codes ".")) (Punct None (codes "."))) _ (λ s r. dotted_lays (words.signed Number (t ++ codes ".")) t s p e some r) refl
+pub writes_dotted : (env : Env) (t : List ℕ) → SpelledAs (words.signed Number (t ++ codes ".")) (t ++ codes ".") → start_class (chars (t ++ codes ".")) ≡ start_class (chars t) → (t ≡ [] → ⊥) → is_ascii_text t ≡ true → Writes env (words.dotted_number t) (tokens_of (owns (words.signed Number (t ++ codes "."))))
+unfolding words.dotted_number makes_text levels rise are_ascii has_string is_string_call text_of
+writes_dotted env t p e some a = writes_three env (Guard t) (Plain (StrLit dummy_span t)) (Ends (words.signed Number (t ++ codes ".")) (Punct None (codes "."))) _ (λ s r. dotted_lays (words.signed Number (t ++ codes ".")) t s p e some r) refl (hands_ascii env _ _ (and_from (is_ascii_text t) true a refl) no_text)
 
-pub writes_big_digits : (env : Env) (span : Span) (t : List ℕ) → SpelledAs (words.signed BigInt (t ++ codes "n")) (t ++ codes "n") → start_class (chars (t ++ codes "n")) ≡ start_class (chars t) → (t ≡ [] → ⊥) → Writes env (words.big_digits span t) (tokens_of (owns (words.signed BigInt (t ++ codes "n"))))
-unfolding words.big_digits makes_text levels rise
-writes_big_digits env span t p e some = writes_three env (Guard t) (Plain (Lit span t)) (Ends (words.signed BigInt (t ++ codes "n")) (Lit span (codes "n"))) _ (λ s r. big_lays (words.signed BigInt (t ++ codes "n")) span t s p e some r) refl
+pub writes_big_digits : (env : Env) (span : Span) (t : List ℕ) → SpelledAs (words.signed BigInt (t ++ codes "n")) (t ++ codes "n") → start_class (chars (t ++ codes "n")) ≡ start_class (chars t) → (t ≡ [] → ⊥) → is_ascii_text t ≡ true → Writes env (words.big_digits span t) (tokens_of (owns (words.signed BigInt (t ++ codes "n"))))
+unfolding words.big_digits makes_text levels rise are_ascii has_string is_string_call text_of
+writes_big_digits env span t p e some a = writes_three env (Guard t) (Plain (Lit span t)) (Ends (words.signed BigInt (t ++ codes "n")) (Lit span (codes "n"))) _ (λ s r. big_lays (words.signed BigInt (t ++ codes "n")) span t s p e some r) refl (hands_ascii env _ _ (and_from (is_ascii_text t) true a refl) no_text)
 
 -- ---- a regular expression
 
@@ -163,12 +206,44 @@ regex_lays : (exp flags : List ℕ) (s : State) → Spelled Regex (words.regex_t
 unfolding regex_calls put after_plain owns tokens_of
 regex_lays exp flags s p e r = lays_guarded ((Regex, words.regex_text exp flags) ∷ []) (words.regex_text exp flags) (codes "/") s _ (spelled_one Regex _ p) e r (regex_adds exp flags (put (Guard (codes "/")) s)) refl
 
+-- what stands between the slashes, and the flags, stand as they are
+regex_steps : List ℕ → List ℕ → List Step
+regex_steps exp flags = Guard (codes "/") ∷ Plain (Punct None (codes "/")) ∷ Plain (calls.Str exp) ∷ Plain (Punct None (codes "/")) ∷ Ends ((Regex, words.regex_text exp flags) ∷ []) (calls.Str flags) ∷ []
+
+neither : (a b : Bool) → (not a || (not b || false)) ≡ false → (a && (b && true)) ≡ true
+neither true true h = refl
+neither true false h = absurd (true≢false h)
+neither false b h = absurd (true≢false h)
+
+parts_ascii : (exp flags : List ℕ) → is_ascii_text (words.regex_text exp flags) ≡ true → (is_ascii_text exp ≡ true) × (is_ascii_text flags ≡ true)
+parts_ascii exp flags a =
+    let low : ℕ → Bool = λ c. nat_lt c 128 in
+    let p = and_parts (is_ascii_text exp) (is_ascii_text (codes "/" ++ flags)) (sym (list_all-append low exp (codes "/" ++ flags)) ∙ a) in
+    (p.0, p.1)
+
+either_other : (a b : Bool) → (not a || (not b || false)) ≡ true → a ≡ true → b ≡ true → ⊥
+either_other true true h e f = true≢false (sym h)
+either_other true false h e f = true≢false (sym f)
+either_other false b h e f = true≢false (sym e)
+
+regex_handed : (env : Env) (exp flags : List ℕ) → Spelled Regex (words.regex_text exp flags) → Hands env (regex_steps exp flags) (token_of Regex (spelling Regex (words.regex_text exp flags)) ∷ [])
+unfolding regex_steps are_ascii has_string is_string_call keeps_other is_other is_kept text_of keeps_tokens is_other_value token_of value_of spelling
+regex_handed env exp flags p = record {
+  ascii = λ e n. neither (is_ascii_text exp) (is_ascii_text flags) n;
+  keeps = λ n.
+      let text : List ℕ = words.regex_text exp flags in
+      or_left (not (is_ascii_text (chars text))) false (not_from_false (is_ascii_text (chars text)) (false_from_ne_true (is_ascii_text (chars text)) (λ a.
+      let q = parts_ascii exp flags (ascii_by_chars text p.utf8 a) in either_other (is_ascii_text exp) (is_ascii_text flags) n q.0 q.1)));
+  strings = no_text;
+}
+
 pub writes_regex : (env : Env) (exp flags : List ℕ) → Spelled Regex (words.regex_text exp flags) → start_class (chars (words.regex_text exp flags)) ≡ start_class (chars (codes "/")) → Writes env (words.regex exp flags) (token_of Regex (spelling Regex (words.regex_text exp flags)) ∷ [])
-unfolding words.regex regex_calls step chain run makes_text levels rise
+unfolding words.regex regex_calls regex_steps step chain run makes_text levels rise
 writes_regex env exp flags p e = record {
-  steps = Guard (codes "/") ∷ Plain (Punct None (codes "/")) ∷ Plain (calls.Str exp) ∷ Plain (Punct None (codes "/")) ∷ Ends ((Regex, words.regex_text exp flags) ∷ []) (calls.Str flags) ∷ [];
+  steps = regex_steps exp flags;
   is_steps = λ rest. refl;
   lays = λ s r. regex_lays exp flags s p e r;
   remakes = λ h. h;
   deep = omega (arith);
+  hands = regex_handed env exp flags p;
 }

@@ -1,20 +1,23 @@
 -- When an emission of a tree is made, and what is left after it.
-use Rattle.std.proofs.Common.{◌≡◌, ◌+◌, ◌^◌, ◌<◌, true, false, List, [], ◌∷◌, ◌++◌, length, length-append, Result, Ok, Err, None, Option, Some, OnOk, IsOk, refl, sym, ap, ◌∙◌, subst, arith}
-use Rattle.std.proofs.lemmas.Bool.{or_from, true≢false}
+use Rattle.std.proofs.Common.{◌≡◌, ◌+◌, ◌^◌, ◌<◌, true, false, cond, if◌then◌else◌, inl, inr, List, [], ◌∷◌, ◌++◌, length, length-append, Result, Ok, Err, None, Option, Some, OnOk, IsOk, refl, sym, ap, ◌∙◌, subst, arith}
+use Rattle.std.proofs.lemmas.Bool.{cases_Bool, or_from, true_from_ne_false, true≢false}
 use Rattle.swc_ecma_codegen_common.specs.declared.errors.Error.{Error}
 use Rattle.swc_ecma_codegen_common.specs.declared.errors.Refusal.{Refusal}
+use Rattle.swc_ecma_codegen_common.specs.declared.errors.Refusal.TheVariants as refusals
 use Rattle.swc_ecma_codegen_common.specs.Refusals.{in_short}
 use Rattle.swc_ecma_codegen_base.specs.declared.refusals.Unprintable.{Unprintable}
 use Rattle.swc_ecma_codegen_text_writer.proofs.Sheets.{effect_refused, effect_faults, effect_takes_memory, effect_keeps_positions}
 use Rattle.swc_ecma_codegen_ast.specs.Tokens.{Token as LexicalToken}
 use Rattle.swc_ecma_codegen_ast.specs.Phrases.{Phrase, Never, Nothing, One, NameOf, Then, Generates, is_possible}
-use Rattle.swc_ecma_codegen_base.specs.Run.{Env, Plan, Part, Step, State, done, run, steps_of, unprintable_in, nothing, Follows, PassesLimit, IsUnhindered, earlier, stopped, reached}
+use Rattle.swc_ecma_codegen_base.specs.declared.refusals.Unprintable.TheVariants.{NameOutOfTarget}
+use Rattle.swc_ecma_codegen_base.specs.Targets.{is_out}
+use Rattle.swc_ecma_codegen_base.specs.Run.{Env, Plan, Part, Step, State, run, steps_of, unprintable_in, nothing, Follows, HasCause, PassesLimit, IsUnhindered, earlier, stopped, reached}
 use Rattle.swc_ecma_codegen_base.specs.Ready.{token_count, IsPlainTree, IsReady}
 use Rattle.swc_ecma_codegen_base.proofs.Emitting.{put_failed, put_env}
-use Rattle.swc_ecma_codegen_base.proofs.Fronts.{run_sheet, follows_succeeds}
+use Rattle.swc_ecma_codegen_base.proofs.Fronts.{run_sheet, follows_cause, follows_succeeds}
 use Rattle.swc_ecma_codegen_base.proofs.Levels.{levels, stays_within}
-use Rattle.swc_ecma_codegen_base.proofs.Printed.{chain}
-use Rattle.swc_ecma_codegen_base.proofs.Phrased.{Prints, steps_of_chain, printed_remakes}
+use Rattle.swc_ecma_codegen_base.proofs.Phrased.{Prints, steps_of_chain, goes_on, made_not_out, printed_remakes}
+use Rattle.swc_ecma_codegen_base.proofs.Targets.{plain_not_out}
 
 -- each list of a phrase has as many tokens
 counted : (f : Phrase) (ts : List LexicalToken) → Generates f ts → length ts ≡ token_count f
@@ -29,22 +32,36 @@ counted (Then a b) ts g =
     let e = ap length g.4 in
     omega (arith, h, k, e, length-append g.0 g.1)
 
--- these steps come to an end
-comes_to_end : (xs : List Step) → unprintable_in (chain xs done) ≡ None
-unfolding chain unprintable_in
-comes_to_end [] = refl
-comes_to_end (x ∷ xs) = comes_to_end xs
+-- each node of a well-formed tree can be printed, whose names can
+pub printable : (p : Part) (f : Phrase) (env : Env) → Prints env p f → is_possible f ≡ true → is_out env.config f ≡ false → unprintable_in (p nothing env) ≡ None
+unfolding nothing unprintable_in
+printable p f env prints w o = goes_on (prints.where_possible w o).writes nothing
 
--- each node of a well-formed tree can be printed
-pub printable : (p : Part) (f : Phrase) (env : Env) → Prints env p f → is_possible f ≡ true → unprintable_in (p nothing env) ≡ None
-unfolding nothing
-printable p f env prints w = let h = prints.where_possible w in ap unprintable_in (h.writes.is_steps nothing) ∙ comes_to_end h.writes.steps
+-- so it comes to such a node exactly where some name can't be
+pub ends_where_out : (p : Part) (f : Phrase) (env : Env) → Prints env p f → is_possible f ≡ true → unprintable_in (p nothing env) ≡ (if is_out env.config f then Some NameOutOfTarget else None)
+ends_where_out p f env prints w = elim (cases_Bool (is_out env.config f)) [
+  | inl o ↦ prints.where_out w o nothing ∙ ap (λ b. cond b (Some NameOutOfTarget) None) (sym o)
+  | inr o ↦ printable p f env prints w o ∙ ap (λ b. cond b (Some NameOutOfTarget) None) (sym o)
+]
+
+-- so where it was made, all could
+pub follows_in_target : (p : Part) (f : Phrase) (a b : State) (r : Result (Unit {0}) Refusal) → Prints a.env p f → is_possible f ≡ true → Follows (p nothing) a b r → OnOk r (is_out a.env.config f ≡ false)
+unfolding Follows
+follows_in_target p f a b (Ok u) prints w h = made_not_out p f a.env prints w h.0
+follows_in_target p f a b (Err e) prints w h = tt
+
+-- and where a name was refused, some couldn't
+pub follows_out_of_target : (p : Part) (f : Phrase) (a b : State) → Prints a.env p f → is_possible f ≡ true → Follows (p nothing) a b (Err refusals.NameOutOfTarget) → is_out a.env.config f ≡ true
+unfolding HasCause
+follows_out_of_target p f a b prints w h =
+    let k = (follows_cause (p nothing) a b (Err refusals.NameOutOfTarget) h).refusal in
+    true_from_ne_false (is_out a.env.config f) (λ o. let z = sym k ∙ printable p f a.env prints w o in absurd (cc))
 
 -- and with room for as many levels as tokens it comes to no limit
-pub within : (p : Part) (f : Phrase) (a : State) → Prints a.env p f → is_possible f ≡ true → a.sheet.indentation + token_count f < 2 ^ 32 → PassesLimit (steps_of (p nothing a.env)) a → ⊥
+pub within : (p : Part) (f : Phrase) (a : State) → Prints a.env p f → is_possible f ≡ true → is_out a.env.config f ≡ false → a.sheet.indentation + token_count f < 2 ^ 32 → PassesLimit (steps_of (p nothing a.env)) a → ⊥
 unfolding nothing
-within p f a prints w room =
-    let h = prints.where_possible w in
+within p f a prints w o room =
+    let h = prints.where_possible w o in
     let same : steps_of (p nothing a.env) ≡ h.writes.steps = ap steps_of (h.writes.is_steps nothing) ∙ steps_of_chain h.writes.steps in
     let deep = h.writes.deep in
     let count = counted f h.tokens h.generated in
@@ -52,18 +69,18 @@ within p f a prints w room =
     stays_within (steps_of (p nothing a.env)) a (omega (arith, deep, count, few, room))
 
 -- nothing stands in the way of a plain tree
-plain_unhindered : (p : Part) (f : Phrase) (a b : State) → Prints a.env p f → IsPlainTree f a.sheet.indentation → IsReady a → b.sheet.faults ≡ a.sheet.faults → IsUnhindered (p nothing a.env) a b
+plain_unhindered : (p : Part) (f : Phrase) (a b : State) → Prints a.env p f → IsPlainTree a.env.config f a.sheet.indentation → IsReady a → b.sheet.faults ≡ a.sheet.faults → IsUnhindered (p nothing a.env) a b
 plain_unhindered p f a b prints t s e = record {
   fresh = or_from _ _ s.none_failed s.none_refused;
   no_fault = e;
   can_count = s.can_count;
   no_memory = or_from _ _ s.no_memory (printed_remakes p f a.env prints t.well_formed t.no_text_made);
-  within = within p f a prints t.well_formed t.has_room;
+  within = within p f a prints t.well_formed (plain_not_out a.env.config f t.no_text_made) t.has_room;
   near = λ far. true≢false (sym far.0 ∙ s.no_positions);
-  printable = printable p f a.env prints t.well_formed;
+  printable = printable p f a.env prints t.well_formed (plain_not_out a.env.config f t.no_text_made);
 }
 
-pub plain_made : (p : Part) (f : Phrase) (a b : State) (r : Result (Unit {0}) Refusal) → Prints a.env p f → IsPlainTree f a.sheet.indentation → IsReady a → b.sheet.faults ≡ a.sheet.faults → Follows (p nothing) a b r → IsOk r
+pub plain_made : (p : Part) (f : Phrase) (a b : State) (r : Result (Unit {0}) Refusal) → Prints a.env p f → IsPlainTree a.env.config f a.sheet.indentation → IsReady a → b.sheet.faults ≡ a.sheet.faults → Follows (p nothing) a b r → IsOk r
 plain_made p f a b r prints t s e h = follows_succeeds (p nothing) a b r h (plain_unhindered p f a b prints t s e)
 
 -- ---- what is left after it

@@ -1,5 +1,5 @@
 -- What is written of a number is what it reads as, under any settings.
-use Rattle.std.proofs.Common.{◌≡◌, ℕ, Bool, true, false, not, cond, ◌==◌, ◌&&◌, List, [], ◌∷◌, codes, nat_lt, ◌-◌, Option, Some, None, is_none, inl, inr, refl, sym, ap, ◌∙◌, subst, append-nil, string_bytes}
+use Rattle.std.proofs.Common.{◌≡◌, ℕ, Bool, true, false, not, cond, ◌==◌, ◌&&◌, List, [], ◌∷◌, ◌++◌, codes, nat_lt, ◌-◌, Option, Some, None, is_none, inl, inr, refl, sym, ap, ◌∙◌, subst, append-nil, string_bytes}
 use Rattle.std.specs.Str.{chars, is_utf8}
 use Rattle.std.specs.declared.string.String.{String}
 use Rattle.std.proofs.lemmas.Bool.{and_parts, cases_Bool, eqb-true, not-true, true≢false}
@@ -19,12 +19,13 @@ use Rattle.swc_ecma_codegen_ast.specs.DecimalValues.{exact_size}
 use Rattle.swc_ecma_codegen_ast.specs.LitPhrases as phrases
 use Rattle.swc_ecma_codegen_ast.specs.LitPhrases.{after_sign, characters, finite, is_compared, is_same_number, number_of, number_token, spells_size, without_raw}
 use Rattle.swc_ecma_codegen_ast.specs.Names.{is_name, name_rest, fits, name_value, name_characters}
-use Rattle.swc_ecma_codegen_ast.specs.Numbers.{is_number, takes_dot}
+use Rattle.swc_ecma_codegen_ast.specs.Numbers.{is_number, is_numeric, has_suffix, takes_dot}
 use Rattle.swc_ecma_codegen_ast.specs.NumberValues.{DecimalFraction, exact_value, numeric_value}
 use Rattle.swc_ecma_codegen_ast.specs.Phrases.{One, mark}
 use Rattle.swc_ecma_codegen_ast.specs.Tokens as lexical
 use Rattle.swc_ecma_codegen_ast.specs.Tokens.{Characters, Exactly, Value, has_shape, token_of, value_of}
 use Rattle.swc_ecma_codegen_text_writer.specs.Sheet.{StrLit}
+use Rattle.swc_ecma_codegen_literals.specs.AsciiNames.{is_ascii_text}
 use Rattle.swc_ecma_codegen_literals.specs.NumberTexts.{IsSignedSize, plain_part, plain_text, minified_part, minified_text, sign_text}
 use Rattle.swc_ecma_codegen_literals.proofs.NumberTokens.{plain_signed, minified_signed}
 use Rattle.swc_ecma_codegen_literals.proofs.SpelledTokens.{number_spells_without, size_spells}
@@ -33,9 +34,11 @@ use Rattle.swc_ecma_codegen_base.specs.Lits.{begun_in, between_dots, before_prop
 use Rattle.swc_ecma_codegen_base.specs.Literals as words
 use Rattle.swc_ecma_codegen_base.specs.Literals.{size_of}
 use Rattle.swc_ecma_codegen_base.specs.Run.{Env, Guard, Part, Remake, Token, spelling, step}
+use Rattle.swc_ecma_codegen_base.specs.Scripts.{is_str}
 use Rattle.swc_ecma_codegen_base.specs.Words.{leading_comments}
 use Rattle.swc_ecma_codegen_base.proofs.LitTexts.{IsRawOf, SignedToken, joined_raw, number_signed, signed_class, signed_size, signed_spelled, signed_tokens, signed_written, some_signed, with_dot}
 use Rattle.swc_ecma_codegen_base.proofs.LiteralParts.{literal_token, writes_dotted, writes_number, writes_number_name, writes_settled_begun}
+use Rattle.swc_ecma_codegen_base.proofs.NumeralTexts.{numeric_ascii, ascii_by_chars}
 use Rattle.swc_ecma_codegen_base.proofs.OwnDots.{dotted_begins}
 use Rattle.swc_ecma_codegen_base.proofs.Phrased.{Prints, after, prints_mark, prints_never, prints_one, prints_same, prints_where, then}
 use Rattle.swc_ecma_codegen_base.proofs.Printed.{Writes, writes_commit, writes_if, writes_leading, writes_nothing, writes_then}
@@ -88,6 +91,19 @@ size_raw size raw h =
     let q = and_parts (is_compared text) (is_same_number (exact_value (numeric_value text)) size) p.1 in
     record { utf8 = IsUtf8-string_bytes raw; spells = record { shape = p.0; value = ap Exactly (sizes_same (exact_value (numeric_value text)) size q.1) } }
 
+-- it is ASCII
+sign_text_ascii : (negative : Bool) (size : List ℕ) → is_ascii_text size ≡ true → is_ascii_text (sign_text negative ++ size) ≡ true
+unfolding sign_text
+sign_text_ascii true size a = a
+sign_text_ascii false size a = a
+
+signed_ascii : {value : Value} {negative : Bool} {t : List ℕ} → SignedToken Number value negative t → is_ascii_text t ≡ true
+unfolding has_shape spelling is_number
+signed_ascii {value} {negative} h =
+    let s = h.spelled in
+    subst (λ z. is_ascii_text z ≡ true) (sym h.parts)
+    (sign_text_ascii negative h.size (ascii_by_chars h.size s.utf8 (numeric_ascii (chars h.size) (and_parts (is_numeric (chars h.size)) (not (has_suffix (chars h.size))) s.shape).0)))
+
 -- ---- numbers that a literal spells
 
 -- the text of a number by its value and its raw
@@ -135,7 +151,7 @@ spelled_case env p each NaN None e = absurd (true≢false e)
 spelled_case env p each NaN (Some raw) e = prints_never
 
 writes_number_text : (env : Env) (value : Value) (negative : Bool) (t : List ℕ) → SignedToken Number value negative t → Writes env (words.number t) (signed_tokens Number value negative)
-writes_number_text env value negative t h = subst (λ z. Writes env (words.number t) z) (signed_written h) (writes_number env t (signed_spelled h) (some_signed h))
+writes_number_text env value negative t h = subst (λ z. Writes env (words.number t) z) (signed_written h) (writes_number env t (signed_spelled h) (some_signed h) (signed_ascii h))
 
 writes_number_by : (env : Env) (in_lit : Bool) (span : Span) (value : Value) (negative : Bool) (t : List ℕ) → SignedToken Number value negative t → Writes env (number_by in_lit span t) (signed_tokens Number value negative)
 unfolding number_by
@@ -144,20 +160,20 @@ writes_number_by env in_lit span value negative t h =
     (writes_then env (words.settled_begun span t) (words.number t) [] (signed_tokens Number value negative) (writes_settled_begun env span t) (writes_number_text env value negative t h))
 
 prints_spelled : (env : Env) (in_lit : Bool) (n : trees.Number) → (is_none n.raw && not (is_finite n.value)) ≡ false → Prints env (spelled_number in_lit n) (phrases.number n)
-unfolding spelled_number number_text prints_number_raw written_text phrases.number is_spelled_anew
+unfolding spelled_number number_text prints_number_raw written_text phrases.number is_spelled_anew is_str
 prints_spelled env in_lit n e =
     let due : Bool = makes_number env.config n in
     let p : List ℕ → Part = λ t rest. step (Remake due) (number_by in_lit n.span t rest) in
     prints_same (spelled_number in_lit n) (p (number_text env.config n)) (λ rest. refl)
-    (spelled_case env p (λ value negative t h. prints_signed Number value negative refl (makes_remade due (writes_number_by env in_lit n.span value negative t h))) n.value n.raw e)
+    (spelled_case env p (λ value negative t h. prints_signed Number value negative refl refl (makes_remade due (writes_number_by env in_lit n.span value negative t h))) n.value n.raw e)
 
 -- ---- numbers that are names
 
-prints_number_name : (env : Env) (span : Span) (t : List ℕ) → Spelled Name t → name_value (chars t) ≡ t → Prints env (words.number_name span t) (One (lexical.name t))
-unfolding lexical.name token_of value_of spelling
-prints_number_name env span t p e =
+prints_number_name : (env : Env) (span : Span) (t : List ℕ) → Spelled Name t → is_ascii_text t ≡ true → name_value (chars t) ≡ t → Prints env (words.number_name span t) (One (lexical.name t))
+unfolding lexical.name token_of value_of spelling is_str
+prints_number_name env span t p a e =
     let f : List ℕ → lexical.Token = λ z. record { kind = Name; value = Characters z } in
-    prints_one env (words.number_name span t) (lexical.name t) (subst (λ z. Writes env (words.number_name span t) (z ∷ [])) (ap f e) (writes_number_name env span t p))
+    prints_one env (words.number_name span t) (lexical.name t) (subst (λ z. Writes env (words.number_name span t) (z ∷ [])) (ap f e) (writes_number_name env span t p a)) refl
 
 infinity_spelled : Spelled Name (codes "Infinity")
 unfolding is_name name_rest fits is_start is_part is_letter is_digit chars is_utf8 lib.Utf8.encode
@@ -176,12 +192,12 @@ unfolding name_value name_characters chars lib.Utf8.encode
 nan_name = refl
 
 prints_minus : (env : Env) (span : Span) → Prints env (λ rest. step (Guard (codes "-")) (step (Token Punctuator (StrLit span (codes "-"))) rest)) (mark (codes "-"))
-prints_minus env span = prints_mark env _ (codes "-") (literal_token env Punctuator span (codes "-") minus_is_mark)
+prints_minus env span = prints_mark env _ (codes "-") (literal_token env Punctuator span (codes "-") minus_is_mark refl)
 
 prints_signed_name : (env : Env) (negative : Bool) (span : Span) → Prints env (λ rest. words.sign negative span (words.number_name span (codes "Infinity") rest)) (after_sign negative (One (lexical.name (codes "Infinity"))))
 unfolding words.sign after_sign
-prints_signed_name env true span = then (prints_minus env span) (prints_number_name env span (codes "Infinity") infinity_spelled infinity_name)
-prints_signed_name env false span = prints_number_name env span (codes "Infinity") infinity_spelled infinity_name
+prints_signed_name env true span = then (prints_minus env span) (prints_number_name env span (codes "Infinity") infinity_spelled refl infinity_name)
+prints_signed_name env false span = prints_number_name env span (codes "Infinity") infinity_spelled refl infinity_name
 
 prints_infinity : (env : Env) (in_lit negative : Bool) (span : Span) → Prints env (infinity in_lit negative span) (after_sign negative (One (lexical.name (codes "Infinity"))))
 unfolding infinity
@@ -191,7 +207,7 @@ prints_infinity env in_lit negative span =
 prints_nan : (env : Env) (in_lit : Bool) (span : Span) → Prints env (not_a_number in_lit span) (One (lexical.name (codes "NaN")))
 unfolding not_a_number
 prints_nan env in_lit span =
-    after (writes_begun_in env in_lit span (codes "NaN")) (after (writes_settled_begun env span (codes "NaN")) (prints_number_name env dummy_span (codes "NaN") nan_spelled nan_name))
+    after (writes_begun_in env in_lit span (codes "NaN")) (after (writes_settled_begun env span (codes "NaN")) (prints_number_name env dummy_span (codes "NaN") nan_spelled refl nan_name))
 
 prints_named : {Z : Type 0} (env : Env) (in_lit : Bool) (span : Span) (v : NumberValue) (r : Option (String Z)) → (is_none r && not (is_finite v)) ≡ true → Prints env (named_number in_lit span v) (number_of v r)
 unfolding named_number is_finite number_of phrases.infinity without_raw after_sign
@@ -226,7 +242,7 @@ property_case true env pos value negative t h e =
     let takes : takes_dot (chars h.size) ≡ true = sym (ap (λ z. takes_dot (chars z)) (signed_size h)) ∙ e in
     let k = with_dot value negative t h takes in
     let own : Writes env (words.dotted_number t) ts =
-    subst (λ z. Writes env (words.dotted_number t) z) (signed_written k) (writes_dotted env t (signed_spelled k) (signed_class h (codes ".") (dotted_begins (chars h.size) takes)) (some_signed h)) in
+    subst (λ z. Writes env (words.dotted_number t) z) (signed_written k) (writes_dotted env t (signed_spelled k) (signed_class h (codes ".") (dotted_begins (chars h.size) takes)) (some_signed h) (signed_ascii h)) in
     subst (λ z. Writes env (λ rest. words.dotted_number t (between_dots pos rest)) z) (append-nil ts) (writes_then env (words.dotted_number t) (between_dots pos) ts [] own (writes_between_dots env pos))
 property_case false env pos value negative t h e = writes_number_text env value negative t h
 
@@ -237,12 +253,12 @@ writes_object_by env span pos value negative t h =
     (property_case (takes_dot (chars (size_of t))) env pos value negative t h refl)
 
 prints_spelled_object : (env : Env) (n : trees.Number) (pos : BytePos) → (is_none n.raw && not (is_finite n.value)) ≡ false → Prints env (spelled_object n pos) (phrases.number n)
-unfolding spelled_object number_text prints_number_raw written_text phrases.number is_spelled_anew
+unfolding spelled_object number_text prints_number_raw written_text phrases.number is_spelled_anew is_str
 prints_spelled_object env n pos e =
     let due : Bool = makes_number env.config n in
     let p : List ℕ → Part = λ t rest. step (Remake due) (object_by n.span pos t rest) in
     prints_same (spelled_object n pos) (p (number_text env.config n)) (λ rest. refl)
-    (spelled_case env p (λ value negative t h. prints_signed Number value negative refl (makes_remade due (writes_object_by env n.span pos value negative t h))) n.value n.raw e)
+    (spelled_case env p (λ value negative t h. prints_signed Number value negative refl refl (makes_remade due (writes_object_by env n.span pos value negative t h))) n.value n.raw e)
 
 -- with its own dot where the next one would be read into it, it is the same number
 pub prints_number_object : (env : Env) (n : trees.Number) (pos : BytePos) → Prints env (number_object n pos) (phrases.number n)

@@ -1,7 +1,7 @@
 -- What each word writes is one of the token lists of a phrase.
-use Rattle.std.proofs.Common.{◌≡◌, ◌≢◌, ℕ, Bool, true, false, cond, List, [], ◌∷◌, ◌++◌, ◌||◌, ◌==◌, codes, refl, sym, ap, ◌∙◌, subst, append-nil, inl, inr, Option, Result, Ok, Err, OnOk, IfErr}
+use Rattle.std.proofs.Common.{◌≡◌, ◌≢◌, ℕ, Bool, true, false, cond, List, [], ◌∷◌, ◌++◌, ◌||◌, ◌==◌, codes, refl, sym, ap, ◌∙◌, subst, append-nil, inl, inr, Option, Some, None, Result, Ok, Err, OnOk, IfErr}
 use Rattle.std.specs.Str.{chars, is_utf8}
-use Rattle.std.proofs.lemmas.Bool.{and_parts, or_from, false_from_ne_true, true≢false}
+use Rattle.std.proofs.lemmas.Bool.{and_parts, or_from, or_parts, false_from_ne_true, true≢false}
 use Rattle.swc_ecma_codegen_common.specs.declared.errors.Error.{Error}
 use Rattle.swc_ecma_codegen_common.specs.declared.errors.Error.TheVariants as errors
 use Rattle.swc_ecma_codegen_common.specs.declared.errors.Refusal.{Refusal}
@@ -30,18 +30,28 @@ use Rattle.swc_ecma_codegen_ast.specs.SpelledNames as names
 use Rattle.swc_ecma_codegen_ast.specs.SpelledNames.{is_well_formed_name}
 use Rattle.swc_ecma_codegen_ast.specs.ValidNames.{turned}
 use Rattle.swc_ecma_codegen_ast.proofs.Reading.{reads}
-use Rattle.swc_ecma_codegen_base.specs.Run.{Env, Plan, Part, State, Step, Guard, Token, Plain, Remake, Steps, done, step, steps_of, run, nothing, spelling, Follows, HasCause, has_backslash, makes_text}
+use Rattle.swc_ecma_codegen_util.specs.declared.config.Config.{Config}
+use Rattle.swc_ecma_codegen_literals.specs.AsciiNames.{is_ascii_text}
+use Rattle.swc_ecma_codegen_literals.proofs.NameTexts.{ascii_chars}
+use Rattle.swc_ecma_codegen_literals.proofs.SpelledTexts.{ascii_from_all}
+use Rattle.swc_ecma_codegen_base.specs.declared.refusals.Unprintable.TheVariants.{NameOutOfTarget}
+use Rattle.swc_ecma_codegen_base.specs.Run.{Env, Plan, Part, State, Step, Guard, Token, Plain, Remake, Steps, done, step, steps_of, unprintable_in, refuse, run, nothing, spelling, Follows, HasCause, has_backslash, makes_text}
+use Rattle.swc_ecma_codegen_base.specs.Targets.{wants_escapes, is_out_name, written_name, is_out}
 use Rattle.swc_ecma_codegen_base.specs.Words.{keyword, operator, word_operator, punct, semi, commit_pending_semi, position, symbol, valid_symbol, name_text, question, name}
 use Rattle.swc_ecma_codegen_base.specs.Written.{AtRest, is_free, holds_one, IsNew, ReadsAs, AddsText, AddsReading, IsWord, IsMark}
 use Rattle.swc_ecma_codegen_base.specs.Escapes.{may_make_text}
 use Rattle.swc_ecma_codegen_base.specs.Named.{RecordsNames}
+use Rattle.swc_ecma_codegen_base.specs.Scripts.{is_str, strings_after, AreSafe}
 use Rattle.swc_ecma_codegen_base.proofs.Fronts.{follows_cause, run_append, run_sheet}
+use Rattle.swc_ecma_codegen_base.proofs.Hands.{has_string, holds_string}
 use Rattle.swc_ecma_codegen_base.proofs.Held.{front}
 use Rattle.swc_ecma_codegen_base.proofs.Indented.{blanks}
-use Rattle.swc_ecma_codegen_base.proofs.Spelled.{valid_same}
-use Rattle.swc_ecma_codegen_base.proofs.Positions.{Named, named_none, named_then, named_records, name_named, name_steps, run_records}
+use Rattle.swc_ecma_codegen_base.proofs.Spelled.{valid_same, spelled_same, out_same}
+use Rattle.swc_ecma_codegen_base.proofs.Positions.{Named, named_none, named_then, named_records, name_named, name_steps, name_call, run_records}
+use Rattle.swc_ecma_codegen_base.proofs.ValueStrings.{none_by_value, steps_safe}
+use Rattle.swc_ecma_codegen_base.proofs.Targets.{Names, names_in_ascii, plain_not_out}
 use Rattle.swc_ecma_codegen_base.proofs.Written.{Lays, held, held_of, tokens_append, Spelled, spelled_word, spelled_name, spelled_mark}
-use Rattle.swc_ecma_codegen_base.proofs.Printed.{chain, Makes, Writes, writes_whatever, writes_then, writes_same, writes_nothing, writes_keyword, writes_operator, writes_word_operator, writes_punct, writes_semi, writes_commit, writes_leading, writes_name_text}
+use Rattle.swc_ecma_codegen_base.proofs.Printed.{chain, or_false, Makes, Writes, writes_whatever, writes_then, writes_same, writes_nothing, writes_keyword, writes_operator, writes_word_operator, writes_punct, writes_semi, writes_commit, writes_leading, writes_name_text}
 
 -- ---- the steps of a part
 
@@ -64,81 +74,130 @@ steps_then {env} h q =
 
 -- Where positions are kept, the steps of a part write these names, and record the position of each where it begins.
 unfoldable pub NamedBy : Env → Part → List (BytePos × List ℕ) → Type 0
-NamedBy env p names = (s : State) → s.sheet.keeps_positions ≡ true → Named names s.sheet (run (steps_of (p nothing env)) s).sheet
+NamedBy env p names = (s : State) → s.sheet.keeps_positions ≡ true → Named env.config names s.sheet (run (steps_of (p nothing env)) s).sheet
 
 pub no_names : (env : Env) (p : Part) → NamedBy env p []
 unfolding NamedBy
-no_names env p s k = named_none s.sheet _ (run_records (steps_of (p nothing env)) s)
+no_names env p s k = named_none env.config s.sheet _ (run_records (steps_of (p nothing env)) s)
 
 names_then : {env : Env} {p : Part} {ts : List lexical.Token} {b : Bool} (q : Part) (xs ys : List (BytePos × List ℕ)) → Makes env p ts b → NamedBy env p xs → NamedBy env q ys → NamedBy env (λ rest. p (q rest)) (xs ++ ys)
 unfolding NamedBy
 names_then {env} {p} q xs ys m h k s keeps =
     let here = steps_of (p nothing env) in
     let there = steps_of (q nothing env) in
-    let P : List Step → Type 0 = λ z. Named (xs ++ ys) s.sheet (run z s).sheet in
-    let Q : State → Type 0 = λ z. Named (xs ++ ys) s.sheet z.sheet in
+    let P : List Step → Type 0 = λ z. Named env.config (xs ++ ys) s.sheet (run z s).sheet in
+    let Q : State → Type 0 = λ z. Named env.config (xs ++ ys) s.sheet z.sheet in
     subst P (sym (steps_then m q)) (subst Q (sym (run_append here there s))
-    (named_then xs ys s.sheet (run here s).sheet (run there (run here s)).sheet (h s keeps) (k (run here s) (run_sheet (λ z. z.keeps_positions) effect_keeps_positions here s ∙ keeps))))
+    (named_then env.config xs ys s.sheet (run here s).sheet (run there (run here s)).sheet (h s keeps) (k (run here s) (run_sheet (λ z. z.keeps_positions) effect_keeps_positions here s ∙ keeps))))
+
+-- Under `inline_script` the strings of a part that are printed by their value are safe, whatever was before it.
+unfoldable pub IsSafe : Env → Part → Type 0
+IsSafe env p = env.config.inline_script ≡ true → (anew : Bool) → AreSafe (strings_after anew (steps_of (p nothing env)))
+
+-- a part without strings
+pub no_strings : {env : Env} {p : Part} {ts : List lexical.Token} {b : Bool} → Makes env p ts b → holds_string ts ≡ false → IsSafe env p
+unfolding IsSafe AreSafe nothing
+no_strings {env} {p} {ts} h none e anew =
+    let same : steps_of (p nothing env) ≡ h.steps = ap steps_of (h.is_steps nothing) ∙ steps_of_chain h.steps in
+    let no : has_string h.steps ≡ false = false_from_ne_true (has_string h.steps) (λ s. true≢false (sym (h.hands.strings s) ∙ none)) in
+    subst AreSafe (sym (ap (strings_after anew) same ∙ none_by_value anew h.steps no)) tt
+
+safe_then : {env : Env} {p : Part} {ts : List lexical.Token} {b : Bool} (q : Part) → Makes env p ts b → IsSafe env p → IsSafe env q → IsSafe env (λ rest. p (q rest))
+unfolding IsSafe
+safe_then {env} {p} q m h k e anew =
+    let here = steps_of (p nothing env) in
+    let there = steps_of (q nothing env) in
+    subst (λ z. AreSafe (strings_after anew z)) (sym (steps_then m q)) (steps_safe here there (h e) (k e) anew)
 
 -- A part writes a token list of a phrase, whatever comes after it, and makes no name anew but those of the phrase.
 pub record Printed (env : Env) (part : Part) (phrase : Phrase) : Type 0 where
   pub tokens : List lexical.Token
   pub generated : Generates phrase tokens
-  pub writes : Makes env part tokens (may_make_text phrase)
+  pub writes : Makes env part tokens (may_make_text env.config phrase)
   pub named : NamedBy env part (names_in phrase)
+  pub safe : IsSafe env part
 
--- It does so where the phrase is possible.
+-- It does so where the phrase is possible and all its names can be written; else it ends where one can't be, whatever
+-- comes after it.
 pub record Prints (env : Env) (part : Part) (phrase : Phrase) : Type 0 where
-  pub where_possible : is_possible phrase ≡ true → Printed env part phrase
+  pub where_possible : is_possible phrase ≡ true → is_out env.config phrase ≡ false → Printed env part phrase
+  pub where_out : is_possible phrase ≡ true → is_out env.config phrase ≡ true → (rest : Plan) → unprintable_in (part rest env) ≡ Some NameOutOfTarget
+
+-- a part that writes tokens goes on to what comes after it
+more_unprintable : (xs : List Step) (rest : Steps) → unprintable_in (chain xs rest) ≡ unprintable_in rest
+unfolding unprintable_in chain
+more_unprintable [] rest = refl
+more_unprintable (x ∷ xs) rest = more_unprintable xs rest
+
+pub goes_on : {env : Env} {p : Part} {ts : List lexical.Token} {b : Bool} → Makes env p ts b → (rest : Plan) → unprintable_in (p rest env) ≡ unprintable_in (rest env)
+goes_on {env} h rest = ap unprintable_in (h.is_steps rest) ∙ more_unprintable h.steps (rest env)
+
+-- one of two is out: the first, or else the second
+out_of_two : {P : Type 0} (a b : Bool) → (a || b) ≡ true → (a ≡ true → P) → (a ≡ false → b ≡ true → P) → P
+out_of_two true b h f g = f refl
+out_of_two false b h f g = g refl h
 
 -- one part after the other
 pub then : {env : Env} {p q : Part} {f g : Phrase} → Prints env p f → Prints env q g → Prints env (λ rest. p (q rest)) (Then f g)
-unfolding Generates is_possible may_make_text names_in
+unfolding Generates is_possible is_out may_make_text names_in
 then {env} {p} {q} {f} {g} h k = record {
-  where_possible = λ w.
+  where_possible = λ w o.
       let both = and_parts (is_possible f) (is_possible g) w in
-      let a = h.where_possible both.0 in
-      let b = k.where_possible both.1 in
+      let none = or_parts (is_out env.config f) (is_out env.config g) o in
+      let a = h.where_possible both.0 none.0 in
+      let b = k.where_possible both.1 none.1 in
       record {
         tokens = a.tokens ++ b.tokens;
         generated = (a.tokens, b.tokens, a.generated, b.generated, refl);
         writes = writes_then env p q a.tokens b.tokens a.writes b.writes;
         named = names_then q (names_in f) (names_in g) a.writes a.named b.named;
+        safe = safe_then q a.writes a.safe b.safe;
       };
+  where_out = λ w o rest.
+      let both = and_parts (is_possible f) (is_possible g) w in
+      out_of_two (is_out env.config f) (is_out env.config g) o (λ e. h.where_out both.0 e (q rest)) (λ n e. goes_on (h.where_possible both.0 n).writes (q rest) ∙ k.where_out both.1 e rest);
 }
 
 -- a part before or after one that writes no token
 pub after : {env : Env} {q p : Part} {f : Phrase} → Writes env q [] → Prints env p f → Prints env (λ rest. q (p rest)) f
+unfolding holds_string
 after {env} {q} {p} {f} k h = record {
-  where_possible = λ w.
-      let a = h.where_possible w in
-      record { tokens = a.tokens; generated = a.generated; writes = writes_then env q p [] a.tokens k a.writes; named = names_then p [] (names_in f) k (no_names env q) a.named };
-}
-
-pub or_false : (b : Bool) → (b || false) ≡ b
-or_false true = refl
-or_false false = refl
-
-pub before : {env : Env} {p q : Part} {f : Phrase} → Prints env p f → Writes env q [] → Prints env (λ rest. p (q rest)) f
-before {env} {p} {q} {f} h k = record {
-  where_possible = λ w.
-      let a = h.where_possible w in
+  where_possible = λ w o.
+      let a = h.where_possible w o in
       record {
         tokens = a.tokens;
         generated = a.generated;
-        writes = subst (λ z. Makes env (λ rest. p (q rest)) a.tokens z) (or_false (may_make_text f)) (subst (λ z. Makes env (λ rest. p (q rest)) z (may_make_text f || false)) (append-nil a.tokens) (writes_then env p q a.tokens [] a.writes k));
-        named = subst (λ z. NamedBy env (λ rest. p (q rest)) z) (append-nil (names_in f)) (names_then q (names_in f) [] a.writes a.named (no_names env q));
+        writes = writes_then env q p [] a.tokens k a.writes;
+        named = names_then p [] (names_in f) k (no_names env q) a.named;
+        safe = safe_then p k (no_strings k refl) a.safe;
       };
+  where_out = λ w o rest. goes_on k (p rest) ∙ h.where_out w o rest;
+}
+
+pub before : {env : Env} {p q : Part} {f : Phrase} → Prints env p f → Writes env q [] → Prints env (λ rest. p (q rest)) f
+unfolding holds_string
+before {env} {p} {q} {f} h k = record {
+  where_possible = λ w o.
+      let a = h.where_possible w o in
+      let made : Bool = may_make_text env.config f in
+      record {
+        tokens = a.tokens;
+        generated = a.generated;
+        writes = subst (λ z. Makes env (λ rest. p (q rest)) a.tokens z) (or_false made) (subst (λ z. Makes env (λ rest. p (q rest)) z (made || false)) (append-nil a.tokens) (writes_then env p q a.tokens [] a.writes k));
+        named = subst (λ z. NamedBy env (λ rest. p (q rest)) z) (append-nil (names_in f)) (names_then q (names_in f) [] a.writes a.named (no_names env q));
+        safe = safe_then q a.writes a.safe (no_strings k refl);
+      };
+  where_out = λ w o rest. h.where_out w o (q rest);
 }
 
 pub prints_nothing : {env : Env} → Prints env (λ rest. rest) Nothing
-unfolding Generates may_make_text names_in
-prints_nothing {env} = record { where_possible = λ w. record { tokens = []; generated = refl; writes = writes_nothing env; named = no_names env (λ rest. rest) } }
+unfolding Generates is_out may_make_text names_in holds_string
+prints_nothing {env} = record { where_possible = λ w o. record { tokens = []; generated = refl; writes = writes_nothing env; named = no_names env (λ rest. rest); safe = no_strings (writes_nothing env) refl }; where_out = λ w o. absurd (true≢false (sym o)) }
 
 -- what is Never has no list
 pub prints_never : {env : Env} {p : Part} → Prints env p Never
 unfolding is_possible
-prints_never = record { where_possible = λ w. absurd (true≢false (sym w)) }
+prints_never = record { where_possible = λ w. absurd (true≢false (sym w)); where_out = λ w. absurd (true≢false (sym w)) }
 
 -- a phrase on a condition
 pub prints_where : {env : Env} {p : Part} {f : Phrase} (b : Bool) → (b ≡ true → Prints env p f) → Prints env p (where_ b f)
@@ -148,97 +207,119 @@ prints_where false h = prints_never
 
 -- a part that is written as another is
 pub prints_same : {env : Env} {f : Phrase} (p q : Part) → ((rest : Plan) → p rest env ≡ q rest env) → Prints env q f → Prints env p f
-unfolding NamedBy
+unfolding NamedBy IsSafe
 prints_same {env} {f} p q e h = record {
-  where_possible = λ w.
-      let a = h.where_possible w in
+  where_possible = λ w o.
+      let a = h.where_possible w o in
       record {
         tokens = a.tokens;
         generated = a.generated;
         writes = writes_same env p q a.tokens e a.writes;
-        named = λ s k. let P : Steps → Type 0 = λ z. Named (names_in f) s.sheet (run (steps_of z) s).sheet in subst P (sym (e nothing)) (a.named s k);
+        named = λ s k. let P : Steps → Type 0 = λ z. Named env.config (names_in f) s.sheet (run (steps_of z) s).sheet in subst P (sym (e nothing)) (a.named s k);
+        safe = λ i anew. subst (λ z. AreSafe (strings_after anew (steps_of z))) (sym (e nothing)) (a.safe i anew);
       };
+  where_out = λ w o rest. ap unprintable_in (e rest) ∙ h.where_out w o rest;
 }
 
 -- a token, whose text may be made anew where it is a literal
-pub prints_made : (env : Env) (p : Part) (x : lexical.Token) → Makes env p (x ∷ []) (may_make_text (One x)) → Prints env p (One x)
-unfolding Generates names_in
-prints_made env p x h = record { where_possible = λ w. record { tokens = x ∷ []; generated = refl; writes = h; named = no_names env p } }
+pub prints_made : (env : Env) (p : Part) (x : lexical.Token) → Makes env p (x ∷ []) (may_make_text env.config (One x)) → IsSafe env p → Prints env p (One x)
+unfolding Generates is_out names_in
+prints_made env p x h safe = record { where_possible = λ w o. record { tokens = x ∷ []; generated = refl; writes = h; named = no_names env p; safe = safe }; where_out = λ w o. absurd (true≢false (sym o)) }
 
-pub prints_one : (env : Env) (p : Part) (x : lexical.Token) → Writes env p (x ∷ []) → Prints env p (One x)
+-- one that is no string
+pub no_string : {env : Env} {p : Part} {x : lexical.Token} {b : Bool} → Makes env p (x ∷ []) b → is_str x.kind ≡ false → IsSafe env p
+unfolding holds_string
+no_string {env} {p} {x} h none = no_strings h (or_from (is_str x.kind) false none refl)
+
+pub prints_one : (env : Env) (p : Part) (x : lexical.Token) → Writes env p (x ∷ []) → is_str x.kind ≡ false → Prints env p (One x)
 unfolding Generates may_make_text names_in
-prints_one env p x h = prints_made env p x (writes_whatever (may_make_text (One x)) h)
+prints_one env p x h none = prints_made env p x (writes_whatever (may_make_text env.config (One x)) h) (no_string h none)
 
 -- ---- words and punctuators, which are ASCII
 
+ascii_same : (t : List ℕ) → is_ascii_text t ≡ true → chars t ≡ t
+ascii_same t a = (ascii_chars t (ascii_from_all t a)).0
+
 word_spelled : (t : List ℕ) → IsWord t → Spelled Word t
-word_spelled t w = spelled_word t w.utf8 (ap is_word w.ascii ∙ w.shape)
+word_spelled t w = spelled_word t w.utf8 (ap is_word (ascii_same t w.ascii) ∙ w.shape)
 
 mark_spelled : (t : List ℕ) → IsMark t → Spelled Punctuator t
-mark_spelled t w = spelled_mark t w.utf8 w.ascii w.shape
+mark_spelled t w = spelled_mark t w.utf8 (ascii_same t w.ascii) w.shape
 
 prints_word : (env : Env) (p : Part) (t : List ℕ) → IsWord t → Writes env p (token_of Word (spelling Word t) ∷ []) → Prints env p (phrases.word t)
-unfolding token_of value_of spelling lexical.word
-prints_word env p t w h = subst (λ z. Prints env p (phrases.word z)) w.ascii (prints_one env p _ h)
+unfolding token_of value_of spelling lexical.word is_str
+prints_word env p t w h = subst (λ z. Prints env p (phrases.word z)) (ascii_same t w.ascii) (prints_one env p _ h refl)
 
 pub prints_mark : (env : Env) (p : Part) (t : List ℕ) → Writes env p (token_of Punctuator (spelling Punctuator t) ∷ []) → Prints env p (mark t)
-unfolding token_of value_of spelling lexical.punctuator
-prints_mark env p t h = prints_one env p _ h
+unfolding token_of value_of spelling lexical.punctuator is_str
+prints_mark env p t h = prints_one env p _ h refl
 
 pub prints_keyword : (env : Env) (span : Option Span) (t : List ℕ) → IsWord t → Prints env (keyword span t) (phrases.word t)
-prints_keyword env span t w = prints_word env (keyword span t) t w (writes_keyword env span t (word_spelled t w))
+prints_keyword env span t w = prints_word env (keyword span t) t w (writes_keyword env span t (word_spelled t w) w.ascii)
 
 pub prints_word_operator : (env : Env) (t : List ℕ) → IsWord t → Prints env (word_operator t) (phrases.word t)
-prints_word_operator env t w = prints_word env (word_operator t) t w (writes_word_operator env t (word_spelled t w))
+prints_word_operator env t w = prints_word env (word_operator t) t w (writes_word_operator env t (word_spelled t w) w.ascii)
 
 pub prints_operator : (env : Env) (t : List ℕ) → IsMark t → Prints env (operator t) (mark t)
-prints_operator env t w = prints_mark env (operator t) t (writes_operator env t (mark_spelled t w))
+prints_operator env t w = prints_mark env (operator t) t (writes_operator env t (mark_spelled t w) w.ascii)
 
 pub prints_punct : (env : Env) (t : List ℕ) → IsMark t → Prints env (punct t) (mark t)
-prints_punct env t w = prints_mark env (punct t) t (writes_punct env t (mark_spelled t w))
+prints_punct env t w = prints_mark env (punct t) t (writes_punct env t (mark_spelled t w) w.ascii)
 
 question_is_mark : IsMark (codes "?")
 unfolding is_punctuator is_among is_same punctuators chars is_utf8 lib.Utf8.encode
 question_is_mark = record { utf8 = refl; ascii = refl; shape = refl }
 
 pub prints_semi : (env : Env) → Prints env semi phrases.ending
-unfolding token_of value_of spelling lexical.ending
-prints_semi env = prints_one env semi _ (writes_semi env)
+unfolding token_of value_of spelling lexical.ending is_str
+prints_semi env = prints_one env semi _ (writes_semi env) refl
 
 -- ---- names
 
-name_spelled : (bytes : List ℕ) → is_well_formed_name bytes ≡ true → Spelled Name (turned bytes)
-unfolding is_well_formed_name names.spelled_name
-name_spelled bytes w = let p = and_parts (is_utf8 (turned bytes)) (is_name (chars (turned bytes))) w in spelled_name (turned bytes) p.0 p.1
+name_written : (config : Config) (bytes : List ℕ) → is_well_formed_name bytes ≡ true → is_out_name config (turned bytes) ≡ false → Names config (turned bytes) (written_name config bytes)
+unfolding is_well_formed_name names.spelled_name written_name
+name_written config bytes w o = let p = and_parts (is_utf8 (turned bytes)) (is_name (chars (turned bytes))) w in names_in_ascii config (turned bytes) p.0 p.1 o
 
 -- a semicolon that is held back is written, and then the text of a name
 settled_name : Span → List ℕ → Part
 settled_name span bytes rest = commit_pending_semi (name_text span bytes rest)
 
-symbol_steps : (env : Env) (span : Span) (bytes : List ℕ) → env.keeps_invalid ≡ false → steps_of (settled_name span bytes nothing env) ≡ name_steps (span.lo.0 == 0) span.lo bytes
-unfolding settled_name name_steps commit_pending_semi valid_symbol symbol position step steps_of nothing
-symbol_steps env span bytes e =
-    let x : Step = Token Name (Symbol dummy_span (turned bytes)) in
-    ap (λ z. Plain Commit ∷ steps_of z) (valid_same span bytes nothing env e) ∙ ap (λ z. Plain Commit ∷ Remake (has_backslash bytes) ∷ Guard (turned bytes) ∷ z)
-    (elim (span.lo.0 == 0) as (λ b. steps_of ((cond b (step x nothing) (step (Plain (Position span.lo)) (step x nothing))) env) ≡ cond b (x ∷ []) (Plain (Position span.lo) ∷ x ∷ [])) [ true ↦ refl | false ↦ refl ])
+symbol_steps : (env : Env) (span : Span) (bytes : List ℕ) → env.keeps_invalid ≡ false → is_out_name env.config (turned bytes) ≡ false → steps_of (settled_name span bytes nothing env) ≡ name_steps env.config (span.lo.0 == 0) span.lo bytes
+unfolding settled_name name_steps name_call written_name commit_pending_semi valid_symbol symbol position step steps_of nothing
+symbol_steps env span bytes e o =
+    let t : List ℕ = written_name env.config bytes in
+    let x : Step = Token Name (Symbol dummy_span t) in
+    ap (λ z. Plain Commit ∷ steps_of z) (valid_same span bytes nothing env e)
+    ∙ ap (λ z. Plain Commit ∷ Remake (has_backslash bytes) ∷ steps_of z) (spelled_same span (turned bytes) nothing env o)
+    ∙ ap (λ z. Plain Commit ∷ Remake (has_backslash bytes) ∷ Remake (wants_escapes env.config (turned bytes)) ∷ Guard t ∷ z)
+    (elim (span.lo.0 == 0) as (λ b. steps_of ((cond b (step x nothing) (step (Plain (Position span.lo)) (step x nothing))) env) ≡ name_call b span.lo t) [ true ↦ refl | false ↦ refl ])
 
-names_here : (env : Env) (span : Span) (bytes : List ℕ) → env.keeps_invalid ≡ false → (turned bytes ≡ [] → ⊥) → NamedBy env (settled_name span bytes) ((span.lo, bytes) ∷ [])
+names_here : (env : Env) (span : Span) (bytes : List ℕ) → env.keeps_invalid ≡ false → is_out_name env.config (turned bytes) ≡ false → (written_name env.config bytes ≡ [] → ⊥) → NamedBy env (settled_name span bytes) ((span.lo, bytes) ∷ [])
 unfolding NamedBy
-names_here env span bytes e some s k =
-    let P : List Step → Type 0 = λ z. Named ((span.lo, bytes) ∷ []) s.sheet (run z s).sheet in
-    subst P (sym (symbol_steps env span bytes e)) (name_named (span.lo.0 == 0) span.lo bytes s refl some k)
+names_here env span bytes e o some s k =
+    let P : List Step → Type 0 = λ z. Named env.config ((span.lo, bytes) ∷ []) s.sheet (run z s).sheet in
+    subst P (sym (symbol_steps env span bytes e o)) (name_named env.config (span.lo.0 == 0) span.lo bytes s refl some k)
+
+-- a name that can't be written ends it
+name_out : (env : Env) (span : Span) (bytes : List ℕ) (rest : Plan) → env.keeps_invalid ≡ false → is_out_name env.config (turned bytes) ≡ true → unprintable_in (settled_name span bytes rest env) ≡ Some NameOutOfTarget
+unfolding settled_name commit_pending_semi valid_symbol step refuse unprintable_in
+name_out env span bytes rest e o = ap unprintable_in (valid_same span bytes rest env e) ∙ ap unprintable_in (out_same span (turned bytes) rest env o)
 
 prints_settled_name : (env : Env) (span : Span) (bytes : List ℕ) → env.keeps_invalid ≡ false → Prints env (settled_name span bytes) (NameOf span.lo bytes)
-unfolding settled_name token_of value_of spelling lexical.name names.spelled_name Generates is_possible may_make_text names_in
+unfolding settled_name token_of value_of spelling lexical.name names.spelled_name Generates is_possible is_out may_make_text names_in is_str
 prints_settled_name env span bytes e = record {
-  where_possible = λ w.
-      let spelled = name_spelled bytes w in
+  where_possible = λ w o.
+      let h = name_written env.config bytes w o in
+      let spelled = spelled_name (written_name env.config bytes) h.utf8 h.shape in
+      let m = writes_then env commit_pending_semi (name_text span bytes) [] _ (writes_commit env) (writes_name_text env span bytes e o spelled h.ascii) in
       record {
         tokens = _;
-        generated = refl;
-        writes = writes_then env commit_pending_semi (name_text span bytes) [] _ (writes_commit env) (writes_name_text env span bytes e spelled);
-        named = names_here env span bytes e spelled.some;
+        generated = ap (λ z. lexical.name z ∷ []) h.value;
+        writes = m;
+        named = names_here env span bytes e o spelled.some;
+        safe = no_string m refl;
       };
+  where_out = λ w o rest. name_out env span bytes rest e o;
 }
 
 prints_question : (env : Env) (optional : Bool) → Prints env (question optional) (cond optional (mark (codes "?")) Nothing)
@@ -311,13 +392,17 @@ laid_reads f ts a b g n l =
     }
 
 -- the steps of a part, made from a state where an emission begins
-pub steps_read : (p : Part) (f : Phrase) (a : State) → IsNew a → Prints a.env p f → is_possible f ≡ true → AddsReading f a.sheet (run (steps_of (p nothing a.env)) a).sheet
+pub steps_read : (p : Part) (f : Phrase) (a : State) → IsNew a → Prints a.env p f → is_possible f ≡ true → is_out a.env.config f ≡ false → AddsReading f a.sheet (run (steps_of (p nothing a.env)) a).sheet
 unfolding nothing
-steps_read p f a n prints w =
-    let h = prints.where_possible w in
+steps_read p f a n prints w o =
+    let h = prints.where_possible w o in
     let end : run (steps_of (p nothing a.env)) a ≡ run h.writes.steps a = ap (λ z. run (steps_of z) a) (h.writes.is_steps nothing) ∙ ap (λ z. run z a) (steps_of_chain h.writes.steps) in
     let P : State → Type 0 = λ z. AddsReading f a.sheet z.sheet in
     subst P (sym end) (laid_reads f h.tokens a (run h.writes.steps a) h.generated n (h.writes.lays a (new_at_rest a n)))
+
+-- steps that come to their end come to no name that can't be written
+pub made_not_out : (p : Part) (f : Phrase) (env : Env) → Prints env p f → is_possible f ≡ true → unprintable_in (p nothing env) ≡ None → is_out env.config f ≡ false
+made_not_out p f env prints w end = false_from_ne_true (is_out env.config f) (λ o. let z = sym end ∙ prints.where_out w o nothing in absurd (cc))
 
 -- of an empty text the whole reads
 pub whole_reads : (holds : Bool) (f : Phrase) (text : List ℕ) → AddsText holds f [] text → ReadsAs holds f text
@@ -325,14 +410,14 @@ whole_reads holds f text h = subst (λ z. ReadsAs holds f z) (sym h.is_added) h.
 
 pub printed_reads : (p : Part) (f : Phrase) (a b : State) (r : Result (Unit {0}) Refusal) → IsNew a → Prints a.env p f → is_possible f ≡ true → Follows (p nothing) a b r → OnOk r (AddsReading f a.sheet b.sheet)
 unfolding Follows
-printed_reads p f a b (Ok u) n prints w k = let P : State → Type 0 = λ z. AddsReading f a.sheet z.sheet in subst P (sym k.1) (steps_read p f a n prints w)
+printed_reads p f a b (Ok u) n prints w k = let P : State → Type 0 = λ z. AddsReading f a.sheet z.sheet in subst P (sym k.1) (steps_read p f a n prints w (made_not_out p f a.env prints w k.0))
 printed_reads p f a b (Err e) n prints w k = tt
 
 -- no text is made anew where nothing of the phrase may be
-pub printed_remakes : (p : Part) (f : Phrase) (env : Env) → Prints env p f → is_possible f ≡ true → may_make_text f ≡ false → makes_text (steps_of (p nothing env)) ≡ false
+pub printed_remakes : (p : Part) (f : Phrase) (env : Env) → Prints env p f → is_possible f ≡ true → may_make_text env.config f ≡ false → makes_text (steps_of (p nothing env)) ≡ false
 unfolding nothing
 printed_remakes p f env prints w none =
-    let h = prints.where_possible w in
+    let h = prints.where_possible w (plain_not_out env.config f none) in
     ap (λ z. makes_text (steps_of z)) (h.writes.is_steps nothing) ∙ ap makes_text (steps_of_chain h.writes.steps)
     ∙ false_from_ne_true (makes_text h.writes.steps) (λ e. true≢false (sym (h.writes.remakes e) ∙ none))
 
@@ -347,11 +432,11 @@ never_out_of_memory p a b r plain t h e =
 -- ---- what an emission records
 
 -- where positions are kept, each name has its own where it begins
-pub printed_names : (p : Part) (f : Phrase) (a b : State) (r : Result (Unit {0}) Refusal) → Prints a.env p f → is_possible f ≡ true → a.sheet.keeps_positions ≡ true → Follows (p nothing) a b r → OnOk r (RecordsNames (names_in f) a.sheet b.sheet)
+pub printed_names : (p : Part) (f : Phrase) (a b : State) (r : Result (Unit {0}) Refusal) → Prints a.env p f → is_possible f ≡ true → a.sheet.keeps_positions ≡ true → Follows (p nothing) a b r → OnOk r (RecordsNames a.env.config (names_in f) a.sheet b.sheet)
 unfolding Follows NamedBy
 printed_names p f a b (Ok u) prints w k h =
-    let P : State → Type 0 = λ z. RecordsNames (names_in f) a.sheet z.sheet in
-    subst P (sym h.1) (named_records (names_in f) a.sheet _ ((prints.where_possible w).named a k))
+    let P : State → Type 0 = λ z. RecordsNames a.env.config (names_in f) a.sheet z.sheet in
+    subst P (sym h.1) (named_records a.env.config (names_in f) a.sheet _ ((prints.where_possible w (made_not_out p f a.env prints w h.0)).named a k))
 printed_names p f a b (Err e) prints w k h = tt
 
 -- what is recorded is true

@@ -1,5 +1,6 @@
 -- Parts whose text may be made anew, in memory.
-use Rattle.std.proofs.Common.{◌≡◌, ℕ, Bool, true, false, List, [], ◌∷◌, codes, refl, sym, subst, arith}
+use Rattle.std.proofs.Common.{◌≡◌, ℕ, Bool, true, false, List, [], ◌∷◌, codes, refl, sym, subst}
+use Rattle.std.proofs.lemmas.Bool.{or_from, true≢false}
 use Rattle.swc_ecma_codegen_common.specs.declared.positions.Span.{Span}
 use Rattle.swc_ecma_codegen_ast.specs.declared.kinds.Kind.{Kind}
 use Rattle.swc_ecma_codegen_ast.specs.LitPhrases.{after_sign}
@@ -7,20 +8,16 @@ use Rattle.swc_ecma_codegen_ast.specs.Phrases.{One, Generates, names_in}
 use Rattle.swc_ecma_codegen_ast.specs.Tokens as lexical
 use Rattle.swc_ecma_codegen_ast.specs.Tokens.{Value}
 use Rattle.swc_ecma_codegen_base.specs.Escapes.{is_spelled_anew, may_make_text}
-use Rattle.swc_ecma_codegen_base.specs.Run.{Env, Part, Remake, put, step, makes_text}
+use Rattle.swc_ecma_codegen_base.specs.Run.{Env, Part, Remake, step}
+use Rattle.swc_ecma_codegen_base.specs.Scripts.{is_str}
+use Rattle.swc_ecma_codegen_base.specs.Targets.{is_out}
 use Rattle.swc_ecma_codegen_base.specs.Lits.{begun_in}
 use Rattle.swc_ecma_codegen_base.specs.Literals.{begun}
-use Rattle.swc_ecma_codegen_base.proofs.Levels.{levels, rise}
+use Rattle.swc_ecma_codegen_base.proofs.Hands.{holds_string}
 use Rattle.swc_ecma_codegen_base.proofs.LiteralParts.{writes_begun}
 use Rattle.swc_ecma_codegen_base.proofs.LitTexts.{signed_tokens}
-use Rattle.swc_ecma_codegen_base.proofs.Phrased.{Prints, no_names, or_false, prints_made}
-use Rattle.swc_ecma_codegen_base.proofs.Printed.{Makes, Writes, makes_some, writes_if, writes_nothing, writes_step, writes_then}
-use Rattle.swc_ecma_codegen_base.proofs.Written.{lays_nothing}
-
--- a text is made anew, where that is due
-writes_remake : (env : Env) (due : Bool) → Makes env (step (Remake due)) [] due
-unfolding put makes_text levels rise
-writes_remake env due = subst (λ z. Makes env (step (Remake due)) [] z) (or_false due) (writes_step env (Remake due) [] (λ s r. lays_nothing s r) (omega arith))
+use Rattle.swc_ecma_codegen_base.proofs.Phrased.{IsSafe, Prints, no_names, no_string, no_strings, prints_made}
+use Rattle.swc_ecma_codegen_base.proofs.Printed.{Makes, Writes, makes_some, writes_if, writes_nothing, writes_remake, writes_then}
 
 -- what begins as a `Lit` before it begins as itself
 pub writes_begun_in : (env : Env) (in_lit : Bool) (span : Span) (t : List ℕ) → Writes env (begun_in in_lit span t) []
@@ -33,19 +30,21 @@ makes_remade {env} {p} {ts} due h = makes_some (writes_then env (step (Remake du
 
 -- ---- a token whose text may be made anew
 
-pub prints_anew : {env : Env} {p : Part} {made : Bool} (x : lexical.Token) → is_spelled_anew x.kind ≡ true → Makes env p (x ∷ []) made → Prints env p (One x)
+pub prints_anew : {env : Env} {p : Part} {made : Bool} (x : lexical.Token) → is_spelled_anew x.kind ≡ true → Makes env p (x ∷ []) made → IsSafe env p → Prints env p (One x)
 unfolding may_make_text
-prints_anew {env} {p} x e h = prints_made env p x (subst (λ z. Makes env p (x ∷ []) z) (sym e) (makes_some h))
+prints_anew {env} {p} x e h safe = prints_made env p x (subst (λ z. Makes env p (x ∷ []) z) (sym e) (makes_some h)) safe
 
--- the same after its sign
-pub prints_signed : {env : Env} {p : Part} {made : Bool} (kind : Kind) (value : Value) (negative : Bool) → is_spelled_anew kind ≡ true → Makes env p (signed_tokens kind value negative) made → Prints env p (after_sign negative (One (record { kind = kind; value = value })))
-unfolding after_sign may_make_text is_spelled_anew Generates names_in lexical.punctuator
-prints_signed {env} {p} kind value true e h = record {
-  where_possible = λ w. record {
+-- the same after its sign, of one that is no string
+pub prints_signed : {env : Env} {p : Part} {made : Bool} (kind : Kind) (value : Value) (negative : Bool) → is_spelled_anew kind ≡ true → is_str kind ≡ false → Makes env p (signed_tokens kind value negative) made → Prints env p (after_sign negative (One (record { kind = kind; value = value })))
+unfolding after_sign may_make_text is_spelled_anew is_out Generates names_in lexical.punctuator holds_string is_str
+prints_signed {env} {p} kind value true e none h = record {
+  where_possible = λ w o. record {
     tokens = signed_tokens kind value true;
     generated = (lexical.punctuator (codes "-") ∷ [], record { kind = kind; value = value } ∷ [], refl, refl, refl);
     writes = subst (λ z. Makes env p (signed_tokens kind value true) z) (sym e) (makes_some h);
     named = no_names env p;
+    safe = no_strings h (or_from (is_str kind) false none refl);
   };
+  where_out = λ w o. absurd (true≢false (sym o));
 }
-prints_signed {env} {p} kind value false e h = prints_anew (record { kind = kind; value = value }) e h
+prints_signed {env} {p} kind value false e none h = prints_anew (record { kind = kind; value = value }) e h (no_string h none)

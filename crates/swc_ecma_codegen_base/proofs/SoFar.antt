@@ -1,5 +1,5 @@
 -- After a call the text reads as the tokens so far and those of the call, whatever follows that doesn't fuse.
-use Rattle.std.proofs.Common.{◌≡◌, ℕ, Bool, true, false, ◌&&◌, cond, List, [], ◌∷◌, ◌++◌, codes, refl, sym, ap, ◌∙◌, subst, append_assoc, append-nil, inl, Option, Ok}
+use Rattle.std.proofs.Common.{◌≡◌, ℕ, Bool, true, false, ◌&&◌, cond, List, [], ◌∷◌, ◌++◌, codes, refl, sym, ap, ◌∙◌, subst, append_assoc, append-nil, inl, Option, None, Ok}
 use Rattle.std.specs.Str.{chars}
 use Rattle.std.proofs.lemmas.Str.{chars-nil, chars-append, IsUtf8-nil, IsUtf8-append}
 use Rattle.swc_ecma_codegen_common.specs.declared.positions.BytePos.{BytePos}
@@ -13,13 +13,14 @@ use Rattle.swc_ecma_codegen_ast.specs.Parts.{NoneFuse, tokens_of, remarks_in}
 use Rattle.swc_ecma_codegen_ast.specs.Phrases.{Phrase, Nothing, One, NameOf, Generates, is_possible, ◌>◌, mark}
 use Rattle.swc_ecma_codegen_ast.specs.SpelledNames.{is_well_formed_name}
 use Rattle.swc_ecma_codegen_ast.proofs.Reading.{reads}
-use Rattle.swc_ecma_codegen_base.specs.Run.{Part, State, steps_of, run, nothing, Follows, Emits}
+use Rattle.swc_ecma_codegen_base.specs.Run.{Part, State, steps_of, unprintable_in, run, nothing, Follows, Emits}
+use Rattle.swc_ecma_codegen_base.specs.Targets.{is_out}
 use Rattle.swc_ecma_codegen_base.specs.Words.{keyword, operator, word_operator, punct, semi, name, space, formatting_space, line_end, formatting_line, commit_pending_semi, position, position_before, leading_comments, trailing_comments}
 use Rattle.swc_ecma_codegen_base.specs.Written.{IsNew, IsWord, IsMark, ReadsSoFar, AddsText, name_tokens}
 use Rattle.swc_ecma_codegen_base.proofs.Emitting.{emits_nothing}
 use Rattle.swc_ecma_codegen_base.proofs.Written.{Lays, text_append, tokens_append, remarks_append}
 use Rattle.swc_ecma_codegen_base.proofs.Printed.{Makes, Writes, writes_space, writes_formatting_space, writes_line, writes_formatting_line, writes_commit, writes_position, writes_position_before, writes_leading, writes_trailing}
-use Rattle.swc_ecma_codegen_base.proofs.Phrased.{Prints, steps_of_chain, new_at_rest, prints_keyword, prints_operator, prints_word_operator, prints_punct, prints_semi, prints_ident}
+use Rattle.swc_ecma_codegen_base.proofs.Phrased.{Prints, steps_of_chain, new_at_rest, prints_keyword, prints_operator, prints_word_operator, prints_punct, prints_semi, prints_ident, made_not_out}
 
 -- what was laid since
 lays_so_far : (old : List ℕ) (tokens ts : List lexical.Token) (a b : State) → Lays ts a b → ReadsSoFar old tokens a → ReadsSoFar old (tokens ++ ts) b
@@ -59,15 +60,20 @@ emitted_so_far part old tokens ts a b w e h =
 
 -- a part that writes one token
 one_so_far : (part : Part) (x : lexical.Token) (old : List ℕ) (tokens : List lexical.Token) (a b : State) → Prints a.env part (One x) → Emits part a b (Ok tt) → ReadsSoFar old tokens a → ReadsSoFar old (tokens ++ x ∷ []) b
-unfolding Generates is_possible
+unfolding Generates is_possible is_out
 one_so_far part x old tokens a b prints e h =
-    let p = prints.where_possible refl in
+    let p = prints.where_possible refl refl in
     subst (λ z. ReadsSoFar old (tokens ++ z) b) p.generated (emitted_so_far part old tokens p.tokens a b p.writes e h)
+
+-- a part that was made comes to its end
+emitted_ends : (part : Part) (a b : State) → Emits part a b (Ok tt) → unprintable_in (part nothing a.env) ≡ None
+unfolding Follows
+emitted_ends part a b e = (e nothing b (Ok tt) (emits_nothing b)).0
 
 -- a part that writes one of the token lists of a phrase
 pub phrase_so_far : (part : Part) (f : Phrase) (old : List ℕ) (tokens : List lexical.Token) (a b : State) → Prints a.env part f → is_possible f ≡ true → Emits part a b (Ok tt) → ReadsSoFar old tokens a → (ts : List lexical.Token) × Generates f ts × ReadsSoFar old (tokens ++ ts) b
 phrase_so_far part f old tokens a b prints w e h =
-    let p = prints.where_possible w in
+    let p = prints.where_possible w (made_not_out part f a.env prints w (emitted_ends part a b e)) in
     (p.tokens, p.generated, emitted_so_far part old tokens p.tokens a b p.writes e h)
 
 pub keyword_so_far : (span : Option Span) (t old : List ℕ) (tokens : List lexical.Token) (a b : State) → IsWord t → Emits (keyword span t) a b (Ok tt) → ReadsSoFar old tokens a → ReadsSoFar old (tokens ++ lexical.word t ∷ []) b
@@ -98,8 +104,8 @@ name_possible at bytes false w = ap (λ z. z && true) w
 
 pub name_so_far : (span : Span) (bytes : List ℕ) (optional : Bool) (old : List ℕ) (tokens : List lexical.Token) (a b : State) → a.env.keeps_invalid ≡ false → is_well_formed_name bytes ≡ true → Emits (name span bytes optional) a b (Ok tt) → ReadsSoFar old tokens a → ReadsSoFar old (tokens ++ name_tokens bytes optional) b
 name_so_far span bytes optional old tokens a b v w e h =
-    let p = (prints_ident a.env span bytes optional v).where_possible (name_possible span.lo bytes optional w) in
-    subst (λ z. ReadsSoFar old (tokens ++ z) b) (name_list span.lo bytes optional p.tokens p.generated) (emitted_so_far (name span bytes optional) old tokens p.tokens a b p.writes e h)
+    let p = phrase_so_far (name span bytes optional) _ old tokens a b (prints_ident a.env span bytes optional v) (name_possible span.lo bytes optional w) e h in
+    subst (λ z. ReadsSoFar old (tokens ++ z) b) (name_list span.lo bytes optional p.0 p.1) p.2
 
 -- nothing was written yet
 pub new_so_far : (s : State) → IsNew s → holds_semicolons s.sheet.semicolons ≡ false → ReadsSoFar s.sheet.text [] s

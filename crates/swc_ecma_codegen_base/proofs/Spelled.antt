@@ -1,44 +1,93 @@
--- Names and literals, by the text that they are written with.
-use Rattle.std.proofs.Common.{◌≡◌, true, false, cond, List, ℕ, Bool, Result, Ok, Err, refl, sym, ap, subst}
+-- Names, by the text that they are written with.
+use Rattle.std.proofs.Common.{◌≡◌, true, false, cond, List, ℕ, Bool, Result, Ok, Err, refl, sym, ap, ◌∙◌, subst, inl, inr}
+use Rattle.std.specs.Str.{chars}
+use Rattle.std.proofs.lemmas.Bool.{cases_Bool, false_from_ne_true}
 use Rattle.swc_ecma_codegen_common.specs.declared.errors.Refusal.{Refusal}
 use Rattle.swc_ecma_codegen_common.specs.declared.errors.Refusal.TheVariants.{OutOfMemory}
+use Rattle.swc_ecma_codegen_common.specs.declared.errors.Refusal.TheVariants as refusals
 use Rattle.swc_ecma_codegen_common.specs.declared.positions.Span.{Span}
 use Rattle.swc_ecma_codegen_ast.specs.ValidNames.{turned}
+use Rattle.swc_ecma_codegen_literals.specs.AsciiNames.{is_out_of_target, ascii_name}
 use Rattle.swc_ecma_codegen_literals.specs.ValidNames.{has_byte}
-use Rattle.swc_ecma_codegen_base.specs.Run.{Env, Plan, State, Remake, has_backslash, Follows, Emits, put, IsRefused}
-use Rattle.swc_ecma_codegen_base.specs.Words.{symbol, valid_symbol, name_text}
-use Rattle.swc_ecma_codegen_base.proofs.Emitting.{emits_refused, follows_step, follows_same}
+use Rattle.swc_ecma_codegen_base.specs.declared.refusals.Unprintable.TheVariants.{NameOutOfTarget}
+use Rattle.swc_ecma_codegen_base.specs.Run.{Env, Plan, State, Remake, step, refuse, refusal_of, has_backslash, Follows, Emits, IsRefused}
+use Rattle.swc_ecma_codegen_base.specs.Targets.{wants_escapes, in_ascii, is_out_name}
+use Rattle.swc_ecma_codegen_base.specs.Words.{symbol, spelled_symbol, valid_symbol, name_text}
+use Rattle.swc_ecma_codegen_base.proofs.Emitting.{emits_refused, emits_refusal, follows_remade, follows_same}
+use Rattle.swc_ecma_codegen_base.proofs.Targets.{kept_is_in, kept_text, escaped_text, out_by_settings}
+
+-- ---- a text by the settings
+
+pub spelled_same : (span : Span) (t : List ℕ) (rest : Plan) (env : Env) → is_out_name env.config t ≡ false → spelled_symbol span t rest env ≡ step (Remake (wants_escapes env.config t)) (symbol span (in_ascii env.config t) rest) env
+unfolding spelled_symbol
+spelled_same span t rest env o = ap (λ b. cond b (refuse NameOutOfTarget rest env) (step (Remake (wants_escapes env.config t)) (symbol span (in_ascii env.config t) rest) env)) o
+
+pub out_same : (span : Span) (t : List ℕ) (rest : Plan) (env : Env) → is_out_name env.config t ≡ true → spelled_symbol span t rest env ≡ refuse NameOutOfTarget rest env
+unfolding spelled_symbol
+out_same span t rest env o = ap (λ b. cond b (refuse NameOutOfTarget rest env) (step (Remake (wants_escapes env.config t)) (symbol span (in_ascii env.config t) rest) env)) o
+
+-- the text that the settings ask for is written
+spelled_follows : (span : Span) (t u : List ℕ) (rest : Plan) (a c : State) (r : Result (Unit {0}) Refusal) → is_out_name a.env.config t ≡ false → u ≡ in_ascii a.env.config t → Follows (symbol span u rest) a c r → Follows (spelled_symbol span t rest) a c r
+spelled_follows span t u rest a c r o e h =
+    let P : List ℕ → Type 0 = λ z. Follows (symbol span z rest) a c r in
+    follows_same (spelled_symbol span t rest) (step (Remake (wants_escapes a.env.config t)) (symbol span (in_ascii a.env.config t) rest)) a c r (spelled_same span t rest a.env o)
+    (follows_remade (wants_escapes a.env.config t) (symbol span (in_ascii a.env.config t) rest) a c r (subst P e h))
+
+spelled : (span : Span) (t u : List ℕ) (a b : State) (r : Result (Unit {0}) Refusal) → is_out_name a.env.config t ≡ false → u ≡ in_ascii a.env.config t → Emits (symbol span u) a b r → Emits (spelled_symbol span t) a b r
+spelled span t u a b (Ok x) o e h = λ rest c r f. spelled_follows span t u rest a c r o e (h rest c r f)
+spelled span t u a b (Err x) o e h = λ rest. spelled_follows span t u rest a b (Err x) o e (h rest)
+
+-- as it is
+pub spelled_as_it_is : (span : Span) (t : List ℕ) (a b : State) (r : Result (Unit {0}) Refusal) → wants_escapes a.env.config t ≡ false → Emits (symbol span t) a b r → Emits (spelled_symbol span t) a b r
+spelled_as_it_is span t a b r k h = spelled span t t a b r (kept_is_in a.env.config t k) (sym (kept_text a.env.config t k)) h
+
+-- in ASCII
+pub spelled_in_ascii : (span : Span) (t u : List ℕ) (a b : State) (r : Result (Unit {0}) Refusal) → wants_escapes a.env.config t ≡ true → (is_out_of_target false a.env.config.target (chars t) ≡ true → ⊥) → u ≡ ascii_name false a.env.config.target (chars t) → Emits (symbol span u) a b r → Emits (spelled_symbol span t) a b r
+spelled_in_ascii span t u a b r k o e h = spelled span t u a b r (out_by_settings a.env.config t k ∙ false_from_ne_true _ o) (e ∙ sym (escaped_text a.env.config t k)) h
+
+pub marked_with : (a b : State) → b ≡ record a { failed = true } → b ≡ record a { sheet = b.sheet; failed = true }
+marked_with a b eq = let P : State → Type 0 = λ s. s ≡ record a { sheet = s.sheet; failed = true } in subst P (sym eq) refl
+
+-- or it can't be, or memory is wanting
+pub not_spelled : (span : Span) (t : List ℕ) (e : Refusal) (a b : State) → a.failed ≡ false → wants_escapes a.env.config t ≡ true → (is_out_of_target false a.env.config.target (chars t) ≡ true → e ≡ refusals.NameOutOfTarget) → (is_out_of_target false a.env.config.target (chars t) ≡ false → e ≡ OutOfMemory) → b ≡ record a { failed = true } → Emits (spelled_symbol span t) a b (Err e)
+unfolding IsRefused refusal_of
+not_spelled span t e a b fresh k out refused marked rest =
+    let same = out_by_settings a.env.config t k in
+    elim (cases_Bool (is_out_of_target false a.env.config.target (chars t))) [
+      | inl o ↦ follows_same (spelled_symbol span t rest) (refuse NameOutOfTarget rest) a b (Err e) (out_same span t rest a.env (same ∙ o)) (emits_refusal NameOutOfTarget e a b fresh (out o) marked rest)
+      | inr o ↦ follows_same (spelled_symbol span t rest) (step (Remake (wants_escapes a.env.config t)) (symbol span (in_ascii a.env.config t) rest)) a b (Err e) (spelled_same span t rest a.env (same ∙ o))
+          (emits_refused (Remake (wants_escapes a.env.config t)) e a b fresh (marked_with a b marked) (refused o, k, ap (λ (s : State). s.sheet) marked) (symbol span (in_ascii a.env.config t) rest))
+    ]
+
+-- ---- as the writer takes names
 
 -- a name whose text is made anew
-pub remade : (span : Span) (name text : List ℕ) (a b : State) (r : Result (Unit {0}) Refusal) → a.failed ≡ false → text ≡ turned name → Emits (symbol span text) a b r → Emits (valid_symbol span name) a b r
-unfolding valid_symbol put
-remade span name text a b (Ok u) fresh eq h = λ rest c r f. follows_step (Remake (has_backslash name)) (symbol span (turned name) rest) a c r fresh (let P : List ℕ → Type 0 = λ t. Follows (symbol span t rest) a c r in subst P eq (h rest c r f))
-remade span name text a b (Err e) fresh eq h = λ rest. follows_step (Remake (has_backslash name)) (symbol span (turned name) rest) a b (Err e) fresh (let P : List ℕ → Type 0 = λ t. Follows (symbol span t rest) a b (Err e) in subst P eq (h rest))
+pub remade : (span : Span) (name text : List ℕ) (a b : State) (r : Result (Unit {0}) Refusal) → text ≡ turned name → Emits (spelled_symbol span text) a b r → Emits (valid_symbol span name) a b r
+unfolding valid_symbol
+remade span name text a b (Ok u) eq h = λ rest c r f. follows_remade (has_backslash name) (spelled_symbol span (turned name) rest) a c r (let P : List ℕ → Type 0 = λ t. Follows (spelled_symbol span t rest) a c r in subst P eq (h rest c r f))
+remade span name text a b (Err e) eq h = λ rest. follows_remade (has_backslash name) (spelled_symbol span (turned name) rest) a b (Err e) (let P : List ℕ → Type 0 = λ t. Follows (spelled_symbol span t rest) a b (Err e) in subst P eq (h rest))
 
 -- memory is refused only for a name with a backslash
 backslash : (b : Bool) → (b ≡ false → ⊥) → b ≡ true
 backslash true h = refl
 backslash false h = absurd (h refl)
 
-pub marked_with : (a b : State) → b ≡ record a { failed = true } → b ≡ record a { sheet = b.sheet; failed = true }
-marked_with a b eq = let P : State → Type 0 = λ s. s ≡ record a { sheet = s.sheet; failed = true } in subst P (sym eq) refl
-
 pub not_remade : (span : Span) (name : List ℕ) (e : Refusal) (a b : State) → a.failed ≡ false → e ≡ OutOfMemory → (has_byte 92 name ≡ false → ⊥) → b ≡ record a { failed = true } → Emits (valid_symbol span name) a b (Err e)
 unfolding valid_symbol IsRefused
-not_remade span name e a b fresh eq h marked rest = emits_refused (Remake (has_backslash name)) e a b fresh (marked_with a b marked) (eq, backslash (has_byte 92 name) h, ap (λ (s : State). s.sheet) marked) (symbol span (turned name) rest)
+not_remade span name e a b fresh eq h marked rest = emits_refused (Remake (has_backslash name)) e a b fresh (marked_with a b marked) (eq, backslash (has_byte 92 name) h, ap (λ (s : State). s.sheet) marked) (spelled_symbol span (turned name) rest)
 
-pub lent_same : (span : Span) (name : List ℕ) (rest : Plan) (env : Env) → env.keeps_invalid ≡ true → name_text span name rest env ≡ symbol span name rest env
+pub lent_same : (span : Span) (name : List ℕ) (rest : Plan) (env : Env) → env.keeps_invalid ≡ true → name_text span name rest env ≡ spelled_symbol span name rest env
 unfolding name_text
-lent_same span name rest env h = ap (λ b. cond b (symbol span name rest env) (valid_symbol span name rest env)) h
+lent_same span name rest env h = ap (λ b. cond b (spelled_symbol span name rest env) (valid_symbol span name rest env)) h
 
 pub valid_same : (span : Span) (name : List ℕ) (rest : Plan) (env : Env) → env.keeps_invalid ≡ false → name_text span name rest env ≡ valid_symbol span name rest env
 unfolding name_text
-valid_same span name rest env h = ap (λ b. cond b (symbol span name rest env) (valid_symbol span name rest env)) h
+valid_same span name rest env h = ap (λ b. cond b (spelled_symbol span name rest env) (valid_symbol span name rest env)) h
 
 -- a name as it is, and one whose text is made anew
-pub kept_name : (span : Span) (name : List ℕ) (a b : State) (r : Result (Unit {0}) Refusal) → a.env.keeps_invalid ≡ true → Emits (symbol span name) a b r → Emits (name_text span name) a b r
-kept_name span name a b (Ok u) h k = λ rest c r f. follows_same (name_text span name rest) (symbol span name rest) a c r (lent_same span name rest a.env h) (k rest c r f)
-kept_name span name a b (Err e) h k = λ rest. follows_same (name_text span name rest) (symbol span name rest) a b (Err e) (lent_same span name rest a.env h) (k rest)
+pub kept_name : (span : Span) (name : List ℕ) (a b : State) (r : Result (Unit {0}) Refusal) → a.env.keeps_invalid ≡ true → Emits (spelled_symbol span name) a b r → Emits (name_text span name) a b r
+kept_name span name a b (Ok u) h k = λ rest c r f. follows_same (name_text span name rest) (spelled_symbol span name rest) a c r (lent_same span name rest a.env h) (k rest c r f)
+kept_name span name a b (Err e) h k = λ rest. follows_same (name_text span name rest) (spelled_symbol span name rest) a b (Err e) (lent_same span name rest a.env h) (k rest)
 
 pub made_name : (span : Span) (name : List ℕ) (a b : State) (r : Result (Unit {0}) Refusal) → a.env.keeps_invalid ≡ false → Emits (valid_symbol span name) a b r → Emits (name_text span name) a b r
 made_name span name a b (Ok u) h k = λ rest c r f. follows_same (name_text span name rest) (valid_symbol span name rest) a c r (valid_same span name rest a.env h) (k rest c r f)

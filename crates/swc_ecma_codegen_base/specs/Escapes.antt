@@ -3,7 +3,10 @@ use Rattle.std.specs.Prelude.{Bool, true, false, ◌||◌}
 use Rattle.swc_ecma_codegen_ast.specs.Phrases.{Phrase, Never, Nothing, One, NameOf, Then}
 use Rattle.swc_ecma_codegen_ast.specs.declared.kinds.Kind.{Kind}
 use Rattle.swc_ecma_codegen_ast.specs.declared.kinds.Kind.TheVariants.{Number, BigInt, Str}
+use Rattle.swc_ecma_codegen_ast.specs.ValidNames.{turned}
+use Rattle.swc_ecma_codegen_util.specs.declared.config.Config.{Config}
 use Rattle.swc_ecma_codegen_base.specs.Run.{has_backslash}
+use Rattle.swc_ecma_codegen_base.specs.Targets.{wants_escapes}
 
 -- a literal whose text may be another than its raw
 unfoldable pub is_spelled_anew : Kind → Bool
@@ -12,11 +15,11 @@ is_spelled_anew BigInt = true
 is_spelled_anew Str = true
 is_spelled_anew kind = false
 
--- A name of the tree holds a backslash, or a string, a number or a big integer stands in it: only the text of such is made
--- anew, in memory.
-unfoldable pub may_make_text : Phrase → Bool
-may_make_text Never = false
-may_make_text Nothing = false
-may_make_text (One x) = is_spelled_anew x.kind
-may_make_text (NameOf at bytes) = has_backslash bytes
-may_make_text (Then a b) = may_make_text a || may_make_text b
+-- A name of the tree holds a backslash, or isn't ASCII where the settings ask for that, or a string, a number or a big integer
+-- stands in it: only the text of such is made anew, in memory.
+unfoldable pub may_make_text : Config → Phrase → Bool
+may_make_text config Never = false
+may_make_text config Nothing = false
+may_make_text config (One x) = is_spelled_anew x.kind
+may_make_text config (NameOf at bytes) = has_backslash bytes || wants_escapes config (turned bytes)
+may_make_text config (Then a b) = may_make_text config a || may_make_text config b

@@ -1,4 +1,5 @@
 pub mod Run
+pub mod Targets
 pub mod Words
 pub mod Literals
 pub mod Lits
@@ -6,6 +7,8 @@ pub mod Last
 pub mod View
 pub mod Written
 pub mod Escapes
+pub mod Ascii
+pub mod Scripts
 pub mod Named
 pub mod Ready
 pub mod Starts

@@ -1,6 +1,7 @@
 -- When the emission of a tree comes to its end, in what a caller sees: the tree, and the sheet before and after.
 use Rattle.std.specs.Prelude.{◌≡◌, ℕ, ◌+◌, ◌-◌, ◌^◌, ◌<◌, true, false}
 use Rattle.swc_ecma_codegen_ast.specs.Phrases.{Phrase, Never, Nothing, One, NameOf, Then, is_possible}
+use Rattle.swc_ecma_codegen_util.specs.declared.config.Config.{Config}
 use Rattle.swc_ecma_codegen_base.specs.Escapes.{may_make_text}
 use Rattle.swc_ecma_codegen_base.specs.Run.{State}
 
@@ -12,11 +13,11 @@ token_count (One x) = 1
 token_count (NameOf at bytes) = 1
 token_count (Then a b) = token_count a + token_count b
 
--- A tree can be printed at a level of indentation without memory of its own: it is well-formed, no text of it is made
--- anew, and the level and its tokens together stay in the limit, since no tree has more levels than tokens.
-pub record IsPlainTree (phrase : Phrase) (level : ℕ) : Type 0 where
+-- A tree can be printed under some settings, at a level of indentation, without memory of its own: it is well-formed, no
+-- text of it is made anew, and the level and its tokens together stay in the limit, since no tree has more levels than tokens.
+pub record IsPlainTree (config : Config) (phrase : Phrase) (level : ℕ) : Type 0 where
   pub well_formed : is_possible phrase ≡ true
-  pub no_text_made : may_make_text phrase ≡ false
+  pub no_text_made : may_make_text config phrase ≡ false
   pub has_room : level + token_count phrase < 2 ^ 32
 
 -- An emission can go on: nothing was refused, no call of the writer takes memory, it keeps no positions, U+0000 after a backslash is left out of

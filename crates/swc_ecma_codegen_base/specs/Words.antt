@@ -6,7 +6,9 @@ use Rattle.swc_ecma_codegen_spans.specs.Spans.{dummy_span}
 use Rattle.swc_ecma_codegen_ast.specs.declared.kinds.Kind.TheVariants.{Word, Name, Punctuator, Ending}
 use Rattle.swc_ecma_codegen_text_writer.specs.Sheet.{Semi, Space, Keyword, Operator, Line, Symbol, Punct, Position, Commit}
 use Rattle.swc_ecma_codegen_ast.specs.ValidNames.{turned}
-use Rattle.swc_ecma_codegen_base.specs.Run.{Part, step, Guard, Token, Plain, Remake, when_minified, no_part, has_backslash}
+use Rattle.swc_ecma_codegen_base.specs.declared.refusals.Unprintable.TheVariants.{NameOutOfTarget}
+use Rattle.swc_ecma_codegen_base.specs.Run.{Part, step, Guard, Token, Plain, Remake, refuse, when_minified, no_part, has_backslash}
+use Rattle.swc_ecma_codegen_base.specs.Targets.{wants_escapes, in_ascii, is_out_name}
 
 -- a keyword
 unfoldable pub keyword : Option Span → List ℕ → Part
@@ -77,13 +79,20 @@ trailing_comments prefix_space pos rest = rest
 unfoldable pub symbol : Span → List ℕ → Part
 symbol span t rest = step (Guard t) (start_of span (step (Token Name (Symbol dummy_span t)) rest))
 
+-- A name by a text, which is escaped where the settings ask for ASCII. Nothing of it is written where it can't be: neither
+-- its position, nor the blank that is due before it.
+unfoldable pub spelled_symbol : Span → List ℕ → Part
+spelled_symbol span t rest env =
+    if is_out_name env.config t then refuse NameOutOfTarget rest env
+    else step (Remake (wants_escapes env.config t)) (symbol span (in_ascii env.config t) rest) env
+
 -- A name in which U+0000 after a backslash is left out.
 unfoldable pub valid_symbol : Span → List ℕ → Part
-valid_symbol span name rest = step (Remake (has_backslash name)) (symbol span (turned name) rest)
+valid_symbol span name rest = step (Remake (has_backslash name)) (spelled_symbol span (turned name) rest)
 
 -- the text of a name, as the writer takes names
 unfoldable pub name_text : Span → List ℕ → Part
-name_text span name rest env = if env.keeps_invalid then symbol span name rest env else valid_symbol span name rest env
+name_text span name rest env = if env.keeps_invalid then spelled_symbol span name rest env else valid_symbol span name rest env
 
 -- `?` after an optional name
 unfoldable pub question : Bool → Part

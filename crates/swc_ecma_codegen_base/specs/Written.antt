@@ -11,6 +11,7 @@ use Rattle.swc_ecma_codegen_ast.specs.Phrases.{Phrase, Generates}
 use Rattle.swc_ecma_codegen_ast.specs.GapRules.{Last, Start, Apart, allows}
 use Rattle.swc_ecma_codegen_ast.specs.Parts.{Part, text_of, tokens_of, remarks_in, NoneFuse}
 use Rattle.swc_ecma_codegen_text_writer.specs.Sheet.{Sheet, Semicolons, AtOnce, HoldsNone, HoldsOne, holds_semicolons}
+use Rattle.swc_ecma_codegen_literals.specs.AsciiNames.{is_ascii_text}
 use Rattle.swc_ecma_codegen_base.specs.Run.{State}
 
 -- LF, or CR and LF
@@ -77,12 +78,12 @@ AddsReading phrase old new = AddsText (holds_semicolons old.semicolons) phrase o
 -- a text is a word of the grammar, or a punctuator: in ASCII
 pub record IsWord (t : List ℕ) : Type 0 where
   pub utf8 : is_utf8 t ≡ true
-  pub ascii : chars t ≡ t
+  pub ascii : is_ascii_text t ≡ true
   pub shape : is_word t ≡ true
 
 pub record IsMark (t : List ℕ) : Type 0 where
   pub utf8 : is_utf8 t ≡ true
-  pub ascii : chars t ≡ t
+  pub ascii : is_ascii_text t ≡ true
   pub shape : is_punctuator t ≡ true
 
 -- What was added to an old text, by a writer that holds no semicolons back, reads as these tokens, whatever follows that

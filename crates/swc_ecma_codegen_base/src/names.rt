@@ -2,19 +2,29 @@
 
 ghost use Rattle.std.specs.Prelude.{◌≡◌, ℕ, OnOk, IsNone, List, ◌++◌, false, true};
 ghost use Rattle.swc_ecma_codegen_base.specs.Run.{Emits};
-ghost use Rattle.swc_ecma_codegen_base.specs.Words.{name, name_text, symbol, valid_symbol, question};
+ghost use Rattle.swc_ecma_codegen_base.specs.Targets.{wants_escapes};
+ghost use Rattle.swc_ecma_codegen_base.specs.Words.{name, name_text, symbol, spelled_symbol, valid_symbol, question};
 ghost use Rattle.swc_ecma_codegen_ast.specs.Tokens.{Token};
 ghost use Rattle.swc_ecma_codegen_ast.specs.SpelledNames.{is_well_formed_name};
 ghost use Rattle.swc_ecma_codegen_base.specs.Written.{ReadsSoFar, name_tokens};
 ghost use Rattle.swc_ecma_codegen_base.specs.View.{state_of};
 
 use crate::LowerEmitter;
+use crate::raws::is_ascii;
 use crate::starts::StartClass;
 use swc_ecma_codegen_ast::comments::Comments;
 use swc_ecma_codegen_common::{Answer, Refusal, Span};
-use swc_ecma_codegen_literals::{Punctuator, holds_backslash, valid_name};
+use swc_ecma_codegen_literals::{Punctuator, ascii_only_ident, holds_backslash, valid_name};
 use swc_ecma_codegen_text_writer::WriteJs;
 use swc_ecma_codegen_util::config::Config;
+
+/// Whether a text of a name is made anew in ASCII.
+#[tactic(auto, unfolding(crate::specs::Targets::wants_escapes))]
+fn wants_escapes(cfg: &Config, text: &str) -> bool
+    ensures { result ≡ wants_escapes cfg.now text.now }
+{
+    cfg.ascii_only && !is_ascii(text)
+}
 
 impl LowerEmitter {
     /// Writes a name by a text, and records its position.
@@ -27,6 +37,47 @@ impl LowerEmitter {
         self.position(cfg, wr, span.lo)?;
         self.put_symbol(cfg, wr, text)?;
         Ok(())
+    }
+
+    /// Writes a name by a text that isn't ASCII, in ASCII.
+    fn ascii_symbol<W: WriteJs>(
+        &mut self,
+        cfg: &Config,
+        wr: &mut W,
+        span: Span,
+        text: &str,
+    ) -> Answer
+        requires { wants_escapes cfg.now text.now ≡ true }
+        ensures items { Emits (spelled_symbol span text.now) (state_of cfg.now (W.sheet wr.old) self.old) (state_of cfg.now (W.sheet wr.new) self.new) result }
+        ensures level { OnOk result ((W.sheet wr.new).indentation ≡ (W.sheet wr.old).indentation) }
+    {
+        if self.failed {
+            return Err(Refusal::Failed);
+        }
+        match ascii_only_ident(self.alloc, text, false, cfg.target) {
+            Ok(name) => self.symbol(cfg, wr, span, &name),
+            Err(error) => {
+                self.failed = true;
+                Err(error.refusal())
+            }
+        }
+    }
+
+    /// Writes a name by a text, which is escaped where the settings ask for ASCII.
+    fn spelled_symbol<W: WriteJs>(
+        &mut self,
+        cfg: &Config,
+        wr: &mut W,
+        span: Span,
+        text: &str,
+    ) -> Answer
+        ensures items { Emits (spelled_symbol span text.now) (state_of cfg.now (W.sheet wr.old) self.old) (state_of cfg.now (W.sheet wr.new) self.new) result }
+        ensures level { OnOk result ((W.sheet wr.new).indentation ≡ (W.sheet wr.old).indentation) }
+    {
+        if wants_escapes(cfg, text) {
+            return self.ascii_symbol(cfg, wr, span, text);
+        }
+        self.symbol(cfg, wr, span, text)
     }
 
     /// Writes a name in which U+0000 after a backslash is left out.
@@ -45,10 +96,10 @@ impl LowerEmitter {
             return Err(Refusal::Failed);
         }
         if !holds_backslash(name) {
-            return self.symbol(cfg, wr, span, name);
+            return self.spelled_symbol(cfg, wr, span, name);
         }
         match valid_name(self.alloc, name) {
-            Ok(text) => self.symbol(cfg, wr, span, &text),
+            Ok(text) => self.spelled_symbol(cfg, wr, span, &text),
             Err(error) => {
                 self.failed = true;
                 Err(error.refusal())
@@ -63,7 +114,7 @@ impl LowerEmitter {
         ensures level { OnOk result ((W.sheet wr.new).indentation ≡ (W.sheet wr.old).indentation) }
     {
         if wr.can_ignore_invalid_unicodes() {
-            return self.symbol(cfg, wr, span, sym);
+            return self.spelled_symbol(cfg, wr, span, sym);
         }
         self.valid_symbol(cfg, wr, span, sym)
     }

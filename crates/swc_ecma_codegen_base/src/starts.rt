@@ -76,7 +76,7 @@ pub enum StartClass {
 }
 
 /// How each punctuator begins.
-const MARKS: [StartClass; 58] = [
+static MARKS: [StartClass; 58] = [
     StartClass::LeftBrace,
     StartClass::RightBrace,
     StartClass::LeftParenthesis,

@@ -1,11 +1,12 @@
-//! Goes through the table on standard input: what the lexical grammar and the spellings must answer. Prints the rows
-//! that don't hold, and how many rows there are.
+//! Goes through the table on standard input: what the lexical grammar, the spellings and the formats of lists must
+//! answer. Prints the rows that don't hold, and how many rows there are.
 //!
 //! A row is a word and its fields, with a tab between. `‹1f600›` stands for the character of that code, `‹›` for no
 //! text. Lines that begin with `#` say where the rows come from.
 #![tactic(auto)]
 
 mod fields;
+mod formats;
 mod patterns;
 mod reading;
 mod rows;

@@ -1,6 +1,7 @@
 //! What the words of the rows ask.
 
 use crate::fields::{code, fields, is_yes, target};
+use crate::formats::{contains, ends_lines, has_bits, intersects};
 use crate::reading::tokens;
 use crate::spellings::{
     is_big_integer, is_decimal, is_number, is_out_of_target, is_valid_name, is_without_separators,
@@ -56,6 +57,7 @@ fn of_two(alloc: Global, word: &str, text: &str, want: &str) -> Result<bool, Err
         "without_separators" => return is_without_separators(alloc, text, want),
         "surrogate" => return spells_always(alloc, text, want),
         "raw_text" => return gives_always(alloc, text, want),
+        "list_format" => return Ok(has_bits(text, want)),
         _ => return Ok(false),
     };
     Ok(found.as_str() == want)
@@ -76,6 +78,8 @@ fn of_three(
         "raw" => gives(alloc, first, is_yes(second), want),
         "decimal" => Ok(is_decimal(alloc, first, second)? == is_yes(want)),
         "null" => spells_by_age(alloc, first, second, want),
+        "contains" => Ok(contains(first, second) == Some(is_yes(want))),
+        "intersects" => Ok(intersects(first, second) == Some(is_yes(want))),
         _ => Ok(false),
     }
 }
@@ -104,6 +108,7 @@ fn of_four(
                 && given(alloc, [first, second], [third, want], true)?,
         ),
         "raw_range_plain" => given(alloc, [first, second], [third, want], false),
+        "lines" => ends_lines(alloc, [first, second, third], want),
         "raw_range_ascii" => given(alloc, [first, second], [third, want], true),
         _ => Ok(false),
     }

@@ -7,7 +7,7 @@ use crate::runs::prints_with;
 use std::alloc::{AllocError, Global};
 
 /// The words of the columns.
-const COLUMNS: [&str; 10] = [
+const COLUMNS: [&str; 14] = [
     "--target es2022",
     "--target es2020",
     "--target es5",
@@ -18,6 +18,10 @@ const COLUMNS: [&str; 10] = [
     "--minify --target es3",
     "--minify --inline-script",
     "--minify",
+    "--minify --ascii-only --target es2015",
+    "--minify --ascii-only --target es5",
+    "--ascii-only --target es5",
+    "--ascii-only --target es2015",
 ];
 
 /// The script of a literal, in its short form.

@@ -1,7 +1,5 @@
 //! What the library answers of a program's JSON.
 
-ghost use Rattle.std.specs.Prelude.{◌≡◌, false};
-
 use std::alloc::Global;
 use swc_ecma_codegen::nodes::Held;
 use swc_ecma_codegen::{Config, Emitter, Node, to_code};
@@ -46,9 +44,7 @@ pub struct Answers {
 }
 
 /// The settings without blanks.
-fn settings() -> Config
-    ensures { result.ascii_only ≡ false }
-{
+fn settings() -> Config {
     Config {
         target: EsVersion::latest(),
         ascii_only: false,

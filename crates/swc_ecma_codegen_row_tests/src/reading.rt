@@ -2,6 +2,7 @@
 
 use std::alloc::{AllocError, Global};
 use swc_ecma_codegen_ast::kinds::Kind;
+use swc_ecma_codegen_ast::names::name_value;
 use swc_ecma_codegen_ast::number_values::{HeldNumber, numeric_value};
 use swc_ecma_codegen_ast::reader::{characters, read_tokens};
 use swc_ecma_codegen_ast::string_values::string_value;
@@ -19,7 +20,7 @@ fn kind_of(letter: &str) -> Kind {
     }
 }
 
-/// Whether a text reads as these tokens. A number, a big integer or a string may be spelled otherwise there.
+/// Whether a text reads as these tokens. A name, a number, a big integer or a string may be spelled otherwise there.
 pub fn reads_as(alloc: Global, text: &str, tokens: &str) -> Result<bool, AllocError> {
     let text = characters(alloc, text)?;
     let mut kinds = Vec::new(alloc);
@@ -55,6 +56,7 @@ fn is_token(
     token: &[char],
 ) -> Result<bool, AllocError> {
     match letter {
+        "n" => Ok(is_same_name(name_value(alloc, found)?, name_value(alloc, token)?)),
         "0" | "b" => Ok(found == token || is_as_much(value(found), value(token))),
         "s" => is_alike(
             string_value(alloc, true, found)?,
@@ -123,6 +125,14 @@ fn shortened(number: HeldNumber, zeros: u128) -> Value {
 /// Whether two values are known and the same.
 fn is_as_much(a: Option<Value>, b: Option<Value>) -> bool {
     a.is_some() && a == b
+}
+
+/// Whether two names have the same characters.
+fn is_same_name(a: Option<Vec<char>>, b: Option<Vec<char>>) -> bool {
+    match (a, b) {
+        (Some(a), Some(b)) => a.as_slice() == b.as_slice(),
+        _ => false,
+    }
 }
 
 /// Whether two strings have the same code units.

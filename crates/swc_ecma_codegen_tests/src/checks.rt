@@ -9,6 +9,7 @@ use crate::faults::{
     stops_when_interrupted,
 };
 use crate::links::all_come_back;
+use crate::settings::{act_one_by_one, leave_out_the_last_semicolon, refuse_a_name};
 use crate::trees::Tree;
 use std::alloc::Global;
 use std::test::Fail;
@@ -54,6 +55,18 @@ fn failing<N: Tree>(alloc: Global) -> Result<Vec<&'static str>, Fail> {
             gives_the_writers_error::<N>(alloc)?,
         ),
         ("links give back what they hold", all_come_back::<N>(alloc)?),
+        (
+            "each setting changes what it is for",
+            act_one_by_one::<N>(alloc)?,
+        ),
+        (
+            "the last semicolon is left out where that is asked for",
+            leave_out_the_last_semicolon::<N>(alloc)?,
+        ),
+        (
+            "a name out of the target is refused after what stands before it",
+            refuse_a_name::<N>(alloc)?,
+        ),
     ];
     let mut failing = Vec::new(alloc);
     for (check, holds) in checks {

@@ -14,6 +14,8 @@ mod links;
 #[cfg(test)]
 mod reading;
 #[cfg(test)]
+mod settings;
+#[cfg(test)]
 mod streams;
 #[cfg(test)]
 mod trees;

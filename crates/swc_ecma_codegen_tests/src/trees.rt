@@ -1,7 +1,5 @@
 //! Trees for the tests.
 
-ghost use Rattle.std.specs.Prelude.{◌≡◌, false};
-
 use std::alloc::Global;
 use swc_ecma_codegen::laws::{
     emitted_boxed_stmt_reads, emitted_expr_box_reads, emitted_expr_reads,
@@ -37,6 +35,10 @@ pub(crate) const MEMBER: &str =
 /// `--a`, at no place
 pub(crate) const DECREMENT: &str =
     r#"{"Script":{"span":{"lo":0,"hi":0},"body":[{"Expr":{"span":{"lo":0,"hi":0},"expr":{"Update":{"span":{"lo":0,"hi":0},"op":"MinusMinus","prefix":true,"arg":{"Ident":{"span":{"lo":0,"hi":0},"sym":"a","optional":false}}}}}}],"shebang":null}}"#;
+
+/// `é, "é</script>", 0b11, 𝒫`, at no place; the string has no raw
+pub(crate) const LITERALS: &str =
+    r#"{"Script":{"span":{"lo":0,"hi":0},"body":[{"Expr":{"span":{"lo":0,"hi":0},"expr":{"Seq":{"span":{"lo":0,"hi":0},"exprs":[{"Ident":{"span":{"lo":0,"hi":0},"sym":"é","optional":false}},{"Lit":{"Str":{"span":{"lo":0,"hi":0},"value":"é</script>","raw":null}}},{"Lit":{"Num":{"span":{"lo":0,"hi":0},"value":{"Finite":{"negative":false,"digits":"3","exponent":0}},"raw":"0b11"}}},{"Ident":{"span":{"lo":0,"hi":0},"sym":"𝒫","optional":false}}]}}}}],"shebang":null}}"#;
 
 /// What links hold. A test is made for any of it, which costs a check less than to make it for `AnyNode`.
 pub(crate) trait Tree: Holds<Expr<Self>>
@@ -151,9 +153,7 @@ pub(crate) fn expr_of<N: Holds<Stmt<N>> + Holds<Expr<N>> + Drop>(
 }
 
 /// The settings of these tests.
-pub(crate) fn settings(minify: bool) -> Config
-    ensures { result.ascii_only ≡ false }
-{
+pub(crate) fn settings(minify: bool) -> Config {
     Config {
         target: EsVersion::latest(),
         ascii_only: false,

@@ -128,10 +128,6 @@ impl Reached {
         ensures shows { (p : Place) → Shows self p → Shows result (after_text text.now p) }
         ensures order { IsFrom self result }
     {
-        // Most texts stay in their line: "typeof" takes six columns.
-        if !text.is_empty() && is_in_line(text.as_bytes()) {
-            return self.after_units(text.len() as u64);
-        }
         let mut reached = self;
         for byte in text.as_bytes() {
             reached = reached.after(*byte);
@@ -182,15 +178,43 @@ impl<'a> Positions<'a> {
         }
     }
 
-    /// A text was written.
-    #[inline(never)]
+    /// A text was written. Most stay in their line: "typeof" takes six columns.
+    #[inline(always)]
     pub fn pass(&mut self, text: &str)
         ensures place { (p : Place) → Counts self.old p → Counts self.new (after_text text.now p) }
         ensures pairs { pairs self.new ≡ pairs self.old }
         ensures pending { self.new.pending ≡ self.old.pending }
         ensures lent { self.new.list.ghost_name ≡ self.old.list.ghost_name }
     {
+        if !text.is_empty() && is_in_line(text.as_bytes()) {
+            let reached = self.reached.after_units(text.len() as u64);
+            self.move_to(reached);
+            return;
+        }
+        self.pass_bytes(text);
+    }
+
+    /// The same, byte for byte.
+    #[inline(never)]
+    fn pass_bytes(&mut self, text: &str)
+        ensures place { (p : Place) → Counts self.old p → Counts self.new (after_text text.now p) }
+        ensures pairs { pairs self.new ≡ pairs self.old }
+        ensures pending { self.new.pending ≡ self.old.pending }
+        ensures lent { self.new.list.ghost_name ≡ self.old.list.ghost_name }
+    {
         let reached = self.reached.after_text(text);
+        self.move_to(reached);
+    }
+
+    /// A place was reached that isn't before the last one.
+    #[inline(always)]
+    fn move_to(&mut self, reached: Reached)
+        requires { IsFrom self.old.reached reached }
+        ensures place { (p : Place) → Shows reached p → Counts self.new p }
+        ensures pairs { pairs self.new ≡ pairs self.old }
+        ensures pending { self.new.pending ≡ self.old.pending }
+        ensures lent { self.new.list.ghost_name ≡ self.old.list.ghost_name }
+    {
         if reached.line != self.reached.line || reached.column != self.reached.column {
             self.recent = self.list.len();
         }

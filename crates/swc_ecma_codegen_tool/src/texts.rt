@@ -1,6 +1,6 @@
 //! The text of a program, in memory.
 
-ghost use Rattle.std.specs.Prelude.{◌≡◌, ◌≢◌, false, [], Err, IfOk};
+ghost use Rattle.std.specs.Prelude.{◌≡◌, ◌≢◌, [], Err, IfOk};
 ghost use Rattle.swc_ecma_codegen_text_writer.specs.View.{sheet_of};
 ghost use Rattle.swc_ecma_codegen_base.specs.Run.{printed, start};
 ghost use Rattle.swc_ecma_codegen.specs.Programs.{program};
@@ -70,7 +70,6 @@ fn printed_on<W: WriteJs + Drop>(
     tree: &Program,
     wr: W,
 ) -> Result<W, Fault>
-    requires { config.ascii_only ≡ false }
     ensures sheet { IfOk result (λ w. W.sheet w ≡ (printed (program any_items tree.now) (start config (W.sheet wr))).sheet) }
     ensures no_usage { result ≢ Err Fault.Usage }
 {

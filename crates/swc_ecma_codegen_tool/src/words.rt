@@ -22,6 +22,8 @@ pub struct Options {
     pub minify: bool,
     /// `--omit-last-semi`: a semicolon that is held back at the end is left out.
     pub omit_last_semi: bool,
+    /// `--ascii-only`: names and strings are written in ASCII.
+    pub ascii_only: bool,
     /// `--inline-script`: strings hold neither `</script` nor `<!--` nor `-->`.
     pub inline_script: bool,
     /// `--target es5`: literals are spelled for this version. The last one counts.
@@ -42,6 +44,7 @@ impl Options {
         Ok(Options {
             minify: is_given(words, "--minify"),
             omit_last_semi: is_given(words, "--omit-last-semi"),
+            ascii_only: is_given(words, "--ascii-only"),
             inline_script: is_given(words, "--inline-script"),
             target: last_version(words),
             positions: is_given(words, "--positions"),
@@ -56,6 +59,7 @@ impl Options {
             .with_target(self.target)
             .with_minify(self.minify)
             .with_omit_last_semi(self.omit_last_semi)
+            .with_ascii_only(self.ascii_only)
             .with_inline_script(self.inline_script)
     }
 }
@@ -86,7 +90,12 @@ fn is_option(word: &str) -> bool
 {
     matches!(
         word,
-        "--minify" | "--omit-last-semi" | "--inline-script" | "--positions" | "--target"
+        "--minify"
+            | "--omit-last-semi"
+            | "--ascii-only"
+            | "--inline-script"
+            | "--positions"
+            | "--target"
     )
 }
 

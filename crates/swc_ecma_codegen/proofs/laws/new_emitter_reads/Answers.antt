@@ -1,4 +1,4 @@
-use Rattle.swc_ecma_codegen.proofs.TreeReads.{new_is_new, indented_is_new, holding_is_new}
+use Rattle.swc_ecma_codegen.proofs.TreeReads.{new_is_new, indented_is_new, holding_is_new, new_wants_ascii}
 use Rattle.swc_ecma_codegen.proofs.TreeMade.{new_is_ready}
 use Rattle.swc_ecma_codegen.proofs.laws.new_emitter_reads.Goals as goal
 
@@ -13,3 +13,6 @@ returns-clause-ready c config bytes line_end = new_is_ready config bytes line_en
 
 pub returns-clause-holding : goal.returns-clause-holding
 returns-clause-holding c config bytes line_end h = holding_is_new config bytes line_end h
+
+pub returns-clause-ascii : goal.returns-clause-ascii
+returns-clause-ascii c config bytes line_end e h = new_wants_ascii config bytes line_end e h

@@ -9,10 +9,10 @@ pub returns-then-self-clause-items : goal.returns-then-self-clause-items
 returns-then-self-clause-items g c = λ rest. emits_failed _ _ c.if-self.true
 
 pub returns-then-not-holds_backslash-clause-items : goal.returns-then-not-holds_backslash-clause-items
-returns-then-not-holds_backslash-clause-items g c = remade _ _ _ _ _ _ c.if-self.false (sym (turned_no_backslash c.args.name.now (sym c.holds_backslash.ensures ∙ c.if-not-holds_backslash.true))) c.symbol.ensures.items
+returns-then-not-holds_backslash-clause-items g c = remade _ _ _ _ _ _ (sym (turned_no_backslash c.args.name.now (sym c.holds_backslash.ensures ∙ c.if-not-holds_backslash.true))) c.spelled_symbol.ensures.items
 
 pub returns-in-Ok-clause-items : goal.returns-in-Ok-clause-items
-returns-in-Ok-clause-items g c = remade _ _ _ _ _ _ c.if-self.false (c.deref.ensures.value ∙ c.in-Ok.ensures.value) c.symbol-in-Ok.ensures.items
+returns-in-Ok-clause-items g c = remade _ _ _ _ _ _ (c.deref.ensures.value ∙ c.in-Ok.ensures.value) c.spelled_symbol-in-Ok.ensures.items
 
 pub returns-in-Err-clause-items : goal.returns-in-Err-clause-items
 returns-in-Err-clause-items g c = not_remade _ _ _ _ _ c.if-self.false (c.refusal.ensures ∙ ap reason_of c.in-Err.ensures.refused) c.in-Err.ensures.no_backslash refl

@@ -1,4 +1,4 @@
-use Rattle.swc_ecma_codegen.proofs.TreeReads.{root_reads, root_names}
+use Rattle.swc_ecma_codegen.proofs.TreeReads.{root_reads, root_names, root_ascii, root_safe}
 use Rattle.swc_ecma_codegen.proofs.TreeMade.{root_made}
 use Rattle.swc_ecma_codegen.proofs.node.AnyNode.emit_with.Goals as goal
 
@@ -10,3 +10,9 @@ returns-clause-made g c = λ root same plain ready no_fault. root_made root _ _ 
 
 pub returns-clause-names : goal.returns-clause-names
 returns-clause-names g c = λ root same well kept left_out. root_names root _ _ _ _ same well kept left_out c.emit.ensures.items
+
+pub returns-clause-ascii : goal.returns-clause-ascii
+returns-clause-ascii g c = λ root same well wants keeps. root_ascii root _ _ _ _ same well wants keeps c.emit.ensures.items
+
+pub returns-clause-inline : goal.returns-clause-inline
+returns-clause-inline g c = λ root same well inline left_out. root_safe root _ _ _ _ same well inline left_out c.emit.ensures.items

@@ -1,7 +1,7 @@
-use Rattle.std.proofs.Common.{◌≡◌, ◌+◌, [], true, rules, take, get_or, sym, subst, arith, ap, ◌∙◌}
+use Rattle.std.proofs.Common.{◌≡◌, ◌+◌, take, get_or, sym, subst, arith, ap, ◌∙◌}
 use Rattle.swc_ecma_codegen_text_writer.specs.Places.{after_byte, after_text}
-use Rattle.swc_ecma_codegen_text_writer.specs.Reach.{Shows, is_in_line}
-use Rattle.swc_ecma_codegen_text_writer.proofs.Reaching.{after_text_take, after_text_nil, in_line}
+use Rattle.swc_ecma_codegen_text_writer.specs.Reach.{Shows}
+use Rattle.swc_ecma_codegen_text_writer.proofs.Reaching.{after_text_take, after_text_nil}
 use Rattle.swc_ecma_codegen_text_writer.proofs.positions.Reached.after_text.Goals as goal
 
 pub loop-byte-init : goal.loop-byte-init
@@ -21,12 +21,3 @@ loop-byte-preserved c = record {
       subst (Shows c.after-reached.result) (sym after) (c.after-reached.ensures.shows before (c.loop-byte.invariant.shows p h));
   order = omega arith;
 }
-
--- a text that stays in its line
-pub returns-then-is_in_line-clause-shows : goal.returns-then-is_in_line-clause-shows
-returns-then-is_in_line-clause-shows c p h =
-    let text = c.args.text.now in
-    let some : text ≡ [] → ⊥ = search rules in
-    let same : c.as_bytes.result.now ≡ text = c.as_bytes.ensures.value in
-    let plain : is_in_line text ≡ true = ap is_in_line (sym same) ∙ sym c.is_in_line.ensures ∙ c.if-is_in_line.true in
-    subst (Shows c.after_units.result) (sym (in_line text p some plain)) (c.after_units.ensures.shows p h)

@@ -1,0 +1,40 @@
+-- How a list of nodes is laid out: the bits of its format, and where it has line ends.
+use Rattle.std.specs.Prelude.{ℕ, Bool, List, [], ◌∷◌, ◌==◌, ◌&&◌, ◌||◌, not, if◌then◌else◌, codes}
+use Rattle.std.specs.Int.RustNames.{bit_and}
+
+-- the name of each flag and its bit: `PreserveLines` has bit 1, so its value is 2
+abbrev pub flag_table : List (List ℕ × ℕ)
+flag_table =
+    (codes "MultiLine", 1) ∷ (codes "PreserveLines", 2) ∷ (codes "BarDelimited", 4) ∷ (codes "AmpersandDelimited", 8)
+    ∷ (codes "CommaDelimited", 16) ∷ (codes "AllowTrailingComma", 32) ∷ (codes "Indented", 64) ∷ (codes "SpaceBetweenBraces", 128)
+    ∷ (codes "SpaceBetweenSiblings", 256) ∷ (codes "OptionalIfUndefined", 512) ∷ (codes "OptionalIfEmpty", 1024)
+    ∷ (codes "NoTrailingNewLine", 2048) ∷ (codes "NoInterveningComments", 4096) ∷ (codes "NoSpaceIfEmpty", 8192)
+    ∷ (codes "ForceTrailingComma", 16384) ∷ (codes "CanSkipTrailingComma", 32768) ∷ []
+
+-- A format has a flag, both as bits: 338, an array's, has PreserveLines, 2, and not MultiLine, 1.
+abbrev pub has : ℕ → ℕ → Bool
+has format flag = bit_and format flag == flag
+
+abbrev pub multi_line : ℕ → Bool
+multi_line format = has format 1
+
+abbrev pub preserves_lines : ℕ → Bool
+preserves_lines format = has format 2
+
+abbrev pub no_trailing_new_line : ℕ → Bool
+no_trailing_new_line format = has format 2048
+
+-- Two positions are known to stand on different lines: neither is 0, which is no position, and the map of the source text says of
+-- them that they don't stand on one line (`on_one_line` is what it says). In `[` LF `a]` at 1 the bracket and `a` are, 1 and 3.
+abbrev pub apart : ℕ → ℕ → Bool → Bool
+apart left right on_one_line = not (left == 0) && not (right == 0) && not on_one_line
+
+-- A line ends before a child: always with MultiLine, and with PreserveLines where one does in the source text.
+abbrev pub line_before_child : ℕ → Bool → Bool
+line_before_child format is_apart = multi_line format || (preserves_lines format && is_apart)
+
+-- A line ends after the last child: with MultiLine unless NoTrailingNewLine is there too; without it, with PreserveLines where one
+-- does in the source text.
+abbrev pub line_after_last : ℕ → Bool → Bool
+line_after_last format is_apart =
+    if multi_line format then not (no_trailing_new_line format) else preserves_lines format && is_apart

@@ -1,0 +1,182 @@
+-- What an emission under ASCII only adds to a text.
+use Rattle.std.proofs.Common.{◌≡◌, ℕ, zero, suc, Bool, true, false, cond, ◌||◌, List, [], ◌∷◌, ◌++◌, codes, nat_lt, refl, sym, ap, ◌∙◌, subst, append_assoc, append-nil, Option, Some, None, Result, Ok, Err, OnOk}
+use Rattle.std.specs.List.{repeat}
+use Rattle.std.specs.Str.{chars}
+use Rattle.std.proofs.lemmas.Bool.{and_from, and_parts, false_from_ne_true, true≢false}
+use Rattle.std.proofs.lemmas.List.Folds.{list_all-append}
+use Rattle.swc_ecma_codegen_common.specs.declared.errors.Refusal.{Refusal}
+use Rattle.swc_ecma_codegen_common.specs.declared.positions.Span.{Span}
+use Rattle.swc_ecma_codegen_ast.specs.GapRules.{fuses, Apart}
+use Rattle.swc_ecma_codegen_ast.specs.Phrases.{Phrase, Never, Nothing, One, NameOf, Then, Generates, is_possible}
+use Rattle.swc_ecma_codegen_ast.specs.Tokens as lexical
+use Rattle.swc_ecma_codegen_text_writer.specs.Sheet.{Item, Semi, Space, Keyword, Operator, Param, Property, Line, Lit, Comment, StrLit, Str, Symbol, Punct, Position, Commit, Deeper, Shallower, Sheet, Semicolons, AtOnce, HoldsNone, HoldsOne, appended, written, literal_written, ended, settled, settled_by, semicolon_by, before_punct, is_ending, dropped, effect}
+use Rattle.swc_ecma_codegen_text_writer.proofs.Sheets.{effect_indent_text, effect_line_end, settled_same}
+use Rattle.swc_ecma_codegen_literals.specs.AsciiNames.{is_ascii_text}
+use Rattle.swc_ecma_codegen_base.specs.Ascii.{is_other_value, keeps_other, are_ascii, keeps_tokens, may_keep_other, WantsAscii, AddsAscii}
+use Rattle.swc_ecma_codegen_base.specs.Run.{Env, Part, State, Step, Guard, Token, Plain, Ends, Remake, put, run, steps_of, nothing, text_of, Follows}
+use Rattle.swc_ecma_codegen_base.specs.Targets.{is_out}
+use Rattle.swc_ecma_codegen_base.proofs.Hands.{tokens_keep}
+use Rattle.swc_ecma_codegen_base.proofs.Held.{front, front_of, written_text, pointed_keeps}
+use Rattle.swc_ecma_codegen_base.proofs.Phrased.{Prints, steps_of_chain, made_not_out}
+use Rattle.swc_ecma_codegen_base.proofs.Texts.{adds_literal}
+
+-- ---- ASCII texts
+
+ascii_append : (t u : List ℕ) → is_ascii_text t ≡ true → is_ascii_text u ≡ true → is_ascii_text (t ++ u) ≡ true
+ascii_append t u h k = list_all-append (λ c. nat_lt c 128) t u ∙ and_from (is_ascii_text t) (is_ascii_text u) h k
+
+ascii_repeat : (n : ℕ) (t : List ℕ) → is_ascii_text t ≡ true → is_ascii_text (repeat n t) ≡ true
+ascii_repeat zero t h = refl
+ascii_repeat (suc n) t h = ascii_append t (repeat n t) h (ascii_repeat n t h)
+
+adds_none : (t : List ℕ) → AddsAscii t t
+adds_none t = record { added = []; is_added = sym (append-nil t); ascii = refl }
+
+adds_more : (old t u v : List ℕ) → AddsAscii old t → u ≡ t ++ v → is_ascii_text v ≡ true → AddsAscii old u
+adds_more old t u v h e a = record {
+  added = h.added ++ v;
+  is_added = e ∙ ap (λ z. z ++ v) h.is_added ∙ append_assoc old h.added v;
+  ascii = ascii_append h.added v h.ascii a;
+}
+
+adds_same : (old t u : List ℕ) → AddsAscii old t → u ≡ t → AddsAscii old u
+adds_same old t u h e = subst (λ z. AddsAscii old z) (sym e) h
+
+-- ---- what calls add
+
+-- lines are indented by ASCII and end with it
+record HasAsciiLines (s : Sheet) : Type 0 where
+  pub indent_text : is_ascii_text s.indent_text ≡ true
+  pub line_end : is_ascii_text s.line_end ≡ true
+
+front_ascii : (b : Bool) (s : Sheet) → HasAsciiLines s → is_ascii_text (front_of b s) ≡ true
+front_ascii true s l = ascii_repeat s.indentation s.indent_text l.indent_text
+front_ascii false s l = refl
+
+written_adds : (old : List ℕ) (span : Option Span) (t : List ℕ) (s : Sheet) → HasAsciiLines s → is_ascii_text t ≡ true → AddsAscii old s.text → AddsAscii old (written span t s).text
+unfolding written
+written_adds old span [] s l a h = h
+written_adds old span (c ∷ cs) s l a h = adds_more old s.text _ (front s ++ c ∷ cs) h (written_text span c cs s) (ascii_append (front s) (c ∷ cs) (front_ascii s.at_line_start s l) a)
+
+literal_adds : (old : List ℕ) (span : Span) (t : List ℕ) (s : Sheet) → HasAsciiLines s → is_ascii_text t ≡ true → AddsAscii old s.text → AddsAscii old (literal_written span t s).text
+unfolding literal_written
+literal_adds old span [] s l a h = h
+literal_adds old span (c ∷ cs) s l a h = adds_more old s.text _ (front s ++ c ∷ cs) h (adds_literal span c cs s).text (ascii_append (front s) (c ∷ cs) (front_ascii s.at_line_start s l) a)
+
+settled_by_adds : (old : List ℕ) (x : Semicolons) (s : Sheet) → HasAsciiLines s → AddsAscii old s.text → AddsAscii old (settled_by x s).text
+unfolding settled_by
+settled_by_adds old AtOnce s l h = h
+settled_by_adds old HoldsNone s l h = h
+settled_by_adds old (HoldsOne span) s l h = written_adds old span (codes ";") (record s { semicolons = HoldsNone }) (record { indent_text = l.indent_text; line_end = l.line_end }) refl h
+
+settled_adds : (old : List ℕ) (s : Sheet) → HasAsciiLines s → AddsAscii old s.text → AddsAscii old (settled s).text
+settled_adds old s l h = settled_by_adds old s.semicolons s l h
+
+settled_lines : (s : Sheet) → HasAsciiLines s → HasAsciiLines (settled s)
+settled_lines s l = record { indent_text = ap is_ascii_text (settled_same s).indent_text ∙ l.indent_text; line_end = ap is_ascii_text (settled_same s).line_end ∙ l.line_end }
+
+ended_adds : (old : List ℕ) (s : Sheet) → HasAsciiLines s → AddsAscii old s.text → AddsAscii old (ended s).text
+unfolding ended appended
+ended_adds old s l h =
+    elim s.at_line_start as (λ b. AddsAscii old (cond b (record s { pending = None }) (record (appended s.line_end s) { at_line_start = true })).text)
+    [ true ↦ h | false ↦ adds_more old s.text _ s.line_end h refl l.line_end ]
+
+semicolon_adds : (old : List ℕ) (x : Semicolons) (span : Option Span) (s : Sheet) → HasAsciiLines s → AddsAscii old s.text → AddsAscii old (semicolon_by x span s).text
+unfolding semicolon_by
+semicolon_adds old AtOnce span s l h = written_adds old span (codes ";") s l refl h
+semicolon_adds old HoldsNone span s l h = h
+semicolon_adds old (HoldsOne held) span s l h = h
+
+punct_adds : (old : List ℕ) (b : Bool) (span : Option Span) (t : List ℕ) (s : Sheet) → HasAsciiLines s → is_ascii_text t ≡ true → AddsAscii old s.text → AddsAscii old (written span t (cond b (record s { semicolons = dropped s.semicolons }) (settled s))).text
+punct_adds old true span t s l a h = written_adds old span t (record s { semicolons = dropped s.semicolons }) (record { indent_text = l.indent_text; line_end = l.line_end }) a h
+punct_adds old false span t s l a h = written_adds old span t (settled s) (settled_lines s l) a (settled_adds old s l h)
+
+effect_adds : (old : List ℕ) (x : Item) (s : Sheet) → HasAsciiLines s → is_ascii_text (text_of x) ≡ true → AddsAscii old s.text → AddsAscii old (effect x s).text
+unfolding effect text_of before_punct
+effect_adds old (Semi span) s l a h = semicolon_adds old s.semicolons span s l h
+effect_adds old Space s l a h = written_adds old None (codes " ") (settled s) (settled_lines s l) a (settled_adds old s l h)
+effect_adds old (Keyword span t) s l a h = written_adds old span t (settled s) (settled_lines s l) a (settled_adds old s l h)
+effect_adds old (Operator span t) s l a h = written_adds old span t (settled s) (settled_lines s l) a (settled_adds old s l h)
+effect_adds old (Param t) s l a h = written_adds old None t (settled s) (settled_lines s l) a (settled_adds old s l h)
+effect_adds old (Property t) s l a h = written_adds old None t (settled s) (settled_lines s l) a (settled_adds old s l h)
+effect_adds old Line s l a h = ended_adds old (settled s) (settled_lines s l) (settled_adds old s l h)
+effect_adds old (Lit span t) s l a h = literal_adds old span t (settled s) (settled_lines s l) a (settled_adds old s l h)
+effect_adds old (Comment t) s l a h = written_adds old None t (settled s) (settled_lines s l) a (settled_adds old s l h)
+effect_adds old (StrLit span t) s l a h = literal_adds old span t (settled s) (settled_lines s l) a (settled_adds old s l h)
+effect_adds old (Str t) s l a h = written_adds old None t (settled s) (settled_lines s l) a (settled_adds old s l h)
+effect_adds old (Symbol span t) s l a h = written_adds old (Some span) t (settled s) (settled_lines s l) a (settled_adds old s l h)
+effect_adds old (Punct span t) s l a h = punct_adds old (is_ending t) span t s l a h
+effect_adds old (Position pos) s l a h = adds_same old s.text _ h (pointed_keeps (λ z. z.text) (λ z x. refl) (λ z x. refl) pos s)
+effect_adds old Commit s l a h = settled_adds old s l h
+effect_adds old Deeper s l a h = settled_adds old s l h
+effect_adds old Shallower s l a h = settled_adds old s l h
+
+effect_lines : (x : Item) (s : Sheet) → HasAsciiLines s → HasAsciiLines (effect x s)
+effect_lines x s l = record { indent_text = ap is_ascii_text (effect_indent_text x s) ∙ l.indent_text; line_end = ap is_ascii_text (effect_line_end x s) ∙ l.line_end }
+
+-- ---- what steps add
+
+-- a text that is longer by ASCII, on such lines
+record Goes (old : List ℕ) (s : Sheet) : Type 0 where
+  pub lines : HasAsciiLines s
+  pub adds : AddsAscii old s.text
+
+call_goes : (old : List ℕ) (x : Item) (s : Sheet) → is_ascii_text (text_of x) ≡ true → Goes old s → Goes old (effect x s)
+call_goes old x s a g = record { lines = effect_lines x s g.lines; adds = effect_adds old x s g.lines a g.adds }
+
+guard_goes : (old t : List ℕ) (a : State) → Goes old a.sheet → Goes old (put (Guard t) a).sheet
+unfolding put text_of
+guard_goes old t a g =
+    elim (fuses a.last (chars t)) as (λ b. Goes old (cond b (record a { sheet = effect Space a.sheet; last = Apart }) a).sheet)
+    [ true ↦ call_goes old Space a.sheet refl g | false ↦ g ]
+
+run_goes : (old : List ℕ) (xs : List Step) (a : State) → are_ascii xs ≡ true → Goes old a.sheet → Goes old (run xs a).sheet
+unfolding run put are_ascii
+run_goes old [] a h g = g
+run_goes old (Guard t ∷ xs) a h g = run_goes old xs (put (Guard t) a) h (guard_goes old t a g)
+run_goes old (Token kind x ∷ xs) a h g = let p = and_parts (is_ascii_text (text_of x)) (are_ascii xs) h in run_goes old xs (put (Token kind x) a) p.1 (call_goes old x a.sheet p.0 g)
+run_goes old (Plain x ∷ xs) a h g = let p = and_parts (is_ascii_text (text_of x)) (are_ascii xs) h in run_goes old xs (put (Plain x) a) p.1 (call_goes old x a.sheet p.0 g)
+run_goes old (Ends tokens x ∷ xs) a h g = let p = and_parts (is_ascii_text (text_of x)) (are_ascii xs) h in run_goes old xs (put (Ends tokens x) a) p.1 (call_goes old x a.sheet p.0 g)
+run_goes old (Remake due ∷ xs) a h g = run_goes old xs (put (Remake due) a) h g
+
+-- ---- what an emission adds
+
+part_steps : {p : Part} {f : Phrase} {env : Env} → Prints env p f → is_possible f ≡ true → is_out env.config f ≡ false → env.config.ascii_only ≡ true → keeps_other (steps_of (p nothing env)) ≡ false → are_ascii (steps_of (p nothing env)) ≡ true
+unfolding nothing
+part_steps {p} {f} {env} prints w o e n =
+    let h = (prints.where_possible w o).writes in
+    let same : steps_of (p nothing env) ≡ h.steps = ap steps_of (h.is_steps nothing) ∙ steps_of_chain h.steps in
+    ap are_ascii same ∙ h.hands.ascii e (sym (ap keeps_other same) ∙ n)
+
+-- under ASCII only what is added is ASCII, save what stands as it is
+pub printed_ascii : (p : Part) (f : Phrase) (a b : State) (r : Result (Unit {0}) Refusal) → Prints a.env p f → is_possible f ≡ true → WantsAscii a → keeps_other (steps_of (p nothing a.env)) ≡ false → Follows (p nothing) a b r → OnOk r (AddsAscii a.sheet.text b.sheet.text)
+unfolding Follows
+printed_ascii p f a b (Ok u) prints w s n k =
+    let begin : Goes a.sheet.text a.sheet = record { lines = record { indent_text = s.indent_text; line_end = s.line_end }; adds = adds_none a.sheet.text } in
+    let end = run_goes a.sheet.text (steps_of (p nothing a.env)) a (part_steps prints w (made_not_out p f a.env prints w k.0) s.by_settings n) begin in
+    let P : State → Type 0 = λ z. AddsAscii a.sheet.text z.sheet.text in
+    subst P (sym k.1) end.adds
+printed_ascii p f a b (Err x) prints w s n k = tt
+
+-- ---- what may stand as it is, by the tree
+
+kept_alone : (b : Bool) → (b || false) ≡ b
+kept_alone true = refl
+kept_alone false = refl
+
+kept_listed : (f : Phrase) (ts : List lexical.Token) → Generates f ts → keeps_tokens ts ≡ may_keep_other f
+unfolding Generates keeps_tokens may_keep_other is_other_value lexical.name
+kept_listed Never ts g = absurd g
+kept_listed Nothing ts g = ap keeps_tokens g
+kept_listed (One x) ts g = ap keeps_tokens g ∙ kept_alone (is_other_value x.kind x.value)
+kept_listed (NameOf at bytes) ts g = ap keeps_tokens g
+kept_listed (Then a b) ts g =
+    ap keeps_tokens g.4 ∙ tokens_keep g.0 g.1 ∙ ap (λ z. z || keeps_tokens g.1) (kept_listed a g.0 g.2) ∙ ap (λ z. may_keep_other a || z) (kept_listed b g.1 g.3)
+
+-- where no such token is in the tree, no such text is among the steps
+pub printed_keeps : (p : Part) (f : Phrase) (env : Env) → Prints env p f → is_possible f ≡ true → is_out env.config f ≡ false → may_keep_other f ≡ false → keeps_other (steps_of (p nothing env)) ≡ false
+unfolding nothing
+printed_keeps p f env prints w o none =
+    let h = prints.where_possible w o in
+    let same : steps_of (p nothing env) ≡ h.writes.steps = ap steps_of (h.writes.is_steps nothing) ∙ steps_of_chain h.writes.steps in
+    ap keeps_other same ∙ false_from_ne_true (keeps_other h.writes.steps) (λ n. true≢false (sym (h.writes.hands.keeps n) ∙ kept_listed f h.tokens h.generated ∙ none))

@@ -1,0 +1,84 @@
+-- Which texts are ASCII where the settings ask for that, and which stand as they are in the tree.
+use Rattle.std.specs.Prelude.{◌≡◌, ℕ, Bool, true, false, not, ◌&&◌, ◌||◌, List, [], ◌∷◌, ◌++◌, codes, Option, Some, None}
+use Rattle.std.specs.Str.{chars}
+use Rattle.swc_ecma_codegen_ast.specs.declared.kinds.Kind.{Kind}
+use Rattle.swc_ecma_codegen_ast.specs.declared.kinds.Kind.TheVariants as kinds
+use Rattle.swc_ecma_codegen_ast.specs.Phrases.{Phrase, Never, Nothing, One, NameOf, Then}
+use Rattle.swc_ecma_codegen_ast.specs.StringValues.{string_value}
+use Rattle.swc_ecma_codegen_ast.specs.Texts.{is_same}
+use Rattle.swc_ecma_codegen_ast.specs.Tokens as lexical
+use Rattle.swc_ecma_codegen_ast.specs.Tokens.{Value, Characters, Units}
+use Rattle.swc_ecma_codegen_text_writer.specs.Sheet.{Item, StrLit, Str}
+use Rattle.swc_ecma_codegen_literals.specs.AsciiNames.{is_ascii_text}
+use Rattle.swc_ecma_codegen_literals.specs.ValidNames.{has_byte}
+use Rattle.swc_ecma_codegen_base.specs.Run.{State, Step, Guard, Token, Plain, Ends, Remake, text_of}
+
+-- what a directive stands for
+unfoldable pub is_strict : Option (List ℕ) → Bool
+is_strict None = false
+is_strict (Some us) = is_same us (codes "use strict")
+
+-- A directive with a backslash is printed as it was spelled: `'use\x20strict'`.
+unfoldable pub is_kept_directive : List ℕ → Bool
+is_kept_directive t = has_byte 92 t && is_strict (string_value true (chars t))
+
+-- The text of a call stands as it is in the tree, whatever the settings: what stands between the slashes of a regular
+-- expression, its flags, and such a directive.
+unfoldable pub is_kept : Item → Bool
+is_kept (Str t) = true
+is_kept (StrLit span t) = is_kept_directive t
+is_kept x = false
+
+-- such a text, which isn't ASCII
+unfoldable pub is_other : Item → Bool
+is_other x = is_kept x && not (is_ascii_text (text_of x))
+
+-- some of these steps hands such a text over
+unfoldable pub keeps_other : List Step → Bool
+keeps_other [] = false
+keeps_other (Guard t ∷ xs) = keeps_other xs
+keeps_other (Token kind x ∷ xs) = is_other x || keeps_other xs
+keeps_other (Plain x ∷ xs) = is_other x || keeps_other xs
+keeps_other (Ends tokens x ∷ xs) = is_other x || keeps_other xs
+keeps_other (Remake due ∷ xs) = keeps_other xs
+
+-- each of them hands ASCII over
+unfoldable pub are_ascii : List Step → Bool
+are_ascii [] = true
+are_ascii (Guard t ∷ xs) = are_ascii xs
+are_ascii (Token kind x ∷ xs) = is_ascii_text (text_of x) && are_ascii xs
+are_ascii (Plain x ∷ xs) = is_ascii_text (text_of x) && are_ascii xs
+are_ascii (Ends tokens x ∷ xs) = is_ascii_text (text_of x) && are_ascii xs
+are_ascii (Remake due ∷ xs) = are_ascii xs
+
+-- a token that may stand as it is in the tree, and not in ASCII: a regular expression, or a string that may be a directive
+unfoldable pub is_other_value : Kind → Value → Bool
+is_other_value kinds.Regex (Characters t) = not (is_ascii_text t)
+is_other_value kinds.Str (Units us) = is_strict us
+is_other_value kind value = false
+
+unfoldable pub keeps_tokens : List lexical.Token → Bool
+keeps_tokens [] = false
+keeps_tokens (x ∷ xs) = is_other_value x.kind x.value || keeps_tokens xs
+
+-- such a token is in the tree
+unfoldable pub may_keep_other : Phrase → Bool
+may_keep_other Never = false
+may_keep_other Nothing = false
+may_keep_other (One x) = is_other_value x.kind x.value
+may_keep_other (NameOf at bytes) = false
+may_keep_other (Then a b) = may_keep_other a || may_keep_other b
+
+-- An emission is to write ASCII: the settings ask for it, lines are indented by ASCII and end with it, and U+0000 after a
+-- backslash is left out of names.
+pub record WantsAscii (s : State) : Type 0 where
+  pub by_settings : s.env.config.ascii_only ≡ true
+  pub leaves_out : s.env.keeps_invalid ≡ false
+  pub indent_text : is_ascii_text s.sheet.indent_text ≡ true
+  pub line_end : is_ascii_text s.sheet.line_end ≡ true
+
+-- what a text is longer by is ASCII
+pub record AddsAscii (old new : List ℕ) : Type 0 where
+  pub added : List ℕ
+  pub is_added : new ≡ old ++ added
+  pub ascii : is_ascii_text added ≡ true

@@ -1,0 +1,13 @@
+use Rattle.std.proofs.Common.{◌≡◌, [], true, rules, sym, subst, ap, ◌∙◌}
+use Rattle.swc_ecma_codegen_text_writer.specs.Reach.{Shows, is_in_line}
+use Rattle.swc_ecma_codegen_text_writer.proofs.Reaching.{in_line}
+use Rattle.swc_ecma_codegen_text_writer.proofs.positions.Positions.pass.Goals as goal
+
+-- a text that stays in its line
+pub returns-then-is_in_line-clause-place : goal.returns-then-is_in_line-clause-place
+returns-then-is_in_line-clause-place c p h =
+    let text = c.args.text.now in
+    let some : text ≡ [] → ⊥ = search rules in
+    let same : c.as_bytes.result.now ≡ text = c.as_bytes.ensures.value in
+    let plain : is_in_line text ≡ true = ap is_in_line (sym same) ∙ sym c.is_in_line.ensures ∙ c.if-is_in_line.true in
+    c.move_to.ensures.place _ (subst (Shows c.after_units-reached.result) (sym (in_line text p some plain)) (c.after_units-reached.ensures.shows p h))
