@@ -8,6 +8,7 @@ pub mod GapRules
 pub mod Hashbangs
 pub mod HeldNumbers
 pub mod Jsx
+pub mod Keys
 pub mod ListFormats
 pub mod LitPhrases
 pub mod LongestMatch
@@ -23,6 +24,7 @@ pub mod Punctuators
 pub mod Reading
 pub mod Reads
 pub mod RegularExpressions
+pub mod Settings
 pub mod Skipping
 pub mod StmtPhrases
 pub mod StringValues
