@@ -24,8 +24,47 @@ multi_line format = has format 1
 abbrev pub preserves_lines : ℕ → Bool
 preserves_lines format = has format 2
 
+abbrev pub bar_delimited : ℕ → Bool
+bar_delimited format = has format 4
+
+abbrev pub ampersand_delimited : ℕ → Bool
+ampersand_delimited format = has format 8
+
+abbrev pub comma_delimited : ℕ → Bool
+comma_delimited format = has format 16
+
+abbrev pub allows_trailing_comma : ℕ → Bool
+allows_trailing_comma format = has format 32
+
+abbrev pub indented : ℕ → Bool
+indented format = has format 64
+
+abbrev pub space_between_braces : ℕ → Bool
+space_between_braces format = has format 128
+
+abbrev pub space_between_siblings : ℕ → Bool
+space_between_siblings format = has format 256
+
+abbrev pub optional_if_undefined : ℕ → Bool
+optional_if_undefined format = has format 512
+
+abbrev pub optional_if_empty : ℕ → Bool
+optional_if_empty format = has format 1024
+
 abbrev pub no_trailing_new_line : ℕ → Bool
 no_trailing_new_line format = has format 2048
+
+abbrev pub no_intervening_comments : ℕ → Bool
+no_intervening_comments format = has format 4096
+
+abbrev pub no_space_if_empty : ℕ → Bool
+no_space_if_empty format = has format 8192
+
+abbrev pub forces_trailing_comma : ℕ → Bool
+forces_trailing_comma format = has format 16384
+
+abbrev pub can_skip_trailing_comma : ℕ → Bool
+can_skip_trailing_comma format = has format 32768
 
 -- Two positions are known to stand on different lines: neither is 0, which is no position, and the map of the source text doesn't
 -- say of them that they stand on one line. In `[` LF `a]` at 1 the bracket and `a` are, 1 and 3.

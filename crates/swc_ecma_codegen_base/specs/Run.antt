@@ -6,6 +6,7 @@ use Rattle.swc_ecma_codegen_common.specs.declared.errors.Refusal.TheVariants.{Wr
 use Rattle.swc_ecma_codegen_util.specs.declared.config.Config.{Config}
 use Rattle.swc_ecma_codegen_ast.specs.declared.kinds.Kind.{Kind}
 use Rattle.swc_ecma_codegen_ast.specs.declared.kinds.Kind.TheVariants.{Punctuator, Ending}
+use Rattle.swc_ecma_codegen_ast.specs.SourceLines.{Lines}
 use Rattle.swc_ecma_codegen_ast.specs.GapRules.{Last, Start, Apart, fuses, last_after}
 use Rattle.swc_ecma_codegen_text_writer.specs.Sheet.{Item, Semi, Space, Keyword, Operator, Param, Property, Line, Lit, Comment, StrLit, Str, Symbol, Punct, Position, Commit, Deeper, Shallower, Sheet, effect, IsFar, Refuses}
 use Rattle.swc_ecma_codegen_text_writer.specs.Told.{Rises}
@@ -73,6 +74,8 @@ pub record Env : Type 0 where
   pub config : Config
   -- the writer keeps U+0000 after a backslash in a name
   pub keeps_invalid : Bool
+  -- what the map of the source text answers
+  pub lines : Lines
 
 -- where an emission stands
 pub record State : Type 0 where
@@ -254,5 +257,5 @@ abbrev pub printed : Part → State → State
 printed part a = run (steps_of (steps_in part a)) a
 
 -- where an emission over a sheet begins
-abbrev pub start : Config → Sheet → State
-start config sheet = record { env = record { config = config; keeps_invalid = sheet.keeps_invalid }; sheet = sheet; last = Start; failed = false }
+abbrev pub start : Lines → Config → Sheet → State
+start lines config sheet = record { env = record { config = config; keeps_invalid = sheet.keeps_invalid; lines = lines }; sheet = sheet; last = Start; failed = false }
