@@ -171,6 +171,15 @@ abbrev pub Emits : Part → State → State → Result (Unit {0}) Refusal → Ty
 Emits part a b (Ok _) = (rest : Plan) (c : State) (r : Result (Unit {0}) Refusal) → Follows rest b c r → Follows (part rest) a c r
 Emits part a b (Err e) = (rest : Plan) → Follows (part rest) a b (Err e)
 
+-- where an emission stands, with another map of the source text
+abbrev pub at_lines : Lines → State → State
+at_lines lines s = record s { env = record s.env { lines = lines } }
+
+-- A part of a plan is done, wherever lines end in the source text.
+abbrev pub Does : Part → State → State → Result (Unit {0}) Refusal → Type 0
+Does part a b (Ok u) = (lines : Lines) → Emits part (at_lines lines a) (at_lines lines b) (Ok u)
+Does part a b (Err e) = (lines : Lines) → Emits part (at_lines lines a) (at_lines lines b) (Err e)
+
 -- What goes on after a rest, now, goes on after the whole, from the start: a loop has come so far.
 abbrev pub Continues : Part → State → Part → State → Type 0
 Continues remaining now whole start = (rest : Plan) (c : State) (r : Result (Unit {0}) Refusal) → Follows (remaining rest) now c r → Follows (whole rest) start c r
