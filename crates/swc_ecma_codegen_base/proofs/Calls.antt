@@ -1,5 +1,5 @@
 -- Calls of a writer, as steps of an emission.
-use Rattle.std.proofs.Common.{◌≡◌, true, false, cond, List, ℕ, Result, Ok, Err, OnOk, OnErr, refl, sym, ◌∙◌, ap, subst, Bool}
+use Rattle.std.proofs.Common.{◌≡◌, ◌+◌, ◌-◌, ◌<◌, arith, true, false, cond, List, ℕ, Result, Ok, Err, OnOk, OnErr, refl, sym, ◌∙◌, ap, subst, Bool}
 use Rattle.std.specs.Str.{chars}
 use Rattle.swc_ecma_codegen_common.specs.declared.errors.Refusal.{Refusal}
 use Rattle.swc_ecma_codegen_util.specs.declared.config.Config.{Config}
@@ -60,6 +60,20 @@ pub level : (x : Item) (old new : Sheet) (answer r : Result (Unit {0}) Refusal) 
 unfolding Writes
 level x old new (Ok u) r h eq l = let P : Result (Unit {0}) Refusal → Type 0 = λ z. OnOk z (new.indentation ≡ old.indentation) in subst P (sym eq) (ap (λ (s : Sheet). s.indentation) h.1 ∙ effect_level x old l)
 level x old new (Err e) r h eq l = let P : Result (Unit {0}) Refusal → Type 0 = λ z. OnOk z (new.indentation ≡ old.indentation) in subst P (sym eq) tt
+
+-- one that changes it by a level
+pub deeper_level : (old new : Sheet) (answer r : Result (Unit {0}) Refusal) → Writes Deeper old new answer → r ≡ answer → OnOk r (new.indentation ≡ old.indentation + 1)
+unfolding Writes
+deeper_level old new (Ok u) r h eq = let P : Result (Unit {0}) Refusal → Type 0 = λ z. OnOk z (new.indentation ≡ old.indentation + 1) in subst P (sym eq) (ap (λ (s : Sheet). s.indentation) h.1 ∙ effect_indentation Deeper old)
+deeper_level old new (Err e) r h eq = let P : Result (Unit {0}) Refusal → Type 0 = λ z. OnOk z (new.indentation ≡ old.indentation + 1) in subst P (sym eq) tt
+
+pub shallower_level : (old new : Sheet) (answer r : Result (Unit {0}) Refusal) → 0 < old.indentation → Writes Shallower old new answer → r ≡ answer → OnOk r (new.indentation + 1 ≡ old.indentation)
+unfolding Writes
+shallower_level old new (Ok u) r some h eq =
+    let P : Result (Unit {0}) Refusal → Type 0 = λ z. OnOk z (new.indentation + 1 ≡ old.indentation) in
+    let less : new.indentation ≡ old.indentation - 1 = ap (λ (s : Sheet). s.indentation) h.1 ∙ effect_indentation Shallower old in
+    subst P (sym eq) (omega (arith, some, less))
+shallower_level old new (Err e) r some h eq = let P : Result (Unit {0}) Refusal → Type 0 = λ z. OnOk z (new.indentation + 1 ≡ old.indentation) in subst P (sym eq) tt
 
 -- ---- calls as steps
 

@@ -1,8 +1,9 @@
 -- What is written of lists of nodes, by the bits of their formats.
 use Rattle.std.specs.Prelude.{ℕ, nat_lt, ◌==◌, ◌&&◌, Bool, true, false, not, if◌then◌else◌, List, [], ◌∷◌, length, codes, Option, Some, None}
-use Rattle.std.specs.Char.{is_whitespace}
+use Rattle.core.specs.Char.{is_whitespace}
 use Rattle.std.specs.Str.{chars}
 use Rattle.swc_ecma_codegen_common.specs.declared.positions.Span.{Span}
+use Rattle.swc_ecma_codegen_util.specs.declared.config.Config.{Config}
 use Rattle.swc_ecma_codegen_text_writer.specs.Sheet.{Deeper, Shallower}
 use Rattle.swc_ecma_codegen_ast.specs.SourceLines.{Lines}
 use Rattle.swc_ecma_codegen_ast.specs.ListFormats.{multi_line, bar_delimited, ampersand_delimited, comma_delimited, allows_trailing_comma, indented, space_between_braces, space_between_siblings, optional_if_undefined, optional_if_empty, no_intervening_comments, no_space_if_empty, forces_trailing_comma, can_skip_trailing_comma, leading_line, separating_line, closing_line}
@@ -31,14 +32,27 @@ line_or_blank line wanted rest = if line then formatting_line rest else blank_if
 unfoldable pub deeper : Part
 deeper rest = step (Plain Deeper) rest
 
+unfoldable pub formatting_deeper : Part
+formatting_deeper = when_minified no_part deeper
+
 unfoldable pub deeper_if : Bool → Part
-deeper_if wanted rest = if wanted then when_minified no_part deeper rest else rest
+deeper_if wanted rest = if wanted then formatting_deeper rest else rest
 
 unfoldable pub shallower : Part
 shallower rest = step (Plain Shallower) rest
 
+unfoldable pub formatting_shallower : Part
+formatting_shallower = when_minified no_part shallower
+
 unfoldable pub shallower_if : Bool → Part
-shallower_if wanted rest = if wanted then when_minified no_part shallower rest else rest
+shallower_if wanted rest = if wanted then formatting_shallower rest else rest
+
+-- the levels that this makes
+abbrev pub level_if : Bool → Config → ℕ
+level_if wanted config = if wanted && not config.minify then 1 else 0
+
+abbrev pub list_levels : ℕ → Config → ℕ
+list_levels format config = level_if (indented format) config
 
 -- ---- before and between the children
 
