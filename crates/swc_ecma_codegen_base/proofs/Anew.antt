@@ -12,7 +12,7 @@ pub emits_same : (p q : Part) (a b : State) (r : Result (Unit {0}) Refusal) → 
 emits_same p q a b (Ok u) h k = λ rest c r f. follows_same (p rest) (q rest) a c r (h rest) (k rest c r f)
 emits_same p q a b (Err e) h k = λ rest. follows_same (p rest) (q rest) a b (Err e) (h rest) (k rest)
 
-anew : (due : Bool) (part : Part) (a b : State) (r : Result (Unit {0}) Refusal) → a.failed ≡ false → Emits part a b r → Emits (λ rest. step (Remake due) (part rest)) a b r
+pub anew : (due : Bool) (part : Part) (a b : State) (r : Result (Unit {0}) Refusal) → a.failed ≡ false → Emits part a b r → Emits (λ rest. step (Remake due) (part rest)) a b r
 unfolding put
 anew due part a b (Ok u) fresh h = λ rest c r f. follows_step (Remake due) (part rest) a c r fresh (h rest c r f)
 anew due part a b (Err e) fresh h = λ rest. follows_step (Remake due) (part rest) a b (Err e) fresh (h rest)
@@ -23,7 +23,7 @@ spelled_here word due by t u a b r fresh same eq h =
     emits_same word (λ rest. step (Remake due) (by u rest)) a b r same (anew due (by u) a b r fresh (let P : List ℕ → Type 0 = λ v. Emits (by v) a b r in subst P eq h))
 
 -- memory for it is refused
-not_here : (word : Part) (due : Bool) (part : Part) (e : Refusal) (a b : State) → a.failed ≡ false → ((rest : Plan) → word rest a.env ≡ step (Remake due) (part rest) a.env) → e ≡ OutOfMemory → due ≡ true → b ≡ record a { failed = true } → Emits word a b (Err e)
+pub not_here : (word : Part) (due : Bool) (part : Part) (e : Refusal) (a b : State) → a.failed ≡ false → ((rest : Plan) → word rest a.env ≡ step (Remake due) (part rest) a.env) → e ≡ OutOfMemory → due ≡ true → b ≡ record a { failed = true } → Emits word a b (Err e)
 unfolding IsRefused
 not_here word due part e a b fresh same eq h marked =
     emits_same word (λ rest. step (Remake due) (part rest)) a b (Err e) same (λ rest. emits_refused (Remake due) e a b fresh (marked_with a b marked) (eq, h, ap (λ (s : State). s.sheet) marked) (part rest))

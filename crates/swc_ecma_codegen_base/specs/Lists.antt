@@ -121,13 +121,12 @@ wanted_comma format parent rest =
     if forces_trailing_comma format then comma_if true rest
     else (if allows_trailing_comma format then source_comma parent rest else rest)
 
--- It isn't written where it can be skipped and the settings are to minify.
-unfoldable pub delimited_comma : ℕ → Span → Part
-delimited_comma format parent rest =
-    if can_skip_trailing_comma format then when_minified no_part (wanted_comma format parent) rest else wanted_comma format parent rest
+-- None is written where children aren't parted by commas, nor where it can be skipped and the settings are to minify.
+abbrev pub may_have_comma : ℕ → Config → Bool
+may_have_comma format config = comma_delimited format && not (can_skip_trailing_comma format && config.minify)
 
 unfoldable pub trailing_comma : ℕ → Span → Part
-trailing_comma format parent rest = if comma_delimited format then delimited_comma format parent rest else rest
+trailing_comma format parent rest env = if may_have_comma format env.config then wanted_comma format parent rest env else rest env
 
 -- After the last: in `{ a }` a blank, in an indented list over several lines a level less and a line end.
 unfoldable pub closing : ℕ → Bool → Part
@@ -145,10 +144,19 @@ list_closing format parent last rest = trailing_comma format parent (list_end fo
 unfoldable pub empty_list : ℕ → Part
 empty_list format rest = if multi_line format then formatting_line rest else blank_if (space_between_braces format && not (no_space_if_empty format)) rest
 
+-- the children after one that stands at `previous`
+unfoldable pub more_children : ℕ → Span → List ListChild → Part
+more_children format previous [] rest = rest
+more_children format previous (x ∷ xs) rest = next_child format previous x (more_children format x.place xs rest)
+
+-- where the last of them stands
+unfoldable pub last_place : Span → List ListChild → Span
+last_place previous [] = previous
+last_place previous (x ∷ xs) = last_place x.place xs
+
 -- what comes after a child that stands at `previous`
-unfoldable pub list_after : ℕ → Span → Span → List ListChild → Part
-list_after format parent previous [] rest = list_closing format parent previous rest
-list_after format parent previous (x ∷ xs) rest = next_child format previous x (list_after format parent x.place xs rest)
+abbrev pub list_after : ℕ → Span → Span → List ListChild → Part
+list_after format parent previous xs rest = more_children format previous xs (list_closing format parent (last_place previous xs) rest)
 
 -- The children of a list that stands at `parent`: of `[a, b]` this is `a, b`. The brackets aren't its own.
 unfoldable pub list : ℕ → Span → List ListChild → Part

@@ -4,7 +4,7 @@ ghost use Rattle.std.specs.Prelude.{◌≡◌, false, true, OnOk, IfOk, IfErr};
 ghost use Rattle.std.specs.Str.{chars};
 ghost use Rattle.swc_ecma_codegen_common.specs.declared.errors.Error.TheVariants.{OutOfMemory};
 ghost use Rattle.swc_ecma_codegen_base.specs.Run.{Does, Emits, at_lines};
-ghost use Rattle.swc_ecma_codegen_base.specs.Lists.{comma_before_end, has_trailing_comma, source_has_comma, comma_if, source_comma, wanted_comma, trailing_comma};
+ghost use Rattle.swc_ecma_codegen_base.specs.Lists.{comma_before_end, has_trailing_comma, source_has_comma, comma_if, source_comma, wanted_comma, may_have_comma, trailing_comma};
 ghost use Rattle.swc_ecma_codegen_base.specs.View.{state_of};
 
 use crate::LowerEmitter;
@@ -57,6 +57,14 @@ fn source_has_comma<S: SourceMapper>(
     }
 }
 
+/// Whether a list may have a trailing comma.
+fn may_have_comma(cfg: &Config, format: ListFormat) -> bool
+    ensures { result ≡ may_have_comma format.0 cfg.now }
+{
+    format.contains(ListFormat::CommaDelimited)
+        && !(format.contains(ListFormat::CanSkipTrailingComma) && cfg.minify)
+}
+
 impl LowerEmitter {
     /// Writes a comma and a blank, where they are wanted.
     #[tactic(auto, unfolding(crate::specs::Lists::comma_if))]
@@ -72,6 +80,7 @@ impl LowerEmitter {
     }
 
     /// Writes a trailing comma where the source text has one.
+    #[tactic(auto, unfolding(crate::specs::Lists::source_comma))]
     fn source_comma<W: WriteJs, S: SourceMapper>(
         &mut self,
         cfg: &Config,
@@ -98,6 +107,7 @@ impl LowerEmitter {
     }
 
     /// Writes a trailing comma where the format forces one, or allows it and the source text has one.
+    #[tactic(auto, unfolding(crate::specs::Lists::wanted_comma), using(crate::proofs::ListCommas::comma_forced))]
     fn wanted_comma<W: WriteJs, S: SourceMapper>(
         &mut self,
         cfg: &Config,
@@ -119,6 +129,7 @@ impl LowerEmitter {
     }
 
     /// Writes the trailing comma of a list, where it has one.
+    #[tactic(auto, using(crate::proofs::ListCommas::comma_written, crate::proofs::ListCommas::comma_left_out))]
     pub fn trailing_comma<W: WriteJs, S: SourceMapper>(
         &mut self,
         cfg: &Config,
@@ -130,13 +141,8 @@ impl LowerEmitter {
         ensures items { Emits (trailing_comma format.0 parent) (at_lines (S.lines cm.now) (state_of cfg.now (W.sheet wr.old) self.old)) (at_lines (S.lines cm.now) (state_of cfg.now (W.sheet wr.new) self.new)) result }
         ensures level { OnOk result ((W.sheet wr.new).indentation ≡ (W.sheet wr.old).indentation) }
     {
-        if !format.contains(ListFormat::CommaDelimited) {
+        if !may_have_comma(cfg, format) {
             return Ok(());
-        }
-        if format.contains(ListFormat::CanSkipTrailingComma) {
-            if cfg.minify {
-                return Ok(());
-            }
         }
         self.wanted_comma(cfg, cm, wr, format, parent)
     }
