@@ -1,3 +1,4 @@
+pub mod AssignPhrases
 pub mod Chars
 pub mod CodeUnits
 pub mod CommentMaps
@@ -18,6 +19,7 @@ pub mod NameTurns
 pub mod Names
 pub mod NumberValues
 pub mod Numbers
+pub mod PartPhrases
 pub mod Parts
 pub mod Phrases
 pub mod Punctuators

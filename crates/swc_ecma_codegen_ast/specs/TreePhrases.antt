@@ -9,8 +9,9 @@ use Rattle.swc_ecma_codegen_ast.specs.Settings.{Settings}
 use Rattle.swc_ecma_codegen_ast.specs.Tokens.{Token}
 use Rattle.swc_ecma_codegen_ast.specs.Phrases.{Phrase, Never, Generates, is_possible}
 use Rattle.swc_ecma_codegen_ast.specs.declared.roles.Role.{Role}
-use Rattle.swc_ecma_codegen_ast.specs.declared.roles.Role.TheVariants.{Expression, Statement, MemberExpression}
-use Rattle.swc_ecma_codegen_ast.specs.ExprPhrases.{expr, member_expr}
+use Rattle.swc_ecma_codegen_ast.specs.declared.roles.Role.TheVariants.{Expression, Statement, MemberExpression, ChainMember}
+use Rattle.swc_ecma_codegen_ast.specs.ExprPhrases.{expr, member_expr, chain_member}
+use Rattle.swc_ecma_codegen_ast.specs.PartPhrases.{expr_part}
 use Rattle.swc_ecma_codegen_ast.specs.StmtPhrases.{stmt, program}
 
 -- one node, where f says what is read of what its links hold: a node of another sort has no place there
@@ -18,6 +19,8 @@ unfoldable pub node_phrase : {X : Type 0} → (X → Role → Phrase) → AnyNod
 node_phrase f (nodes.Expr n) Expression = expr f n
 node_phrase f (nodes.Stmt n) Statement = stmt f n
 node_phrase f (nodes.MemberExpr n) MemberExpression = member_expr f n
+node_phrase f (nodes.MemberExpr n) (ChainMember optional) = chain_member f optional n
+node_phrase f (nodes.ExprPart n) role = expr_part f n role
 node_phrase f n role = Never
 
 -- a whole node

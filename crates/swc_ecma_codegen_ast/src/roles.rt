@@ -6,4 +6,8 @@ pub enum Role {
     Expression,
     Statement,
     MemberExpression,
+    /// A member as it stands in an optional chain, and whether `?.` stands before its property: true for `a?.b`, false for
+    /// `.c` of `a?.b.c`.
+    ChainMember(bool),
+    AssignmentTarget,
 }
