@@ -17,7 +17,7 @@ simple_assign_target f (simple_targets.Member n) = f n.node.value MemberExpressi
 simple_assign_target f (simple_targets.SuperProp n) = super_prop_expr f n
 simple_assign_target f (simple_targets.Paren n) = paren_expr f n
 simple_assign_target f (simple_targets.OptChain n) = opt_chain_expr f n
-simple_assign_target f (targets.Pat n) = assign_target_pat f n
+simple_assign_target f n = Never
 
 unfoldable pub assign_target : {X : Type 0} → (X → Role → Phrase) → AssignTarget X → Phrase
 assign_target f (targets.Simple n) = simple_assign_target f n

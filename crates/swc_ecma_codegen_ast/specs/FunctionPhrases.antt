@@ -51,7 +51,7 @@ function_body f (Some n) = block_at f n
 -- section 15.2: `(a) { b; }`. Only methods of classes have decorators.
 unfoldable pub function : {X : Type 0} → (X → Role → Phrase) → functions.Function X → Phrase
 function f n =
-    if is_some_listed n.decorators.items || (is_some n.type_params || is_some n.return_type) then Never
+    if is_some n.type_params || (is_some n.return_type || is_some_listed n.decorators.items) then Never
     else (mark (codes "(") > listed (codes ",") (map (param f) n.params.items) > mark (codes ")") > function_body f n.body)
 
 -- sections 15.2, 15.5, 15.6 and 15.8: `function`, `function*`, `async function`, `async function*`
