@@ -1,5 +1,5 @@
 -- How the text of a node begins, by the first token of its lists.
-use Rattle.std.proofs.Common.{◌≡◌, ℕ, Bool, true, false, cond, List, [], ◌∷◌, ◌++◌, map, codes, refl, sym, ap, ◌∙◌, subst, Option, Some, None}
+use Rattle.std.proofs.Common.{◌≡◌, ℕ, Bool, true, false, cond, List, [], ◌∷◌, ◌++◌, map, codes, refl, sym, ap, ◌∙◌, subst, is_some, Option, Some, None}
 use Rattle.std.specs.declared.string.String.{String}
 use Rattle.std.proofs.lemmas.Bool.{true≢false}
 use denote.Hole.Holds.{Such}
@@ -13,6 +13,17 @@ use Rattle.swc_ecma_codegen_tree.specs.declared.links.AnyNode.TheFolds.{claims}
 use Rattle.swc_ecma_codegen_tree.specs.declared.expr_links.ExprBox.{ExprBox}
 use Rattle.swc_ecma_codegen_tree.specs.declared.exprs.Expr.{Expr}
 use Rattle.swc_ecma_codegen_tree.specs.declared.exprs.Expr.TheVariants as exprs
+use Rattle.swc_ecma_codegen_tree.specs.declared.exprs.OptChainBase.{OptChainBase}
+use Rattle.swc_ecma_codegen_tree.specs.declared.exprs.OptChainBase.TheVariants as chain_bases
+use Rattle.swc_ecma_codegen_tree.specs.declared.exprs.MetaPropKind.{MetaPropKind}
+use Rattle.swc_ecma_codegen_tree.specs.declared.exprs.MetaPropKind.TheVariants as meta_props
+use Rattle.swc_ecma_codegen_tree.specs.declared.idents.Ident.{Ident}
+use Rattle.swc_ecma_codegen_tree.specs.declared.parts.ExprPart.{ExprPart}
+use Rattle.swc_ecma_codegen_tree.specs.declared.parts.ExprPart.TheVariants as expr_parts
+use Rattle.swc_ecma_codegen_tree.specs.declared.pats.AssignTarget.{AssignTarget}
+use Rattle.swc_ecma_codegen_tree.specs.declared.pats.AssignTarget.TheVariants as targets
+use Rattle.swc_ecma_codegen_tree.specs.declared.pats.SimpleAssignTarget.{SimpleAssignTarget}
+use Rattle.swc_ecma_codegen_tree.specs.declared.pats.SimpleAssignTarget.TheVariants as simple_targets
 use Rattle.swc_ecma_codegen_common.specs.declared.decimals.Decimal.{Decimal}
 use Rattle.swc_ecma_codegen_tree.specs.declared.lits.Lit.{Lit}
 use Rattle.swc_ecma_codegen_tree.specs.declared.lits.Lit.TheVariants as lits
@@ -26,14 +37,16 @@ use Rattle.swc_ecma_codegen_common.specs.declared.positions.BytePos.{BytePos}
 use Rattle.swc_ecma_codegen_ast.specs.Phrases.{Phrase, Never, One, NameOf, Then, Generates, ◌>◌, mark}
 use Rattle.swc_ecma_codegen_ast.specs.Phrases as phrases
 use Rattle.swc_ecma_codegen_ast.specs.declared.roles.Role.{Role}
-use Rattle.swc_ecma_codegen_ast.specs.declared.roles.Role.TheVariants.{Expression, Statement, MemberExpression}
+use Rattle.swc_ecma_codegen_ast.specs.declared.roles.Role.TheVariants.{Expression, Statement, MemberExpression, ChainMember, AssignmentTarget}
 use Rattle.swc_ecma_codegen_ast.specs.NamePhrases as names
 use Rattle.swc_ecma_codegen_ast.specs.ExprPhrases as lists
 use Rattle.swc_ecma_codegen_ast.specs.LitPhrases as lit_lists
+use Rattle.swc_ecma_codegen_ast.specs.AssignPhrases as target_lists
+use Rattle.swc_ecma_codegen_ast.specs.PartPhrases as part_lists
 use Rattle.swc_ecma_codegen_ast.specs.StmtPhrases as stmt_lists
 use Rattle.swc_ecma_codegen_ast.specs.TreePhrases.{node_phrase, phrase, expr_phrase}
 use Rattle.swc_ecma_codegen_ast.proofs.TreeLaws.{phrase_of}
-use Rattle.swc_ecma_codegen_util.specs.Starts.{is_word_op, lit_starts, update_starts, first_starts, expr_starts, stmt_starts, node_starts, any_starts}
+use Rattle.swc_ecma_codegen_util.specs.Starts.{is_word_op, lit_starts, update_starts, first_starts, chain_starts, expr_starts, simple_target_starts, target_starts, expr_part_starts, stmt_starts, node_starts, any_starts}
 use Rattle.swc_ecma_codegen_util.proofs.Begins.{starts_of}
 use Rattle.swc_ecma_codegen.specs.FirstTokens.{joins_a_word}
 
@@ -162,18 +175,34 @@ unfolding phrases.some_listed first_starts
 seq_begins reads starts law [] = begins_never false
 seq_begins reads starts law (x ∷ xs) = begins_then _ _ _ (law x.node.value Expression)
 
+meta_prop_begins : (kind : MetaPropKind) → Begins (lists.meta_prop kind) true
+unfolding lists.meta_prop
+meta_prop_begins meta_props.NewTarget = begins_then _ _ _ (begins_true _)
+meta_prop_begins meta_props.ImportMeta = begins_then _ _ _ (begins_true _)
+
+chain_begins : {X : Type 0} (reads : X → Role → Phrase) (starts : X → Bool) → Begin reads starts → (optional : Bool) (n : OptChainBase X) → Begins (lists.chain_base reads optional n) (chain_starts starts n)
+unfolding lists.chain_base chain_starts
+chain_begins reads starts law optional (chain_bases.Member n) = law n.node.value (ChainMember optional)
+chain_begins reads starts law optional (chain_bases.Call n) = begins_never _
+
 expr_begins : {X : Type 0} (reads : X → Role → Phrase) (starts : X → Bool) → Begin reads starts → (n : Expr X) → Begins (lists.expr reads n) (expr_starts starts n)
-unfolding expr_starts update_starts lists.expr lists.this_expr lists.unary_expr lists.update_expr lists.update_op lists.bin_expr lists.cond_expr lists.seq_expr lists.paren_expr names.ident
+unfolding expr_starts update_starts lists.expr lists.this_expr lists.unary_expr lists.update_expr lists.update_op lists.bin_expr lists.assign_expr lists.super_prop_expr lists.yield_expr lists.meta_prop_expr lists.await_expr lists.opt_chain_expr lists.cond_expr lists.seq_expr lists.paren_expr names.ident
 expr_begins reads starts law (exprs.This n) = begins_true _
 expr_begins reads starts law (exprs.Unary n) = begins_then _ _ _ (begins_unary n.op)
 expr_begins reads starts law (exprs.Update n) = begins_update n.prefix (update_text n.op) _ _ (law n.arg.node.value Expression)
 expr_begins reads starts law (exprs.Bin n) = begins_then _ _ _ (law n.left.node.value Expression)
+expr_begins reads starts law (exprs.Assign n) = begins_then _ _ _ (law n.left.node.value AssignmentTarget)
 expr_begins reads starts law (exprs.Member n) = law n.node.value MemberExpression
+expr_begins reads starts law (exprs.SuperProp n) = begins_then _ _ _ (begins_true _)
 expr_begins reads starts law (exprs.Cond n) = begins_then _ _ _ (law n.test.node.value Expression)
 expr_begins reads starts law (exprs.Seq n) = seq_begins reads starts law n.exprs.items
 expr_begins reads starts law (exprs.Ident n) = begins_then _ _ _ (begins_name _ _)
 expr_begins reads starts law (exprs.Lit n) = begins_lit n
+expr_begins reads starts law (exprs.Yield n) = begins_then _ _ _ (begins_true _)
+expr_begins reads starts law (exprs.MetaProp n) = meta_prop_begins n.kind
+expr_begins reads starts law (exprs.Await n) = begins_then _ _ _ (begins_true _)
 expr_begins reads starts law (exprs.Paren n) = begins_then _ _ _ (begins_mark _ false)
+expr_begins reads starts law (exprs.OptChain n) = chain_begins reads starts law n.optional n.base
 expr_begins reads starts law n = begins_never _
 
 stmt_begins : {X : Type 0} (reads : X → Role → Phrase) (starts : X → Bool) → Begin reads starts → (n : Stmt X) → Begins (stmt_lists.stmt reads n) (stmt_starts starts n)
@@ -182,11 +211,37 @@ stmt_begins reads starts law (stmts.Empty n) = begins_mark _ false
 stmt_begins reads starts law (stmts.Expr n) = begins_then _ _ _ (law n.expr.node.value Expression)
 stmt_begins reads starts law n = begins_never _
 
+binding_begins : (typed : Bool) (id : Ident) → Begins (cond typed Never (names.ident id)) true
+unfolding names.ident
+binding_begins true id = begins_never true
+binding_begins false id = begins_then _ _ _ (begins_name _ _)
+
+simple_target_begins : {X : Type 0} (reads : X → Role → Phrase) (starts : X → Bool) → Begin reads starts → (n : SimpleAssignTarget X) → Begins (target_lists.simple_assign_target reads n) (simple_target_starts starts n)
+unfolding simple_target_starts target_lists.simple_assign_target names.binding_ident lists.super_prop_expr lists.paren_expr lists.opt_chain_expr
+simple_target_begins reads starts law (simple_targets.Ident n) = binding_begins (is_some n.type_ann) n.id
+simple_target_begins reads starts law (simple_targets.Member n) = law n.node.value MemberExpression
+simple_target_begins reads starts law (simple_targets.SuperProp n) = begins_then _ _ _ (begins_true _)
+simple_target_begins reads starts law (simple_targets.Paren n) = begins_then _ _ _ (begins_mark _ false)
+simple_target_begins reads starts law (simple_targets.OptChain n) = chain_begins reads starts law n.optional n.base
+simple_target_begins reads starts law n = begins_never _
+
+target_begins : {X : Type 0} (reads : X → Role → Phrase) (starts : X → Bool) → Begin reads starts → (n : AssignTarget X) → Begins (target_lists.assign_target reads n) (target_starts starts n)
+unfolding target_starts target_lists.assign_target
+target_begins reads starts law (targets.Simple n) = simple_target_begins reads starts law n
+target_begins reads starts law n = begins_never _
+
+part_begins : {X : Type 0} (reads : X → Role → Phrase) (starts : X → Bool) → Begin reads starts → (n : ExprPart X) (role : Role) → Begins (part_lists.expr_part reads n role) (expr_part_starts starts n)
+unfolding part_lists.expr_part expr_part_starts
+part_begins reads starts law (expr_parts.AssignTarget n) AssignmentTarget = target_begins reads starts law n
+part_begins reads starts law n role = begins_never _
+
 node_begins : {X : Type 0} (reads : X → Role → Phrase) (starts : X → Bool) → Begin reads starts → (n : AnyNode-F X) (role : Role) → Begins (node_phrase reads n role) (node_starts starts n)
-unfolding node_phrase node_starts lists.member_expr
+unfolding node_phrase node_starts lists.member_expr lists.chain_member
 node_begins reads starts law (nodes.Expr n) Expression = expr_begins reads starts law n
 node_begins reads starts law (nodes.Stmt n) Statement = stmt_begins reads starts law n
 node_begins reads starts law (nodes.MemberExpr n) MemberExpression = begins_then _ _ _ (law n.obj.node.value Expression)
+node_begins reads starts law (nodes.MemberExpr n) (ChainMember optional) = begins_then _ _ _ (law n.obj.node.value Expression)
+node_begins reads starts law (nodes.ExprPart n) role = part_begins reads starts law n role
 node_begins reads starts law n role = begins_never _
 
 -- ---- whole nodes

@@ -23,7 +23,7 @@ use swc_ecma_codegen_ast::mapper::SourceMapper;
 use swc_ecma_codegen_common::{Answer, Error, Result};
 use swc_ecma_codegen_spans::Spanned;
 use swc_ecma_codegen_text_writer::WriteJs;
-use swc_ecma_codegen_tree::{ExprBox, MemberExprBox, StmtBox};
+use swc_ecma_codegen_tree::{AssignTargetBox, ExprBox, MemberExprBox, StmtBox};
 
 /// A node that can be printed: each type of node, a link, and a reference, a box or an option of these. swc's `Node`.
 pub trait Node: Spanned {
@@ -143,6 +143,18 @@ impl<N: EmitAt> EmitAt for StmtBox<N> {
 }
 
 impl<N: EmitAt> EmitAt for MemberExprBox<N> {
+    ghost items = { λ n place. N.items n.node.value place };
+
+    fn emit_at<W: WriteJs, S: SourceMapper, C: Comments>(
+        &self,
+        e: &mut Emitter<'_, W, S, C>,
+        place: Place,
+    ) -> Answer {
+        self.held().emit_at(e, place)
+    }
+}
+
+impl<N: EmitAt> EmitAt for AssignTargetBox<N> {
     ghost items = { λ n place. N.items n.node.value place };
 
     fn emit_at<W: WriteJs, S: SourceMapper, C: Comments>(

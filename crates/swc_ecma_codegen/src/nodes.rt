@@ -24,6 +24,8 @@ pub enum Place {
     Object,
     /// The object of a property after a dot, and where the property stands: `1` in `1..a`.
     DottedObject(BytePos),
+    /// A member in an optional chain, and whether `?.` stands before its property: `a?.b`
+    Chain(bool),
 }
 
 /// What a node tells those above it.

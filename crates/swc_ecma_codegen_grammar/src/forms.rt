@@ -2,12 +2,12 @@
 
 ghost use Rattle.std.specs.Prelude.{◌≡◌, Bool, List, true};
 ghost use Rattle.swc_ecma_codegen_ast.specs.declared.roles.Role.{Role as InRole};
-ghost use Rattle.swc_ecma_codegen_ast.specs.declared.roles.Role.TheVariants.{Expression, Statement, MemberExpression};
+ghost use Rattle.swc_ecma_codegen_ast.specs.declared.roles.Role.TheVariants.{Expression, Statement, MemberExpression, AssignmentTarget};
 ghost use Rattle.swc_ecma_codegen_ast.specs.Phrases.{Phrase, is_possible};
 ghost use Rattle.swc_ecma_codegen_grammar.specs.Possible.{all_possible};
 
 use swc_ecma_codegen_ast::roles::Role;
-use swc_ecma_codegen_tree::{ExprBox, MemberExprBox, StmtBox};
+use swc_ecma_codegen_tree::{AssignTargetBox, ExprBox, MemberExprBox, StmtBox};
 
 /// A node, or a link to one.
 pub trait WellFormed {
@@ -48,6 +48,14 @@ impl<N: Fits> WellFormed for MemberExprBox<N> {
 
     fn is_well_formed(&self) -> bool {
         self.held().fits(Role::MemberExpression)
+    }
+}
+
+impl<N: Fits> WellFormed for AssignTargetBox<N> {
+    ghost phrase = { λ n. N.reads n.node.value AssignmentTarget };
+
+    fn is_well_formed(&self) -> bool {
+        self.held().fits(Role::AssignmentTarget)
     }
 }
 

@@ -10,9 +10,11 @@ mod lits;
 mod names;
 mod numbers;
 mod numerals;
+mod parts;
 mod regexes;
 mod stmts;
 mod strings;
+mod targets;
 mod texts;
 
 pub use crate::forms::{Fits, WellFormed};
