@@ -1,6 +1,6 @@
 -- What is there by cases, and lists that are mapped.
 use Rattle.std.proofs.Common.{◌≡◌, refl, ◌∙◌, ap, List, [], ◌∷◌, map, Option, Some, None}
-use Rattle.swc_ecma_codegen_ast.specs.Phrases.{Phrase, Nothing, OptionalComma, ◌>◌}
+use Rattle.swc_ecma_codegen_ast.specs.Phrases.{Phrase}
 use Rattle.swc_ecma_codegen_ast.specs.ElementPhrases.{element, last_is_hole, trailing_comma}
 
 pub list_mapped : {A B C : Type 0} (g : A → B) (e : B → C) (d : A → C) → ((x : A) → e (g x) ≡ d x) → (xs : List A) → map e (map g xs) ≡ map d xs

@@ -1,6 +1,6 @@
 -- The productions of objects and their properties see what links hold through f alone.
-use Rattle.std.proofs.Common.{◌≡◌, refl, sym, ◌∙◌, ap, List, [], ◌∷◌, map, codes, Bool, true, false, cond, ◌||◌, is_some, Option, Some, None}
-use Rattle.swc_ecma_codegen_tree.specs.declared.links.AnyNode.{AnyNode, AnyNode-F, map-AnyNode}
+use Rattle.std.proofs.Common.{◌≡◌, refl, ap, codes, Option, Some, None}
+use Rattle.swc_ecma_codegen_tree.specs.declared.links.AnyNode.{map-AnyNode}
 use Rattle.swc_ecma_codegen_tree.specs.declared.links.AnyNode.TheOpen as nodes
 use Rattle.swc_ecma_codegen_tree.specs.declared.expr_links.PropBox.{PropBox}
 use Rattle.swc_ecma_codegen_tree.specs.declared.expr_links.PatBox.{PatBox}
@@ -17,7 +17,7 @@ use Rattle.swc_ecma_codegen_tree.specs.declared.exprs.GetterProp.{GetterProp}
 use Rattle.swc_ecma_codegen_tree.specs.declared.exprs.SetterProp.{SetterProp}
 use Rattle.swc_ecma_codegen_tree.specs.declared.exprs.PropName.{PropName}
 use Rattle.swc_ecma_codegen_tree.specs.declared.exprs.PropName.TheVariants as prop_names
-use Rattle.swc_ecma_codegen_ast.specs.Phrases.{Phrase, Never, Nothing, ◌>◌, mark, listed}
+use Rattle.swc_ecma_codegen_ast.specs.Phrases.{Phrase, ◌>◌, mark, listed}
 use Rattle.swc_ecma_codegen_ast.specs.declared.roles.Role.{Role}
 use Rattle.swc_ecma_codegen_ast.specs.declared.roles.Role.TheVariants.{PropertyName, PropertyDefinition, ObjectLiteral}
 use Rattle.swc_ecma_codegen_ast.specs.ExprPhrases.{computed_prop_name, spread_element}

@@ -1,6 +1,6 @@
 -- Patterns: one production a node. `f` says what is read of what a link holds, in its role. What TypeScript adds, a type or `?`
 -- after a bracket, isn't printed yet.
-use Rattle.std.specs.Prelude.{Bool, ◌||◌, is_some, if◌then◌else◌, List, map, codes, Option, Some, None}
+use Rattle.std.specs.Prelude.{◌||◌, is_some, if◌then◌else◌, List, map, codes, Option, Some, None}
 use Rattle.swc_ecma_codegen_tree.specs.declared.expr_links.ExprBox.{ExprBox}
 use Rattle.swc_ecma_codegen_tree.specs.declared.expr_links.PatBox.{PatBox}
 use Rattle.swc_ecma_codegen_tree.specs.declared.expr_links.PropNameBox.{PropNameBox}

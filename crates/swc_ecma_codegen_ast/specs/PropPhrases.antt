@@ -1,7 +1,6 @@
 -- Objects and their properties: one production a node. `f` says what is read of what a link holds, in its role. What TypeScript
 -- adds, the type of a getter and `this` before the parameter of a setter, isn't printed yet.
-use Rattle.std.specs.Prelude.{Bool, is_some, if◌then◌else◌, map, codes, string_bytes, Option, Some, None}
-use Rattle.swc_ecma_codegen_tree.specs.declared.expr_links.PropBox.{PropBox}
+use Rattle.std.specs.Prelude.{is_some, if◌then◌else◌, map, codes, string_bytes, Option, Some, None}
 use Rattle.swc_ecma_codegen_tree.specs.declared.exprs.ObjectLit.{ObjectLit}
 use Rattle.swc_ecma_codegen_tree.specs.declared.exprs.PropOrSpread.{PropOrSpread}
 use Rattle.swc_ecma_codegen_tree.specs.declared.exprs.PropOrSpread.TheVariants as prop_or_spreads
