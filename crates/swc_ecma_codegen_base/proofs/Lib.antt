@@ -24,7 +24,10 @@ pub mod Positions
 pub mod Printed
 pub mod LiteralParts
 pub mod Phrased
+pub mod Choices
+pub mod KeyPrints
 pub mod SoFar
+pub mod KeyTexts
 pub mod AsciiTexts
 pub mod ScriptTexts
 pub mod Made

@@ -16,7 +16,7 @@ use Rattle.swc_ecma_codegen_base.specs.Escapes.{may_make_text}
 use Rattle.swc_ecma_codegen_base.proofs.RawTexts.{ascii_is}
 
 -- some byte isn't ASCII
-not_ascii : (t : List ℕ) → is_ascii_text t ≡ false → IsNotAscii t
+pub not_ascii : (t : List ℕ) → is_ascii_text t ≡ false → IsNotAscii t
 not_ascii [] h = absurd (false≢true (sym h))
 not_ascii (c ∷ cs) h = elim (cases_lt c 128) [
   | inl l ↦ let n = not_ascii cs (sym (ap (λ b. b && is_ascii_text cs) (lt-ltb c 128 l)) ∙ h) in (suc n.0, n.1)
@@ -97,7 +97,7 @@ not_false : (b : Bool) → not b ≡ false → b ≡ true
 not_false true h = refl
 not_false false h = absurd (false≢true (sym h))
 
-kept_ascii : (config : Config) (t : List ℕ) → wants_escapes config t ≡ false → config.ascii_only ≡ true → is_ascii_text t ≡ true
+pub kept_ascii : (config : Config) (t : List ℕ) → wants_escapes config t ≡ false → config.ascii_only ≡ true → is_ascii_text t ≡ true
 unfolding wants_escapes
 kept_ascii config t k e = not_false (is_ascii_text t) (sym (ap (λ b. b && not (is_ascii_text t)) e) ∙ k)
 
