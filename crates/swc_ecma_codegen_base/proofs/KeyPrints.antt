@@ -23,9 +23,10 @@ use Rattle.swc_ecma_codegen_base.specs.Scripts.{is_string_call, string_by_value,
 use Rattle.swc_ecma_codegen_base.specs.Settings.{settings_of}
 use Rattle.swc_ecma_codegen_base.specs.Targets.{wants_escapes, written_key, written, is_out}
 use Rattle.swc_ecma_codegen_base.specs.Words.{commit_pending_semi, leading_comments, position, symbol}
+use Rattle.swc_ecma_codegen_base.proofs.Hands.{holds_string}
 use Rattle.swc_ecma_codegen_base.proofs.KeyTexts.{SpellsKey, made_key, kept_key}
 use Rattle.swc_ecma_codegen_base.proofs.LiteralParts.{writes_guard}
-use Rattle.swc_ecma_codegen_base.proofs.Phrased.{IsSafe, NamedBy, Prints, after, names_then, no_names, prints_same}
+use Rattle.swc_ecma_codegen_base.proofs.Phrased.{IsSafe, NamedBy, Prints, after, names_then, no_names, no_strings, safe_then, prints_same}
 use Rattle.swc_ecma_codegen_base.proofs.Positions.{Named, name_named, name_call, name_steps}
 use Rattle.swc_ecma_codegen_base.proofs.Printed.{Makes, Writes, or_false, writes_then, writes_remake, writes_commit, writes_leading, writes_position, writes_placed}
 use Rattle.swc_ecma_codegen_base.proofs.Written.{Spelled}
@@ -216,3 +217,71 @@ makes_begin env first span t =
 makes_own : (env : Env) (span : Span) (bytes t : List ℕ) → SpellsKey env.config Name bytes t → Writes env (name_part span t) (key_token (settings_of env.config) bytes ∷ [])
 unfolding name_part
 makes_own env span bytes t h = writes_then env commit_pending_semi (placed Name span t) [] (key_token (settings_of env.config) bytes ∷ []) (writes_commit env) (writes_key env Name span bytes t h)
+
+-- ---- a key
+
+-- by a part that it is written as
+key_by : (env : Env) (span : Span) (bytes : List ℕ) (p : Part) → ((rest : Plan) → settled_key span bytes rest env ≡ p rest env) → Makes env p (key_token (settings_of env.config) bytes ∷ []) (has_backslash bytes || wants_escapes env.config (turned bytes)) → NamedBy env p (key_at span.lo bytes ∷ []) → IsSafe env p → Prints env (settled_key span bytes) (KeyOf span.lo bytes)
+unfolding Generates is_out may_make_text names_in
+key_by env span bytes p same m n s =
+    prints_same (settled_key span bytes) p same
+    (record { where_possible = λ w o. record { tokens = key_token (settings_of env.config) bytes ∷ []; generated = refl; writes = m; named = n; safe = s }; where_out = λ w o. absurd (true≢false (sym o)) })
+
+made_prints : (env : Env) (span : Span) (bytes : List ℕ) → env.keeps_invalid ≡ false → is_well_formed_name bytes ≡ true → wants_escapes env.config (turned bytes) ≡ true → Prints env (settled_key span bytes) (KeyOf span.lo bytes)
+made_prints env span bytes e w d =
+    let first : Bool = has_backslash bytes in
+    let kind : Kind = cond (list_any (wants_quotes env.config.target) (chars (turned bytes))) Str Name in
+    let t : List ℕ = ascii_name true env.config.target (chars (turned bytes)) in
+    let h : SpellsKey env.config kind bytes t = made_key env.config bytes w d in
+    let x = key_token (settings_of env.config) bytes in
+    key_by env span bytes (made_part first true kind span t) (λ rest. made_same env span bytes rest e d)
+    (subst (λ b. Makes env (made_part first true kind span t) (x ∷ []) (first || b)) (sym d) (makes_made env first true kind span bytes t h))
+    (made_named env first true kind span bytes t (written_made env.config span.lo bytes d) h.spelled.some)
+    (made_safe env first true kind span t)
+
+kept_prints : (env : Env) (span : Span) (bytes : List ℕ) → env.keeps_invalid ≡ false → is_well_formed_name bytes ≡ true → wants_escapes env.config (turned bytes) ≡ false → env.config.ascii_only ≡ true → Prints env (settled_key span bytes) (KeyOf span.lo bytes)
+kept_prints env span bytes e w k a =
+    let first : Bool = has_backslash bytes in
+    let t : List ℕ = turned bytes in
+    let h : SpellsKey env.config Name bytes t = kept_key env.config bytes w k in
+    let x = key_token (settings_of env.config) bytes in
+    key_by env span bytes (kept_part first span t) (λ rest. kept_same env span bytes rest e k a)
+    (subst (λ b. Makes env (kept_part first span t) (x ∷ []) (first || b)) (sym k) (makes_kept env first span bytes t h))
+    (kept_named env first span bytes t (written_kept env.config span.lo bytes k) h.spelled.some)
+    (kept_safe env first span t)
+
+bare_prints : (env : Env) (span : Span) (bytes : List ℕ) → env.keeps_invalid ≡ false → is_well_formed_name bytes ≡ true → wants_escapes env.config (turned bytes) ≡ false → env.config.ascii_only ≡ false → Prints env (settled_key span bytes) (KeyOf span.lo bytes)
+unfolding holds_string
+bare_prints env span bytes e w k a =
+    let first : Bool = has_backslash bytes in
+    let t : List ℕ = turned bytes in
+    let h : SpellsKey env.config Name bytes t = kept_key env.config bytes w k in
+    let x = key_token (settings_of env.config) bytes in
+    let begin : Part = begin_part first span t in
+    let whole : Part = λ rest. begin (name_part span t rest) in
+    let m = makes_begin env first span t in
+    key_by env span bytes whole (λ rest. bare_part_same env span bytes rest e k a)
+    (subst (λ b. Makes env whole (x ∷ []) (first || b)) (sym k) (subst (λ b. Makes env whole (x ∷ []) b) (or_false (first || false)) (writes_then env begin (name_part span t) [] (x ∷ []) m (makes_own env span bytes t h))))
+    (names_then (name_part span t) [] (key_at span.lo bytes ∷ []) m (no_names env begin) (own_named env span bytes t (written_kept env.config span.lo bytes k) h.spelled.some))
+    (safe_then (name_part span t) m (no_strings m refl) (own_safe env span t))
+
+prints_settled_key : (env : Env) (span : Span) (bytes : List ℕ) → env.keeps_invalid ≡ false → is_well_formed_name bytes ≡ true → Prints env (settled_key span bytes) (KeyOf span.lo bytes)
+prints_settled_key env span bytes e w = elim (cases_Bool (wants_escapes env.config (turned bytes))) [
+  | inl d ↦ made_prints env span bytes e w d
+  | inr k ↦ elim (cases_Bool env.config.ascii_only) [
+    | inl a ↦ kept_prints env span bytes e w k a
+    | inr a ↦ bare_prints env span bytes e w k a
+  ]
+]
+
+key_prints : (env : Env) (span : Span) (bytes : List ℕ) → env.keeps_invalid ≡ false → Prints env (settled_key span bytes) (KeyOf span.lo bytes)
+unfolding is_possible is_out
+key_prints env span bytes e = record {
+  where_possible = λ w o. (prints_settled_key env span bytes e w).where_possible w o;
+  where_out = λ w o. absurd (true≢false (sym o));
+}
+
+-- a name as a key of a property
+pub prints_key : (env : Env) (span : Span) (bytes : List ℕ) → env.keeps_invalid ≡ false → Prints env (key span bytes) (KeyOf span.lo bytes)
+unfolding key settled_key
+prints_key env span bytes e = after (writes_leading env span.lo) (key_prints env span bytes e)
