@@ -17,13 +17,14 @@ use Rattle.swc_ecma_codegen_text_writer.specs.Sheet.{Symbol, Position, Commit}
 use Rattle.swc_ecma_codegen_util.specs.declared.config.Config.{Config}
 use Rattle.swc_ecma_codegen_literals.specs.AsciiNames.{is_ascii_text, ascii_name, wants_quotes}
 use Rattle.swc_ecma_codegen_base.specs.Escapes.{may_make_text}
-use Rattle.swc_ecma_codegen_base.specs.Keys.{quoted_key, ascii_key, bare_key, plain_key, spelled_key, valid_key, key_text, key}
+use Rattle.swc_ecma_codegen_base.specs.Keys.{quoted_key, ascii_key, bare_key, plain_key, valid_key, key_text, key}
 use Rattle.swc_ecma_codegen_base.specs.Run.{Env, Plan, Part, State, Step, next, Guard, Token, Plain, Remake, step, steps_of, nothing, put, run, spelling, has_backslash}
 use Rattle.swc_ecma_codegen_base.specs.Scripts.{is_string_call, string_by_value, strings_after, AreSafe}
 use Rattle.swc_ecma_codegen_base.specs.Settings.{settings_of}
 use Rattle.swc_ecma_codegen_base.specs.Targets.{wants_escapes, written_key, written, is_out}
 use Rattle.swc_ecma_codegen_base.specs.Words.{commit_pending_semi, leading_comments, position, symbol}
 use Rattle.swc_ecma_codegen_base.proofs.Hands.{holds_string}
+use Rattle.swc_ecma_codegen_base.proofs.KeySteps.{escaped_same, plain_same, symbol_same, bare_same, valid_same}
 use Rattle.swc_ecma_codegen_base.proofs.KeyTexts.{SpellsKey, made_key, kept_key}
 use Rattle.swc_ecma_codegen_base.proofs.LiteralParts.{writes_guard}
 use Rattle.swc_ecma_codegen_base.proofs.Phrased.{IsSafe, NamedBy, Prints, after, names_then, no_names, no_strings, safe_then, prints_same}
@@ -41,30 +42,14 @@ settled_key span bytes rest = commit_pending_semi (key_text span bytes rest)
 abbrev placed : Kind → Span → List ℕ → Part
 placed kind span t rest = step (Guard t) (position span.lo (step (Token kind (Symbol dummy_span t)) rest))
 
-valid_same : (span : Span) (bytes : List ℕ) (rest : Plan) (env : Env) → env.keeps_invalid ≡ false → key_text span bytes rest env ≡ valid_key span bytes rest env
-unfolding key_text
-valid_same span bytes rest env e = ap (λ b. cond b (spelled_key span bytes rest env) (valid_key span bytes rest env)) e
-
-escaped_same : (span : Span) (t : List ℕ) (rest : Plan) (env : Env) → wants_escapes env.config t ≡ true → spelled_key span t rest env ≡ step (Remake true) (ascii_key (list_any (wants_quotes env.config.target) (chars t)) span (ascii_name true env.config.target (chars t)) rest) env
-unfolding spelled_key
-escaped_same span t rest env e = ap (λ b. cond b (step (Remake true) (ascii_key (list_any (wants_quotes env.config.target) (chars t)) span (ascii_name true env.config.target (chars t)) rest) env) (plain_key span t rest env)) e
-
-plain_same : (span : Span) (t : List ℕ) (rest : Plan) (env : Env) → wants_escapes env.config t ≡ false → spelled_key span t rest env ≡ plain_key span t rest env
-unfolding spelled_key
-plain_same span t rest env k = ap (λ b. cond b (step (Remake true) (ascii_key (list_any (wants_quotes env.config.target) (chars t)) span (ascii_name true env.config.target (chars t)) rest) env) (plain_key span t rest env)) k
-
 by_quotes : (q : Bool) (span : Span) (t : List ℕ) (rest : Plan) → ascii_key q span t rest ≡ placed (cond q Str Name) span t rest
 unfolding ascii_key quoted_key symbol
 by_quotes true span t rest = refl
 by_quotes false span t rest = refl
 
-symbol_same : (span : Span) (t : List ℕ) (rest : Plan) (env : Env) → env.config.ascii_only ≡ true → plain_key span t rest env ≡ placed Name span t rest env
-unfolding plain_key symbol
-symbol_same span t rest env e = ap (λ b. cond b (symbol span t rest env) (bare_key span t rest env)) e
-
-bare_same : (span : Span) (t : List ℕ) (rest : Plan) (env : Env) → env.config.ascii_only ≡ false → plain_key span t rest env ≡ bare_key span t rest env
-unfolding plain_key
-bare_same span t rest env e = ap (λ b. cond b (symbol span t rest env) (bare_key span t rest env)) e
+placed_same : (span : Span) (t : List ℕ) (rest : Plan) (env : Env) → env.config.ascii_only ≡ true → plain_key span t rest env ≡ placed Name span t rest env
+unfolding symbol
+placed_same span t rest env e = symbol_same span t rest env e
 
 -- in ASCII: two texts may be made anew
 made_part : Bool → Bool → Kind → Span → List ℕ → Part
@@ -86,7 +71,7 @@ kept_same : (env : Env) (span : Span) (bytes : List ℕ) (rest : Plan) → env.k
 unfolding settled_key kept_part commit_pending_semi valid_key step
 kept_same env span bytes rest e k a =
     ap (λ z. next (Plain Commit) z) (valid_same span bytes rest env e)
-    ∙ ap (λ z. next (Plain Commit) (next (Remake (has_backslash bytes)) z)) (plain_same span (turned bytes) rest env k ∙ symbol_same span (turned bytes) rest env a)
+    ∙ ap (λ z. next (Plain Commit) (next (Remake (has_backslash bytes)) z)) (plain_same span (turned bytes) rest env k ∙ placed_same span (turned bytes) rest env a)
 
 -- as it is: what begins it, and then a name
 begin_part : Bool → Span → List ℕ → Part

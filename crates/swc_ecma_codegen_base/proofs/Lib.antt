@@ -8,6 +8,7 @@ pub mod Calls
 pub mod Spelled
 pub mod Anew
 pub mod RawTexts
+pub mod KeySteps
 pub mod Fronts
 pub mod Levels
 pub mod Strangers
