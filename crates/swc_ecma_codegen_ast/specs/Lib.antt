@@ -15,6 +15,7 @@ pub mod Keys
 pub mod ListFormats
 pub mod LitPhrases
 pub mod LongestMatch
+pub mod SourceLines
 pub mod SpelledNames
 pub mod NamePhrases
 pub mod NameTurns

@@ -8,7 +8,7 @@ use Rattle.swc_ecma_codegen_base.proofs.Emitting.{emits_failed}
 use Rattle.swc_ecma_codegen_base.proofs.LowerEmitter.space.Goals as goal
 
 pub returns-then-self-clause-items : goal.returns-then-self-clause-items
-returns-then-self-clause-items g c = λ rest. emits_failed _ _ c.if-self.true
+returns-then-self-clause-items g c = λ lines rest. emits_failed _ _ c.if-self.true
 
 pub returns-clause-items : goal.returns-clause-items
 unfolding last_at after_plain space

@@ -6,12 +6,12 @@ use Rattle.swc_ecma_codegen_base.proofs.Emitting.{emits_failed}
 use Rattle.swc_ecma_codegen_base.proofs.LowerEmitter.spelled_object.Goals as goal
 
 pub returns-then-self-clause-items : goal.returns-then-self-clause-items
-returns-then-self-clause-items g c = λ rest. emits_failed _ _ c.if-self.true
+returns-then-self-clause-items g c = λ lines rest. emits_failed _ _ c.if-self.true
 
 pub returns-in-Ok-clause-items : goal.returns-in-Ok-clause-items
 unfolding spelled_object
-returns-in-Ok-clause-items g c = spelled_anew (spelled_object c.args.n.now c.args.pos) _ (object_by c.args.n.now.span c.args.pos) _ _ _ _ _ c.if-self.false (λ rest. refl) (c.deref.ensures.value ∙ c.in-Ok.ensures.exactly) c.object_by.ensures.items
+returns-in-Ok-clause-items g c = spelled_anew (spelled_object c.args.n.now c.args.pos) _ (object_by c.args.n.now.span c.args.pos) _ _ _ _ _ c.if-self.false (λ lines rest. refl) (c.deref.ensures.value ∙ c.in-Ok.ensures.exactly) c.object_by.ensures.items
 
 pub returns-in-Err-clause-items : goal.returns-in-Err-clause-items
 unfolding spelled_object
-returns-in-Err-clause-items g c = not_anew (spelled_object c.args.n.now c.args.pos) _ _ _ _ _ c.if-self.false (λ rest. refl) (c.refusal.ensures ∙ ap reason_of c.in-Err.ensures.refused) (c.in-Err.ensures.due) refl
+returns-in-Err-clause-items g c = not_anew (spelled_object c.args.n.now c.args.pos) _ _ _ _ _ c.if-self.false (λ lines rest. refl) (c.refusal.ensures ∙ ap reason_of c.in-Err.ensures.refused) (c.in-Err.ensures.due) refl

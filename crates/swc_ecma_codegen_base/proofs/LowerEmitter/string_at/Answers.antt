@@ -6,12 +6,12 @@ use Rattle.swc_ecma_codegen_base.proofs.Emitting.{emits_failed}
 use Rattle.swc_ecma_codegen_base.proofs.LowerEmitter.string_at.Goals as goal
 
 pub returns-then-self-clause-items : goal.returns-then-self-clause-items
-returns-then-self-clause-items g c = λ rest. emits_failed _ _ c.if-self.true
+returns-then-self-clause-items g c = λ lines rest. emits_failed _ _ c.if-self.true
 
 pub returns-in-Ok-clause-items : goal.returns-in-Ok-clause-items
 unfolding string_at
-returns-in-Ok-clause-items g c = spelled_anew (string_at c.args.in_lit c.args.n.now) _ (string_by c.args.in_lit c.args.n.now) _ _ _ _ _ c.if-self.false (λ rest. refl) (c.deref.ensures.value ∙ c.in-Ok.ensures.exactly) c.string_by.ensures.items
+returns-in-Ok-clause-items g c = spelled_anew (string_at c.args.in_lit c.args.n.now) _ (string_by c.args.in_lit c.args.n.now) _ _ _ _ _ c.if-self.false (λ lines rest. refl) (c.deref.ensures.value ∙ c.in-Ok.ensures.exactly) c.string_by.ensures.items
 
 pub returns-in-Err-clause-items : goal.returns-in-Err-clause-items
 unfolding string_at
-returns-in-Err-clause-items g c = not_anew (string_at c.args.in_lit c.args.n.now) _ _ _ _ _ c.if-self.false (λ rest. refl) (c.refusal.ensures ∙ ap reason_of c.in-Err.ensures.refused) (ap not c.in-Err.ensures.due) refl
+returns-in-Err-clause-items g c = not_anew (string_at c.args.in_lit c.args.n.now) _ _ _ _ _ c.if-self.false (λ lines rest. refl) (c.refusal.ensures ∙ ap reason_of c.in-Err.ensures.refused) (ap not c.in-Err.ensures.due) refl
