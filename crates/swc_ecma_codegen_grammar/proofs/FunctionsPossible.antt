@@ -1,5 +1,5 @@
 -- When the phrase of a function or a block is possible.
-use Rattle.std.proofs.Common.{◌≡◌, ◌∙◌, refl, ap, ℕ, ◌==◌, Bool, true, false, not, ◌&&◌, ◌||◌, cond, is_some, is_none, List, [], ◌∷◌, length, map, codes, Option, Some, None}
+use Rattle.std.proofs.Common.{◌≡◌, ◌∙◌, refl, sym, ap, ℕ, ◌==◌, Bool, true, false, not, ◌&&◌, ◌||◌, cond, is_some, is_none, List, [], ◌∷◌, length, map, codes, Option, Some, None}
 use Rattle.swc_ecma_codegen_tree.specs.declared.expr_links.PatBox.{PatBox}
 use Rattle.swc_ecma_codegen_tree.specs.declared.decls.Function as functions
 use Rattle.swc_ecma_codegen_tree.specs.declared.exprs.ArrowExpr.{ArrowExpr}
@@ -56,19 +56,19 @@ block_possible f n = and_true (is_possible (in_order (map (stmt_at f) n.stmts.it
 
 -- ---- arrow functions
 
+either_parentheses : (b : Bool) (p : Phrase) → is_possible (cond b (mark (codes "(") > p > mark (codes ")")) (OptionalParentheses p)) ≡ is_possible p
+unfolding is_possible
+either_parentheses true p = and_true (is_possible p)
+either_parentheses false p = refl
+
 only_possible : {X : Type 0} (f : X → Role → Phrase) (n : PatBox X) → is_possible (only_parameter f n) ≡ is_possible (pat_at f n)
 unfolding only_parameter
-only_possible f n = by (is_never (f n.node.value PlainParameter)) (pat_at f n)
-  where
-    by : (b : Bool) (p : Phrase) → is_possible (cond b (mark (codes "(") > p > mark (codes ")")) (OptionalParentheses p)) ≡ is_possible p
-    unfolding is_possible
-    by true p = and_true (is_possible p)
-    by false p = refl
+only_possible f n = either_parentheses (is_never (f n.node.value PlainParameter)) (pat_at f n)
 
 parameters_possible : {X : Type 0} (f : X → Role → Phrase) (ns : List (PatBox X)) → is_possible (arrow_parameters f ns) ≡ all_possible (pat_at f) ns
 unfolding is_possible arrow_parameters all_possible
 parameters_possible f [] = and_true _ ∙ listed_possible (codes ",") (pat_at f) []
-parameters_possible f (n ∷ []) = only_possible f n ∙ Rattle.std.proofs.Common.sym (and_true (is_possible (pat_at f n)))
+parameters_possible f (n ∷ []) = only_possible f n ∙ sym (and_true (is_possible (pat_at f n)))
 parameters_possible f (n ∷ m ∷ ns) = and_true _ ∙ listed_possible (codes ",") (pat_at f) (n ∷ m ∷ ns)
 
 arrow_plain : {A B : Type 0} (type_params : Option A) (return_type : Option B) (p : Phrase) (b : Bool) → is_possible p ≡ b → is_possible (cond (is_some type_params || is_some return_type) Never p) ≡ (is_none type_params && (is_none return_type && b))

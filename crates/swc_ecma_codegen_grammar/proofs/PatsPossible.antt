@@ -57,11 +57,11 @@ object_pat_possible f n = plain n.optional n.type_ann (mark (codes "{") > listed
     (ap (λ b. is_possible (listed (codes ",") (map (object_pat_prop f) n.props.items)) && (b && true)) (comma_possible n.props.items)
     ∙ and_true _ ∙ listed_possible (codes ",") (object_pat_prop f) n.props.items)
 
+unless_optional : (optional : Bool) (p : Phrase) → is_possible (cond optional Never p) ≡ (not optional && is_possible p)
+unfolding is_possible
+unless_optional true p = refl
+unless_optional false p = refl
+
 pub plain_name_possible : {X : Type 0} (n : BindingIdent X) → is_possible (plain_name n) ≡ (not n.id.optional && is_possible (binding_ident n))
 unfolding plain_name
-plain_name_possible n = by n.id.optional (binding_ident n)
-  where
-    by : (optional : Bool) (p : Phrase) → is_possible (cond optional Never p) ≡ (not optional && is_possible p)
-    unfolding is_possible
-    by true p = refl
-    by false p = refl
+plain_name_possible n = unless_optional n.id.optional (binding_ident n)
