@@ -20,7 +20,7 @@ impl<W: WriteJs, S: SourceMapper, C: Comments> Emitter<'_, W, S, C> {
     /// Writes a comma and a blank, except before the first.
     #[tactic(auto, unfolding(crate::specs::Lists::comma))]
     fn comma(&mut self, first: bool) -> Answer
-        ensures items { Emits (comma first) (state_of W.sheet self.old) (state_of W.sheet self.new) result }
+        ensures items { Emits (comma first) (state_of S.lines W.sheet self.old) (state_of S.lines W.sheet self.new) result }
         ensures level { OnOk result ((W.sheet self.new.wr).indentation ≡ (W.sheet self.old.wr).indentation) }
     {
         if !first {
@@ -33,7 +33,7 @@ impl<W: WriteJs, S: SourceMapper, C: Comments> Emitter<'_, W, S, C> {
     /// Writes expressions, with commas between.
     #[tactic(auto, using(crate::proofs::Steps::listed_next), unfolding(crate::specs::Lists::listed))]
     pub(crate) fn exprs<N: EmitAt>(&mut self, nodes: &[ExprBox<N>]) -> Answer
-        ensures items { Emits (listed (held N.items) true nodes.now) (state_of W.sheet self.old) (state_of W.sheet self.new) result }
+        ensures items { Emits (listed (held N.items) true nodes.now) (state_of S.lines W.sheet self.old) (state_of S.lines W.sheet self.new) result }
         ensures level { OnOk result ((W.sheet self.new.wr).indentation ≡ (W.sheet self.old.wr).indentation) }
     {
         let mut first = true;
@@ -48,7 +48,7 @@ impl<W: WriteJs, S: SourceMapper, C: Comments> Emitter<'_, W, S, C> {
     /// Writes statements, one after another.
     #[tactic(auto, using(crate::proofs::Steps::in_order_next), unfolding(crate::specs::Lists::in_order))]
     pub(crate) fn stmts<N: EmitAt>(&mut self, nodes: &[StmtBox<N>]) -> Answer
-        ensures items { Emits (in_order (held_stmt N.items) nodes.now) (state_of W.sheet self.old) (state_of W.sheet self.new) result }
+        ensures items { Emits (in_order (held_stmt N.items) nodes.now) (state_of S.lines W.sheet self.old) (state_of S.lines W.sheet self.new) result }
         ensures level { OnOk result ((W.sheet self.new.wr).indentation ≡ (W.sheet self.old.wr).indentation) }
     {
         for node in nodes {

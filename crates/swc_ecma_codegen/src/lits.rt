@@ -129,11 +129,11 @@ impl EmitAt for Regex {
     }
 }
 
-impl<W: WriteJs, S, C: Comments> Emitter<'_, W, S, C> {
+impl<W: WriteJs, S: SourceMapper, C: Comments> Emitter<'_, W, S, C> {
     /// Writes a literal.
     #[inline(never)]
     fn lit(&mut self, node: &Lit) -> Answer
-        ensures items { Emits (lit node.now) (state_of W.sheet self.old) (state_of W.sheet self.new) result }
+        ensures items { Emits (lit node.now) (state_of S.lines W.sheet self.old) (state_of S.lines W.sheet self.new) result }
         ensures level { OnOk result ((W.sheet self.new.wr).indentation ≡ (W.sheet self.old.wr).indentation) }
     {
         self.lower
@@ -143,7 +143,7 @@ impl<W: WriteJs, S, C: Comments> Emitter<'_, W, S, C> {
     /// Writes a number.
     #[inline(never)]
     fn number_lit(&mut self, node: &Number) -> Answer
-        ensures items { Emits (number_lit node.now) (state_of W.sheet self.old) (state_of W.sheet self.new) result }
+        ensures items { Emits (number_lit node.now) (state_of S.lines W.sheet self.old) (state_of S.lines W.sheet self.new) result }
         ensures level { OnOk result ((W.sheet self.new.wr).indentation ≡ (W.sheet self.old.wr).indentation) }
     {
         self.lower
@@ -154,7 +154,7 @@ impl<W: WriteJs, S, C: Comments> Emitter<'_, W, S, C> {
     /// be its.
     #[inline(never)]
     fn number_object(&mut self, node: &Number, prop: BytePos) -> Answer
-        ensures items { Emits (number_object node.now prop) (state_of W.sheet self.old) (state_of W.sheet self.new) result }
+        ensures items { Emits (number_object node.now prop) (state_of S.lines W.sheet self.old) (state_of S.lines W.sheet self.new) result }
         ensures level { OnOk result ((W.sheet self.new.wr).indentation ≡ (W.sheet self.old.wr).indentation) }
     {
         self.lower

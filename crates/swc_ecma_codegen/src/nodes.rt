@@ -76,7 +76,7 @@ pub trait EmitAt {
         e: &mut Emitter<'_, W, S, C>,
         place: Place,
     ) -> Answer
-        ensures items { Emits (items self.now place) (state_of W.sheet e.old) (state_of W.sheet e.new) result }
+        ensures items { Emits (items self.now place) (state_of S.lines W.sheet e.old) (state_of S.lines W.sheet e.new) result }
         ensures level { OnOk result ((W.sheet e.new.wr).indentation ≡ (W.sheet e.old.wr).indentation) };
 }
 
