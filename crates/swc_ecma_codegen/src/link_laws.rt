@@ -4,14 +4,17 @@
 ghost use Rattle.std.specs.Prelude.{◌≡◌, true, false, Some, None, OnOk, IsOk};
 ghost use Rattle.swc_ecma_codegen_common.specs.Refusals.{in_short};
 ghost use Rattle.swc_ecma_codegen_tree.specs.declared.exprs.MemberExpr.{MemberExpr};
+ghost use Rattle.swc_ecma_codegen_tree.specs.declared.pats.AssignTarget.{AssignTarget};
 ghost use Rattle.swc_ecma_codegen_tree.specs.declared.stmts.Stmt.{Stmt as StmtOf};
 ghost use Rattle.swc_ecma_codegen_ast.specs.Phrases.{is_possible};
+ghost use Rattle.swc_ecma_codegen_ast.specs.AssignPhrases.{assign_target};
 ghost use Rattle.swc_ecma_codegen_ast.specs.ExprPhrases.{member_expr};
 ghost use Rattle.swc_ecma_codegen_ast.specs.TreePhrases.{phrase};
 ghost use Rattle.swc_ecma_codegen_base.specs.Run.{Follows, nothing};
 ghost use Rattle.swc_ecma_codegen_base.specs.Written.{IsNew, AddsReading};
 ghost use Rattle.swc_ecma_codegen.specs.declared.nodes.Place.TheVariants.{Plain};
 ghost use Rattle.swc_ecma_codegen.specs.Exprs.{member as member_items};
+ghost use Rattle.swc_ecma_codegen.specs.Targets.{assign_target as target_items};
 ghost use Rattle.swc_ecma_codegen.specs.Tree.{any_items};
 ghost use Rattle.swc_ecma_codegen.specs.Roots.{Root, OfStmt, OfScript, OfProgram, root_items, root_phrase, is_well_formed_root};
 ghost use Rattle.swc_ecma_codegen.specs.HeldRoots.{IsHeld};
@@ -23,7 +26,9 @@ use swc_ecma_codegen_ast::comments::Comments;
 use swc_ecma_codegen_ast::mapper::SourceMapper;
 use swc_ecma_codegen_common::Result;
 use swc_ecma_codegen_text_writer::WriteJs;
-use swc_ecma_codegen_tree::{AnyNode, ExprBox, MemberExprBox, Program, Script, Stmt, StmtBox};
+use swc_ecma_codegen_tree::{
+    AnyNode, AssignTargetBox, ExprBox, ExprPart, MemberExprBox, Program, Script, Stmt, StmtBox,
+};
 
 /// What a link writes is what is written of the root that it holds. So the clauses of `emit_with` and `to_code` that speak
 /// of roots speak of links too.
@@ -63,6 +68,19 @@ pub fn emitted_member_expr_box_reads<W: WriteJs, S: SourceMapper, C: Comments>(
     ensures reads { (root : Root) → IsHeld link.now.node.value root → is_well_formed_root root ≡ true → IsNew (state_of S.lines W.sheet e.old) → OnOk result (AddsReading (root_phrase root) (W.sheet e.old.wr) (W.sheet e.new.wr)) }
     ensures member_items { (member : MemberExpr AnyNode) → link.now.node.value ≡ AnyNode.MemberExpr member → Follows (member_items any_items member nothing) (state_of S.lines W.sheet e.old) (state_of S.lines W.sheet e.new) (in_short result) }
     ensures member_reads { (member : MemberExpr AnyNode) → link.now.node.value ≡ AnyNode.MemberExpr member → is_possible (member_expr phrase member) ≡ true → IsNew (state_of S.lines W.sheet e.old) → OnOk result (AddsReading (member_expr phrase member) (W.sheet e.old.wr) (W.sheet e.new.wr)) }
+{
+    link.emit_with(e)
+}
+
+/// A link to what is assigned to.
+pub fn emitted_assign_target_box_reads<W: WriteJs, S: SourceMapper, C: Comments>(
+    link: &AssignTargetBox,
+    e: &mut Emitter<'_, W, S, C>,
+) -> Result
+    ensures items { (root : Root) → IsHeld link.now.node.value root → Follows (root_items root nothing) (state_of W.sheet e.old) (state_of W.sheet e.new) (in_short result) }
+    ensures reads { (root : Root) → IsHeld link.now.node.value root → is_well_formed_root root ≡ true → IsNew (state_of W.sheet e.old) → OnOk result (AddsReading (root_phrase root) (W.sheet e.old.wr) (W.sheet e.new.wr)) }
+    ensures target_items { (target : AssignTarget AnyNode) → link.now.node.value ≡ AnyNode.ExprPart (ExprPart.AssignTarget target) → Follows (target_items any_items target nothing) (state_of W.sheet e.old) (state_of W.sheet e.new) (in_short result) }
+    ensures target_reads { (target : AssignTarget AnyNode) → link.now.node.value ≡ AnyNode.ExprPart (ExprPart.AssignTarget target) → is_possible (assign_target phrase target) ≡ true → IsNew (state_of W.sheet e.old) → OnOk result (AddsReading (assign_target phrase target) (W.sheet e.old.wr) (W.sheet e.new.wr)) }
 {
     link.emit_with(e)
 }
