@@ -77,10 +77,10 @@ pub fn emitted_assign_target_box_reads<W: WriteJs, S: SourceMapper, C: Comments>
     link: &AssignTargetBox,
     e: &mut Emitter<'_, W, S, C>,
 ) -> Result
-    ensures items { (root : Root) → IsHeld link.now.node.value root → Follows (root_items root nothing) (state_of W.sheet e.old) (state_of W.sheet e.new) (in_short result) }
-    ensures reads { (root : Root) → IsHeld link.now.node.value root → is_well_formed_root root ≡ true → IsNew (state_of W.sheet e.old) → OnOk result (AddsReading (root_phrase root) (W.sheet e.old.wr) (W.sheet e.new.wr)) }
-    ensures target_items { (target : AssignTarget AnyNode) → link.now.node.value ≡ AnyNode.ExprPart (ExprPart.AssignTarget target) → Follows (target_items any_items target nothing) (state_of W.sheet e.old) (state_of W.sheet e.new) (in_short result) }
-    ensures target_reads { (target : AssignTarget AnyNode) → link.now.node.value ≡ AnyNode.ExprPart (ExprPart.AssignTarget target) → is_possible (assign_target phrase target) ≡ true → IsNew (state_of W.sheet e.old) → OnOk result (AddsReading (assign_target phrase target) (W.sheet e.old.wr) (W.sheet e.new.wr)) }
+    ensures items { (root : Root) → IsHeld link.now.node.value root → Follows (root_items root nothing) (state_of S.lines W.sheet e.old) (state_of S.lines W.sheet e.new) (in_short result) }
+    ensures reads { (root : Root) → IsHeld link.now.node.value root → is_well_formed_root root ≡ true → IsNew (state_of S.lines W.sheet e.old) → OnOk result (AddsReading (root_phrase root) (W.sheet e.old.wr) (W.sheet e.new.wr)) }
+    ensures target_items { (target : AssignTarget AnyNode) → link.now.node.value ≡ AnyNode.ExprPart (ExprPart.AssignTarget target) → Follows (target_items any_items target nothing) (state_of S.lines W.sheet e.old) (state_of S.lines W.sheet e.new) (in_short result) }
+    ensures target_reads { (target : AssignTarget AnyNode) → link.now.node.value ≡ AnyNode.ExprPart (ExprPart.AssignTarget target) → is_possible (assign_target phrase target) ≡ true → IsNew (state_of S.lines W.sheet e.old) → OnOk result (AddsReading (assign_target phrase target) (W.sheet e.old.wr) (W.sheet e.new.wr)) }
 {
     link.emit_with(e)
 }
