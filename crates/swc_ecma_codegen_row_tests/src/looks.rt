@@ -81,18 +81,12 @@ fn node_text<N: Printed>(alloc: Global, expr: &Expr<N>) -> Result<String, Error>
         Expr::Unary(node) => to_code(alloc, node),
         Expr::Update(node) => to_code(alloc, node),
         Expr::Bin(node) => to_code(alloc, node),
-        Expr::Assign(node) => to_code(alloc, node),
         Expr::Member(node) => to_code(alloc, node),
-        Expr::SuperProp(node) => to_code(alloc, node),
         Expr::Cond(node) => to_code(alloc, node),
         Expr::Seq(node) => to_code(alloc, node),
         Expr::Ident(node) => to_code(alloc, node),
         Expr::Lit(node) => to_code(alloc, node),
-        Expr::Yield(node) => to_code(alloc, node),
-        Expr::MetaProp(node) => to_code(alloc, node),
-        Expr::Await(node) => to_code(alloc, node),
         Expr::Paren(node) => to_code(alloc, node),
-        Expr::OptChain(node) => to_code(alloc, node),
         _ => Err(Error::UnsupportedNode),
     }
 }
