@@ -1,7 +1,7 @@
 -- The lists of a tree under settings that differ in whether they minify.
 use Rattle.std.proofs.Common.{◌≡◌, ◌⊎◌, Bool, true, false, ◌&&◌, cond, List, [], ◌∷◌, ◌++◌, append_assoc, append-nil, refl, sym, ap, ◌∙◌, subst, inl, inr}
 use Rattle.std.specs.List.{list_all, list_any}
-use Rattle.std.specs.Prelude.{ℕ, not, nat_lt, Some}
+use Rattle.std.specs.Prelude.{ℕ, not, nat_lt, Some, codes}
 use Rattle.swc_ecma_codegen_common.specs.declared.versions.EsVersion.{EsVersion}
 use Rattle.swc_ecma_codegen_ast.specs.declared.kinds.Kind.{Kind}
 use Rattle.swc_ecma_codegen_ast.specs.declared.kinds.Kind.TheVariants.{Str, Punctuator, Ending}
@@ -90,14 +90,14 @@ less_of xs ys zs (with_semicolon us vs p) (inl h) =
     record { less = k.less; drops = k.drops; puts = subst (λ z. PutsIn k.less z) (sym h.1) (with_semicolon k.less h.0 k.puts) }
 less_of xs ys zs (with_semicolon us vs p) (inr h) = less_of us vs zs p h.1
 less_of xs ys zs (with_comma us vs p) h =
-    let m = kept_mark _ vs zs h in
+    let m = kept_mark (codes ",") vs zs h in
     let k = less_of us vs m.0 p m.2 in
     record { less = k.less; drops = k.drops; puts = subst (λ z. PutsIn k.less z) (sym m.1) (with_comma k.less m.0 k.puts) }
-less_of xs ys zs (with_parentheses as bs us vs p q) h =
-    let m = kept_mark _ (us ++ (close_parenthesis ∷ vs)) zs h in
+less_of xs ys zs (with_parentheses ks bs us vs p q) h =
+    let m = kept_mark (codes "(") (us ++ (close_parenthesis ∷ vs)) zs h in
     let s = split us (close_parenthesis ∷ vs) m.0 m.2 in
-    let n = kept_mark _ vs s.right s.of_second in
-    subst (λ z. Less (as ++ bs) z) (sym m.1) (less_then as bs s.left n.0 m.0 (s.is ∙ ap (λ z. s.left ++ z) n.1) (less_of as us s.left p s.of_first) (less_of bs vs n.0 q n.2))
+    let n = kept_mark (codes ")") vs s.right s.of_second in
+    subst (λ z. Less (ks ++ bs) z) (sym m.1) (less_then ks bs s.left n.0 m.0 (s.is ∙ ap (λ z. s.left ++ z) n.1) (less_of ks us s.left p s.of_first) (less_of bs vs n.0 q n.2))
 
 -- what the first list is without is put in
 puts_back : (xs ys zs : List Token) → PutsIn xs ys → Drops xs zs → PutsIn zs ys
@@ -107,9 +107,9 @@ puts_back xs ys zs (token x us vs p) (inl h) = subst (λ z. PutsIn z (x ∷ vs))
 puts_back xs ys zs (token x us vs p) (inr h) = subst (λ (z : Token). PutsIn zs (z ∷ vs)) (sym h.0) (with_semicolon zs vs (puts_back us vs zs p h.1))
 puts_back xs ys zs (with_semicolon us vs p) h = with_semicolon zs vs (puts_back us vs zs p h)
 puts_back xs ys zs (with_comma us vs p) h = with_comma zs vs (puts_back us vs zs p h)
-puts_back xs ys zs (with_parentheses as bs us vs p q) h =
-    let s = split as bs zs h in
-    subst (λ z. PutsIn z (open_parenthesis ∷ (us ++ (close_parenthesis ∷ vs)))) (sym s.is) (with_parentheses s.left s.right us vs (puts_back as us s.left p s.of_first) (puts_back bs vs s.right q s.of_second))
+puts_back xs ys zs (with_parentheses ks bs us vs p q) h =
+    let s = split ks bs zs h in
+    subst (λ z. PutsIn z (open_parenthesis ∷ (us ++ (close_parenthesis ∷ vs)))) (sym s.is) (with_parentheses s.left s.right us vs (puts_back ks us s.left p s.of_first) (puts_back bs vs s.right q s.of_second))
 
 same_reduced : (xs ys us vs : List Token) → AreSameBut xs ys → IsReduced xs us → IsReduced ys vs → AreSameBut us vs
 same_reduced xs ys us vs h r s =
@@ -133,12 +133,12 @@ core s (Chosen choice) = []
 
 puts_both : (xs ys us vs : List Token) → PutsIn xs us → PutsIn ys vs → PutsIn (xs ++ ys) (us ++ vs)
 puts_both xs ys us vs no_more q = q
-puts_both xs ys us vs (token x as bs p) q = token x (as ++ ys) (bs ++ vs) (puts_both as ys bs vs p q)
-puts_both xs ys us vs (with_semicolon as bs p) q = with_semicolon (as ++ ys) (bs ++ vs) (puts_both as ys bs vs p q)
-puts_both xs ys us vs (with_comma as bs p) q = with_comma (as ++ ys) (bs ++ vs) (puts_both as ys bs vs p q)
-puts_both xs ys us vs (with_parentheses as bs cs ds p r) q =
-    subst (λ z. PutsIn z ((open_parenthesis ∷ (cs ++ (close_parenthesis ∷ ds))) ++ vs)) (sym (append_assoc as bs ys))
-    (subst (λ z. PutsIn (as ++ (bs ++ ys)) (open_parenthesis ∷ z)) (sym (append_assoc cs (close_parenthesis ∷ ds) vs)) (with_parentheses as (bs ++ ys) cs (ds ++ vs) p (puts_both bs ys ds vs r q)))
+puts_both xs ys us vs (token x ks bs p) q = token x (ks ++ ys) (bs ++ vs) (puts_both ks ys bs vs p q)
+puts_both xs ys us vs (with_semicolon ks bs p) q = with_semicolon (ks ++ ys) (bs ++ vs) (puts_both ks ys bs vs p q)
+puts_both xs ys us vs (with_comma ks bs p) q = with_comma (ks ++ ys) (bs ++ vs) (puts_both ks ys bs vs p q)
+puts_both xs ys us vs (with_parentheses ks bs cs ds p r) q =
+    subst (λ z. PutsIn z ((open_parenthesis ∷ (cs ++ (close_parenthesis ∷ ds))) ++ vs)) (sym (append_assoc ks bs ys))
+    (subst (λ z. PutsIn (ks ++ (bs ++ ys)) (open_parenthesis ∷ z)) (sym (append_assoc cs (close_parenthesis ∷ ds) vs)) (with_parentheses ks (bs ++ ys) cs (ds ++ vs) p (puts_both bs ys ds vs r q)))
 
 one_token : (x : Token) (ts : List Token) → ts ≡ x ∷ [] → PutsIn (x ∷ []) ts
 one_token x ts e = subst (λ z. PutsIn (x ∷ []) z) (sym e) (token x [] [] no_more)
@@ -173,8 +173,8 @@ unfolding key_token is_quoted
 same_key s t bytes a =
     let text : List ℕ = spelled_name bytes in
     let quoted : Token = record { kind = Str; value = Units (Some (all_utf16 (name_value text))) } in
-    let by : Bool → EsVersion → Token = λ b v. cond (b && (not (list_all (λ c. nat_lt c 128) text) && list_any (wants_quotes v) text)) quoted (tokens.name (name_value text)) in
-    ap (λ b. by b s.target) a.ascii_only ∙ ap (λ v. by t.ascii_only v) a.target
+    let token_by : Bool → EsVersion → Token = λ b v. cond (b && (not (list_all (λ c. nat_lt c 128) text) && list_any (wants_quotes v) text)) quoted (tokens.name (name_value text)) in
+    ap (λ b. token_by b s.target) a.ascii_only ∙ ap (λ v. token_by t.ascii_only v) a.target
 
 core_same : (s t : Settings) (f : Phrase) → AreAlike s t → core s f ≡ core t f
 unfolding core
