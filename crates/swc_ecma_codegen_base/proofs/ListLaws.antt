@@ -258,3 +258,47 @@ prints_bracketed env t w p h format parent place part e after close law c f a cl
     prints_same (λ rest. punct t (p (list format parent (children_of place part (x ∷ xs)) (close rest)))) (λ rest. punct t (p (opening format line (children (ending (close rest))))))
     (λ rest. list_in_parts (writes_then env (punct t) p (token_of Punctuator (spelling Punctuator t) ∷ []) [] (writes_punct env t (mark_spelled t w) w.ascii) h) format parent place part x xs (close rest))
     (then (prints_bracket env t w p h format line) (then (before (prints_children env format line place part e law c x xs) (writes_closing env format parent last f a)) closed))
+
+-- ---- lists without delimiters, as statements of a block
+
+more_in_order : {A : Type 0} (env : Env) (format : ℕ) (place : A → Span) (part : A → Part) (e : A → Phrase) → ((x : A) → Prints env (part x) (e x)) → IsUndelimited format → (previous : Span) (xs : List A) → Prints env (more_children format previous (children_of place part xs)) (phrases.in_order (map e xs))
+unfolding more_children phrases.in_order by_lines next_child_after
+more_in_order env format place part e law u previous [] = prints_nothing
+more_in_order env format place part e law u previous (x ∷ xs) =
+    let line : Bool = separating_line env.lines format previous (place x) in
+    let more : Part = more_children format (place x) (children_of place part xs) in
+    prints_same (more_children format previous (children_of place part (x ∷ xs))) (λ rest. separator format line (part x (child_comments format line (place x) (more rest)))) (λ rest. refl)
+    (behind (writes_separator env format line u) (then (prints_child env format line (record { place = place x; part = part x }) (law x)) (more_in_order env format place part e law u (place x) xs)))
+
+no_comma_undelimited : (env : Env) (format : ℕ) (parent : Span) → IsUndelimited format → Writes env (trailing_comma format parent) []
+no_comma_undelimited env format parent u = writes_same env (trailing_comma format parent) (λ rest. rest) [] (λ rest. left_out_same format parent rest env (ap (λ b. b && not (can_skip_trailing_comma format && env.config.minify)) u.no_comma)) (writes_nothing env)
+
+closing_undelimited : (env : Env) (format : ℕ) (parent last : Span) → IsUndelimited format → Writes env (list_closing format parent last) []
+unfolding list_closing
+closing_undelimited env format parent last u = writes_then env (trailing_comma format parent) (list_end format parent last) [] [] (no_comma_undelimited env format parent u) (writes_end env format parent last)
+
+-- One that isn't indented: decorators, or the statements of a program.
+pub prints_in_order : {A : Type 0} (env : Env) (format : ℕ) (parent : Span) (place : A → Span) (part : A → Part) (e : A → Phrase) → ((x : A) → Prints env (part x) (e x)) → IsUndelimited format → indented format ≡ false → (xs : List A) → Prints env (list format parent (children_of place part xs)) (phrases.in_order (map e xs))
+unfolding phrases.in_order
+prints_in_order env format parent place part e law u i [] = before prints_nothing (writes_no_list env format parent)
+prints_in_order env format parent place part e law u i (x ∷ xs) =
+    let line : Bool = leading_line env.lines format parent (place x) in
+    let last : Span = last_place (place x) (children_of place part xs) in
+    let ending : Part = list_closing format parent last in
+    prints_same (list format parent (children_of place part (x ∷ xs))) (λ rest. opening format line (children_after format line place part x xs (ending rest))) (λ rest. list_in_parts (writes_nothing env) format parent place part x xs rest)
+    (behind (writes_opening env format line i)
+    (then (prints_child env format line (record { place = place x; part = part x }) (law x)) (before (more_in_order env format place part e law u (place x) xs) (closing_undelimited env format parent last u))))
+
+-- Behind its bracket, indented or not: the statements of a block, the members of a class.
+pub prints_bracketed_in_order : {A : Type 0} (env : Env) (t : List ℕ) → IsMark t → (p : Part) → Writes env p [] → (format : ℕ) (parent : Span) (place : A → Span) (part : A → Part) (e : A → Phrase) (after : Phrase) (close : Part) → ((x : A) → Prints env (part x) (e x)) → IsUndelimited format → Prints env close after → (xs : List A) → Prints env (λ rest. punct t (p (list format parent (children_of place part xs) (close rest)))) (mark t > phrases.in_order (map e xs) > after)
+unfolding phrases.in_order
+prints_bracketed_in_order env t w p h format parent place part e after close law u closed [] =
+    then (prints_punct env t w) (then (before (behind h prints_nothing) (writes_no_list env format parent)) closed)
+prints_bracketed_in_order env t w p h format parent place part e after close law u closed (x ∷ xs) =
+    let line : Bool = leading_line env.lines format parent (place x) in
+    let last : Span = last_place (place x) (children_of place part xs) in
+    let ending : Part = list_closing format parent last in
+    prints_same (λ rest. punct t (p (list format parent (children_of place part (x ∷ xs)) (close rest)))) (λ rest. punct t (p (opening format line (children_after format line place part x xs (ending (close rest))))))
+    (λ rest. list_in_parts (writes_then env (punct t) p (token_of Punctuator (spelling Punctuator t) ∷ []) [] (writes_punct env t (mark_spelled t w) w.ascii) h) format parent place part x xs (close rest))
+    (then (prints_bracket env t w p h format line)
+    (then (then (prints_child env format line (record { place = place x; part = part x }) (law x)) (before (more_in_order env format place part e law u (place x) xs) (closing_undelimited env format parent last u))) closed))
