@@ -45,6 +45,7 @@ use Rattle.swc_ecma_codegen.specs.declared.nodes.Place.{Place}
 use Rattle.swc_ecma_codegen.specs.declared.nodes.Place.TheVariants.{Plain, LeftOperand, Object, DottedObject, Chain}
 use Rattle.swc_ecma_codegen.specs.Answers.{Answers, place_of}
 use Rattle.swc_ecma_codegen.specs.Operands.{is_word_op, space_after, operand_space}
+use Rattle.swc_ecma_codegen.specs.Functions.{fn_expr, arrow_expr}
 use Rattle.swc_ecma_codegen.specs.Lists.{listed, unsupported}
 use Rattle.swc_ecma_codegen.specs.Lits.{lit_at, is_number_object}
 
@@ -244,6 +245,8 @@ paren items n rest = commit_pending_semi (opened n.span (punct (codes "(") (item
 -- an expression by its variant
 unfoldable pub expr_parts : {X : Type 0} → (X → Answers) → (X → Place → Part) → Expr X → Place → Part
 expr_parts asks items (exprs.This n) place rest = this n rest
+expr_parts asks items (exprs.Object n) place rest = items n.node.value Plain rest
+expr_parts asks items (exprs.Fn n) place rest = fn_expr asks items n rest
 expr_parts asks items (exprs.Unary n) place rest = unary asks items n rest
 expr_parts asks items (exprs.Update n) place rest = update items n rest
 expr_parts asks items (exprs.Bin n) place rest = bin asks items n place rest
@@ -254,6 +257,7 @@ expr_parts asks items (exprs.Cond n) place rest = choice items n rest
 expr_parts asks items (exprs.Seq n) place rest = seq items n rest
 expr_parts asks items (exprs.Ident n) place rest = ident n rest
 expr_parts asks items (exprs.Lit n) place rest = lit_at n place rest
+expr_parts asks items (exprs.Arrow n) place rest = arrow_expr asks items n rest
 expr_parts asks items (exprs.Yield n) place rest = yield_expr asks items n rest
 expr_parts asks items (exprs.MetaProp n) place rest = meta_prop_expr n rest
 expr_parts asks items (exprs.Await n) place rest = await_expr items n rest

@@ -1,11 +1,16 @@
 pub mod Operands
+pub mod Patterns
 pub mod Answers
 pub mod View
 pub mod Lists
 pub mod Lits
 pub mod Places
+pub mod Functions
 pub mod Exprs
 pub mod Names
+pub mod Pats
+pub mod Props
+pub mod Blocks
 pub mod Targets
 pub mod Parts
 pub mod Stmts

@@ -55,6 +55,8 @@ impl<N: Held> EmitAt for Expr<N> {
     ) -> Answer {
         match self {
             Expr::This(node) => node.emit_at(e, place)?,
+            Expr::Object(node) => node.held().emit_at(e, Place::Plain)?,
+            Expr::Fn(node) => node.emit_at(e, place)?,
             Expr::Unary(node) => node.emit_at(e, place)?,
             Expr::Update(node) => node.emit_at(e, place)?,
             Expr::Bin(node) => node.emit_at(e, place)?,
@@ -65,6 +67,7 @@ impl<N: Held> EmitAt for Expr<N> {
             Expr::Seq(node) => node.emit_at(e, place)?,
             Expr::Ident(node) => node.emit_at(e, place)?,
             Expr::Lit(node) => node.emit_at(e, place)?,
+            Expr::Arrow(node) => node.emit_at(e, place)?,
             Expr::Yield(node) => node.emit_at(e, place)?,
             Expr::MetaProp(node) => node.emit_at(e, place)?,
             Expr::Await(node) => node.emit_at(e, place)?,

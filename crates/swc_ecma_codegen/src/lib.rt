@@ -2,10 +2,12 @@
 #![tactic(auto)]
 
 pub mod ast;
+mod blocks;
 mod chains;
 mod code;
 mod emitter;
 mod expr;
+mod functions;
 mod knot;
 pub mod laws;
 mod link_laws;
@@ -16,7 +18,10 @@ mod node;
 pub mod nodes;
 pub mod operands;
 mod parts;
+mod pats;
+pub mod patterns;
 mod places;
+mod props;
 mod stmt;
 mod targets;
 mod tokens;
