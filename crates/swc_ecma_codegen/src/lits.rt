@@ -60,36 +60,42 @@ impl EmitAt for Lit {
 impl EmitAt for Str {
     ghost items = { λ n _. str_lit n };
 
+    #[tactic(auto, unfolding(swc_ecma_codegen_base::specs::Run::with_lines))]
     fn emit_at<W: WriteJs, S: SourceMapper, C: Comments>(
         &self,
         e: &mut Emitter<'_, W, S, C>,
         place: Place,
     ) -> Answer {
-        e.lower.str_lit(&e.cfg, &e.comments, &mut e.wr, self)
+        e.lower.str_lit(&e.cfg, &e.comments, &mut e.wr, self)?;
+        Ok(())
     }
 }
 
 impl EmitAt for Bool {
     ghost items = { λ n _. bool_lit n };
 
+    #[tactic(auto, unfolding(swc_ecma_codegen_base::specs::Run::with_lines))]
     fn emit_at<W: WriteJs, S: SourceMapper, C: Comments>(
         &self,
         e: &mut Emitter<'_, W, S, C>,
         place: Place,
     ) -> Answer {
-        e.lower.bool_lit(&e.cfg, &mut e.wr, self)
+        e.lower.bool_lit(&e.cfg, &mut e.wr, self)?;
+        Ok(())
     }
 }
 
 impl EmitAt for Null {
     ghost items = { λ n _. null_lit n };
 
+    #[tactic(auto, unfolding(swc_ecma_codegen_base::specs::Run::with_lines))]
     fn emit_at<W: WriteJs, S: SourceMapper, C: Comments>(
         &self,
         e: &mut Emitter<'_, W, S, C>,
         place: Place,
     ) -> Answer {
-        e.lower.null_lit(&e.cfg, &mut e.wr, self)
+        e.lower.null_lit(&e.cfg, &mut e.wr, self)?;
+        Ok(())
     }
 }
 
@@ -108,24 +114,28 @@ impl EmitAt for Number {
 impl EmitAt for BigInt {
     ghost items = { λ n _. big_int_lit n };
 
+    #[tactic(auto, unfolding(swc_ecma_codegen_base::specs::Run::with_lines))]
     fn emit_at<W: WriteJs, S: SourceMapper, C: Comments>(
         &self,
         e: &mut Emitter<'_, W, S, C>,
         place: Place,
     ) -> Answer {
-        e.lower.big_int_lit(&e.cfg, &e.comments, &mut e.wr, self)
+        e.lower.big_int_lit(&e.cfg, &e.comments, &mut e.wr, self)?;
+        Ok(())
     }
 }
 
 impl EmitAt for Regex {
     ghost items = { λ n _. regex_lit n };
 
+    #[tactic(auto, unfolding(swc_ecma_codegen_base::specs::Run::with_lines))]
     fn emit_at<W: WriteJs, S: SourceMapper, C: Comments>(
         &self,
         e: &mut Emitter<'_, W, S, C>,
         place: Place,
     ) -> Answer {
-        e.lower.regex_lit(&e.cfg, &mut e.wr, self)
+        e.lower.regex_lit(&e.cfg, &mut e.wr, self)?;
+        Ok(())
     }
 }
 

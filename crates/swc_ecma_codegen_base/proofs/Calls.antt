@@ -14,7 +14,7 @@ use Rattle.swc_ecma_codegen_base.specs.declared.last.Last.{Last}
 use Rattle.swc_ecma_codegen_base.specs.declared.last.Last.TheVariants as last
 use Rattle.swc_ecma_codegen_base.specs.Last.{last_at}
 use Rattle.swc_ecma_codegen_base.specs.View.{state_of}
-use Rattle.swc_ecma_codegen_base.specs.Run.{Part, when_minified, no_part, State, Step, Guard, Token, Plain, Ends, IsRefused, Does, at_lines, put, step, text_of, after_token, after_tokens, after_plain}
+use Rattle.swc_ecma_codegen_base.specs.Run.{Part, when_minified, no_part, State, Step, Guard, Token, Plain, Ends, IsRefused, Does, with_lines, put, step, text_of, after_token, after_tokens, after_plain}
 use Rattle.swc_ecma_codegen_base.proofs.Emitting.{emits_step, emits_refused, does_step, put_lines, refused_lines, follows_same, minified_same, pretty_same}
 
 -- ---- what no call changes
@@ -93,18 +93,18 @@ step_called : (x : Step) (item : Item) (config : Config) (e f : LowerEmitter) (o
     → OnOk r ((last_at f.token.value ≡ (put x (state_of config old e)).last) × (f.failed ≡ e.failed))
     → OnErr r ((last_at f.token.value ≡ last_at e.token.value) × (f.failed ≡ true))
     → Does (step x) (state_of config old e) (state_of config new f) r
-unfolding Writes
+unfolding Writes with_lines
 step_called x item config e f old new (Ok u) made refused fresh w ok err = λ lines.
     let there : State = state_of config old e in
     let q : state_of config new f ≡ put x there =
     (λ i. record { env = record { config = config; keeps_invalid = (ap (λ (s : Sheet). s.keeps_invalid) w.1 ∙ effect_keeps item old) i; lines = no_lines }; sheet = w.1 i; last = ok.0 i; failed = ok.1 i })
     ∙ sym made in
-    emits_step x (at_lines lines there) (at_lines lines (state_of config new f)) fresh (ap (at_lines lines) q ∙ put_lines x lines there)
+    emits_step x (with_lines lines there) (with_lines lines (state_of config new f)) fresh (ap (with_lines lines) q ∙ put_lines x lines there)
 step_called x item config e f old new (Err er) made refused fresh w ok err = λ lines.
     let there : State = state_of config old e in
     let q : state_of config new f ≡ record there { sheet = new; failed = true } =
     (λ i. record { env = record { config = config; keeps_invalid = refuses_keeps old new w i; lines = no_lines }; sheet = new; last = err.0 i; failed = err.1 i }) in
-    emits_refused x er (at_lines lines there) (at_lines lines (state_of config new f)) fresh (ap (at_lines lines) q) (refused_lines x er there new lines (refused er new w))
+    emits_refused x er (with_lines lines there) (with_lines lines (state_of config new f)) fresh (ap (with_lines lines) q) (refused_lines x er there new lines (refused er new w))
 
 -- a token, by one call
 pub called : (kind : Kind) (item : Item) (config : Config) (e f : LowerEmitter) (old new : Sheet) (l : Last) (answer r : Result (Unit {0}) Refusal)
@@ -177,9 +177,10 @@ guarded t config e f old new answer r fresh w ok err eq h =
 -- ---- what is done unless minified
 
 pub skipped : (part : Part) (a : State) → a.env.config.minify ≡ true → Does (when_minified no_part part) a a (Ok tt)
-unfolding no_part
-skipped part a h lines rest c r k = follows_same (when_minified no_part part rest) rest (at_lines lines a) c r (minified_same no_part part rest (at_lines lines a).env h) k
+unfolding no_part with_lines
+skipped part a h lines rest c r k = follows_same (when_minified no_part part rest) rest (with_lines lines a) c r (minified_same no_part part rest (with_lines lines a).env h) k
 
 pub not_skipped : (part : Part) (a b : State) (r : Result (Unit {0}) Refusal) → a.env.config.minify ≡ false → Does part a b r → Does (when_minified no_part part) a b r
-not_skipped part a b (Ok u) h k = λ lines rest c r f. follows_same (when_minified no_part part rest) (part rest) (at_lines lines a) c r (pretty_same no_part part rest (at_lines lines a).env h) (k lines rest c r f)
-not_skipped part a b (Err e) h k = λ lines rest. follows_same (when_minified no_part part rest) (part rest) (at_lines lines a) (at_lines lines b) (Err e) (pretty_same no_part part rest (at_lines lines a).env h) (k lines rest)
+unfolding with_lines
+not_skipped part a b (Ok u) h k = λ lines rest c r f. follows_same (when_minified no_part part rest) (part rest) (with_lines lines a) c r (pretty_same no_part part rest (with_lines lines a).env h) (k lines rest c r f)
+not_skipped part a b (Err e) h k = λ lines rest. follows_same (when_minified no_part part rest) (part rest) (with_lines lines a) (with_lines lines b) (Err e) (pretty_same no_part part rest (with_lines lines a).env h) (k lines rest)

@@ -104,7 +104,7 @@ pub makes_some : {env : Env} {p : Part} {ts : List lexical.Token} {made : Bool} 
 makes_some h = record { steps = h.steps; is_steps = h.is_steps; lays = h.lays; remakes = λ e. refl; deep = h.deep; hands = h.hands }
 
 -- a part that is written as another is
-pub writes_same : (env : Env) (p q : Part) (ts : List lexical.Token) {a : Bool} → ((rest : Plan) → p rest env ≡ q rest env) → Makes env q ts a → Makes env p ts a
+pub writes_same : (env : Env) (p q : Part) (ts : List lexical.Token) {a : Bool} {room : ℕ} → ((rest : Plan) → p rest env ≡ q rest env) → MakesWithin room env q ts a → MakesWithin room env p ts a
 writes_same env p q ts e h = record { steps = h.steps; is_steps = λ rest. e rest ∙ h.is_steps rest; lays = h.lays; remakes = h.remakes; deep = h.deep; hands = h.hands }
 
 pub writes_nothing : (env : Env) → Writes env (λ rest. rest) []

@@ -175,10 +175,14 @@ Emits part a b (Err e) = (rest : Plan) → Follows (part rest) a b (Err e)
 abbrev pub at_lines : Lines → State → State
 at_lines lines s = record s { env = record s.env { lines = lines } }
 
+-- the same, not to be looked into
+unfoldable pub with_lines : Lines → State → State
+with_lines lines s = at_lines lines s
+
 -- A part of a plan is done, wherever lines end in the source text.
 abbrev pub Does : Part → State → State → Result (Unit {0}) Refusal → Type 0
-Does part a b (Ok u) = (lines : Lines) → Emits part (at_lines lines a) (at_lines lines b) (Ok u)
-Does part a b (Err e) = (lines : Lines) → Emits part (at_lines lines a) (at_lines lines b) (Err e)
+Does part a b (Ok u) = (lines : Lines) → Emits part (with_lines lines a) (with_lines lines b) (Ok u)
+Does part a b (Err e) = (lines : Lines) → Emits part (with_lines lines a) (with_lines lines b) (Err e)
 
 -- What goes on after a rest, now, goes on after the whole, from the start: a loop has come so far.
 abbrev pub Continues : Part → State → Part → State → Type 0

@@ -1,6 +1,7 @@
 //! The trailing comma of a list.
 
-ghost use Rattle.std.specs.Prelude.{◌≡◌, false, true, OnOk, IfOk, IfErr};
+ghost use Rattle.std.specs.Prelude.{◌≡◌, ◌==◌, if◌then◌else◌, false, true, OnOk, IfOk, IfErr};
+ghost use Rattle.core.specs.Char.{is_whitespace};
 ghost use Rattle.std.specs.Str.{chars};
 ghost use Rattle.swc_ecma_codegen_common.specs.declared.errors.Error.TheVariants.{OutOfMemory};
 ghost use Rattle.swc_ecma_codegen_base.specs.Run.{Does, at_lines};
@@ -25,11 +26,16 @@ fn comma_before_end(text: &str) -> bool
     let mut here = false;
     for c in text.chars() {
         before = here;
-        if !c.is_whitespace() {
-            here = c == ',';
-        }
+        here = ends_in_comma(here, c);
     }
     before
+}
+
+/// Whether a text and a character more end in a comma, white space aside; `here` says it of the text.
+fn ends_in_comma(here: bool, c: char) -> bool
+    ensures { result ≡ (if is_whitespace c then here else c == 44) }
+{
+    if c.is_whitespace() { here } else { c == ',' }
 }
 
 /// Whether the source text of a list has a trailing comma: `[a, ]` has one.

@@ -56,7 +56,7 @@ impl LowerEmitter {
     }
 
     /// Writes a blank where the last token and `text`, which begins so, would fuse.
-    #[tactic(auto, using(crate::proofs::Emitting::emits_failed, crate::proofs::Calls::level))]
+    #[tactic(auto, using(crate::proofs::Emitting::does_failed, crate::proofs::Calls::level))]
     pub(crate) fn guard<W: WriteJs>(
         &mut self,
         cfg: &Config,

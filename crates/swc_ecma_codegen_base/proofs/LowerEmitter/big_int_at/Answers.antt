@@ -4,11 +4,11 @@ use Rattle.swc_ecma_codegen_base.specs.Lits.{big_int_at, big_int_by, prints_big_
 use Rattle.swc_ecma_codegen_base.specs.Run.{Does}
 use Rattle.swc_ecma_codegen_base.specs.View.{state_of}
 use Rattle.swc_ecma_codegen_base.proofs.Anew.{spelled_anew, not_anew}
-use Rattle.swc_ecma_codegen_base.proofs.Emitting.{emits_failed}
+use Rattle.swc_ecma_codegen_base.proofs.Emitting.{does_failed}
 use Rattle.swc_ecma_codegen_base.proofs.LowerEmitter.big_int_at.Goals as goal
 
 pub returns-then-self-clause-items : goal.returns-then-self-clause-items
-returns-then-self-clause-items g c = λ lines rest. emits_failed _ _ c.if-self.true
+returns-then-self-clause-items g c = λ lines rest. does_failed _ _ c.if-self.true lines
 
 pub returns-in-Ok-clause-items : goal.returns-in-Ok-clause-items
 unfolding big_int_at

@@ -2,11 +2,11 @@ use Rattle.std.proofs.Common.{refl, ap, ◌∙◌}
 use Rattle.swc_ecma_codegen_common.specs.Refusals.{reason_of}
 use Rattle.swc_ecma_codegen_base.specs.Lits.{spelled_number, number_by}
 use Rattle.swc_ecma_codegen_base.proofs.Anew.{spelled_anew, not_anew}
-use Rattle.swc_ecma_codegen_base.proofs.Emitting.{emits_failed}
+use Rattle.swc_ecma_codegen_base.proofs.Emitting.{does_failed}
 use Rattle.swc_ecma_codegen_base.proofs.LowerEmitter.spelled_number.Goals as goal
 
 pub returns-then-self-clause-items : goal.returns-then-self-clause-items
-returns-then-self-clause-items g c = λ lines rest. emits_failed _ _ c.if-self.true
+returns-then-self-clause-items g c = λ lines rest. does_failed _ _ c.if-self.true lines
 
 pub returns-in-Ok-clause-items : goal.returns-in-Ok-clause-items
 unfolding spelled_number
