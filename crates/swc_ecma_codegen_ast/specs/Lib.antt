@@ -12,6 +12,7 @@ pub mod Hashbangs
 pub mod HeldNumbers
 pub mod Jsx
 pub mod Keys
+pub mod Layouts
 pub mod ListFormats
 pub mod LitPhrases
 pub mod LongestMatch

@@ -148,25 +148,25 @@ unfolding string_by_value is_string_call
 call_strings true kind t = refl
 call_strings false kind t = refl
 
-placed_strings : (anew : Bool) (env : Env) (kind : Kind) (pos : BytePos) (b : Bool) (t : List ℕ) → strings_after anew (name_call kind b pos t) ≡ []
+placed_strings : (anew : Bool) (kind : Kind) (pos : BytePos) (b : Bool) (t : List ℕ) → strings_after anew (name_call kind b pos t) ≡ []
 unfolding name_call strings_after
-placed_strings anew env kind pos true t = ap (λ z. z ++ []) (call_strings anew kind t)
-placed_strings anew env kind pos false t = ap (λ z. z ++ []) (call_strings anew kind t)
+placed_strings anew kind pos true t = ap (λ z. z ++ []) (call_strings anew kind t)
+placed_strings anew kind pos false t = ap (λ z. z ++ []) (call_strings anew kind t)
 
 made_safe : (env : Env) (first second : Bool) (kind : Kind) (span : Span) (t : List ℕ) → IsSafe env (made_part first second kind span t)
 unfolding IsSafe AreSafe name_steps strings_after
 made_safe env first second kind span t e anew =
-    subst AreSafe (sym (ap (strings_after anew) (made_steps env first second kind span t) ∙ placed_strings second env kind span.lo (span.lo.0 == 0) t)) tt
+    subst AreSafe (sym (ap (strings_after anew) (made_steps env first second kind span t) ∙ placed_strings second kind span.lo (span.lo.0 == 0) t)) tt
 
 kept_safe : (env : Env) (first : Bool) (span : Span) (t : List ℕ) → IsSafe env (kept_part first span t)
 unfolding IsSafe AreSafe strings_after
 kept_safe env first span t e anew =
-    subst AreSafe (sym (ap (strings_after anew) (kept_steps env first span t) ∙ placed_strings first env Name span.lo (span.lo.0 == 0) t)) tt
+    subst AreSafe (sym (ap (strings_after anew) (kept_steps env first span t) ∙ placed_strings first Name span.lo (span.lo.0 == 0) t)) tt
 
 own_safe : (env : Env) (span : Span) (t : List ℕ) → IsSafe env (name_part span t)
 unfolding IsSafe AreSafe strings_after
 own_safe env span t e anew =
-    subst AreSafe (sym (ap (strings_after anew) (own_steps env span t) ∙ placed_strings anew env Name span.lo (span.lo.0 == 0) t)) tt
+    subst AreSafe (sym (ap (strings_after anew) (own_steps env span t) ∙ placed_strings anew Name span.lo (span.lo.0 == 0) t)) tt
 
 -- ---- its token
 

@@ -16,6 +16,7 @@ use Rattle.swc_ecma_codegen_ast.specs.Names.{all_part, is_word, is_name, name_va
 use Rattle.swc_ecma_codegen_ast.specs.Settings.{Settings, is_up_to_es5}
 use Rattle.swc_ecma_codegen_ast.specs.SpelledNames as names
 use Rattle.swc_ecma_codegen_ast.specs.SpelledNames.{is_well_formed_name}
+use Rattle.swc_ecma_codegen_ast.specs.StringValues.{string_value}
 use Rattle.swc_ecma_codegen_ast.specs.Texts.{is_same}
 use Rattle.swc_ecma_codegen_ast.specs.Tokens as lexical
 use Rattle.swc_ecma_codegen_ast.specs.Tokens.{Units, token_of, value_of}
@@ -39,25 +40,24 @@ use Rattle.swc_ecma_codegen_base.proofs.Written.{Spelled, spelled_name}
 
 -- ---- a key in quotes is no directive: no blank is in it
 
-has_blank : List ℕ → Bool
+abbrev has_blank : List ℕ → Bool
 has_blank us = list_any (λ c. c == 32) us
 
 blank_append : (us vs : List ℕ) → has_blank us ≡ false → has_blank vs ≡ false → has_blank (us ++ vs) ≡ false
-unfolding has_blank
 blank_append [] vs h k = k
-blank_append (u ∷ us) vs h k = by (u == 32) h
+blank_append (u ∷ us) vs h k = cases (u == 32) h
   where
-    by : (b : Bool) → (b || has_blank us) ≡ false → (b || has_blank (us ++ vs)) ≡ false
-    by true h = absurd (true≢false h)
-    by false h = blank_append us vs h k
+    cases : (b : Bool) → (b || has_blank us) ≡ false → (b || has_blank (us ++ vs)) ≡ false
+    cases true h = absurd (true≢false h)
+    cases false h = blank_append us vs h k
 
 units_unblank : (c : ℕ) → (c == 32) ≡ false → has_blank (utf16 c) ≡ false
-unfolding has_blank utf16
-units_unblank c h = by (nat_lt c 65536)
+unfolding utf16
+units_unblank c h = cases (nat_lt c 65536)
   where
-    by : (b : Bool) → has_blank (cond b (c ∷ []) ((55296 + (c - 65536) / 1024) ∷ (56320 + (c - 65536) % 1024) ∷ [])) ≡ false
-    by true = or_from (c == 32) false h refl
-    by false =
+    cases : (b : Bool) → has_blank (cond b (c ∷ []) ((55296 + (c - 65536) / 1024) ∷ (56320 + (c - 65536) % 1024) ∷ [])) ≡ false
+    cases true = or_from (c == 32) false h refl
+    cases false =
         let high : (55296 + (c - 65536) / 1024) ≢ 32 = λ e. omega (arith, e) in
         let low : (56320 + (c - 65536) % 1024) ≢ 32 = λ e. omega (arith, e) in
         or_from _ _ (ne_eqb _ 32 high) (or_from _ false (ne_eqb _ 32 low) refl)
@@ -66,21 +66,20 @@ not_blank : (p : ℕ → Bool) (c : ℕ) → p c ≡ true → p 32 ≡ false →
 not_blank p c h n = ne_eqb c 32 (λ e. false≢true (sym n ∙ (ap p (sym e) ∙ h)))
 
 parts_unblank : (cs : List ℕ) → all_part cs ≡ true → has_blank (all_utf16 cs) ≡ false
-unfolding has_blank all_part all_utf16 is_part is_letter is_digit
+unfolding all_part all_utf16 is_part is_letter is_digit
 parts_unblank [] h = refl
 parts_unblank (c ∷ cs) h =
     let p = and_parts (is_part c) (all_part cs) h in
     blank_append (utf16 c) (all_utf16 cs) (units_unblank c (not_blank is_part c p.0 refl)) (parts_unblank cs p.1)
 
 word_unblank : (cs : List ℕ) → is_word cs ≡ true → has_blank (all_utf16 cs) ≡ false
-unfolding has_blank is_word all_utf16 is_start is_letter
+unfolding is_word all_utf16 is_start is_letter
 word_unblank [] h = absurd (false≢true h)
 word_unblank (c ∷ cs) h =
     let p = and_parts (is_start c) (all_part cs) h in
     blank_append (utf16 c) (all_utf16 cs) (units_unblank c (not_blank is_start c p.0 refl)) (parts_unblank cs p.1)
 
 directive_blank : has_blank (codes "use strict") ≡ true
-unfolding has_blank
 directive_blank = refl
 
 word_not_strict : (cs : List ℕ) → is_word cs ≡ true → is_strict (Some (all_utf16 cs)) ≡ false
@@ -162,7 +161,7 @@ string_token : (u us : List ℕ) → lexical.value_of Str (chars u) ≡ Units (S
 unfolding token_of spelling
 string_token u us h = let f : lexical.Value → lexical.Token = λ v. record { kind = Str; value = v } in ap f h
 
-quoted_value : (u us : List ℕ) → Rattle.swc_ecma_codegen_ast.specs.StringValues.string_value false (chars u) ≡ Some us → lexical.value_of Str (chars u) ≡ Units (Some us)
+quoted_value : (u us : List ℕ) → string_value false (chars u) ≡ Some us → lexical.value_of Str (chars u) ≡ Units (Some us)
 unfolding value_of
 quoted_value u us h = ap Units (strict_means_the_same (chars u) us h)
 
@@ -175,12 +174,12 @@ in_quotes config bytes u n e q =
     let none = not_ascii t (not-true (is_ascii_text t) p.1) in
     let text : List ℕ = 34 ∷ (name_escapes true config.target (chars t) ++ 34 ∷ []) in
     let h : Answer true config.target (chars t) text = quoted_answer true config.target t text utf8 none q refl in
-    let is : is_quoted_key true config.target (chars t) ≡ true = (quoted_text config.target (chars t) (not_ascii_chars t utf8 none) q).0 in
+    let told : is_quoted_key true config.target (chars t) ≡ true = (quoted_text config.target (chars t) (not_ascii_chars t utf8 none) q).0 in
     let us : List ℕ = all_utf16 (name_value (chars t)) in
     subst (λ z. SpellsKey config Str bytes z) h.exactly
     (record {
-      spelled = spelled_string text (IsUtf8-from_ascii text h.ascii) (h.token is n);
-      token = string_token text us (quoted_value text us (h.key_value is n)) ∙ sym (key_token_quoted (settings_of config) bytes (quoted_by config t utf8 e ∙ q));
+      spelled = spelled_string text (IsUtf8-from_ascii text h.ascii) (h.token told n);
+      token = string_token text us (quoted_value text us (h.key_value told n)) ∙ sym (key_token_quoted (settings_of config) bytes (quoted_by config t utf8 e ∙ q));
       ascii = λ _. sym (ascii_is true text h.ascii);
     })
 
@@ -197,16 +196,16 @@ escaped_key config bytes u n e q =
     let none = not_ascii t (not-true (is_ascii_text t) p.1) in
     let text : List ℕ = name_escapes true config.target (chars t) in
     let h : Answer true config.target (chars t) text = escaped_answer true config.target t text utf8 none q refl refl in
-    let is : is_quoted_key true config.target (chars t) ≡ false = (escaped_text true config.target (chars t) (not_ascii_chars t utf8 none) q).0 in
+    let told : is_quoted_key true config.target (chars t) ≡ false = (escaped_text true config.target (chars t) (not_ascii_chars t utf8 none) q).0 in
     subst (λ z. SpellsKey config Name bytes z) h.exactly
     (record {
-      spelled = spelled_name text (is_utf8-from_IsUtf8 text (IsUtf8-from_ascii text h.ascii)) (h.name is ∙ n);
-      token = name_token text t (h.value is n) ∙ sym (key_token_bare (settings_of config) bytes (quoted_by config t utf8 e ∙ q));
+      spelled = spelled_name text (is_utf8-from_IsUtf8 text (IsUtf8-from_ascii text h.ascii)) (h.name told ∙ n);
+      token = name_token text t (h.value told n) ∙ sym (key_token_bare (settings_of config) bytes (quoted_by config t utf8 e ∙ q));
       ascii = λ _. sym (ascii_is true text h.ascii);
     })
 
 -- in ASCII
-pub made_key : (config : Config) (bytes : List ℕ) → is_well_formed_name bytes ≡ true → wants_escapes config (turned bytes) ≡ true → SpellsKey config (cond (asks config (turned bytes)) Str Name) bytes (ascii_name true config.target (chars (turned bytes)))
+pub made_key : (config : Config) (bytes : List ℕ) → is_well_formed_name bytes ≡ true → wants_escapes config (turned bytes) ≡ true → SpellsKey config (cond (list_any (wants_quotes config.target) (chars (turned bytes))) Str Name) bytes (ascii_name true config.target (chars (turned bytes)))
 unfolding is_well_formed_name names.spelled_name
 made_key config bytes w e =
     let p = and_parts (is_utf8 (turned bytes)) (is_name (chars (turned bytes))) w in
