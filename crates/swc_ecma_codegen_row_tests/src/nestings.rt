@@ -1,6 +1,6 @@
-//! Every operator, and some literals, as an operand of another.
+//! Every operator, some literals, and an expression of each other type, as operands.
 
-use crate::steps::{Step, all_named, named};
+use crate::steps::{Sort, Step, all_named, expression, named};
 use crate::trees::{has_texts, reads_back};
 use std::alloc::{AllocError, Global};
 
@@ -45,8 +45,14 @@ fn is_printed(
     for turn in 0..4 {
         let words = nesting(alloc, operators, place, turn)?;
         let holds = match all_named(alloc, steps, &words)? {
-            Some(nested) if turn == 0 => has_texts(alloc, &nested, true, [&pretty, &minified])?,
-            Some(nested) => reads_back(alloc, &nested)?,
+            Some(nested) => {
+                let tree = expression(alloc, &nested)?;
+                if turn == 0 {
+                    has_texts(alloc, &tree, true, [&pretty, &minified])?
+                } else {
+                    reads_back(alloc, &tree)?
+                }
+            }
             None => false,
         };
         if !holds {
@@ -56,10 +62,11 @@ fn is_printed(
     Ok(true)
 }
 
-/// Whether an operator is printed so with each operator at a place, with `¦` between the texts.
+/// Whether a step is printed so with each of a sort at a place, with `¦` between the texts.
 pub fn are_printed(
     alloc: Global,
     steps: &[Step],
+    sort: Sort,
     [outer, place]: [&str; 2],
     [pretty, minified]: [&str; 2],
 ) -> Result<bool, AllocError> {
@@ -69,7 +76,7 @@ pub fn are_printed(
     let mut pretty = pretty.split('¦');
     let mut minified = minified.split('¦');
     for inner in steps {
-        if inner.is_operator {
+        if inner.sort == sort {
             let (Some(pretty), Some(minified)) = (pretty.next(), minified.next()) else {
                 return Ok(false);
             };
