@@ -270,7 +270,7 @@ impl<W: WriteJs, S: SourceMapper, C: Comments> Emitter<'_, W, S, C> {
     /// Writes the comments after an expression, unless they are left where they are.
     #[tactic(auto, unfolding(crate::specs::Exprs::expr_closed))]
     fn expr_closed(&mut self, left: bool, span: Span) -> Answer
-        ensures items { Emits (expr_closed left span) (state_of W.sheet self.old) (state_of W.sheet self.new) result }
+        ensures items { Emits (expr_closed left span) (state_of S.lines W.sheet self.old) (state_of S.lines W.sheet self.new) result }
         ensures level { OnOk result ((W.sheet self.new.wr).indentation ≡ (W.sheet self.old.wr).indentation) }
     {
         if left {
@@ -282,7 +282,7 @@ impl<W: WriteJs, S: SourceMapper, C: Comments> Emitter<'_, W, S, C> {
     /// Writes `.b` or `[b]`.
     #[tactic(auto, unfolding(crate::specs::Exprs::member_prop))]
     fn member_prop<N: Held>(&mut self, prop: &MemberProp<N>) -> Answer
-        ensures items { Emits (member_prop N.items prop.now) (state_of W.sheet self.old) (state_of W.sheet self.new) result }
+        ensures items { Emits (member_prop N.items prop.now) (state_of S.lines W.sheet self.old) (state_of S.lines W.sheet self.new) result }
         ensures level { OnOk result ((W.sheet self.new.wr).indentation ≡ (W.sheet self.old.wr).indentation) }
     {
         match prop {
@@ -299,7 +299,7 @@ impl<W: WriteJs, S: SourceMapper, C: Comments> Emitter<'_, W, S, C> {
     /// Writes the comments before a binary expression and its start, unless it is an inner left operand.
     #[tactic(auto, unfolding(crate::specs::Exprs::bin_opened))]
     fn bin_opened(&mut self, place: Place, span: Span) -> Answer
-        ensures items { Emits (bin_opened place span) (state_of W.sheet self.old) (state_of W.sheet self.new) result }
+        ensures items { Emits (bin_opened place span) (state_of S.lines W.sheet self.old) (state_of S.lines W.sheet self.new) result }
         ensures level { OnOk result ((W.sheet self.new.wr).indentation ≡ (W.sheet self.old.wr).indentation) }
     {
         match place {
@@ -311,7 +311,7 @@ impl<W: WriteJs, S: SourceMapper, C: Comments> Emitter<'_, W, S, C> {
     /// Writes a binary operator.
     #[tactic(auto, using(crate::proofs::OperatorLaws::marked_binary, crate::proofs::OperatorLaws::worded_binary))]
     fn binary_op(&mut self, op: BinaryOp) -> Answer
-        ensures items { Emits (binary_op op) (state_of W.sheet self.old) (state_of W.sheet self.new) result }
+        ensures items { Emits (binary_op op) (state_of S.lines W.sheet self.old) (state_of S.lines W.sheet self.new) result }
         ensures level { OnOk result ((W.sheet self.new.wr).indentation ≡ (W.sheet self.old.wr).indentation) }
     {
         match binary_mark(op) {
@@ -323,7 +323,7 @@ impl<W: WriteJs, S: SourceMapper, C: Comments> Emitter<'_, W, S, C> {
     /// Writes the operator and the right operand. swc's `emit_bin_expr_trailing`.
     #[tactic(auto, unfolding(crate::specs::Exprs::bin_trailing))]
     fn bin_trailing<N: Held>(&mut self, node: &BinExpr<N>) -> Answer
-        ensures items { Emits (bin_trailing N.answers N.items node.now) (state_of W.sheet self.old) (state_of W.sheet self.new) result }
+        ensures items { Emits (bin_trailing N.answers N.items node.now) (state_of S.lines W.sheet self.old) (state_of S.lines W.sheet self.new) result }
         ensures level { OnOk result ((W.sheet self.new.wr).indentation ≡ (W.sheet self.old.wr).indentation) }
     {
         self.blank(before_op(node.op, node.left.held()))?;
@@ -336,7 +336,7 @@ impl<W: WriteJs, S: SourceMapper, C: Comments> Emitter<'_, W, S, C> {
     /// Writes a unary operator.
     #[tactic(auto, using(crate::proofs::OperatorLaws::marked_unary, crate::proofs::OperatorLaws::worded_unary))]
     fn unary_op(&mut self, op: UnaryOp) -> Answer
-        ensures items { Emits (unary_op op) (state_of W.sheet self.old) (state_of W.sheet self.new) result }
+        ensures items { Emits (unary_op op) (state_of S.lines W.sheet self.old) (state_of S.lines W.sheet self.new) result }
         ensures level { OnOk result ((W.sheet self.new.wr).indentation ≡ (W.sheet self.old.wr).indentation) }
     {
         match unary_mark(op) {
@@ -348,7 +348,7 @@ impl<W: WriteJs, S: SourceMapper, C: Comments> Emitter<'_, W, S, C> {
     /// Writes what stands between a unary operator and its operand.
     #[tactic(auto, unfolding(crate::specs::Exprs::unary_gap))]
     fn unary_gap<N: Asked>(&mut self, op: UnaryOp, arg: &N) -> Answer
-        ensures items { Emits (unary_gap op (N.answers arg.now)) (state_of W.sheet self.old) (state_of W.sheet self.new) result }
+        ensures items { Emits (unary_gap op (N.answers arg.now)) (state_of S.lines W.sheet self.old) (state_of S.lines W.sheet self.new) result }
         ensures level { OnOk result ((W.sheet self.new.wr).indentation ≡ (W.sheet self.old.wr).indentation) }
     {
         if is_word_unary(op) {

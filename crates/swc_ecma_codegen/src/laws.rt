@@ -16,6 +16,7 @@ ghost use Rattle.swc_ecma_codegen_ast.specs.TreePhrases.{expr_phrase, stmt_phras
 ghost use Rattle.swc_ecma_codegen_text_writer.specs.Sheet.{HoldsNone};
 ghost use Rattle.swc_ecma_codegen_text_writer.specs.View.{new_sheet};
 ghost use Rattle.swc_ecma_codegen_base.specs.declared.refusals.Unprintable.TheVariants.{NameOutOfTarget};
+ghost use Rattle.swc_ecma_codegen_ast.specs.SourceLines.{Lines};
 ghost use Rattle.swc_ecma_codegen_base.specs.Run.{Env, Follows, State, nothing, makes_text, start, steps_in, steps_of, unprintable_in};
 ghost use Rattle.swc_ecma_codegen_base.specs.Lits.{prints_raw, string_at, value_text};
 ghost use Rattle.swc_ecma_codegen_base.specs.Scripts.{value_strings};
@@ -57,8 +58,8 @@ pub fn emitted_expr_reads<W: WriteJs, S: SourceMapper, C: Comments>(
     e: &mut Emitter<'_, W, S, C>,
 ) -> Result
     // It is what `emit_with` does.
-    ensures items { Follows (expr_items any_answers any_items expr.now Plain nothing) (state_of W.sheet e.old) (state_of W.sheet e.new) (in_short result) }
-    ensures reads { is_possible (expr_phrase expr.now) ≡ true → IsNew (state_of W.sheet e.old) → OnOk result (AddsReading (expr_phrase expr.now) (W.sheet e.old.wr) (W.sheet e.new.wr)) }
+    ensures items { Follows (expr_items any_answers any_items expr.now Plain nothing) (state_of S.lines W.sheet e.old) (state_of S.lines W.sheet e.new) (in_short result) }
+    ensures reads { is_possible (expr_phrase expr.now) ≡ true → IsNew (state_of S.lines W.sheet e.old) → OnOk result (AddsReading (expr_phrase expr.now) (W.sheet e.old.wr) (W.sheet e.new.wr)) }
 {
     expr.emit_with(e)
 }
@@ -69,8 +70,8 @@ pub fn emitted_stmt_reads<W: WriteJs, S: SourceMapper, C: Comments>(
     e: &mut Emitter<'_, W, S, C>,
 ) -> Result
     // It is what `emit_with` does.
-    ensures items { Follows (stmt_items any_answers any_items stmt.now nothing) (state_of W.sheet e.old) (state_of W.sheet e.new) (in_short result) }
-    ensures reads { is_possible (stmt_phrase stmt.now) ≡ true → IsNew (state_of W.sheet e.old) → OnOk result (AddsReading (stmt_phrase stmt.now) (W.sheet e.old.wr) (W.sheet e.new.wr)) }
+    ensures items { Follows (stmt_items any_answers any_items stmt.now nothing) (state_of S.lines W.sheet e.old) (state_of S.lines W.sheet e.new) (in_short result) }
+    ensures reads { is_possible (stmt_phrase stmt.now) ≡ true → IsNew (state_of S.lines W.sheet e.old) → OnOk result (AddsReading (stmt_phrase stmt.now) (W.sheet e.old.wr) (W.sheet e.new.wr)) }
 {
     stmt.emit_with(e)
 }
@@ -79,11 +80,11 @@ pub fn emitted_stmt_reads<W: WriteJs, S: SourceMapper, C: Comments>(
 /// after `set_indent_str` of blanks and tabs, and inside `omit_trailing_semi`. It is ready, whatever its lines end with. Under
 /// `ascii_only` it is one that is to write ASCII.
 pub fn new_emitter_reads()
-    ensures new { (config : Config) (bytes line_end : List ℕ) → IsLineEnd line_end → IsNew (start config (new_sheet bytes line_end)) }
-    ensures holding { (config : Config) (bytes line_end : List ℕ) → IsLineEnd line_end → IsNew (start config (record (new_sheet bytes line_end) { semicolons = HoldsNone })) }
-    ensures ready { (config : Config) (bytes line_end : List ℕ) → IsReady (start config (new_sheet bytes line_end)) }
-    ensures ascii { (config : Config) (bytes line_end : List ℕ) → config.ascii_only ≡ true → IsLineEnd line_end → WantsAscii (start config (new_sheet bytes line_end)) }
-    ensures indented { (config : Config) (bytes line_end indent : List ℕ) → IsLineEnd line_end → all_indent indent ≡ true → IsNew (start config (record (new_sheet bytes line_end) { indent_text = indent })) }
+    ensures new { (lines : Lines) (config : Config) (bytes line_end : List ℕ) → IsLineEnd line_end → IsNew (start lines config (new_sheet bytes line_end)) }
+    ensures holding { (lines : Lines) (config : Config) (bytes line_end : List ℕ) → IsLineEnd line_end → IsNew (start lines config (record (new_sheet bytes line_end) { semicolons = HoldsNone })) }
+    ensures ready { (lines : Lines) (config : Config) (bytes line_end : List ℕ) → IsReady (start lines config (new_sheet bytes line_end)) }
+    ensures ascii { (lines : Lines) (config : Config) (bytes line_end : List ℕ) → config.ascii_only ≡ true → IsLineEnd line_end → WantsAscii (start lines config (new_sheet bytes line_end)) }
+    ensures indented { (lines : Lines) (config : Config) (bytes line_end indent : List ℕ) → IsLineEnd line_end → all_indent indent ≡ true → IsNew (start lines config (record (new_sheet bytes line_end) { indent_text = indent })) }
 {}
 
 /// Where an expression begins with a word, a name or a number, by the first token of a list that

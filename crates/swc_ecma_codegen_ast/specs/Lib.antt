@@ -11,6 +11,7 @@ pub mod Jsx
 pub mod ListFormats
 pub mod LitPhrases
 pub mod LongestMatch
+pub mod SourceLines
 pub mod SpelledNames
 pub mod NamePhrases
 pub mod NameTurns

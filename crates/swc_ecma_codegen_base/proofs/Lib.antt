@@ -7,6 +7,7 @@ pub mod ValueStrings
 pub mod Calls
 pub mod Spelled
 pub mod Anew
+pub mod ListCommas
 pub mod RawTexts
 pub mod Fronts
 pub mod Levels
@@ -36,3 +37,4 @@ pub mod StringPrints
 pub mod NumberPrints
 pub mod BigPrints
 pub mod EachLit
+pub mod ListLaws

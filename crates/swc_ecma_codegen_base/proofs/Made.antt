@@ -90,7 +90,7 @@ unfolding run
 run_failed [] a = refl
 run_failed (x ∷ xs) a = run_failed xs _ ∙ put_failed x a
 
-run_env : (xs : List Step) (a : State) → (run xs a).env ≡ a.env
+pub run_env : (xs : List Step) (a : State) → (run xs a).env ≡ a.env
 unfolding run
 run_env [] a = refl
 run_env (x ∷ xs) a = run_env xs _ ∙ put_env x a

@@ -243,7 +243,7 @@ ascii_same t a = (ascii_chars t (ascii_from_all t a)).0
 word_spelled : (t : List ℕ) → IsWord t → Spelled Word t
 word_spelled t w = spelled_word t w.utf8 (ap is_word (ascii_same t w.ascii) ∙ w.shape)
 
-mark_spelled : (t : List ℕ) → IsMark t → Spelled Punctuator t
+pub mark_spelled : (t : List ℕ) → IsMark t → Spelled Punctuator t
 mark_spelled t w = spelled_mark t w.utf8 (ascii_same t w.ascii) w.shape
 
 prints_word : (env : Env) (p : Part) (t : List ℕ) → IsWord t → Writes env p (token_of Word (spelling Word t) ∷ []) → Prints env p (phrases.word t)

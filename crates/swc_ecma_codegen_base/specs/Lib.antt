@@ -3,6 +3,7 @@ pub mod Targets
 pub mod Words
 pub mod Literals
 pub mod Lits
+pub mod Lists
 pub mod Last
 pub mod View
 pub mod Written

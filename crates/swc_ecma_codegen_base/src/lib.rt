@@ -9,6 +9,8 @@ mod comments;
 mod guard;
 mod last;
 pub mod laws;
+mod list_commas;
+mod lists;
 mod literals;
 mod lits;
 mod names;
