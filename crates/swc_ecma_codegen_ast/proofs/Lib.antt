@@ -8,6 +8,7 @@ pub mod LayoutLaws
 pub mod Lists
 pub mod Longest
 pub mod Mapped
+pub mod MappedCalls
 pub mod MappedFunctions
 pub mod MappedPats
 pub mod MappedProps

@@ -1,0 +1,84 @@
+-- The productions of arrays, calls and `new` see what links hold through f alone.
+use Rattle.std.proofs.Common.{◌≡◌, refl, ◌∙◌, ap, List, [], ◌∷◌, map, codes, Bool, true, false, cond, Option, Some, None}
+use Rattle.std.specs.declared.vec.Vec.{Vec}
+use Rattle.swc_ecma_codegen_tree.specs.declared.links.AnyNode.{AnyNode-F, map-AnyNode}
+use Rattle.swc_ecma_codegen_tree.specs.declared.links.AnyNode.TheOpen as nodes
+use Rattle.swc_ecma_codegen_tree.specs.declared.ts_links.TsTypeParamInstantiationBox.{TsTypeParamInstantiationBox}
+use Rattle.swc_ecma_codegen_tree.specs.declared.exprs.Expr.TheVariants as exprs
+use Rattle.swc_ecma_codegen_tree.specs.declared.exprs.ArrayLit.{ArrayLit}
+use Rattle.swc_ecma_codegen_tree.specs.declared.exprs.ExprOrSpread.{ExprOrSpread}
+use Rattle.swc_ecma_codegen_tree.specs.declared.exprs.CallExpr.{CallExpr}
+use Rattle.swc_ecma_codegen_tree.specs.declared.exprs.Callee.{Callee}
+use Rattle.swc_ecma_codegen_tree.specs.declared.exprs.Callee.TheVariants as callees
+use Rattle.swc_ecma_codegen_tree.specs.declared.exprs.NewExpr.{NewExpr}
+use Rattle.swc_ecma_codegen_tree.specs.declared.exprs.OptCall.{OptCall}
+use Rattle.swc_ecma_codegen_tree.specs.declared.parts.ExprPart.TheVariants as expr_parts
+use Rattle.swc_ecma_codegen_ast.specs.Phrases.{Phrase, Never, Nothing, ◌>◌, word, mark, listed}
+use Rattle.swc_ecma_codegen_ast.specs.declared.roles.Role.{Role}
+use Rattle.swc_ecma_codegen_ast.specs.declared.roles.Role.TheVariants.{Expression, ChainCall}
+use Rattle.swc_ecma_codegen_ast.specs.ElementPhrases.{element, elements, last_is_hole}
+use Rattle.swc_ecma_codegen_ast.specs.PatPhrases.{value_at}
+use Rattle.swc_ecma_codegen_ast.specs.CallPhrases.{callee_at, expr_or_spread, array_lit, arguments, import_callee, callee, call_expr, listed_arguments, new_arguments, new_expr, call_mark, chain_call}
+use Rattle.swc_ecma_codegen_ast.specs.ExprPhrases.{expr, expr_in}
+use Rattle.swc_ecma_codegen_ast.specs.PartPhrases.{expr_part}
+use Rattle.swc_ecma_codegen_ast.specs.TreePhrases.{node_phrase}
+use Rattle.swc_ecma_codegen_ast.proofs.Mapped.{list_mapped, element_mapped, hole_mapped}
+
+-- ---- elements and arguments
+
+elements_mapped : {A B : Type 0} (g : Option A → Option B) (h : A → B) (e : B → Phrase) (d : A → Phrase) → g None ≡ None → ((x : A) → g (Some x) ≡ Some (h x)) → ((x : A) → e (h x) ≡ d x) → (xs : List (Option A)) → elements e (map g xs) ≡ elements d xs
+unfolding elements
+elements_mapped g h e d none some same xs =
+    ap (λ ps. listed (codes ",") ps > cond (last_is_hole (map g xs)) (mark (codes ",")) Nothing) (list_mapped g (element e) (element d) (element_mapped g h e d none some same) xs)
+    ∙ ap (λ b. listed (codes ",") (map (element d) xs) > cond b (mark (codes ",")) Nothing) (hole_mapped g h none some xs)
+
+arguments_mapped : {X Y : Type 0} (g : ExprOrSpread X → ExprOrSpread Y) (f : Y → Role → Phrase) (d : X → Role → Phrase) → ((n : ExprOrSpread X) → expr_or_spread f (g n) ≡ expr_or_spread d n) → (xs : List (ExprOrSpread X)) → arguments f (map g xs) ≡ arguments d xs
+unfolding arguments
+arguments_mapped g f d same xs = ap (λ ps. mark (codes "(") > listed (codes ",") ps > mark (codes ")")) (list_mapped g (expr_or_spread f) (expr_or_spread d) same xs)
+
+listed_arguments_mapped : {X Y : Type 0} (g : ExprOrSpread X → ExprOrSpread Y) (f : Y → Role → Phrase) (d : X → Role → Phrase) → ((n : ExprOrSpread X) → expr_or_spread f (g n) ≡ expr_or_spread d n) → (keeps : Bool) (xs : List (ExprOrSpread X)) → listed_arguments f keeps (map g xs) ≡ listed_arguments d keeps xs
+unfolding listed_arguments
+listed_arguments_mapped g f d same false [] = refl
+listed_arguments_mapped g f d same false (x ∷ xs) = arguments_mapped g f d same (x ∷ xs)
+listed_arguments_mapped g f d same true xs = arguments_mapped g f d same xs
+
+-- ---- arrays, calls and `new`
+
+pub array_lit_mapped : {X Y : Type 0} (g : X → Y) (f : Y → Role → Phrase) (n : ArrayLit X) → node_phrase f (map-AnyNode X Y g (nodes.Expr (exprs.Array n))) Expression ≡ array_lit (λ x. f (g x)) n
+unfolding node_phrase expr array_lit expr_or_spread
+array_lit_mapped {X} g f n = ap (λ p. mark (codes "[") > p > mark (codes "]")) (elements_mapped {A = ExprOrSpread X} _ _ (expr_or_spread f) (expr_or_spread (λ x. f (g x))) refl (λ x. refl) (λ x. refl) n.elems.items)
+
+call_by : {X Y : Type 0} (g : X → Y) (f : Y → Role → Phrase) (n : CallExpr X) (c : Callee X) (type_args : Option (TsTypeParamInstantiationBox X)) → node_phrase f (map-AnyNode X Y g (nodes.Expr (exprs.Call (record n { callee = c; type_args = type_args })))) Expression ≡ call_expr (λ x. f (g x)) (record n { callee = c; type_args = type_args })
+unfolding node_phrase expr call_expr callee expr_or_spread
+call_by g f n (callees.Super c) None = ap (λ p. word (codes "super") > p) (arguments_mapped _ f (λ x. f (g x)) (λ x. refl) n.args.items)
+call_by g f n (callees.Import c) None = ap (λ p. import_callee c > p) (arguments_mapped _ f (λ x. f (g x)) (λ x. refl) n.args.items)
+call_by g f n (callees.Expr c) None = ap (λ p. callee_at (λ x. f (g x)) c > p) (arguments_mapped _ f (λ x. f (g x)) (λ x. refl) n.args.items)
+call_by g f n (callees.Super c) (Some t) = refl
+call_by g f n (callees.Import c) (Some t) = refl
+call_by g f n (callees.Expr c) (Some t) = refl
+
+pub call_mapped : {X Y : Type 0} (g : X → Y) (f : Y → Role → Phrase) (n : CallExpr X) → node_phrase f (map-AnyNode X Y g (nodes.Expr (exprs.Call n))) Expression ≡ call_expr (λ x. f (g x)) n
+call_mapped g f n = call_by g f n n.callee n.type_args
+
+-- an expression that may be a callee
+abbrev pub phrase_in : {X : Type 0} → (X → Role → Phrase) → Bool → AnyNode-F X → Phrase
+phrase_in f keeps (nodes.Expr n) = expr_in f keeps n
+phrase_in f keeps n = Never
+
+new_by : {X Y Z : Type 0} (g : X → Y) (f : Y → Role → Phrase) (keeps : Bool) (n : NewExpr X) (args : Option (Vec (ExprOrSpread X) Z)) (type_args : Option (TsTypeParamInstantiationBox X)) → phrase_in f keeps (map-AnyNode X Y g (nodes.Expr (exprs.New (record n { args = args; type_args = type_args })))) ≡ new_expr (λ x. f (g x)) keeps (record n { args = args; type_args = type_args })
+unfolding expr_in new_expr new_arguments expr_or_spread
+new_by g f keeps n None None = refl
+new_by g f keeps n (Some args) None = ap (λ p. word (codes "new") > value_at (λ x. f (g x)) n.callee > p) (listed_arguments_mapped _ f (λ x. f (g x)) (λ x. refl) keeps args.items)
+new_by g f keeps n None (Some t) = refl
+new_by g f keeps n (Some args) (Some t) = refl
+
+pub new_mapped : {X Y : Type 0} (g : X → Y) (f : Y → Role → Phrase) (keeps : Bool) (n : NewExpr X) → phrase_in f keeps (map-AnyNode X Y g (nodes.Expr (exprs.New n))) ≡ new_expr (λ x. f (g x)) keeps n
+new_mapped g f keeps n = new_by g f keeps n n.args n.type_args
+
+chain_call_by : {X Y : Type 0} (g : X → Y) (f : Y → Role → Phrase) (optional : Bool) (n : OptCall X) (type_args : Option (TsTypeParamInstantiationBox X)) → node_phrase f (map-AnyNode X Y g (nodes.ExprPart (expr_parts.OptCall (record n { type_args = type_args })))) (ChainCall optional) ≡ chain_call (λ x. f (g x)) optional (record n { type_args = type_args })
+unfolding node_phrase expr_part chain_call expr_or_spread
+chain_call_by g f optional n None = ap (λ p. callee_at (λ x. f (g x)) n.callee > call_mark optional > p) (arguments_mapped _ f (λ x. f (g x)) (λ x. refl) n.args.items)
+chain_call_by g f optional n (Some t) = refl
+
+pub chain_call_mapped : {X Y : Type 0} (g : X → Y) (f : Y → Role → Phrase) (optional : Bool) (n : OptCall X) → node_phrase f (map-AnyNode X Y g (nodes.ExprPart (expr_parts.OptCall n))) (ChainCall optional) ≡ chain_call (λ x. f (g x)) optional n
+chain_call_mapped g f optional n = chain_call_by g f optional n n.type_args
