@@ -16,9 +16,9 @@ use Rattle.swc_ecma_codegen_tree.specs.declared.parts.ExprPart.TheVariants as ex
 use Rattle.swc_ecma_codegen_ast.specs.Phrases.{Phrase, Never, Nothing, ◌>◌, word, mark, listed}
 use Rattle.swc_ecma_codegen_ast.specs.declared.roles.Role.{Role}
 use Rattle.swc_ecma_codegen_ast.specs.declared.roles.Role.TheVariants.{Expression, ChainCall}
-use Rattle.swc_ecma_codegen_ast.specs.ElementPhrases.{element, elements, last_is_hole}
+use Rattle.swc_ecma_codegen_ast.specs.ElementPhrases.{element, last_is_hole}
 use Rattle.swc_ecma_codegen_ast.specs.PatPhrases.{value_at}
-use Rattle.swc_ecma_codegen_ast.specs.CallPhrases.{callee_at, expr_or_spread, array_lit, arguments, import_callee, callee, call_expr, listed_arguments, new_arguments, new_expr, call_mark, chain_call}
+use Rattle.swc_ecma_codegen_ast.specs.CallPhrases.{callee_at, expr_or_spread, array_elements, array_lit, arguments, import_callee, callee, call_expr, listed_arguments, new_arguments, new_expr, call_mark, chain_call}
 use Rattle.swc_ecma_codegen_ast.specs.ExprPhrases.{expr, expr_in}
 use Rattle.swc_ecma_codegen_ast.specs.PartPhrases.{expr_part}
 use Rattle.swc_ecma_codegen_ast.specs.TreePhrases.{node_phrase}
@@ -26,11 +26,14 @@ use Rattle.swc_ecma_codegen_ast.proofs.Mapped.{list_mapped, element_mapped, hole
 
 -- ---- elements and arguments
 
-elements_mapped : {A B : Type 0} (g : Option A → Option B) (h : A → B) (e : B → Phrase) (d : A → Phrase) → g None ≡ None → ((x : A) → g (Some x) ≡ Some (h x)) → ((x : A) → e (h x) ≡ d x) → (xs : List (Option A)) → elements e (map g xs) ≡ elements d xs
-unfolding elements
-elements_mapped g h e d none some same xs =
-    ap (λ ps. listed (codes ",") ps > cond (last_is_hole (map g xs)) (mark (codes ",")) Nothing) (list_mapped g (element e) (element d) (element_mapped g h e d none some same) xs)
-    ∙ ap (λ b. listed (codes ",") (map (element d) xs) > cond b (mark (codes ",")) Nothing) (hole_mapped g h none some xs)
+array_elements_mapped : {X Y : Type 0} (g : Option (ExprOrSpread X) → Option (ExprOrSpread Y)) (h : ExprOrSpread X → ExprOrSpread Y) (f : Y → Role → Phrase) (d : X → Role → Phrase) → g None ≡ None → ((x : ExprOrSpread X) → g (Some x) ≡ Some (h x)) → ((x : ExprOrSpread X) → expr_or_spread f (h x) ≡ expr_or_spread d x) → (hole : Bool) (xs : List (Option (ExprOrSpread X))) → array_elements f hole (map g xs) ≡ array_elements d hole xs
+unfolding array_elements
+array_elements_mapped g h f d none some same true xs = ap (λ ps. listed (codes ",") ps > mark (codes ",")) (list_mapped g (element (expr_or_spread f)) (element (expr_or_spread d)) (element_mapped g h (expr_or_spread f) (expr_or_spread d) none some same) xs)
+array_elements_mapped g h f d none some same false xs = ap (listed (codes ",")) (list_mapped g (element (expr_or_spread f)) (element (expr_or_spread d)) (element_mapped g h (expr_or_spread f) (expr_or_spread d) none some same) xs)
+
+bracketed_mapped : {X Y : Type 0} (g : Option (ExprOrSpread X) → Option (ExprOrSpread Y)) (h : ExprOrSpread X → ExprOrSpread Y) (f : Y → Role → Phrase) (d : X → Role → Phrase) → g None ≡ None → ((x : ExprOrSpread X) → g (Some x) ≡ Some (h x)) → ((x : ExprOrSpread X) → expr_or_spread f (h x) ≡ expr_or_spread d x) → (xs : List (Option (ExprOrSpread X))) → (mark (codes "[") > array_elements f (last_is_hole (map g xs)) (map g xs) > mark (codes "]")) ≡ (mark (codes "[") > array_elements d (last_is_hole xs) xs > mark (codes "]"))
+bracketed_mapped g h f d none some same xs =
+    ap (λ p. mark (codes "[") > p > mark (codes "]")) (ap (λ b. array_elements f b (map g xs)) (hole_mapped g h none some xs) ∙ array_elements_mapped g h f d none some same (last_is_hole xs) xs)
 
 arguments_mapped : {X Y : Type 0} (g : ExprOrSpread X → ExprOrSpread Y) (f : Y → Role → Phrase) (d : X → Role → Phrase) → ((n : ExprOrSpread X) → expr_or_spread f (g n) ≡ expr_or_spread d n) → (xs : List (ExprOrSpread X)) → arguments f (map g xs) ≡ arguments d xs
 unfolding arguments
@@ -46,7 +49,7 @@ listed_arguments_mapped g f d same true xs = arguments_mapped g f d same xs
 
 pub array_lit_mapped : {X Y : Type 0} (g : X → Y) (f : Y → Role → Phrase) (n : ArrayLit X) → node_phrase f (map-AnyNode X Y g (nodes.Expr (exprs.Array n))) Expression ≡ array_lit (λ x. f (g x)) n
 unfolding node_phrase expr array_lit expr_or_spread
-array_lit_mapped {X} g f n = ap (λ p. mark (codes "[") > p > mark (codes "]")) (elements_mapped {A = ExprOrSpread X} _ _ (expr_or_spread f) (expr_or_spread (λ x. f (g x))) refl (λ x. refl) (λ x. refl) n.elems.items)
+array_lit_mapped g f n = bracketed_mapped _ _ f (λ x. f (g x)) refl (λ x. refl) (λ x. refl) n.elems.items
 
 call_by : {X Y : Type 0} (g : X → Y) (f : Y → Role → Phrase) (n : CallExpr X) (c : Callee X) (type_args : Option (TsTypeParamInstantiationBox X)) → node_phrase f (map-AnyNode X Y g (nodes.Expr (exprs.Call (record n { callee = c; type_args = type_args })))) Expression ≡ call_expr (λ x. f (g x)) (record n { callee = c; type_args = type_args })
 unfolding node_phrase expr call_expr callee expr_or_spread

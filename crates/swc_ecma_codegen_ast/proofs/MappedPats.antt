@@ -22,9 +22,9 @@ use Rattle.swc_ecma_codegen_tree.specs.declared.pats.AssignTargetPat.TheVariants
 use Rattle.swc_ecma_codegen_ast.specs.Phrases.{Phrase, Nothing, ◌>◌, mark, listed}
 use Rattle.swc_ecma_codegen_ast.specs.declared.roles.Role.{Role}
 use Rattle.swc_ecma_codegen_ast.specs.declared.roles.Role.TheVariants.{Pattern, PlainParameter, AssignmentTarget}
-use Rattle.swc_ecma_codegen_ast.specs.ElementPhrases.{element, elements, last_is_hole, trailing_comma}
+use Rattle.swc_ecma_codegen_ast.specs.ElementPhrases.{element, last_is_hole, elements_end, trailing_comma}
 use Rattle.swc_ecma_codegen_ast.specs.NamePhrases.{binding_ident}
-use Rattle.swc_ecma_codegen_ast.specs.PatPhrases.{pat_at, initializer, array_elements, array_pat, rest_pat, assign_pat, key_value_pat_prop, assign_pat_prop, object_pat_prop, object_pat, pat, plain_name, plain_parameter, assign_target_pat}
+use Rattle.swc_ecma_codegen_ast.specs.PatPhrases.{pat_at, initializer, array_pat, rest_pat, assign_pat, key_value_pat_prop, assign_pat_prop, object_pat_prop, object_pat, pat, plain_name, plain_parameter, assign_target_pat}
 use Rattle.swc_ecma_codegen_ast.specs.AssignPhrases.{assign_target}
 use Rattle.swc_ecma_codegen_ast.specs.PartPhrases.{expr_part}
 use Rattle.swc_ecma_codegen_ast.specs.TreePhrases.{node_phrase}
@@ -32,12 +32,14 @@ use Rattle.swc_ecma_codegen_ast.proofs.Mapped.{list_mapped, element_mapped, hole
 
 -- ---- elements and properties
 
-elements_mapped : {X Y : Type 0} (g : Option (PatBox X) → Option (PatBox Y)) (h : PatBox X → PatBox Y) (f : Y → Role → Phrase) (d : X → Role → Phrase) → g None ≡ None → ((x : PatBox X) → g (Some x) ≡ Some (h x)) → ((x : PatBox X) → pat_at f (h x) ≡ pat_at d x) → (xs : List (Option (PatBox X))) → array_elements f (map g xs) ≡ array_elements d xs
-unfolding array_elements elements
+abbrev bracketed : List Phrase → Bool → Phrase → Phrase
+bracketed ps hole tail = mark (codes "[") > listed (codes ",") ps > cond hole (mark (codes ",")) tail > mark (codes "]")
+
+elements_mapped : {X Y : Type 0} (g : Option (PatBox X) → Option (PatBox Y)) (h : PatBox X → PatBox Y) (f : Y → Role → Phrase) (d : X → Role → Phrase) → g None ≡ None → ((x : PatBox X) → g (Some x) ≡ Some (h x)) → ((x : PatBox X) → pat_at f (h x) ≡ pat_at d x) → (xs : List (Option (PatBox X))) → bracketed (map (element (pat_at f)) (map g xs)) (last_is_hole (map g xs)) (trailing_comma (map g xs)) ≡ bracketed (map (element (pat_at d)) xs) (last_is_hole xs) (trailing_comma xs)
 elements_mapped g h f d none some same xs =
-    ap (λ ps. (listed (codes ",") ps > cond (last_is_hole (map g xs)) (mark (codes ",")) Nothing) > cond (last_is_hole (map g xs)) Nothing (trailing_comma (map g xs))) (list_mapped g (element (pat_at f)) (element (pat_at d)) (element_mapped g h (pat_at f) (pat_at d) none some same) xs)
-    ∙ ap (λ b. (listed (codes ",") (map (element (pat_at d)) xs) > cond b (mark (codes ",")) Nothing) > cond b Nothing (trailing_comma (map g xs))) (hole_mapped g h none some xs)
-    ∙ ap (λ c. (listed (codes ",") (map (element (pat_at d)) xs) > cond (last_is_hole xs) (mark (codes ",")) Nothing) > cond (last_is_hole xs) Nothing c) (comma_mapped g xs)
+    ap (λ ps. bracketed ps (last_is_hole (map g xs)) (trailing_comma (map g xs))) (list_mapped g (element (pat_at f)) (element (pat_at d)) (element_mapped g h (pat_at f) (pat_at d) none some same) xs)
+    ∙ ap (λ b. bracketed (map (element (pat_at d)) xs) b (trailing_comma (map g xs))) (hole_mapped g h none some xs)
+    ∙ ap (λ c. bracketed (map (element (pat_at d)) xs) (last_is_hole xs) c) (comma_mapped g xs)
 
 -- what holds of each property, by what is there, holds of all
 assign_by : {X : Type 0} (P : ObjectPatProp X → Type 0)
@@ -92,10 +94,10 @@ ident_mapped g f id None = refl
 ident_mapped g f id (Some t) = refl
 
 array_mapped : {X Y : Type 0} (g : X → Y) (f : Y → Role → Phrase) (n : ArrayPat X) (optional : Bool) (type_ann : Option (TsTypeAnnBox X)) → node_phrase f (map-AnyNode X Y g (nodes.ExprPart (expr_parts.Pat (pats.Array (record n { optional = optional; type_ann = type_ann }))))) Pattern ≡ array_pat (λ x. f (g x)) (record n { optional = optional; type_ann = type_ann })
-unfolding node_phrase expr_part pat array_pat
+unfolding node_phrase expr_part pat array_pat elements_end
 array_mapped g f n true type_ann = refl
 array_mapped g f n false (Some t) = refl
-array_mapped {X} {Y} g f n false None = ap (λ p. mark (codes "[") > p > mark (codes "]")) (elements_mapped {X = X} {Y = Y} _ _ f (λ x. f (g x)) refl (λ x. refl) (λ x. refl) n.elems.items)
+array_mapped {X} {Y} g f n false None = elements_mapped {X = X} {Y = Y} _ _ f (λ x. f (g x)) refl (λ x. refl) (λ x. refl) n.elems.items
 
 rest_mapped : {X Y : Type 0} (g : X → Y) (f : Y → Role → Phrase) (n : RestPat X) (type_ann : Option (TsTypeAnnBox X)) → node_phrase f (map-AnyNode X Y g (nodes.ExprPart (expr_parts.Pat (pats.Rest (record n { type_ann = type_ann }))))) Pattern ≡ rest_pat (λ x. f (g x)) (record n { type_ann = type_ann })
 unfolding node_phrase expr_part pat rest_pat
@@ -132,10 +134,10 @@ plain_mapped g f n = refl
 -- ---- what is assigned to
 
 target_array_mapped : {X Y : Type 0} (g : X → Y) (f : Y → Role → Phrase) (n : ArrayPat X) (optional : Bool) (type_ann : Option (TsTypeAnnBox X)) → node_phrase f (map-AnyNode X Y g (nodes.ExprPart (expr_parts.AssignTarget (targets.Pat (target_pats.Array (record n { optional = optional; type_ann = type_ann })))))) AssignmentTarget ≡ array_pat (λ x. f (g x)) (record n { optional = optional; type_ann = type_ann })
-unfolding node_phrase expr_part assign_target assign_target_pat array_pat
+unfolding node_phrase expr_part assign_target assign_target_pat array_pat elements_end
 target_array_mapped g f n true type_ann = refl
 target_array_mapped g f n false (Some t) = refl
-target_array_mapped {X} {Y} g f n false None = ap (λ p. mark (codes "[") > p > mark (codes "]")) (elements_mapped {X = X} {Y = Y} _ _ f (λ x. f (g x)) refl (λ x. refl) (λ x. refl) n.elems.items)
+target_array_mapped {X} {Y} g f n false None = elements_mapped {X = X} {Y = Y} _ _ f (λ x. f (g x)) refl (λ x. refl) (λ x. refl) n.elems.items
 
 target_object_mapped : {X Y : Type 0} (g : X → Y) (f : Y → Role → Phrase) (n : ObjectPat X) (optional : Bool) (type_ann : Option (TsTypeAnnBox X)) → node_phrase f (map-AnyNode X Y g (nodes.ExprPart (expr_parts.AssignTarget (targets.Pat (target_pats.Object (record n { optional = optional; type_ann = type_ann })))))) AssignmentTarget ≡ object_pat (λ x. f (g x)) (record n { optional = optional; type_ann = type_ann })
 unfolding node_phrase expr_part assign_target assign_target_pat object_pat object_pat_prop key_value_pat_prop assign_pat_prop rest_pat initializer binding_ident

@@ -15,7 +15,7 @@ use Rattle.swc_ecma_codegen_tree.specs.declared.exprs.Import.{Import}
 use Rattle.swc_ecma_codegen_tree.specs.declared.exprs.NewExpr.{NewExpr}
 use Rattle.swc_ecma_codegen_tree.specs.declared.exprs.OptCall.{OptCall}
 use Rattle.swc_ecma_codegen_ast.specs.Phrases.{Phrase, Never, Nothing, Chosen, EmptyArguments, ◌>◌, word, mark, listed}
-use Rattle.swc_ecma_codegen_ast.specs.ElementPhrases.{elements}
+use Rattle.swc_ecma_codegen_ast.specs.ElementPhrases.{element, last_is_hole}
 use Rattle.swc_ecma_codegen_ast.specs.PatPhrases.{value_at}
 use Rattle.swc_ecma_codegen_ast.specs.declared.roles.Role.{Role}
 use Rattle.swc_ecma_codegen_ast.specs.declared.roles.Role.TheVariants.{Callee}
@@ -33,8 +33,12 @@ unfoldable pub expr_or_spread : {X : Type 0} → (X → Role → Phrase) → Exp
 expr_or_spread f n = spread_mark n.spread > value_at f n.expr
 
 -- section 13.2.4: `[a, , ...b]`, and `[a, , ]` where the last element is a hole
+unfoldable pub array_elements : {X : Type 0} → (X → Role → Phrase) → Bool → List (Option (ExprOrSpread X)) → Phrase
+array_elements f true xs = listed (codes ",") (map (element (expr_or_spread f)) xs) > mark (codes ",")
+array_elements f false xs = listed (codes ",") (map (element (expr_or_spread f)) xs)
+
 unfoldable pub array_lit : {X : Type 0} → (X → Role → Phrase) → ArrayLit X → Phrase
-array_lit f n = mark (codes "[") > elements (expr_or_spread f) n.elems.items > mark (codes "]")
+array_lit f n = mark (codes "[") > array_elements f (last_is_hole n.elems.items) n.elems.items > mark (codes "]")
 
 -- section 13.3.8: `(a, ...b)`
 unfoldable pub arguments : {X : Type 0} → (X → Role → Phrase) → List (ExprOrSpread X) → Phrase

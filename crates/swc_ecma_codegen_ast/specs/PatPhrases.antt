@@ -18,7 +18,7 @@ use Rattle.swc_ecma_codegen_tree.specs.declared.pats.AssignTargetPat.{AssignTarg
 use Rattle.swc_ecma_codegen_tree.specs.declared.pats.AssignTargetPat.TheVariants as target_pats
 use Rattle.swc_ecma_codegen_tree.specs.declared.idents.BindingIdent.{BindingIdent}
 use Rattle.swc_ecma_codegen_ast.specs.Phrases.{Phrase, Never, Nothing, ◌>◌, mark, listed}
-use Rattle.swc_ecma_codegen_ast.specs.ElementPhrases.{elements, last_is_hole, trailing_comma}
+use Rattle.swc_ecma_codegen_ast.specs.ElementPhrases.{element, elements_end, trailing_comma}
 use Rattle.swc_ecma_codegen_ast.specs.NamePhrases.{binding_ident}
 use Rattle.swc_ecma_codegen_ast.specs.declared.roles.Role.{Role}
 use Rattle.swc_ecma_codegen_ast.specs.declared.roles.Role.TheVariants.{Expression, Pattern, PropertyName}
@@ -39,13 +39,10 @@ initializer f None = Nothing
 initializer f (Some n) = mark (codes "=") > value_at f n
 
 -- ECMA-262, section 14.3.3: `[a, , b]`, which may have a trailing comma, and has one where its last element is a hole
-unfoldable pub array_elements : {X : Type 0} → (X → Role → Phrase) → List (Option (PatBox X)) → Phrase
-array_elements f xs = elements (pat_at f) xs > (if last_is_hole xs then Nothing else trailing_comma xs)
-
 unfoldable pub array_pat : {X : Type 0} → (X → Role → Phrase) → ArrayPat X → Phrase
 array_pat f n =
     if n.optional || is_some n.type_ann then Never
-    else (mark (codes "[") > array_elements f n.elems.items > mark (codes "]"))
+    else (mark (codes "[") > listed (codes ",") (map (element (pat_at f)) n.elems.items) > elements_end n.elems.items (trailing_comma n.elems.items) > mark (codes "]"))
 
 -- `...a`
 unfoldable pub rest_pat : {X : Type 0} → (X → Role → Phrase) → RestPat X → Phrase

@@ -10,10 +10,10 @@ use Rattle.swc_ecma_codegen_ast.specs.ValidNames.{turned}
 use Rattle.swc_ecma_codegen_literals.specs.AsciiNames.{ascii_name, wants_quotes}
 use Rattle.swc_ecma_codegen_literals.specs.ValidNames.{has_byte}
 use Rattle.swc_ecma_codegen_base.specs.Keys.{ascii_key, bare_key, plain_key, spelled_key, valid_key, key_text}
-use Rattle.swc_ecma_codegen_base.specs.Run.{Env, Plan, State, Remake, step, has_backslash, Emits}
+use Rattle.swc_ecma_codegen_base.specs.Run.{Env, Plan, State, Remake, step, has_backslash, Does}
 use Rattle.swc_ecma_codegen_base.specs.Targets.{wants_escapes}
 use Rattle.swc_ecma_codegen_base.specs.Words.{symbol}
-use Rattle.swc_ecma_codegen_base.proofs.Anew.{emits_same, spelled_anew, not_anew}
+use Rattle.swc_ecma_codegen_base.proofs.Anew.{does_same, spelled_anew, not_anew}
 
 -- ---- a text by the settings
 
@@ -34,38 +34,38 @@ unfolding plain_key
 bare_same span t rest env e = ap (λ b. cond b (symbol span t rest env) (bare_key span t rest env)) e
 
 -- in ASCII
-pub key_in_ascii : (quoted : Bool) (span : Span) (t u : List ℕ) (a b : State) (r : Result (Unit {0}) Refusal) → a.failed ≡ false → wants_escapes a.env.config t ≡ true → quoted ≡ list_any (wants_quotes a.env.config.target) (chars t) → u ≡ ascii_name true a.env.config.target (chars t) → Emits (ascii_key quoted span u) a b r → Emits (spelled_key span t) a b r
+pub key_in_ascii : (quoted : Bool) (span : Span) (t u : List ℕ) (a b : State) (r : Result (Unit {0}) Refusal) → a.failed ≡ false → wants_escapes a.env.config t ≡ true → quoted ≡ list_any (wants_quotes a.env.config.target) (chars t) → u ≡ ascii_name true a.env.config.target (chars t) → Does (ascii_key quoted span u) a b r → Does (spelled_key span t) a b r
 key_in_ascii quoted span t u a b r fresh w q e h =
     let asks : Bool = list_any (wants_quotes a.env.config.target) (chars t) in
-    let P : Bool → Type 0 = λ z. Emits (ascii_key z span u) a b r in
-    spelled_anew (spelled_key span t) true (ascii_key asks span) u (ascii_name true a.env.config.target (chars t)) a b r fresh (λ rest. escaped_same span t rest a.env w) e (subst P q h)
+    let P : Bool → Type 0 = λ z. Does (ascii_key z span u) a b r in
+    spelled_anew (spelled_key span t) true (ascii_key asks span) u (ascii_name true a.env.config.target (chars t)) a b r fresh (λ lines rest. escaped_same span t rest (record a.env { lines = lines }) w) e (subst P q h)
 
 -- or memory is wanting
-pub key_not_made : (span : Span) (t : List ℕ) (e : Refusal) (a b : State) → a.failed ≡ false → wants_escapes a.env.config t ≡ true → e ≡ OutOfMemory → b ≡ record a { failed = true } → Emits (spelled_key span t) a b (Err e)
+pub key_not_made : (span : Span) (t : List ℕ) (e : Refusal) (a b : State) → a.failed ≡ false → wants_escapes a.env.config t ≡ true → e ≡ OutOfMemory → b ≡ record a { failed = true } → Does (spelled_key span t) a b (Err e)
 key_not_made span t e a b fresh w o marked =
-    not_anew (spelled_key span t) true (ascii_key (list_any (wants_quotes a.env.config.target) (chars t)) span (ascii_name true a.env.config.target (chars t))) e a b fresh (λ rest. escaped_same span t rest a.env w) o refl marked
+    not_anew (spelled_key span t) true (ascii_key (list_any (wants_quotes a.env.config.target) (chars t)) span (ascii_name true a.env.config.target (chars t))) e a b fresh (λ lines rest. escaped_same span t rest (record a.env { lines = lines }) w) o refl marked
 
 -- one that holds no escape
-pub key_kept : (span : Span) (t : List ℕ) (a b : State) (r : Result (Unit {0}) Refusal) → wants_escapes a.env.config t ≡ false → Emits (plain_key span t) a b r → Emits (spelled_key span t) a b r
-key_kept span t a b r k h = emits_same (spelled_key span t) (plain_key span t) a b r (λ rest. plain_same span t rest a.env k) h
+pub key_kept : (span : Span) (t : List ℕ) (a b : State) (r : Result (Unit {0}) Refusal) → wants_escapes a.env.config t ≡ false → Does (plain_key span t) a b r → Does (spelled_key span t) a b r
+key_kept span t a b r k h = does_same (spelled_key span t) (plain_key span t) a b r (λ lines rest. plain_same span t rest (record a.env { lines = lines }) k) h
 
-pub key_symbol : (span : Span) (t : List ℕ) (a b : State) (r : Result (Unit {0}) Refusal) → a.env.config.ascii_only ≡ true → Emits (symbol span t) a b r → Emits (plain_key span t) a b r
-key_symbol span t a b r e h = emits_same (plain_key span t) (symbol span t) a b r (λ rest. symbol_same span t rest a.env e) h
+pub key_symbol : (span : Span) (t : List ℕ) (a b : State) (r : Result (Unit {0}) Refusal) → a.env.config.ascii_only ≡ true → Does (symbol span t) a b r → Does (plain_key span t) a b r
+key_symbol span t a b r e h = does_same (plain_key span t) (symbol span t) a b r (λ lines rest. symbol_same span t rest (record a.env { lines = lines }) e) h
 
-pub key_bare : (span : Span) (t : List ℕ) (a b : State) (r : Result (Unit {0}) Refusal) → a.env.config.ascii_only ≡ false → Emits (bare_key span t) a b r → Emits (plain_key span t) a b r
-key_bare span t a b r e h = emits_same (plain_key span t) (bare_key span t) a b r (λ rest. bare_same span t rest a.env e) h
+pub key_bare : (span : Span) (t : List ℕ) (a b : State) (r : Result (Unit {0}) Refusal) → a.env.config.ascii_only ≡ false → Does (bare_key span t) a b r → Does (plain_key span t) a b r
+key_bare span t a b r e h = does_same (plain_key span t) (bare_key span t) a b r (λ lines rest. bare_same span t rest (record a.env { lines = lines }) e) h
 
 -- ---- as the writer takes names
 
 -- a key whose text is made anew
-pub key_remade : (span : Span) (name text : List ℕ) (a b : State) (r : Result (Unit {0}) Refusal) → a.failed ≡ false → text ≡ turned name → Emits (spelled_key span text) a b r → Emits (valid_key span name) a b r
+pub key_remade : (span : Span) (name text : List ℕ) (a b : State) (r : Result (Unit {0}) Refusal) → a.failed ≡ false → text ≡ turned name → Does (spelled_key span text) a b r → Does (valid_key span name) a b r
 unfolding valid_key
-key_remade span name text a b r fresh eq h = spelled_anew (valid_key span name) (has_backslash name) (spelled_key span) text (turned name) a b r fresh (λ rest. refl) eq h
+key_remade span name text a b r fresh eq h = spelled_anew (valid_key span name) (has_backslash name) (spelled_key span) text (turned name) a b r fresh (λ lines rest. refl) eq h
 
 -- memory is refused only for a name with a backslash
-pub key_not_remade : (span : Span) (name : List ℕ) (e : Refusal) (a b : State) → a.failed ≡ false → e ≡ OutOfMemory → (has_byte 92 name ≡ false → ⊥) → b ≡ record a { failed = true } → Emits (valid_key span name) a b (Err e)
+pub key_not_remade : (span : Span) (name : List ℕ) (e : Refusal) (a b : State) → a.failed ≡ false → e ≡ OutOfMemory → (has_byte 92 name ≡ false → ⊥) → b ≡ record a { failed = true } → Does (valid_key span name) a b (Err e)
 unfolding valid_key
-key_not_remade span name e a b fresh eq h marked = not_anew (valid_key span name) (has_backslash name) (spelled_key span (turned name)) e a b fresh (λ rest. refl) eq (true_from_ne_false (has_byte 92 name) h) marked
+key_not_remade span name e a b fresh eq h marked = not_anew (valid_key span name) (has_backslash name) (spelled_key span (turned name)) e a b fresh (λ lines rest. refl) eq (true_from_ne_false (has_byte 92 name) h) marked
 
 lent_same : (span : Span) (name : List ℕ) (rest : Plan) (env : Env) → env.keeps_invalid ≡ true → key_text span name rest env ≡ spelled_key span name rest env
 unfolding key_text
@@ -76,8 +76,8 @@ unfolding key_text
 valid_same span name rest env h = ap (λ b. cond b (spelled_key span name rest env) (valid_key span name rest env)) h
 
 -- a key as it is, and one whose text is made anew
-pub kept_key : (span : Span) (name : List ℕ) (a b : State) (r : Result (Unit {0}) Refusal) → a.env.keeps_invalid ≡ true → Emits (spelled_key span name) a b r → Emits (key_text span name) a b r
-kept_key span name a b r h k = emits_same (key_text span name) (spelled_key span name) a b r (λ rest. lent_same span name rest a.env h) k
+pub kept_key : (span : Span) (name : List ℕ) (a b : State) (r : Result (Unit {0}) Refusal) → a.env.keeps_invalid ≡ true → Does (spelled_key span name) a b r → Does (key_text span name) a b r
+kept_key span name a b r h k = does_same (key_text span name) (spelled_key span name) a b r (λ lines rest. lent_same span name rest (record a.env { lines = lines }) h) k
 
-pub made_key : (span : Span) (name : List ℕ) (a b : State) (r : Result (Unit {0}) Refusal) → a.env.keeps_invalid ≡ false → Emits (valid_key span name) a b r → Emits (key_text span name) a b r
-made_key span name a b r h k = emits_same (key_text span name) (valid_key span name) a b r (λ rest. valid_same span name rest a.env h) k
+pub made_key : (span : Span) (name : List ℕ) (a b : State) (r : Result (Unit {0}) Refusal) → a.env.keeps_invalid ≡ false → Does (valid_key span name) a b r → Does (key_text span name) a b r
+made_key span name a b r h k = does_same (key_text span name) (valid_key span name) a b r (λ lines rest. valid_same span name rest (record a.env { lines = lines }) h) k

@@ -13,9 +13,9 @@ use Rattle.swc_ecma_codegen_tree.specs.declared.exprs.Import.{Import}
 use Rattle.swc_ecma_codegen_tree.specs.declared.exprs.NewExpr.{NewExpr}
 use Rattle.swc_ecma_codegen_tree.specs.declared.exprs.OptCall.{OptCall}
 use Rattle.swc_ecma_codegen_ast.specs.Phrases.{Phrase, Never, Nothing, ◌>◌, mark, listed, is_possible}
-use Rattle.swc_ecma_codegen_ast.specs.ElementPhrases.{element, elements, last_is_hole}
+use Rattle.swc_ecma_codegen_ast.specs.ElementPhrases.{element, last_is_hole}
 use Rattle.swc_ecma_codegen_ast.specs.PatPhrases.{value_at}
-use Rattle.swc_ecma_codegen_ast.specs.CallPhrases.{callee_at, spread_mark, expr_or_spread, array_lit, arguments, import_phase, import_callee, callee, call_expr, listed_arguments, new_arguments, new_expr, call_mark, chain_call}
+use Rattle.swc_ecma_codegen_ast.specs.CallPhrases.{callee_at, spread_mark, expr_or_spread, array_elements, array_lit, arguments, import_phase, import_callee, callee, call_expr, listed_arguments, new_arguments, new_expr, call_mark, chain_call}
 use Rattle.swc_ecma_codegen_ast.specs.ExprPhrases.{expr, expr_in}
 use Rattle.swc_ecma_codegen_ast.specs.declared.roles.Role.{Role}
 use Rattle.swc_ecma_codegen_grammar.specs.Possible.{all_possible}
@@ -26,19 +26,14 @@ unfolding is_possible spread_mark
 spread_possible None = refl
 spread_possible (Some dots) = refl
 
-hole_possible : (hole : Bool) → is_possible (cond hole (mark (codes ",")) Nothing) ≡ true
-unfolding is_possible
-hole_possible true = refl
-hole_possible false = refl
+elements_possible : {X : Type 0} (f : X → Role → Phrase) (hole : Bool) (xs : List (Option (ExprOrSpread X))) → is_possible (array_elements f hole xs) ≡ all_possible (element (expr_or_spread f)) xs
+unfolding is_possible array_elements
+elements_possible f true xs = and_true (is_possible (listed (codes ",") (map (element (expr_or_spread f)) xs))) ∙ listed_possible (codes ",") (element (expr_or_spread f)) xs
+elements_possible f false xs = listed_possible (codes ",") (element (expr_or_spread f)) xs
 
 pub array_lit_possible : {X : Type 0} (f : X → Role → Phrase) (n : ArrayLit X) → is_possible (array_lit f n) ≡ all_possible (element (expr_or_spread f)) n.elems.items
-unfolding is_possible array_lit elements
-array_lit_possible f n =
-    let xs = n.elems.items in
-    and_true (is_possible (listed (codes ",") (map (element (expr_or_spread f)) xs)) && is_possible (cond (last_is_hole xs) (mark (codes ",")) Nothing))
-    ∙ ap (λ b. is_possible (listed (codes ",") (map (element (expr_or_spread f)) xs)) && b) (hole_possible (last_is_hole xs))
-    ∙ and_true (is_possible (listed (codes ",") (map (element (expr_or_spread f)) xs)))
-    ∙ listed_possible (codes ",") (element (expr_or_spread f)) xs
+unfolding is_possible array_lit
+array_lit_possible f n = and_true (is_possible (array_elements f (last_is_hole n.elems.items) n.elems.items)) ∙ elements_possible f (last_is_hole n.elems.items) n.elems.items
 
 arguments_possible : {X : Type 0} (f : X → Role → Phrase) (xs : List (ExprOrSpread X)) → is_possible (arguments f xs) ≡ all_possible (expr_or_spread f) xs
 unfolding is_possible arguments

@@ -1,5 +1,6 @@
 -- When the phrase of a function or a block is possible.
-use Rattle.std.proofs.Common.{◌≡◌, ◌∙◌, refl, sym, ap, ℕ, ◌==◌, Bool, true, false, not, ◌&&◌, ◌||◌, cond, is_some, is_none, List, [], ◌∷◌, length, map, codes, Option, Some, None}
+use Rattle.std.proofs.Common.{◌≡◌, ◌∙◌, refl, sym, ap, ℕ, suc, ◌==◌, Bool, true, false, not, ◌&&◌, ◌||◌, cond, is_some, is_none, List, [], ◌∷◌, length, map, codes, Option, Some, None, arith}
+use Rattle.std.proofs.lemmas.Bool.{ne_eqb}
 use Rattle.swc_ecma_codegen_tree.specs.declared.expr_links.PatBox.{PatBox}
 use Rattle.swc_ecma_codegen_tree.specs.declared.decls.Function as functions
 use Rattle.swc_ecma_codegen_tree.specs.declared.exprs.ArrowExpr.{ArrowExpr}
@@ -39,10 +40,13 @@ plain None (Some t) decorated p b e = refl
 plain None None true p b e = refl
 plain None None false p b e = e
 
+some_long : {A : Type 0} (xs : List A) → suc (length xs) ≡ 0 → ⊥
+some_long xs e = omega (arith, e)
+
 none_listed : {A : Type 0} (xs : List A) → not (is_some_listed xs) ≡ (length xs == 0)
 unfolding is_some_listed
 none_listed [] = refl
-none_listed (x ∷ xs) = refl
+none_listed (x ∷ xs) = sym (ne_eqb (suc (length xs)) 0 (some_long xs))
 
 pub function_possible : {X : Type 0} (f : X → Role → Phrase) (n : functions.Function X) → is_possible (function f n) ≡ (is_none n.type_params && (is_none n.return_type && ((length n.decorators.items == 0) && (all_possible (param f) n.params.items && is_possible (function_body f n.body)))))
 unfolding is_possible function
