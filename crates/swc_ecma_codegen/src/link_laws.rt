@@ -68,7 +68,6 @@ pub fn emitted_member_expr_box_reads<W: WriteJs, S: SourceMapper, C: Comments>(
     ensures reads { (root : Root) → IsHeld link.now.node.value root → is_well_formed_root root ≡ true → IsNew (state_of S.lines W.sheet e.old) → OnOk result (AddsReading e.old.cfg (root_phrase root) (W.sheet e.old.wr) (W.sheet e.new.wr)) }
     ensures member_items { (member : MemberExpr AnyNode) → link.now.node.value ≡ AnyNode.MemberExpr member → Follows (member_items any_items member nothing) (state_of S.lines W.sheet e.old) (state_of S.lines W.sheet e.new) (in_short result) }
     ensures member_reads { (member : MemberExpr AnyNode) → link.now.node.value ≡ AnyNode.MemberExpr member → is_possible (member_expr phrase member) ≡ true → IsNew (state_of S.lines W.sheet e.old) → OnOk result (AddsReading e.old.cfg (member_expr phrase member) (W.sheet e.old.wr) (W.sheet e.new.wr)) }
-<<<<<<< HEAD
 {
     link.emit_with(e)
 }
@@ -82,8 +81,6 @@ pub fn emitted_assign_target_box_reads<W: WriteJs, S: SourceMapper, C: Comments>
     ensures reads { (root : Root) → IsHeld link.now.node.value root → is_well_formed_root root ≡ true → IsNew (state_of S.lines W.sheet e.old) → OnOk result (AddsReading e.old.cfg (root_phrase root) (W.sheet e.old.wr) (W.sheet e.new.wr)) }
     ensures target_items { (target : AssignTarget AnyNode) → link.now.node.value ≡ AnyNode.ExprPart (ExprPart.AssignTarget target) → Follows (target_items any_items target nothing) (state_of S.lines W.sheet e.old) (state_of S.lines W.sheet e.new) (in_short result) }
     ensures target_reads { (target : AssignTarget AnyNode) → link.now.node.value ≡ AnyNode.ExprPart (ExprPart.AssignTarget target) → is_possible (assign_target phrase target) ≡ true → IsNew (state_of S.lines W.sheet e.old) → OnOk result (AddsReading e.old.cfg (assign_target phrase target) (W.sheet e.old.wr) (W.sheet e.new.wr)) }
-=======
->>>>>>> 183f8a6aa9462f041eeeb7cb22940716301a470e
 {
     link.emit_with(e)
 }
