@@ -1,6 +1,6 @@
 //! Names as keys of properties.
 
-ghost use Rattle.std.specs.Prelude.{◌≡◌, OnOk, IsNone, true};
+ghost use Rattle.std.specs.Prelude.{◌≡◌, OnOk, IsNone, false, true};
 ghost use Rattle.std.specs.List.{list_any};
 ghost use Rattle.std.specs.Str.{chars};
 ghost use Rattle.swc_ecma_codegen_spans.specs.Spans.{dummy_span};
