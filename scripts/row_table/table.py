@@ -1,6 +1,7 @@
 """The rows of the table of crates/swc_ecma_codegen_row_tests: trees, and the texts that they ask for."""
 
 import collections
+import itertools
 import json
 import os
 import re
@@ -9,6 +10,8 @@ TABLE = os.path.join(os.path.dirname(os.path.abspath(__file__)), "../../crates/s
 NOWHERE = '{"lo":0,"hi":0}'
 A = '{"Ident":{"span":{"lo":0,"hi":0},"sym":"a","optional":false}}'
 NAMES = ["a", "in_", "$", "\u00e9"]
+LETTERS = ["a", ",", " ", "\U0001f600"]
+MAPPERS = {"same": "same", "apart": "different", "even": "parity"}
 # A text that a row asks for: the row, the words of a run, the JSON of the tree, the text, the lines on standard error, and
 # the tokens, or nothing where the row tells none.
 Case = collections.namedtuple("Case", "row words tree text lines tokens")
@@ -30,23 +33,43 @@ def tree(short):
     return json.loads(short.replace("~", NOWHERE).replace("@", A))
 
 
-def script_of(body):
+def in_places(short):
+    """A tree where each span is another, as the program that goes through the table has them."""
+    ends = itertools.count(1, 3)
+
+    def span(_):
+        lo = next(ends)
+        return '{"lo":%d,"hi":%d}' % (lo, lo + 1)
+
+    return tree(re.sub("~", span, short))
+
+
+def snippets():
+    """The texts of up to four letters, the shorter ones first."""
+    return ["".join(text) for length in range(5) for text in itertools.product(LETTERS, repeat=length)]
+
+
+def script_of(body, tree=tree):
     return tree('{"Script":{"span":~,"body":[%s],"shebang":null}}' % body)
 
 
-def script(expr):
-    return script_of('{"Expr":{"span":~,"expr":%s}}' % expr)
+def script(expr, tree=tree):
+    return script_of('{"Expr":{"span":~,"expr":%s}}' % expr, tree)
 
 
 def filled(text, operands):
     return "".join(part + operand for part, operand in zip(text.split("•"), operands + [""]))
 
 
-def written(tokens, words):
-    """The tokens of a text that is printed with these words: without blanks some don't stand, nor some semicolons."""
+def written(tokens, words, comma=False):
+    """The tokens of a text that is printed with these words: without blanks some don't stand, nor some semicolons.
+
+    The commas at the ends of lists stand with `comma`, where the source text has them.
+    """
     is_minified = "--minify" in words
     omits = is_minified and "--omit-last-semi" in words
-    found = [token.replace("P:", "p:", 1) for token in tokens.split() if not (is_minified and token.startswith("P:"))]
+    absent = "PC" * is_minified + "cC" * (not comma)
+    found = ["p" + token[1:] if token[0] in "PcC" else token for token in tokens.split() if token[0] not in absent]
     left = {"p:}", "p:;", "e:;", None}
     return [token for token, after in zip(found, found[1:] + [None]) if not (omits and token == "e:;" and after in left)]
 
@@ -92,6 +115,12 @@ class Table:
     def both(self, row, made_of, pretty, minified, is_script=False):
         return [self.case(row, [], made_of, pretty, is_script), self.case(row, ["--minify", "--bare"], made_of, minified, is_script)]
 
+    def over(self, row, words, made_of, texts, comma=False):
+        """The two texts over a source text, where each node has a place of its own."""
+        program, tokens = script(self.made(made_of, 0)[-1], in_places), self.made(made_of, 1)[-1] + " e:;"
+        both = [(words, texts[0]), ([*words, "--minify", "--bare"], texts[1])]
+        return [Case(row, words, program, text, "", written(tokens, words, comma)) for words, text in both]
+
     def of_row(self, row, fields):
         word, rest = fields[0], fields[1:]
         if word in ("tree", "malformed", "script"):
@@ -102,6 +131,11 @@ class Table:
             return [self.case(row, rest[0].split(), *rest[1:], word == "script_prints")]
         if word == "run" and rest[2] == "0":
             return [Case(row, rest[0].split(), tree(rest[1]), rest[3], rest[4], None)]
+        if word == "over":
+            return self.over(row, ["--mapper", MAPPERS[rest[0]]], rest[1], rest[2:])
+        if word == "commas":
+            marked = [(["--mapper", "same", "--snippet", text], mark == "1") for text, mark in zip(snippets(), rest[5])]
+            return [case for words, comma in marked for case in self.over(row, words, rest[0], rest[3:5] if comma else rest[1:3], comma)]
         if word in ("nestings", "placed"):
             inners = self.sorts["operator" if word == "nestings" else "expression"]
             texts = zip(inners, rest[2].split("¦"), rest[3].split("¦"))
