@@ -6,6 +6,8 @@ pub mod Asked
 pub mod Linked
 pub mod ListParts
 pub mod ExprParts
+pub mod TargetParts
+pub mod PartLaws
 pub mod StmtParts
 pub mod TreeLaw
 pub mod TreeReads

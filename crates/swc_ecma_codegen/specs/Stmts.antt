@@ -24,6 +24,7 @@ stmt_parts items (stmts.Empty n) rest = empty_stmt n rest
 stmt_parts items (stmts.Expr n) rest = expr_stmt items n rest
 stmt_parts items n rest = unsupported rest
 
--- the comments after a statement, and the end of its line
+-- the comments after a statement, and the end of its line, which a block doesn't end
 unfoldable pub stmt : {X : Type 0} → (X → Answers) → (X → Place → Part) → Stmt X → Part
+stmt asks items (stmts.Block n) rest = items n.node.value Plain rest
 stmt asks items n rest = stmt_parts items n (trailing_comments true (stmt_span (place_of asks) n).hi (formatting_line rest))

@@ -2,9 +2,12 @@
 #![tactic(auto)]
 
 pub mod ast;
+mod blocks;
+mod chains;
 mod code;
 mod emitter;
 mod expr;
+mod functions;
 mod knot;
 pub mod laws;
 mod link_laws;
@@ -14,8 +17,13 @@ mod marks;
 mod node;
 pub mod nodes;
 pub mod operands;
+mod parts;
+mod pats;
+pub mod patterns;
 mod places;
+mod props;
 mod stmt;
+mod targets;
 mod tokens;
 
 pub use crate::code::to_code;

@@ -23,7 +23,7 @@ use swc_ecma_codegen_ast::mapper::SourceMapper;
 use swc_ecma_codegen_common::{Answer, Error, Result};
 use swc_ecma_codegen_spans::Spanned;
 use swc_ecma_codegen_text_writer::WriteJs;
-use swc_ecma_codegen_tree::{ExprBox, MemberExprBox, StmtBox};
+use swc_ecma_codegen_tree::{AssignTargetBox, ExprBox, MemberExprBox, StmtBox};
 
 /// A node that can be printed: each type of node, a link, and a reference, a box or an option of these. swc's `Node`.
 pub trait Node: Spanned {
@@ -37,7 +37,7 @@ pub trait Node: Spanned {
         // The steps of the tree are made, and it comes to no node that can't be printed; or it halts.
         ensures items { Follows (part self.now nothing) (state_of S.lines W.sheet e.old) (state_of S.lines W.sheet e.new) (in_short result) }
         // What a new emitter adds to the text, of a well-formed tree, reads as one of the tree's token lists.
-        ensures reads { (root : Root) → part self.now ≡ root_items root → is_well_formed_root root ≡ true → IsNew (state_of S.lines W.sheet e.old) → OnOk result (AddsReading (root_phrase root) (W.sheet e.old.wr) (W.sheet e.new.wr)) }
+        ensures reads { (root : Root) → part self.now ≡ root_items root → is_well_formed_root root ≡ true → IsNew (state_of S.lines W.sheet e.old) → OnOk result (AddsReading e.old.cfg (root_phrase root) (W.sheet e.old.wr) (W.sheet e.new.wr)) }
         // Each position that is recorded holds the place that the text had reached, and none is recorded twice.
         ensures recorded { OnOk result (RecordsTruly (W.sheet e.old.wr) (W.sheet e.new.wr)) }
         // Where positions are kept, each name of a well-formed tree has its own where it begins, unless that is 0.
@@ -143,6 +143,18 @@ impl<N: EmitAt> EmitAt for StmtBox<N> {
 }
 
 impl<N: EmitAt> EmitAt for MemberExprBox<N> {
+    ghost items = { λ n place. N.items n.node.value place };
+
+    fn emit_at<W: WriteJs, S: SourceMapper, C: Comments>(
+        &self,
+        e: &mut Emitter<'_, W, S, C>,
+        place: Place,
+    ) -> Answer {
+        self.held().emit_at(e, place)
+    }
+}
+
+impl<N: EmitAt> EmitAt for AssignTargetBox<N> {
     ghost items = { λ n place. N.items n.node.value place };
 
     fn emit_at<W: WriteJs, S: SourceMapper, C: Comments>(

@@ -10,6 +10,7 @@ ghost use Rattle.swc_ecma_codegen.specs.View.{state_of};
 
 use crate::emitter::Emitter;
 use crate::operands::OperandKind;
+use crate::patterns::PatternKind;
 use swc_ecma_codegen_ast::comments::Comments;
 use swc_ecma_codegen_ast::mapper::SourceMapper;
 use swc_ecma_codegen_common::{Answer, BinaryOp, BytePos, DUMMY_SP, Span};
@@ -26,6 +27,14 @@ pub enum Place {
     Object,
     /// The object of a property after a dot, and where the property stands: `1` in `1..a`.
     DottedObject(BytePos),
+    /// A member in an optional chain, and whether `?.` stands before its property: `a?.b`
+    Chain(bool),
+    /// A block as the body of a function: `{ a; }` of `function f() { a; }`
+    Body,
+    /// What of a function stands before its name: `async function*`
+    FunctionHead,
+    /// What of a method stands before its name: `async *`
+    MethodHead,
 }
 
 /// What a node tells those above it.
@@ -63,8 +72,14 @@ pub trait AskSpace: Known {
         ensures { result ≡ (Self.answers self.now).space op };
 }
 
+/// What it begins with, where it is a pattern.
+pub trait AskPattern: Known {
+    fn pattern(&self) -> PatternKind
+        ensures { result ≡ (Self.answers self.now).pattern };
+}
+
 /// The questions that those above it ask.
-pub trait Asked: AskPlace + AskStarts + AskEnds + AskKind + AskSpace {}
+pub trait Asked: AskPlace + AskStarts + AskEnds + AskKind + AskSpace + AskPattern {}
 
 /// What can be printed, where the one above puts it.
 pub trait EmitAt {

@@ -27,6 +27,7 @@ impl<N: Held> EmitAt for Stmt<N> {
         place: Place,
     ) -> Answer {
         match self {
+            Stmt::Block(node) => return node.held().emit_at(e, Place::Plain),
             Stmt::Empty(node) => node.emit_at(e, Place::Plain)?,
             Stmt::Expr(node) => node.emit_at(e, Place::Plain)?,
             _ => e.unsupported()?,

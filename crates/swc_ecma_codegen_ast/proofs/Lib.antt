@@ -4,8 +4,13 @@ pub mod Dropped
 pub mod HashbangShapes
 pub mod Heads
 pub mod JsxShapes
+pub mod LayoutLaws
 pub mod Lists
 pub mod Longest
+pub mod Mapped
+pub mod MappedFunctions
+pub mod MappedPats
+pub mod MappedProps
 pub mod MarkMatch
 pub mod Marks
 pub mod NameShapes

@@ -6,4 +6,26 @@ pub enum Role {
     Expression,
     Statement,
     MemberExpression,
+    /// A member as it stands in an optional chain, and whether `?.` stands before its property: true for `a?.b`, false for
+    /// `.c` of `a?.b.c`.
+    ChainMember(bool),
+    AssignmentTarget,
+    /// `[a]` of `[a] = b`, and each parameter of a function.
+    Pattern,
+    /// A pattern that is a name alone: round it as the only parameter of an arrow function parentheses may be left out.
+    PlainParameter,
+    /// `a` of `{ a: b }`.
+    PropertyName,
+    /// `a: b` of `{ a: b }`.
+    PropertyDefinition,
+    /// `{ a }`.
+    ObjectLiteral,
+    /// `() {}` of `function f() {}`, all but the words before it and the name.
+    Function,
+    /// `async function*` of `async function* f() {}`.
+    FunctionHead,
+    /// `async *` of `{ async *f() {} }`.
+    MethodHead,
+    /// `{ a; }`.
+    Block,
 }

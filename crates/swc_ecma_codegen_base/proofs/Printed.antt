@@ -4,13 +4,14 @@ use Rattle.std.proofs.lemmas.Bool.{and_from, cases_Bool, or_cases, or_left, or_r
 use Rattle.swc_ecma_codegen_common.specs.declared.positions.BytePos.{BytePos}
 use Rattle.swc_ecma_codegen_common.specs.declared.positions.Span.{Span}
 use Rattle.swc_ecma_codegen_spans.specs.Spans.{dummy_span}
+use Rattle.swc_ecma_codegen_ast.specs.declared.kinds.Kind.{Kind}
 use Rattle.swc_ecma_codegen_ast.specs.declared.kinds.Kind.TheVariants.{Word, Name, Punctuator, Ending}
 use Rattle.swc_ecma_codegen_ast.specs.Tokens as lexical
 use Rattle.swc_ecma_codegen_ast.specs.Tokens.{token_of}
 use Rattle.swc_ecma_codegen_text_writer.specs.Sheet.{Semi, Space, Keyword, Operator, Line, Symbol, Punct, Position, Commit, Deeper, Shallower, effect}
 use Rattle.swc_ecma_codegen_ast.specs.ValidNames.{turned}
 use Rattle.swc_ecma_codegen_base.specs.Run.{Env, Plan, Part, State, Step, Guard, Token, Plain, Ends, Remake, Steps, next, put, run, step, spelling, text_of, after_token, after_plain, when_minified, no_part, has_backslash, makes_text}
-use Rattle.swc_ecma_codegen_base.specs.Words.{keyword, operator, word_operator, punct, semi, space, formatting_space, line_end, formatting_line, commit_pending_semi, position, position_before, leading_comments, trailing_comments, symbol, spelled_symbol, valid_symbol, name_text}
+use Rattle.swc_ecma_codegen_base.specs.Words.{keyword, operator, word_operator, punct, placed_punct, semi, space, formatting_space, line_end, formatting_line, commit_pending_semi, position, position_before, leading_comments, trailing_comments, symbol, spelled_symbol, valid_symbol, name_text}
 use Rattle.swc_ecma_codegen_base.specs.Lists.{deeper, shallower}
 use Rattle.swc_ecma_codegen_literals.specs.AsciiNames.{is_ascii_text}
 use Rattle.swc_ecma_codegen_base.specs.Ascii.{is_kept, is_other, keeps_other, are_ascii}
@@ -158,6 +159,10 @@ pub writes_punct : (env : Env) (t : List ℕ) → Spelled Punctuator t → is_as
 unfolding punct put effect text_of after_token punct_put makes_text levels rise are_ascii has_string is_string_call
 writes_punct env t p a = writes_two env (Guard t) (Token Punctuator (Punct None t)) _ (λ s r. lays_punct None t s p r) (omega arith) (hands_ascii env _ _ (guarded_ascii t a) no_text)
 
+pub writes_placed_punct : (env : Env) (span : Span) (t : List ℕ) → Spelled Punctuator t → is_ascii_text t ≡ true → Writes env (placed_punct span t) (token_of Punctuator (spelling Punctuator t) ∷ [])
+unfolding placed_punct put effect text_of after_token punct_put makes_text levels rise are_ascii has_string is_string_call
+writes_placed_punct env span t p a = writes_two env (Guard t) (Token Punctuator (Punct (Some span) t)) _ (λ s r. lays_punct (Some span) t s p r) (omega arith) (hands_ascii env _ _ (guarded_ascii t a) no_text)
+
 pub writes_semi : (env : Env) → Writes env semi (token_of Ending (spelling Ending (codes ";")) ∷ [])
 unfolding semi put effect text_of after_token semi_put makes_text levels rise are_ascii has_string is_string_call
 writes_semi env = writes_two env (Guard (codes ";")) (Token Ending (Semi None)) _ (λ s r. lays_semi None s r) (omega arith) (hands_ascii env _ _ refl no_text)
@@ -227,29 +232,34 @@ punct_within env t p a = record {
 
 -- ---- names
 
-name_token : (env : Env) (t : List ℕ) → Spelled Name t → (env.config.ascii_only ≡ true → is_ascii_text t ≡ true) → Writes env (λ rest. step (Guard t) (step (Token Name (Symbol dummy_span t)) rest)) (token_of Name (spelling Name t) ∷ [])
+name_token : (env : Env) (kind : Kind) (t : List ℕ) → Spelled kind t → (env.config.ascii_only ≡ true → is_ascii_text t ≡ true) → Writes env (λ rest. step (Guard t) (step (Token kind (Symbol dummy_span t)) rest)) (token_of kind (spelling kind t) ∷ [])
 unfolding put effect text_of after_token own_put makes_text levels rise are_ascii has_string is_string_call keeps_other is_other is_kept
-name_token env t p a = writes_two env (Guard t) (Token Name (Symbol dummy_span t)) _ (λ s r. lays_token Name (Some dummy_span) t s p r) (omega arith) (hands_by_settings env _ _ (λ e. guarded_ascii t (a e)) refl no_text)
+name_token env kind t p a = writes_two env (Guard t) (Token kind (Symbol dummy_span t)) _ (λ s r. lays_token kind (Some dummy_span) t s p r) (omega arith) (hands_by_settings env _ _ (λ e. guarded_ascii t (a e)) refl no_text)
 
 -- with a position, which stands after the blank that is due
-placed_token : (env : Env) (pos : BytePos) (t : List ℕ) → Spelled Name t → (env.config.ascii_only ≡ true → is_ascii_text t ≡ true) → Writes env (λ rest. step (Guard t) (step (Plain (Position pos)) (step (Token Name (Symbol dummy_span t)) rest))) (token_of Name (spelling Name t) ∷ [])
+placed_token : (env : Env) (kind : Kind) (pos : BytePos) (t : List ℕ) → Spelled kind t → (env.config.ascii_only ≡ true → is_ascii_text t ≡ true) → Writes env (λ rest. step (Guard t) (step (Plain (Position pos)) (step (Token kind (Symbol dummy_span t)) rest))) (token_of kind (spelling kind t) ∷ [])
 unfolding step chain run put effect text_of after_token after_plain own_put makes_text levels rise are_ascii has_string is_string_call keeps_other is_other is_kept
-placed_token env pos t p a = record {
-  steps = Guard t ∷ Plain (Position pos) ∷ Token Name (Symbol dummy_span t) ∷ [];
+placed_token env kind pos t p a = record {
+  steps = Guard t ∷ Plain (Position pos) ∷ Token kind (Symbol dummy_span t) ∷ [];
   is_steps = λ rest. refl;
-  lays = λ s r. lays_placed pos Name (Some dummy_span) t s p r;
+  lays = λ s r. lays_placed pos kind (Some dummy_span) t s p r;
   remakes = no_text;
   deep = omega arith;
   hands = hands_by_settings env _ _ (λ e. guarded_ascii t (a e)) refl no_text;
 }
 
-symbol_at : (env : Env) (pos : BytePos) (b : Bool) (t : List ℕ) → Spelled Name t → (env.config.ascii_only ≡ true → is_ascii_text t ≡ true) → Writes env (λ rest. step (Guard t) (cond b (step (Token Name (Symbol dummy_span t)) rest) (step (Plain (Position pos)) (step (Token Name (Symbol dummy_span t)) rest)))) (token_of Name (spelling Name t) ∷ [])
-symbol_at env pos true t p a = name_token env t p a
-symbol_at env pos false t p a = placed_token env pos t p a
+symbol_at : (env : Env) (kind : Kind) (pos : BytePos) (b : Bool) (t : List ℕ) → Spelled kind t → (env.config.ascii_only ≡ true → is_ascii_text t ≡ true) → Writes env (λ rest. step (Guard t) (cond b (step (Token kind (Symbol dummy_span t)) rest) (step (Plain (Position pos)) (step (Token kind (Symbol dummy_span t)) rest)))) (token_of kind (spelling kind t) ∷ [])
+symbol_at env kind pos true t p a = name_token env kind t p a
+symbol_at env kind pos false t p a = placed_token env kind pos t p a
+
+-- a token by the call of a name, with its position
+pub writes_placed : (env : Env) (kind : Kind) (span : Span) (t : List ℕ) → Spelled kind t → (env.config.ascii_only ≡ true → is_ascii_text t ≡ true) → Writes env (λ rest. step (Guard t) (position span.lo (step (Token kind (Symbol dummy_span t)) rest))) (token_of kind (spelling kind t) ∷ [])
+unfolding position
+writes_placed env kind span t p a = symbol_at env kind span.lo (span.lo.0 == 0) t p a
 
 pub writes_symbol : (env : Env) (span : Span) (t : List ℕ) → Spelled Name t → (env.config.ascii_only ≡ true → is_ascii_text t ≡ true) → Writes env (symbol span t) (token_of Name (spelling Name t) ∷ [])
-unfolding symbol position
-writes_symbol env span t p a = symbol_at env span.lo (span.lo.0 == 0) t p a
+unfolding symbol
+writes_symbol env span t p a = writes_placed env Name span t p a
 
 writes_spelled_symbol : (env : Env) (span : Span) (t : List ℕ) → is_out_name env.config t ≡ false → Spelled Name (in_ascii env.config t) → (env.config.ascii_only ≡ true → is_ascii_text (in_ascii env.config t) ≡ true) → Makes env (spelled_symbol span t) (token_of Name (spelling Name (in_ascii env.config t)) ∷ []) (wants_escapes env.config t)
 writes_spelled_symbol env span t o p a =

@@ -1,11 +1,14 @@
 pub mod BigSpellings
 pub mod DigitCounts
 pub mod DigitForms
+pub mod FunctionsPossible
 pub mod LastSuffix
 pub mod Lists
 pub mod MantissaLaws
 pub mod NormalDecimals
+pub mod PatsPossible
 pub mod Possible
+pub mod PropsPossible
 pub mod Slashes
 pub mod SpelledUnits
 pub mod Turned

@@ -1,10 +1,19 @@
 //! Statements and programs.
 
 ghost use Rattle.std.specs.Prelude.{◌≡◌};
-ghost use Rattle.swc_ecma_codegen_ast.specs.StmtPhrases.{empty_stmt, expr_stmt, stmt, script, program};
+ghost use Rattle.swc_ecma_codegen_ast.specs.StmtPhrases.{block_stmt, empty_stmt, expr_stmt, stmt, script, program};
 
 use crate::forms::{Fits, WellFormed, all_well_formed};
-use swc_ecma_codegen_tree::{EmptyStmt, ExprStmt, Program, Script, Stmt};
+use swc_ecma_codegen_tree::{BlockStmt, EmptyStmt, ExprStmt, Program, Script, Stmt};
+
+impl<N: Fits> WellFormed for BlockStmt<N> {
+    ghost phrase = { block_stmt N.reads };
+
+    #[tactic(auto, using(crate::proofs::FunctionsPossible::block_possible))]
+    fn is_well_formed(&self) -> bool {
+        all_well_formed(&self.stmts)
+    }
+}
 
 impl WellFormed for EmptyStmt {
     ghost phrase = { empty_stmt };
@@ -30,6 +39,7 @@ impl<N: Fits> WellFormed for Stmt<N> {
     #[tactic(auto, unfolding(swc_ecma_codegen_ast::specs::StmtPhrases::stmt, swc_ecma_codegen_ast::specs::Phrases::is_possible))]
     fn is_well_formed(&self) -> bool {
         match self {
+            Stmt::Block(node) => node.is_well_formed(),
             Stmt::Empty(node) => node.is_well_formed(),
             Stmt::Expr(node) => node.is_well_formed(),
             _ => false,
