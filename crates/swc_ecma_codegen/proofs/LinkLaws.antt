@@ -51,9 +51,9 @@ follows_part p q a b r e h = subst (λ z. Follows (z nothing) a b r) e h
 
 -- ---- what it reads as
 
-pub member_reads : (n : AnyNode) (m : MemberExpr AnyNode) (a b : State) (r : Result (Unit {0}) Error) → n ≡ whole.MemberExpr m → is_possible (member_expr phrase m) ≡ true → IsNew a → Follows (any_items n Plain nothing) a b (in_short r) → OnOk r (AddsReading (member_expr phrase m) a.sheet b.sheet)
+pub member_reads : (n : AnyNode) (m : MemberExpr AnyNode) (a b : State) (r : Result (Unit {0}) Error) → n ≡ whole.MemberExpr m → is_possible (member_expr phrase m) ≡ true → IsNew a → Follows (any_items n Plain nothing) a b (in_short r) → OnOk r (AddsReading a.env.config (member_expr phrase m) a.sheet b.sheet)
 unfolding node_phrase
 member_reads n m a b r h w s k =
     let e : phrase n MemberExpression ≡ node_phrase phrase (nodes.MemberExpr m) MemberExpression = ap (λ z. phrase z MemberExpression) h ∙ phrase_member_expr m MemberExpression in
-    let P : Phrase → Type 0 = λ z. OnOk r (AddsReading z a.sheet b.sheet) in
+    let P : Phrase → Type 0 = λ z. OnOk r (AddsReading a.env.config z a.sheet b.sheet) in
     subst P e (root_reads (OfLink n MemberExpression) (any_items n Plain) a b r refl (ap is_possible e ∙ w) s k)

@@ -51,10 +51,10 @@ new_is_ready lines config bytes line_end = record { none_failed = refl; none_ref
 default_not_out : (n : Root) → is_out default_config (root_phrase n) ≡ false
 default_not_out n = bare_not_out default_config (root_phrase n) refl
 
-pub code_reads : (n : Root) (p : Part) → p ≡ root_items n → is_well_formed_root n ≡ true → ReadsAs false (root_phrase n) (text_of p)
+pub code_reads : (n : Root) (p : Part) → p ≡ root_items n → is_well_formed_root n ≡ true → ReadsAs default_config false (root_phrase n) (text_of p)
 code_reads n p same w =
     let a : State = start no_lines default_config blank_sheet in
-    whole_reads false (root_phrase n) (text_of p) (steps_read p (root_phrase n) a (new_is_new no_lines default_config [] (10 ∷ []) (inl refl)) (part_prints n p a.env refl same) w (default_not_out n))
+    whole_reads default_config false (root_phrase n) (text_of p) (steps_read p (root_phrase n) a (new_is_new no_lines default_config [] (10 ∷ []) (inl refl)) (part_prints n p a.env refl same) w (default_not_out n))
 
 root_printable : (n : Root) (p : Part) → p ≡ root_items n → is_well_formed_root n ≡ true → unprintable_in (steps_in p (start no_lines default_config blank_sheet)) ≡ None
 root_printable n p same w = let a : State = start no_lines default_config blank_sheet in printable p (root_phrase n) a.env (part_prints n p a.env refl same) w (default_not_out n)

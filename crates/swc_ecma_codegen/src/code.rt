@@ -38,7 +38,7 @@ fn print_to<N: Node, W: WriteJs + Drop>(
 pub fn to_code<N: Node>(alloc: Global, node: &N) -> std::result::Result<String, Error>
     ensures text { IfOk result (λ text. string_bytes text ≡ text_of (N.part node.now)) }
     // The text of a well-formed tree is UTF-8, and reads as one of the tree's token lists.
-    ensures reads { (root : Root) → N.part node.now ≡ root_items root → is_well_formed_root root ≡ true → IfOk result (λ text. ReadsAs false (root_phrase root) (string_bytes text)) }
+    ensures reads { (root : Root) → N.part node.now ≡ root_items root → is_well_formed_root root ≡ true → IfOk result (λ text. ReadsAs default_config false (root_phrase root) (string_bytes text)) }
     // A well-formed tree is refused for want of memory alone.
     ensures made { (root : Root) → N.part node.now ≡ root_items root → is_well_formed_root root ≡ true → token_count (root_phrase root) < 2 ^ 32 → IfErr result (λ error. error ≡ OutOfMemory) }
     // It is refused for want of memory, or for the cause that the error names.

@@ -102,7 +102,7 @@ impl<'a, W: WriteJs, S: SourceMapper, C: Comments> Emitter<'a, W, S, C> {
         // The steps of the tree are made, and it comes to no node that can't be printed; or it halts.
         ensures items { Follows (program any_items node.now nothing) (state_of S.lines W.sheet self.old) (state_of S.lines W.sheet self.new) (in_short result) }
         // What a new emitter adds to the text, of a well-formed tree, reads as one of the tree's token lists.
-        ensures reads { is_well_formed node.now ≡ true → IsNew (state_of S.lines W.sheet self.old) → OnOk result (AddsReading (program_phrase node.now) (W.sheet self.old.wr) (W.sheet self.new.wr)) }
+        ensures reads { is_well_formed node.now ≡ true → IsNew (state_of S.lines W.sheet self.old) → OnOk result (AddsReading self.old.cfg (program_phrase node.now) (W.sheet self.old.wr) (W.sheet self.new.wr)) }
         // Each position that is recorded holds the place that the text had reached, and none is recorded twice.
         ensures recorded { OnOk result (RecordsTruly (W.sheet self.old.wr) (W.sheet self.new.wr)) }
         // Where positions are kept, each name of a well-formed tree has its own where it begins, unless that is 0.
@@ -140,7 +140,7 @@ impl<'a, W: WriteJs, S: SourceMapper, C: Comments> Emitter<'a, W, S, C> {
         // The steps of the tree are made, and it comes to no node that can't be printed; or it halts.
         ensures items { Follows (script any_items node.now nothing) (state_of S.lines W.sheet self.old) (state_of S.lines W.sheet self.new) (in_short result) }
         // What a new emitter adds to the text, of a well-formed tree, reads as one of the tree's token lists.
-        ensures reads { is_well_formed (Program.Script node.now) ≡ true → IsNew (state_of S.lines W.sheet self.old) → OnOk result (AddsReading (program_phrase (Program.Script node.now)) (W.sheet self.old.wr) (W.sheet self.new.wr)) }
+        ensures reads { is_well_formed (Program.Script node.now) ≡ true → IsNew (state_of S.lines W.sheet self.old) → OnOk result (AddsReading self.old.cfg (program_phrase (Program.Script node.now)) (W.sheet self.old.wr) (W.sheet self.new.wr)) }
         // Each position that is recorded holds the place that the text had reached, and none is recorded twice.
         ensures recorded { OnOk result (RecordsTruly (W.sheet self.old.wr) (W.sheet self.new.wr)) }
         // Where positions are kept, each name of a well-formed tree has its own where it begins, unless that is 0.

@@ -11,7 +11,9 @@ ghost use Rattle.std.specs.String.{string_bytes};
 ghost use Rattle.swc_ecma_codegen_tree.specs.declared.lits.Str.{Str};
 ghost use Rattle.swc_ecma_codegen_util.specs.declared.config.Config.{Config};
 ghost use Rattle.swc_ecma_codegen_ast.specs.Tokens.{Token};
-ghost use Rattle.swc_ecma_codegen_ast.specs.Phrases.{Generates, is_possible};
+ghost use Rattle.swc_ecma_codegen_ast.specs.Phrases.{Phrase, Generates, is_possible};
+ghost use Rattle.swc_ecma_codegen_ast.specs.Settings.{Settings};
+ghost use Rattle.swc_ecma_codegen_ast.specs.Layouts.{AreAlike, AreSameBut, IsWritten};
 ghost use Rattle.swc_ecma_codegen_ast.specs.TreePhrases.{expr_phrase, stmt_phrase};
 ghost use Rattle.swc_ecma_codegen_text_writer.specs.Sheet.{HoldsNone};
 ghost use Rattle.swc_ecma_codegen_text_writer.specs.View.{new_sheet};
@@ -59,7 +61,7 @@ pub fn emitted_expr_reads<W: WriteJs, S: SourceMapper, C: Comments>(
 ) -> Result
     // It is what `emit_with` does.
     ensures items { Follows (expr_items any_answers any_items expr.now Plain nothing) (state_of S.lines W.sheet e.old) (state_of S.lines W.sheet e.new) (in_short result) }
-    ensures reads { is_possible (expr_phrase expr.now) ≡ true → IsNew (state_of S.lines W.sheet e.old) → OnOk result (AddsReading (expr_phrase expr.now) (W.sheet e.old.wr) (W.sheet e.new.wr)) }
+    ensures reads { is_possible (expr_phrase expr.now) ≡ true → IsNew (state_of S.lines W.sheet e.old) → OnOk result (AddsReading e.old.cfg (expr_phrase expr.now) (W.sheet e.old.wr) (W.sheet e.new.wr)) }
 {
     expr.emit_with(e)
 }
@@ -71,7 +73,7 @@ pub fn emitted_stmt_reads<W: WriteJs, S: SourceMapper, C: Comments>(
 ) -> Result
     // It is what `emit_with` does.
     ensures items { Follows (stmt_items any_answers any_items stmt.now nothing) (state_of S.lines W.sheet e.old) (state_of S.lines W.sheet e.new) (in_short result) }
-    ensures reads { is_possible (stmt_phrase stmt.now) ≡ true → IsNew (state_of S.lines W.sheet e.old) → OnOk result (AddsReading (stmt_phrase stmt.now) (W.sheet e.old.wr) (W.sheet e.new.wr)) }
+    ensures reads { is_possible (stmt_phrase stmt.now) ≡ true → IsNew (state_of S.lines W.sheet e.old) → OnOk result (AddsReading e.old.cfg (stmt_phrase stmt.now) (W.sheet e.old.wr) (W.sheet e.new.wr)) }
 {
     stmt.emit_with(e)
 }
@@ -93,7 +95,7 @@ pub fn new_emitter_reads()
 pub fn first_token_is_told(expr: &Expr) -> bool
     // It is what `starts_with_alpha_num` answers.
     ensures answer { result ≡ expr_starts any_starts expr.now }
-    ensures told { (first : Token) (rest : List Token) → Generates (expr_phrase expr.now) (first ∷ rest) → joins_a_word first.kind ≡ true → result ≡ true }
+    ensures told { (settings : Settings) (first : Token) (rest : List Token) → Generates settings (expr_phrase expr.now) (first ∷ rest) → joins_a_word first.kind ≡ true → result ≡ true }
 {
     expr.starts_with_alpha_num()
 }
@@ -130,4 +132,13 @@ pub fn names_out_of_target_are_refused()
     ensures steps { (root : Root) (s : State) → is_well_formed_root root ≡ true → s.env.keeps_invalid ≡ false → unprintable_in (steps_in (root_items root) s) ≡ (if is_out s.env.config (root_phrase root) then Some NameOutOfTarget else None) }
     ensures printed { (root : Root) (a b : State) → is_well_formed_root root ≡ true → a.env.keeps_invalid ≡ false → Follows (root_items root nothing) a b (Ok tt) → is_out a.env.config (root_phrase root) ≡ false }
     ensures refused { (root : Root) (a b : State) → is_well_formed_root root ≡ true → a.env.keeps_invalid ≡ false → Follows (root_items root nothing) a b (Err refusals.NameOutOfTarget) → is_out a.env.config (root_phrase root) ≡ true }
+{}
+
+/// The lists of a tree under settings that differ in whether they minify are the same but for semicolons that end a
+/// statement, commas and pairs of parentheses: `(a) => new B();` and minified `a=>new B`. So are those that are written of
+/// it, where a writer leaves semicolons out.
+#[tactic(auto, using(swc_ecma_codegen_ast::proofs::LayoutLaws::lists_alike, swc_ecma_codegen_ast::proofs::LayoutLaws::written_alike))]
+pub fn layouts_keep_the_tokens()
+    ensures lists { (s t : Settings) (phrase : Phrase) (xs ys : List Token) → AreAlike s t → Generates s phrase xs → Generates t phrase ys → AreSameBut xs ys }
+    ensures written { (s t : Settings) (phrase : Phrase) (xs ys : List Token) → AreAlike s t → IsWritten s phrase xs → IsWritten t phrase ys → AreSameBut xs ys }
 {}

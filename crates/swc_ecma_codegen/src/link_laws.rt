@@ -38,7 +38,7 @@ pub fn emitted_expr_box_reads<W: WriteJs, S: SourceMapper, C: Comments>(
     e: &mut Emitter<'_, W, S, C>,
 ) -> Result
     ensures items { (root : Root) → IsHeld link.now.node.value root → Follows (root_items root nothing) (state_of S.lines W.sheet e.old) (state_of S.lines W.sheet e.new) (in_short result) }
-    ensures reads { (root : Root) → IsHeld link.now.node.value root → is_well_formed_root root ≡ true → IsNew (state_of S.lines W.sheet e.old) → OnOk result (AddsReading (root_phrase root) (W.sheet e.old.wr) (W.sheet e.new.wr)) }
+    ensures reads { (root : Root) → IsHeld link.now.node.value root → is_well_formed_root root ≡ true → IsNew (state_of S.lines W.sheet e.old) → OnOk result (AddsReading e.old.cfg (root_phrase root) (W.sheet e.old.wr) (W.sheet e.new.wr)) }
 {
     link.emit_with(e)
 }
@@ -49,7 +49,7 @@ pub fn emitted_stmt_box_reads<W: WriteJs, S: SourceMapper, C: Comments>(
     e: &mut Emitter<'_, W, S, C>,
 ) -> Result
     ensures items { (root : Root) → IsHeld link.now.node.value root → Follows (root_items root nothing) (state_of S.lines W.sheet e.old) (state_of S.lines W.sheet e.new) (in_short result) }
-    ensures reads { (root : Root) → IsHeld link.now.node.value root → is_well_formed_root root ≡ true → IsNew (state_of S.lines W.sheet e.old) → OnOk result (AddsReading (root_phrase root) (W.sheet e.old.wr) (W.sheet e.new.wr)) }
+    ensures reads { (root : Root) → IsHeld link.now.node.value root → is_well_formed_root root ≡ true → IsNew (state_of S.lines W.sheet e.old) → OnOk result (AddsReading e.old.cfg (root_phrase root) (W.sheet e.old.wr) (W.sheet e.new.wr)) }
 {
     link.emit_with(e)
 }
@@ -60,9 +60,9 @@ pub fn emitted_member_expr_box_reads<W: WriteJs, S: SourceMapper, C: Comments>(
     e: &mut Emitter<'_, W, S, C>,
 ) -> Result
     ensures items { (root : Root) → IsHeld link.now.node.value root → Follows (root_items root nothing) (state_of S.lines W.sheet e.old) (state_of S.lines W.sheet e.new) (in_short result) }
-    ensures reads { (root : Root) → IsHeld link.now.node.value root → is_well_formed_root root ≡ true → IsNew (state_of S.lines W.sheet e.old) → OnOk result (AddsReading (root_phrase root) (W.sheet e.old.wr) (W.sheet e.new.wr)) }
+    ensures reads { (root : Root) → IsHeld link.now.node.value root → is_well_formed_root root ≡ true → IsNew (state_of S.lines W.sheet e.old) → OnOk result (AddsReading e.old.cfg (root_phrase root) (W.sheet e.old.wr) (W.sheet e.new.wr)) }
     ensures member_items { (member : MemberExpr AnyNode) → link.now.node.value ≡ AnyNode.MemberExpr member → Follows (member_items any_items member nothing) (state_of S.lines W.sheet e.old) (state_of S.lines W.sheet e.new) (in_short result) }
-    ensures member_reads { (member : MemberExpr AnyNode) → link.now.node.value ≡ AnyNode.MemberExpr member → is_possible (member_expr phrase member) ≡ true → IsNew (state_of S.lines W.sheet e.old) → OnOk result (AddsReading (member_expr phrase member) (W.sheet e.old.wr) (W.sheet e.new.wr)) }
+    ensures member_reads { (member : MemberExpr AnyNode) → link.now.node.value ≡ AnyNode.MemberExpr member → is_possible (member_expr phrase member) ≡ true → IsNew (state_of S.lines W.sheet e.old) → OnOk result (AddsReading e.old.cfg (member_expr phrase member) (W.sheet e.old.wr) (W.sheet e.new.wr)) }
 {
     link.emit_with(e)
 }
@@ -73,7 +73,7 @@ pub fn emitted_stmt_ref_reads<W: WriteJs, S: SourceMapper, C: Comments>(
     e: &mut Emitter<'_, W, S, C>,
 ) -> Result
     ensures items { Follows (root_items (OfStmt stmt.now.now) nothing) (state_of S.lines W.sheet e.old) (state_of S.lines W.sheet e.new) (in_short result) }
-    ensures reads { is_well_formed_root (OfStmt stmt.now.now) ≡ true → IsNew (state_of S.lines W.sheet e.old) → OnOk result (AddsReading (root_phrase (OfStmt stmt.now.now)) (W.sheet e.old.wr) (W.sheet e.new.wr)) }
+    ensures reads { is_well_formed_root (OfStmt stmt.now.now) ≡ true → IsNew (state_of S.lines W.sheet e.old) → OnOk result (AddsReading e.old.cfg (root_phrase (OfStmt stmt.now.now)) (W.sheet e.old.wr) (W.sheet e.new.wr)) }
 {
     stmt.emit_with(e)
 }
@@ -84,7 +84,7 @@ pub fn emitted_boxed_stmt_reads<W: WriteJs, S: SourceMapper, C: Comments>(
     e: &mut Emitter<'_, W, S, C>,
 ) -> Result
     ensures items { Follows (root_items (OfStmt stmt.now.value) nothing) (state_of S.lines W.sheet e.old) (state_of S.lines W.sheet e.new) (in_short result) }
-    ensures reads { is_well_formed_root (OfStmt stmt.now.value) ≡ true → IsNew (state_of S.lines W.sheet e.old) → OnOk result (AddsReading (root_phrase (OfStmt stmt.now.value)) (W.sheet e.old.wr) (W.sheet e.new.wr)) }
+    ensures reads { is_well_formed_root (OfStmt stmt.now.value) ≡ true → IsNew (state_of S.lines W.sheet e.old) → OnOk result (AddsReading e.old.cfg (root_phrase (OfStmt stmt.now.value)) (W.sheet e.old.wr) (W.sheet e.new.wr)) }
 {
     stmt.emit_with(e)
 }
@@ -95,7 +95,7 @@ pub fn emitted_optional_stmt_reads<W: WriteJs, S: SourceMapper, C: Comments>(
     e: &mut Emitter<'_, W, S, C>,
 ) -> Result
     ensures items { (node : StmtOf AnyNode) → stmt.now ≡ Some node → Follows (root_items (OfStmt node) nothing) (state_of S.lines W.sheet e.old) (state_of S.lines W.sheet e.new) (in_short result) }
-    ensures reads { (node : StmtOf AnyNode) → stmt.now ≡ Some node → is_well_formed_root (OfStmt node) ≡ true → IsNew (state_of S.lines W.sheet e.old) → OnOk result (AddsReading (root_phrase (OfStmt node)) (W.sheet e.old.wr) (W.sheet e.new.wr)) }
+    ensures reads { (node : StmtOf AnyNode) → stmt.now ≡ Some node → is_well_formed_root (OfStmt node) ≡ true → IsNew (state_of S.lines W.sheet e.old) → OnOk result (AddsReading e.old.cfg (root_phrase (OfStmt node)) (W.sheet e.old.wr) (W.sheet e.new.wr)) }
     ensures none { stmt.now ≡ None → state_of S.lines W.sheet e.new ≡ state_of S.lines W.sheet e.old }
     ensures none_made { stmt.now ≡ None → (state_of S.lines W.sheet e.old).failed ≡ false → IsOk result }
 {
@@ -108,7 +108,7 @@ pub fn emitted_script_reads<W: WriteJs, S: SourceMapper, C: Comments>(
     e: &mut Emitter<'_, W, S, C>,
 ) -> Result
     ensures items { Follows (root_items (OfScript script.now) nothing) (state_of S.lines W.sheet e.old) (state_of S.lines W.sheet e.new) (in_short result) }
-    ensures reads { is_well_formed_root (OfScript script.now) ≡ true → IsNew (state_of S.lines W.sheet e.old) → OnOk result (AddsReading (root_phrase (OfScript script.now)) (W.sheet e.old.wr) (W.sheet e.new.wr)) }
+    ensures reads { is_well_formed_root (OfScript script.now) ≡ true → IsNew (state_of S.lines W.sheet e.old) → OnOk result (AddsReading e.old.cfg (root_phrase (OfScript script.now)) (W.sheet e.old.wr) (W.sheet e.new.wr)) }
 {
     script.emit_with(e)
 }
@@ -119,7 +119,7 @@ pub fn emitted_program_reads<W: WriteJs, S: SourceMapper, C: Comments>(
     e: &mut Emitter<'_, W, S, C>,
 ) -> Result
     ensures items { Follows (root_items (OfProgram program.now) nothing) (state_of S.lines W.sheet e.old) (state_of S.lines W.sheet e.new) (in_short result) }
-    ensures reads { is_well_formed_root (OfProgram program.now) ≡ true → IsNew (state_of S.lines W.sheet e.old) → OnOk result (AddsReading (root_phrase (OfProgram program.now)) (W.sheet e.old.wr) (W.sheet e.new.wr)) }
+    ensures reads { is_well_formed_root (OfProgram program.now) ≡ true → IsNew (state_of S.lines W.sheet e.old) → OnOk result (AddsReading e.old.cfg (root_phrase (OfProgram program.now)) (W.sheet e.old.wr) (W.sheet e.new.wr)) }
 {
     program.emit_with(e)
 }

@@ -37,7 +37,7 @@ pub trait Node: Spanned {
         // The steps of the tree are made, and it comes to no node that can't be printed; or it halts.
         ensures items { Follows (part self.now nothing) (state_of S.lines W.sheet e.old) (state_of S.lines W.sheet e.new) (in_short result) }
         // What a new emitter adds to the text, of a well-formed tree, reads as one of the tree's token lists.
-        ensures reads { (root : Root) → part self.now ≡ root_items root → is_well_formed_root root ≡ true → IsNew (state_of S.lines W.sheet e.old) → OnOk result (AddsReading (root_phrase root) (W.sheet e.old.wr) (W.sheet e.new.wr)) }
+        ensures reads { (root : Root) → part self.now ≡ root_items root → is_well_formed_root root ≡ true → IsNew (state_of S.lines W.sheet e.old) → OnOk result (AddsReading e.old.cfg (root_phrase root) (W.sheet e.old.wr) (W.sheet e.new.wr)) }
         // Each position that is recorded holds the place that the text had reached, and none is recorded twice.
         ensures recorded { OnOk result (RecordsTruly (W.sheet e.old.wr) (W.sheet e.new.wr)) }
         // Where positions are kept, each name of a well-formed tree has its own where it begins, unless that is 0.

@@ -8,6 +8,8 @@ pub mod GapRules
 pub mod Hashbangs
 pub mod HeldNumbers
 pub mod Jsx
+pub mod Keys
+pub mod Layouts
 pub mod ListFormats
 pub mod LitPhrases
 pub mod LongestMatch
@@ -24,6 +26,7 @@ pub mod Punctuators
 pub mod Reading
 pub mod Reads
 pub mod RegularExpressions
+pub mod Settings
 pub mod Skipping
 pub mod StmtPhrases
 pub mod StringValues

@@ -9,6 +9,7 @@ pub mod Spelled
 pub mod Anew
 pub mod ListCommas
 pub mod RawTexts
+pub mod KeySteps
 pub mod Fronts
 pub mod Levels
 pub mod Strangers
@@ -25,7 +26,10 @@ pub mod Positions
 pub mod Printed
 pub mod LiteralParts
 pub mod Phrased
+pub mod Choices
+pub mod KeyPrints
 pub mod SoFar
+pub mod KeyTexts
 pub mod AsciiTexts
 pub mod ScriptTexts
 pub mod Made

@@ -4,6 +4,7 @@ use Rattle.std.proofs.lemmas.Bool.{and_from, cases_Bool, or_cases, or_left, or_r
 use Rattle.swc_ecma_codegen_common.specs.declared.positions.BytePos.{BytePos}
 use Rattle.swc_ecma_codegen_common.specs.declared.positions.Span.{Span}
 use Rattle.swc_ecma_codegen_spans.specs.Spans.{dummy_span}
+use Rattle.swc_ecma_codegen_ast.specs.declared.kinds.Kind.{Kind}
 use Rattle.swc_ecma_codegen_ast.specs.declared.kinds.Kind.TheVariants.{Word, Name, Punctuator, Ending}
 use Rattle.swc_ecma_codegen_ast.specs.Tokens as lexical
 use Rattle.swc_ecma_codegen_ast.specs.Tokens.{token_of}
@@ -101,6 +102,10 @@ writes_whatever b h = record { steps = h.steps; is_steps = h.is_steps; lays = h.
 -- a text may be made anew, whether it is or not
 pub makes_some : {env : Env} {p : Part} {ts : List lexical.Token} {made : Bool} → Makes env p ts made → Makes env p ts true
 makes_some h = record { steps = h.steps; is_steps = h.is_steps; lays = h.lays; remakes = λ e. refl; deep = h.deep; hands = h.hands }
+
+-- a text may be made anew where another may
+pub makes_where : {env : Env} {p : Part} {ts : List lexical.Token} {a b : Bool} → (a ≡ true → b ≡ true) → Makes env p ts a → Makes env p ts b
+makes_where f h = record { steps = h.steps; is_steps = h.is_steps; lays = h.lays; remakes = λ e. f (h.remakes e); deep = h.deep; hands = h.hands }
 
 -- a part that is written as another is
 pub writes_same : (env : Env) (p q : Part) (ts : List lexical.Token) {a : Bool} {room : ℕ} → ((rest : Plan) → p rest env ≡ q rest env) → MakesWithin room env q ts a → MakesWithin room env p ts a
@@ -227,29 +232,34 @@ punct_within env t p a = record {
 
 -- ---- names
 
-name_token : (env : Env) (t : List ℕ) → Spelled Name t → (env.config.ascii_only ≡ true → is_ascii_text t ≡ true) → Writes env (λ rest. step (Guard t) (step (Token Name (Symbol dummy_span t)) rest)) (token_of Name (spelling Name t) ∷ [])
+name_token : (env : Env) (kind : Kind) (t : List ℕ) → Spelled kind t → (env.config.ascii_only ≡ true → is_ascii_text t ≡ true) → Writes env (λ rest. step (Guard t) (step (Token kind (Symbol dummy_span t)) rest)) (token_of kind (spelling kind t) ∷ [])
 unfolding put effect text_of after_token own_put makes_text levels rise are_ascii has_string is_string_call keeps_other is_other is_kept
-name_token env t p a = writes_two env (Guard t) (Token Name (Symbol dummy_span t)) _ (λ s r. lays_token Name (Some dummy_span) t s p r) (omega arith) (hands_by_settings env _ _ (λ e. guarded_ascii t (a e)) refl no_text)
+name_token env kind t p a = writes_two env (Guard t) (Token kind (Symbol dummy_span t)) _ (λ s r. lays_token kind (Some dummy_span) t s p r) (omega arith) (hands_by_settings env _ _ (λ e. guarded_ascii t (a e)) refl no_text)
 
 -- with a position, which stands after the blank that is due
-placed_token : (env : Env) (pos : BytePos) (t : List ℕ) → Spelled Name t → (env.config.ascii_only ≡ true → is_ascii_text t ≡ true) → Writes env (λ rest. step (Guard t) (step (Plain (Position pos)) (step (Token Name (Symbol dummy_span t)) rest))) (token_of Name (spelling Name t) ∷ [])
+placed_token : (env : Env) (kind : Kind) (pos : BytePos) (t : List ℕ) → Spelled kind t → (env.config.ascii_only ≡ true → is_ascii_text t ≡ true) → Writes env (λ rest. step (Guard t) (step (Plain (Position pos)) (step (Token kind (Symbol dummy_span t)) rest))) (token_of kind (spelling kind t) ∷ [])
 unfolding step chain run put effect text_of after_token after_plain own_put makes_text levels rise are_ascii has_string is_string_call keeps_other is_other is_kept
-placed_token env pos t p a = record {
-  steps = Guard t ∷ Plain (Position pos) ∷ Token Name (Symbol dummy_span t) ∷ [];
+placed_token env kind pos t p a = record {
+  steps = Guard t ∷ Plain (Position pos) ∷ Token kind (Symbol dummy_span t) ∷ [];
   is_steps = λ rest. refl;
-  lays = λ s r. lays_placed pos Name (Some dummy_span) t s p r;
+  lays = λ s r. lays_placed pos kind (Some dummy_span) t s p r;
   remakes = no_text;
   deep = omega arith;
   hands = hands_by_settings env _ _ (λ e. guarded_ascii t (a e)) refl no_text;
 }
 
-symbol_at : (env : Env) (pos : BytePos) (b : Bool) (t : List ℕ) → Spelled Name t → (env.config.ascii_only ≡ true → is_ascii_text t ≡ true) → Writes env (λ rest. step (Guard t) (cond b (step (Token Name (Symbol dummy_span t)) rest) (step (Plain (Position pos)) (step (Token Name (Symbol dummy_span t)) rest)))) (token_of Name (spelling Name t) ∷ [])
-symbol_at env pos true t p a = name_token env t p a
-symbol_at env pos false t p a = placed_token env pos t p a
+symbol_at : (env : Env) (kind : Kind) (pos : BytePos) (b : Bool) (t : List ℕ) → Spelled kind t → (env.config.ascii_only ≡ true → is_ascii_text t ≡ true) → Writes env (λ rest. step (Guard t) (cond b (step (Token kind (Symbol dummy_span t)) rest) (step (Plain (Position pos)) (step (Token kind (Symbol dummy_span t)) rest)))) (token_of kind (spelling kind t) ∷ [])
+symbol_at env kind pos true t p a = name_token env kind t p a
+symbol_at env kind pos false t p a = placed_token env kind pos t p a
+
+-- a token by the call of a name, with its position
+pub writes_placed : (env : Env) (kind : Kind) (span : Span) (t : List ℕ) → Spelled kind t → (env.config.ascii_only ≡ true → is_ascii_text t ≡ true) → Writes env (λ rest. step (Guard t) (position span.lo (step (Token kind (Symbol dummy_span t)) rest))) (token_of kind (spelling kind t) ∷ [])
+unfolding position
+writes_placed env kind span t p a = symbol_at env kind span.lo (span.lo.0 == 0) t p a
 
 pub writes_symbol : (env : Env) (span : Span) (t : List ℕ) → Spelled Name t → (env.config.ascii_only ≡ true → is_ascii_text t ≡ true) → Writes env (symbol span t) (token_of Name (spelling Name t) ∷ [])
-unfolding symbol position
-writes_symbol env span t p a = symbol_at env span.lo (span.lo.0 == 0) t p a
+unfolding symbol
+writes_symbol env span t p a = writes_placed env Name span t p a
 
 writes_spelled_symbol : (env : Env) (span : Span) (t : List ℕ) → is_out_name env.config t ≡ false → Spelled Name (in_ascii env.config t) → (env.config.ascii_only ≡ true → is_ascii_text (in_ascii env.config t) ≡ true) → Makes env (spelled_symbol span t) (token_of Name (spelling Name (in_ascii env.config t)) ∷ []) (wants_escapes env.config t)
 writes_spelled_symbol env span t o p a =

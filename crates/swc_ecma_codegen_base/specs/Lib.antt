@@ -1,6 +1,9 @@
 pub mod Run
+pub mod Settings
 pub mod Targets
 pub mod Words
+pub mod Choices
+pub mod Keys
 pub mod Literals
 pub mod Lits
 pub mod Lists

@@ -7,6 +7,7 @@ ghost use Rattle.swc_ecma_codegen_base.specs.Last.{class_of};
 
 mod comments;
 mod guard;
+mod keys;
 mod last;
 pub mod laws;
 mod list_commas;

@@ -20,7 +20,7 @@ use swc_ecma_codegen_util::config::Config;
 
 /// Whether a text of a name is made anew in ASCII.
 #[tactic(auto, unfolding(crate::specs::Targets::wants_escapes))]
-fn wants_escapes(cfg: &Config, text: &str) -> bool
+pub(crate) fn wants_escapes(cfg: &Config, text: &str) -> bool
     ensures { result ≡ wants_escapes cfg.now text.now }
 {
     cfg.ascii_only && !is_ascii(text)
@@ -29,7 +29,7 @@ fn wants_escapes(cfg: &Config, text: &str) -> bool
 impl LowerEmitter {
     /// Writes a name by a text, and records its position.
     #[tactic(auto, unfolding(crate::specs::Words::symbol))]
-    fn symbol<W: WriteJs>(&mut self, cfg: &Config, wr: &mut W, span: Span, text: &str) -> Answer
+    pub(crate) fn symbol<W: WriteJs>(&mut self, cfg: &Config, wr: &mut W, span: Span, text: &str) -> Answer
         ensures items { Does (symbol span text.now) (state_of cfg.now (W.sheet wr.old) self.old) (state_of cfg.now (W.sheet wr.new) self.new) result }
         ensures level { OnOk result ((W.sheet wr.new).indentation ≡ (W.sheet wr.old).indentation) }
     {

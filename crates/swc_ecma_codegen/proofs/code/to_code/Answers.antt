@@ -38,7 +38,7 @@ returns-in-Ok-clause-text g c =
     same ∙ all ∙ ap (λ (s : Sheet). s.text) end
 
 pub returns-in-Ok-clause-reads : goal.returns-in-Ok-clause-reads
-returns-in-Ok-clause-reads g c = λ root same well. subst (λ z. ReadsAs false (root_phrase root) z) (sym (returns-in-Ok-clause-text g c)) (code_reads root (g.N.Node.part c.args.node.now) same well)
+returns-in-Ok-clause-reads g c = λ root same well. subst (λ z. ReadsAs default_config false (root_phrase root) z) (sym (returns-in-Ok-clause-text g c)) (code_reads root (g.N.Node.part c.args.node.now) same well)
 
 -- the writer began with a blank sheet, and its own errors were answered before
 pub returns-in-Err-clause-made : goal.returns-in-Err-clause-made
