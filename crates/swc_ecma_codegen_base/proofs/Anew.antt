@@ -36,3 +36,8 @@ spelled_anew word due by t u a b r fresh same eq h = does_by (by t) word a b r (
 pub not_anew : (word : Part) (due : Bool) (part : Part) (e : Refusal) (a b : State) → a.failed ≡ false → ((lines : Lines) (rest : Plan) → word rest (record a.env { lines = lines }) ≡ step (Remake due) (part rest) (record a.env { lines = lines })) → e ≡ OutOfMemory → due ≡ true → b ≡ record a { failed = true } → Does word a b (Err e)
 unfolding with_lines
 not_anew word due part e a b fresh same eq h marked = λ lines. not_here word due part e (with_lines lines a) (with_lines lines b) fresh (same lines) eq h (ap (with_lines lines) marked)
+
+-- what a part does depends only on its steps
+pub does_same : (p q : Part) (a b : State) (r : Result (Unit {0}) Refusal) → ((lines : Lines) (rest : Plan) → p rest (record a.env { lines = lines }) ≡ q rest (record a.env { lines = lines })) → Does q a b r → Does p a b r
+unfolding with_lines
+does_same p q a b r h k = does_by q p a b r (λ lines s f. emits_same p q (with_lines lines a) (with_lines lines b) s (h lines) f) k
