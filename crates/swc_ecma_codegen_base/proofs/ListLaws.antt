@@ -345,9 +345,13 @@ allowed_same : (format : ℕ) (parent : Span) (rest : Plan) (env : Env) → forc
 unfolding wanted_comma
 allowed_same format parent rest env f a = passed_over (forces_trailing_comma format) _ _ env f ∙ picked (allows_trailing_comma format) _ rest env a
 
+prints_allowed_comma : (env : Env) (format : ℕ) (parent : Span) → forces_trailing_comma format ≡ false → allows_trailing_comma format ≡ true → Prints env (trailing_comma format parent) OptionalComma
+prints_allowed_comma env format parent f a = elim (cases_Bool (may_have_comma format env.config)) [
+  | inl some ↦ prints_same (trailing_comma format parent) (source_comma parent) (λ rest. written_same format parent rest env some ∙ allowed_same format parent rest env f a) (prints_source_comma env parent)
+  | inr none ↦ prints_same (trailing_comma format parent) (λ rest. rest) (λ rest. left_out_same format parent rest env none) (prints_no_comma prints_nothing)
+]
+
 -- `[a, ] = b`
-pub prints_optional_closing : (env : Env) (format : ℕ) (parent last : Span) → comma_delimited format ≡ true → forces_trailing_comma format ≡ false → allows_trailing_comma format ≡ true → can_skip_trailing_comma format ≡ false → Prints env (list_closing format parent last) OptionalComma
+pub prints_optional_closing : (env : Env) (format : ℕ) (parent last : Span) → forces_trailing_comma format ≡ false → allows_trailing_comma format ≡ true → Prints env (list_closing format parent last) OptionalComma
 unfolding list_closing
-prints_optional_closing env format parent last c f a s =
-    before (prints_same (trailing_comma format parent) (source_comma parent) (λ rest. written_same format parent rest env (may_be (comma_delimited format) (can_skip_trailing_comma format) env.config.minify c s) ∙ allowed_same format parent rest env f a) (prints_source_comma env parent))
-    (writes_end env format parent last)
+prints_optional_closing env format parent last f a = before (prints_allowed_comma env format parent f a) (writes_end env format parent last)
