@@ -137,7 +137,6 @@ pub fn names_out_of_target_are_refused()
 /// The lists of a tree under settings that differ in whether they minify are the same but for semicolons that end a
 /// statement, commas and pairs of parentheses: `(a) => new B();` and minified `a=>new B`. So are those that are written of
 /// it, where a writer leaves semicolons out.
-#[tactic(auto, using(swc_ecma_codegen_ast::proofs::LayoutLaws::lists_alike, swc_ecma_codegen_ast::proofs::LayoutLaws::written_alike))]
 pub fn layouts_keep_the_tokens()
     ensures lists { (s t : Settings) (phrase : Phrase) (xs ys : List Token) → AreAlike s t → Generates s phrase xs → Generates t phrase ys → AreSameBut xs ys }
     ensures written { (s t : Settings) (phrase : Phrase) (xs ys : List Token) → AreAlike s t → IsWritten s phrase xs → IsWritten t phrase ys → AreSameBut xs ys }

@@ -1,7 +1,7 @@
 -- Parts that write what syntax leaves open: one of the lists that their phrase has.
-use Rattle.std.proofs.Common.{◌≡◌, Bool, true, false, cond, ◌||◌, List, [], ◌∷◌, ◌++◌, ◌&&◌, append-nil, codes, refl, sym, ap, ◌∙◌, subst, inl, inr}
+use Rattle.std.proofs.Common.{◌≡◌, ◌⊎◌, Bool, true, false, cond, ◌||◌, List, [], ◌∷◌, ◌++◌, ◌&&◌, append-nil, codes, refl, sym, ap, ◌∙◌, subst, inl, inr}
 use Rattle.std.proofs.lemmas.Bool.{cases_Bool, true≢false}
-use Rattle.swc_ecma_codegen_ast.specs.Phrases.{Phrase, Nothing, One, Then, OptionalComma, OptionalParentheses, Chosen, EmptyArguments, Generates, chosen, in_parentheses, open_parenthesis, is_possible, names_in, ◌>◌, mark}
+use Rattle.swc_ecma_codegen_ast.specs.Phrases.{Phrase, Nothing, One, Then, OptionalComma, OptionalParentheses, Chosen, EmptyArguments, Generates, chosen, in_parentheses, comma, open_parenthesis, is_possible, names_in, ◌>◌, mark}
 use Rattle.swc_ecma_codegen_ast.specs.Punctuators.{is_punctuator, punctuators}
 use Rattle.swc_ecma_codegen_ast.specs.Texts.{is_same, is_among}
 use Rattle.swc_ecma_codegen_ast.specs.Tokens.{Token}
@@ -12,23 +12,30 @@ use Rattle.std.specs.Str.{chars, is_utf8}
 use Rattle.swc_ecma_codegen_base.specs.Choices.{optional_comma, optional_parentheses, empty_arguments}
 use Rattle.swc_ecma_codegen_base.specs.Escapes.{is_spelled_anew, may_make_text}
 use Rattle.swc_ecma_codegen_base.specs.Run.{Env, Part, no_part, when_minified}
+use Rattle.swc_ecma_codegen_base.specs.Scripts.{is_str}
 use Rattle.swc_ecma_codegen_base.specs.Settings.{settings_of}
 use Rattle.swc_ecma_codegen_base.specs.Targets.{is_out}
 use Rattle.swc_ecma_codegen_base.specs.Words.{punct}
 use Rattle.swc_ecma_codegen_base.specs.Written.{IsMark}
 use Rattle.swc_ecma_codegen_base.proofs.Emitting.{minified_same, pretty_same}
-use Rattle.swc_ecma_codegen_base.proofs.Printed.{makes_where}
-use Rattle.swc_ecma_codegen_base.proofs.Phrased.{NamedBy, Prints, then, prints_nothing, prints_punct, prints_same}
+use Rattle.swc_ecma_codegen_base.proofs.Hands.{holds_string}
+use Rattle.swc_ecma_codegen_base.proofs.Printed.{Makes, makes_some}
+use Rattle.swc_ecma_codegen_base.proofs.Phrased.{NamedBy, Prints, no_names, no_strings, then, prints_nothing, prints_punct, prints_same}
 
 -- ---- a phrase whose lists another has too
 
--- Each list of a phrase is one of another's, under these settings; and what is asked of the two is the same.
+-- Each list of a phrase is one of another's, under these settings; what is asked of the two is the same, and the other may take
+-- memory where this one may.
 pub record IsAmong (config : Config) (f g : Phrase) : Type 0 where
   pub generates : (ts : List Token) → Generates (settings_of config) f ts → Generates (settings_of config) g ts
   pub possible : is_possible f ≡ is_possible g
   pub out : is_out config f ≡ is_out config g
   pub makes : may_make_text config f ≡ true → may_make_text config g ≡ true
   pub names : names_in f ≡ names_in g
+
+-- a text may be made anew where another may
+makes_where : {env : Env} {p : Part} {ts : List Token} {a b : Bool} → (a ≡ true → b ≡ true) → Makes env p ts a → Makes env p ts b
+makes_where k h = record { steps = h.steps; is_steps = h.is_steps; lays = h.lays; remakes = λ e. k (h.remakes e); deep = h.deep; hands = h.hands }
 
 pub prints_among : {env : Env} {p : Part} {f g : Phrase} → IsAmong env.config f g → Prints env p f → Prints env p g
 prints_among {env} {p} {f} {g} i h = record {
@@ -60,6 +67,23 @@ prints_no_comma {env} h = prints_among (no_comma_among env.config) h
 
 pub prints_comma : {env : Env} {p : Part} → Prints env p (mark (codes ",")) → Prints env p OptionalComma
 prints_comma {env} h = prints_among (comma_among env.config) h
+
+-- the same of a part that may take memory to find out whether the comma stands
+commas : (there : Bool) (ts : List Token) → ts ≡ cond there (comma ∷ []) [] → (ts ≡ []) ⊎ (ts ≡ comma ∷ [])
+commas true ts e = inr e
+commas false ts e = inl e
+
+comma_strings : (there : Bool) → holds_string (cond there (comma ∷ []) []) ≡ false
+unfolding holds_string is_str lexical.punctuator
+comma_strings true = refl
+comma_strings false = refl
+
+pub prints_comma_where : {env : Env} {p : Part} {made : Bool} (there : Bool) → Makes env p (cond there (comma ∷ []) []) made → Prints env p OptionalComma
+unfolding Generates is_out may_make_text names_in
+prints_comma_where {env} {p} there h = record {
+  where_possible = λ w o. record { tokens = cond there (comma ∷ []) []; generated = commas there _ refl; writes = makes_some h; named = no_names env p; safe = no_strings h (comma_strings there) };
+  where_out = λ w o. absurd (true≢false (sym o));
+}
 
 comma_is_mark : IsMark (codes ",")
 unfolding is_punctuator is_among is_same punctuators chars is_utf8 lib.Utf8.encode

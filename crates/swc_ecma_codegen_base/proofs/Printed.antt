@@ -103,10 +103,6 @@ writes_whatever b h = record { steps = h.steps; is_steps = h.is_steps; lays = h.
 pub makes_some : {env : Env} {p : Part} {ts : List lexical.Token} {made : Bool} → Makes env p ts made → Makes env p ts true
 makes_some h = record { steps = h.steps; is_steps = h.is_steps; lays = h.lays; remakes = λ e. refl; deep = h.deep; hands = h.hands }
 
--- a text may be made anew where another may
-pub makes_where : {env : Env} {p : Part} {ts : List lexical.Token} {a b : Bool} → (a ≡ true → b ≡ true) → Makes env p ts a → Makes env p ts b
-makes_where f h = record { steps = h.steps; is_steps = h.is_steps; lays = h.lays; remakes = λ e. f (h.remakes e); deep = h.deep; hands = h.hands }
-
 -- a part that is written as another is
 pub writes_same : (env : Env) (p q : Part) (ts : List lexical.Token) {a : Bool} {room : ℕ} → ((rest : Plan) → p rest env ≡ q rest env) → MakesWithin room env q ts a → MakesWithin room env p ts a
 writes_same env p q ts e h = record { steps = h.steps; is_steps = λ rest. e rest ∙ h.is_steps rest; lays = h.lays; remakes = h.remakes; deep = h.deep; hands = h.hands }

@@ -16,7 +16,8 @@ is_spelled_anew Str = true
 is_spelled_anew kind = false
 
 -- A name of the tree holds a backslash, or isn't ASCII where the settings ask for that, or a string, a number or a big integer
--- stands in it: only the text of such is made anew, in memory.
+-- stands in it: only the text of such is made anew, in memory. And where a comma is an option, the source text is asked for it,
+-- which may take memory too.
 unfoldable pub may_make_text : Config → Phrase → Bool
 may_make_text config Never = false
 may_make_text config Nothing = false

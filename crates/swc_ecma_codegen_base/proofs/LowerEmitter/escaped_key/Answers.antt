@@ -9,7 +9,7 @@ pub returns-then-self-clause-items : goal.returns-then-self-clause-items
 returns-then-self-clause-items g c = λ lines rest. does_failed _ _ c.if-self.true lines
 
 pub returns-in-Ok-clause-items : goal.returns-in-Ok-clause-items
-returns-in-Ok-clause-items g c = key_in_ascii _ _ _ _ _ _ _ c.if-self.false c.requires c.quoted-wants_quotes.ensures (c.deref.ensures ∙ c.in-Ok.ensures.exactly) c.ascii_key.ensures.items
+returns-in-Ok-clause-items g c = key_in_ascii _ _ _ _ _ _ _ c.if-self.false c.requires c.wants_quotes-quoted.ensures (c.deref.ensures ∙ c.in-Ok.ensures.exactly) c.ascii_key.ensures.items
 
 pub returns-in-Err-clause-items : goal.returns-in-Err-clause-items
 unfolding is_out_of_target
