@@ -36,6 +36,7 @@ use Rattle.swc_ecma_codegen_ast.specs.Tokens as tokens
 use Rattle.swc_ecma_codegen_common.specs.declared.positions.BytePos.{BytePos}
 use Rattle.swc_ecma_codegen_ast.specs.Phrases.{Phrase, Never, One, NameOf, Then, Generates, ◌>◌, mark}
 use Rattle.swc_ecma_codegen_ast.specs.Phrases as phrases
+use Rattle.swc_ecma_codegen_ast.specs.Settings.{Settings}
 use Rattle.swc_ecma_codegen_ast.specs.declared.roles.Role.{Role}
 use Rattle.swc_ecma_codegen_ast.specs.declared.roles.Role.TheVariants.{Expression, Statement, MemberExpression, ChainMember, AssignmentTarget}
 use Rattle.swc_ecma_codegen_ast.specs.NamePhrases as names
@@ -52,8 +53,8 @@ use Rattle.swc_ecma_codegen.specs.FirstTokens.{joins_a_word}
 
 -- No list of a phrase is empty, and where one begins with a word, a name or a number, b is true.
 record Begins (f : Phrase) (b : Bool) : Type 0 where
-  some : Generates f [] → ⊥
-  told : (x : Token) (xs : List Token) → Generates f (x ∷ xs) → joins_a_word x.kind ≡ true → b ≡ true
+  some : (s : Settings) → Generates s f [] → ⊥
+  told : (s : Settings) (x : Token) (xs : List Token) → Generates s f (x ∷ xs) → joins_a_word x.kind ≡ true → b ≡ true
 
 first_of : Token → List Token → Token
 first_of d [] = d
@@ -67,47 +68,47 @@ nothing_first : (y : Token) (ys : List Token) → [] ≡ y ∷ ys → ⊥
 nothing_first y ys e = cc
 
 -- a phrase begins as its first part does
-then_some : (f g : Phrase) (b : Bool) → Begins f b → (us vs : List Token) → Generates f us → [] ≡ us ++ vs → ⊥
-then_some f g b h [] vs k e = h.some k
-then_some f g b h (u ∷ us) vs k e = nothing_first u (us ++ vs) e
+then_some : (f g : Phrase) (b : Bool) → Begins f b → (s : Settings) (us vs : List Token) → Generates s f us → [] ≡ us ++ vs → ⊥
+then_some f g b h s [] vs k e = h.some s k
+then_some f g b h s (u ∷ us) vs k e = nothing_first u (us ++ vs) e
 
-then_told : (f g : Phrase) (b : Bool) → Begins f b → (x : Token) (xs us vs : List Token) → Generates f us → x ∷ xs ≡ us ++ vs → joins_a_word x.kind ≡ true → b ≡ true
-then_told f g b h x xs [] vs k e j = absurd (h.some k)
-then_told f g b h x xs (u ∷ us) vs k e j = h.told u us k (subst (λ (z : Token). joins_a_word z.kind ≡ true) (same_first x u xs (us ++ vs) e) j)
+then_told : (f g : Phrase) (b : Bool) → Begins f b → (s : Settings) (x : Token) (xs us vs : List Token) → Generates s f us → x ∷ xs ≡ us ++ vs → joins_a_word x.kind ≡ true → b ≡ true
+then_told f g b h s x xs [] vs k e j = absurd (h.some s k)
+then_told f g b h s x xs (u ∷ us) vs k e j = h.told s u us k (subst (λ (z : Token). joins_a_word z.kind ≡ true) (same_first x u xs (us ++ vs) e) j)
 
 begins_then : (f g : Phrase) (b : Bool) → Begins f b → Begins (Then f g) b
 unfolding Generates
 begins_then f g b h = record {
-  some = λ k. then_some f g b h k.0 k.1 k.2 k.4;
-  told = λ x xs k j. then_told f g b h x xs k.0 k.1 k.2 k.4 j;
+  some = λ s k. then_some f g b h s k.0 k.1 k.2 k.4;
+  told = λ s x xs k j. then_told f g b h s x xs k.0 k.1 k.2 k.4 j;
 }
 
 -- a punctuator is no word, and what begins with a word is said to
 begins_mark : (t : List ℕ) (b : Bool) → Begins (mark t) b
 unfolding Generates tokens.punctuator joins_a_word
 begins_mark t b = record {
-  some = λ k. nothing_first _ [] k;
-  told = λ x xs k j. absurd (true≢false (sym j ∙ ap (λ (z : Token). joins_a_word z.kind) (same_first x (tokens.punctuator t) xs [] k)));
+  some = λ s k. nothing_first _ [] k;
+  told = λ s x xs k j. absurd (true≢false (sym j ∙ ap (λ (z : Token). joins_a_word z.kind) (same_first x (tokens.punctuator t) xs [] k)));
 }
 
 begins_true : (x : Token) → Begins (One x) true
 unfolding Generates
-begins_true x = record { some = λ k. nothing_first x [] k; told = λ y ys k j. refl }
+begins_true x = record { some = λ s k. nothing_first x [] k; told = λ s y ys k j. refl }
 
 begins_name : (at : BytePos) (bytes : List ℕ) → Begins (NameOf at bytes) true
 unfolding Generates
-begins_name at bytes = record { some = λ k. nothing_first _ [] k; told = λ y ys k j. refl }
+begins_name at bytes = record { some = λ s k. nothing_first _ [] k; told = λ s y ys k j. refl }
 
 begins_never : (b : Bool) → Begins Never b
 unfolding Generates
-begins_never b = record { some = λ k. k; told = λ y ys k j. absurd k }
+begins_never b = record { some = λ s k. k; told = λ s y ys k j. absurd k }
 
 -- a token that is no word begins as it likes
 begins_other : (x : Token) (b : Bool) → joins_a_word x.kind ≡ false → Begins (One x) b
 unfolding Generates
 begins_other x b e = record {
-  some = λ k. nothing_first x [] k;
-  told = λ y ys k j. absurd (true≢false (sym j ∙ ap (λ (z : Token). joins_a_word z.kind) (same_first y x ys [] k) ∙ e));
+  some = λ s k. nothing_first x [] k;
+  told = λ s y ys k j. absurd (true≢false (sym j ∙ ap (λ (z : Token). joins_a_word z.kind) (same_first y x ys [] k) ∙ e));
 }
 
 begins_where : (c : Bool) (f : Phrase) (b : Bool) → Begins f b → Begins (phrases.where_ c f) b
@@ -261,5 +262,5 @@ begins = ind-AnyNode Law (λ x y q. subst (λ z. Law (roll-AnyNode z)) q (λ rol
     (node_begins {X = Child} (λ z. phrase z.0) (λ z. any_starts z.0) (λ z. z.1) y role)))
 
 -- Where an expression begins with a word, a name or a number, it is said to begin with a character of a name.
-pub first_told : (n : Expr AnyNode) (x : Token) (xs : List Token) → Generates (expr_phrase n) (x ∷ xs) → joins_a_word x.kind ≡ true → expr_starts any_starts n ≡ true
-first_told n x xs k j = (expr_begins phrase any_starts begins n).told x xs k j
+pub first_told : (n : Expr AnyNode) (s : Settings) (x : Token) (xs : List Token) → Generates s (expr_phrase n) (x ∷ xs) → joins_a_word x.kind ≡ true → expr_starts any_starts n ≡ true
+first_told n s x xs k j = (expr_begins phrase any_starts begins n).told s x xs k j

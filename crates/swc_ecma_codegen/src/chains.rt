@@ -98,7 +98,7 @@ impl<W: WriteJs, S: SourceMapper, C: Comments> Emitter<'_, W, S, C> {
     /// Writes `.b` or `[b]`.
     #[tactic(auto, unfolding(crate::specs::Exprs::member_prop))]
     fn member_prop<N: Held>(&mut self, prop: &MemberProp<N>) -> Answer
-        ensures items { Emits (member_prop N.items prop.now) (state_of W.sheet self.old) (state_of W.sheet self.new) result }
+        ensures items { Emits (member_prop N.items prop.now) (state_of S.lines W.sheet self.old) (state_of S.lines W.sheet self.new) result }
         ensures level { OnOk result ((W.sheet self.new.wr).indentation ≡ (W.sheet self.old.wr).indentation) }
     {
         match prop {
@@ -115,7 +115,7 @@ impl<W: WriteJs, S: SourceMapper, C: Comments> Emitter<'_, W, S, C> {
     /// Writes `.a` or `[a]` after `super`.
     #[tactic(auto, unfolding(crate::specs::Exprs::super_prop))]
     fn super_prop<N: Held>(&mut self, prop: &SuperProp<N>) -> Answer
-        ensures items { Emits (super_prop N.items prop.now) (state_of W.sheet self.old) (state_of W.sheet self.new) result }
+        ensures items { Emits (super_prop N.items prop.now) (state_of S.lines W.sheet self.old) (state_of S.lines W.sheet self.new) result }
         ensures level { OnOk result ((W.sheet self.new.wr).indentation ≡ (W.sheet self.old.wr).indentation) }
     {
         match prop {
@@ -131,7 +131,7 @@ impl<W: WriteJs, S: SourceMapper, C: Comments> Emitter<'_, W, S, C> {
     /// Writes `a?.b` or `a?.[b]`; `a.b` or `a[b]` where `?.` stands further to the left.
     #[tactic(auto, unfolding(crate::specs::Exprs::chain_member))]
     fn chain_member<N: Held>(&mut self, node: &MemberExpr<N>, optional: bool) -> Answer
-        ensures items { Emits (chain_member N.items optional node.now) (state_of W.sheet self.old) (state_of W.sheet self.new) result }
+        ensures items { Emits (chain_member N.items optional node.now) (state_of S.lines W.sheet self.old) (state_of S.lines W.sheet self.new) result }
         ensures level { OnOk result ((W.sheet self.new.wr).indentation ≡ (W.sheet self.old.wr).indentation) }
     {
         node.obj.held().emit_at(self, Place::Plain)?;
@@ -143,7 +143,7 @@ impl<W: WriteJs, S: SourceMapper, C: Comments> Emitter<'_, W, S, C> {
     /// Writes `?.` or `.` before a property, or nothing before brackets.
     #[tactic(auto, unfolding(crate::specs::Exprs::chain_mark))]
     fn chain_mark<N>(&mut self, optional: bool, prop: &MemberProp<N>) -> Answer
-        ensures items { Emits (chain_mark optional prop.now) (state_of W.sheet self.old) (state_of W.sheet self.new) result }
+        ensures items { Emits (chain_mark optional prop.now) (state_of S.lines W.sheet self.old) (state_of S.lines W.sheet self.new) result }
         ensures level { OnOk result ((W.sheet self.new.wr).indentation ≡ (W.sheet self.old.wr).indentation) }
     {
         match (optional, prop) {
@@ -156,7 +156,7 @@ impl<W: WriteJs, S: SourceMapper, C: Comments> Emitter<'_, W, S, C> {
     /// Writes a property of an optional chain.
     #[tactic(auto, unfolding(crate::specs::Exprs::chain_prop))]
     fn chain_prop<N: Held>(&mut self, prop: &MemberProp<N>) -> Answer
-        ensures items { Emits (chain_prop N.items prop.now) (state_of W.sheet self.old) (state_of W.sheet self.new) result }
+        ensures items { Emits (chain_prop N.items prop.now) (state_of S.lines W.sheet self.old) (state_of S.lines W.sheet self.new) result }
         ensures level { OnOk result ((W.sheet self.new.wr).indentation ≡ (W.sheet self.old.wr).indentation) }
     {
         match prop {

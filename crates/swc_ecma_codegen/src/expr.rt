@@ -360,7 +360,7 @@ impl<W: WriteJs, S: SourceMapper, C: Comments> Emitter<'_, W, S, C> {
     /// Writes the comments after an expression, unless they are left where they are.
     #[tactic(auto, unfolding(crate::specs::Exprs::expr_closed))]
     fn expr_closed(&mut self, left: bool, span: Span) -> Answer
-        ensures items { Emits (expr_closed left span) (state_of W.sheet self.old) (state_of W.sheet self.new) result }
+        ensures items { Emits (expr_closed left span) (state_of S.lines W.sheet self.old) (state_of S.lines W.sheet self.new) result }
         ensures level { OnOk result ((W.sheet self.new.wr).indentation ≡ (W.sheet self.old.wr).indentation) }
     {
         if left {
@@ -372,7 +372,7 @@ impl<W: WriteJs, S: SourceMapper, C: Comments> Emitter<'_, W, S, C> {
     /// Writes the comments before a binary expression and its start, unless it is an inner left operand.
     #[tactic(auto, unfolding(crate::specs::Exprs::bin_opened))]
     fn bin_opened(&mut self, place: Place, span: Span) -> Answer
-        ensures items { Emits (bin_opened place span) (state_of W.sheet self.old) (state_of W.sheet self.new) result }
+        ensures items { Emits (bin_opened place span) (state_of S.lines W.sheet self.old) (state_of S.lines W.sheet self.new) result }
         ensures level { OnOk result ((W.sheet self.new.wr).indentation ≡ (W.sheet self.old.wr).indentation) }
     {
         match place {
@@ -384,7 +384,7 @@ impl<W: WriteJs, S: SourceMapper, C: Comments> Emitter<'_, W, S, C> {
     /// Writes a binary operator.
     #[tactic(auto, using(crate::proofs::OperatorLaws::marked_binary, crate::proofs::OperatorLaws::worded_binary))]
     fn binary_op(&mut self, op: BinaryOp) -> Answer
-        ensures items { Emits (binary_op op) (state_of W.sheet self.old) (state_of W.sheet self.new) result }
+        ensures items { Emits (binary_op op) (state_of S.lines W.sheet self.old) (state_of S.lines W.sheet self.new) result }
         ensures level { OnOk result ((W.sheet self.new.wr).indentation ≡ (W.sheet self.old.wr).indentation) }
     {
         match binary_mark(op) {
@@ -396,7 +396,7 @@ impl<W: WriteJs, S: SourceMapper, C: Comments> Emitter<'_, W, S, C> {
     /// Writes the operator and the right operand. swc's `emit_bin_expr_trailing`.
     #[tactic(auto, unfolding(crate::specs::Exprs::bin_trailing))]
     fn bin_trailing<N: Held>(&mut self, node: &BinExpr<N>) -> Answer
-        ensures items { Emits (bin_trailing N.answers N.items node.now) (state_of W.sheet self.old) (state_of W.sheet self.new) result }
+        ensures items { Emits (bin_trailing N.answers N.items node.now) (state_of S.lines W.sheet self.old) (state_of S.lines W.sheet self.new) result }
         ensures level { OnOk result ((W.sheet self.new.wr).indentation ≡ (W.sheet self.old.wr).indentation) }
     {
         self.blank(before_op(node.op, node.left.held()))?;
@@ -409,7 +409,7 @@ impl<W: WriteJs, S: SourceMapper, C: Comments> Emitter<'_, W, S, C> {
     /// Writes a unary operator.
     #[tactic(auto, using(crate::proofs::OperatorLaws::marked_unary, crate::proofs::OperatorLaws::worded_unary))]
     fn unary_op(&mut self, op: UnaryOp) -> Answer
-        ensures items { Emits (unary_op op) (state_of W.sheet self.old) (state_of W.sheet self.new) result }
+        ensures items { Emits (unary_op op) (state_of S.lines W.sheet self.old) (state_of S.lines W.sheet self.new) result }
         ensures level { OnOk result ((W.sheet self.new.wr).indentation ≡ (W.sheet self.old.wr).indentation) }
     {
         match unary_mark(op) {
@@ -421,7 +421,7 @@ impl<W: WriteJs, S: SourceMapper, C: Comments> Emitter<'_, W, S, C> {
     /// Writes what stands between a unary operator and its operand.
     #[tactic(auto, unfolding(crate::specs::Exprs::unary_gap))]
     fn unary_gap<N: Asked>(&mut self, op: UnaryOp, arg: &N) -> Answer
-        ensures items { Emits (unary_gap op (N.answers arg.now)) (state_of W.sheet self.old) (state_of W.sheet self.new) result }
+        ensures items { Emits (unary_gap op (N.answers arg.now)) (state_of S.lines W.sheet self.old) (state_of S.lines W.sheet self.new) result }
         ensures level { OnOk result ((W.sheet self.new.wr).indentation ≡ (W.sheet self.old.wr).indentation) }
     {
         if is_word_unary(op) {
@@ -434,7 +434,7 @@ impl<W: WriteJs, S: SourceMapper, C: Comments> Emitter<'_, W, S, C> {
     /// Writes `*` after `yield`.
     #[tactic(auto, unfolding(crate::specs::Exprs::yield_star))]
     fn yield_star(&mut self, delegate: bool) -> Answer
-        ensures items { Emits (yield_star delegate) (state_of W.sheet self.old) (state_of W.sheet self.new) result }
+        ensures items { Emits (yield_star delegate) (state_of S.lines W.sheet self.old) (state_of S.lines W.sheet self.new) result }
         ensures level { OnOk result ((W.sheet self.new.wr).indentation ≡ (W.sheet self.old.wr).indentation) }
     {
         if delegate {
@@ -446,7 +446,7 @@ impl<W: WriteJs, S: SourceMapper, C: Comments> Emitter<'_, W, S, C> {
     /// Writes the argument of `yield`, and the blank before it.
     #[tactic(auto, unfolding(crate::specs::Exprs::yield_arg))]
     fn yield_arg<N: Held>(&mut self, delegate: bool, arg: &Option<ExprBox<N>>) -> Answer
-        ensures items { Emits (yield_arg N.answers N.items delegate arg.now) (state_of W.sheet self.old) (state_of W.sheet self.new) result }
+        ensures items { Emits (yield_arg N.answers N.items delegate arg.now) (state_of S.lines W.sheet self.old) (state_of S.lines W.sheet self.new) result }
         ensures level { OnOk result ((W.sheet self.new.wr).indentation ≡ (W.sheet self.old.wr).indentation) }
     {
         match arg {
@@ -461,7 +461,7 @@ impl<W: WriteJs, S: SourceMapper, C: Comments> Emitter<'_, W, S, C> {
     /// Writes `...` before what is spread.
     #[tactic(auto, unfolding(crate::specs::Exprs::spread_mark))]
     fn spread_mark(&mut self, spread: Option<Span>) -> Answer
-        ensures items { Emits (spread_mark spread) (state_of W.sheet self.old) (state_of W.sheet self.new) result }
+        ensures items { Emits (spread_mark spread) (state_of S.lines W.sheet self.old) (state_of S.lines W.sheet self.new) result }
         ensures level { OnOk result ((W.sheet self.new.wr).indentation ≡ (W.sheet self.old.wr).indentation) }
     {
         match spread {

@@ -42,8 +42,8 @@ pub fn emitted_expr_box_reads<W: WriteJs, S: SourceMapper, C: Comments>(
     link: &ExprBox,
     e: &mut Emitter<'_, W, S, C>,
 ) -> Result
-    ensures items { (root : Root) → IsHeld link.now.node.value root → Follows (root_items root nothing) (state_of W.sheet e.old) (state_of W.sheet e.new) (in_short result) }
-    ensures reads { (root : Root) → IsHeld link.now.node.value root → is_well_formed_root root ≡ true → IsNew (state_of W.sheet e.old) → OnOk result (AddsReading (root_phrase root) (W.sheet e.old.wr) (W.sheet e.new.wr)) }
+    ensures items { (root : Root) → IsHeld link.now.node.value root → Follows (root_items root nothing) (state_of S.lines W.sheet e.old) (state_of S.lines W.sheet e.new) (in_short result) }
+    ensures reads { (root : Root) → IsHeld link.now.node.value root → is_well_formed_root root ≡ true → IsNew (state_of S.lines W.sheet e.old) → OnOk result (AddsReading e.old.cfg (root_phrase root) (W.sheet e.old.wr) (W.sheet e.new.wr)) }
 {
     link.emit_with(e)
 }
@@ -53,8 +53,8 @@ pub fn emitted_stmt_box_reads<W: WriteJs, S: SourceMapper, C: Comments>(
     link: &StmtBox,
     e: &mut Emitter<'_, W, S, C>,
 ) -> Result
-    ensures items { (root : Root) → IsHeld link.now.node.value root → Follows (root_items root nothing) (state_of W.sheet e.old) (state_of W.sheet e.new) (in_short result) }
-    ensures reads { (root : Root) → IsHeld link.now.node.value root → is_well_formed_root root ≡ true → IsNew (state_of W.sheet e.old) → OnOk result (AddsReading (root_phrase root) (W.sheet e.old.wr) (W.sheet e.new.wr)) }
+    ensures items { (root : Root) → IsHeld link.now.node.value root → Follows (root_items root nothing) (state_of S.lines W.sheet e.old) (state_of S.lines W.sheet e.new) (in_short result) }
+    ensures reads { (root : Root) → IsHeld link.now.node.value root → is_well_formed_root root ≡ true → IsNew (state_of S.lines W.sheet e.old) → OnOk result (AddsReading e.old.cfg (root_phrase root) (W.sheet e.old.wr) (W.sheet e.new.wr)) }
 {
     link.emit_with(e)
 }
@@ -64,10 +64,10 @@ pub fn emitted_member_expr_box_reads<W: WriteJs, S: SourceMapper, C: Comments>(
     link: &MemberExprBox,
     e: &mut Emitter<'_, W, S, C>,
 ) -> Result
-    ensures items { (root : Root) → IsHeld link.now.node.value root → Follows (root_items root nothing) (state_of W.sheet e.old) (state_of W.sheet e.new) (in_short result) }
-    ensures reads { (root : Root) → IsHeld link.now.node.value root → is_well_formed_root root ≡ true → IsNew (state_of W.sheet e.old) → OnOk result (AddsReading (root_phrase root) (W.sheet e.old.wr) (W.sheet e.new.wr)) }
-    ensures member_items { (member : MemberExpr AnyNode) → link.now.node.value ≡ AnyNode.MemberExpr member → Follows (member_items any_items member nothing) (state_of W.sheet e.old) (state_of W.sheet e.new) (in_short result) }
-    ensures member_reads { (member : MemberExpr AnyNode) → link.now.node.value ≡ AnyNode.MemberExpr member → is_possible (member_expr phrase member) ≡ true → IsNew (state_of W.sheet e.old) → OnOk result (AddsReading (member_expr phrase member) (W.sheet e.old.wr) (W.sheet e.new.wr)) }
+    ensures items { (root : Root) → IsHeld link.now.node.value root → Follows (root_items root nothing) (state_of S.lines W.sheet e.old) (state_of S.lines W.sheet e.new) (in_short result) }
+    ensures reads { (root : Root) → IsHeld link.now.node.value root → is_well_formed_root root ≡ true → IsNew (state_of S.lines W.sheet e.old) → OnOk result (AddsReading e.old.cfg (root_phrase root) (W.sheet e.old.wr) (W.sheet e.new.wr)) }
+    ensures member_items { (member : MemberExpr AnyNode) → link.now.node.value ≡ AnyNode.MemberExpr member → Follows (member_items any_items member nothing) (state_of S.lines W.sheet e.old) (state_of S.lines W.sheet e.new) (in_short result) }
+    ensures member_reads { (member : MemberExpr AnyNode) → link.now.node.value ≡ AnyNode.MemberExpr member → is_possible (member_expr phrase member) ≡ true → IsNew (state_of S.lines W.sheet e.old) → OnOk result (AddsReading e.old.cfg (member_expr phrase member) (W.sheet e.old.wr) (W.sheet e.new.wr)) }
 {
     link.emit_with(e)
 }
@@ -77,10 +77,10 @@ pub fn emitted_assign_target_box_reads<W: WriteJs, S: SourceMapper, C: Comments>
     link: &AssignTargetBox,
     e: &mut Emitter<'_, W, S, C>,
 ) -> Result
-    ensures items { (root : Root) → IsHeld link.now.node.value root → Follows (root_items root nothing) (state_of W.sheet e.old) (state_of W.sheet e.new) (in_short result) }
-    ensures reads { (root : Root) → IsHeld link.now.node.value root → is_well_formed_root root ≡ true → IsNew (state_of W.sheet e.old) → OnOk result (AddsReading (root_phrase root) (W.sheet e.old.wr) (W.sheet e.new.wr)) }
-    ensures target_items { (target : AssignTarget AnyNode) → link.now.node.value ≡ AnyNode.ExprPart (ExprPart.AssignTarget target) → Follows (target_items any_items target nothing) (state_of W.sheet e.old) (state_of W.sheet e.new) (in_short result) }
-    ensures target_reads { (target : AssignTarget AnyNode) → link.now.node.value ≡ AnyNode.ExprPart (ExprPart.AssignTarget target) → is_possible (assign_target phrase target) ≡ true → IsNew (state_of W.sheet e.old) → OnOk result (AddsReading (assign_target phrase target) (W.sheet e.old.wr) (W.sheet e.new.wr)) }
+    ensures items { (root : Root) → IsHeld link.now.node.value root → Follows (root_items root nothing) (state_of S.lines W.sheet e.old) (state_of S.lines W.sheet e.new) (in_short result) }
+    ensures reads { (root : Root) → IsHeld link.now.node.value root → is_well_formed_root root ≡ true → IsNew (state_of S.lines W.sheet e.old) → OnOk result (AddsReading e.old.cfg (root_phrase root) (W.sheet e.old.wr) (W.sheet e.new.wr)) }
+    ensures target_items { (target : AssignTarget AnyNode) → link.now.node.value ≡ AnyNode.ExprPart (ExprPart.AssignTarget target) → Follows (target_items any_items target nothing) (state_of S.lines W.sheet e.old) (state_of S.lines W.sheet e.new) (in_short result) }
+    ensures target_reads { (target : AssignTarget AnyNode) → link.now.node.value ≡ AnyNode.ExprPart (ExprPart.AssignTarget target) → is_possible (assign_target phrase target) ≡ true → IsNew (state_of S.lines W.sheet e.old) → OnOk result (AddsReading e.old.cfg (assign_target phrase target) (W.sheet e.old.wr) (W.sheet e.new.wr)) }
 {
     link.emit_with(e)
 }
@@ -90,8 +90,8 @@ pub fn emitted_stmt_ref_reads<W: WriteJs, S: SourceMapper, C: Comments>(
     stmt: &&Stmt,
     e: &mut Emitter<'_, W, S, C>,
 ) -> Result
-    ensures items { Follows (root_items (OfStmt stmt.now.now) nothing) (state_of W.sheet e.old) (state_of W.sheet e.new) (in_short result) }
-    ensures reads { is_well_formed_root (OfStmt stmt.now.now) ≡ true → IsNew (state_of W.sheet e.old) → OnOk result (AddsReading (root_phrase (OfStmt stmt.now.now)) (W.sheet e.old.wr) (W.sheet e.new.wr)) }
+    ensures items { Follows (root_items (OfStmt stmt.now.now) nothing) (state_of S.lines W.sheet e.old) (state_of S.lines W.sheet e.new) (in_short result) }
+    ensures reads { is_well_formed_root (OfStmt stmt.now.now) ≡ true → IsNew (state_of S.lines W.sheet e.old) → OnOk result (AddsReading e.old.cfg (root_phrase (OfStmt stmt.now.now)) (W.sheet e.old.wr) (W.sheet e.new.wr)) }
 {
     stmt.emit_with(e)
 }
@@ -101,8 +101,8 @@ pub fn emitted_boxed_stmt_reads<W: WriteJs, S: SourceMapper, C: Comments>(
     stmt: &Box<Stmt>,
     e: &mut Emitter<'_, W, S, C>,
 ) -> Result
-    ensures items { Follows (root_items (OfStmt stmt.now.value) nothing) (state_of W.sheet e.old) (state_of W.sheet e.new) (in_short result) }
-    ensures reads { is_well_formed_root (OfStmt stmt.now.value) ≡ true → IsNew (state_of W.sheet e.old) → OnOk result (AddsReading (root_phrase (OfStmt stmt.now.value)) (W.sheet e.old.wr) (W.sheet e.new.wr)) }
+    ensures items { Follows (root_items (OfStmt stmt.now.value) nothing) (state_of S.lines W.sheet e.old) (state_of S.lines W.sheet e.new) (in_short result) }
+    ensures reads { is_well_formed_root (OfStmt stmt.now.value) ≡ true → IsNew (state_of S.lines W.sheet e.old) → OnOk result (AddsReading e.old.cfg (root_phrase (OfStmt stmt.now.value)) (W.sheet e.old.wr) (W.sheet e.new.wr)) }
 {
     stmt.emit_with(e)
 }
@@ -112,10 +112,10 @@ pub fn emitted_optional_stmt_reads<W: WriteJs, S: SourceMapper, C: Comments>(
     stmt: &Option<Stmt>,
     e: &mut Emitter<'_, W, S, C>,
 ) -> Result
-    ensures items { (node : StmtOf AnyNode) → stmt.now ≡ Some node → Follows (root_items (OfStmt node) nothing) (state_of W.sheet e.old) (state_of W.sheet e.new) (in_short result) }
-    ensures reads { (node : StmtOf AnyNode) → stmt.now ≡ Some node → is_well_formed_root (OfStmt node) ≡ true → IsNew (state_of W.sheet e.old) → OnOk result (AddsReading (root_phrase (OfStmt node)) (W.sheet e.old.wr) (W.sheet e.new.wr)) }
-    ensures none { stmt.now ≡ None → state_of W.sheet e.new ≡ state_of W.sheet e.old }
-    ensures none_made { stmt.now ≡ None → (state_of W.sheet e.old).failed ≡ false → IsOk result }
+    ensures items { (node : StmtOf AnyNode) → stmt.now ≡ Some node → Follows (root_items (OfStmt node) nothing) (state_of S.lines W.sheet e.old) (state_of S.lines W.sheet e.new) (in_short result) }
+    ensures reads { (node : StmtOf AnyNode) → stmt.now ≡ Some node → is_well_formed_root (OfStmt node) ≡ true → IsNew (state_of S.lines W.sheet e.old) → OnOk result (AddsReading e.old.cfg (root_phrase (OfStmt node)) (W.sheet e.old.wr) (W.sheet e.new.wr)) }
+    ensures none { stmt.now ≡ None → state_of S.lines W.sheet e.new ≡ state_of S.lines W.sheet e.old }
+    ensures none_made { stmt.now ≡ None → (state_of S.lines W.sheet e.old).failed ≡ false → IsOk result }
 {
     stmt.emit_with(e)
 }
@@ -125,8 +125,8 @@ pub fn emitted_script_reads<W: WriteJs, S: SourceMapper, C: Comments>(
     script: &Script,
     e: &mut Emitter<'_, W, S, C>,
 ) -> Result
-    ensures items { Follows (root_items (OfScript script.now) nothing) (state_of W.sheet e.old) (state_of W.sheet e.new) (in_short result) }
-    ensures reads { is_well_formed_root (OfScript script.now) ≡ true → IsNew (state_of W.sheet e.old) → OnOk result (AddsReading (root_phrase (OfScript script.now)) (W.sheet e.old.wr) (W.sheet e.new.wr)) }
+    ensures items { Follows (root_items (OfScript script.now) nothing) (state_of S.lines W.sheet e.old) (state_of S.lines W.sheet e.new) (in_short result) }
+    ensures reads { is_well_formed_root (OfScript script.now) ≡ true → IsNew (state_of S.lines W.sheet e.old) → OnOk result (AddsReading e.old.cfg (root_phrase (OfScript script.now)) (W.sheet e.old.wr) (W.sheet e.new.wr)) }
 {
     script.emit_with(e)
 }
@@ -136,8 +136,8 @@ pub fn emitted_program_reads<W: WriteJs, S: SourceMapper, C: Comments>(
     program: &Program,
     e: &mut Emitter<'_, W, S, C>,
 ) -> Result
-    ensures items { Follows (root_items (OfProgram program.now) nothing) (state_of W.sheet e.old) (state_of W.sheet e.new) (in_short result) }
-    ensures reads { is_well_formed_root (OfProgram program.now) ≡ true → IsNew (state_of W.sheet e.old) → OnOk result (AddsReading (root_phrase (OfProgram program.now)) (W.sheet e.old.wr) (W.sheet e.new.wr)) }
+    ensures items { Follows (root_items (OfProgram program.now) nothing) (state_of S.lines W.sheet e.old) (state_of S.lines W.sheet e.new) (in_short result) }
+    ensures reads { is_well_formed_root (OfProgram program.now) ≡ true → IsNew (state_of S.lines W.sheet e.old) → OnOk result (AddsReading e.old.cfg (root_phrase (OfProgram program.now)) (W.sheet e.old.wr) (W.sheet e.new.wr)) }
 {
     program.emit_with(e)
 }

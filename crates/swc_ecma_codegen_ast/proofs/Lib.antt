@@ -4,6 +4,7 @@ pub mod Dropped
 pub mod HashbangShapes
 pub mod Heads
 pub mod JsxShapes
+pub mod LayoutLaws
 pub mod Lists
 pub mod Longest
 pub mod MarkMatch

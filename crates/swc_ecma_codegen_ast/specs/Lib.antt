@@ -9,9 +9,12 @@ pub mod GapRules
 pub mod Hashbangs
 pub mod HeldNumbers
 pub mod Jsx
+pub mod Keys
+pub mod Layouts
 pub mod ListFormats
 pub mod LitPhrases
 pub mod LongestMatch
+pub mod SourceLines
 pub mod SpelledNames
 pub mod NamePhrases
 pub mod NameTurns
@@ -25,6 +28,7 @@ pub mod Punctuators
 pub mod Reading
 pub mod Reads
 pub mod RegularExpressions
+pub mod Settings
 pub mod Skipping
 pub mod StmtPhrases
 pub mod StringValues

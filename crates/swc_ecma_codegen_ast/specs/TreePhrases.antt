@@ -5,6 +5,7 @@ use Rattle.swc_ecma_codegen_tree.specs.declared.links.AnyNode.TheOpen as nodes
 use Rattle.swc_ecma_codegen_tree.specs.declared.exprs.Expr.{Expr}
 use Rattle.swc_ecma_codegen_tree.specs.declared.stmts.Stmt.{Stmt}
 use Rattle.swc_ecma_codegen_tree.specs.declared.programs.Program.{Program}
+use Rattle.swc_ecma_codegen_ast.specs.Settings.{Settings}
 use Rattle.swc_ecma_codegen_ast.specs.Tokens.{Token}
 use Rattle.swc_ecma_codegen_ast.specs.Phrases.{Phrase, Never, Generates, is_possible}
 use Rattle.swc_ecma_codegen_ast.specs.declared.roles.Role.{Role}
@@ -36,9 +37,9 @@ stmt_phrase n = stmt phrase n
 abbrev pub program_phrase : Program AnyNode → Phrase
 program_phrase n = program phrase n
 
--- a list of tokens is one of the program's
-abbrev pub IsTokenList : Program AnyNode → List Token → Type 0
-IsTokenList n ts = Generates (program_phrase n) ts
+-- a list of tokens is one of the program's, under these settings
+abbrev pub IsTokenList : Settings → Program AnyNode → List Token → Type 0
+IsTokenList s n ts = Generates s (program_phrase n) ts
 
 -- a program is well-formed
 abbrev pub is_well_formed : Program AnyNode → Bool

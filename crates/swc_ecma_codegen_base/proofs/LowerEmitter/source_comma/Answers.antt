@@ -1,0 +1,14 @@
+use Rattle.std.proofs.Common.{refl, ap, sym, ◌∙◌}
+use Rattle.swc_ecma_codegen_common.specs.Refusals.{reason_of}
+use Rattle.swc_ecma_codegen_base.proofs.Emitting.{emits_failed}
+use Rattle.swc_ecma_codegen_base.proofs.ListCommas.{comma_read, comma_unread}
+use Rattle.swc_ecma_codegen_base.proofs.LowerEmitter.source_comma.Goals as goal
+
+pub returns-then-self-clause-items : goal.returns-then-self-clause-items
+returns-then-self-clause-items g c = λ rest. emits_failed _ _ c.if-self.true
+
+pub returns-in-Ok-clause-items : goal.returns-in-Ok-clause-items
+returns-in-Ok-clause-items g c = comma_read (g.S.SourceMapper.lines c.args.cm.now) c.args.parent c.in-Ok.wanted _ _ _ ? c.if-self.false c.in-Ok.ensures.exactly c.comma_if.ensures.items
+
+pub returns-in-Err-clause-items : goal.returns-in-Err-clause-items
+returns-in-Err-clause-items g c = comma_unread (g.S.SourceMapper.lines c.args.cm.now) c.args.parent _ _ _ ? c.if-self.false (c.refusal.ensures ∙ ap reason_of c.in-Err.ensures.refused) refl
