@@ -13,6 +13,9 @@ use Rattle.swc_ecma_codegen_tree.specs.declared.links.AnyNode.TheFolds.{claims}
 use Rattle.swc_ecma_codegen_tree.specs.declared.expr_links.ExprBox.{ExprBox}
 use Rattle.swc_ecma_codegen_tree.specs.declared.exprs.Expr.{Expr}
 use Rattle.swc_ecma_codegen_tree.specs.declared.exprs.Expr.TheVariants as exprs
+use Rattle.swc_ecma_codegen_tree.specs.declared.exprs.Callee.{Callee}
+use Rattle.swc_ecma_codegen_tree.specs.declared.exprs.Callee.TheVariants as callees
+use Rattle.swc_ecma_codegen_tree.specs.declared.exprs.NewExpr.{NewExpr}
 use Rattle.swc_ecma_codegen_tree.specs.declared.exprs.OptChainBase.{OptChainBase}
 use Rattle.swc_ecma_codegen_tree.specs.declared.exprs.OptChainBase.TheVariants as chain_bases
 use Rattle.swc_ecma_codegen_tree.specs.declared.exprs.MetaPropKind.{MetaPropKind}
@@ -38,16 +41,17 @@ use Rattle.swc_ecma_codegen_ast.specs.Phrases.{Phrase, Never, One, NameOf, Then,
 use Rattle.swc_ecma_codegen_ast.specs.Phrases as phrases
 use Rattle.swc_ecma_codegen_ast.specs.Settings.{Settings}
 use Rattle.swc_ecma_codegen_ast.specs.declared.roles.Role.{Role}
-use Rattle.swc_ecma_codegen_ast.specs.declared.roles.Role.TheVariants.{Expression, Statement, MemberExpression, ChainMember, AssignmentTarget}
+use Rattle.swc_ecma_codegen_ast.specs.declared.roles.Role.TheVariants.{Expression, Callee as IsCallee, Statement, MemberExpression, ChainMember, ChainCall, AssignmentTarget}
 use Rattle.swc_ecma_codegen_ast.specs.NamePhrases as names
 use Rattle.swc_ecma_codegen_ast.specs.ExprPhrases as lists
 use Rattle.swc_ecma_codegen_ast.specs.LitPhrases as lit_lists
 use Rattle.swc_ecma_codegen_ast.specs.AssignPhrases as target_lists
+use Rattle.swc_ecma_codegen_ast.specs.CallPhrases as call_lists
 use Rattle.swc_ecma_codegen_ast.specs.PartPhrases as part_lists
 use Rattle.swc_ecma_codegen_ast.specs.StmtPhrases as stmt_lists
 use Rattle.swc_ecma_codegen_ast.specs.TreePhrases.{node_phrase, phrase, expr_phrase}
 use Rattle.swc_ecma_codegen_ast.proofs.TreeLaws.{phrase_of}
-use Rattle.swc_ecma_codegen_util.specs.Starts.{is_word_op, lit_starts, update_starts, first_starts, chain_starts, expr_starts, simple_target_starts, target_starts, expr_part_starts, stmt_starts, node_starts, any_starts}
+use Rattle.swc_ecma_codegen_util.specs.Starts.{is_word_op, lit_starts, update_starts, first_starts, callee_starts, chain_starts, expr_starts, simple_target_starts, target_starts, expr_part_starts, stmt_starts, node_starts, any_starts}
 use Rattle.swc_ecma_codegen_util.proofs.Begins.{starts_of}
 use Rattle.swc_ecma_codegen.specs.FirstTokens.{joins_a_word}
 
@@ -184,11 +188,26 @@ meta_prop_begins meta_props.ImportMeta = begins_then _ _ _ (begins_true _)
 chain_begins : {X : Type 0} (reads : X → Role → Phrase) (starts : X → Bool) → Begin reads starts → (optional : Bool) (n : OptChainBase X) → Begins (lists.chain_base reads optional n) (chain_starts starts n)
 unfolding lists.chain_base chain_starts
 chain_begins reads starts law optional (chain_bases.Member n) = law n.node.value (ChainMember optional)
-chain_begins reads starts law optional (chain_bases.Call n) = begins_never _
+chain_begins reads starts law optional (chain_bases.Call n) = law n.node.value (ChainCall optional)
+
+unless_begins : (typed : Bool) (f : Phrase) (b : Bool) → Begins f b → Begins (cond typed Never f) b
+unless_begins true f b h = begins_never b
+unless_begins false f b h = h
+
+callee_begins : {X : Type 0} (reads : X → Role → Phrase) (starts : X → Bool) → Begin reads starts → (n : Callee X) → Begins (call_lists.callee reads n) (callee_starts starts n)
+unfolding call_lists.callee call_lists.import_callee callee_starts
+callee_begins reads starts law (callees.Super n) = begins_true _
+callee_begins reads starts law (callees.Import n) = begins_then _ _ _ (begins_true _)
+callee_begins reads starts law (callees.Expr n) = law n.node.value IsCallee
+
+new_begins : {X : Type 0} (reads : X → Role → Phrase) (keeps : Bool) (n : NewExpr X) → Begins (call_lists.new_expr reads keeps n) true
+unfolding call_lists.new_expr
+new_begins reads keeps n = unless_begins (is_some n.type_args) _ true (begins_then _ _ _ (begins_true _))
 
 expr_begins : {X : Type 0} (reads : X → Role → Phrase) (starts : X → Bool) → Begin reads starts → (n : Expr X) → Begins (lists.expr reads n) (expr_starts starts n)
-unfolding expr_starts update_starts lists.expr lists.this_expr lists.unary_expr lists.update_expr lists.update_op lists.bin_expr lists.assign_expr lists.super_prop_expr lists.yield_expr lists.meta_prop_expr lists.await_expr lists.opt_chain_expr lists.cond_expr lists.seq_expr lists.paren_expr names.ident
+unfolding expr_starts update_starts lists.expr lists.this_expr lists.unary_expr lists.update_expr lists.update_op lists.bin_expr lists.assign_expr lists.super_prop_expr lists.yield_expr lists.meta_prop_expr lists.await_expr lists.opt_chain_expr call_lists.array_lit call_lists.call_expr lists.cond_expr lists.seq_expr lists.paren_expr names.ident
 expr_begins reads starts law (exprs.This n) = begins_true _
+expr_begins reads starts law (exprs.Array n) = begins_then _ _ _ (begins_mark _ false)
 expr_begins reads starts law (exprs.Unary n) = begins_then _ _ _ (begins_unary n.op)
 expr_begins reads starts law (exprs.Update n) = begins_update n.prefix (update_text n.op) _ _ (law n.arg.node.value Expression)
 expr_begins reads starts law (exprs.Bin n) = begins_then _ _ _ (law n.left.node.value Expression)
@@ -196,6 +215,8 @@ expr_begins reads starts law (exprs.Assign n) = begins_then _ _ _ (law n.left.no
 expr_begins reads starts law (exprs.Member n) = law n.node.value MemberExpression
 expr_begins reads starts law (exprs.SuperProp n) = begins_then _ _ _ (begins_true _)
 expr_begins reads starts law (exprs.Cond n) = begins_then _ _ _ (law n.test.node.value Expression)
+expr_begins reads starts law (exprs.Call n) = unless_begins (is_some n.type_args) _ _ (begins_then _ _ _ (callee_begins reads starts law n.callee))
+expr_begins reads starts law (exprs.New n) = new_begins reads false n
 expr_begins reads starts law (exprs.Seq n) = seq_begins reads starts law n.exprs.items
 expr_begins reads starts law (exprs.Ident n) = begins_then _ _ _ (begins_name _ _)
 expr_begins reads starts law (exprs.Lit n) = begins_lit n
@@ -205,6 +226,11 @@ expr_begins reads starts law (exprs.Await n) = begins_then _ _ _ (begins_true _)
 expr_begins reads starts law (exprs.Paren n) = begins_then _ _ _ (begins_mark _ false)
 expr_begins reads starts law (exprs.OptChain n) = chain_begins reads starts law n.optional n.base
 expr_begins reads starts law n = begins_never _
+
+callee_expr_begins : {X : Type 0} (reads : X → Role → Phrase) (starts : X → Bool) → Begin reads starts → (n : Expr X) → Begins (lists.expr_in reads true n) (expr_starts starts n)
+unfolding lists.expr_in expr_starts
+callee_expr_begins reads starts law (exprs.New n) = new_begins reads true n
+callee_expr_begins reads starts law n = expr_begins reads starts law n
 
 stmt_begins : {X : Type 0} (reads : X → Role → Phrase) (starts : X → Bool) → Begin reads starts → (n : Stmt X) → Begins (stmt_lists.stmt reads n) (stmt_starts starts n)
 unfolding stmt_starts stmt_lists.stmt stmt_lists.empty_stmt stmt_lists.expr_stmt
@@ -232,16 +258,18 @@ target_begins reads starts law (targets.Simple n) = simple_target_begins reads s
 target_begins reads starts law n = begins_never _
 
 part_begins : {X : Type 0} (reads : X → Role → Phrase) (starts : X → Bool) → Begin reads starts → (n : ExprPart X) (role : Role) → Begins (part_lists.expr_part reads n role) (expr_part_starts starts n)
-unfolding part_lists.expr_part expr_part_starts
+unfolding part_lists.expr_part expr_part_starts call_lists.chain_call
+part_begins reads starts law (expr_parts.OptCall n) (ChainCall optional) = unless_begins (is_some n.type_args) _ _ (begins_then _ _ _ (law n.callee.node.value IsCallee))
 part_begins reads starts law (expr_parts.AssignTarget n) AssignmentTarget = target_begins reads starts law n
 part_begins reads starts law n role = begins_never _
 
 node_begins : {X : Type 0} (reads : X → Role → Phrase) (starts : X → Bool) → Begin reads starts → (n : AnyNode-F X) (role : Role) → Begins (node_phrase reads n role) (node_starts starts n)
 unfolding node_phrase node_starts lists.member_expr lists.chain_member
 node_begins reads starts law (nodes.Expr n) Expression = expr_begins reads starts law n
+node_begins reads starts law (nodes.Expr n) IsCallee = callee_expr_begins reads starts law n
 node_begins reads starts law (nodes.Stmt n) Statement = stmt_begins reads starts law n
-node_begins reads starts law (nodes.MemberExpr n) MemberExpression = begins_then _ _ _ (law n.obj.node.value Expression)
-node_begins reads starts law (nodes.MemberExpr n) (ChainMember optional) = begins_then _ _ _ (law n.obj.node.value Expression)
+node_begins reads starts law (nodes.MemberExpr n) MemberExpression = begins_then _ _ _ (law n.obj.node.value IsCallee)
+node_begins reads starts law (nodes.MemberExpr n) (ChainMember optional) = begins_then _ _ _ (law n.obj.node.value IsCallee)
 node_begins reads starts law (nodes.ExprPart n) role = part_begins reads starts law n role
 node_begins reads starts law n role = begins_never _
 

@@ -36,12 +36,13 @@ use Rattle.swc_ecma_codegen.specs.declared.nodes.Place.{Place}
 use Rattle.swc_ecma_codegen.specs.declared.nodes.Place.TheVariants.{Chain}
 use Rattle.swc_ecma_codegen.specs.Answers.{Answers, any_answers}
 use Rattle.swc_ecma_codegen.specs.Lists.{comma, listed, unsupported}
-use Rattle.swc_ecma_codegen.specs.Exprs.{this, unary, update, update_parts, bin, bin_trailing, member, member_at, member_prop, object_place, computed_prop_name, super_keyword, super_prop, super_prop_expr, chain_mark, chain_prop, chain_member, chain_base, opt_chain, meta_prop_expr, assign, yield_arg, yield_expr, await_expr, choice, seq, held, paren, ident, opened, expr_parts, expr_closed, leaves_comments, expr}
+use Rattle.swc_ecma_codegen.specs.Exprs.{this, unary, update, update_parts, bin, bin_trailing, member, member_at, member_prop, object_place, computed_prop_name, super_prop, super_prop_expr, chain_mark, chain_prop, chain_member, chain_base, opt_chain, meta_prop_expr, assign, yield_arg, yield_expr, await_expr, choice, seq, held, paren, ident, opened, expr_parts, expr_closed, leaves_comments, expr}
 use Rattle.swc_ecma_codegen.specs.Names.{binding_ident}
 use Rattle.swc_ecma_codegen.specs.Targets.{simple_assign_target, assign_target}
 use Rattle.swc_ecma_codegen.specs.Parts.{expr_part}
 use Rattle.swc_ecma_codegen.specs.Stmts.{empty_stmt, expr_stmt, stmt_parts, stmt}
 use Rattle.swc_ecma_codegen.specs.Tree.{node_items, any_items}
+use Rattle.swc_ecma_codegen.proofs.CallKnots.{array_lit_mapped, call_mapped, new_mapped, chain_call_mapped}
 
 -- ---- a word sees what links hold through `asks` and `items` alone
 
@@ -80,6 +81,9 @@ yield_mapped g asks items n (Some x) place rest = refl
 expr_mapped : {X Y : Type 0} (g : X → Y) (asks : Y → Answers) (items : Y → Place → Part) (n : Expr X) (place : Place) (rest : Plan) → node_items asks items (map-AnyNode X Y g (nodes.Expr n)) place rest ≡ expr (λ x. asks (g x)) (λ x. items (g x)) n place rest
 unfolding node_items expr expr_parts expr_closed expr_span leaves_comments unsupported refuse this unary update update_parts bin bin_trailing assign meta_prop_expr await_expr choice seq paren ident
 expr_mapped {X} g asks items (exprs.Seq n) place rest = ap (opened n.span) (listed_mapped {A = ExprBox X} _ (held items) (held (λ x. items (g x))) (λ x. refl) true n.exprs.items (trailing_comments true n.span.hi rest))
+expr_mapped g asks items (exprs.Array n) place rest = array_lit_mapped g asks items n place rest
+expr_mapped g asks items (exprs.Call n) place rest = call_mapped g asks items n place rest
+expr_mapped g asks items (exprs.New n) place rest = new_mapped g asks items n place rest
 expr_mapped g asks items (exprs.SuperProp n) place rest = super_mapped g asks items n n.prop place rest
 expr_mapped g asks items (exprs.OptChain n) place rest = chain_mapped g asks items n n.base place rest
 expr_mapped g asks items (exprs.Yield n) place rest = yield_mapped g asks items n n.arg place rest
@@ -123,6 +127,7 @@ target_mapped g asks items n place rest = refl
 
 part_mapped : {X Y : Type 0} (g : X → Y) (asks : Y → Answers) (items : Y → Place → Part) (n : ExprPart X) (place : Place) (rest : Plan) → node_items asks items (map-AnyNode X Y g (nodes.ExprPart n)) place rest ≡ expr_part (λ x. asks (g x)) (λ x. items (g x)) n place rest
 unfolding node_items expr_part unsupported refuse
+part_mapped g asks items (expr_parts.OptCall n) place rest = chain_call_mapped g asks items n place rest
 part_mapped g asks items (expr_parts.AssignTarget n) place rest = target_mapped g asks items n place rest
 part_mapped g asks items n place rest = refl
 

@@ -5,6 +5,8 @@ pub mod Steps
 pub mod Asked
 pub mod Linked
 pub mod ListParts
+pub mod CallKnots
+pub mod CallParts
 pub mod ExprParts
 pub mod TargetParts
 pub mod PartLaws

@@ -4,6 +4,7 @@ pub mod View
 pub mod Lists
 pub mod Lits
 pub mod Places
+pub mod Calls
 pub mod Exprs
 pub mod Names
 pub mod Targets

@@ -2,6 +2,7 @@
 #![tactic(auto)]
 
 pub mod ast;
+mod calls;
 mod chains;
 mod code;
 mod emitter;

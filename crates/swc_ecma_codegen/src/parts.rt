@@ -20,6 +20,7 @@ impl<N: Held> EmitAt for ExprPart<N> {
         place: Place,
     ) -> Answer {
         match self {
+            ExprPart::OptCall(node) => node.emit_at(e, place),
             ExprPart::AssignTarget(node) => node.emit_at(e, place),
             _ => e.unsupported(),
         }

@@ -7,6 +7,8 @@ pub mod JsxShapes
 pub mod LayoutLaws
 pub mod Lists
 pub mod Longest
+pub mod Mapped
+pub mod MappedCalls
 pub mod MarkMatch
 pub mod Marks
 pub mod NameShapes

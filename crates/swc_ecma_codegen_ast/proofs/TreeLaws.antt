@@ -32,19 +32,17 @@ use Rattle.swc_ecma_codegen_tree.specs.declared.stmts.Stmt.{Stmt}
 use Rattle.swc_ecma_codegen_tree.specs.declared.stmts.Stmt.TheVariants as stmts
 use Rattle.swc_ecma_codegen_ast.specs.Phrases.{Phrase, some_listed}
 use Rattle.swc_ecma_codegen_ast.specs.declared.roles.Role.{Role}
-use Rattle.swc_ecma_codegen_ast.specs.declared.roles.Role.TheVariants.{Expression, Statement, MemberExpression, ChainMember, AssignmentTarget}
-use Rattle.swc_ecma_codegen_ast.specs.ExprPhrases.{expr, expr_at, this_expr, unary_expr, update_expr, bin_expr, computed_prop_name, member_prop, member_expr, super_prop, super_prop_expr, chain_mark, chain_prop, chain_member, chain_base, opt_chain_expr, meta_prop_expr, assign_expr, yield_arg, yield_expr, await_expr, cond_expr, seq_expr, paren_expr}
+use Rattle.swc_ecma_codegen_ast.specs.declared.roles.Role.TheVariants.{Expression, Callee, Statement, MemberExpression, ChainMember, ChainCall, AssignmentTarget}
+use Rattle.swc_ecma_codegen_ast.specs.ExprPhrases.{expr, expr_in, expr_at, this_expr, unary_expr, update_expr, bin_expr, computed_prop_name, member_prop, member_expr, super_prop, super_prop_expr, chain_mark, chain_prop, chain_member, chain_base, opt_chain_expr, meta_prop_expr, assign_expr, yield_arg, yield_expr, await_expr, cond_expr, seq_expr, paren_expr}
 use Rattle.swc_ecma_codegen_ast.specs.NamePhrases.{binding_ident}
 use Rattle.swc_ecma_codegen_ast.specs.AssignPhrases.{assign_target, simple_assign_target}
 use Rattle.swc_ecma_codegen_ast.specs.PartPhrases.{expr_part}
 use Rattle.swc_ecma_codegen_ast.specs.StmtPhrases.{stmt, empty_stmt, expr_stmt}
 use Rattle.swc_ecma_codegen_ast.specs.TreePhrases.{node_phrase, phrase}
+use Rattle.swc_ecma_codegen_ast.proofs.Mapped.{list_mapped}
+use Rattle.swc_ecma_codegen_ast.proofs.MappedCalls.{array_lit_mapped, call_mapped, new_mapped, chain_call_mapped}
 
 -- ---- a production sees what links hold through f alone
-
-list_mapped : {A B C : Type 0} (g : A → B) (e : B → C) (d : A → C) → ((x : A) → e (g x) ≡ d x) → (xs : List A) → map e (map g xs) ≡ map d xs
-list_mapped g e d same [] = refl
-list_mapped g e d same (x ∷ xs) = ap (λ y. y ∷ map e (map g xs)) (same x) ∙ ap (λ ys. d x ∷ ys) (list_mapped g e d same xs)
 
 super_mapped : {X Y : Type 0} (g : X → Y) (f : Y → Role → Phrase) (n : SuperPropExpr X) (prop : SuperProp X) → node_phrase f (map-AnyNode X Y g (nodes.Expr (exprs.SuperProp (record n { prop = prop })))) Expression ≡ super_prop_expr (λ x. f (g x)) (record n { prop = prop })
 unfolding node_phrase expr super_prop_expr super_prop computed_prop_name
@@ -62,12 +60,21 @@ yield_mapped g f n None = refl
 yield_mapped g f n (Some x) = refl
 
 expr_mapped : {X Y : Type 0} (g : X → Y) (f : Y → Role → Phrase) (n : Expr X) → node_phrase f (map-AnyNode X Y g (nodes.Expr n)) Expression ≡ expr (λ x. f (g x)) n
-unfolding node_phrase expr this_expr unary_expr update_expr bin_expr assign_expr meta_prop_expr await_expr cond_expr seq_expr paren_expr
+unfolding node_phrase expr expr_in this_expr unary_expr update_expr bin_expr assign_expr meta_prop_expr await_expr cond_expr seq_expr paren_expr
 expr_mapped {X} g f (exprs.Seq n) = ap (some_listed (codes ",")) (list_mapped {A = ExprBox X} _ (expr_at f) (expr_at (λ x. f (g x))) (λ x. refl) n.exprs.items)
 expr_mapped g f (exprs.SuperProp n) = super_mapped g f n n.prop
 expr_mapped g f (exprs.OptChain n) = chain_mapped g f n n.base
 expr_mapped g f (exprs.Yield n) = yield_mapped g f n n.arg
+expr_mapped g f (exprs.Array n) = array_lit_mapped g f n
+expr_mapped g f (exprs.Call n) = call_mapped g f n
+expr_mapped g f (exprs.New n) = new_mapped g f false n
 expr_mapped g f n = refl
+
+-- a callee is another expression, but for `new A()`
+callee_mapped : {X Y : Type 0} (g : X → Y) (f : Y → Role → Phrase) (n : Expr X) → node_phrase f (map-AnyNode X Y g (nodes.Expr n)) Callee ≡ expr_in (λ x. f (g x)) true n
+unfolding node_phrase expr_in
+callee_mapped g f (exprs.New n) = new_mapped g f true n
+callee_mapped g f n = expr_mapped g f n
 
 stmt_mapped : {X Y : Type 0} (g : X → Y) (f : Y → Role → Phrase) (n : Stmt X) → node_phrase f (map-AnyNode X Y g (nodes.Stmt n)) Statement ≡ stmt (λ x. f (g x)) n
 unfolding node_phrase stmt empty_stmt expr_stmt
@@ -122,12 +129,14 @@ target_mapped g f n = refl
 
 part_mapped : {X Y : Type 0} (g : X → Y) (f : Y → Role → Phrase) (n : ExprPart X) (role : Role) → node_phrase f (map-AnyNode X Y g (nodes.ExprPart n)) role ≡ expr_part (λ x. f (g x)) n role
 unfolding node_phrase expr_part
+part_mapped g f (expr_parts.OptCall n) (ChainCall optional) = chain_call_mapped g f optional n
 part_mapped g f (expr_parts.AssignTarget n) AssignmentTarget = target_mapped g f n
 part_mapped g f n role = refl
 
 node_mapped : {X Y : Type 0} (g : X → Y) (f : Y → Role → Phrase) (n : AnyNode-F X) (role : Role) → node_phrase f (map-AnyNode X Y g n) role ≡ node_phrase (λ x. f (g x)) n role
 unfolding node_phrase
 node_mapped g f (nodes.Expr n) Expression = expr_mapped g f n
+node_mapped g f (nodes.Expr n) Callee = callee_mapped g f n
 node_mapped g f (nodes.Stmt n) Statement = stmt_mapped g f n
 node_mapped g f (nodes.MemberExpr n) MemberExpression = member_mapped g f n.span n.obj n.prop
 node_mapped g f (nodes.MemberExpr n) (ChainMember optional) = chain_member_mapped g f n.span n.obj n.prop optional

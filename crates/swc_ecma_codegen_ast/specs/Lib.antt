@@ -1,8 +1,10 @@
 pub mod AssignPhrases
+pub mod CallPhrases
 pub mod Chars
 pub mod CodeUnits
 pub mod CommentMaps
 pub mod DecimalValues
+pub mod ElementPhrases
 pub mod Endings
 pub mod ExprPhrases
 pub mod GapRules
