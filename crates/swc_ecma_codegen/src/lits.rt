@@ -24,7 +24,7 @@ fn is_object(place: Place) -> bool
 {
     match place {
         Place::Object | Place::DottedObject(_) => true,
-        Place::Plain | Place::LeftOperand | Place::Chain(_) => false,
+        _ => false,
     }
 }
 
