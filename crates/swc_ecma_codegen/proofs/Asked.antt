@@ -1,9 +1,11 @@
 -- What is done where a setting says so.
-use Rattle.std.proofs.Common.{◌≡◌, true, false, cond, Result, Ok, Err, ap}
+use Rattle.std.proofs.Common.{◌≡◌, ℕ, List, Bool, true, false, ◌&&◌, cond, Result, Ok, Err, ap, sym}
+use Rattle.std.proofs.lemmas.Bool.{true≢false}
 use Rattle.swc_ecma_codegen_common.specs.declared.errors.Refusal.{Refusal}
-use Rattle.swc_ecma_codegen_base.specs.Run.{Env, Plan, State, Emits}
-use Rattle.swc_ecma_codegen_base.specs.Words.{commit_pending_semi}
-use Rattle.swc_ecma_codegen_base.proofs.Emitting.{follows_same}
+use Rattle.swc_ecma_codegen_base.specs.Run.{Env, Plan, Part, State, Emits, when_minified, no_part}
+use Rattle.swc_ecma_codegen_base.specs.Words.{commit_pending_semi, punct}
+use Rattle.swc_ecma_codegen_base.proofs.Emitting.{follows_same, minified_same, pretty_same}
+use Rattle.swc_ecma_codegen.specs.Functions.{parenthesis}
 use Rattle.swc_ecma_codegen.specs.Programs.{last_semi}
 
 pub kept_same : (rest : Plan) (env : Env) → env.config.omit_last_semi ≡ true → last_semi rest env ≡ rest env
@@ -22,3 +24,26 @@ kept_back a h rest c r k = follows_same (last_semi rest) rest a c r (kept_same r
 pub committed : (a b : State) (r : Result (Unit {0}) Refusal) → a.env.config.omit_last_semi ≡ false → Emits commit_pending_semi a b r → Emits last_semi a b r
 committed a b (Ok u) h k = λ rest c r f. follows_same (last_semi rest) (commit_pending_semi rest) a c r (committed_same rest a.env h) (k rest c r f)
 committed a b (Err e) h k = λ rest. follows_same (last_semi rest) (commit_pending_semi rest) a b (Err e) (committed_same rest a.env h) (k rest)
+
+-- ---- by whether the settings are to minify
+
+pub minified_part : (part other : Part) (a b : State) (r : Result (Unit {0}) Refusal) → a.env.config.minify ≡ true → Emits part a b r → Emits (when_minified part other) a b r
+minified_part part other a b (Ok u) h k = λ rest c r f. follows_same (when_minified part other rest) (part rest) a c r (minified_same part other rest a.env h) (k rest c r f)
+minified_part part other a b (Err e) h k = λ rest. follows_same (when_minified part other rest) (part rest) a b (Err e) (minified_same part other rest a.env h) (k rest)
+
+pub pretty_part : (part other : Part) (a b : State) (r : Result (Unit {0}) Refusal) → a.env.config.minify ≡ false → Emits other a b r → Emits (when_minified part other) a b r
+pretty_part part other a b (Ok u) h k = λ rest c r f. follows_same (when_minified part other rest) (other rest) a c r (pretty_same part other rest a.env h) (k rest c r f)
+pretty_part part other a b (Err e) h k = λ rest. follows_same (when_minified part other rest) (other rest) a b (Err e) (pretty_same part other rest a.env h) (k rest)
+
+-- a parenthesis beside a name alone isn't written there
+pub bare : (a : State) (plain : Bool) (t : List ℕ) → plain ≡ true → a.env.config.minify ≡ true → Emits (parenthesis plain t) a a (Ok tt)
+unfolding parenthesis no_part
+bare a true t p h = minified_part no_part (punct t) a a (Ok tt) h (λ rest c r f. f)
+bare a false t p h = absurd (true≢false (sym p))
+
+-- beside anything else it is
+pub parenthesized : (a b : State) (plain : Bool) (t : List ℕ) (r : Result (Unit {0}) Refusal) → (plain && a.env.config.minify) ≡ false → Emits (punct t) a b r → Emits (parenthesis plain t) a b r
+unfolding parenthesis
+parenthesized a b true t r h k = pretty_part no_part (punct t) a b r h k
+parenthesized a b false t (Ok u) h k = λ rest c r f. k rest c r f
+parenthesized a b false t (Err e) h k = λ rest. k rest

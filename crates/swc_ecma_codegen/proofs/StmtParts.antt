@@ -26,7 +26,7 @@ use Rattle.swc_ecma_codegen.specs.Lists.{unsupported}
 use Rattle.swc_ecma_codegen.specs.Stmts as words
 use Rattle.swc_ecma_codegen.specs.Programs as programs
 use Rattle.swc_ecma_codegen.proofs.Asked.{kept_same, committed_same}
-use Rattle.swc_ecma_codegen.proofs.Linked.{Linked, expr_at, stmt_at}
+use Rattle.swc_ecma_codegen.proofs.Linked.{Linked, expr_at, stmt_at, block_at}
 use Rattle.swc_ecma_codegen.proofs.ListParts.{in_order_prints}
 
 semi_is_mark : IsMark (codes ";")
@@ -43,19 +43,16 @@ expr_stmt_prints : {X : Type 0} (l : Linked X) (n : ExprStmt X) → Prints l.env
 unfolding words.expr_stmt lists.expr_stmt
 expr_stmt_prints l n = after (writes_leading l.env n.span.lo) (then (expr_at l n.expr Plain) (prints_semi l.env))
 
-parts_print : {X : Type 0} (l : Linked X) (n : Stmt X) → Prints l.env (words.stmt_parts l.items n) (lists.stmt l.reads n)
-unfolding words.stmt_parts lists.stmt
-parts_print l (stmts.Empty n) = empty_prints l.env n
-parts_print l (stmts.Expr n) = expr_stmt_prints l n
-parts_print l n = prints_never
-
 writes_stmt_end : (env : Env) (span : Span) → Writes env (λ rest. trailing_comments true span.hi (formatting_line rest)) []
 writes_stmt_end env span = writes_then env (trailing_comments true span.hi) formatting_line [] [] (writes_trailing env true span.hi) (writes_formatting_line env)
 
--- the comments after it, and the end of its line
+-- the comments after it, and the end of its line, which a block doesn't end
 pub stmt_prints : {X : Type 0} (l : Linked X) (n : Stmt X) → Prints l.env (words.stmt l.asks l.items n) (lists.stmt l.reads n)
-unfolding words.stmt
-stmt_prints l n = before (parts_print l n) (writes_stmt_end l.env (stmt_span (place_of l.asks) n))
+unfolding words.stmt words.stmt_parts lists.stmt
+stmt_prints l (stmts.Block n) = block_at l n Plain
+stmt_prints l (stmts.Empty n) = before (empty_prints l.env n) (writes_stmt_end l.env (stmt_span (place_of l.asks) (stmts.Empty n)))
+stmt_prints l (stmts.Expr n) = before (expr_stmt_prints l n) (writes_stmt_end l.env (stmt_span (place_of l.asks) (stmts.Expr n)))
+stmt_prints l n = prints_never
 
 -- ---- programs
 

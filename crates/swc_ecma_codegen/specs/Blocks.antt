@@ -1,9 +1,9 @@
 -- What is written of blocks.
-use Rattle.std.specs.Prelude.{ℕ, Bool, true, false, if◌then◌else◌, List, [], ◌∷◌, map, codes}
+use Rattle.std.specs.Prelude.{ℕ, Bool, if◌then◌else◌, List, map, codes}
 use Rattle.swc_ecma_codegen_common.specs.declared.positions.Span.{Span}
-use Rattle.swc_ecma_codegen_tree.specs.declared.stmt_links.StmtBox.{StmtBox}
 use Rattle.swc_ecma_codegen_tree.specs.declared.stmts.BlockStmt.{BlockStmt}
-use Rattle.swc_ecma_codegen_base.specs.Lists.{list}
+use Rattle.swc_ecma_codegen_ast.specs.FunctionPhrases.{is_some_listed}
+use Rattle.swc_ecma_codegen_base.specs.Lists.{ListChild, list}
 use Rattle.swc_ecma_codegen_base.specs.Run.{Part, when_minified}
 use Rattle.swc_ecma_codegen_base.specs.Words.{punct, start_of, last_of, leading_comments}
 use Rattle.swc_ecma_codegen.specs.declared.nodes.Place.{Place}
@@ -19,14 +19,9 @@ block_format = 65
 abbrev pub flat_block_format : ℕ
 flat_block_format = 0
 
--- the statements, by a format
-unfoldable pub stmts_by : {X : Type 0} → (X → Answers) → (X → Place → Part) → ℕ → BlockStmt X → Part
-stmts_by asks items format n = list format n.span (map (child_of (λ s. (asks s.node.value).place) (λ s place. items s.node.value place)) n.stmts.items)
-
--- each on a line of its own, where there are some
-unfoldable pub block_lines : {X : Type 0} → (X → Answers) → (X → Place → Part) → BlockStmt X → List (StmtBox X) → Part
-block_lines asks items n [] rest = stmts_by asks items flat_block_format n rest
-block_lines asks items n (s ∷ ss) rest = stmts_by asks items block_format n rest
+-- the statements, each on a line of its own where there are some
+unfoldable pub block_list : Bool → Span → List ListChild → Part
+block_list some span cs = when_minified (list flat_block_format span cs) (list (if some then block_format else flat_block_format) span cs)
 
 -- the start of a body isn't recorded
 unfoldable pub block_start : Place → Span → Part
@@ -39,5 +34,5 @@ block_stmt asks items n place rest =
     leading_comments n.span.lo
     (block_start place n.span
     (punct (codes "{")
-    (when_minified (stmts_by asks items flat_block_format n) (block_lines asks items n n.stmts.items)
+    (block_list (is_some_listed n.stmts.items) n.span (map (child_of (λ s. (asks s.node.value).place) (λ s place. items s.node.value place)) n.stmts.items)
     (comments_before n.span.hi (last_of n.span (punct (codes "}") rest))))))

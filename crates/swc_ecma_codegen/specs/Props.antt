@@ -1,6 +1,6 @@
 -- What is written of objects and their properties. What TypeScript adds, the type of a getter and `this` before the parameter of a
 -- setter, isn't printed yet.
-use Rattle.std.specs.Prelude.{ℕ, ◌==◌, Bool, true, if◌then◌else◌, is_some, List, [], ◌∷◌, map, codes, string_bytes, Option, Some, None}
+use Rattle.std.specs.Prelude.{ℕ, ◌==◌, Bool, true, if◌then◌else◌, is_some, List, map, codes, string_bytes, Option, Some, None}
 use Rattle.swc_ecma_codegen_common.specs.declared.positions.Span.{Span}
 use Rattle.swc_ecma_codegen_tree.specs.declared.stmt_links.BlockStmtBox.{BlockStmtBox}
 use Rattle.swc_ecma_codegen_tree.specs.declared.exprs.ObjectLit.{ObjectLit}
@@ -16,8 +16,9 @@ use Rattle.swc_ecma_codegen_tree.specs.declared.exprs.MethodProp.{MethodProp}
 use Rattle.swc_ecma_codegen_tree.specs.declared.exprs.PropName.{PropName}
 use Rattle.swc_ecma_codegen_tree.specs.declared.exprs.PropName.TheVariants as prop_names
 use Rattle.swc_ecma_codegen_spans.specs.Spans.{prop_or_spread_span}
+use Rattle.swc_ecma_codegen_ast.specs.FunctionPhrases.{is_some_listed}
 use Rattle.swc_ecma_codegen_base.specs.Keys.{key}
-use Rattle.swc_ecma_codegen_base.specs.Lists.{list}
+use Rattle.swc_ecma_codegen_base.specs.Lists.{ListChild, list}
 use Rattle.swc_ecma_codegen_base.specs.Lits.{str_lit, number_lit, big_int_lit}
 use Rattle.swc_ecma_codegen_base.specs.Run.{Part, when_minified}
 use Rattle.swc_ecma_codegen_base.specs.Words.{keyword, punct, formatting_space, line_end, position, last_of, leading_comments}
@@ -107,19 +108,17 @@ object_format = 41425
 abbrev pub flat_object_format : ℕ
 flat_object_format = 41360
 
--- the properties, by a format
-unfoldable pub props_by : {X : Type 0} → (X → Answers) → (X → Place → Part) → ℕ → ObjectLit X → Part
-props_by asks items format n = list format n.span (map (child_of (prop_or_spread_span (place_of asks)) (λ p place. prop_or_spread asks items p)) n.props.items)
+-- the properties, each on a line of its own where there are some
+unfoldable pub object_lines : Bool → Span → List ListChild → Part
+object_lines some span cs rest = if some then line_end (list object_format span cs (line_end rest)) else list flat_object_format span cs rest
 
--- each on a line of its own, where there are some
-unfoldable pub object_lines : {X : Type 0} → (X → Answers) → (X → Place → Part) → ObjectLit X → List (PropOrSpread X) → Part
-object_lines asks items n [] rest = props_by asks items flat_object_format n rest
-object_lines asks items n (p ∷ ps) rest = line_end (props_by asks items object_format n (line_end rest))
+unfoldable pub object_list : Bool → Span → List ListChild → Part
+object_list some span cs = when_minified (list flat_object_format span cs) (object_lines some span cs)
 
 -- `{ a, b: c }`
 unfoldable pub object_lit : {X : Type 0} → (X → Answers) → (X → Place → Part) → ObjectLit X → Part
 object_lit asks items n rest =
     opened n.span
     (punct (codes "{")
-    (when_minified (props_by asks items flat_object_format n) (object_lines asks items n n.props.items)
+    (object_list (is_some_listed n.props.items) n.span (map (child_of (prop_or_spread_span (place_of asks)) (λ p place. prop_or_spread asks items p)) n.props.items)
     (last_of n.span (punct (codes "}") rest))))

@@ -1,8 +1,10 @@
 //! Blocks.
 
-ghost use Rattle.std.specs.Prelude.{◌≡◌, OnOk};
-ghost use Rattle.swc_ecma_codegen_base.specs.Run.{Emits, when_minified};
-ghost use Rattle.swc_ecma_codegen.specs.Blocks.{block_format, flat_block_format, stmts_by, block_lines, block_start, block_stmt};
+ghost use Rattle.std.specs.Prelude.{◌≡◌, map, if◌then◌else◌, OnOk};
+ghost use Rattle.swc_ecma_codegen_ast.specs.FunctionPhrases.{is_some_listed};
+ghost use Rattle.swc_ecma_codegen.specs.Lists.{child_of};
+ghost use Rattle.swc_ecma_codegen_base.specs.Run.{Emits};
+ghost use Rattle.swc_ecma_codegen.specs.Blocks.{block_format, flat_block_format, block_list, block_start, block_stmt};
 ghost use Rattle.swc_ecma_codegen.specs.View.{state_of};
 
 use crate::emitter::Emitter;
@@ -32,6 +34,28 @@ fn flat_block_format() -> ListFormat
         .difference(ListFormat::Indented)
 }
 
+/// The format of a block, by whether it holds statements.
+fn block_lines(some: bool) -> ListFormat
+    ensures { result.0 ≡ if some then block_format else flat_block_format }
+{
+    if some {
+        block_format()
+    } else {
+        flat_block_format()
+    }
+}
+
+/// Whether there is something in a list.
+#[tactic(auto, unfolding(swc_ecma_codegen_ast::specs::FunctionPhrases::is_some_listed))]
+pub(crate) fn is_some_listed<T>(nodes: &[T]) -> bool
+    ensures { result ≡ is_some_listed nodes.now }
+{
+    match nodes {
+        [] => false,
+        [_, ..] => true,
+    }
+}
+
 impl<N: Held> Child for StmtBox<N> {
     ghost stands = { λ n. (N.answers n.node.value).place };
 
@@ -52,7 +76,7 @@ impl<N: Held> EmitAt for BlockStmt<N> {
         e.leading_comments(self.span.lo)?;
         e.block_start(place, self.span)?;
         e.punct(Punctuator::LeftBrace)?;
-        e.block_stmts(self)?;
+        e.block_list(self)?;
         e.comments_before(self.span.hi)?;
         e.last_of(self.span)?;
         e.punct(Punctuator::RightBrace)?;
@@ -73,24 +97,16 @@ impl<W: WriteJs, S: SourceMapper, C: Comments> Emitter<'_, W, S, C> {
         }
     }
 
-    /// Writes the statements by a format.
-    #[tactic(auto, unfolding(crate::specs::Blocks::stmts_by))]
-    fn stmts_by<N: Held>(&mut self, format: ListFormat, node: &BlockStmt<N>) -> Answer
-        ensures items { Emits (stmts_by N.answers N.items format.0 node.now) (state_of S.lines W.sheet self.old) (state_of S.lines W.sheet self.new) result }
+    /// Writes the statements, each on a line of its own where there are some, unless the settings are to minify.
+    #[tactic(auto, using(crate::proofs::Asked::minified_part, crate::proofs::Asked::pretty_part), unfolding(crate::specs::Blocks::block_list))]
+    fn block_list<N: Held>(&mut self, node: &BlockStmt<N>) -> Answer
+        ensures items { Emits (block_list (is_some_listed node.now.stmts.items) node.now.span (map (child_of (λ s. (N.answers s.node.value).place) (λ s place. N.items s.node.value place)) node.now.stmts.items)) (state_of S.lines W.sheet self.old) (state_of S.lines W.sheet self.new) result }
         ensures level { OnOk result ((W.sheet self.new.wr).indentation ≡ (W.sheet self.old.wr).indentation) }
     {
-        self.list(format, node.span, &node.stmts)
-    }
-
-    /// Writes the statements, each on a line of its own unless the settings are to minify.
-    #[tactic(auto, using(crate::proofs::Asked::minified_part, crate::proofs::Asked::pretty_part), unfolding(crate::specs::Blocks::block_lines))]
-    fn block_stmts<N: Held>(&mut self, node: &BlockStmt<N>) -> Answer
-        ensures items { Emits (when_minified (stmts_by N.answers N.items flat_block_format node.now) (block_lines N.answers N.items node.now node.now.stmts.items)) (state_of S.lines W.sheet self.old) (state_of S.lines W.sheet self.new) result }
-        ensures level { OnOk result ((W.sheet self.new.wr).indentation ≡ (W.sheet self.old.wr).indentation) }
-    {
-        if self.cfg.minify || node.stmts.is_empty() {
-            return self.stmts_by(flat_block_format(), node);
+        if self.cfg.minify {
+            return self.list(flat_block_format(), node.span, &node.stmts);
         }
-        self.stmts_by(block_format(), node)
+        let format = block_lines(is_some_listed(&node.stmts));
+        self.list(format, node.span, &node.stmts)
     }
 }

@@ -6,6 +6,7 @@ ghost use Rattle.swc_ecma_codegen_base.specs.Run.{Emits};
 ghost use Rattle.swc_ecma_codegen.specs.Functions.{decorator, param, function_body, fn_trailing, async_word, star, function_head, method_head, function, optional_name, fn_expr, is_plain, is_name, is_only, async_arrow, parenthesis, arrow_parameters, arrow_body, arrow_expr};
 ghost use Rattle.swc_ecma_codegen.specs.View.{state_of};
 
+use crate::blocks::is_some_listed;
 use crate::emitter::Emitter;
 use crate::nodes::{AskPattern, Child, EmitAt, Held, Place};
 use crate::patterns::PatternKind;
@@ -227,12 +228,14 @@ impl<W: WriteJs, S: SourceMapper, C: Comments> Emitter<'_, W, S, C> {
     }
 
     /// Writes `(a) { b; }` of `function f(a) { b; }`. swc's `emit_fn_trailing`.
-    #[tactic(auto, using(crate::proofs::Typed::function_typed), unfolding(crate::specs::Functions::fn_trailing, crate::specs::Functions::fn_trailing_parts))]
+    #[tactic(auto, unfolding(crate::specs::Functions::fn_trailing, crate::specs::Functions::fn_trailing_parts))]
     fn fn_trailing<N: Held>(&mut self, node: &Function<N>) -> Answer
         ensures items { Emits (fn_trailing N.items node.now) (state_of S.lines W.sheet self.old) (state_of S.lines W.sheet self.new) result }
         ensures level { OnOk result ((W.sheet self.new.wr).indentation ≡ (W.sheet self.old.wr).indentation) }
     {
-        if node.type_params.is_some() || node.return_type.is_some() || !node.decorators.is_empty() {
+        if node.type_params.is_some()
+            || node.return_type.is_some()
+            || is_some_listed(&node.decorators) {
             return self.unsupported();
         }
         self.punct(Punctuator::LeftParenthesis)?;

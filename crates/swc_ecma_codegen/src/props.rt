@@ -1,13 +1,16 @@
 //! Objects and their properties.
 
-ghost use Rattle.std.specs.Prelude.{◌≡◌, OnOk, true};
+ghost use Rattle.std.specs.Prelude.{◌≡◌, map, OnOk, true};
+ghost use Rattle.swc_ecma_codegen_ast.specs.FunctionPhrases.{is_some_listed};
+ghost use Rattle.swc_ecma_codegen.specs.Lists.{child_of};
 ghost use Rattle.swc_ecma_codegen_spans.specs.Spans.{prop_or_spread_span};
-ghost use Rattle.swc_ecma_codegen_base.specs.Run.{Emits, when_minified};
+ghost use Rattle.swc_ecma_codegen_base.specs.Run.{Emits};
 ghost use Rattle.swc_ecma_codegen_base.specs.Starts.{begins_letter};
 ghost use Rattle.swc_ecma_codegen.specs.Answers.{place_of};
-ghost use Rattle.swc_ecma_codegen.specs.Props.{prop_name, key_end, value_start, key_value_prop, assign_prop, accessor, optional_body, getter_prop, setter_prop, method_prop, prop, prop_or_spread, object_format, flat_object_format, props_by, object_lines, object_lit};
+ghost use Rattle.swc_ecma_codegen.specs.Props.{prop_name, key_end, value_start, key_value_prop, assign_prop, accessor, optional_body, getter_prop, setter_prop, method_prop, prop, prop_or_spread, object_format, flat_object_format, object_lines, object_list, object_lit};
 ghost use Rattle.swc_ecma_codegen.specs.View.{state_of};
 
+use crate::blocks::is_some_listed;
 use crate::emitter::Emitter;
 use crate::nodes::{Child, EmitAt, Held, Place};
 use swc_ecma_codegen_ast::comments::Comments;
@@ -68,7 +71,7 @@ impl<N: Held> EmitAt for ObjectLit<N> {
     ) -> Answer {
         e.opened(self.span)?;
         e.punct(Punctuator::LeftBrace)?;
-        e.props(self)?;
+        e.object_list(self)?;
         e.last_of(self.span)?;
         e.punct(Punctuator::RightBrace)?;
         Ok(())
@@ -278,27 +281,30 @@ impl<W: WriteJs, S: SourceMapper, C: Comments> Emitter<'_, W, S, C> {
         }
     }
 
-    /// Writes the properties by a format.
-    #[tactic(auto, unfolding(crate::specs::Props::props_by))]
-    fn props_by<N: Held>(&mut self, format: ListFormat, node: &ObjectLit<N>) -> Answer
-        ensures items { Emits (props_by N.answers N.items format.0 node.now) (state_of S.lines W.sheet self.old) (state_of S.lines W.sheet self.new) result }
+    /// Writes the properties, each on a line of its own where there are some.
+    #[tactic(auto, unfolding(crate::specs::Props::object_lines))]
+    fn object_lines<N: Held>(&mut self, some: bool, node: &ObjectLit<N>) -> Answer
+        ensures items { Emits (object_lines some node.now.span (map (child_of (prop_or_spread_span (place_of N.answers)) (λ p place. prop_or_spread N.answers N.items p)) node.now.props.items)) (state_of S.lines W.sheet self.old) (state_of S.lines W.sheet self.new) result }
         ensures level { OnOk result ((W.sheet self.new.wr).indentation ≡ (W.sheet self.old.wr).indentation) }
     {
-        self.list(format, node.span, &node.props)
-    }
-
-    /// Writes the properties, each on a line of its own unless the settings are to minify.
-    #[tactic(auto, using(crate::proofs::Asked::minified_part, crate::proofs::Asked::pretty_part), unfolding(crate::specs::Props::object_lines))]
-    fn props<N: Held>(&mut self, node: &ObjectLit<N>) -> Answer
-        ensures items { Emits (when_minified (props_by N.answers N.items flat_object_format node.now) (object_lines N.answers N.items node.now node.now.props.items)) (state_of S.lines W.sheet self.old) (state_of S.lines W.sheet self.new) result }
-        ensures level { OnOk result ((W.sheet self.new.wr).indentation ≡ (W.sheet self.old.wr).indentation) }
-    {
-        if self.cfg.minify || node.props.is_empty() {
-            return self.props_by(flat_object_format(), node);
+        if !some {
+            return self.list(flat_object_format(), node.span, &node.props);
         }
         self.line()?;
-        self.props_by(object_format(), node)?;
+        self.list(object_format(), node.span, &node.props)?;
         self.line()?;
         Ok(())
+    }
+
+    /// Writes the properties; on one line where the settings are to minify.
+    #[tactic(auto, using(crate::proofs::Asked::minified_part, crate::proofs::Asked::pretty_part), unfolding(crate::specs::Props::object_list))]
+    fn object_list<N: Held>(&mut self, node: &ObjectLit<N>) -> Answer
+        ensures items { Emits (object_list (is_some_listed node.now.props.items) node.now.span (map (child_of (prop_or_spread_span (place_of N.answers)) (λ p place. prop_or_spread N.answers N.items p)) node.now.props.items)) (state_of S.lines W.sheet self.old) (state_of S.lines W.sheet self.new) result }
+        ensures level { OnOk result ((W.sheet self.new.wr).indentation ≡ (W.sheet self.old.wr).indentation) }
+    {
+        if self.cfg.minify {
+            return self.list(flat_object_format(), node.span, &node.props);
+        }
+        self.object_lines(is_some_listed(&node.props), node)
     }
 }

@@ -29,7 +29,7 @@ use Rattle.swc_ecma_codegen_ast.proofs.Mapped.{list_mapped}
 
 -- ---- functions
 
-some_mapped : {A B : Type 0} (g : A → B) (xs : List A) → is_some_listed (map g xs) ≡ is_some_listed xs
+pub some_mapped : {A B : Type 0} (g : A → B) (xs : List A) → is_some_listed (map g xs) ≡ is_some_listed xs
 unfolding is_some_listed
 some_mapped g [] = refl
 some_mapped g (x ∷ xs) = refl

@@ -69,7 +69,7 @@ each_prop P key_value assign rest (pat_props.KeyValue n) = key_value n
 each_prop P key_value assign rest (pat_props.Assign n) = assign n.span n.key.id n.key.type_ann n.value
 each_prop P key_value assign rest (pat_props.Rest n) = rest n.span n.dot3_token n.arg n.type_ann
 
-by_cases : {X : Type 0} (P : ObjectPatProp X → Type 0)
+pub by_cases : {X : Type 0} (P : ObjectPatProp X → Type 0)
     → ((n : KeyValuePatProp X) → P (pat_props.KeyValue n))
     → ((span : Span) (id : Ident) → P (pat_props.Assign (record { span = span; key = record { id = id; type_ann = None }; value = None })))
     → ((span : Span) (id : Ident) (value : ExprBox X) → P (pat_props.Assign (record { span = span; key = record { id = id; type_ann = None }; value = Some value })))

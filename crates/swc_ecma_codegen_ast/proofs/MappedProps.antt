@@ -56,7 +56,7 @@ prop_mapped g f (props.Setter n) = setter_mapped g f n n.this_param n.body
 prop_mapped g f (props.Method n) = refl
 
 -- what holds of each property and spread
-each_prop : {X : Type 0} (P : PropOrSpread X → Type 0) → ((n : SpreadElement X) → P (prop_or_spreads.Spread n)) → ((n : PropBox X) → P (prop_or_spreads.Prop n)) → (n : PropOrSpread X) → P n
+pub each_prop : {X : Type 0} (P : PropOrSpread X → Type 0) → ((n : SpreadElement X) → P (prop_or_spreads.Spread n)) → ((n : PropBox X) → P (prop_or_spreads.Prop n)) → (n : PropOrSpread X) → P n
 each_prop P spread prop (prop_or_spreads.Spread n) = spread n
 each_prop P spread prop (prop_or_spreads.Prop n) = prop n
 

@@ -1,7 +1,7 @@
 -- What lists write: what stands before, between and after their children, and the tokens of the whole.
-use Rattle.std.proofs.Common.{◌≡◌, ℕ, ◌+◌, ◌≤◌, arith, Bool, true, false, cond, not, ◌&&◌, List, [], ◌∷◌, ◌++◌, length, map, codes, refl, sym, ap, ◌∙◌, subst, inl, inr}
+use Rattle.std.proofs.Common.{◌≡◌, ℕ, ◌+◌, ◌≤◌, arith, Bool, true, false, cond, not, ◌&&◌, ◌==◌, List, [], ◌∷◌, ◌++◌, length, map, codes, refl, sym, ap, ◌∙◌, subst, inl, inr}
 use Rattle.std.specs.Str.{chars, is_utf8}
-use Rattle.std.proofs.lemmas.Bool.{cases_Bool}
+use Rattle.std.proofs.lemmas.Bool.{cases_Bool, true≢false}
 use Rattle.swc_ecma_codegen_common.specs.declared.positions.Span.{Span}
 use Rattle.swc_ecma_codegen_ast.specs.SourceLines.{Lines}
 use Rattle.swc_ecma_codegen_ast.specs.ListFormats.{comma_delimited, bar_delimited, ampersand_delimited, allows_trailing_comma, indented, space_between_braces, space_between_siblings, optional_if_empty, multi_line, no_intervening_comments, no_space_if_empty, forces_trailing_comma, can_skip_trailing_comma, leading_line, separating_line, closing_line}
@@ -11,16 +11,20 @@ use Rattle.swc_ecma_codegen_ast.specs.Tokens.{token_of}
 use Rattle.swc_ecma_codegen_ast.specs.Punctuators.{is_punctuator, punctuators}
 use Rattle.swc_ecma_codegen_ast.specs.Texts.{is_same, is_among}
 use Rattle.swc_ecma_codegen_ast.specs.Phrases as phrases
-use Rattle.swc_ecma_codegen_ast.specs.Phrases.{Phrase, Nothing, Then, mark, ◌>◌}
+use Rattle.swc_ecma_codegen_ast.specs.Phrases.{Phrase, Nothing, Then, OptionalComma, is_possible, names_in, mark, ◌>◌}
 use Rattle.swc_ecma_codegen_text_writer.specs.Sheet.{Punct}
-use Rattle.swc_ecma_codegen_base.specs.Run.{Env, Plan, Part, Guard, Token, next, step, spelling, when_minified, no_part}
+use Rattle.swc_ecma_codegen_base.specs.Run.{Env, Plan, Part, Remake, Guard, Token, next, step, spelling, when_minified, no_part}
 use Rattle.swc_ecma_codegen_base.specs.Words.{punct, formatting_space, formatting_line, trailing_comments}
 use Rattle.swc_ecma_codegen_base.specs.Written.{IsMark}
-use Rattle.swc_ecma_codegen_base.specs.Lists.{ListChild, by_lines, blank_if, line_or_blank, deeper, formatting_deeper, deeper_if, shallower, formatting_shallower, shallower_if, opening, delimiter, separator, child_comments, first_child_after, first_child, next_child_after, next_child, comma_if, source_comma, wanted_comma, may_have_comma, trailing_comma, closing, list_end, list_closing, empty_list, more_children, last_place, list}
+use Rattle.swc_ecma_codegen_base.specs.Lists.{ListChild, by_lines, blank_if, line_or_blank, deeper, formatting_deeper, deeper_if, shallower, formatting_shallower, shallower_if, opening, delimiter, separator, child_comments, first_child_after, first_child, next_child_after, next_child, comma_if, source_comma, wanted_comma, source_has_comma, may_have_comma, trailing_comma, closing, list_end, list_closing, empty_list, more_children, last_place, list}
 use Rattle.swc_ecma_codegen_base.proofs.Emitting.{minified_same, pretty_same}
-use Rattle.swc_ecma_codegen_base.proofs.ListCommas.{written_same, left_out_same, forced_same}
-use Rattle.swc_ecma_codegen_base.proofs.Printed.{MakesWithin, Makes, Writes, within_then, with_room, writes_then, writes_same, writes_nothing, writes_if, writes_minified, writes_formatting_space, writes_formatting_line, writes_trailing, writes_shallower, deeper_within, punct_within, writes_punct}
-use Rattle.swc_ecma_codegen_base.proofs.Phrased.{Prints, then, after as behind, before, prints_nothing, prints_same, prints_punct, prints_mark, mark_spelled}
+use Rattle.swc_ecma_codegen_base.proofs.ListCommas.{written_same, left_out_same, forced_same, source_same}
+use Rattle.swc_ecma_codegen_base.proofs.Printed.{writes_remake, MakesWithin, Makes, Writes, within_then, with_room, writes_then, writes_same, writes_nothing, writes_if, writes_minified, writes_formatting_space, writes_formatting_line, writes_trailing, writes_shallower, deeper_within, punct_within, writes_punct}
+use Rattle.swc_ecma_codegen_base.specs.Escapes.{may_make_text}
+use Rattle.swc_ecma_codegen_base.specs.Targets.{is_out}
+use Rattle.swc_ecma_codegen_base.proofs.Hands.{holds_string}
+use Rattle.swc_ecma_codegen_base.proofs.Choices.{IsAmong, comma_among, no_comma_among, prints_no_comma}
+use Rattle.swc_ecma_codegen_base.proofs.Phrased.{Prints, NamedBy, names_then, no_names, safe_then, no_strings, then, after as behind, before, prints_nothing, prints_same, prints_punct, prints_mark, mark_spelled}
 
 -- ---- parts
 
@@ -302,3 +306,52 @@ prints_bracketed_in_order env t w p h format parent place part e after close law
     (λ rest. list_in_parts (writes_then env (punct t) p (token_of Punctuator (spelling Punctuator t) ∷ []) [] (writes_punct env t (mark_spelled t w) w.ascii) h) format parent place part x xs (close rest))
     (then (prints_bracket env t w p h format line)
     (then (then (prints_child env format line (record { place = place x; part = part x }) (law x)) (before (more_in_order env format place part e law u (place x) xs) (closing_undelimited env format parent last u))) closed))
+
+-- ---- a trailing comma where the source text has one
+
+-- What reads the source text may take memory.
+prints_asked : {env : Env} {f : Phrase} (p : Part) → IsAmong env.config f OptionalComma → Prints env p f → Prints env (λ rest. step (Remake true) (p rest)) OptionalComma
+unfolding is_possible is_out may_make_text names_in holds_string
+prints_asked {env} {f} p i h = record {
+  where_possible = λ w o.
+      let a = h.where_possible (i.possible ∙ w) (i.out ∙ o) in
+      let m = writes_remake env true in
+      record {
+        tokens = a.tokens;
+        generated = i.generates a.tokens a.generated;
+        writes = writes_then env (step (Remake true)) p [] a.tokens m a.writes;
+        named = subst (λ ns. NamedBy env (λ rest. step (Remake true) (p rest)) ns) i.names (names_then p [] (names_in f) m (no_names env (step (Remake true))) a.named);
+        safe = safe_then p m (no_strings m refl) a.safe;
+      };
+  where_out = λ w o. absurd (true≢false (sym o));
+}
+
+prints_read : (env : Env) (b : Bool) → Prints env (λ rest. step (Remake true) (comma_if b rest)) OptionalComma
+unfolding comma_if
+prints_read env true = prints_asked (comma_if true) (comma_among env.config) (prints_comma_if env)
+prints_read env false = prints_asked (λ rest. rest) (no_comma_among env.config) prints_nothing
+
+nowhere_same : (parent : Span) (rest : Plan) (env : Env) → (parent.lo.0 == 0) ≡ true → source_comma parent rest env ≡ rest env
+unfolding source_comma
+nowhere_same parent rest env h = picked (parent.lo.0 == 0) rest _ env h
+
+prints_source_comma : (env : Env) (parent : Span) → Prints env (source_comma parent) OptionalComma
+prints_source_comma env parent = elim (cases_Bool (parent.lo.0 == 0)) [
+  | inl none ↦ prints_same (source_comma parent) (λ rest. rest) (λ rest. nowhere_same parent rest env none) (prints_no_comma prints_nothing)
+  | inr some ↦ prints_same (source_comma parent) (λ rest. step (Remake true) (comma_if (source_has_comma (env.lines.snippet parent)) rest)) (λ rest. source_same parent rest env some) (prints_read env (source_has_comma (env.lines.snippet parent)))
+]
+
+allowed_same : (format : ℕ) (parent : Span) (rest : Plan) (env : Env) → forces_trailing_comma format ≡ false → allows_trailing_comma format ≡ true → wanted_comma format parent rest env ≡ source_comma parent rest env
+unfolding wanted_comma
+allowed_same format parent rest env f a = passed_over (forces_trailing_comma format) _ _ env f ∙ picked (allows_trailing_comma format) _ rest env a
+
+prints_allowed_comma : (env : Env) (format : ℕ) (parent : Span) → forces_trailing_comma format ≡ false → allows_trailing_comma format ≡ true → Prints env (trailing_comma format parent) OptionalComma
+prints_allowed_comma env format parent f a = elim (cases_Bool (may_have_comma format env.config)) [
+  | inl some ↦ prints_same (trailing_comma format parent) (source_comma parent) (λ rest. written_same format parent rest env some ∙ allowed_same format parent rest env f a) (prints_source_comma env parent)
+  | inr none ↦ prints_same (trailing_comma format parent) (λ rest. rest) (λ rest. left_out_same format parent rest env none) (prints_no_comma prints_nothing)
+]
+
+-- `[a, ] = b`
+pub prints_optional_closing : (env : Env) (format : ℕ) (parent last : Span) → forces_trailing_comma format ≡ false → allows_trailing_comma format ≡ true → Prints env (list_closing format parent last) OptionalComma
+unfolding list_closing
+prints_optional_closing env format parent last f a = before (prints_allowed_comma env format parent f a) (writes_end env format parent last)

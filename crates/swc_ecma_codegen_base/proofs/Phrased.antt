@@ -81,7 +81,7 @@ pub no_names : (env : Env) (p : Part) → NamedBy env p []
 unfolding NamedBy
 no_names env p s k = named_none env.config s.sheet _ (run_records (steps_of (p nothing env)) s)
 
-names_then : {env : Env} {p : Part} {ts : List lexical.Token} {b : Bool} (q : Part) (xs ys : List PlacedName) → Makes env p ts b → NamedBy env p xs → NamedBy env q ys → NamedBy env (λ rest. p (q rest)) (xs ++ ys)
+pub names_then : {env : Env} {p : Part} {ts : List lexical.Token} {b : Bool} (q : Part) (xs ys : List PlacedName) → Makes env p ts b → NamedBy env p xs → NamedBy env q ys → NamedBy env (λ rest. p (q rest)) (xs ++ ys)
 unfolding NamedBy
 names_then {env} {p} q xs ys m h k s keeps =
     let here = steps_of (p nothing env) in

@@ -1,6 +1,6 @@
 -- What is written of lists of nodes, by the bits of their formats.
 use Rattle.std.specs.Prelude.{ℕ, nat_lt, ◌==◌, ◌&&◌, Bool, true, false, not, if◌then◌else◌, List, [], ◌∷◌, length, codes, Option, Some, None}
-use Rattle.core.specs.Char.{is_whitespace}
+use Rattle.std.specs.Char.{is_whitespace}
 use Rattle.std.specs.Str.{chars}
 use Rattle.swc_ecma_codegen_common.specs.declared.positions.Span.{Span}
 use Rattle.swc_ecma_codegen_util.specs.declared.config.Config.{Config}

@@ -1,10 +1,10 @@
 //! Names as keys of properties.
 
-ghost use Rattle.std.specs.Prelude.{◌≡◌, OnOk, IsNone, true};
+ghost use Rattle.std.specs.Prelude.{◌≡◌, OnOk, IsNone, false, true};
 ghost use Rattle.std.specs.List.{list_any};
 ghost use Rattle.std.specs.Str.{chars};
 ghost use Rattle.swc_ecma_codegen_spans.specs.Spans.{dummy_span};
-ghost use Rattle.swc_ecma_codegen_ast.specs.declared.kinds.Kind.TheVariants as kind;
+ghost use Rattle.swc_ecma_codegen_ast.specs.declared.kinds.Kind.TheVariants as kinds;
 ghost use Rattle.swc_ecma_codegen_text_writer.specs.Sheet.{Symbol};
 ghost use Rattle.swc_ecma_codegen_base.specs.Keys.{quoted_key, ascii_key, bare_key, plain_key, spelled_key, valid_key, key_text, key};
 ghost use Rattle.swc_ecma_codegen_base.specs.Run.{Does, step, Token};
@@ -25,7 +25,7 @@ impl LowerEmitter {
     /// The call of a key in quotes.
     fn put_quoted_key<W: WriteJs>(&mut self, cfg: &Config, wr: &mut W, text: &str) -> Answer
         requires { self.old.failed ≡ false }
-        ensures items { Does (step (Token kind.Str (Symbol dummy_span text.now))) (state_of cfg.now (W.sheet wr.old) self.old) (state_of cfg.now (W.sheet wr.new) self.new) result }
+        ensures items { Does (step (Token kinds.Str (Symbol dummy_span text.now))) (state_of cfg.now (W.sheet wr.old) self.old) (state_of cfg.now (W.sheet wr.new) self.new) result }
         ensures level { OnOk result ((W.sheet wr.new).indentation ≡ (W.sheet wr.old).indentation) }
     {
         let _ = cfg;

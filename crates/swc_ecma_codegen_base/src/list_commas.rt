@@ -1,7 +1,7 @@
 //! The trailing comma of a list.
 
 ghost use Rattle.std.specs.Prelude.{◌≡◌, ◌==◌, if◌then◌else◌, false, true, OnOk, IfOk, IfErr};
-ghost use Rattle.core.specs.Char.{is_whitespace};
+ghost use Rattle.std.specs.Char.{is_whitespace};
 ghost use Rattle.std.specs.Str.{chars};
 ghost use Rattle.swc_ecma_codegen_common.specs.declared.errors.Error.TheVariants.{OutOfMemory};
 ghost use Rattle.swc_ecma_codegen_base.specs.Run.{Does, at_lines};

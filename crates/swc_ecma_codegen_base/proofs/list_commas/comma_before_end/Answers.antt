@@ -3,7 +3,7 @@ use Rattle.std.proofs.lemmas.Iterator.{YieldsList-from_chars}
 use Rattle.std.proofs.lemmas.List.{at_drop_more, at_drop_all, length_push}
 use Rattle.std.proofs.lemmas.Iterator.Consumers.{YieldsList-turn, YieldsList-end}
 use Rattle.std.specs.Str.{chars}
-use Rattle.core.specs.Char.{is_whitespace}
+use Rattle.std.specs.Char.{is_whitespace}
 use Rattle.swc_ecma_codegen_base.specs.Lists.{comma_before_end}
 use Rattle.swc_ecma_codegen_base.proofs.list_commas.comma_before_end.Goals as goal
 
