@@ -58,7 +58,6 @@ fn new_format() -> ListFormat
 }
 
 /// Whether `new A()` keeps its parentheses there: where it is called, or has a property.
-#[tactic(auto, unfolding(crate::specs::Calls::keeps_arguments))]
 fn keeps_arguments(place: Place) -> bool
     ensures { result ≡ keeps_arguments place }
 {
@@ -69,7 +68,6 @@ fn keeps_arguments(place: Place) -> bool
 }
 
 /// Whether `?.` stands before the arguments of a call in an optional chain, by its place.
-#[tactic(auto, unfolding(crate::specs::Calls::is_optional))]
 fn is_optional(place: Place) -> bool
     ensures { result ≡ is_optional place }
 {
