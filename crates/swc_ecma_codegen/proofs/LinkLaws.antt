@@ -51,7 +51,7 @@ member_written n m h = ap (λ z. any_items z Plain) h ∙ any_items_member_expr 
 part_written : (n : AnyNode) (m : ExprPart AnyNode) → n ≡ whole.ExprPart m → any_items n Plain ≡ expr_part any_answers any_items m Plain
 part_written n m h = ap (λ z. any_items z Plain) h ∙ any_items_expr_part m Plain
 
-pub assign_target_written : (n : AnyNode) (m : AssignTarget AnyNode) → n ≡ whole.ExprPart (expr_parts.AssignTarget m) → any_items n Plain ≡ assign_target any_items m
+pub assign_target_written : (n : AnyNode) (m : AssignTarget AnyNode) → n ≡ whole.ExprPart (expr_parts.AssignTarget m) → any_items n Plain ≡ assign_target any_answers any_items m
 unfolding expr_part
 assign_target_written n m h = part_written n (expr_parts.AssignTarget m) h
 
@@ -77,13 +77,13 @@ member_reads n m a b r h w s k =
     subst P e (root_reads (OfLink n MemberExpression) (any_items n Plain) a b r refl (ap is_possible e ∙ w) s k)
 
 -- a part of an expression, in a role that it has by itself
-part_reads : (n : AnyNode) (m : ExprPart AnyNode) (role : Role) (a b : State) (r : Result (Unit {0}) Error) → n ≡ whole.ExprPart m → placed role Plain ≡ Plain → is_possible (part_lists.expr_part phrase m role) ≡ true → IsNew a → Follows (any_items n Plain nothing) a b (in_short r) → OnOk r (AddsReading (part_lists.expr_part phrase m role) a.sheet b.sheet)
+part_reads : (n : AnyNode) (m : ExprPart AnyNode) (role : Role) (a b : State) (r : Result (Unit {0}) Error) → n ≡ whole.ExprPart m → placed role Plain ≡ Plain → is_possible (part_lists.expr_part phrase m role) ≡ true → IsNew a → Follows (any_items n Plain nothing) a b (in_short r) → OnOk r (AddsReading a.env.config (part_lists.expr_part phrase m role) a.sheet b.sheet)
 unfolding node_phrase
 part_reads n m role a b r h plain w s k =
     let e : phrase n role ≡ node_phrase phrase (nodes.ExprPart m) role = ap (λ z. phrase z role) h ∙ phrase_expr_part m role in
-    let P : Phrase → Type 0 = λ z. OnOk r (AddsReading z a.sheet b.sheet) in
+    let P : Phrase → Type 0 = λ z. OnOk r (AddsReading a.env.config z a.sheet b.sheet) in
     subst P e (root_reads (OfLink n role) (any_items n Plain) a b r (ap (any_items n) (sym plain)) (ap is_possible e ∙ w) s k)
 
-pub assign_target_reads : (n : AnyNode) (m : AssignTarget AnyNode) (a b : State) (r : Result (Unit {0}) Error) → n ≡ whole.ExprPart (expr_parts.AssignTarget m) → is_possible (target_lists.assign_target phrase m) ≡ true → IsNew a → Follows (any_items n Plain nothing) a b (in_short r) → OnOk r (AddsReading (target_lists.assign_target phrase m) a.sheet b.sheet)
+pub assign_target_reads : (n : AnyNode) (m : AssignTarget AnyNode) (a b : State) (r : Result (Unit {0}) Error) → n ≡ whole.ExprPart (expr_parts.AssignTarget m) → is_possible (target_lists.assign_target phrase m) ≡ true → IsNew a → Follows (any_items n Plain nothing) a b (in_short r) → OnOk r (AddsReading a.env.config (target_lists.assign_target phrase m) a.sheet b.sheet)
 unfolding part_lists.expr_part
 assign_target_reads n m a b r h w s k = part_reads n (expr_parts.AssignTarget m) AssignmentTarget a b r h refl w s k

@@ -51,18 +51,6 @@ fn object_pat_format() -> ListFormat
     ListFormat::ObjectBindingPatternElements.union(ListFormat::CanSkipTrailingComma)
 }
 
-impl<N: EmitAt> EmitAt for PatBox<N> {
-    ghost items = { λ n place. N.items n.node.value place };
-
-    fn emit_at<W: WriteJs, S: SourceMapper, C: Comments>(
-        &self,
-        e: &mut Emitter<'_, W, S, C>,
-        place: Place,
-    ) -> Answer {
-        self.held().emit_at(e, place)
-    }
-}
-
 impl<N: Held> Child for PatBox<N> {
     ghost stands = { λ n. (N.answers n.node.value).place };
 
