@@ -14,18 +14,22 @@ pub struct Manner {
     pub minified: bool,
     /// Without the semicolons at the ends of statements before a closing brace and at the end of the text.
     pub omits: bool,
+    /// With a comma at the end of each list whose source text may have one.
+    pub comma: bool,
 }
 
 /// With blanks.
 pub const PRETTY: Manner = Manner {
     minified: false,
     omits: false,
+    comma: false,
 };
 
 /// Without blanks.
 pub const MINIFIED: Manner = Manner {
     minified: true,
     omits: false,
+    comma: false,
 };
 
 /// A letter for each kind, as in the rows.
@@ -47,6 +51,10 @@ fn kind_of(letter: &str) -> Kind {
 fn is_written(manner: Manner, token: &str, next: Option<&&str>) -> bool {
     if token.starts_with("P:") {
         !manner.minified
+    } else if token.starts_with("c:") {
+        manner.comma
+    } else if token.starts_with("C:") {
+        manner.comma && !manner.minified
     } else if manner.omits && token == "e:;" {
         match next {
             Some(next) => !matches!(*next, "p:}" | "p:;" | "e:;"),

@@ -92,6 +92,7 @@ pub fn is_printed_with(
     let manner = Manner {
         minified,
         omits: minified && words.contains("--omit-last-semi"),
+        comma: false,
     };
     Ok(
         prints_with(alloc, words, tree.json.as_bytes(), text)?
