@@ -103,7 +103,7 @@ no_strings {env} {p} {ts} h none e anew =
     let no : has_string h.steps ≡ false = false_from_ne_true (has_string h.steps) (λ s. true≢false (sym (h.hands.strings s) ∙ none)) in
     subst AreSafe (sym (ap (strings_after anew) same ∙ none_by_value anew h.steps no)) tt
 
-safe_then : {env : Env} {p : Part} {ts : List lexical.Token} {b : Bool} (q : Part) → Makes env p ts b → IsSafe env p → IsSafe env q → IsSafe env (λ rest. p (q rest))
+pub safe_then : {env : Env} {p : Part} {ts : List lexical.Token} {b : Bool} (q : Part) → Makes env p ts b → IsSafe env p → IsSafe env q → IsSafe env (λ rest. p (q rest))
 unfolding IsSafe
 safe_then {env} {p} q m h k e anew =
     let here = steps_of (p nothing env) in
