@@ -211,7 +211,25 @@ impl<N: Fits> WellFormed for Expr<N> {
             Expr::Await(node) => node.is_well_formed(),
             Expr::Paren(node) => node.is_well_formed(),
             Expr::OptChain(node) => node.is_well_formed(),
-            _ => false,
+            Expr::Object(_)
+            | Expr::Fn(_)
+            | Expr::Tpl(_)
+            | Expr::TaggedTpl(_)
+            | Expr::Arrow(_)
+            | Expr::Class(_)
+            | Expr::JSXMember(_)
+            | Expr::JSXNamespacedName(_)
+            | Expr::JSXEmpty(_)
+            | Expr::JSXElement(_)
+            | Expr::JSXFragment(_)
+            | Expr::TsTypeAssertion(_)
+            | Expr::TsConstAssertion(_)
+            | Expr::TsNonNull(_)
+            | Expr::TsAs(_)
+            | Expr::TsInstantiation(_)
+            | Expr::TsSatisfies(_)
+            | Expr::PrivateName(_)
+            | Expr::Invalid(_) => false,
         }
     }
 }
