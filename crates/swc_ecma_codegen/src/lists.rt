@@ -234,9 +234,9 @@ impl<W: WriteJs, S: SourceMapper, C: Comments> Emitter<'_, W, S, C> {
         ensures items { Emits (list format.0 parent (map (child_of T.stands T.items) children.now)) (state_of S.lines W.sheet self.old) (state_of S.lines W.sheet self.new) result }
         ensures level { OnOk result ((W.sheet self.new.wr).indentation ≡ (W.sheet self.old.wr).indentation) }
     {
-        match children {
-            [] => self.no_list(format, parent),
-            [first, others @ ..] => self.some_list(format, parent, first, others),
+        match children.split_first() {
+            Some((first, others)) => self.some_list(format, parent, first, others),
+            None => self.no_list(format, parent),
         }
     }
 
