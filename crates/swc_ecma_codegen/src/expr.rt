@@ -73,7 +73,25 @@ impl<N: Held> EmitAt for Expr<N> {
             Expr::Await(node) => node.emit_at(e, place)?,
             Expr::Paren(node) => node.emit_at(e, place)?,
             Expr::OptChain(node) => node.emit_at(e, place)?,
-            _ => e.unsupported()?,
+            Expr::Object(_)
+            | Expr::Fn(_)
+            | Expr::Tpl(_)
+            | Expr::TaggedTpl(_)
+            | Expr::Arrow(_)
+            | Expr::Class(_)
+            | Expr::JSXMember(_)
+            | Expr::JSXNamespacedName(_)
+            | Expr::JSXEmpty(_)
+            | Expr::JSXElement(_)
+            | Expr::JSXFragment(_)
+            | Expr::TsTypeAssertion(_)
+            | Expr::TsConstAssertion(_)
+            | Expr::TsNonNull(_)
+            | Expr::TsAs(_)
+            | Expr::TsInstantiation(_)
+            | Expr::TsSatisfies(_)
+            | Expr::PrivateName(_)
+            | Expr::Invalid(_) => e.unsupported()?,
         }
         e.expr_closed(leaves_comments(self, place), expr_place(self))?;
         Ok(())
