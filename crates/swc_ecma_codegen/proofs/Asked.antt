@@ -6,6 +6,8 @@ use Rattle.swc_ecma_codegen_base.specs.Run.{Env, Plan, Part, State, Emits, when_
 use Rattle.swc_ecma_codegen_base.specs.Words.{commit_pending_semi, punct}
 use Rattle.swc_ecma_codegen_base.proofs.Emitting.{follows_same, minified_same, pretty_same}
 use Rattle.swc_ecma_codegen.specs.Functions.{parenthesis}
+use Rattle.swc_ecma_codegen_base.specs.Choices.{empty_arguments}
+use Rattle.swc_ecma_codegen.specs.Calls.{parentheses}
 use Rattle.swc_ecma_codegen.specs.Programs.{last_semi}
 
 pub kept_same : (rest : Plan) (env : Env) → env.config.omit_last_semi ≡ true → last_semi rest env ≡ rest env
@@ -47,3 +49,14 @@ unfolding parenthesis
 parenthesized a b true t r h k = pretty_part no_part (punct t) a b r h k
 parenthesized a b false t (Ok u) h k = λ rest c r f. k rest c r f
 parenthesized a b false t (Err e) h k = λ rest. k rest
+
+-- `()` after `new A` is left out
+pub arguments_left_out : (a : State) → a.env.config.minify ≡ true → Emits empty_arguments a a (Ok tt)
+unfolding empty_arguments no_part parentheses
+arguments_left_out a h rest c r k = follows_same (empty_arguments rest) rest a c r (minified_same no_part parentheses rest a.env h) k
+
+-- it is written
+pub arguments_written : (a b : State) (r : Result (Unit {0}) Refusal) → a.env.config.minify ≡ false → Emits parentheses a b r → Emits empty_arguments a b r
+unfolding empty_arguments no_part parentheses
+arguments_written a b (Ok u) h k = λ rest c r f. follows_same (empty_arguments rest) (parentheses rest) a c r (pretty_same no_part parentheses rest a.env h) (k rest c r f)
+arguments_written a b (Err e) h k = λ rest. follows_same (empty_arguments rest) (parentheses rest) a b (Err e) (pretty_same no_part parentheses rest a.env h) (k rest)

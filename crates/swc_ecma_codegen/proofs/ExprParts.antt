@@ -1,5 +1,5 @@
 -- What is written of each expression is what it reads as.
-use Rattle.std.proofs.Common.{ℕ, Bool, true, false, cond, List, [], ◌==◌, ◌-◌, codes, refl, Option, Some, None, string_bytes}
+use Rattle.std.proofs.Common.{◌≡◌, ℕ, Bool, true, false, cond, List, [], ◌==◌, ◌-◌, codes, refl, ap, ◌∙◌, subst, Option, Some, None, string_bytes}
 use Rattle.std.specs.Str.{chars, is_utf8}
 use Rattle.swc_ecma_codegen_common.specs.declared.positions.BytePos.{BytePos}
 use Rattle.swc_ecma_codegen_common.specs.declared.positions.Span.{Span}
@@ -32,7 +32,6 @@ use Rattle.swc_ecma_codegen_tree.specs.declared.exprs.MetaPropKind.{MetaPropKind
 use Rattle.swc_ecma_codegen_tree.specs.declared.exprs.MetaPropKind.TheVariants as meta_props
 use Rattle.swc_ecma_codegen_tree.specs.declared.exprs.YieldExpr.{YieldExpr}
 use Rattle.swc_ecma_codegen_tree.specs.declared.exprs.AwaitExpr.{AwaitExpr}
-use Rattle.swc_ecma_codegen_tree.specs.declared.exprs.ExprOrSpread.{ExprOrSpread}
 use Rattle.swc_ecma_codegen_tree.specs.declared.exprs.SpreadElement.{SpreadElement}
 use Rattle.swc_ecma_codegen_tree.specs.declared.exprs.CondExpr.{CondExpr}
 use Rattle.swc_ecma_codegen_tree.specs.declared.exprs.MemberProp.{MemberProp}
@@ -44,7 +43,7 @@ use Rattle.swc_ecma_codegen_tree.specs.declared.exprs.Expr.TheVariants as exprs
 use Rattle.swc_ecma_codegen_tree.specs.declared.lits.Lit.{Lit}
 use Rattle.swc_ecma_codegen_tree.specs.declared.lits.Lit.TheVariants as lits
 use Rattle.swc_ecma_codegen_common.specs.Operators.{assign_text, unary_text, binary_text, update_text}
-use Rattle.swc_ecma_codegen_spans.specs.Spans.{expr_span, expr_or_spread_span, spread_element_span}
+use Rattle.swc_ecma_codegen_spans.specs.Spans.{expr_span, spread_element_span}
 use Rattle.swc_ecma_codegen_util.specs.Starts as starts
 use Rattle.swc_ecma_codegen_ast.specs.Chars.{is_start, is_part, is_letter, is_digit}
 use Rattle.swc_ecma_codegen_ast.specs.Names.{is_word, all_part}
@@ -53,22 +52,27 @@ use Rattle.swc_ecma_codegen_ast.specs.Texts.{is_same, is_among}
 use Rattle.swc_ecma_codegen_ast.specs.Phrases.{Phrase, Nothing, One, ◌>◌, mark}
 use Rattle.swc_ecma_codegen_ast.specs.NamePhrases as names
 use Rattle.swc_ecma_codegen_ast.specs.ExprPhrases as lists
+use Rattle.swc_ecma_codegen_ast.specs.CallPhrases.{callee_at}
 use Rattle.swc_ecma_codegen_ast.specs.LitPhrases as lit_lists
-use Rattle.swc_ecma_codegen_ast.specs.declared.roles.Role.TheVariants.{MemberExpression, ChainMember, AssignmentTarget, ObjectLiteral}
+use Rattle.swc_ecma_codegen_ast.specs.declared.roles.Role.TheVariants.{MemberExpression, ChainMember, AssignmentTarget, ObjectLiteral, Callee as IsCallee, ChainCall}
+use Rattle.swc_ecma_codegen_ast.specs.declared.roles.Role.{Role}
 use Rattle.swc_ecma_codegen_base.specs.Run.{Env, Part}
 use Rattle.swc_ecma_codegen_base.specs.Words.{operator, space, formatting_space, position, leading_comments, trailing_comments}
 use Rattle.swc_ecma_codegen_base.proofs.Printed.{Writes, writes_then, writes_if, writes_nothing, writes_space, writes_formatting_space, writes_commit, writes_position, writes_position_before, writes_leading, writes_trailing}
 use Rattle.swc_ecma_codegen_base.specs.Written.{IsWord, IsMark}
+use Rattle.swc_ecma_codegen_base.proofs.Choices.{prints_bare}
 use Rattle.swc_ecma_codegen_base.proofs.EachLit.{prints_lit}
 use Rattle.swc_ecma_codegen_base.proofs.NumberPrints.{prints_number, prints_number_object}
 use Rattle.swc_ecma_codegen_base.proofs.Phrased.{Prints, then, after, before, prints_nothing, prints_never, prints_keyword, prints_word_operator, prints_operator, prints_punct, prints_ident, prints_name}
 use Rattle.swc_ecma_codegen.specs.declared.nodes.Place.{Place}
-use Rattle.swc_ecma_codegen.specs.declared.nodes.Place.TheVariants.{Plain, LeftOperand, Object, DottedObject, Chain}
+use Rattle.swc_ecma_codegen.specs.declared.nodes.Place.TheVariants.{Plain, LeftOperand, Object, DottedObject, Callee, Chain}
 use Rattle.swc_ecma_codegen.specs.Answers.{Answers, place_of}
 use Rattle.swc_ecma_codegen.specs.Operands.{is_word_op, operand_space}
 use Rattle.swc_ecma_codegen.specs.Exprs as words
+use Rattle.swc_ecma_codegen.specs.Calls as calls
 use Rattle.swc_ecma_codegen.specs.Lits.{lit_at}
 use Rattle.swc_ecma_codegen.proofs.FunctionParts.{fn_expr_prints, arrow_expr_prints}
+use Rattle.swc_ecma_codegen.proofs.CallParts.{super_is_word, array_lit_prints, call_prints, new_prints}
 use Rattle.swc_ecma_codegen.proofs.Linked.{Linked, expr_at}
 use Rattle.swc_ecma_codegen.proofs.ListParts.{some_listed_prints}
 
@@ -211,10 +215,6 @@ this_is_word : IsWord (codes "this")
 unfolding is_word is_start is_part is_letter is_digit all_part chars is_utf8 lib.Utf8.encode
 this_is_word = record { utf8 = refl; ascii = refl; shape = refl }
 
-super_is_word : IsWord (codes "super")
-unfolding is_word is_start is_part is_letter is_digit all_part chars is_utf8 lib.Utf8.encode
-super_is_word = record { utf8 = refl; ascii = refl; shape = refl }
-
 new_is_word : IsWord (codes "new")
 unfolding is_word is_start is_part is_letter is_digit all_part chars is_utf8 lib.Utf8.encode
 new_is_word = record { utf8 = refl; ascii = refl; shape = refl }
@@ -293,9 +293,16 @@ member_prop_prints l (member_props.Ident n) = after (writes_comments_before l.en
 member_prop_prints l (member_props.Computed n) = computed_prints l n
 member_prop_prints l n = prints_never
 
+-- the object before a property
+object_prints : {X : Type 0} (l : Linked X) (n : ExprBox X) (prop : MemberProp X) → Prints l.env (l.items n.node.value (words.object_place prop)) (callee_at l.reads n)
+unfolding words.object_place
+object_prints l n (member_props.Ident prop) = l.law n.node.value (DottedObject prop.span.lo) IsCallee
+object_prints l n (member_props.PrivateName prop) = l.law n.node.value (DottedObject prop.span.lo) IsCallee
+object_prints l n (member_props.Computed prop) = l.law n.node.value Object IsCallee
+
 pub member_prints : {X : Type 0} (l : Linked X) (n : MemberExpr X) → Prints l.env (words.member l.items n) (lists.member_expr l.reads n)
 unfolding words.member lists.member_expr
-member_prints l n = after (writes_opened l.env n.span) (then (expr_at l n.obj (words.object_place n.prop)) (before (member_prop_prints l n.prop) (writes_position l.env n.span.hi)))
+member_prints l n = after (writes_opened l.env n.span) (then (object_prints l n.obj n.prop) (before (member_prop_prints l n.prop) (writes_position l.env n.span.hi)))
 
 super_prop_prints : {X : Type 0} (l : Linked X) (n : SuperProp X) → Prints l.env (words.super_prop l.items n) (lists.super_prop l.reads n)
 unfolding words.super_prop lists.super_prop
@@ -303,7 +310,7 @@ super_prop_prints l (super_props.Ident n) = after (writes_comments_before l.env 
 super_prop_prints l (super_props.Computed n) = computed_prints l n
 
 pub super_prop_expr_prints : {X : Type 0} (l : Linked X) (n : SuperPropExpr X) → Prints l.env (words.super_prop_expr l.items n) (lists.super_prop_expr l.reads n)
-unfolding words.super_prop_expr words.super_keyword lists.super_prop_expr
+unfolding words.super_prop_expr calls.super_keyword lists.super_prop_expr
 super_prop_expr_prints l n = after (writes_opened l.env n.span) (then (prints_keyword l.env (Some n.obj.span) (codes "super") super_is_word) (super_prop_prints l n.prop))
 
 -- ---- optional chains
@@ -322,12 +329,12 @@ chain_prop_prints l n = prints_never
 
 pub chain_member_prints : {X : Type 0} (l : Linked X) (optional : Bool) (n : MemberExpr X) → Prints l.env (words.chain_member l.items optional n) (lists.chain_member l.reads optional n)
 unfolding words.chain_member lists.chain_member
-chain_member_prints l optional n = then (expr_at l n.obj Plain) (then (chain_mark_prints l.env optional n.prop) (chain_prop_prints l n.prop))
+chain_member_prints l optional n = then (l.law n.obj.node.value Callee IsCallee) (then (chain_mark_prints l.env optional n.prop) (chain_prop_prints l n.prop))
 
 chain_base_prints : {X : Type 0} (l : Linked X) (optional : Bool) (n : OptChainBase X) → Prints l.env (words.chain_base l.items optional n) (lists.chain_base l.reads optional n)
 unfolding words.chain_base lists.chain_base
 chain_base_prints l optional (chain_bases.Member n) = l.law n.node.value (Chain optional) (ChainMember optional)
-chain_base_prints l optional n = prints_never
+chain_base_prints l optional (chain_bases.Call n) = l.law n.node.value (Chain optional) (ChainCall optional)
 
 pub opt_chain_prints : {X : Type 0} (l : Linked X) (n : OptChainExpr X) → Prints l.env (words.opt_chain l.items n) (lists.opt_chain_expr l.reads n)
 unfolding words.opt_chain lists.opt_chain_expr
@@ -360,7 +367,7 @@ yield_star_prints env false = prints_nothing
 yield_arg_prints : {X : Type 0} (l : Linked X) (delegate : Bool) (arg : Option (ExprBox X)) → Prints l.env (words.yield_arg l.asks l.items delegate arg) (lists.yield_arg l.reads arg)
 unfolding words.yield_arg lists.yield_arg
 yield_arg_prints l delegate None = prints_nothing
-yield_arg_prints l delegate (Some n) = after (writes_blank l.env (cond delegate false (l.asks n.node.value).starts)) (expr_at l n Plain)
+yield_arg_prints l delegate (Some n) = after (writes_blank l.env (cond delegate false (l.asks n.node.value).starts)) (prints_bare (expr_at l n Plain))
 
 yield_prints : {X : Type 0} (l : Linked X) (n : YieldExpr X) → Prints l.env (words.yield_expr l.asks l.items n) (lists.yield_expr l.reads n)
 unfolding words.yield_expr lists.yield_expr
@@ -371,15 +378,6 @@ yield_prints l n =
 await_prints : {X : Type 0} (l : Linked X) (n : AwaitExpr X) → Prints l.env (words.await_expr l.items n) (lists.await_expr l.reads n)
 unfolding words.await_expr lists.await_expr
 await_prints l n = after (writes_opened l.env n.span) (then (prints_keyword l.env None (codes "await") await_is_word) (after (writes_space l.env) (expr_at l n.arg Plain)))
-
-spread_mark_prints : (env : Env) (spread : Option Span) → Prints env (words.spread_mark spread) (lists.spread_mark spread)
-unfolding words.spread_mark lists.spread_mark
-spread_mark_prints env None = prints_nothing
-spread_mark_prints env (Some dots) = prints_punct env (codes "...") ellipsis_is_mark
-
-pub expr_or_spread_prints : {X : Type 0} (l : Linked X) (n : ExprOrSpread X) → Prints l.env (words.expr_or_spread l.asks l.items n) (lists.expr_or_spread l.reads n)
-unfolding words.expr_or_spread lists.expr_or_spread
-expr_or_spread_prints l n = after (writes_leading l.env (expr_or_spread_span (place_of l.asks) n).lo) (then (spread_mark_prints l.env n.spread) (expr_at l n.expr Plain))
 
 pub spread_element_prints : {X : Type 0} (l : Linked X) (n : SpreadElement X) → Prints l.env (words.spread_element l.asks l.items n) (lists.spread_element l.reads n)
 unfolding words.spread_element lists.spread_element
@@ -415,11 +413,12 @@ lit_prints env (lits.Num n) (DottedObject prop) = prints_number_object env n pro
 lit_prints env (lits.JSXText n) place = prints_never
 lit_prints env n place = prints_lit env n
 
-parts_print : {X : Type 0} (l : Linked X) (n : Expr X) (place : Place) → Prints l.env (words.expr_parts l.asks l.items n place) (lists.expr l.reads n)
-unfolding words.expr_parts lists.expr
+parts_print : {X : Type 0} (l : Linked X) (n : Expr X) (place : Place) → Prints l.env (words.expr_parts l.asks l.items n place) (lists.expr_in l.reads (calls.keeps_arguments place) n)
+unfolding words.expr_parts lists.expr lists.expr_in
 parts_print l (exprs.This n) place = this_prints l.env n
 parts_print l (exprs.Object n) place = l.law n.node.value Plain ObjectLiteral
 parts_print l (exprs.Fn n) place = fn_expr_prints l n
+parts_print l (exprs.Array n) place = array_lit_prints l n
 parts_print l (exprs.Unary n) place = unary_prints l n
 parts_print l (exprs.Update n) place = update_prints l n
 parts_print l (exprs.Bin n) place = bin_prints l n place
@@ -427,6 +426,8 @@ parts_print l (exprs.Assign n) place = assign_prints l n
 parts_print l (exprs.Member n) place = l.law n.node.value Plain MemberExpression
 parts_print l (exprs.SuperProp n) place = super_prop_expr_prints l n
 parts_print l (exprs.Cond n) place = cond_prints l n
+parts_print l (exprs.Call n) place = call_prints l n
+parts_print l (exprs.New n) place = new_prints l (calls.keeps_arguments place) n
 parts_print l (exprs.Seq n) place = seq_prints l n
 parts_print l (exprs.Ident n) place = ident_prints l n
 parts_print l (exprs.Lit n) place = lit_prints l.env n place
@@ -439,6 +440,22 @@ parts_print l (exprs.OptChain n) place = opt_chain_prints l n
 parts_print l n place = prints_never
 
 -- the comments after it
-pub expr_prints : {X : Type 0} (l : Linked X) (n : Expr X) (place : Place) → Prints l.env (words.expr l.asks l.items n place) (lists.expr l.reads n)
+expr_prints : {X : Type 0} (l : Linked X) (n : Expr X) (place : Place) → Prints l.env (words.expr l.asks l.items n place) (lists.expr_in l.reads (calls.keeps_arguments place) n)
 unfolding words.expr
 expr_prints l n place = before (parts_print l n place) (writes_closed l.env (words.leaves_comments n place) (expr_span (place_of l.asks) n))
+
+-- where it is no callee, and where it is one
+plain_same : {X : Type 0} (f : X → Role → Phrase) (n : Expr X) → lists.expr_in f false n ≡ lists.expr f n
+unfolding lists.expr_in lists.expr
+plain_same f (exprs.New n) = refl
+plain_same f n = refl
+
+pub plain_expr_prints : {X : Type 0} (l : Linked X) (n : Expr X) (place : Place) → calls.keeps_arguments place ≡ false → Prints l.env (words.expr l.asks l.items n place) (lists.expr l.reads n)
+plain_expr_prints l n place h =
+    let P : Phrase → Type 0 = λ f. Prints l.env (words.expr l.asks l.items n place) f in
+    subst P (ap (λ b. lists.expr_in l.reads b n) h ∙ plain_same l.reads n) (expr_prints l n place)
+
+pub callee_expr_prints : {X : Type 0} (l : Linked X) (n : Expr X) (place : Place) → calls.keeps_arguments place ≡ true → Prints l.env (words.expr l.asks l.items n place) (lists.expr_in l.reads true n)
+callee_expr_prints l n place h =
+    let P : Phrase → Type 0 = λ f. Prints l.env (words.expr l.asks l.items n place) f in
+    subst P (ap (λ b. lists.expr_in l.reads b n) h) (expr_prints l n place)

@@ -13,6 +13,9 @@ use Rattle.swc_ecma_codegen_tree.specs.declared.links.AnyNode.TheFolds.{claims}
 use Rattle.swc_ecma_codegen_tree.specs.declared.expr_links.ExprBox.{ExprBox}
 use Rattle.swc_ecma_codegen_tree.specs.declared.exprs.Expr.{Expr}
 use Rattle.swc_ecma_codegen_tree.specs.declared.exprs.Expr.TheVariants as exprs
+use Rattle.swc_ecma_codegen_tree.specs.declared.exprs.Callee.{Callee}
+use Rattle.swc_ecma_codegen_tree.specs.declared.exprs.Callee.TheVariants as callees
+use Rattle.swc_ecma_codegen_tree.specs.declared.exprs.NewExpr.{NewExpr}
 use Rattle.swc_ecma_codegen_tree.specs.declared.exprs.OptChainBase.{OptChainBase}
 use Rattle.swc_ecma_codegen_tree.specs.declared.exprs.OptChainBase.TheVariants as chain_bases
 use Rattle.swc_ecma_codegen_tree.specs.declared.exprs.MetaPropKind.{MetaPropKind}
@@ -48,11 +51,12 @@ use Rattle.swc_ecma_codegen_ast.specs.Phrases.{Phrase, Never, Nothing, One, Name
 use Rattle.swc_ecma_codegen_ast.specs.Phrases as phrases
 use Rattle.swc_ecma_codegen_ast.specs.Settings.{Settings}
 use Rattle.swc_ecma_codegen_ast.specs.declared.roles.Role.{Role}
-use Rattle.swc_ecma_codegen_ast.specs.declared.roles.Role.TheVariants.{Expression, Statement, MemberExpression, ChainMember, AssignmentTarget, Pattern, PlainParameter, PropertyName, PropertyDefinition, ObjectLiteral, Function, FunctionHead, MethodHead, Block}
+use Rattle.swc_ecma_codegen_ast.specs.declared.roles.Role.TheVariants.{Expression, Statement, MemberExpression, ChainMember, AssignmentTarget, Pattern, PlainParameter, PropertyName, PropertyDefinition, ObjectLiteral, Function, FunctionHead, MethodHead, Block, Callee as IsCallee, ChainCall}
 use Rattle.swc_ecma_codegen_ast.specs.NamePhrases as names
 use Rattle.swc_ecma_codegen_ast.specs.ExprPhrases as lists
 use Rattle.swc_ecma_codegen_ast.specs.LitPhrases as lit_lists
 use Rattle.swc_ecma_codegen_ast.specs.AssignPhrases as target_lists
+use Rattle.swc_ecma_codegen_ast.specs.CallPhrases as call_lists
 use Rattle.swc_ecma_codegen_ast.specs.PartPhrases as part_lists
 use Rattle.swc_ecma_codegen_ast.specs.FunctionPhrases as function_lists
 use Rattle.swc_ecma_codegen_ast.specs.PatPhrases as pat_lists
@@ -60,7 +64,7 @@ use Rattle.swc_ecma_codegen_ast.specs.PropPhrases as prop_lists
 use Rattle.swc_ecma_codegen_ast.specs.StmtPhrases as stmt_lists
 use Rattle.swc_ecma_codegen_ast.specs.TreePhrases.{node_phrase, phrase, expr_phrase}
 use Rattle.swc_ecma_codegen_ast.proofs.TreeLaws.{phrase_of}
-use Rattle.swc_ecma_codegen_util.specs.Starts.{is_word_op, lit_starts, update_starts, first_starts, only_starts, arrow_starts, chain_starts, expr_starts, prop_name_starts, pat_starts, stmt_part_starts, simple_target_starts, target_starts, expr_part_starts, stmt_starts, node_starts, any_starts}
+use Rattle.swc_ecma_codegen_util.specs.Starts.{is_word_op, lit_starts, update_starts, first_starts, only_starts, arrow_starts, chain_starts, expr_starts, prop_name_starts, pat_starts, stmt_part_starts, simple_target_starts, target_starts, expr_part_starts, stmt_starts, node_starts, any_starts, callee_starts}
 use Rattle.swc_ecma_codegen_util.proofs.Begins.{starts_of}
 use Rattle.swc_ecma_codegen.specs.FirstTokens.{joins_a_word}
 
@@ -211,7 +215,21 @@ meta_prop_begins meta_props.ImportMeta = begins_then _ _ _ (begins_true _)
 chain_begins : {X : Type 0} (reads : X → Role → Phrase) (starts : X → Bool) → Begin reads starts → (optional : Bool) (n : OptChainBase X) → Begins (lists.chain_base reads optional n) (chain_starts starts n)
 unfolding lists.chain_base chain_starts
 chain_begins reads starts law optional (chain_bases.Member n) = law n.node.value (ChainMember optional) refl
-chain_begins reads starts law optional (chain_bases.Call n) = begins_never _
+chain_begins reads starts law optional (chain_bases.Call n) = law n.node.value (ChainCall optional) refl
+
+unless_begins : (typed : Bool) (f : Phrase) (b : Bool) → Begins f b → Begins (cond typed Never f) b
+unless_begins true f b h = begins_never b
+unless_begins false f b h = h
+
+callee_begins : {X : Type 0} (reads : X → Role → Phrase) (starts : X → Bool) → Begin reads starts → (n : Callee X) → Begins (call_lists.callee reads n) (callee_starts starts n)
+unfolding call_lists.callee call_lists.import_callee callee_starts
+callee_begins reads starts law (callees.Super n) = begins_true _
+callee_begins reads starts law (callees.Import n) = begins_then _ _ _ (begins_true _)
+callee_begins reads starts law (callees.Expr n) = law n.node.value IsCallee refl
+
+new_begins : {X : Type 0} (reads : X → Role → Phrase) (keeps : Bool) (n : NewExpr X) → Begins (call_lists.new_expr reads keeps n) true
+unfolding call_lists.new_expr
+new_begins reads keeps n = unless_begins (is_some n.type_args) _ true (begins_then _ _ _ (begins_true _))
 
 -- ---- functions
 
@@ -263,10 +281,11 @@ arrow_begins reads starts law false false true ns rest = begins_behind _ _ (begi
 arrow_begins reads starts law false false false ns rest = begins_behind _ _ (begins_behind _ _ (params_begin reads starts law ns rest))
 
 expr_begins : {X : Type 0} (reads : X → Role → Phrase) (starts : X → Bool) → Begin reads starts → (n : Expr X) → Begins (lists.expr reads n) (expr_starts starts n)
-unfolding expr_starts update_starts arrow_starts function_lists.fn_expr function_lists.arrow_expr lists.expr lists.this_expr lists.unary_expr lists.update_expr lists.update_op lists.bin_expr lists.assign_expr lists.super_prop_expr lists.yield_expr lists.meta_prop_expr lists.await_expr lists.opt_chain_expr lists.cond_expr lists.seq_expr lists.paren_expr names.ident
+unfolding expr_starts update_starts arrow_starts function_lists.fn_expr function_lists.arrow_expr lists.expr lists.this_expr lists.unary_expr lists.update_expr lists.update_op lists.bin_expr lists.assign_expr lists.super_prop_expr lists.yield_expr lists.meta_prop_expr lists.await_expr lists.opt_chain_expr lists.cond_expr lists.seq_expr lists.paren_expr names.ident call_lists.array_lit call_lists.call_expr
 expr_begins reads starts law (exprs.This n) = begins_true _
 expr_begins reads starts law (exprs.Object n) = law n.node.value ObjectLiteral refl
 expr_begins reads starts law (exprs.Fn n) = begins_then _ _ _ (law n.function.node.value FunctionHead refl)
+expr_begins reads starts law (exprs.Array n) = begins_then _ _ _ (begins_mark _ false)
 expr_begins reads starts law (exprs.Unary n) = begins_then _ _ _ (begins_unary n.op)
 expr_begins reads starts law (exprs.Update n) = begins_update n.prefix (update_text n.op) _ _ (law n.arg.node.value Expression refl)
 expr_begins reads starts law (exprs.Bin n) = begins_then _ _ _ (law n.left.node.value Expression refl)
@@ -274,6 +293,8 @@ expr_begins reads starts law (exprs.Assign n) = begins_then _ _ _ (law n.left.no
 expr_begins reads starts law (exprs.Member n) = law n.node.value MemberExpression refl
 expr_begins reads starts law (exprs.SuperProp n) = begins_then _ _ _ (begins_true _)
 expr_begins reads starts law (exprs.Cond n) = begins_then _ _ _ (law n.test.node.value Expression refl)
+expr_begins reads starts law (exprs.Call n) = unless_begins (is_some n.type_args) _ _ (begins_then _ _ _ (callee_begins reads starts law n.callee))
+expr_begins reads starts law (exprs.New n) = new_begins reads false n
 expr_begins reads starts law (exprs.Seq n) = seq_begins reads starts law n.exprs.items
 expr_begins reads starts law (exprs.Ident n) = begins_then _ _ _ (begins_name _ _)
 expr_begins reads starts law (exprs.Lit n) = begins_lit n
@@ -284,6 +305,11 @@ expr_begins reads starts law (exprs.Await n) = begins_then _ _ _ (begins_true _)
 expr_begins reads starts law (exprs.Paren n) = begins_then _ _ _ (begins_mark _ false)
 expr_begins reads starts law (exprs.OptChain n) = chain_begins reads starts law n.optional n.base
 expr_begins reads starts law n = begins_never _
+
+callee_expr_begins : {X : Type 0} (reads : X → Role → Phrase) (starts : X → Bool) → Begin reads starts → (n : Expr X) → Begins (lists.expr_in reads true n) (expr_starts starts n)
+unfolding lists.expr_in expr_starts
+callee_expr_begins reads starts law (exprs.New n) = new_begins reads true n
+callee_expr_begins reads starts law n = expr_begins reads starts law n
 
 stmt_begins : {X : Type 0} (reads : X → Role → Phrase) (starts : X → Bool) → Begin reads starts → (n : Stmt X) → Begins (stmt_lists.stmt reads n) (stmt_starts starts n)
 unfolding stmt_starts stmt_lists.stmt stmt_lists.empty_stmt stmt_lists.expr_stmt
@@ -331,13 +357,9 @@ pat_begins reads starts law (pats.Assign n) = begins_then _ _ _ (law n.left.node
 pat_begins reads starts law (pats.Invalid n) = begins_never _
 pat_begins reads starts law (pats.Expr n) = law n.node.value Expression refl
 
-plain_begins : (optional : Bool) (f : Phrase) (b : Bool) → Begins f b → Begins (cond optional Never f) b
-plain_begins true f b h = begins_never b
-plain_begins false f b h = h
-
 plain_parameter_begins : {X : Type 0} (starts : X → Bool) (n : Pat X) → Begins (pat_lists.plain_parameter n) (pat_starts starts n)
 unfolding pat_starts pat_lists.plain_parameter pat_lists.plain_name names.binding_ident
-plain_parameter_begins starts (pats.Ident n) = plain_begins n.id.optional _ _ (binding_begins (is_some n.type_ann) n.id)
+plain_parameter_begins starts (pats.Ident n) = unless_begins n.id.optional _ _ (binding_begins (is_some n.type_ann) n.id)
 plain_parameter_begins starts n = begins_never _
 
 begins_key : (at : BytePos) (bytes : List ℕ) → Begins (KeyOf at bytes) true
@@ -353,12 +375,13 @@ prop_name_begins reads (prop_names.BigInt n) = begins_where _ _ _ (begins_signed
 prop_name_begins reads (prop_names.Computed n) = begins_then _ _ _ (begins_mark _ false)
 
 part_begins : {X : Type 0} (reads : X → Role → Phrase) (starts : X → Bool) → Begin reads starts → (n : ExprPart X) (role : Role) → leads role ≡ true → Begins (part_lists.expr_part reads n role) (begins_as role (expr_part_starts starts n))
-unfolding leads begins_as part_lists.expr_part expr_part_starts prop_lists.object_lit
+unfolding leads begins_as part_lists.expr_part expr_part_starts prop_lists.object_lit call_lists.chain_call
 part_begins reads starts law (expr_parts.Pat n) Pattern h = pat_begins reads starts law n
 part_begins reads starts law (expr_parts.Pat n) PlainParameter h = plain_parameter_begins starts n
 part_begins reads starts law (expr_parts.ObjectLit n) ObjectLiteral h = begins_then _ _ _ (begins_mark _ false)
 part_begins reads starts law (expr_parts.PropName n) PropertyName h = prop_name_begins reads n
 part_begins reads starts law (expr_parts.Prop n) PropertyDefinition h = absurd (true≢false (sym h))
+part_begins reads starts law (expr_parts.OptCall n) (ChainCall optional) h = unless_begins (is_some n.type_args) _ _ (begins_then _ _ _ (law n.callee.node.value IsCallee refl))
 part_begins reads starts law (expr_parts.AssignTarget n) AssignmentTarget h = target_begins reads starts law n
 part_begins reads starts law n role h = begins_never _
 
@@ -373,9 +396,10 @@ stmt_part_begins reads n role h = begins_never _
 node_begins : {X : Type 0} (reads : X → Role → Phrase) (starts : X → Bool) → Begin reads starts → (n : AnyNode-F X) (role : Role) → leads role ≡ true → Begins (node_phrase reads n role) (begins_as role (node_starts starts n))
 unfolding begins_as node_phrase node_starts lists.member_expr lists.chain_member
 node_begins reads starts law (nodes.Expr n) Expression h = expr_begins reads starts law n
+node_begins reads starts law (nodes.Expr n) IsCallee h = callee_expr_begins reads starts law n
 node_begins reads starts law (nodes.Stmt n) Statement h = stmt_begins reads starts law n
-node_begins reads starts law (nodes.MemberExpr n) MemberExpression h = begins_then _ _ _ (law n.obj.node.value Expression refl)
-node_begins reads starts law (nodes.MemberExpr n) (ChainMember optional) h = begins_then _ _ _ (law n.obj.node.value Expression refl)
+node_begins reads starts law (nodes.MemberExpr n) MemberExpression h = begins_then _ _ _ (law n.obj.node.value IsCallee refl)
+node_begins reads starts law (nodes.MemberExpr n) (ChainMember optional) h = begins_then _ _ _ (law n.obj.node.value IsCallee refl)
 node_begins reads starts law (nodes.ExprPart n) role h = part_begins reads starts law n role h
 node_begins reads starts law (nodes.StmtPart n) role h = stmt_part_begins reads n role h
 node_begins reads starts law n role h = begins_never _

@@ -48,6 +48,7 @@ use Rattle.swc_ecma_codegen.specs.Tree.{node_items, any_items}
 use Rattle.swc_ecma_codegen.proofs.FunctionKnots.{function_mapped, block_mapped, arrow_expr_mapped}
 use Rattle.swc_ecma_codegen.proofs.PatKnots.{pat_mapped, target_pat_mapped}
 use Rattle.swc_ecma_codegen.proofs.PropKnots.{prop_name_mapped, prop_mapped, object_lit_mapped}
+use Rattle.swc_ecma_codegen.proofs.CallKnots.{array_lit_mapped, call_mapped, new_mapped, chain_call_mapped}
 
 -- ---- a word sees what links hold through `asks` and `items` alone
 
@@ -86,6 +87,9 @@ yield_mapped g asks items n (Some x) place rest = refl
 expr_mapped : {X Y : Type 0} (g : X → Y) (asks : Y → Answers) (items : Y → Place → Part) (n : Expr X) (place : Place) (rest : Plan) → node_items asks items (map-AnyNode X Y g (nodes.Expr n)) place rest ≡ expr (λ x. asks (g x)) (λ x. items (g x)) n place rest
 unfolding node_items expr expr_parts expr_closed expr_span fn_expr_span leaves_comments unsupported refuse fn_expr optional_name this unary update update_parts bin bin_trailing assign meta_prop_expr await_expr choice seq paren ident
 expr_mapped {X} g asks items (exprs.Seq n) place rest = ap (opened n.span) (listed_mapped {A = ExprBox X} _ (held items) (held (λ x. items (g x))) (λ x. refl) true n.exprs.items (trailing_comments true n.span.hi rest))
+expr_mapped g asks items (exprs.Array n) place rest = array_lit_mapped g asks items n place rest
+expr_mapped g asks items (exprs.Call n) place rest = call_mapped g asks items n place rest
+expr_mapped g asks items (exprs.New n) place rest = new_mapped g asks items n place rest
 expr_mapped g asks items (exprs.SuperProp n) place rest = super_mapped g asks items n n.prop place rest
 expr_mapped g asks items (exprs.OptChain n) place rest = chain_mapped g asks items n n.base place rest
 expr_mapped g asks items (exprs.Yield n) place rest = yield_mapped g asks items n n.arg place rest
@@ -135,6 +139,7 @@ part_mapped g asks items (expr_parts.Pat n) place rest = pat_mapped g asks items
 part_mapped g asks items (expr_parts.ObjectLit n) place rest = object_lit_mapped g asks items n place rest
 part_mapped g asks items (expr_parts.PropName n) place rest = prop_name_mapped g asks items n place rest
 part_mapped g asks items (expr_parts.Prop n) place rest = prop_mapped g asks items n place rest
+part_mapped g asks items (expr_parts.OptCall n) place rest = chain_call_mapped g asks items n place rest
 part_mapped g asks items (expr_parts.AssignTarget n) place rest = target_mapped g asks items n place rest
 part_mapped g asks items n place rest = refl
 

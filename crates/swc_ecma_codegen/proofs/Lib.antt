@@ -12,6 +12,8 @@ pub mod ListParts
 pub mod MarkWords
 pub mod Impossible
 pub mod FunctionParts
+pub mod CallKnots
+pub mod CallParts
 pub mod ExprParts
 pub mod NameParts
 pub mod PatParts

@@ -27,7 +27,7 @@ pub record Linked (X : Type 0) : Type 0 where
   pub plain : (x : X) → reads x PlainParameter ≡ cond (is_plain (asks x).pattern) (reads x Pattern) Never
   pub law : (x : X) (place : Place) (role : Role) → Prints env (items x (placed role place)) (reads x role)
 
-pub expr_at : {X : Type 0} (l : Linked X) (n : ExprBox X) (place : Place) → Prints l.env (l.items n.node.value place) (l.reads n.node.value Expression)
+pub expr_at : {X : Type 0} (l : Linked X) (n : ExprBox X) (place : Place) → Prints l.env (l.items n.node.value (placed Expression place)) (l.reads n.node.value Expression)
 expr_at l n place = l.law n.node.value place Expression
 
 pub stmt_at : {X : Type 0} (l : Linked X) (n : StmtBox X) → Prints l.env (l.items n.node.value Plain) (l.reads n.node.value Statement)

@@ -4,7 +4,7 @@ use Rattle.swc_ecma_codegen_tree.specs.declared.parts.ExprPart.TheVariants as ex
 use Rattle.swc_ecma_codegen_tree.specs.declared.parts.StmtPart.{StmtPart}
 use Rattle.swc_ecma_codegen_tree.specs.declared.parts.StmtPart.TheVariants as stmt_parts
 use Rattle.swc_ecma_codegen_ast.specs.declared.roles.Role.{Role}
-use Rattle.swc_ecma_codegen_ast.specs.declared.roles.Role.TheVariants.{AssignmentTarget, Pattern, PlainParameter, PropertyName, PropertyDefinition, ObjectLiteral, Function, FunctionHead, MethodHead, Block}
+use Rattle.swc_ecma_codegen_ast.specs.declared.roles.Role.TheVariants.{AssignmentTarget, Pattern, PlainParameter, PropertyName, PropertyDefinition, ObjectLiteral, Function, FunctionHead, MethodHead, Block, ChainCall}
 use Rattle.swc_ecma_codegen_ast.specs.PartPhrases as lists
 use Rattle.swc_ecma_codegen_base.proofs.Phrased.{Prints, prints_never}
 use Rattle.swc_ecma_codegen.specs.declared.nodes.Place.{Place}
@@ -16,6 +16,7 @@ use Rattle.swc_ecma_codegen.proofs.FunctionParts.{fn_trailing_prints, function_h
 use Rattle.swc_ecma_codegen.proofs.Linked.{Linked}
 use Rattle.swc_ecma_codegen.proofs.PatParts.{pat_prints, plain_prints}
 use Rattle.swc_ecma_codegen.proofs.PropParts.{object_lit_prints, prop_name_prints, prop_prints}
+use Rattle.swc_ecma_codegen.proofs.CallParts.{chain_call_prints}
 use Rattle.swc_ecma_codegen.proofs.TargetParts.{assign_target_prints}
 
 pub part_prints : {X : Type 0} (l : Linked X) (n : ExprPart X) (place : Place) (role : Role) → Prints l.env (words.expr_part l.asks l.items n (placed role place)) (lists.expr_part l.reads n role)
@@ -25,6 +26,7 @@ part_prints l (expr_parts.Pat n) place PlainParameter = plain_prints l n
 part_prints l (expr_parts.ObjectLit n) place ObjectLiteral = object_lit_prints l n
 part_prints l (expr_parts.PropName n) place PropertyName = prop_name_prints l n
 part_prints l (expr_parts.Prop n) place PropertyDefinition = prop_prints l n
+part_prints l (expr_parts.OptCall n) place (ChainCall optional) = chain_call_prints l optional n
 part_prints l (expr_parts.AssignTarget n) place AssignmentTarget = assign_target_prints l n
 part_prints l n place role = prints_never
 

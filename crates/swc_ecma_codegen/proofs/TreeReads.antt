@@ -33,13 +33,13 @@ use Rattle.swc_ecma_codegen.specs.declared.nodes.Place.TheVariants.{Plain}
 use Rattle.swc_ecma_codegen.specs.Programs as programs
 use Rattle.swc_ecma_codegen.specs.Tree.{any_items}
 use Rattle.swc_ecma_codegen.specs.Roots.{Root, OfExpr, OfStmt, OfScript, OfProgram, OfLink, root_items, root_phrase, is_well_formed_root}
-use Rattle.swc_ecma_codegen.proofs.ExprParts.{expr_prints}
+use Rattle.swc_ecma_codegen.proofs.ExprParts.{plain_expr_prints}
 use Rattle.swc_ecma_codegen.proofs.StmtParts.{stmt_prints, script_prints, program_prints}
 use Rattle.swc_ecma_codegen.proofs.TreeLaw.{prints, known}
 
 pub root_prints : (env : Env) → env.keeps_invalid ≡ false → (n : Root) → Prints env (root_items n) (root_phrase n)
 unfolding stmt_lists.program
-root_prints env e (OfExpr n) = expr_prints (known env e) n Plain
+root_prints env e (OfExpr n) = plain_expr_prints (known env e) n Plain refl
 root_prints env e (OfStmt n) = stmt_prints (known env e) n
 root_prints env e (OfScript n) = script_prints (known env e) n
 root_prints env e (OfProgram n) = program_prints (known env e) n

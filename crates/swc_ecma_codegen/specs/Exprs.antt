@@ -17,7 +17,6 @@ use Rattle.swc_ecma_codegen_tree.specs.declared.exprs.MemberProp.{MemberProp}
 use Rattle.swc_ecma_codegen_tree.specs.declared.exprs.MemberProp.TheVariants as member_props
 use Rattle.swc_ecma_codegen_tree.specs.declared.exprs.ComputedPropName.{ComputedPropName}
 use Rattle.swc_ecma_codegen_tree.specs.declared.exprs.AssignExpr.{AssignExpr}
-use Rattle.swc_ecma_codegen_tree.specs.declared.exprs.Super.{Super}
 use Rattle.swc_ecma_codegen_tree.specs.declared.exprs.SuperPropExpr.{SuperPropExpr}
 use Rattle.swc_ecma_codegen_tree.specs.declared.exprs.SuperProp.{SuperProp}
 use Rattle.swc_ecma_codegen_tree.specs.declared.exprs.SuperProp.TheVariants as super_props
@@ -29,7 +28,6 @@ use Rattle.swc_ecma_codegen_tree.specs.declared.exprs.MetaPropKind.{MetaPropKind
 use Rattle.swc_ecma_codegen_tree.specs.declared.exprs.MetaPropKind.TheVariants as meta_props
 use Rattle.swc_ecma_codegen_tree.specs.declared.exprs.YieldExpr.{YieldExpr}
 use Rattle.swc_ecma_codegen_tree.specs.declared.exprs.AwaitExpr.{AwaitExpr}
-use Rattle.swc_ecma_codegen_tree.specs.declared.exprs.ExprOrSpread.{ExprOrSpread}
 use Rattle.swc_ecma_codegen_tree.specs.declared.exprs.SpreadElement.{SpreadElement}
 use Rattle.swc_ecma_codegen_tree.specs.declared.exprs.CondExpr.{CondExpr}
 use Rattle.swc_ecma_codegen_tree.specs.declared.exprs.SeqExpr.{SeqExpr}
@@ -37,15 +35,16 @@ use Rattle.swc_ecma_codegen_tree.specs.declared.exprs.ParenExpr.{ParenExpr}
 use Rattle.swc_ecma_codegen_tree.specs.declared.exprs.Expr.{Expr}
 use Rattle.swc_ecma_codegen_tree.specs.declared.exprs.Expr.TheVariants as exprs
 use Rattle.swc_ecma_codegen_common.specs.Operators.{assign_text, unary_text, binary_text, update_text}
-use Rattle.swc_ecma_codegen_spans.specs.Spans.{expr_span, expr_or_spread_span, spread_element_span}
+use Rattle.swc_ecma_codegen_spans.specs.Spans.{expr_span, spread_element_span}
 use Rattle.swc_ecma_codegen_util.specs.Starts as starts
 use Rattle.swc_ecma_codegen_base.specs.Run.{Part}
 use Rattle.swc_ecma_codegen_base.specs.Words.{keyword, operator, word_operator, punct, space, formatting_space, commit_pending_semi, start_of, end_of, last_of, leading_comments, trailing_comments, name}
 use Rattle.swc_ecma_codegen.specs.declared.nodes.Place.{Place}
-use Rattle.swc_ecma_codegen.specs.declared.nodes.Place.TheVariants.{Plain, LeftOperand, Object, DottedObject, Chain}
+use Rattle.swc_ecma_codegen.specs.declared.nodes.Place.TheVariants.{Plain, LeftOperand, Object, DottedObject, Callee, Chain}
 use Rattle.swc_ecma_codegen.specs.Answers.{Answers, place_of}
 use Rattle.swc_ecma_codegen.specs.Operands.{is_word_op, space_after, operand_space}
 use Rattle.swc_ecma_codegen.specs.Functions.{fn_expr, arrow_expr}
+use Rattle.swc_ecma_codegen.specs.Calls.{super_keyword, array_lit, call_expr, keeps_arguments, new_expr}
 use Rattle.swc_ecma_codegen.specs.Lists.{listed, unsupported}
 use Rattle.swc_ecma_codegen.specs.Lits.{lit_at, is_number_object}
 
@@ -140,10 +139,6 @@ object_place (member_props.Computed n) = Object
 unfoldable pub member : {X : Type 0} → (X → Place → Part) → MemberExpr X → Part
 member items n rest = opened n.span (items n.obj.node.value (object_place n.prop) (member_prop items n.prop (end_of n.span rest)))
 
--- `super` of `super.a`
-unfoldable pub super_keyword : Super → Part
-super_keyword n rest = keyword (Some n.span) (codes "super") rest
-
 -- `.a`, `[a]`
 unfoldable pub super_prop : {X : Type 0} → (X → Place → Part) → SuperProp X → Part
 super_prop items (super_props.Ident n) rest = comments_before n.span.lo (punct (codes ".") (ident_name n rest))
@@ -165,17 +160,16 @@ chain_prop items n rest = unsupported rest
 
 -- A member of an optional chain has neither comments nor positions of its own.
 unfoldable pub chain_member : {X : Type 0} → (X → Place → Part) → Bool → MemberExpr X → Part
-chain_member items optional n rest = items n.obj.node.value Plain (chain_mark optional n.prop (chain_prop items n.prop rest))
+chain_member items optional n rest = items n.obj.node.value Callee (chain_mark optional n.prop (chain_prop items n.prop rest))
 
 -- a member where it stands
 unfoldable pub member_at : {X : Type 0} → (X → Place → Part) → MemberExpr X → Place → Part
 member_at items n (Chain optional) rest = chain_member items optional n rest
 member_at items n place rest = member items n rest
 
--- a call in an optional chain isn't printed yet
 unfoldable pub chain_base : {X : Type 0} → (X → Place → Part) → Bool → OptChainBase X → Part
 chain_base items optional (chain_bases.Member n) rest = items n.node.value (Chain optional) rest
-chain_base items optional n rest = unsupported rest
+chain_base items optional (chain_bases.Call n) rest = items n.node.value (Chain optional) rest
 
 unfoldable pub opt_chain : {X : Type 0} → (X → Place → Part) → OptChainExpr X → Part
 opt_chain items n rest = leading_comments n.span.lo (chain_base items n.optional n.base rest)
@@ -206,15 +200,6 @@ yield_arg asks items delegate (Some n) rest = blank (if delegate then false else
 
 unfoldable pub yield_expr : {X : Type 0} → (X → Answers) → (X → Place → Part) → YieldExpr X → Part
 yield_expr asks items n rest = opened n.span (keyword None (codes "yield") (yield_star n.delegate (yield_arg asks items n.delegate n.arg rest)))
-
--- `...` of `...a`
-unfoldable pub spread_mark : Option Span → Part
-spread_mark None rest = rest
-spread_mark (Some dots) rest = punct (codes "...") rest
-
--- `a` or `...a` of `f(a, ...a)`
-unfoldable pub expr_or_spread : {X : Type 0} → (X → Answers) → (X → Place → Part) → ExprOrSpread X → Part
-expr_or_spread asks items n rest = leading_comments (expr_or_spread_span (place_of asks) n).lo (spread_mark n.spread (items n.expr.node.value Plain rest))
 
 -- `...a` of `{ ...a }`
 unfoldable pub spread_element : {X : Type 0} → (X → Answers) → (X → Place → Part) → SpreadElement X → Part
@@ -247,6 +232,7 @@ unfoldable pub expr_parts : {X : Type 0} → (X → Answers) → (X → Place �
 expr_parts asks items (exprs.This n) place rest = this n rest
 expr_parts asks items (exprs.Object n) place rest = items n.node.value Plain rest
 expr_parts asks items (exprs.Fn n) place rest = fn_expr asks items n rest
+expr_parts asks items (exprs.Array n) place rest = array_lit asks items n rest
 expr_parts asks items (exprs.Unary n) place rest = unary asks items n rest
 expr_parts asks items (exprs.Update n) place rest = update items n rest
 expr_parts asks items (exprs.Bin n) place rest = bin asks items n place rest
@@ -254,6 +240,8 @@ expr_parts asks items (exprs.Assign n) place rest = assign items n rest
 expr_parts asks items (exprs.Member n) place rest = items n.node.value Plain rest
 expr_parts asks items (exprs.SuperProp n) place rest = super_prop_expr items n rest
 expr_parts asks items (exprs.Cond n) place rest = choice items n rest
+expr_parts asks items (exprs.Call n) place rest = call_expr asks items n rest
+expr_parts asks items (exprs.New n) place rest = new_expr asks items (keeps_arguments place) n rest
 expr_parts asks items (exprs.Seq n) place rest = seq items n rest
 expr_parts asks items (exprs.Ident n) place rest = ident n rest
 expr_parts asks items (exprs.Lit n) place rest = lit_at n place rest

@@ -6,8 +6,8 @@ use Rattle.swc_ecma_codegen.specs.declared.nodes.Place.TheVariants.{Plain}
 use Rattle.swc_ecma_codegen.specs.Places.{placed}
 use Rattle.swc_ecma_codegen.specs.Roots.{Root, OfExpr, OfStmt, OfScript, OfProgram, OfLink}
 
--- It is this expression, this statement, or this node in any role that it has by itself, as a member of an optional chain has
--- not; no link holds a program.
+-- It is this expression, this statement, or this node in any role that it has by itself, as a callee and a member of an
+-- optional chain have not; no link holds a program.
 abbrev pub IsHeld : AnyNode → Root → Type 0
 IsHeld n (OfExpr e) = n ≡ nodes.Expr e
 IsHeld n (OfStmt s) = n ≡ nodes.Stmt s

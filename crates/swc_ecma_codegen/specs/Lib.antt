@@ -6,6 +6,7 @@ pub mod Lists
 pub mod Lits
 pub mod Places
 pub mod Functions
+pub mod Calls
 pub mod Exprs
 pub mod Names
 pub mod Pats

@@ -8,6 +8,7 @@ use Rattle.swc_ecma_codegen.specs.declared.nodes.Place.{Place}
 use Rattle.swc_ecma_codegen.specs.Answers.{Answers}
 use Rattle.swc_ecma_codegen.specs.Blocks.{block_stmt}
 use Rattle.swc_ecma_codegen.specs.Functions.{function}
+use Rattle.swc_ecma_codegen.specs.Calls.{chain_call, is_optional}
 use Rattle.swc_ecma_codegen.specs.Lists.{unsupported}
 use Rattle.swc_ecma_codegen.specs.Pats.{pat}
 use Rattle.swc_ecma_codegen.specs.Props.{object_lit, prop, prop_name}
@@ -19,6 +20,7 @@ expr_part asks items (expr_parts.ObjectLit n) place rest = object_lit asks items
 expr_part asks items (expr_parts.PropName n) place rest = prop_name items n rest
 expr_part asks items (expr_parts.Prop n) place rest = prop asks items n rest
 expr_part asks items (expr_parts.AssignTarget n) place rest = assign_target asks items n rest
+expr_part asks items (expr_parts.OptCall n) place rest = chain_call asks items (is_optional place) n rest
 expr_part asks items n place rest = unsupported rest
 
 unfoldable pub stmt_part : {X : Type 0} → (X → Answers) → (X → Place → Part) → StmtPart X → Place → Part

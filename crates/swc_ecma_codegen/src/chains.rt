@@ -2,7 +2,7 @@
 
 ghost use Rattle.std.specs.Prelude.{◌≡◌, OnOk};
 ghost use Rattle.swc_ecma_codegen_base.specs.Run.{Emits};
-ghost use Rattle.swc_ecma_codegen.specs.Exprs.{member, member_prop, member_at, object_place, chain_mark, chain_prop, chain_member, opt_chain, super_keyword, super_prop, super_prop_expr};
+ghost use Rattle.swc_ecma_codegen.specs.Exprs.{member, member_prop, member_at, object_place, chain_mark, chain_prop, chain_member, opt_chain, super_prop, super_prop_expr};
 ghost use Rattle.swc_ecma_codegen.specs.View.{state_of};
 
 use crate::emitter::Emitter;
@@ -13,7 +13,7 @@ use swc_ecma_codegen_common::Answer;
 use swc_ecma_codegen_literals::Punctuator;
 use swc_ecma_codegen_text_writer::WriteJs;
 use swc_ecma_codegen_tree::{
-    MemberExpr, MemberProp, OptChainBase, OptChainExpr, Super, SuperProp, SuperPropExpr,
+    MemberExpr, MemberProp, OptChainBase, OptChainExpr, SuperProp, SuperPropExpr,
 };
 
 /// The place of the object before a property.
@@ -40,7 +40,7 @@ impl<N: Held> EmitAt for OptChainExpr<N> {
         e.leading_comments(self.span.lo)?;
         match &self.base {
             OptChainBase::Member(node) => node.held().emit_at(e, Place::Chain(self.optional)),
-            OptChainBase::Call(_) => e.unsupported(),
+            OptChainBase::Call(node) => node.held().emit_at(e, Place::Chain(self.optional)),
         }
     }
 }
@@ -78,19 +78,6 @@ impl<N: Held> EmitAt for SuperPropExpr<N> {
         self.obj.emit_at(e, Place::Plain)?;
         e.super_prop(&self.prop)?;
         Ok(())
-    }
-}
-
-impl EmitAt for Super {
-    ghost items = { λ n _. super_keyword n };
-
-    #[tactic(auto, unfolding(crate::specs::Exprs::super_keyword))]
-    fn emit_at<W: WriteJs, S: SourceMapper, C: Comments>(
-        &self,
-        e: &mut Emitter<'_, W, S, C>,
-        place: Place,
-    ) -> Answer {
-        e.keyword(Some(self.span), "super")
     }
 }
 
@@ -134,7 +121,7 @@ impl<W: WriteJs, S: SourceMapper, C: Comments> Emitter<'_, W, S, C> {
         ensures items { Emits (chain_member N.items optional node.now) (state_of S.lines W.sheet self.old) (state_of S.lines W.sheet self.new) result }
         ensures level { OnOk result ((W.sheet self.new.wr).indentation ≡ (W.sheet self.old.wr).indentation) }
     {
-        node.obj.held().emit_at(self, Place::Plain)?;
+        node.obj.held().emit_at(self, Place::Callee)?;
         self.chain_mark(optional, &node.prop)?;
         self.chain_prop(&node.prop)?;
         Ok(())

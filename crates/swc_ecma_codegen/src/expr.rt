@@ -2,7 +2,7 @@
 
 ghost use Rattle.std.specs.Prelude.{◌≡◌, Some, None, OnOk};
 ghost use Rattle.swc_ecma_codegen_base.specs.Run.{Emits};
-ghost use Rattle.swc_ecma_codegen.specs.Exprs.{ident, ident_name, this, unary_op, unary_gap, unary, update_parts, update, binary_op, before_op, after_op, bin_trailing, bin_opened, bin, computed_prop_name, choice, meta_prop_expr, assign, yield_star, yield_arg, yield_expr, spread_mark, expr_or_spread, spread_element, await_expr, seq, paren, expr_parts, is_left_operand, leaves_comments, expr_closed, expr};
+ghost use Rattle.swc_ecma_codegen.specs.Exprs.{ident, ident_name, this, unary_op, unary_gap, unary, update_parts, update, binary_op, before_op, after_op, bin_trailing, bin_opened, bin, computed_prop_name, choice, meta_prop_expr, assign, yield_star, yield_arg, yield_expr, spread_element, await_expr, seq, paren, expr_parts, is_left_operand, leaves_comments, expr_closed, expr};
 ghost use Rattle.swc_ecma_codegen_util.specs.Starts.{is_word_op as is_word_unary};
 ghost use Rattle.swc_ecma_codegen.specs.View.{state_of};
 
@@ -11,15 +11,15 @@ use crate::lits::is_number_object;
 use crate::marks::{assign_mark, binary_mark, unary_mark, update_mark};
 use crate::nodes::{AskEnds, AskKind, AskSpace, AskStarts, Asked, EmitAt, Held, Place};
 use crate::operands::{is_word_op, operand_space, space_after};
-use crate::places::{expr_or_spread_place, expr_place, spread_element_place};
+use crate::places::{expr_place, spread_element_place};
 use swc_ecma_codegen_ast::comments::Comments;
 use swc_ecma_codegen_ast::mapper::SourceMapper;
 use swc_ecma_codegen_common::{Answer, BinaryOp, Span, UnaryOp};
 use swc_ecma_codegen_literals::Punctuator;
 use swc_ecma_codegen_text_writer::WriteJs;
 use swc_ecma_codegen_tree::{
-    AssignExpr, AwaitExpr, BinExpr, ComputedPropName, CondExpr, Expr, ExprBox, ExprOrSpread, Ident,
-    IdentName, MetaPropExpr, MetaPropKind, ParenExpr, SeqExpr, SpreadElement, ThisExpr, UnaryExpr,
+    AssignExpr, AwaitExpr, BinExpr, ComputedPropName, CondExpr, Expr, ExprBox, Ident, IdentName,
+    MetaPropExpr, MetaPropKind, ParenExpr, SeqExpr, SpreadElement, ThisExpr, UnaryExpr,
     UpdateExpr, YieldExpr,
 };
 
@@ -57,6 +57,7 @@ impl<N: Held> EmitAt for Expr<N> {
             Expr::This(node) => node.emit_at(e, place)?,
             Expr::Object(node) => node.held().emit_at(e, Place::Plain)?,
             Expr::Fn(node) => node.emit_at(e, place)?,
+            Expr::Array(node) => node.emit_at(e, place)?,
             Expr::Unary(node) => node.emit_at(e, place)?,
             Expr::Update(node) => node.emit_at(e, place)?,
             Expr::Bin(node) => node.emit_at(e, place)?,
@@ -64,6 +65,8 @@ impl<N: Held> EmitAt for Expr<N> {
             Expr::Member(node) => node.held().emit_at(e, Place::Plain)?,
             Expr::SuperProp(node) => node.emit_at(e, place)?,
             Expr::Cond(node) => node.emit_at(e, place)?,
+            Expr::Call(node) => node.emit_at(e, place)?,
+            Expr::New(node) => node.emit_at(e, place)?,
             Expr::Seq(node) => node.emit_at(e, place)?,
             Expr::Ident(node) => node.emit_at(e, place)?,
             Expr::Lit(node) => node.emit_at(e, place)?,
@@ -261,22 +264,6 @@ impl<N: Held> EmitAt for YieldExpr<N> {
     }
 }
 
-impl<N: Held> EmitAt for ExprOrSpread<N> {
-    ghost items = { λ n _. expr_or_spread N.answers N.items n };
-
-    #[tactic(auto, unfolding(crate::specs::Exprs::expr_or_spread))]
-    fn emit_at<W: WriteJs, S: SourceMapper, C: Comments>(
-        &self,
-        e: &mut Emitter<'_, W, S, C>,
-        place: Place,
-    ) -> Answer {
-        e.leading_comments(expr_or_spread_place(self).lo)?;
-        e.spread_mark(self.spread)?;
-        self.expr.held().emit_at(e, Place::Plain)?;
-        Ok(())
-    }
-}
-
 impl<N: Held> EmitAt for AwaitExpr<N> {
     ghost items = { λ n _. await_expr N.items n };
 
@@ -457,18 +444,6 @@ impl<W: WriteJs, S: SourceMapper, C: Comments> Emitter<'_, W, S, C> {
                 self.blank(!delegate && node.held().starts())?;
                 node.held().emit_at(self, Place::Plain)
             }
-            None => Ok(()),
-        }
-    }
-
-    /// Writes `...` before what is spread.
-    #[tactic(auto, unfolding(crate::specs::Exprs::spread_mark))]
-    fn spread_mark(&mut self, spread: Option<Span>) -> Answer
-        ensures items { Emits (spread_mark spread) (state_of S.lines W.sheet self.old) (state_of S.lines W.sheet self.new) result }
-        ensures level { OnOk result ((W.sheet self.new.wr).indentation ≡ (W.sheet self.old.wr).indentation) }
-    {
-        match spread {
-            Some(_) => self.punct(Punctuator::Ellipsis),
             None => Ok(()),
         }
     }

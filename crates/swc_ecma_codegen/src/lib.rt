@@ -3,6 +3,7 @@
 
 pub mod ast;
 mod blocks;
+mod calls;
 mod chains;
 mod code;
 mod emitter;

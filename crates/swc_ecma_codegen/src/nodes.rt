@@ -27,7 +27,9 @@ pub enum Place {
     Object,
     /// The object of a property after a dot, and where the property stands: `1` in `1..a`.
     DottedObject(BytePos),
-    /// A member in an optional chain, and whether `?.` stands before its property: `a?.b`
+    /// What is called: `f` of `f(a)`. The object of a property in an optional chain stands there too.
+    Callee,
+    /// A member or a call in an optional chain, and whether `?.` stands before its property or its arguments: `a?.b`
     Chain(bool),
     /// A block as the body of a function: `{ a; }` of `function f() { a; }`
     Body,

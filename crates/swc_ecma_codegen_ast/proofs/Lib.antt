@@ -11,6 +11,7 @@ pub mod Mapped
 pub mod MappedFunctions
 pub mod MappedPats
 pub mod MappedProps
+pub mod MappedCalls
 pub mod MarkMatch
 pub mod Marks
 pub mod NameShapes

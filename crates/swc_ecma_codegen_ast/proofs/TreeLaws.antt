@@ -33,8 +33,8 @@ use Rattle.swc_ecma_codegen_tree.specs.declared.stmts.Stmt.{Stmt}
 use Rattle.swc_ecma_codegen_tree.specs.declared.stmts.Stmt.TheVariants as stmts
 use Rattle.swc_ecma_codegen_ast.specs.Phrases.{Phrase, some_listed}
 use Rattle.swc_ecma_codegen_ast.specs.declared.roles.Role.{Role}
-use Rattle.swc_ecma_codegen_ast.specs.declared.roles.Role.TheVariants.{Expression, Statement, MemberExpression, ChainMember, AssignmentTarget, Pattern, PlainParameter, PropertyName, PropertyDefinition, ObjectLiteral, Function, Block}
-use Rattle.swc_ecma_codegen_ast.specs.ExprPhrases.{expr, expr_at, this_expr, unary_expr, update_expr, bin_expr, computed_prop_name, member_prop, member_expr, super_prop, super_prop_expr, chain_mark, chain_prop, chain_member, chain_base, opt_chain_expr, meta_prop_expr, assign_expr, yield_arg, yield_expr, await_expr, cond_expr, seq_expr, paren_expr}
+use Rattle.swc_ecma_codegen_ast.specs.declared.roles.Role.TheVariants.{Expression, Statement, MemberExpression, ChainMember, AssignmentTarget, Pattern, PlainParameter, PropertyName, PropertyDefinition, ObjectLiteral, Function, Block, Callee, ChainCall}
+use Rattle.swc_ecma_codegen_ast.specs.ExprPhrases.{expr, expr_at, this_expr, unary_expr, update_expr, bin_expr, computed_prop_name, member_prop, member_expr, super_prop, super_prop_expr, chain_mark, chain_prop, chain_member, chain_base, opt_chain_expr, meta_prop_expr, assign_expr, yield_arg, yield_expr, await_expr, cond_expr, seq_expr, paren_expr, expr_in}
 use Rattle.swc_ecma_codegen_ast.specs.NamePhrases.{binding_ident}
 use Rattle.swc_ecma_codegen_ast.specs.AssignPhrases.{assign_target, simple_assign_target}
 use Rattle.swc_ecma_codegen_ast.specs.PartPhrases.{expr_part, stmt_part}
@@ -45,6 +45,7 @@ use Rattle.swc_ecma_codegen_ast.proofs.Mapped.{list_mapped}
 use Rattle.swc_ecma_codegen_ast.proofs.MappedFunctions.{function_part_mapped, block_mapped, arrow_expr_mapped}
 use Rattle.swc_ecma_codegen_ast.proofs.MappedPats.{pat_mapped, plain_mapped, target_pat_mapped}
 use Rattle.swc_ecma_codegen_ast.proofs.MappedProps.{prop_name_mapped, prop_mapped, object_lit_mapped}
+use Rattle.swc_ecma_codegen_ast.proofs.MappedCalls.{array_lit_mapped, call_mapped, new_mapped, chain_call_mapped}
 
 -- ---- a production sees what links hold through f alone
 
@@ -64,13 +65,22 @@ yield_mapped g f n None = refl
 yield_mapped g f n (Some x) = refl
 
 expr_mapped : {X Y : Type 0} (g : X → Y) (f : Y → Role → Phrase) (n : Expr X) → node_phrase f (map-AnyNode X Y g (nodes.Expr n)) Expression ≡ expr (λ x. f (g x)) n
-unfolding node_phrase expr this_expr unary_expr update_expr bin_expr assign_expr meta_prop_expr await_expr cond_expr seq_expr paren_expr fn_expr
+unfolding node_phrase expr this_expr unary_expr update_expr bin_expr assign_expr meta_prop_expr await_expr cond_expr seq_expr paren_expr fn_expr expr_in
 expr_mapped {X} g f (exprs.Seq n) = ap (some_listed (codes ",")) (list_mapped {A = ExprBox X} _ (expr_at f) (expr_at (λ x. f (g x))) (λ x. refl) n.exprs.items)
 expr_mapped g f (exprs.SuperProp n) = super_mapped g f n n.prop
 expr_mapped g f (exprs.OptChain n) = chain_mapped g f n n.base
 expr_mapped g f (exprs.Yield n) = yield_mapped g f n n.arg
 expr_mapped g f (exprs.Arrow n) = arrow_expr_mapped g f n
+expr_mapped g f (exprs.Array n) = array_lit_mapped g f n
+expr_mapped g f (exprs.Call n) = call_mapped g f n
+expr_mapped g f (exprs.New n) = new_mapped g f false n
 expr_mapped g f n = refl
+
+-- a callee is another expression, but for `new A()`
+callee_mapped : {X Y : Type 0} (g : X → Y) (f : Y → Role → Phrase) (n : Expr X) → node_phrase f (map-AnyNode X Y g (nodes.Expr n)) Callee ≡ expr_in (λ x. f (g x)) true n
+unfolding node_phrase expr_in
+callee_mapped g f (exprs.New n) = new_mapped g f true n
+callee_mapped g f n = expr_mapped g f n
 
 stmt_mapped : {X Y : Type 0} (g : X → Y) (f : Y → Role → Phrase) (n : Stmt X) → node_phrase f (map-AnyNode X Y g (nodes.Stmt n)) Statement ≡ stmt (λ x. f (g x)) n
 unfolding node_phrase stmt empty_stmt expr_stmt
@@ -130,6 +140,7 @@ part_mapped g f (expr_parts.Pat n) PlainParameter = plain_mapped g f n
 part_mapped g f (expr_parts.ObjectLit n) ObjectLiteral = object_lit_mapped g f n
 part_mapped g f (expr_parts.PropName n) PropertyName = prop_name_mapped g f n
 part_mapped g f (expr_parts.Prop n) PropertyDefinition = prop_mapped g f n
+part_mapped g f (expr_parts.OptCall n) (ChainCall optional) = chain_call_mapped g f optional n
 part_mapped g f (expr_parts.AssignTarget n) AssignmentTarget = target_mapped g f n
 part_mapped g f n role = refl
 
@@ -142,6 +153,7 @@ stmt_part_mapped g f n role = refl
 node_mapped : {X Y : Type 0} (g : X → Y) (f : Y → Role → Phrase) (n : AnyNode-F X) (role : Role) → node_phrase f (map-AnyNode X Y g n) role ≡ node_phrase (λ x. f (g x)) n role
 unfolding node_phrase
 node_mapped g f (nodes.Expr n) Expression = expr_mapped g f n
+node_mapped g f (nodes.Expr n) Callee = callee_mapped g f n
 node_mapped g f (nodes.Stmt n) Statement = stmt_mapped g f n
 node_mapped g f (nodes.MemberExpr n) MemberExpression = member_mapped g f n.span n.obj n.prop
 node_mapped g f (nodes.MemberExpr n) (ChainMember optional) = chain_member_mapped g f n.span n.obj n.prop optional

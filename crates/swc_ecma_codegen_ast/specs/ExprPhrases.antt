@@ -31,17 +31,17 @@ use Rattle.swc_ecma_codegen_tree.specs.declared.exprs.MetaPropKind.{MetaPropKind
 use Rattle.swc_ecma_codegen_tree.specs.declared.exprs.MetaPropKind.TheVariants as meta_props
 use Rattle.swc_ecma_codegen_tree.specs.declared.exprs.YieldExpr.{YieldExpr}
 use Rattle.swc_ecma_codegen_tree.specs.declared.exprs.AwaitExpr.{AwaitExpr}
-use Rattle.swc_ecma_codegen_tree.specs.declared.exprs.ExprOrSpread.{ExprOrSpread}
 use Rattle.swc_ecma_codegen_tree.specs.declared.exprs.SpreadElement.{SpreadElement}
 use Rattle.swc_ecma_codegen_tree.specs.declared.exprs.CondExpr.{CondExpr}
 use Rattle.swc_ecma_codegen_tree.specs.declared.exprs.SeqExpr.{SeqExpr}
 use Rattle.swc_ecma_codegen_tree.specs.declared.exprs.ParenExpr.{ParenExpr}
-use Rattle.swc_ecma_codegen_ast.specs.Phrases.{Phrase, Never, Nothing, One, ◌>◌, word, mark, some_listed}
+use Rattle.swc_ecma_codegen_ast.specs.Phrases.{Phrase, Never, Nothing, One, OptionalParentheses, ◌>◌, word, mark, some_listed}
 use Rattle.swc_ecma_codegen_ast.specs.Tokens.{Token}
 use Rattle.swc_ecma_codegen_ast.specs.Tokens as tokens
 use Rattle.swc_ecma_codegen_ast.specs.declared.roles.Role.{Role}
-use Rattle.swc_ecma_codegen_ast.specs.declared.roles.Role.TheVariants.{Expression, MemberExpression, ChainMember, AssignmentTarget, ObjectLiteral}
+use Rattle.swc_ecma_codegen_ast.specs.declared.roles.Role.TheVariants.{Expression, MemberExpression, ChainMember, AssignmentTarget, ObjectLiteral, ChainCall}
 use Rattle.swc_ecma_codegen_ast.specs.FunctionPhrases.{fn_expr, arrow_expr}
+use Rattle.swc_ecma_codegen_ast.specs.CallPhrases.{callee_at, array_lit, call_expr, new_expr}
 use Rattle.swc_ecma_codegen_ast.specs.LitPhrases.{lit}
 use Rattle.swc_ecma_codegen_ast.specs.NamePhrases.{ident, ident_name}
 
@@ -90,7 +90,7 @@ member_prop f (member_props.Computed n) = computed_prop_name f n
 member_prop f n = Never
 
 unfoldable pub member_expr : {X : Type 0} → (X → Role → Phrase) → MemberExpr X → Phrase
-member_expr f n = expr_at f n.obj > member_prop f n.prop
+member_expr f n = callee_at f n.obj > member_prop f n.prop
 
 -- section 13.3.7: `super.a`, `super[a]`
 unfoldable pub super_prop : {X : Type 0} → (X → Role → Phrase) → SuperProp X → Phrase
@@ -99,14 +99,6 @@ super_prop f (super_props.Computed n) = computed_prop_name f n
 
 unfoldable pub super_prop_expr : {X : Type 0} → (X → Role → Phrase) → SuperPropExpr X → Phrase
 super_prop_expr f n = word (codes "super") > super_prop f n.prop
-
--- section 13.3.8: `...` of `...a`
-unfoldable pub spread_mark : Option Span → Phrase
-spread_mark None = Nothing
-spread_mark (Some dots) = mark (codes "...")
-
-unfoldable pub expr_or_spread : {X : Type 0} → (X → Role → Phrase) → ExprOrSpread X → Phrase
-expr_or_spread f n = spread_mark n.spread > expr_at f n.expr
 
 -- section 13.2.5
 unfoldable pub spread_element : {X : Type 0} → (X → Role → Phrase) → SpreadElement X → Phrase
@@ -124,12 +116,11 @@ chain_prop f (member_props.Computed n) = computed_prop_name f n
 chain_prop f n = Never
 
 unfoldable pub chain_member : {X : Type 0} → (X → Role → Phrase) → Bool → MemberExpr X → Phrase
-chain_member f optional n = expr_at f n.obj > chain_mark optional n.prop > chain_prop f n.prop
+chain_member f optional n = callee_at f n.obj > chain_mark optional n.prop > chain_prop f n.prop
 
--- a call, as `a?.(b)`, isn't printed yet
 unfoldable pub chain_base : {X : Type 0} → (X → Role → Phrase) → Bool → OptChainBase X → Phrase
 chain_base f optional (chain_bases.Member n) = f n.node.value (ChainMember optional)
-chain_base f optional n = Never
+chain_base f optional (chain_bases.Call n) = f n.node.value (ChainCall optional)
 
 unfoldable pub opt_chain_expr : {X : Type 0} → (X → Role → Phrase) → OptChainExpr X → Phrase
 opt_chain_expr f n = chain_base f n.optional n.base
@@ -149,10 +140,10 @@ assign_op op = tokens.punctuator (assign_text op)
 unfoldable pub assign_expr : {X : Type 0} → (X → Role → Phrase) → AssignExpr X → Phrase
 assign_expr f n = f n.left.node.value AssignmentTarget > One (assign_op n.op) > expr_at f n.right
 
--- section 15.5: `yield`, `yield a`, `yield* a`
+-- section 15.5: `yield`, `yield a`, `yield* a`; parentheses may stand round the argument
 unfoldable pub yield_arg : {X : Type 0} → (X → Role → Phrase) → Option (ExprBox X) → Phrase
 yield_arg f None = Nothing
-yield_arg f (Some arg) = expr_at f arg
+yield_arg f (Some arg) = OptionalParentheses (expr_at f arg)
 
 unfoldable pub yield_expr : {X : Type 0} → (X → Role → Phrase) → YieldExpr X → Phrase
 yield_expr f n = word (codes "yield") > (if n.delegate then mark (codes "*") else Nothing) > yield_arg f n.arg
@@ -177,6 +168,7 @@ unfoldable pub expr : {X : Type 0} → (X → Role → Phrase) → Expr X → Ph
 expr f (exprs.This n) = this_expr n
 expr f (exprs.Object n) = f n.node.value ObjectLiteral
 expr f (exprs.Fn n) = fn_expr f n
+expr f (exprs.Array n) = array_lit f n
 expr f (exprs.Unary n) = unary_expr f n
 expr f (exprs.Update n) = update_expr f n
 expr f (exprs.Bin n) = bin_expr f n
@@ -184,6 +176,8 @@ expr f (exprs.Assign n) = assign_expr f n
 expr f (exprs.Member n) = f n.node.value MemberExpression
 expr f (exprs.SuperProp n) = super_prop_expr f n
 expr f (exprs.Cond n) = cond_expr f n
+expr f (exprs.Call n) = call_expr f n
+expr f (exprs.New n) = new_expr f false n
 expr f (exprs.Seq n) = seq_expr f n
 expr f (exprs.Ident n) = ident n
 expr f (exprs.Lit n) = lit n
@@ -195,3 +189,8 @@ expr f (exprs.Paren n) = paren_expr f n
 expr f (exprs.OptChain n) = opt_chain_expr f n
 -- what isn't printed yet
 expr f n = Never
+
+-- the same where `new A()` keeps its parentheses, as it does as a callee, or doesn't
+unfoldable pub expr_in : {X : Type 0} → (X → Role → Phrase) → Bool → Expr X → Phrase
+expr_in f keeps (exprs.New n) = new_expr f keeps n
+expr_in f keeps n = expr f n

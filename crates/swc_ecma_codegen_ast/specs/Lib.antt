@@ -1,4 +1,5 @@
 pub mod AssignPhrases
+pub mod CallPhrases
 pub mod Chars
 pub mod CodeUnits
 pub mod CommentMaps

@@ -5,8 +5,9 @@ use Rattle.swc_ecma_codegen_tree.specs.declared.parts.StmtPart.{StmtPart}
 use Rattle.swc_ecma_codegen_tree.specs.declared.parts.StmtPart.TheVariants as stmt_parts
 use Rattle.swc_ecma_codegen_ast.specs.Phrases.{Phrase, Never}
 use Rattle.swc_ecma_codegen_ast.specs.declared.roles.Role.{Role}
-use Rattle.swc_ecma_codegen_ast.specs.declared.roles.Role.TheVariants.{AssignmentTarget, Pattern, PlainParameter, PropertyName, PropertyDefinition, ObjectLiteral, Function, FunctionHead, MethodHead, Block}
+use Rattle.swc_ecma_codegen_ast.specs.declared.roles.Role.TheVariants.{AssignmentTarget, Pattern, PlainParameter, PropertyName, PropertyDefinition, ObjectLiteral, Function, FunctionHead, MethodHead, Block, ChainCall}
 use Rattle.swc_ecma_codegen_ast.specs.AssignPhrases.{assign_target}
+use Rattle.swc_ecma_codegen_ast.specs.CallPhrases.{chain_call}
 use Rattle.swc_ecma_codegen_ast.specs.PatPhrases.{pat, plain_parameter}
 use Rattle.swc_ecma_codegen_ast.specs.PropPhrases.{object_lit, prop_name, prop}
 use Rattle.swc_ecma_codegen_ast.specs.FunctionPhrases.{function, function_head, method_head}
@@ -18,6 +19,7 @@ expr_part f (expr_parts.Pat n) PlainParameter = plain_parameter n
 expr_part f (expr_parts.ObjectLit n) ObjectLiteral = object_lit f n
 expr_part f (expr_parts.PropName n) PropertyName = prop_name f n
 expr_part f (expr_parts.Prop n) PropertyDefinition = prop f n
+expr_part f (expr_parts.OptCall n) (ChainCall optional) = chain_call f optional n
 expr_part f (expr_parts.AssignTarget n) AssignmentTarget = assign_target f n
 expr_part f n role = Never
 

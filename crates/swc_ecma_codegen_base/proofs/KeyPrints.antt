@@ -21,7 +21,7 @@ use Rattle.swc_ecma_codegen_base.specs.Keys.{quoted_key, ascii_key, bare_key, pl
 use Rattle.swc_ecma_codegen_base.specs.Run.{Env, Plan, Part, State, Step, next, Guard, Token, Plain, Remake, step, steps_of, nothing, put, run, spelling, has_backslash}
 use Rattle.swc_ecma_codegen_base.specs.Scripts.{is_string_call, string_by_value, strings_after, AreSafe}
 use Rattle.swc_ecma_codegen_base.specs.Settings.{settings_of}
-use Rattle.swc_ecma_codegen_base.specs.Targets.{wants_escapes, written_key, written, is_out}
+use Rattle.swc_ecma_codegen_base.specs.Targets.{wants_escapes, written_key, written_as, is_out}
 use Rattle.swc_ecma_codegen_base.specs.Words.{commit_pending_semi, leading_comments, position, symbol}
 use Rattle.swc_ecma_codegen_base.proofs.Hands.{holds_string}
 use Rattle.swc_ecma_codegen_base.proofs.KeySteps.{escaped_same, plain_same, symbol_same, bare_same, valid_same}
@@ -91,12 +91,12 @@ bare_part_same env span bytes rest e k a =
 abbrev key_at : BytePos → List ℕ → PlacedName
 key_at at bytes = record { at = at; bytes = bytes; is_key = true }
 
-written_made : (config : Config) (at : BytePos) (bytes : List ℕ) → wants_escapes config (turned bytes) ≡ true → written config (key_at at bytes) ≡ ascii_name true config.target (chars (turned bytes))
-unfolding written written_key
+written_made : (config : Config) (at : BytePos) (bytes : List ℕ) → wants_escapes config (turned bytes) ≡ true → written_as config (key_at at bytes) ≡ ascii_name true config.target (chars (turned bytes))
+unfolding written_as written_key
 written_made config at bytes w = ap (λ b. cond b (ascii_name true config.target (chars (turned bytes))) (turned bytes)) w
 
-written_kept : (config : Config) (at : BytePos) (bytes : List ℕ) → wants_escapes config (turned bytes) ≡ false → written config (key_at at bytes) ≡ turned bytes
-unfolding written written_key
+written_kept : (config : Config) (at : BytePos) (bytes : List ℕ) → wants_escapes config (turned bytes) ≡ false → written_as config (key_at at bytes) ≡ turned bytes
+unfolding written_as written_key
 written_kept config at bytes k = ap (λ b. cond b (ascii_name true config.target (chars (turned bytes))) (turned bytes)) k
 
 call_steps : (env : Env) (kind : Kind) (pos : BytePos) (b : Bool) (t : List ℕ) → steps_of ((cond b (step (Token kind (Symbol dummy_span t)) nothing) (step (Plain (Position pos)) (step (Token kind (Symbol dummy_span t)) nothing))) env) ≡ name_call kind b pos t
@@ -109,13 +109,13 @@ unfolding made_part commit_pending_semi position name_steps step steps_of
 made_steps env first second kind span t = ap (λ z. Plain Commit ∷ Remake first ∷ Remake second ∷ Guard t ∷ z) (call_steps env kind span.lo (span.lo.0 == 0) t)
 
 -- a key that is so written
-keyed : (env : Env) (first second : Bool) (kind : Kind) (span : Span) (bytes t : List ℕ) (s : State) → written env.config (key_at span.lo bytes) ≡ t → (t ≡ [] → ⊥) → s.sheet.keeps_positions ≡ true → Named env.config (key_at span.lo bytes ∷ []) s.sheet (run (name_steps first second kind (span.lo.0 == 0) span.lo t) s).sheet
+keyed : (env : Env) (first second : Bool) (kind : Kind) (span : Span) (bytes t : List ℕ) (s : State) → written_as env.config (key_at span.lo bytes) ≡ t → (t ≡ [] → ⊥) → s.sheet.keeps_positions ≡ true → Named env.config (key_at span.lo bytes ∷ []) s.sheet (run (name_steps first second kind (span.lo.0 == 0) span.lo t) s).sheet
 keyed env first second kind span bytes t s e some k =
     let x : PlacedName = key_at span.lo bytes in
     let P : List ℕ → Type 0 = λ z. Named env.config (x ∷ []) s.sheet (run (name_steps first second kind (span.lo.0 == 0) span.lo z) s).sheet in
     subst P e (name_named env.config first second kind (span.lo.0 == 0) x s refl (λ n. some (sym e ∙ n)) k)
 
-made_named : (env : Env) (first second : Bool) (kind : Kind) (span : Span) (bytes t : List ℕ) → written env.config (key_at span.lo bytes) ≡ t → (t ≡ [] → ⊥) → NamedBy env (made_part first second kind span t) (key_at span.lo bytes ∷ [])
+made_named : (env : Env) (first second : Bool) (kind : Kind) (span : Span) (bytes t : List ℕ) → written_as env.config (key_at span.lo bytes) ≡ t → (t ≡ [] → ⊥) → NamedBy env (made_part first second kind span t) (key_at span.lo bytes ∷ [])
 unfolding NamedBy
 made_named env first second kind span bytes t e some s k =
     let P : List Step → Type 0 = λ z. Named env.config (key_at span.lo bytes ∷ []) s.sheet (run z s).sheet in
@@ -125,7 +125,7 @@ kept_steps : (env : Env) (first : Bool) (span : Span) (t : List ℕ) → steps_o
 unfolding kept_part commit_pending_semi position step steps_of
 kept_steps env first span t = ap (λ z. Plain Commit ∷ Remake first ∷ Guard t ∷ z) (call_steps env Name span.lo (span.lo.0 == 0) t)
 
-kept_named : (env : Env) (first : Bool) (span : Span) (bytes t : List ℕ) → written env.config (key_at span.lo bytes) ≡ t → (t ≡ [] → ⊥) → NamedBy env (kept_part first span t) (key_at span.lo bytes ∷ [])
+kept_named : (env : Env) (first : Bool) (span : Span) (bytes t : List ℕ) → written_as env.config (key_at span.lo bytes) ≡ t → (t ≡ [] → ⊥) → NamedBy env (kept_part first span t) (key_at span.lo bytes ∷ [])
 unfolding NamedBy name_steps run put
 kept_named env first span bytes t e some s k =
     let P : List Step → Type 0 = λ z. Named env.config (key_at span.lo bytes ∷ []) s.sheet (run z s).sheet in
@@ -135,7 +135,7 @@ own_steps : (env : Env) (span : Span) (t : List ℕ) → steps_of (name_part spa
 unfolding name_part commit_pending_semi position step steps_of
 own_steps env span t = ap (λ z. Plain Commit ∷ Guard t ∷ z) (call_steps env Name span.lo (span.lo.0 == 0) t)
 
-own_named : (env : Env) (span : Span) (bytes t : List ℕ) → written env.config (key_at span.lo bytes) ≡ t → (t ≡ [] → ⊥) → NamedBy env (name_part span t) (key_at span.lo bytes ∷ [])
+own_named : (env : Env) (span : Span) (bytes t : List ℕ) → written_as env.config (key_at span.lo bytes) ≡ t → (t ≡ [] → ⊥) → NamedBy env (name_part span t) (key_at span.lo bytes ∷ [])
 unfolding NamedBy name_steps run put
 own_named env span bytes t e some s k =
     let P : List Step → Type 0 = λ z. Named env.config (key_at span.lo bytes ∷ []) s.sheet (run z s).sheet in

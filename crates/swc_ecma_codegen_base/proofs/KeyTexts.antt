@@ -2,7 +2,7 @@
 use Rattle.std.proofs.Common.{◌≡◌, ◌≢◌, ℕ, ◌+◌, ◌-◌, ◌/◌, ◌%◌, Bool, true, false, not, ◌&&◌, ◌||◌, ◌==◌, nat_lt, nat_le, cond, List, [], ◌∷◌, ◌++◌, codes, arith, Some, refl, sym, ap, ◌∙◌, subst, inl, inr}
 use Rattle.std.specs.List.{list_any}
 use Rattle.std.specs.Str.{chars, is_utf8, IsUtf8}
-use Rattle.std.proofs.lemmas.Bool.{and_from, and_parts, cases_Bool, or_from, ne_eqb, false_from_ne_true, not-true, false≢true, true≢false}
+use Rattle.std.proofs.lemmas.Bool.{and_from, and_parts, cases_Bool, or_from, or_parts, ne_eqb, false_from_ne_true, not-true, false≢true, true≢false}
 use Rattle.std.proofs.lemmas.Str.{IsUtf8-from_is_utf8, is_utf8-from_IsUtf8, IsUtf8-from_ascii, scalars-chars}
 use Rattle.swc_ecma_codegen_common.specs.declared.versions.EsVersion.{EsVersion}
 use Rattle.swc_ecma_codegen_common.specs.declared.versions.EsVersion.TheVariants.{Es3, Es5}
@@ -45,11 +45,9 @@ has_blank us = list_any (λ c. c == 32) us
 
 blank_append : (us vs : List ℕ) → has_blank us ≡ false → has_blank vs ≡ false → has_blank (us ++ vs) ≡ false
 blank_append [] vs h k = k
-blank_append (u ∷ us) vs h k = cases (u == 32) h
-  where
-    cases : (b : Bool) → (b || has_blank us) ≡ false → (b || has_blank (us ++ vs)) ≡ false
-    cases true h = absurd (true≢false h)
-    cases false h = blank_append us vs h k
+blank_append (u ∷ us) vs h k =
+    let p = or_parts (u == 32) (has_blank us) h in
+    or_from (u == 32) (has_blank (us ++ vs)) p.0 (blank_append us vs p.1 k)
 
 units_unblank : (c : ℕ) → (c == 32) ≡ false → has_blank (utf16 c) ≡ false
 unfolding utf16

@@ -37,7 +37,7 @@ use Rattle.swc_ecma_codegen_literals.proofs.SpelledTexts.{ascii_from_all}
 use Rattle.swc_ecma_codegen_base.specs.declared.refusals.Unprintable.TheVariants.{NameOutOfTarget}
 use Rattle.swc_ecma_codegen_base.specs.Run.{Env, Plan, Part, State, Step, Guard, Token, Plain, Remake, Steps, done, step, steps_of, unprintable_in, refuse, run, nothing, spelling, Follows, HasCause, has_backslash, makes_text}
 use Rattle.swc_ecma_codegen_base.specs.Settings.{settings_of}
-use Rattle.swc_ecma_codegen_base.specs.Targets.{written, wants_escapes, is_out_name, written_name, is_out}
+use Rattle.swc_ecma_codegen_base.specs.Targets.{written_as, wants_escapes, is_out_name, written_name, is_out}
 use Rattle.swc_ecma_codegen_base.specs.Words.{keyword, operator, word_operator, punct, placed_punct, semi, commit_pending_semi, position, symbol, valid_symbol, name_text, question, name}
 use Rattle.swc_ecma_codegen_base.specs.Written.{AtRest, is_free, holds_one, IsNew, ReadsAs, AddsText, AddsReading, IsWord, IsMark}
 use Rattle.swc_ecma_codegen_base.specs.Escapes.{may_make_text}
@@ -103,7 +103,7 @@ no_strings {env} {p} {ts} h none e anew =
     let no : has_string h.steps ≡ false = false_from_ne_true (has_string h.steps) (λ s. true≢false (sym (h.hands.strings s) ∙ none)) in
     subst AreSafe (sym (ap (strings_after anew) same ∙ none_by_value anew h.steps no)) tt
 
-safe_then : {env : Env} {p : Part} {ts : List lexical.Token} {b : Bool} (q : Part) → Makes env p ts b → IsSafe env p → IsSafe env q → IsSafe env (λ rest. p (q rest))
+pub safe_then : {env : Env} {p : Part} {ts : List lexical.Token} {b : Bool} (q : Part) → Makes env p ts b → IsSafe env p → IsSafe env q → IsSafe env (λ rest. p (q rest))
 unfolding IsSafe
 safe_then {env} {p} q m h k e anew =
     let here = steps_of (p nothing env) in
@@ -302,7 +302,7 @@ abbrev pub named_at : BytePos → List ℕ → PlacedName
 named_at at bytes = record { at = at; bytes = bytes; is_key = false }
 
 names_here : (env : Env) (span : Span) (bytes : List ℕ) → env.keeps_invalid ≡ false → is_out_name env.config (turned bytes) ≡ false → (written_name env.config bytes ≡ [] → ⊥) → NamedBy env (settled_name span bytes) (named_at span.lo bytes ∷ [])
-unfolding NamedBy written
+unfolding NamedBy written_as
 names_here env span bytes e o some s k =
     let P : List Step → Type 0 = λ z. Named env.config (named_at span.lo bytes ∷ []) s.sheet (run z s).sheet in
     subst P (sym (symbol_steps env span bytes e o)) (name_named env.config (has_backslash bytes) (wants_escapes env.config (turned bytes)) Name (span.lo.0 == 0) (named_at span.lo bytes) s refl some k)

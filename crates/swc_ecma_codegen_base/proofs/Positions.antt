@@ -16,7 +16,7 @@ use Rattle.swc_ecma_codegen_text_writer.proofs.Pairs.{after_both, records_refl, 
 use Rattle.swc_ecma_codegen_text_writer.proofs.Sheets.{effect_keeps_positions}
 use Rattle.swc_ecma_codegen_base.specs.Named.{IsRecorded, NamesStand, RecordsNames}
 use Rattle.swc_ecma_codegen_base.specs.Run.{State, Step, Guard, Token, Plain, Ends, Remake, put, run}
-use Rattle.swc_ecma_codegen_base.specs.Targets.{written}
+use Rattle.swc_ecma_codegen_base.specs.Targets.{written_as}
 use Rattle.swc_ecma_codegen_base.specs.Written.{holds_one}
 use Rattle.swc_ecma_codegen_base.proofs.Fronts.{run_sheet}
 use Rattle.swc_ecma_codegen_base.proofs.Held.{begun_sheet, written_semicolons, pointed_keeps, settled_none, unheld_settled}
@@ -126,16 +126,16 @@ unfolding NamesStand
 stand_later config p t u pairs [] h = tt
 stand_later config p t u pairs (x ∷ xs) h =
     let e : after_text h.0 (after_text t p) ≡ after_text (t ++ h.0) p = sym (after_both t h.0 p) in
-    (t ++ h.0, h.1, ap (λ z. t ++ z) h.2 ∙ sym (append_assoc t h.0 (written config x ++ h.1)), subst (λ (q : Place). IsRecorded x.at q pairs) e h.3, subst (λ (q : Place). NamesStand config (after_text (written config x) q) h.1 pairs xs) e h.4)
+    (t ++ h.0, h.1, ap (λ z. t ++ z) h.2 ∙ sym (append_assoc t h.0 (written_as config x ++ h.1)), subst (λ (q : Place). IsRecorded x.at q pairs) e h.3, subst (λ (q : Place). NamesStand config (after_text (written_as config x) q) h.1 pairs xs) e h.4)
 
 -- names of a text, and then those of the text after it
 stand_both : (config : Config) (p : Place) (t u : List ℕ) (pairs more : List Pair) (xs ys : List PlacedName) → NamesStand config p t pairs xs → NamesStand config (after_text t p) u (pairs ++ more) ys → NamesStand config p (t ++ u) (pairs ++ more) (xs ++ ys)
 unfolding NamesStand
 stand_both config p t u pairs more [] ys h k = stand_later config p t u (pairs ++ more) ys k
 stand_both config p t u pairs more (x ∷ xs) ys h k =
-    let q : Place = after_text (written config x) (after_text h.0 p) in
-    let e : after_text t p ≡ after_text h.1 q = ap (λ z. after_text z p) h.2 ∙ after_both h.0 (written config x ++ h.1) p ∙ after_both (written config x) h.1 (after_text h.0 p) in
-    (h.0, h.1 ++ u, ap (λ z. z ++ u) h.2 ∙ append_assoc h.0 (written config x ++ h.1) u ∙ ap (λ z. h.0 ++ z) (append_assoc (written config x) h.1 u), recorded_more x.at (after_text h.0 p) pairs more h.3, stand_both config q h.1 u pairs more xs ys h.4 (subst (λ (z : Place). NamesStand config z u (pairs ++ more) ys) e k))
+    let q : Place = after_text (written_as config x) (after_text h.0 p) in
+    let e : after_text t p ≡ after_text h.1 q = ap (λ z. after_text z p) h.2 ∙ after_both h.0 (written_as config x ++ h.1) p ∙ after_both (written_as config x) h.1 (after_text h.0 p) in
+    (h.0, h.1 ++ u, ap (λ z. z ++ u) h.2 ∙ append_assoc h.0 (written_as config x ++ h.1) u ∙ ap (λ z. h.0 ++ z) (append_assoc (written_as config x) h.1 u), recorded_more x.at (after_text h.0 p) pairs more h.3, stand_both config q h.1 u pairs more xs ys h.4 (subst (λ (z : Place). NamesStand config z u (pairs ++ more) ys) e k))
 
 -- From one sheet to another these names were written, with their positions, and further pairs were recorded.
 pub record Named (config : Config) (names : List PlacedName) (a b : Sheet) : Type 0 where
@@ -168,15 +168,15 @@ named_records config xs a b h = record { text = h.text; is_text = h.is_text; sta
 
 -- ---- one name
 
-named_one : (config : Config) (x : PlacedName) (s : Sheet) → IsRecorded x.at s.place s.pairs → Named config (x ∷ []) s (appended (written config x) s)
+named_one : (config : Config) (x : PlacedName) (s : Sheet) → IsRecorded x.at s.place s.pairs → Named config (x ∷ []) s (appended (written_as config x) s)
 unfolding NamesStand appended after_text
 named_one config x s h = record {
-  text = written config x;
+  text = written_as config x;
   is_text = refl;
   added = [];
   is_added = sym (append-nil s.pairs);
   place = refl;
-  stand = ([], [], sym (append-nil (written config x)), h, tt);
+  stand = ([], [], sym (append-nil (written_as config x)), h, tt);
 }
 
 recorded_none : (s : Sheet) → recorded dummy_span.lo s ≡ s
@@ -193,14 +193,14 @@ symbol_sheet : (t : List ℕ) (s : Sheet) → (t ≡ [] → ⊥) → holds_one s
 unfolding effect
 symbol_sheet t s some h = written_plain t (settled s) some ∙ ap (λ z. appended t (started z)) (unheld_settled s h)
 
-symbol_named : (config : Config) (x : PlacedName) (s : Sheet) → (written config x ≡ [] → ⊥) → holds_one s.semicolons ≡ false → IsRecorded x.at (started s).place (started s).pairs → Named config (x ∷ []) s (effect (Symbol dummy_span (written config x)) s)
+symbol_named : (config : Config) (x : PlacedName) (s : Sheet) → (written_as config x ≡ [] → ⊥) → holds_one s.semicolons ≡ false → IsRecorded x.at (started s).place (started s).pairs → Named config (x ∷ []) s (effect (Symbol dummy_span (written_as config x)) s)
 symbol_named config x s some h k =
-    let t : List ℕ = written config x in
+    let t : List ℕ = written_as config x in
     subst (λ (z : Sheet). Named config (x ∷ []) s z) (sym (symbol_sheet t s some h))
     (named_then config [] (x ∷ []) s (started s) (appended t (started s)) (named_none config s (started s) (started_records s)) (named_one config x (started s) k))
 
 -- the same with its position before it
-placed_named : (config : Config) (x : PlacedName) (s : Sheet) → (written config x ≡ [] → ⊥) → holds_one s.semicolons ≡ false → s.keeps_positions ≡ true → Named config (x ∷ []) s (effect (Symbol dummy_span (written config x)) (pointed x.at s))
+placed_named : (config : Config) (x : PlacedName) (s : Sheet) → (written_as config x ≡ [] → ⊥) → holds_one s.semicolons ≡ false → s.keeps_positions ≡ true → Named config (x ∷ []) s (effect (Symbol dummy_span (written_as config x)) (pointed x.at s))
 placed_named config x s some h k =
     named_then config [] (x ∷ []) s (pointed x.at s) _ (named_none config s (pointed x.at s) (pointed_records x.at s))
     (symbol_named config x (pointed x.at s) some (pointed_keeps (λ z. holds_one z.semicolons) (λ z y. refl) (λ z y. refl) x.at s ∙ h) (noted_has x.at s k))
@@ -228,13 +228,13 @@ before_unheld : (first second : Bool) (t : List ℕ) (s : State) → holds_one (
 unfolding before_name run put effect
 before_unheld first second t s = guard_unheld t (put (Remake second) (put (Remake first) (put (Plain Commit) s))) (settled_none s.sheet)
 
-pub name_named : (config : Config) (first second : Bool) (kind : Kind) (b : Bool) (x : PlacedName) (s : State) → b ≡ (x.at.0 == 0) → (written config x ≡ [] → ⊥) → s.sheet.keeps_positions ≡ true → Named config (x ∷ []) s.sheet (run (name_steps first second kind b x.at (written config x)) s).sheet
+pub name_named : (config : Config) (first second : Bool) (kind : Kind) (b : Bool) (x : PlacedName) (s : State) → b ≡ (x.at.0 == 0) → (written_as config x ≡ [] → ⊥) → s.sheet.keeps_positions ≡ true → Named config (x ∷ []) s.sheet (run (name_steps first second kind b x.at (written_as config x)) s).sheet
 unfolding name_steps name_call before_name run put effect
 name_named config first second kind true x s e some k =
-    let there : State = run (before_name first second (written config x)) s in
-    named_then config [] (x ∷ []) s.sheet there.sheet _ (named_none config s.sheet there.sheet (run_records (before_name first second (written config x)) s))
-    (symbol_named config x there.sheet some (before_unheld first second (written config x) s) (inl (is_none x.at (sym e))))
+    let there : State = run (before_name first second (written_as config x)) s in
+    named_then config [] (x ∷ []) s.sheet there.sheet _ (named_none config s.sheet there.sheet (run_records (before_name first second (written_as config x)) s))
+    (symbol_named config x there.sheet some (before_unheld first second (written_as config x) s) (inl (is_none x.at (sym e))))
 name_named config first second kind false x s e some k =
-    let there : State = run (before_name first second (written config x)) s in
-    named_then config [] (x ∷ []) s.sheet there.sheet _ (named_none config s.sheet there.sheet (run_records (before_name first second (written config x)) s))
-    (placed_named config x there.sheet some (before_unheld first second (written config x) s) (run_sheet (λ z. z.keeps_positions) effect_keeps_positions (before_name first second (written config x)) s ∙ k))
+    let there : State = run (before_name first second (written_as config x)) s in
+    named_then config [] (x ∷ []) s.sheet there.sheet _ (named_none config s.sheet there.sheet (run_records (before_name first second (written_as config x)) s))
+    (placed_named config x there.sheet some (before_unheld first second (written_as config x) s) (run_sheet (λ z. z.keeps_positions) effect_keeps_positions (before_name first second (written_as config x)) s ∙ k))

@@ -5,7 +5,7 @@ use Rattle.swc_ecma_codegen_ast.specs.Phrases.{PlacedName}
 use Rattle.swc_ecma_codegen_util.specs.declared.config.Config.{Config}
 use Rattle.swc_ecma_codegen_text_writer.specs.Places.{Place, after_text}
 use Rattle.swc_ecma_codegen_text_writer.specs.Sheet.{Sheet, Pair, has_pair, pair_at}
-use Rattle.swc_ecma_codegen_base.specs.Targets.{written}
+use Rattle.swc_ecma_codegen_base.specs.Targets.{written_as}
 
 -- a position stands in these pairs with this place, unless it is none
 abbrev pub IsRecorded : BytePos → Place → List Pair → Type 0
@@ -16,7 +16,7 @@ IsRecorded pos p pairs = (pos.0 ≡ 0) ⊎ (has_pair (pair_at pos p) pairs ≡ t
 unfoldable pub NamesStand : Config → Place → List ℕ → List Pair → List PlacedName → Type 0
 NamesStand config p text pairs [] = ⊤
 NamesStand config p text pairs (x ∷ xs) =
-    (before rest : List ℕ) × (text ≡ before ++ (written config x ++ rest)) × IsRecorded x.at (after_text before p) pairs × NamesStand config (after_text (written config x) (after_text before p)) rest pairs xs
+    (before rest : List ℕ) × (text ≡ before ++ (written_as config x ++ rest)) × IsRecorded x.at (after_text before p) pairs × NamesStand config (after_text (written_as config x) (after_text before p)) rest pairs xs
 
 -- From one sheet to another these names were written, with their positions.
 pub record RecordsNames (config : Config) (names : List PlacedName) (old new : Sheet) : Type 0 where

@@ -27,8 +27,8 @@ unfoldable pub written_key : Config → List ℕ → List ℕ
 written_key config bytes = if wants_escapes config (turned bytes) then ascii_name true config.target (chars (turned bytes)) else turned bytes
 
 -- what is written of a name, or of a key
-unfoldable pub written : Config → PlacedName → List ℕ
-written config x = if x.is_key then written_key config x.bytes else written_name config x.bytes
+unfoldable pub written_as : Config → PlacedName → List ℕ
+written_as config x = if x.is_key then written_key config x.bytes else written_name config x.bytes
 
 -- Some name of the tree can't be written under these settings.
 unfoldable pub is_out : Config → Phrase → Bool

@@ -1,13 +1,13 @@
 -- When a phrase on a condition is possible.
 use Rattle.std.proofs.Common.{◌≡◌, Bool, true, false, ◌&&◌, if◌then◌else◌, codes, Option, Some, None, ap, refl}
 use Rattle.swc_ecma_codegen_ast.specs.LitPhrases.{after_sign}
-use Rattle.swc_ecma_codegen_common.specs.declared.positions.Span.{Span}
 use Rattle.swc_ecma_codegen_tree.specs.declared.exprs.MemberExpr.{MemberExpr}
 use Rattle.swc_ecma_codegen_tree.specs.declared.exprs.MemberProp.{MemberProp}
 use Rattle.swc_ecma_codegen_tree.specs.declared.exprs.MemberProp.TheVariants as member_props
 use Rattle.swc_ecma_codegen_tree.specs.declared.exprs.MetaPropKind.{MetaPropKind}
 use Rattle.swc_ecma_codegen_tree.specs.declared.exprs.MetaPropKind.TheVariants as meta_props
-use Rattle.swc_ecma_codegen_ast.specs.ExprPhrases.{expr_at, member_prop, member_expr, spread_mark, chain_mark, chain_prop, chain_member, meta_prop}
+use Rattle.swc_ecma_codegen_ast.specs.CallPhrases.{callee_at}
+use Rattle.swc_ecma_codegen_ast.specs.ExprPhrases.{member_prop, member_expr, chain_mark, chain_prop, chain_member, meta_prop}
 use Rattle.swc_ecma_codegen_ast.specs.declared.roles.Role.{Role}
 use Rattle.swc_ecma_codegen_ast.specs.Phrases.{Phrase, Nothing, ◌>◌, mark, is_possible, where_}
 
@@ -27,11 +27,6 @@ unfolding is_possible
 star_possible true = refl
 star_possible false = refl
 
-pub spread_possible : (spread : Option Span) → is_possible (spread_mark spread) ≡ true
-unfolding is_possible spread_mark
-spread_possible None = refl
-spread_possible (Some dots) = refl
-
 pub meta_prop_possible : (kind : MetaPropKind) → is_possible (meta_prop kind) ≡ true
 unfolding is_possible meta_prop
 meta_prop_possible meta_props.NewTarget = refl
@@ -49,4 +44,4 @@ chain_prop_possible f false n = refl
 
 pub chain_member_possible : {X : Type 0} (f : X → Role → Phrase) (optional : Bool) (n : MemberExpr X) → is_possible (chain_member f optional n) ≡ is_possible (member_expr f n)
 unfolding is_possible chain_member member_expr
-chain_member_possible f optional n = ap (λ b. is_possible (expr_at f n.obj) && b) (chain_prop_possible f optional n.prop)
+chain_member_possible f optional n = ap (λ b. is_possible (callee_at f n.obj) && b) (chain_prop_possible f optional n.prop)

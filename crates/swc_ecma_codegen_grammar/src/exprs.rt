@@ -1,12 +1,12 @@
 //! Expressions.
 
 ghost use Rattle.std.specs.Prelude.{◌≡◌};
-ghost use Rattle.swc_ecma_codegen_ast.specs.ExprPhrases.{this_expr, unary_expr, update_expr, bin_expr, computed_prop_name, member_prop, member_expr, super_prop, super_prop_expr, spread_element, expr_or_spread, opt_chain_expr, meta_prop_expr, assign_expr, yield_expr, await_expr, cond_expr, seq_expr, paren_expr, expr};
+ghost use Rattle.swc_ecma_codegen_ast.specs.ExprPhrases.{this_expr, unary_expr, update_expr, bin_expr, computed_prop_name, member_prop, member_expr, super_prop, super_prop_expr, spread_element, opt_chain_expr, meta_prop_expr, assign_expr, yield_expr, await_expr, cond_expr, seq_expr, paren_expr, expr};
 
 use crate::forms::{Fits, WellFormed, all_well_formed};
 use swc_ecma_codegen_ast::roles::Role;
 use swc_ecma_codegen_tree::{
-    AssignExpr, AwaitExpr, BinExpr, ComputedPropName, CondExpr, Expr, ExprOrSpread, MemberExpr,
+    AssignExpr, AwaitExpr, BinExpr, ComputedPropName, CondExpr, Expr, MemberExpr,
     MemberProp, MetaPropExpr, OptChainBase, OptChainExpr, ParenExpr, SeqExpr, SpreadElement,
     SuperProp, SuperPropExpr, ThisExpr, UnaryExpr, UpdateExpr, YieldExpr,
 };
@@ -74,7 +74,7 @@ impl<N: Fits> WellFormed for MemberExpr<N> {
 
     #[tactic(auto, unfolding(swc_ecma_codegen_ast::specs::ExprPhrases::member_expr, swc_ecma_codegen_ast::specs::Phrases::is_possible))]
     fn is_well_formed(&self) -> bool {
-        self.obj.is_well_formed() && self.prop.is_well_formed()
+        self.obj.held().fits(Role::Callee) && self.prop.is_well_formed()
     }
 }
 
@@ -99,15 +99,6 @@ impl<N: Fits> WellFormed for SuperPropExpr<N> {
     }
 }
 
-impl<N: Fits> WellFormed for ExprOrSpread<N> {
-    ghost phrase = { expr_or_spread N.reads };
-
-    #[tactic(auto, using(crate::proofs::Possible::spread_possible), unfolding(swc_ecma_codegen_ast::specs::ExprPhrases::expr_or_spread, swc_ecma_codegen_ast::specs::Phrases::is_possible))]
-    fn is_well_formed(&self) -> bool {
-        self.expr.is_well_formed()
-    }
-}
-
 impl<N: Fits> WellFormed for SpreadElement<N> {
     ghost phrase = { spread_element N.reads };
 
@@ -124,7 +115,7 @@ impl<N: Fits> WellFormed for OptChainExpr<N> {
     fn is_well_formed(&self) -> bool {
         match &self.base {
             OptChainBase::Member(node) => node.held().fits(Role::ChainMember(self.optional)),
-            OptChainBase::Call(_) => false,
+            OptChainBase::Call(node) => node.held().fits(Role::ChainCall(self.optional)),
         }
     }
 }
@@ -204,6 +195,7 @@ impl<N: Fits> WellFormed for Expr<N> {
             Expr::This(node) => node.is_well_formed(),
             Expr::Object(node) => node.is_well_formed(),
             Expr::Fn(node) => node.is_well_formed(),
+            Expr::Array(node) => node.is_well_formed(),
             Expr::Unary(node) => node.is_well_formed(),
             Expr::Update(node) => node.is_well_formed(),
             Expr::Bin(node) => node.is_well_formed(),
@@ -211,6 +203,8 @@ impl<N: Fits> WellFormed for Expr<N> {
             Expr::Member(node) => node.is_well_formed(),
             Expr::SuperProp(node) => node.is_well_formed(),
             Expr::Cond(node) => node.is_well_formed(),
+            Expr::Call(node) => node.is_well_formed(),
+            Expr::New(node) => node.is_well_formed(),
             Expr::Seq(node) => node.is_well_formed(),
             Expr::Ident(node) => node.is_well_formed(),
             Expr::Lit(node) => node.is_well_formed(),
@@ -220,10 +214,7 @@ impl<N: Fits> WellFormed for Expr<N> {
             Expr::Await(node) => node.is_well_formed(),
             Expr::Paren(node) => node.is_well_formed(),
             Expr::OptChain(node) => node.is_well_formed(),
-            Expr::Array(_)
-            | Expr::Call(_)
-            | Expr::New(_)
-            | Expr::Tpl(_)
+            Expr::Tpl(_)
             | Expr::TaggedTpl(_)
             | Expr::Class(_)
             | Expr::JSXMember(_)

@@ -3,8 +3,8 @@
 ghost use Rattle.std.specs.Prelude.{◌≡◌, Bool, List, true};
 ghost use Rattle.swc_ecma_codegen_ast.specs.declared.roles.Role.{Role as InRole};
 ghost use Rattle.swc_ecma_codegen_ast.specs.declared.roles.Role.TheVariants.{Expression, Statement, MemberExpression, AssignmentTarget, Pattern, PropertyName, PropertyDefinition, ObjectLiteral, Function, Block};
-ghost use Rattle.swc_ecma_codegen_ast.specs.Phrases.{Phrase, is_possible};
 ghost use Rattle.swc_ecma_codegen_ast.specs.ElementPhrases.{element};
+ghost use Rattle.swc_ecma_codegen_ast.specs.Phrases.{Phrase, is_possible};
 ghost use Rattle.swc_ecma_codegen_grammar.specs.Possible.{all_possible};
 
 use swc_ecma_codegen_ast::roles::Role;

@@ -2,6 +2,7 @@
 #![tactic(auto)]
 
 mod big_integers;
+mod calls;
 mod code_units;
 pub mod exprs;
 pub mod forms;

@@ -10,7 +10,7 @@ use swc_ecma_codegen_ast::roles::Role;
 use swc_ecma_codegen_tree::{ExprPart, StmtPart};
 
 /// Whether a part may stand in this role, and is well-formed.
-#[tactic(auto, unfolding(swc_ecma_codegen_ast::specs::PartPhrases::expr_part, swc_ecma_codegen_ast::specs::Phrases::is_possible))]
+#[tactic(auto, using(crate::proofs::CallsPossible::optional_call_possible), unfolding(swc_ecma_codegen_ast::specs::PartPhrases::expr_part, swc_ecma_codegen_ast::specs::Phrases::is_possible))]
 pub(crate) fn expr_part_fits<N: Fits>(part: &ExprPart<N>, role: Role) -> bool
     ensures { result ≡ is_possible (expr_part N.reads part.now role) }
 {
@@ -20,6 +20,8 @@ pub(crate) fn expr_part_fits<N: Fits>(part: &ExprPart<N>, role: Role) -> bool
         (ExprPart::ObjectLit(node), Role::ObjectLiteral) => node.is_well_formed(),
         (ExprPart::PropName(node), Role::PropertyName) => node.is_well_formed(),
         (ExprPart::Prop(node), Role::PropertyDefinition) => node.is_well_formed(),
+        // `a?.(b)` is where `a(b)` is.
+        (ExprPart::OptCall(node), Role::ChainCall(_)) => node.is_well_formed(),
         (ExprPart::AssignTarget(node), Role::AssignmentTarget) => node.is_well_formed(),
         _ => false,
     }
