@@ -1,5 +1,5 @@
 -- The words of arrays, calls and `new` see what links hold through `asks` and `items` alone.
-use Rattle.std.proofs.Common.{◌≡◌, refl, ◌∙◌, ap, ℕ, List, [], ◌∷◌, map, codes, Bool, true, false, Option, Some, None}
+use Rattle.std.proofs.Common.{◌≡◌, refl, ◌∙◌, ap, ℕ, List, [], ◌∷◌, map, codes, Bool, true, false, Option, Some, None, Global}
 use Rattle.std.specs.declared.vec.Vec.{Vec}
 use Rattle.swc_ecma_codegen_common.specs.declared.positions.Span.{Span}
 use Rattle.swc_ecma_codegen_tree.specs.declared.links.AnyNode.{map-AnyNode}
@@ -77,7 +77,7 @@ listed_arguments_mapped g asks items asked put same parent false [] rest = refl
 listed_arguments_mapped g asks items asked put same parent false (x ∷ xs) rest = arguments_mapped g asks items asked put same new_format parent (x ∷ xs) rest
 listed_arguments_mapped g asks items asked put same parent true xs rest = arguments_mapped g asks items asked put same new_format parent xs rest
 
-new_by : {X Y Z : Type 0} (g : X → Y) (asks : Y → Answers) (items : Y → Place → Part) (n : NewExpr X) (args : Option (Vec (ExprOrSpread X) Z)) (type_args : Option (TsTypeParamInstantiationBox X)) (place : Place) (rest : Plan) → node_items asks items (map-AnyNode X Y g (nodes.Expr (exprs.New (record n { args = args; type_args = type_args })))) place rest ≡ expr (λ x. asks (g x)) (λ x. items (g x)) (exprs.New (record n { args = args; type_args = type_args })) place rest
+new_by : {X Y : Type 0} (g : X → Y) (asks : Y → Answers) (items : Y → Place → Part) (n : NewExpr X) (args : Option (Vec (ExprOrSpread X) Global)) (type_args : Option (TsTypeParamInstantiationBox X)) (place : Place) (rest : Plan) → node_items asks items (map-AnyNode X Y g (nodes.Expr (exprs.New (record n { args = args; type_args = type_args })))) place rest ≡ expr (λ x. asks (g x)) (λ x. items (g x)) (exprs.New (record n { args = args; type_args = type_args })) place rest
 unfolding node_items expr words.expr_parts words.expr_closed expr_span words.leaves_comments new_expr new_parts new_arguments expr_or_spread expr_or_spread_span unsupported refuse
 new_by g asks items n None None place rest = refl
 new_by g asks items n (Some args) None place rest =

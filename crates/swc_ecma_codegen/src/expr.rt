@@ -19,8 +19,8 @@ use swc_ecma_codegen_literals::Punctuator;
 use swc_ecma_codegen_text_writer::WriteJs;
 use swc_ecma_codegen_tree::{
     AssignExpr, AwaitExpr, BinExpr, ComputedPropName, CondExpr, Expr, ExprBox, Ident, IdentName,
-    MetaPropExpr, MetaPropKind, ParenExpr, SeqExpr, SpreadElement, ThisExpr, UnaryExpr,
-    UpdateExpr, YieldExpr,
+    MetaPropExpr, MetaPropKind, ParenExpr, SeqExpr, SpreadElement, ThisExpr, UnaryExpr, UpdateExpr,
+    YieldExpr,
 };
 
 /// Whether it is the place of a left operand.
@@ -76,7 +76,22 @@ impl<N: Held> EmitAt for Expr<N> {
             Expr::Await(node) => node.emit_at(e, place)?,
             Expr::Paren(node) => node.emit_at(e, place)?,
             Expr::OptChain(node) => node.emit_at(e, place)?,
-            _ => e.unsupported()?,
+            Expr::Tpl(_)
+            | Expr::TaggedTpl(_)
+            | Expr::Class(_)
+            | Expr::JSXMember(_)
+            | Expr::JSXNamespacedName(_)
+            | Expr::JSXEmpty(_)
+            | Expr::JSXElement(_)
+            | Expr::JSXFragment(_)
+            | Expr::TsTypeAssertion(_)
+            | Expr::TsConstAssertion(_)
+            | Expr::TsNonNull(_)
+            | Expr::TsAs(_)
+            | Expr::TsInstantiation(_)
+            | Expr::TsSatisfies(_)
+            | Expr::PrivateName(_)
+            | Expr::Invalid(_) => e.unsupported()?,
         }
         e.expr_closed(leaves_comments(self, place), expr_place(self))?;
         Ok(())

@@ -1,5 +1,5 @@
 -- The productions of arrays, calls and `new` see what links hold through f alone.
-use Rattle.std.proofs.Common.{◌≡◌, refl, ◌∙◌, ap, List, [], ◌∷◌, map, codes, Bool, true, false, cond, Option, Some, None}
+use Rattle.std.proofs.Common.{◌≡◌, refl, ◌∙◌, ap, List, [], ◌∷◌, map, codes, Bool, true, false, cond, Option, Some, None, Global}
 use Rattle.std.specs.declared.vec.Vec.{Vec}
 use Rattle.swc_ecma_codegen_tree.specs.declared.links.AnyNode.{AnyNode-F, map-AnyNode}
 use Rattle.swc_ecma_codegen_tree.specs.declared.links.AnyNode.TheOpen as nodes
@@ -67,7 +67,7 @@ abbrev pub phrase_in : {X : Type 0} → (X → Role → Phrase) → Bool → Any
 phrase_in f keeps (nodes.Expr n) = expr_in f keeps n
 phrase_in f keeps n = Never
 
-new_by : {X Y Z : Type 0} (g : X → Y) (f : Y → Role → Phrase) (keeps : Bool) (n : NewExpr X) (args : Option (Vec (ExprOrSpread X) Z)) (type_args : Option (TsTypeParamInstantiationBox X)) → phrase_in f keeps (map-AnyNode X Y g (nodes.Expr (exprs.New (record n { args = args; type_args = type_args })))) ≡ new_expr (λ x. f (g x)) keeps (record n { args = args; type_args = type_args })
+new_by : {X Y : Type 0} (g : X → Y) (f : Y → Role → Phrase) (keeps : Bool) (n : NewExpr X) (args : Option (Vec (ExprOrSpread X) Global)) (type_args : Option (TsTypeParamInstantiationBox X)) → phrase_in f keeps (map-AnyNode X Y g (nodes.Expr (exprs.New (record n { args = args; type_args = type_args })))) ≡ new_expr (λ x. f (g x)) keeps (record n { args = args; type_args = type_args })
 unfolding expr_in new_expr new_arguments expr_or_spread
 new_by g f keeps n None None = refl
 new_by g f keeps n (Some args) None = ap (λ p. word (codes "new") > value_at (λ x. f (g x)) n.callee > p) (listed_arguments_mapped _ f (λ x. f (g x)) (λ x. refl) keeps args.items)

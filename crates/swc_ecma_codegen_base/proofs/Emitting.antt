@@ -99,7 +99,7 @@ put_lines (Ends tokens x) lines s = refl
 put_lines (Remake due) lines s = refl
 
 pub refused_lines : (x : Step) (e : Refusal) (a : State) (new : Sheet) (lines : Lines) → IsRefused x e a new → IsRefused x e (with_lines lines a) new
-unfolding IsRefused
+unfolding IsRefused with_lines
 refused_lines (Guard t) e a new lines h = h
 refused_lines (Token kind x) e a new lines h = h
 refused_lines (Plain x) e a new lines h = h

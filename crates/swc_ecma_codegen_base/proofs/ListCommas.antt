@@ -45,18 +45,18 @@ comma_unread lines parent e a b some fresh eq marked =
 
 -- ---- by the format
 
-forced_same : (format : ℕ) (parent : Span) (rest : Plan) (env : Env) → forces_trailing_comma format ≡ true → wanted_comma format parent rest env ≡ comma_if true rest env
+pub forced_same : (format : ℕ) (parent : Span) (rest : Plan) (env : Env) → forces_trailing_comma format ≡ true → wanted_comma format parent rest env ≡ comma_if true rest env
 unfolding wanted_comma
 forced_same format parent rest env h = ap (λ b. cond b (comma_if true rest) (cond (allows_trailing_comma format) (source_comma parent rest) rest) env) h
 
 pub comma_forced : (lines : Lines) (format : ℕ) (parent : Span) (a b : State) (r : Result (Unit {0}) Refusal) → forces_trailing_comma format ≡ true → Does (comma_if true) a b r → Emits (wanted_comma format parent) (at_lines lines a) (at_lines lines b) r
 comma_forced lines format parent a b r h k = emits_same (wanted_comma format parent) (comma_if true) (at_lines lines a) (at_lines lines b) r (λ rest. forced_same format parent rest (at_lines lines a).env h) (does_here lines (comma_if true) a b r k)
 
-written_same : (format : ℕ) (parent : Span) (rest : Plan) (env : Env) → may_have_comma format env.config ≡ true → trailing_comma format parent rest env ≡ wanted_comma format parent rest env
+pub written_same : (format : ℕ) (parent : Span) (rest : Plan) (env : Env) → may_have_comma format env.config ≡ true → trailing_comma format parent rest env ≡ wanted_comma format parent rest env
 unfolding trailing_comma
 written_same format parent rest env h = ap (λ b. cond b (wanted_comma format parent rest env) (rest env)) h
 
-left_out_same : (format : ℕ) (parent : Span) (rest : Plan) (env : Env) → may_have_comma format env.config ≡ false → trailing_comma format parent rest env ≡ rest env
+pub left_out_same : (format : ℕ) (parent : Span) (rest : Plan) (env : Env) → may_have_comma format env.config ≡ false → trailing_comma format parent rest env ≡ rest env
 unfolding trailing_comma
 left_out_same format parent rest env h = ap (λ b. cond b (wanted_comma format parent rest env) (rest env)) h
 

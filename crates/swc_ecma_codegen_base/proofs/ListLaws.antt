@@ -55,7 +55,7 @@ unfolding shallower_if
 writes_shallower_if env b = writes_if env b formatting_shallower (λ rest. rest) [] (writes_formatting_shallower env) (writes_nothing env)
 
 nothing_within : (env : Env) → MakesWithin 1 env (λ rest. rest) [] false
-nothing_within env = with_room (length []) 1 (omega arith) (writes_nothing env)
+nothing_within env = with_room 0 1 (omega arith) (writes_nothing env)
 
 formatting_deeper_within : (env : Env) → MakesWithin 1 env formatting_deeper [] false
 unfolding formatting_deeper no_part
@@ -83,7 +83,7 @@ unfolding opening
 bracket_within env t w p h format line =
     let x : lexical.Token = token_of Punctuator (spelling Punctuator t) in
     let b = space_between_braces format in
-    with_room (0 + (length [] + (length [] + 1))) (length (x ∷ [])) (omega arith)
+    with_room 1 1 (omega arith)
     (within_then env (punct t) (λ rest. p (line_or_blank line b (deeper_if (indented format) rest))) (x ∷ []) [] (punct_within env t (mark_spelled t w) w.ascii)
     (within_then env p (λ rest. line_or_blank line b (deeper_if (indented format) rest)) [] [] h
     (within_then env (line_or_blank line b) (deeper_if (indented format)) [] [] (writes_line_or_blank env line b) (deeper_if_within env (indented format)))))

@@ -113,7 +113,7 @@ impl LowerEmitter {
     }
 
     /// Writes a trailing comma where the format forces one, or allows it and the source text has one.
-    #[tactic(auto, unfolding(crate::specs::Lists::wanted_comma), using(crate::proofs::ListCommas::comma_forced))]
+    #[tactic(auto, unfolding(crate::specs::Lists::wanted_comma))]
     fn wanted_comma<W: WriteJs, S: SourceMapper>(
         &mut self,
         cfg: &Config,

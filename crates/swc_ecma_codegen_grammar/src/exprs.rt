@@ -6,9 +6,9 @@ ghost use Rattle.swc_ecma_codegen_ast.specs.ExprPhrases.{this_expr, unary_expr, 
 use crate::forms::{Fits, WellFormed, all_well_formed};
 use swc_ecma_codegen_ast::roles::Role;
 use swc_ecma_codegen_tree::{
-    AssignExpr, AwaitExpr, BinExpr, ComputedPropName, CondExpr, Expr, MemberExpr,
-    MemberProp, MetaPropExpr, OptChainBase, OptChainExpr, ParenExpr, SeqExpr, SpreadElement,
-    SuperProp, SuperPropExpr, ThisExpr, UnaryExpr, UpdateExpr, YieldExpr,
+    AssignExpr, AwaitExpr, BinExpr, ComputedPropName, CondExpr, Expr, MemberExpr, MemberProp,
+    MetaPropExpr, OptChainBase, OptChainExpr, ParenExpr, SeqExpr, SpreadElement, SuperProp,
+    SuperPropExpr, ThisExpr, UnaryExpr, UpdateExpr, YieldExpr,
 };
 
 impl WellFormed for ThisExpr {
