@@ -3,11 +3,11 @@
 ghost use Rattle.std.specs.Prelude.{◌≡◌, OnOk};
 ghost use Rattle.swc_ecma_codegen_spans.specs.Spans.{pat_span, object_pat_prop_span};
 ghost use Rattle.swc_ecma_codegen_base.specs.Run.{Emits};
-ghost use Rattle.swc_ecma_codegen_ast.specs.ElementPhrases.{last_is_hole};
 ghost use Rattle.swc_ecma_codegen.specs.Answers.{place_of};
 ghost use Rattle.swc_ecma_codegen.specs.Pats.{initializer, array_pat_format, array_pat, rest_pat, assign_pat, key_value_pat_prop, assign_pat_prop, object_pat_prop, object_pat_format, object_pat, pat, assign_target_pat};
 ghost use Rattle.swc_ecma_codegen.specs.View.{state_of};
 
+use crate::calls::ends_with_hole;
 use crate::emitter::Emitter;
 use crate::nodes::{AskPlace, Child, EmitAt, Held, Place};
 use swc_ecma_codegen_ast::comments::Comments;
@@ -21,17 +21,6 @@ use swc_ecma_codegen_tree::{
     ArrayPat, AssignPat, AssignPatProp, AssignTargetPat, ExprBox, KeyValuePatProp, ObjectPat,
     ObjectPatProp, Pat, PatBox, RestPat,
 };
-
-/// Whether the last element is a hole, `[a, ,]`.
-#[tactic(auto, unfolding(swc_ecma_codegen_ast::specs::ElementPhrases::last_is_hole))]
-fn ends_with_hole<T>(elems: &[Option<T>]) -> bool
-    ensures { result ≡ last_is_hole elems.now }
-{
-    match elems {
-        [] => false,
-        [.., last] => last.is_none(),
-    }
-}
 
 /// The format of an array pattern, which ends with a comma where its last element is a hole.
 fn array_pat_format(hole: bool) -> ListFormat
