@@ -18,7 +18,7 @@ use Rattle.swc_ecma_codegen_ast.specs.Chars.{is_start, is_part, is_letter, is_di
 use Rattle.swc_ecma_codegen_ast.specs.Names.{is_word, all_part}
 use Rattle.swc_ecma_codegen_ast.specs.Punctuators.{is_punctuator, punctuators}
 use Rattle.swc_ecma_codegen_ast.specs.Texts.{is_same, is_among}
-use Rattle.swc_ecma_codegen_ast.specs.Phrases.{Phrase, Never, Nothing, ◌>◌, mark}
+use Rattle.swc_ecma_codegen_ast.specs.Phrases.{Phrase, Never, Nothing, ◌>◌, word, mark}
 use Rattle.swc_ecma_codegen_ast.specs.ElementPhrases.{element, last_is_hole}
 use Rattle.swc_ecma_codegen_ast.specs.CallPhrases as lists
 use Rattle.swc_ecma_codegen_ast.specs.ListFormats.{comma_delimited, allows_trailing_comma, forces_trailing_comma}
