@@ -170,7 +170,7 @@ writes_new_gap : (env : Env) (starts : Bool) → Writes env (words.new_gap start
 unfolding words.new_gap
 writes_new_gap env starts = writes_if env starts space formatting_space [] (writes_space env) (writes_formatting_space env)
 
-new_parts_print : {X : Type 0} (l : Linked X) (keeps : Bool) (n : NewExpr X) → Prints l.env (words.new_parts l.asks l.items keeps n) (word (codes "new") > value_at l.reads n.callee > lists.new_arguments l.reads keeps n.args)
+new_parts_print : {X : Type 0} (l : Linked X) (keeps : Bool) (n : NewExpr X) → Prints l.env (words.new_parts l.asks l.items keeps n) (word (codes "new") > lists.value_at l.reads n.callee > lists.new_arguments l.reads keeps n.args)
 unfolding words.new_parts
 new_parts_print l keeps n =
     after (writes_commit l.env)
