@@ -250,7 +250,7 @@ impl<W: WriteJs, S: SourceMapper, C: Comments> Emitter<'_, W, S, C> {
         parent: Span,
         children: Option<&[T]>,
     ) -> Answer
-        ensures items { Emits (optional_list format.0 parent (option_map (λ xs. map (child_of T.stands T.items) xs.now) children)) (state_of S.lines W.sheet self.old) (state_of S.lines W.sheet self.new) result }
+        ensures items { Emits (optional_list format.0 parent (option_map (λ xs. map (child_of T.stands T.items) xs.now) children.entry)) (state_of S.lines W.sheet self.old) (state_of S.lines W.sheet self.new) result }
         ensures level { OnOk result ((W.sheet self.new.wr).indentation ≡ (W.sheet self.old.wr).indentation) }
     {
         match children {
