@@ -10,9 +10,9 @@ ghost use Rattle.swc_ecma_codegen.specs.View.{state_of};
 
 use crate::emitter::Emitter;
 use crate::nodes::{Child, EmitAt, Place};
-use swc_ecma_codegen_ast::comments::Comments;
 use bitflags::Flags;
 use swc_ecma_codegen_ast::ListFormat;
+use swc_ecma_codegen_ast::comments::Comments;
 use swc_ecma_codegen_ast::mapper::SourceMapper;
 use swc_ecma_codegen_common::{Answer, Span};
 use swc_ecma_codegen_literals::Punctuator;
@@ -68,7 +68,8 @@ impl<W: WriteJs, S: SourceMapper, C: Comments> Emitter<'_, W, S, C> {
         ensures items { Emits (opening format.0 line) (state_of S.lines W.sheet self.old) (state_of S.lines W.sheet self.new) result }
         ensures level { OnOk result ((W.sheet self.new.wr).indentation ≡ (W.sheet self.old.wr).indentation + list_levels format.0 self.old.cfg) }
     {
-        self.lower.list_opening(&self.cfg, &mut self.wr, format, line)
+        self.lower
+            .list_opening(&self.cfg, &mut self.wr, format, line)
     }
 
     /// Writes what stands between two children.
@@ -76,7 +77,8 @@ impl<W: WriteJs, S: SourceMapper, C: Comments> Emitter<'_, W, S, C> {
         ensures items { Emits (separator format.0 line) (state_of S.lines W.sheet self.old) (state_of S.lines W.sheet self.new) result }
         ensures level { OnOk result ((W.sheet self.new.wr).indentation ≡ (W.sheet self.old.wr).indentation) }
     {
-        self.lower.list_separator(&self.cfg, &mut self.wr, format, line)
+        self.lower
+            .list_separator(&self.cfg, &mut self.wr, format, line)
     }
 
     /// Writes the comments right after a child.
@@ -84,8 +86,7 @@ impl<W: WriteJs, S: SourceMapper, C: Comments> Emitter<'_, W, S, C> {
         ensures items { Emits (child_comments format.0 line place) (state_of S.lines W.sheet self.old) (state_of S.lines W.sheet self.new) result }
         ensures level { OnOk result ((W.sheet self.new.wr).indentation ≡ (W.sheet self.old.wr).indentation) }
     {
-        self.lower
-            .child_comments(&self.cfg, &self.comments, &mut self.wr, format, line, place)
+        self.lower.child_comments(&self.cfg, &self.comments, &mut self.wr, format, line, place)
     }
 
     /// Writes the trailing comma of a list, where it has one.
@@ -105,7 +106,8 @@ impl<W: WriteJs, S: SourceMapper, C: Comments> Emitter<'_, W, S, C> {
         ensures level { OnOk result ((W.sheet self.new.wr).indentation + list_levels format.0 self.old.cfg ≡ (W.sheet self.old.wr).indentation) }
     {
         let line = format.closing_line(self.cm, parent, last);
-        self.lower.list_closing(&self.cfg, &mut self.wr, format, line)
+        self.lower
+            .list_closing(&self.cfg, &mut self.wr, format, line)
     }
 
     /// Writes what stands for a list without children.

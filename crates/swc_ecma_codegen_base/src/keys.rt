@@ -35,13 +35,7 @@ impl LowerEmitter {
 
     /// Writes a key in quotes, and records its position.
     #[tactic(auto, unfolding(crate::specs::Keys::quoted_key))]
-    fn quoted_key<W: WriteJs>(
-        &mut self,
-        cfg: &Config,
-        wr: &mut W,
-        span: Span,
-        text: &str,
-    ) -> Answer
+    fn quoted_key<W: WriteJs>(&mut self, cfg: &Config, wr: &mut W, span: Span, text: &str) -> Answer
         ensures items { Does (quoted_key span text.now) (state_of cfg.now (W.sheet wr.old) self.old) (state_of cfg.now (W.sheet wr.new) self.new) result }
         ensures level { OnOk result ((W.sheet wr.new).indentation ≡ (W.sheet wr.old).indentation) }
     {

@@ -135,7 +135,12 @@ impl LowerEmitter {
         ensures items { Does (opening format.0 line) (state_of cfg.now (W.sheet wr.old) self.old) (state_of cfg.now (W.sheet wr.new) self.new) result }
         ensures level { OnOk result ((W.sheet wr.new).indentation ≡ (W.sheet wr.old).indentation + list_levels format.0 cfg.now) }
     {
-        self.line_or_blank(cfg, wr, line, format.contains(ListFormat::SpaceBetweenBraces))?;
+        self.line_or_blank(
+            cfg,
+            wr,
+            line,
+            format.contains(ListFormat::SpaceBetweenBraces),
+        )?;
         self.deeper_if(cfg, wr, format.contains(ListFormat::Indented))?;
         Ok(())
     }
@@ -171,7 +176,12 @@ impl LowerEmitter {
         ensures level { OnOk result ((W.sheet wr.new).indentation ≡ (W.sheet wr.old).indentation) }
     {
         self.delimiter(cfg, wr, format)?;
-        self.line_or_blank(cfg, wr, line, format.contains(ListFormat::SpaceBetweenSiblings))?;
+        self.line_or_blank(
+            cfg,
+            wr,
+            line,
+            format.contains(ListFormat::SpaceBetweenSiblings),
+        )?;
         Ok(())
     }
 
@@ -213,7 +223,12 @@ impl LowerEmitter {
         ensures level { OnOk result ((W.sheet wr.new).indentation + list_levels format.0 cfg.now ≡ (W.sheet wr.old).indentation) }
     {
         self.shallower_if(cfg, wr, format.contains(ListFormat::Indented))?;
-        self.line_or_blank(cfg, wr, line, format.contains(ListFormat::SpaceBetweenBraces))?;
+        self.line_or_blank(
+            cfg,
+            wr,
+            line,
+            format.contains(ListFormat::SpaceBetweenBraces),
+        )?;
         Ok(())
     }
 

@@ -29,7 +29,13 @@ pub(crate) fn wants_escapes(cfg: &Config, text: &str) -> bool
 impl LowerEmitter {
     /// Writes a name by a text, and records its position.
     #[tactic(auto, unfolding(crate::specs::Words::symbol))]
-    pub(crate) fn symbol<W: WriteJs>(&mut self, cfg: &Config, wr: &mut W, span: Span, text: &str) -> Answer
+    pub(crate) fn symbol<W: WriteJs>(
+        &mut self,
+        cfg: &Config,
+        wr: &mut W,
+        span: Span,
+        text: &str,
+    ) -> Answer
         ensures items { Does (symbol span text.now) (state_of cfg.now (W.sheet wr.old) self.old) (state_of cfg.now (W.sheet wr.new) self.new) result }
         ensures level { OnOk result ((W.sheet wr.new).indentation ≡ (W.sheet wr.old).indentation) }
     {
