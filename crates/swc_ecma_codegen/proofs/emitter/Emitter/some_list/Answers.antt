@@ -16,8 +16,8 @@ returns-in_err-list_after-clause-items g c =
     let b : State = state_of g.S.SourceMapper.lines g.W.WriteJs.sheet c.list_after.new.self in
     let e : Refusal = c.in_err-list_after.field-0.0 in
     let all = λ (rest : Plan).
-        let N : Span → Type 0 = λ place. Follows (list_after c.args.format.0 c.args.parent place xs rest) now b (Err e) in
-        c.in_ok-first_child.ensures.items (list_after c.args.format.0 c.args.parent (g.T.Child.stands c.args.first.now) xs rest) b (Err e) (subst N c.place.ensures (c.in_err-list_after.ensures.items rest)) in
+    let N : Span → Type 0 = λ place. Follows (list_after c.args.format.0 c.args.parent place xs rest) now b (Err e) in
+    c.in_ok-first_child.ensures.items (list_after c.args.format.0 c.args.parent (g.T.Child.stands c.args.first.now) xs rest) b (Err e) (subst N c.place.ensures (c.in_err-list_after.ensures.items rest)) in
     let same : c.from_residual-in_err-list_after.result ≡ Err e = search rules in
     let Q : Result (Unit {0}) Refusal → Type 0 = λ z. Emits (list c.args.format.0 c.args.parent (child_of g.T.Child.stands g.T.EmitAt.items c.args.first.now ∷ xs)) a b z in
     subst Q (sym same) all
