@@ -18,7 +18,7 @@ use Rattle.swc_ecma_codegen_ast.specs.Chars.{is_start, is_part, is_letter, is_di
 use Rattle.swc_ecma_codegen_ast.specs.Names.{is_word, all_part}
 use Rattle.swc_ecma_codegen_ast.specs.Punctuators.{is_punctuator, punctuators}
 use Rattle.swc_ecma_codegen_ast.specs.Texts.{is_same, is_among}
-use Rattle.swc_ecma_codegen_ast.specs.Phrases.{Phrase, Never, Nothing, ◌>◌, mark}
+use Rattle.swc_ecma_codegen_ast.specs.Phrases.{Phrase, Never, Nothing, ◌>◌, word, mark}
 use Rattle.swc_ecma_codegen_ast.specs.ElementPhrases.{element, last_is_hole}
 use Rattle.swc_ecma_codegen_ast.specs.CallPhrases as lists
 use Rattle.swc_ecma_codegen_ast.specs.ListFormats.{comma_delimited, allows_trailing_comma, forces_trailing_comma}
@@ -170,7 +170,7 @@ writes_new_gap : (env : Env) (starts : Bool) → Writes env (words.new_gap start
 unfolding words.new_gap
 writes_new_gap env starts = writes_if env starts space formatting_space [] (writes_space env) (writes_formatting_space env)
 
-new_parts_print : {X : Type 0} (l : Linked X) (keeps : Bool) (n : NewExpr X) → Prints l.env (words.new_parts l.asks l.items keeps n) (word (codes "new") > value_at l.reads n.callee > lists.new_arguments l.reads keeps n.args)
+new_parts_print : {X : Type 0} (l : Linked X) (keeps : Bool) (n : NewExpr X) → Prints l.env (words.new_parts l.asks l.items keeps n) (word (codes "new") > lists.value_at l.reads n.callee > lists.new_arguments l.reads keeps n.args)
 unfolding words.new_parts
 new_parts_print l keeps n =
     after (writes_commit l.env)

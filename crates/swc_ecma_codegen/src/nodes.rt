@@ -109,6 +109,7 @@ pub trait Child: EmitAt {
 impl<T: Child> Child for Option<T> {
     ghost stands = { option_span T.stands };
 
+    #[tactic(auto, unfolding(swc_ecma_codegen_spans::specs::Spans::option_span))]
     fn place(&self) -> Span {
         match self {
             Some(child) => child.place(),
