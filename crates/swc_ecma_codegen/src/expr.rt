@@ -45,6 +45,7 @@ fn leaves_comments<N>(node: &Expr<N>, place: Place) -> bool
 }
 
 /// Writes an expression by its variant, without the comments after it.
+#[inline(always)]
 #[tactic(auto, unfolding(crate::specs::Exprs::expr_parts))]
 fn expr_parts<N: Held, W: WriteJs, S: SourceMapper, C: Comments>(
     node: &Expr<N>,
