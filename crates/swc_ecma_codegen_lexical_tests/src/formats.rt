@@ -127,8 +127,8 @@ struct Answers {
 
 impl SourceMapper for Answers {
     ghost lines = { λ answers. record {
-        same_line = λ lo hi. if bit_and lo.0 1 == 0 then answers.even else answers.odd;
-        snippet = λ span. None;
+      same_line = λ lo hi. if bit_and lo.0 1 == 0 then answers.even else answers.odd;
+      snippet = λ span. None;
     } };
 
     fn is_on_same_line(&self, lo: BytePos, _hi: BytePos) -> bool {
