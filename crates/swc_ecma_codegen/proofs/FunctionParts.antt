@@ -16,15 +16,15 @@ use Rattle.swc_ecma_codegen_ast.specs.declared.kinds.Kind.TheVariants.{Punctuato
 use Rattle.swc_ecma_codegen_ast.specs.declared.roles.Role.TheVariants.{Pattern, PlainParameter, Function, FunctionHead}
 use Rattle.swc_ecma_codegen_ast.specs.Tokens as lexical
 use Rattle.swc_ecma_codegen_ast.specs.Tokens.{token_of}
-use Rattle.swc_ecma_codegen_ast.specs.Phrases.{Phrase, Never, Nothing, OptionalParentheses, ◌>◌, mark, word, is_possible}
+use Rattle.swc_ecma_codegen_ast.specs.Phrases.{Phrase, Never, OptionalParentheses, ◌>◌, mark, word, is_possible}
 use Rattle.swc_ecma_codegen_ast.specs.Phrases as phrases
 use Rattle.swc_ecma_codegen_ast.specs.NamePhrases as names
 use Rattle.swc_ecma_codegen_ast.specs.PatPhrases as pats
 use Rattle.swc_ecma_codegen_ast.specs.FunctionPhrases as lists
 use Rattle.swc_ecma_codegen_ast.specs.FunctionPhrases.{is_never, is_some_listed}
-use Rattle.swc_ecma_codegen_base.specs.Run.{Env, Part, spelling, when_minified, no_part}
-use Rattle.swc_ecma_codegen_base.specs.Lists.{list, deeper, shallower}
-use Rattle.swc_ecma_codegen_base.specs.Words.{keyword, punct, space, formatting_space, line_end, position}
+use Rattle.swc_ecma_codegen_base.specs.Run.{Env, Part, spelling, no_part}
+use Rattle.swc_ecma_codegen_base.specs.Lists.{list, deeper}
+use Rattle.swc_ecma_codegen_base.specs.Words.{punct, space, formatting_space, line_end, position}
 use Rattle.swc_ecma_codegen_base.specs.Written.{IsMark}
 use Rattle.swc_ecma_codegen_base.proofs.Choices.{prints_bare, prints_parentheses}
 use Rattle.swc_ecma_codegen_base.proofs.Emitting.{minified_same, pretty_same}

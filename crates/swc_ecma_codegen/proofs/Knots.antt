@@ -38,7 +38,7 @@ use Rattle.swc_ecma_codegen.specs.declared.nodes.Place.{Place}
 use Rattle.swc_ecma_codegen.specs.declared.nodes.Place.TheVariants.{Chain}
 use Rattle.swc_ecma_codegen.specs.Answers.{Answers, any_answers}
 use Rattle.swc_ecma_codegen.specs.Lists.{comma, listed, unsupported}
-use Rattle.swc_ecma_codegen.specs.Exprs.{this, unary, update, update_parts, bin, bin_trailing, member, member_at, member_prop, object_place, computed_prop_name, super_keyword, super_prop, super_prop_expr, chain_mark, chain_prop, chain_member, chain_base, opt_chain, meta_prop_expr, assign, yield_arg, yield_expr, await_expr, choice, seq, held, paren, ident, opened, expr_parts, expr_closed, leaves_comments, expr}
+use Rattle.swc_ecma_codegen.specs.Exprs.{this, unary, update, update_parts, bin, bin_trailing, member, member_at, member_prop, object_place, computed_prop_name, super_prop, super_prop_expr, chain_mark, chain_prop, chain_member, chain_base, opt_chain, meta_prop_expr, assign, yield_arg, yield_expr, await_expr, choice, seq, held, paren, ident, opened, expr_parts, expr_closed, leaves_comments, expr}
 use Rattle.swc_ecma_codegen.specs.Functions.{fn_expr, optional_name}
 use Rattle.swc_ecma_codegen.specs.Names.{binding_ident}
 use Rattle.swc_ecma_codegen.specs.Targets.{simple_assign_target, assign_target}

@@ -1,9 +1,8 @@
 -- What is written of patterns sees what links hold through `asks` and `items` alone.
 use Rattle.std.proofs.Common.{◌≡◌, refl, sym, ◌∙◌, ap, ℕ, List, [], ◌∷◌, map, codes, Bool, true, false, cond, ◌||◌, is_some, Option, Some, None}
 use Rattle.swc_ecma_codegen_common.specs.declared.positions.Span.{Span}
-use Rattle.swc_ecma_codegen_tree.specs.declared.links.AnyNode.{AnyNode, AnyNode-F, map-AnyNode}
+use Rattle.swc_ecma_codegen_tree.specs.declared.links.AnyNode.{AnyNode, map-AnyNode}
 use Rattle.swc_ecma_codegen_tree.specs.declared.links.AnyNode.TheOpen as nodes
-use Rattle.swc_ecma_codegen_tree.specs.declared.expr_links.ExprBox.{ExprBox}
 use Rattle.swc_ecma_codegen_tree.specs.declared.expr_links.PatBox.{PatBox}
 use Rattle.swc_ecma_codegen_tree.specs.declared.ts_links.TsTypeAnnBox.{TsTypeAnnBox}
 use Rattle.swc_ecma_codegen_tree.specs.declared.idents.Ident.{Ident}
@@ -23,10 +22,9 @@ use Rattle.swc_ecma_codegen_ast.proofs.Mapped.{list_mapped, hole_mapped}
 use Rattle.swc_ecma_codegen_ast.proofs.MappedPats.{by_cases}
 use Rattle.swc_ecma_codegen_base.specs.Run.{Plan, Part, refuse}
 use Rattle.swc_ecma_codegen_base.specs.Lists.{ListChild, list}
-use Rattle.swc_ecma_codegen_base.specs.Words.{punct, trailing_comments}
+use Rattle.swc_ecma_codegen_base.specs.Words.{punct}
 use Rattle.swc_ecma_codegen.specs.declared.nodes.Place.{Place}
-use Rattle.swc_ecma_codegen.specs.declared.nodes.Place.TheVariants.{Plain}
-use Rattle.swc_ecma_codegen.specs.Answers.{Answers, place_of}
+use Rattle.swc_ecma_codegen.specs.Answers.{Answers}
 use Rattle.swc_ecma_codegen.specs.Exprs.{opened}
 use Rattle.swc_ecma_codegen.specs.Lists.{child_of, if_some_at, unsupported}
 use Rattle.swc_ecma_codegen.specs.Names.{binding_ident}

@@ -17,14 +17,13 @@ use Rattle.swc_ecma_codegen_tree.specs.declared.pats.AssignPatProp.{AssignPatPro
 use Rattle.swc_ecma_codegen_tree.specs.declared.pats.AssignTargetPat.{AssignTargetPat}
 use Rattle.swc_ecma_codegen_tree.specs.declared.pats.AssignTargetPat.TheVariants as target_pats
 use Rattle.swc_ecma_codegen_spans.specs.Spans.{option_span, pat_span, object_pat_prop_span}
-use Rattle.swc_ecma_codegen_ast.specs.Phrases.{Phrase, Nothing, OptionalComma, ◌>◌, mark}
+use Rattle.swc_ecma_codegen_ast.specs.Phrases.{Phrase, OptionalComma, ◌>◌, mark}
 use Rattle.swc_ecma_codegen_ast.specs.Phrases as phrases
 use Rattle.swc_ecma_codegen_ast.specs.ElementPhrases.{element, last_is_hole, elements_end, trailing_comma}
 use Rattle.swc_ecma_codegen_ast.specs.PatPhrases as lists
-use Rattle.swc_ecma_codegen_ast.specs.declared.roles.Role.TheVariants.{Pattern}
 use Rattle.swc_ecma_codegen_base.specs.Run.{Env, Part}
 use Rattle.swc_ecma_codegen_base.specs.Lists.{list, list_closing}
-use Rattle.swc_ecma_codegen_base.specs.Words.{punct, formatting_space, position}
+use Rattle.swc_ecma_codegen_base.specs.Words.{punct, position}
 use Rattle.swc_ecma_codegen_base.proofs.ListLaws.{children_of, writes_no_list, prints_some, prints_forced_closing, prints_optional_closing}
 use Rattle.swc_ecma_codegen_base.proofs.Phrased.{Prints, then, after, before, prints_nothing, prints_never, prints_punct, prints_placed_punct}
 use Rattle.swc_ecma_codegen_base.proofs.Printed.{writes_formatting_space, writes_position, writes_leading, writes_trailing}

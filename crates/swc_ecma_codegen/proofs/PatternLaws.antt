@@ -1,6 +1,6 @@
 -- What a whole node begins with, where it is a pattern.
 use Rattle.std.proofs.Common.{◌≡◌, refl, sym, ◌∙◌, ap, cond, Bool, true, false, ◌||◌, is_some, Option, Some, None}
-use Rattle.swc_ecma_codegen_tree.specs.declared.links.AnyNode.{AnyNode, AnyNode-F, map-AnyNode, roll-AnyNode, out-AnyNode}
+use Rattle.swc_ecma_codegen_tree.specs.declared.links.AnyNode.{AnyNode, AnyNode-F, roll-AnyNode, out-AnyNode}
 use Rattle.swc_ecma_codegen_tree.specs.declared.links.AnyNode.TheOpen as nodes
 use Rattle.swc_ecma_codegen_tree.specs.declared.links.AnyNode.TheVariants as whole
 use Rattle.swc_ecma_codegen_tree.specs.declared.links.AnyNode.TheViews.{out-roll-AnyNode}
@@ -19,7 +19,6 @@ use Rattle.swc_ecma_codegen_ast.specs.TreePhrases.{node_phrase, phrase}
 use Rattle.swc_ecma_codegen_ast.specs.declared.roles.Role.{Role}
 use Rattle.swc_ecma_codegen_ast.specs.declared.roles.Role.TheVariants.{Pattern, PlainParameter}
 use Rattle.swc_ecma_codegen_ast.proofs.TreeLaws.{phrase_at}
-use Rattle.swc_ecma_codegen.specs.declared.patterns.PatternKind.{PatternKind}
 use Rattle.swc_ecma_codegen.specs.declared.patterns.PatternKind.TheVariants.{PlainName, Name}
 use Rattle.swc_ecma_codegen.specs.Functions.{is_plain}
 use Rattle.swc_ecma_codegen.specs.Patterns.{name_kind, pat_kind, part_pattern, node_pattern, any_pattern}

@@ -23,10 +23,9 @@ use Rattle.swc_ecma_codegen_ast.specs.Phrases as phrases
 use Rattle.swc_ecma_codegen_ast.specs.PropPhrases as lists
 use Rattle.swc_ecma_codegen_ast.specs.PatPhrases as heads
 use Rattle.swc_ecma_codegen_ast.specs.declared.roles.Role.TheVariants.{PropertyDefinition, Function, MethodHead}
-use Rattle.swc_ecma_codegen_base.specs.Lits.{str_lit}
 use Rattle.swc_ecma_codegen_base.specs.Run.{Env, Part, when_minified}
 use Rattle.swc_ecma_codegen_base.specs.Lists.{list}
-use Rattle.swc_ecma_codegen_base.specs.Words.{punct, formatting_space, line_end, position, position_before}
+use Rattle.swc_ecma_codegen_base.specs.Words.{punct, line_end, position, position_before}
 use Rattle.swc_ecma_codegen_base.specs.Written.{IsWord}
 use Rattle.swc_ecma_codegen_base.proofs.BigPrints.{prints_big_int}
 use Rattle.swc_ecma_codegen_base.proofs.Emitting.{minified_same, pretty_same}

@@ -1,25 +1,20 @@
 -- What is written of what is assigned to is what it reads as.
 use Rattle.std.proofs.Common.{Bool, true, false, cond, is_some}
-use Rattle.swc_ecma_codegen_tree.specs.declared.idents.Ident.{Ident}
-use Rattle.swc_ecma_codegen_tree.specs.declared.idents.BindingIdent.{BindingIdent}
 use Rattle.swc_ecma_codegen_tree.specs.declared.pats.AssignTarget.{AssignTarget}
 use Rattle.swc_ecma_codegen_tree.specs.declared.pats.AssignTarget.TheVariants as targets
 use Rattle.swc_ecma_codegen_tree.specs.declared.pats.SimpleAssignTarget.{SimpleAssignTarget}
 use Rattle.swc_ecma_codegen_tree.specs.declared.pats.SimpleAssignTarget.TheVariants as simple_targets
-use Rattle.swc_ecma_codegen_ast.specs.Phrases.{Never}
 use Rattle.swc_ecma_codegen_ast.specs.declared.roles.Role.TheVariants.{MemberExpression}
 use Rattle.swc_ecma_codegen_ast.specs.NamePhrases as names
 use Rattle.swc_ecma_codegen_ast.specs.AssignPhrases as lists
 use Rattle.swc_ecma_codegen_base.proofs.Phrased.{Prints, prints_never}
 use Rattle.swc_ecma_codegen.specs.declared.nodes.Place.TheVariants.{Plain}
-use Rattle.swc_ecma_codegen.specs.Exprs.{ident}
-use Rattle.swc_ecma_codegen.specs.Lists.{unsupported}
 use Rattle.swc_ecma_codegen.specs.Names as bound
 use Rattle.swc_ecma_codegen.specs.Targets as words
 use Rattle.swc_ecma_codegen.proofs.Linked.{Linked}
 use Rattle.swc_ecma_codegen.proofs.NameParts.{binding_ident_prints}
 use Rattle.swc_ecma_codegen.proofs.PatParts.{assign_target_pat_prints}
-use Rattle.swc_ecma_codegen.proofs.ExprParts.{ident_prints, super_prop_expr_prints, paren_prints, opt_chain_prints}
+use Rattle.swc_ecma_codegen.proofs.ExprParts.{super_prop_expr_prints, paren_prints, opt_chain_prints}
 
 simple_prints : {X : Type 0} (l : Linked X) (n : SimpleAssignTarget X) → Prints l.env (words.simple_assign_target l.items n) (lists.simple_assign_target l.reads n)
 unfolding words.simple_assign_target lists.simple_assign_target

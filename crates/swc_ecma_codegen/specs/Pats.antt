@@ -19,7 +19,7 @@ use Rattle.swc_ecma_codegen_spans.specs.Spans.{option_span, pat_span, object_pat
 use Rattle.swc_ecma_codegen_ast.specs.ElementPhrases.{last_is_hole}
 use Rattle.swc_ecma_codegen_base.specs.Run.{Part}
 use Rattle.swc_ecma_codegen_base.specs.Lists.{list}
-use Rattle.swc_ecma_codegen_base.specs.Words.{punct, placed_punct, formatting_space, start_of, end_of, leading_comments, trailing_comments}
+use Rattle.swc_ecma_codegen_base.specs.Words.{punct, placed_punct, formatting_space, end_of, leading_comments, trailing_comments}
 use Rattle.swc_ecma_codegen.specs.declared.nodes.Place.{Place}
 use Rattle.swc_ecma_codegen.specs.declared.nodes.Place.TheVariants.{Plain}
 use Rattle.swc_ecma_codegen.specs.Answers.{Answers, place_of}

@@ -21,7 +21,7 @@ use Rattle.swc_ecma_codegen_base.specs.Keys.{key}
 use Rattle.swc_ecma_codegen_base.specs.Lists.{ListChild, list}
 use Rattle.swc_ecma_codegen_base.specs.Lits.{str_lit, number_lit, big_int_lit}
 use Rattle.swc_ecma_codegen_base.specs.Run.{Part, when_minified}
-use Rattle.swc_ecma_codegen_base.specs.Words.{keyword, punct, formatting_space, line_end, position, last_of, leading_comments}
+use Rattle.swc_ecma_codegen_base.specs.Words.{keyword, punct, formatting_space, line_end, position, last_of}
 use Rattle.swc_ecma_codegen.specs.declared.nodes.Place.{Place}
 use Rattle.swc_ecma_codegen.specs.declared.nodes.Place.TheVariants.{Plain, MethodHead}
 use Rattle.swc_ecma_codegen.specs.Answers.{Answers, place_of}

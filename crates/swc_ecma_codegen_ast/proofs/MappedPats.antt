@@ -19,7 +19,7 @@ use Rattle.swc_ecma_codegen_tree.specs.declared.pats.KeyValuePatProp.{KeyValuePa
 use Rattle.swc_ecma_codegen_tree.specs.declared.pats.AssignTarget.TheVariants as targets
 use Rattle.swc_ecma_codegen_tree.specs.declared.pats.AssignTargetPat.{AssignTargetPat}
 use Rattle.swc_ecma_codegen_tree.specs.declared.pats.AssignTargetPat.TheVariants as target_pats
-use Rattle.swc_ecma_codegen_ast.specs.Phrases.{Phrase, Nothing, ◌>◌, mark, listed}
+use Rattle.swc_ecma_codegen_ast.specs.Phrases.{Phrase, ◌>◌, mark, listed}
 use Rattle.swc_ecma_codegen_ast.specs.declared.roles.Role.{Role}
 use Rattle.swc_ecma_codegen_ast.specs.declared.roles.Role.TheVariants.{Pattern, PlainParameter, AssignmentTarget}
 use Rattle.swc_ecma_codegen_ast.specs.ElementPhrases.{element, last_is_hole, elements_end, trailing_comma}

@@ -10,7 +10,7 @@ use Rattle.swc_ecma_codegen_ast.specs.declared.roles.Role.TheVariants.{PlainPara
 use Rattle.swc_ecma_codegen_ast.specs.PatPhrases.{pat_at}
 use Rattle.swc_ecma_codegen_ast.specs.FunctionPhrases.{word_if, is_some_listed, param, function_body, function, function_head, method_head, is_never, only_parameter, arrow_parameters, arrow_body, arrow_expr}
 use Rattle.swc_ecma_codegen_ast.specs.StmtPhrases.{stmt_at, block_stmt}
-use Rattle.swc_ecma_codegen_ast.specs.Phrases.{Phrase, Never, OptionalParentheses, ◌>◌, mark, word, listed, in_order, is_possible}
+use Rattle.swc_ecma_codegen_ast.specs.Phrases.{Phrase, Never, OptionalParentheses, ◌>◌, mark, word, in_order, is_possible}
 use Rattle.swc_ecma_codegen_grammar.specs.Possible.{all_possible}
 use Rattle.swc_ecma_codegen_grammar.proofs.Lists.{in_order_possible, listed_possible, and_true}
 

@@ -8,7 +8,7 @@ use Rattle.swc_ecma_codegen_ast.specs.declared.roles.Role.{Role}
 use Rattle.swc_ecma_codegen_ast.specs.ElementPhrases.{element, last_is_hole, elements_end, trailing_comma}
 use Rattle.swc_ecma_codegen_ast.specs.NamePhrases.{binding_ident}
 use Rattle.swc_ecma_codegen_ast.specs.PatPhrases.{pat_at, array_pat, rest_pat, object_pat_prop, object_pat, plain_name}
-use Rattle.swc_ecma_codegen_ast.specs.Phrases.{Phrase, Never, Nothing, ◌>◌, mark, listed, is_possible}
+use Rattle.swc_ecma_codegen_ast.specs.Phrases.{Phrase, Never, ◌>◌, mark, listed, is_possible}
 use Rattle.swc_ecma_codegen_grammar.specs.Possible.{all_possible}
 use Rattle.swc_ecma_codegen_grammar.proofs.Lists.{listed_possible, and_true}
 
