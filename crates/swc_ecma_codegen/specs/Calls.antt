@@ -46,13 +46,17 @@ argument_items asks items n place = expr_or_spread asks items n
 abbrev pub array_format : Bool → ℕ
 array_format hole = if hole then 16722 else 338
 
+-- the elements: `a, , b`
+abbrev pub array_elements : {X : Type 0} → (X → Answers) → (X → Place → Part) → ArrayLit X → Part
+array_elements asks items n = list (array_format (last_is_hole n.elems.items)) n.span (map (child_of (option_span (argument_place asks)) (if_some_at (argument_items asks items))) n.elems.items)
+
 -- `[a,,b]` is printed `[a, , b]`, and `[a,,]` `[a, , ]`; minified as they stand here
 unfoldable pub array_lit : {X : Type 0} → (X → Answers) → (X → Place → Part) → ArrayLit X → Part
 array_lit asks items n rest =
     leading_comments n.span.lo
     (start_of n.span
     (punct (codes "[")
-    (list (array_format (last_is_hole n.elems.items)) n.span (map (child_of (option_span (argument_place asks)) (if_some_at (argument_items asks items))) n.elems.items)
+    (array_elements asks items n
     (punct (codes "]") (end_of n.span rest)))))
 
 -- ---- calls

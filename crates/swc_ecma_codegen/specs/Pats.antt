@@ -43,12 +43,16 @@ initializer items (Some n) rest = spaced_punct (codes "=") (items n.node.value P
 abbrev pub array_pat_format : Bool → ℕ
 array_pat_format hole = if hole then 16688 else 304
 
+-- the elements: `a, , b`
+abbrev pub array_pat_elements : {X : Type 0} → (X → Answers) → (X → Place → Part) → ArrayPat X → Part
+array_pat_elements asks items n = list (array_pat_format (last_is_hole n.elems.items)) n.span (map (child_of (option_span (pat_place asks)) (if_some_at (pat_items items))) n.elems.items)
+
 -- `[a, , b]`
 unfoldable pub array_pat_parts : {X : Type 0} → (X → Answers) → (X → Place → Part) → ArrayPat X → Part
 array_pat_parts asks items n rest =
     opened n.span
     (punct (codes "[")
-    (list (array_pat_format (last_is_hole n.elems.items)) n.span (map (child_of (option_span (pat_place asks)) (if_some_at (pat_items items))) n.elems.items)
+    (array_pat_elements asks items n
     (punct (codes "]") (end_of n.span rest))))
 
 unfoldable pub array_pat : {X : Type 0} → (X → Answers) → (X → Place → Part) → ArrayPat X → Part
@@ -84,12 +88,16 @@ object_pat_prop asks items (pat_props.Rest n) rest = rest_pat items n rest
 abbrev pub object_pat_format : ℕ
 object_pat_format = 41392
 
+-- the properties: `a, b: c`
+abbrev pub object_pat_props : {X : Type 0} → (X → Answers) → (X → Place → Part) → ObjectPat X → Part
+object_pat_props asks items n = list object_pat_format n.span (map (child_of (object_pat_prop_span (place_of asks)) (λ p place. object_pat_prop asks items p)) n.props.items)
+
 -- `{ a, b: c }`
 unfoldable pub object_pat_parts : {X : Type 0} → (X → Answers) → (X → Place → Part) → ObjectPat X → Part
 object_pat_parts asks items n rest =
     opened n.span
     (punct (codes "{")
-    (list object_pat_format n.span (map (child_of (object_pat_prop_span (place_of asks)) (λ p place. object_pat_prop asks items p)) n.props.items)
+    (object_pat_props asks items n
     (punct (codes "}") (end_of n.span rest))))
 
 unfoldable pub object_pat : {X : Type 0} → (X → Answers) → (X → Place → Part) → ObjectPat X → Part

@@ -4,7 +4,7 @@ ghost use Rattle.std.specs.Prelude.{◌≡◌, OnOk};
 ghost use Rattle.swc_ecma_codegen_ast.specs.ElementPhrases.{last_is_hole};
 ghost use Rattle.swc_ecma_codegen_base.specs.Choices.{empty_arguments};
 ghost use Rattle.swc_ecma_codegen_base.specs.Run.{Emits};
-ghost use Rattle.swc_ecma_codegen.specs.Calls.{spread_mark, argument_place, argument_items, array_format, array_lit, call_format, new_format, arguments, import_phase, import_callee, super_keyword, callee, call_expr, keeps_arguments, listed_arguments, new_arguments, new_gap, parentheses, new_expr, call_mark, chain_call, is_optional};
+ghost use Rattle.swc_ecma_codegen.specs.Calls.{spread_mark, argument_place, argument_items, array_format, array_elements, array_lit, call_format, new_format, arguments, import_phase, import_callee, super_keyword, callee, call_expr, keeps_arguments, listed_arguments, new_arguments, new_gap, parentheses, new_expr, call_mark, chain_call, is_optional};
 ghost use Rattle.swc_ecma_codegen.specs.View.{state_of};
 
 use crate::emitter::Emitter;
@@ -221,8 +221,7 @@ impl<N: Held> EmitAt for ArrayLit<N> {
         e.leading_comments(self.span.lo)?;
         e.start_of(self.span)?;
         e.punct(Punctuator::LeftBracket)?;
-        let format = array_format(ends_with_hole(&self.elems));
-        e.list(format, self.span, &self.elems)?;
+        e.array_elements(self)?;
         e.punct(Punctuator::RightBracket)?;
         e.end_of(self.span)?;
         Ok(())
@@ -230,6 +229,15 @@ impl<N: Held> EmitAt for ArrayLit<N> {
 }
 
 impl<W: WriteJs, S: SourceMapper, C: Comments> Emitter<'_, W, S, C> {
+    /// Writes the elements of an array.
+    fn array_elements<N: Held>(&mut self, node: &ArrayLit<N>) -> Answer
+        ensures items { Emits (array_elements N.answers N.items node.now) (state_of S.lines W.sheet self.old) (state_of S.lines W.sheet self.new) result }
+        ensures level { OnOk result ((W.sheet self.new.wr).indentation ≡ (W.sheet self.old.wr).indentation) }
+    {
+        let format = array_format(ends_with_hole(&node.elems));
+        self.list(format, node.span, &node.elems)
+    }
+
     /// Writes `...` before what is spread.
     #[tactic(auto, unfolding(crate::specs::Calls::spread_mark))]
     fn spread_mark(&mut self, spread: Option<Span>) -> Answer

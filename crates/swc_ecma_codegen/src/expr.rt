@@ -44,55 +44,69 @@ fn leaves_comments<N>(node: &Expr<N>, place: Place) -> bool
     }
 }
 
+/// Writes an expression by its variant, without the comments after it.
+#[inline(always)]
+#[tactic(auto, unfolding(crate::specs::Exprs::expr_parts))]
+fn expr_parts<N: Held, W: WriteJs, S: SourceMapper, C: Comments>(
+    node: &Expr<N>,
+    e: &mut Emitter<'_, W, S, C>,
+    place: Place,
+) -> Answer
+    ensures items { Emits (expr_parts N.answers N.items node.now place) (state_of S.lines W.sheet e.old) (state_of S.lines W.sheet e.new) result }
+    ensures level { OnOk result ((W.sheet e.new.wr).indentation ≡ (W.sheet e.old.wr).indentation) }
+{
+    match node {
+        Expr::This(node) => node.emit_at(e, place),
+        Expr::Object(node) => node.held().emit_at(e, Place::Plain),
+        Expr::Fn(node) => node.emit_at(e, place),
+        Expr::Array(node) => node.emit_at(e, place),
+        Expr::Unary(node) => node.emit_at(e, place),
+        Expr::Update(node) => node.emit_at(e, place),
+        Expr::Bin(node) => node.emit_at(e, place),
+        Expr::Assign(node) => node.emit_at(e, place),
+        Expr::Member(node) => node.held().emit_at(e, Place::Plain),
+        Expr::SuperProp(node) => node.emit_at(e, place),
+        Expr::Cond(node) => node.emit_at(e, place),
+        Expr::Call(node) => node.emit_at(e, place),
+        Expr::New(node) => node.emit_at(e, place),
+        Expr::Seq(node) => node.emit_at(e, place),
+        Expr::Ident(node) => node.emit_at(e, place),
+        Expr::Lit(node) => node.emit_at(e, place),
+        Expr::Arrow(node) => node.emit_at(e, place),
+        Expr::Yield(node) => node.emit_at(e, place),
+        Expr::MetaProp(node) => node.emit_at(e, place),
+        Expr::Await(node) => node.emit_at(e, place),
+        Expr::Paren(node) => node.emit_at(e, place),
+        Expr::OptChain(node) => node.emit_at(e, place),
+        Expr::Tpl(_)
+        | Expr::TaggedTpl(_)
+        | Expr::Class(_)
+        | Expr::JSXMember(_)
+        | Expr::JSXNamespacedName(_)
+        | Expr::JSXEmpty(_)
+        | Expr::JSXElement(_)
+        | Expr::JSXFragment(_)
+        | Expr::TsTypeAssertion(_)
+        | Expr::TsConstAssertion(_)
+        | Expr::TsNonNull(_)
+        | Expr::TsAs(_)
+        | Expr::TsInstantiation(_)
+        | Expr::TsSatisfies(_)
+        | Expr::PrivateName(_)
+        | Expr::Invalid(_) => e.unsupported(),
+    }
+}
+
 impl<N: Held> EmitAt for Expr<N> {
     ghost items = { expr N.answers N.items };
 
-    #[tactic(auto, unfolding(crate::specs::Exprs::expr, crate::specs::Exprs::expr_parts))]
+    #[tactic(auto, unfolding(crate::specs::Exprs::expr))]
     fn emit_at<W: WriteJs, S: SourceMapper, C: Comments>(
         &self,
         e: &mut Emitter<'_, W, S, C>,
         place: Place,
     ) -> Answer {
-        match self {
-            Expr::This(node) => node.emit_at(e, place)?,
-            Expr::Object(node) => node.held().emit_at(e, Place::Plain)?,
-            Expr::Fn(node) => node.emit_at(e, place)?,
-            Expr::Array(node) => node.emit_at(e, place)?,
-            Expr::Unary(node) => node.emit_at(e, place)?,
-            Expr::Update(node) => node.emit_at(e, place)?,
-            Expr::Bin(node) => node.emit_at(e, place)?,
-            Expr::Assign(node) => node.emit_at(e, place)?,
-            Expr::Member(node) => node.held().emit_at(e, Place::Plain)?,
-            Expr::SuperProp(node) => node.emit_at(e, place)?,
-            Expr::Cond(node) => node.emit_at(e, place)?,
-            Expr::Call(node) => node.emit_at(e, place)?,
-            Expr::New(node) => node.emit_at(e, place)?,
-            Expr::Seq(node) => node.emit_at(e, place)?,
-            Expr::Ident(node) => node.emit_at(e, place)?,
-            Expr::Lit(node) => node.emit_at(e, place)?,
-            Expr::Arrow(node) => node.emit_at(e, place)?,
-            Expr::Yield(node) => node.emit_at(e, place)?,
-            Expr::MetaProp(node) => node.emit_at(e, place)?,
-            Expr::Await(node) => node.emit_at(e, place)?,
-            Expr::Paren(node) => node.emit_at(e, place)?,
-            Expr::OptChain(node) => node.emit_at(e, place)?,
-            Expr::Tpl(_)
-            | Expr::TaggedTpl(_)
-            | Expr::Class(_)
-            | Expr::JSXMember(_)
-            | Expr::JSXNamespacedName(_)
-            | Expr::JSXEmpty(_)
-            | Expr::JSXElement(_)
-            | Expr::JSXFragment(_)
-            | Expr::TsTypeAssertion(_)
-            | Expr::TsConstAssertion(_)
-            | Expr::TsNonNull(_)
-            | Expr::TsAs(_)
-            | Expr::TsInstantiation(_)
-            | Expr::TsSatisfies(_)
-            | Expr::PrivateName(_)
-            | Expr::Invalid(_) => e.unsupported()?,
-        }
+        expr_parts(self, e, place)?;
         e.expr_closed(leaves_comments(self, place), expr_place(self))?;
         Ok(())
     }

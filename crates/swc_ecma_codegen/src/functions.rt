@@ -3,7 +3,7 @@
 ghost use Rattle.std.specs.Prelude.{◌≡◌, Bool, OnOk};
 ghost use Rattle.swc_ecma_codegen_literals.specs.Punctuators.{spelling};
 ghost use Rattle.swc_ecma_codegen_base.specs.Run.{Emits};
-ghost use Rattle.swc_ecma_codegen.specs.Functions.{decorator, param, function_body, fn_trailing, async_word, star, function_head, method_head, function, optional_name, fn_expr, is_plain, is_name, is_only, async_arrow, parenthesis, arrow_parameters, arrow_body, arrow_expr};
+ghost use Rattle.swc_ecma_codegen.specs.Functions.{comma_list_format, decorators_format, decorator, param, function_body, fn_trailing, async_word, star, function_head, method_head, function, optional_name, fn_expr, is_plain, is_name, is_only, async_arrow, parenthesis, arrow_parameters, arrow_body, arrow_expr};
 ghost use Rattle.swc_ecma_codegen.specs.View.{state_of};
 
 use crate::blocks::is_some_listed;
@@ -19,6 +19,20 @@ use swc_ecma_codegen_text_writer::WriteJs;
 use swc_ecma_codegen_tree::{
     ArrowExpr, BlockStmtBox, BlockStmtOrExpr, Decorator, FnExpr, Function, Ident, Param, PatBox,
 };
+
+/// The format of parameters.
+fn comma_list_format() -> ListFormat
+    ensures { result.0 ≡ comma_list_format }
+{
+    ListFormat::CommaListElements
+}
+
+/// The format of a parameter's decorators.
+fn decorators_format() -> ListFormat
+    ensures { result.0 ≡ decorators_format }
+{
+    ListFormat::Decorators
+}
 
 /// Whether the only parameter is a name alone.
 #[tactic(auto, unfolding(crate::specs::Functions::is_only, crate::specs::Functions::is_plain))]
@@ -163,7 +177,7 @@ impl<N: Held> EmitAt for Param<N> {
     ) -> Answer {
         e.leading_comments(self.span.lo)?;
         e.start_of(self.span)?;
-        e.list(ListFormat::Decorators, self.span, &self.decorators)?;
+        e.list(decorators_format(), self.span, &self.decorators)?;
         self.pat.held().emit_at(e, Place::Plain)?;
         e.end_of(self.span)?;
         Ok(())
@@ -239,7 +253,7 @@ impl<W: WriteJs, S: SourceMapper, C: Comments> Emitter<'_, W, S, C> {
             return self.unsupported();
         }
         self.punct(Punctuator::LeftParenthesis)?;
-        self.list(ListFormat::CommaListElements, node.span, &node.params)?;
+        self.list(comma_list_format(), node.span, &node.params)?;
         self.punct(Punctuator::RightParenthesis)?;
         self.function_body(&node.body)?;
         Ok(())
@@ -312,7 +326,7 @@ impl<W: WriteJs, S: SourceMapper, C: Comments> Emitter<'_, W, S, C> {
     {
         let plain = is_only_plain(&node.params);
         self.parenthesis(plain, Punctuator::LeftParenthesis)?;
-        self.list(ListFormat::CommaListElements, node.span, &node.params)?;
+        self.list(comma_list_format(), node.span, &node.params)?;
         self.parenthesis(plain, Punctuator::RightParenthesis)?;
         Ok(())
     }

@@ -4,7 +4,7 @@ ghost use Rattle.std.specs.Prelude.{◌≡◌, OnOk};
 ghost use Rattle.swc_ecma_codegen_spans.specs.Spans.{pat_span, object_pat_prop_span};
 ghost use Rattle.swc_ecma_codegen_base.specs.Run.{Emits};
 ghost use Rattle.swc_ecma_codegen.specs.Answers.{place_of};
-ghost use Rattle.swc_ecma_codegen.specs.Pats.{initializer, array_pat_format, array_pat, rest_pat, assign_pat, key_value_pat_prop, assign_pat_prop, object_pat_prop, object_pat_format, object_pat, pat, assign_target_pat};
+ghost use Rattle.swc_ecma_codegen.specs.Pats.{initializer, array_pat_format, array_pat_elements, array_pat, rest_pat, assign_pat, key_value_pat_prop, assign_pat_prop, object_pat_prop, object_pat_format, object_pat_props, object_pat, pat, assign_target_pat};
 ghost use Rattle.swc_ecma_codegen.specs.View.{state_of};
 
 use crate::calls::ends_with_hole;
@@ -121,8 +121,7 @@ impl<N: Held> EmitAt for ArrayPat<N> {
         }
         e.opened(self.span)?;
         e.punct(Punctuator::LeftBracket)?;
-        let format = array_pat_format(ends_with_hole(&self.elems));
-        e.list(format, self.span, &self.elems)?;
+        e.array_pat_elements(self)?;
         e.punct(Punctuator::RightBracket)?;
         e.end_of(self.span)?;
         Ok(())
@@ -161,7 +160,7 @@ impl<N: Held> EmitAt for ObjectPat<N> {
         }
         e.opened(self.span)?;
         e.punct(Punctuator::LeftBrace)?;
-        e.list(object_pat_format(), self.span, &self.props)?;
+        e.object_pat_props(self)?;
         e.punct(Punctuator::RightBrace)?;
         e.end_of(self.span)?;
         Ok(())
@@ -254,6 +253,23 @@ fn pat_place<N: AskPlace>(node: &Pat<N>) -> Span
 }
 
 impl<W: WriteJs, S: SourceMapper, C: Comments> Emitter<'_, W, S, C> {
+    /// Writes the elements of an array.
+    fn array_pat_elements<N: Held>(&mut self, node: &ArrayPat<N>) -> Answer
+        ensures items { Emits (array_pat_elements N.answers N.items node.now) (state_of S.lines W.sheet self.old) (state_of S.lines W.sheet self.new) result }
+        ensures level { OnOk result ((W.sheet self.new.wr).indentation ≡ (W.sheet self.old.wr).indentation) }
+    {
+        let format = array_pat_format(ends_with_hole(&node.elems));
+        self.list(format, node.span, &node.elems)
+    }
+
+    /// Writes the properties of an object.
+    fn object_pat_props<N: Held>(&mut self, node: &ObjectPat<N>) -> Answer
+        ensures items { Emits (object_pat_props N.answers N.items node.now) (state_of S.lines W.sheet self.old) (state_of S.lines W.sheet self.new) result }
+        ensures level { OnOk result ((W.sheet self.new.wr).indentation ≡ (W.sheet self.old.wr).indentation) }
+    {
+        self.list(object_pat_format(), node.span, &node.props)
+    }
+
     /// Writes `= b` of `a = b`.
     #[tactic(auto, unfolding(crate::specs::Pats::initializer))]
     fn initializer<N: Held>(&mut self, value: &Option<ExprBox<N>>) -> Answer
