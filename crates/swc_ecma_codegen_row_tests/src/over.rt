@@ -18,7 +18,8 @@ fn is_printed(
     for (minified, text) in [false, true].into_iter().zip(texts) {
         let manner = Manner {
             minified,
-            omits: false,
+            holds: false,
+            omits_last: false,
             comma,
         };
         let is_text = match printed_over(alloc, source, tree.json.as_bytes(), minified) {
