@@ -48,6 +48,11 @@ impl Step {
         }
     }
 
+    /// Whether a row of this sort said it.
+    pub fn is_of(&self, sort: Sort) -> bool {
+        self.sort == sort
+    }
+
     /// How many operands it takes.
     pub fn operands(&self) -> usize {
         places(self.json.as_str())
