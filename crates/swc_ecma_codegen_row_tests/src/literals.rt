@@ -61,7 +61,10 @@ fn is_printed(
         ";\n"
     };
     let text = format!(in alloc; "{text}{end}")?;
-    Ok(prints_with(alloc, words, json.as_bytes(), &text)? && reads_as(alloc, &text, tokens, PRETTY)?)
+    Ok(
+        prints_with(alloc, words, json.as_bytes(), &text)?
+            && reads_as(alloc, &text, tokens, PRETTY)?,
+    )
 }
 
 /// The texts of the columns. An empty one is that of the column before.

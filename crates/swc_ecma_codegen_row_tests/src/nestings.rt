@@ -76,7 +76,7 @@ pub fn are_printed(
     let mut pretty = pretty.split('¦');
     let mut minified = minified.split('¦');
     for inner in steps {
-        if inner.sort == sort {
+        if inner.is_of(sort) {
             let (Some(pretty), Some(minified)) = (pretty.next(), minified.next()) else {
                 return Ok(false);
             };

@@ -37,10 +37,22 @@ fn answer(alloc: Global, steps: &[Step], line: &str) -> Result<bool, AllocError>
         }
         [word, words, pretty, minified] => of_steps(alloc, steps, word, words, [pretty, minified]),
         [word, outer, place, pretty, minified] if word.as_str() == "nestings" => {
-            are_printed(alloc, steps, Sort::Operator, [outer, place], [pretty, minified])
+            are_printed(
+                alloc,
+                steps,
+                Sort::Operator,
+                [outer, place],
+                [pretty, minified],
+            )
         }
         [word, outer, place, pretty, minified] if word.as_str() == "placed" => {
-            are_printed(alloc, steps, Sort::Expression, [outer, place], [pretty, minified])
+            are_printed(
+                alloc,
+                steps,
+                Sort::Expression,
+                [outer, place],
+                [pretty, minified],
+            )
         }
         [word, literal, tokens, texts, of_member] if word.as_str() == "literal" => {
             literals::has_texts(alloc, literal, tokens, [texts, of_member])

@@ -48,6 +48,11 @@ impl Step {
         }
     }
 
+    /// Whether a row of this sort said it.
+    pub fn is_of(&self, sort: Sort) -> bool {
+        self.sort == sort
+    }
+
     /// How many operands it takes.
     pub fn operands(&self) -> usize {
         places(self.json.as_str())
@@ -170,8 +175,12 @@ fn joined(alloc: Global, texts: &[String], between: &str) -> Result<String, Allo
 
 /// The script of the expression that steps make.
 pub fn expression(alloc: Global, steps: &[&Step]) -> Result<Tree, AllocError> {
-    let expr = made(alloc, steps, Part::Json)?.pop().unwrap_or(String::new(alloc));
-    let mut tokens = made(alloc, steps, Part::Tokens)?.pop().unwrap_or(String::new(alloc));
+    let expr = made(alloc, steps, Part::Json)?
+        .pop()
+        .unwrap_or(String::new(alloc));
+    let mut tokens = made(alloc, steps, Part::Tokens)?
+        .pop()
+        .unwrap_or(String::new(alloc));
     tokens.push_str(" e:;")?;
     Ok(Tree {
         json: json(alloc, script(alloc, &expr)?.as_str())?,

@@ -75,7 +75,9 @@ pub fn is_formed(alloc: Global, tree: &Tree, well_formed: bool) -> bool {
 pub fn prints_expr(alloc: Global, json: &str, text: &str) -> bool {
     match texts_where(alloc, json, true) {
         Some(texts) => {
-            is_alone(&texts) && texts.pretty.as_str() == text && prints(alloc, json.as_bytes(), text)
+            is_alone(&texts)
+                && texts.pretty.as_str() == text
+                && prints(alloc, json.as_bytes(), text)
         }
         None => false,
     }
