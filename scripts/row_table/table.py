@@ -67,11 +67,13 @@ def written(tokens, words, comma=False):
     The commas at the ends of lists stand with `comma`, where the source text has them.
     """
     is_minified = "--minify" in words
-    omits = is_minified and "--omit-last-semi" in words
+    # (a writer that holds semicolons back loses those before a closing brace and before others)
+    left = {"p:}", "p:;", "e:;"} if is_minified and "--bare" not in words else set()
+    if is_minified and "--omit-last-semi" in words:
+        left.add(None)
     absent = "PC" * is_minified + "cC" * (not comma)
     found = ["p" + token[1:] if token[0] in "PcC" else token for token in tokens.split() if token[0] not in absent]
-    left = {"p:}", "p:;", "e:;", None}
-    return [token for token, after in zip(found, found[1:] + [None]) if not (omits and token == "e:;" and after in left)]
+    return [token for token, after in zip(found, found[1:] + [None]) if token != "e:;" or after not in left]
 
 
 class Table:

@@ -5,8 +5,11 @@ use crate::fields::{bytes, fields, json, script};
 use crate::literals;
 use crate::looks::look;
 use crate::nestings::are_printed;
+use crate::over::{has_commas, has_texts_over};
 use crate::runs::{answers, given, prints, refuses};
-use crate::steps::{Sort, Step, Tree, all_named, expression, is_step, statements};
+use crate::steps::{
+    Sort, Step, Tree, all_named, expression, expression_in_places, is_step, statements,
+};
 use crate::trees::{has_texts, is_formed, is_printed_with, prints_expr};
 use std::alloc::{AllocError, Global};
 use swc_ecma_codegen_common::Error;
@@ -53,6 +56,20 @@ fn answer(alloc: Global, steps: &[Step], line: &str) -> Result<bool, AllocError>
                 [outer, place],
                 [pretty, minified],
             )
+        }
+        [word, lines, words, pretty, minified] if word.as_str() == "over" => {
+            match in_places(alloc, steps, words)? {
+                Some(tree) => has_texts_over(alloc, lines, &tree, [pretty, minified]),
+                None => Ok(false),
+            }
+        }
+        [word, words, pretty, minified, longer, short, marks] if word.as_str() == "commas" => {
+            match in_places(alloc, steps, words)? {
+                Some(tree) => {
+                    has_commas(alloc, &tree, [[pretty, minified], [longer, short]], marks)
+                }
+                None => Ok(false),
+            }
         }
         [word, literal, tokens, texts, of_member] if word.as_str() == "literal" => {
             literals::has_texts(alloc, literal, tokens, [texts, of_member])
@@ -114,6 +131,14 @@ fn tree_of(
     match all_named(alloc, steps, words)? {
         Some(found) if word.starts_with("script") => Ok(Some(statements(alloc, &found)?)),
         Some(found) => Ok(Some(expression(alloc, &found)?)),
+        None => Ok(None),
+    }
+}
+
+/// The tree that steps make, where each node has a place of its own.
+fn in_places(alloc: Global, steps: &[Step], words: &str) -> Result<Option<Tree>, AllocError> {
+    match all_named(alloc, steps, words)? {
+        Some(found) => Ok(Some(expression_in_places(alloc, &found)?)),
         None => Ok(None),
     }
 }

@@ -1,6 +1,6 @@
 //! Trees in steps: their JSON, and their tokens in the order of the text, by the grammar alone.
 
-use crate::fields::{fields, json, script, script_of};
+use crate::fields::{fields, json, json_in_places, script, script_of};
 use std::alloc::{AllocError, Global};
 
 /// Stands for an operand.
@@ -186,6 +186,16 @@ pub fn expression(alloc: Global, steps: &[&Step]) -> Result<Tree, AllocError> {
         json: json(alloc, script(alloc, &expr)?.as_str())?,
         tokens,
         is_expression: true,
+    })
+}
+
+/// The same, where each node has a place of its own.
+pub fn expression_in_places(alloc: Global, steps: &[&Step]) -> Result<Tree, AllocError> {
+    let expr = made(alloc, steps, Part::Json)?.pop().unwrap_or(String::new(alloc));
+    let tree = expression(alloc, steps)?;
+    Ok(Tree {
+        json: json_in_places(alloc, script(alloc, &expr)?.as_str())?,
+        ..tree
     })
 }
 
