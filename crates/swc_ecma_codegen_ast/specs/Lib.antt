@@ -4,6 +4,7 @@ pub mod Chars
 pub mod CodeUnits
 pub mod CommentMaps
 pub mod DecimalValues
+pub mod DeclPhrases
 pub mod ElementPhrases
 pub mod Endings
 pub mod ExprPhrases

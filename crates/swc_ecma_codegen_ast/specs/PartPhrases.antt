@@ -5,12 +5,13 @@ use Rattle.swc_ecma_codegen_tree.specs.declared.parts.StmtPart.{StmtPart}
 use Rattle.swc_ecma_codegen_tree.specs.declared.parts.StmtPart.TheVariants as stmt_parts
 use Rattle.swc_ecma_codegen_ast.specs.Phrases.{Phrase, Never}
 use Rattle.swc_ecma_codegen_ast.specs.declared.roles.Role.{Role}
-use Rattle.swc_ecma_codegen_ast.specs.declared.roles.Role.TheVariants.{AssignmentTarget, Pattern, PlainParameter, PropertyName, PropertyDefinition, ObjectLiteral, Function, FunctionHead, MethodHead, Block, ChainCall}
+use Rattle.swc_ecma_codegen_ast.specs.declared.roles.Role.TheVariants.{AssignmentTarget, Pattern, PlainParameter, PropertyName, PropertyDefinition, ObjectLiteral, Function, FunctionHead, MethodHead, Block, Declaration, VariableDeclaration, ChainCall}
 use Rattle.swc_ecma_codegen_ast.specs.AssignPhrases.{assign_target}
 use Rattle.swc_ecma_codegen_ast.specs.CallPhrases.{chain_call}
 use Rattle.swc_ecma_codegen_ast.specs.PatPhrases.{pat, plain_parameter}
 use Rattle.swc_ecma_codegen_ast.specs.PropPhrases.{object_lit, prop_name, prop}
 use Rattle.swc_ecma_codegen_ast.specs.FunctionPhrases.{function, function_head, method_head}
+use Rattle.swc_ecma_codegen_ast.specs.DeclPhrases.{decl, var_decl}
 use Rattle.swc_ecma_codegen_ast.specs.StmtPhrases.{block_stmt}
 
 unfoldable pub expr_part : {X : Type 0} → (X → Role → Phrase) → ExprPart X → Role → Phrase
@@ -28,4 +29,6 @@ stmt_part f (stmt_parts.Function n) Function = function f n.value
 stmt_part f (stmt_parts.Function n) FunctionHead = function_head n.value
 stmt_part f (stmt_parts.Function n) MethodHead = method_head n.value
 stmt_part f (stmt_parts.BlockStmt n) Block = block_stmt f n
+stmt_part f (stmt_parts.Decl n) Declaration = decl f n.value
+stmt_part f (stmt_parts.VarDecl n) VariableDeclaration = var_decl f n
 stmt_part f n role = Never

@@ -33,4 +33,8 @@ pub enum Role {
     MethodHead,
     /// `{ a; }`.
     Block,
+    /// `let a = b;` or `function f() {}`.
+    Declaration,
+    /// `let a = b`, without its semicolon.
+    VariableDeclaration,
 }
