@@ -11,6 +11,7 @@ pub mod Mapped
 pub mod MappedFunctions
 pub mod MappedPats
 pub mod MappedProps
+pub mod MappedStmts
 pub mod MappedCalls
 pub mod MarkMatch
 pub mod Marks

@@ -30,19 +30,18 @@ use Rattle.swc_ecma_codegen_tree.specs.declared.idents.Ident.{Ident}
 use Rattle.swc_ecma_codegen_tree.specs.declared.parts.StmtPart.{StmtPart}
 use Rattle.swc_ecma_codegen_tree.specs.declared.parts.StmtPart.TheVariants as stmt_parts
 use Rattle.swc_ecma_codegen_tree.specs.declared.stmts.Stmt.{Stmt}
-use Rattle.swc_ecma_codegen_tree.specs.declared.stmts.Stmt.TheVariants as stmts
 use Rattle.swc_ecma_codegen_ast.specs.Phrases.{Phrase, some_listed}
 use Rattle.swc_ecma_codegen_ast.specs.declared.roles.Role.{Role}
-use Rattle.swc_ecma_codegen_ast.specs.declared.roles.Role.TheVariants.{Expression, Statement, MemberExpression, ChainMember, AssignmentTarget, Pattern, PlainParameter, PropertyName, PropertyDefinition, ObjectLiteral, Function, Block, Callee, ChainCall}
+use Rattle.swc_ecma_codegen_ast.specs.declared.roles.Role.TheVariants.{Expression, Statement, MemberExpression, ChainMember, AssignmentTarget, Pattern, PlainParameter, PropertyName, PropertyDefinition, ObjectLiteral, Function, Block, Declaration, VariableDeclaration, Callee, ChainCall}
 use Rattle.swc_ecma_codegen_ast.specs.ExprPhrases.{expr, expr_at, this_expr, unary_expr, update_expr, bin_expr, computed_prop_name, member_prop, member_expr, super_prop, super_prop_expr, chain_mark, chain_prop, chain_member, chain_base, opt_chain_expr, meta_prop_expr, assign_expr, yield_arg, yield_expr, await_expr, cond_expr, seq_expr, paren_expr, expr_in}
 use Rattle.swc_ecma_codegen_ast.specs.NamePhrases.{binding_ident}
 use Rattle.swc_ecma_codegen_ast.specs.AssignPhrases.{assign_target, simple_assign_target}
 use Rattle.swc_ecma_codegen_ast.specs.PartPhrases.{expr_part, stmt_part}
-use Rattle.swc_ecma_codegen_ast.specs.StmtPhrases.{stmt, empty_stmt, expr_stmt}
 use Rattle.swc_ecma_codegen_ast.specs.FunctionPhrases.{function_head, method_head, fn_expr}
 use Rattle.swc_ecma_codegen_ast.specs.TreePhrases.{node_phrase, phrase}
 use Rattle.swc_ecma_codegen_ast.proofs.Mapped.{list_mapped}
 use Rattle.swc_ecma_codegen_ast.proofs.MappedFunctions.{function_part_mapped, block_mapped, arrow_expr_mapped}
+use Rattle.swc_ecma_codegen_ast.proofs.MappedStmts.{stmt_mapped, decl_mapped, var_decl_mapped}
 use Rattle.swc_ecma_codegen_ast.proofs.MappedPats.{pat_mapped, plain_mapped, target_pat_mapped}
 use Rattle.swc_ecma_codegen_ast.proofs.MappedProps.{prop_name_mapped, prop_mapped, object_lit_mapped}
 use Rattle.swc_ecma_codegen_ast.proofs.MappedCalls.{array_lit_mapped, call_mapped, new_mapped, chain_call_mapped}
@@ -81,11 +80,6 @@ callee_mapped : {X Y : Type 0} (g : X → Y) (f : Y → Role → Phrase) (n : Ex
 unfolding node_phrase expr_in
 callee_mapped g f (exprs.New n) = new_mapped g f true n
 callee_mapped g f n = expr_mapped g f n
-
-stmt_mapped : {X Y : Type 0} (g : X → Y) (f : Y → Role → Phrase) (n : Stmt X) → node_phrase f (map-AnyNode X Y g (nodes.Stmt n)) Statement ≡ stmt (λ x. f (g x)) n
-unfolding node_phrase stmt empty_stmt expr_stmt
-stmt_mapped g f (stmts.Empty n) = refl
-stmt_mapped g f n = refl
 
 member_mapped : {X Y : Type 0} (g : X → Y) (f : Y → Role → Phrase) (span : Span) (obj : ExprBox X) (prop : MemberProp X) → node_phrase f (map-AnyNode X Y g (nodes.MemberExpr (record { span = span; obj = obj; prop = prop }))) MemberExpression ≡ member_expr (λ x. f (g x)) (record { span = span; obj = obj; prop = prop })
 unfolding node_phrase member_expr member_prop computed_prop_name
@@ -148,6 +142,8 @@ stmt_part_mapped : {X Y : Type 0} (g : X → Y) (f : Y → Role → Phrase) (n :
 unfolding node_phrase stmt_part function_head method_head
 stmt_part_mapped g f (stmt_parts.Function n) Function = function_part_mapped g f n
 stmt_part_mapped g f (stmt_parts.BlockStmt n) Block = block_mapped g f n
+stmt_part_mapped g f (stmt_parts.Decl n) Declaration = decl_mapped g f n
+stmt_part_mapped g f (stmt_parts.VarDecl n) VariableDeclaration = var_decl_mapped g f n
 stmt_part_mapped g f n role = refl
 
 node_mapped : {X Y : Type 0} (g : X → Y) (f : Y → Role → Phrase) (n : AnyNode-F X) (role : Role) → node_phrase f (map-AnyNode X Y g n) role ≡ node_phrase (λ x. f (g x)) n role
