@@ -14,7 +14,7 @@ use Rattle.swc_ecma_codegen_ast.specs.Phrases.{Phrase, Never, OptionalParenthese
 use Rattle.swc_ecma_codegen_grammar.specs.Possible.{all_possible}
 use Rattle.swc_ecma_codegen_grammar.proofs.Lists.{in_order_possible, listed_possible, and_true}
 
-word_possible : (b : Bool) (t : List ℕ) → is_possible (word_if b (word t)) ≡ true
+pub word_possible : (b : Bool) (t : List ℕ) → is_possible (word_if b (word t)) ≡ true
 unfolding is_possible word_if
 word_possible true t = refl
 word_possible false t = refl

@@ -2,15 +2,15 @@
 
 ghost use Rattle.std.specs.Prelude.{◌≡◌, Bool, List, true};
 ghost use Rattle.swc_ecma_codegen_ast.specs.declared.roles.Role.{Role as InRole};
-ghost use Rattle.swc_ecma_codegen_ast.specs.declared.roles.Role.TheVariants.{Expression, Statement, MemberExpression, AssignmentTarget, Pattern, PropertyName, PropertyDefinition, ObjectLiteral, Function, Block};
+ghost use Rattle.swc_ecma_codegen_ast.specs.declared.roles.Role.TheVariants.{Expression, Statement, MemberExpression, AssignmentTarget, Pattern, PropertyName, PropertyDefinition, ObjectLiteral, Function, Block, Declaration, VariableDeclaration};
 ghost use Rattle.swc_ecma_codegen_ast.specs.ElementPhrases.{element};
 ghost use Rattle.swc_ecma_codegen_ast.specs.Phrases.{Phrase, is_possible};
 ghost use Rattle.swc_ecma_codegen_grammar.specs.Possible.{all_possible};
 
 use swc_ecma_codegen_ast::roles::Role;
 use swc_ecma_codegen_tree::{
-    AssignTargetBox, BlockStmtBox, ExprBox, FunctionBox, MemberExprBox, ObjectLitBox, PatBox,
-    PropBox, PropNameBox, StmtBox,
+    AssignTargetBox, BlockStmtBox, DeclBox, ExprBox, FunctionBox, MemberExprBox, ObjectLitBox,
+    PatBox, PropBox, PropNameBox, StmtBox, VarDeclBox,
 };
 
 /// A node, or a link to one.
@@ -108,6 +108,22 @@ impl<N: Fits> WellFormed for BlockStmtBox<N> {
 
     fn is_well_formed(&self) -> bool {
         self.held().fits(Role::Block)
+    }
+}
+
+impl<N: Fits> WellFormed for DeclBox<N> {
+    ghost phrase = { λ n. N.reads n.node.value Declaration };
+
+    fn is_well_formed(&self) -> bool {
+        self.held().fits(Role::Declaration)
+    }
+}
+
+impl<N: Fits> WellFormed for VarDeclBox<N> {
+    ghost phrase = { λ n. N.reads n.node.value VariableDeclaration };
+
+    fn is_well_formed(&self) -> bool {
+        self.held().fits(Role::VariableDeclaration)
     }
 }
 

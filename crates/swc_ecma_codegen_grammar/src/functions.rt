@@ -54,7 +54,7 @@ impl<N: Fits> WellFormed for Function<N> {
 
 /// Whether a name is well-formed, or there is none.
 #[tactic(auto, unfolding(swc_ecma_codegen_ast::specs::FunctionPhrases::optional_name, swc_ecma_codegen_ast::specs::Phrases::is_possible))]
-fn is_optional_name(name: &Option<Ident>) -> bool
+pub(crate) fn is_optional_name(name: &Option<Ident>) -> bool
     ensures { result ≡ is_possible (optional_name name.now) }
 {
     match name {

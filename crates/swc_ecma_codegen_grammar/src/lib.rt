@@ -4,6 +4,7 @@
 mod big_integers;
 mod calls;
 mod code_units;
+mod decls;
 pub mod exprs;
 pub mod forms;
 mod functions;

@@ -36,6 +36,8 @@ pub(crate) fn stmt_part_fits<N: Fits>(part: &StmtPart<N>, role: Role) -> bool
         (StmtPart::Function(node), Role::Function) => node.is_well_formed(),
         (StmtPart::Function(_), Role::FunctionHead | Role::MethodHead) => true,
         (StmtPart::BlockStmt(node), Role::Block) => node.is_well_formed(),
+        (StmtPart::Decl(node), Role::Declaration) => (**node).is_well_formed(),
+        (StmtPart::VarDecl(node), Role::VariableDeclaration) => node.is_well_formed(),
         _ => false,
     }
 }

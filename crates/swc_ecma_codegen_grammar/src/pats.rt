@@ -12,7 +12,7 @@ use swc_ecma_codegen_tree::{
 
 /// Whether what `= a` gives is well-formed, where there is such.
 #[tactic(auto, unfolding(swc_ecma_codegen_ast::specs::PatPhrases::initializer, swc_ecma_codegen_ast::specs::Phrases::is_possible))]
-fn is_initializer<N: Fits>(value: &Option<ExprBox<N>>) -> bool
+pub(crate) fn is_initializer<N: Fits>(value: &Option<ExprBox<N>>) -> bool
     ensures { result ≡ is_possible (initializer N.reads value.now) }
 {
     match value {
