@@ -1,6 +1,7 @@
 pub mod KindLaws
 pub mod SpaceLaws
 pub mod PatternLaws
+pub mod BranchLaws
 pub mod PatKnots
 pub mod FunctionKnots
 pub mod PropKnots

@@ -16,7 +16,7 @@ use Rattle.swc_ecma_codegen_base.specs.Run.{Part, when_minified, no_part}
 use Rattle.swc_ecma_codegen_base.specs.Lists.{list, deeper, shallower}
 use Rattle.swc_ecma_codegen_base.specs.Words.{keyword, punct, semi, space, formatting_space, line_end, commit_pending_semi, start_of, end_of, leading_comments, name}
 use Rattle.swc_ecma_codegen.specs.declared.nodes.Place.{Place}
-use Rattle.swc_ecma_codegen.specs.declared.nodes.Place.TheVariants.{Plain, Body, FunctionHead, MethodHead}
+use Rattle.swc_ecma_codegen.specs.declared.nodes.Place.TheVariants.{Plain, Body, FunctionHead, MethodHead, DeclarationHead}
 use Rattle.swc_ecma_codegen.specs.declared.patterns.PatternKind.{PatternKind}
 use Rattle.swc_ecma_codegen.specs.declared.patterns.PatternKind.TheVariants.{PlainName, Name}
 use Rattle.swc_ecma_codegen.specs.Answers.{Answers}
@@ -77,6 +77,14 @@ star wanted rest = if wanted then punct (codes "*") rest else rest
 unfoldable pub function_head : {X : Type 0} → functions.Function X → Part
 function_head n rest = async_word n.is_async (keyword None (codes "function") (star n.is_generator rest))
 
+-- a blank before a name, or `*` and one that needn't be there
+unfoldable pub star_or_space : Bool → Part
+star_or_space wanted rest = if wanted then punct (codes "*") (formatting_space rest) else space rest
+
+-- `async function*` and the blank before a name
+unfoldable pub declaration_head : {X : Type 0} → functions.Function X → Part
+declaration_head n rest = async_word n.is_async (keyword None (codes "function") (star_or_space n.is_generator rest))
+
 -- `async *` of a method
 unfoldable pub method_head : {X : Type 0} → functions.Function X → Part
 method_head n rest = async_word n.is_async (star n.is_generator rest)
@@ -85,6 +93,7 @@ method_head n rest = async_word n.is_async (star n.is_generator rest)
 unfoldable pub function : {X : Type 0} → (X → Place → Part) → functions.Function X → Place → Part
 function items n FunctionHead rest = function_head n rest
 function items n MethodHead rest = method_head n rest
+function items n DeclarationHead rest = declaration_head n rest
 function items n place rest = fn_trailing items n rest
 
 -- a blank and a name, where there is one

@@ -1,5 +1,6 @@
 pub mod Operands
 pub mod Patterns
+pub mod Branches
 pub mod Answers
 pub mod View
 pub mod Lists
@@ -14,6 +15,7 @@ pub mod Props
 pub mod Blocks
 pub mod Targets
 pub mod Parts
+pub mod Decls
 pub mod Stmts
 pub mod Programs
 pub mod Tree

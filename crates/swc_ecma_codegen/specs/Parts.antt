@@ -7,6 +7,7 @@ use Rattle.swc_ecma_codegen_base.specs.Run.{Part}
 use Rattle.swc_ecma_codegen.specs.declared.nodes.Place.{Place}
 use Rattle.swc_ecma_codegen.specs.Answers.{Answers}
 use Rattle.swc_ecma_codegen.specs.Blocks.{block_stmt}
+use Rattle.swc_ecma_codegen.specs.Decls.{decl, var_decl}
 use Rattle.swc_ecma_codegen.specs.Functions.{function}
 use Rattle.swc_ecma_codegen.specs.Calls.{chain_call, is_optional}
 use Rattle.swc_ecma_codegen.specs.Lists.{unsupported}
@@ -26,4 +27,6 @@ expr_part asks items n place rest = unsupported rest
 unfoldable pub stmt_part : {X : Type 0} → (X → Answers) → (X → Place → Part) → StmtPart X → Place → Part
 stmt_part asks items (stmt_parts.Function n) place rest = function items n.value place rest
 stmt_part asks items (stmt_parts.BlockStmt n) place rest = block_stmt asks items n place rest
+stmt_part asks items (stmt_parts.Decl n) place rest = decl asks items n.value place rest
+stmt_part asks items (stmt_parts.VarDecl n) place rest = var_decl asks items n rest
 stmt_part asks items n place rest = unsupported rest

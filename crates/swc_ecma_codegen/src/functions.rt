@@ -3,7 +3,7 @@
 ghost use Rattle.std.specs.Prelude.{◌≡◌, Bool, OnOk};
 ghost use Rattle.swc_ecma_codegen_literals.specs.Punctuators.{spelling};
 ghost use Rattle.swc_ecma_codegen_base.specs.Run.{Emits};
-ghost use Rattle.swc_ecma_codegen.specs.Functions.{comma_list_format, decorators_format, decorator, param, function_body, fn_trailing, async_word, star, function_head, method_head, function, optional_name, fn_expr, is_plain, is_name, is_only, async_arrow, parenthesis, arrow_parameters, arrow_body, arrow_expr};
+ghost use Rattle.swc_ecma_codegen.specs.Functions.{comma_list_format, decorators_format, decorator, param, function_body, fn_trailing, async_word, star, function_head, star_or_space, declaration_head, method_head, function, optional_name, fn_expr, is_plain, is_name, is_only, async_arrow, parenthesis, arrow_parameters, arrow_body, arrow_expr};
 ghost use Rattle.swc_ecma_codegen.specs.View.{state_of};
 
 use crate::blocks::is_some_listed;
@@ -141,6 +141,7 @@ impl<N: Held> EmitAt for Function<N> {
         match place {
             Place::FunctionHead => e.function_head(self),
             Place::MethodHead => e.method_head(self),
+            Place::DeclarationHead => e.declaration_head(self),
             _ => e.fn_trailing(self),
         }
     }
@@ -230,6 +231,31 @@ impl<W: WriteJs, S: SourceMapper, C: Comments> Emitter<'_, W, S, C> {
         Ok(())
     }
 
+    /// Writes a blank, or `*` and one unless the settings are to minify.
+    #[tactic(auto, unfolding(crate::specs::Functions::star_or_space))]
+    fn star_or_space(&mut self, wanted: bool) -> Answer
+        ensures items { Emits (star_or_space wanted) (state_of S.lines W.sheet self.old) (state_of S.lines W.sheet self.new) result }
+        ensures level { OnOk result ((W.sheet self.new.wr).indentation ≡ (W.sheet self.old.wr).indentation) }
+    {
+        if !wanted {
+            return self.space();
+        }
+        self.punct(Punctuator::Star)?;
+        self.formatting_space()
+    }
+
+    /// Writes `async function*` or a part of it, and a blank.
+    #[tactic(auto, unfolding(crate::specs::Functions::declaration_head))]
+    fn declaration_head<N>(&mut self, node: &Function<N>) -> Answer
+        ensures items { Emits (declaration_head node.now) (state_of S.lines W.sheet self.old) (state_of S.lines W.sheet self.new) result }
+        ensures level { OnOk result ((W.sheet self.new.wr).indentation ≡ (W.sheet self.old.wr).indentation) }
+    {
+        self.async_word(node.is_async)?;
+        self.keyword(None, "function")?;
+        self.star_or_space(node.is_generator)?;
+        Ok(())
+    }
+
     /// Writes `async *` or a part of it.
     #[tactic(auto, unfolding(crate::specs::Functions::method_head))]
     fn method_head<N>(&mut self, node: &Function<N>) -> Answer
@@ -276,7 +302,7 @@ impl<W: WriteJs, S: SourceMapper, C: Comments> Emitter<'_, W, S, C> {
 
     /// Writes a blank and a name, where there is one.
     #[tactic(auto, unfolding(crate::specs::Functions::optional_name))]
-    fn optional_name(&mut self, name: &Option<Ident>) -> Answer
+    pub(crate) fn optional_name(&mut self, name: &Option<Ident>) -> Answer
         ensures items { Emits (optional_name name.now) (state_of S.lines W.sheet self.old) (state_of S.lines W.sheet self.new) result }
         ensures level { OnOk result ((W.sheet self.new.wr).indentation ≡ (W.sheet self.old.wr).indentation) }
     {

@@ -5,9 +5,10 @@ ghost use Rattle.std.specs.Prelude.{◌≡◌};
 ghost use Rattle.swc_ecma_codegen.specs.Answers.{any_answers};
 ghost use Rattle.swc_ecma_codegen.specs.Tree.{any_items};
 
+use crate::branches::is_block_node;
 use crate::emitter::Emitter;
 use crate::nodes::{
-    AskEnds, AskKind, AskPattern, AskPlace, AskSpace, AskStarts, Asked, EmitAt, Held, Known, Place,
+    AskBlock, AskEnds, AskKind, AskPattern, AskPlace, AskSpace, AskStarts, Asked, EmitAt, Held, Known, Place,
 };
 use crate::operands::{Operand, OperandKind, SpaceBefore};
 use crate::patterns::{PatternKind, pattern_kind};
@@ -62,6 +63,13 @@ impl AskPattern for AnyNode {
     #[tactic(auto, unfolding(crate::specs::Answers::any_answers))]
     fn pattern(&self) -> PatternKind {
         pattern_kind(self)
+    }
+}
+
+impl AskBlock for AnyNode {
+    #[tactic(auto, unfolding(crate::specs::Answers::any_answers))]
+    fn block(&self) -> bool {
+        is_block_node(self)
     }
 }
 

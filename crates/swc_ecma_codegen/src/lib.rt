@@ -3,9 +3,11 @@
 
 pub mod ast;
 mod blocks;
+mod branches;
 mod calls;
 mod chains;
 mod code;
+mod decl;
 mod emitter;
 mod expr;
 mod functions;

@@ -37,6 +37,10 @@ pub enum Place {
     FunctionHead,
     /// What of a method stands before its name: `async *`
     MethodHead,
+    /// What of a function that is declared stands before its name: `async function*` and a blank
+    DeclarationHead,
+    /// A declaration as a statement: where one of variables ends isn't recorded there.
+    Statement,
 }
 
 /// What a node tells those above it.
@@ -80,8 +84,14 @@ pub trait AskPattern: Known {
         ensures { result ≡ (Self.answers self.now).pattern };
 }
 
+/// Whether it is a block, where it is a statement.
+pub trait AskBlock: Known {
+    fn block(&self) -> bool
+        ensures { result ≡ (Self.answers self.now).block };
+}
+
 /// The questions that those above it ask.
-pub trait Asked: AskPlace + AskStarts + AskEnds + AskKind + AskSpace + AskPattern {}
+pub trait Asked: AskPlace + AskStarts + AskEnds + AskKind + AskSpace + AskPattern + AskBlock {}
 
 /// What can be printed, where the one above puts it.
 pub trait EmitAt {

@@ -43,6 +43,8 @@ impl<N: Held> EmitAt for StmtPart<N> {
         match self {
             StmtPart::Function(node) => (**node).emit_at(e, place),
             StmtPart::BlockStmt(node) => node.emit_at(e, place),
+            StmtPart::Decl(node) => (**node).emit_at(e, place),
+            StmtPart::VarDecl(node) => node.emit_at(e, place),
             _ => e.unsupported(),
         }
     }
