@@ -3,10 +3,12 @@ use Rattle.std.proofs.Common.{◌≡◌, ℕ, List, Bool, true, false, ◌&&◌,
 use Rattle.std.proofs.lemmas.Bool.{true≢false}
 use Rattle.swc_ecma_codegen_common.specs.declared.errors.Refusal.{Refusal}
 use Rattle.swc_ecma_codegen_base.specs.Run.{Env, Plan, Part, State, Emits, when_minified, no_part}
-use Rattle.swc_ecma_codegen_base.specs.Words.{commit_pending_semi, punct}
+use Rattle.swc_ecma_codegen_base.specs.Words.{commit_pending_semi, punct, semi}
 use Rattle.swc_ecma_codegen_base.proofs.Emitting.{follows_same, minified_same, pretty_same}
 use Rattle.swc_ecma_codegen.specs.Functions.{parenthesis}
-use Rattle.swc_ecma_codegen_base.specs.Choices.{empty_arguments}
+use Rattle.swc_ecma_codegen_ast.specs.Settings.{is_up_to_es5}
+use Rattle.swc_ecma_codegen_base.specs.Choices.{empty_arguments, loop_ending}
+use Rattle.swc_ecma_codegen_base.proofs.Choices.{ended_same, not_ended_same}
 use Rattle.swc_ecma_codegen.specs.Calls.{parentheses}
 use Rattle.swc_ecma_codegen.specs.Programs.{last_semi}
 
@@ -60,3 +62,12 @@ pub arguments_written : (a b : State) (r : Result (Unit {0}) Refusal) → a.env.
 unfolding empty_arguments no_part parentheses
 arguments_written a b (Ok u) h k = λ rest c r f. follows_same (empty_arguments rest) (parentheses rest) a c r (pretty_same no_part parentheses rest a.env h) (k rest c r f)
 arguments_written a b (Err e) h k = λ rest. follows_same (empty_arguments rest) (parentheses rest) a b (Err e) (pretty_same no_part parentheses rest a.env h) (k rest)
+
+-- the semicolon after a loop is written for a version before 2015
+pub loop_ended : (a b : State) (r : Result (Unit {0}) Refusal) → is_up_to_es5 a.env.config.target ≡ true → Emits semi a b r → Emits loop_ending a b r
+loop_ended a b (Ok u) h k = λ rest c r f. follows_same (loop_ending rest) (semi rest) a c r (ended_same rest a.env h) (k rest c r f)
+loop_ended a b (Err e) h k = λ rest. follows_same (loop_ending rest) (semi rest) a b (Err e) (ended_same rest a.env h) (k rest)
+
+-- for a later one it isn't
+pub loop_not_ended : (a : State) → is_up_to_es5 a.env.config.target ≡ false → Emits loop_ending a a (Ok tt)
+loop_not_ended a h rest c r k = follows_same (loop_ending rest) rest a c r (not_ended_same rest a.env h) k

@@ -16,6 +16,7 @@ pub mod laws;
 mod link_laws;
 mod lists;
 mod lits;
+mod loops;
 mod marks;
 mod node;
 pub mod nodes;

@@ -272,7 +272,7 @@ impl<W: WriteJs, S: SourceMapper, C: Comments> Emitter<'_, W, S, C> {
 
     /// Writes `= b` of `a = b`.
     #[tactic(auto, unfolding(crate::specs::Pats::initializer))]
-    fn initializer<N: Held>(&mut self, value: &Option<ExprBox<N>>) -> Answer
+    pub(crate) fn initializer<N: Held>(&mut self, value: &Option<ExprBox<N>>) -> Answer
         ensures items { Emits (initializer N.items value.now) (state_of S.lines W.sheet self.old) (state_of S.lines W.sheet self.new) result }
         ensures level { OnOk result ((W.sheet self.new.wr).indentation ≡ (W.sheet self.old.wr).indentation) }
     {
