@@ -8,7 +8,6 @@ use Rattle.swc_ecma_codegen_tree.specs.declared.exprs.Expr.{Expr}
 use Rattle.swc_ecma_codegen_tree.specs.declared.exprs.Expr.TheVariants as exprs
 use Rattle.swc_ecma_codegen_tree.specs.declared.exprs.MemberExpr.{MemberExpr}
 use Rattle.swc_ecma_codegen_tree.specs.declared.stmts.Stmt.{Stmt}
-use Rattle.swc_ecma_codegen_tree.specs.declared.stmts.Stmt.TheVariants as stmts
 use Rattle.swc_ecma_codegen_tree.specs.declared.links.AnyNode.TheFolds.{para-roll-AnyNode}
 use Rattle.swc_ecma_codegen_tree.specs.declared.expr_links.ExprBox.{ExprBox}
 use Rattle.swc_ecma_codegen_common.specs.declared.positions.Span.{Span}
@@ -31,7 +30,7 @@ use Rattle.swc_ecma_codegen_tree.specs.declared.pats.AssignTarget.{AssignTarget}
 use Rattle.swc_ecma_codegen_tree.specs.declared.pats.AssignTarget.TheVariants as targets
 use Rattle.swc_ecma_codegen_tree.specs.declared.pats.SimpleAssignTarget.{SimpleAssignTarget}
 use Rattle.swc_ecma_codegen_tree.specs.declared.pats.SimpleAssignTarget.TheVariants as simple_targets
-use Rattle.swc_ecma_codegen_spans.specs.Spans.{expr_span, fn_expr_span, stmt_span}
+use Rattle.swc_ecma_codegen_spans.specs.Spans.{expr_span, fn_expr_span}
 use Rattle.swc_ecma_codegen_base.specs.Run.{Plan, Part, refuse}
 use Rattle.swc_ecma_codegen_base.specs.Words.{trailing_comments}
 use Rattle.swc_ecma_codegen.specs.declared.nodes.Place.{Place}
@@ -43,8 +42,10 @@ use Rattle.swc_ecma_codegen.specs.Functions.{fn_expr, optional_name}
 use Rattle.swc_ecma_codegen.specs.Names.{binding_ident}
 use Rattle.swc_ecma_codegen.specs.Targets.{simple_assign_target, assign_target}
 use Rattle.swc_ecma_codegen.specs.Parts.{expr_part, stmt_part}
-use Rattle.swc_ecma_codegen.specs.Stmts.{empty_stmt, expr_stmt, stmt_parts, stmt}
+use Rattle.swc_ecma_codegen.specs.Stmts.{stmt}
 use Rattle.swc_ecma_codegen.specs.Tree.{node_items, any_items}
+use Rattle.swc_ecma_codegen.proofs.DeclKnots.{decl_mapped, var_decl_mapped}
+use Rattle.swc_ecma_codegen.proofs.StmtKnots.{stmt_mapped}
 use Rattle.swc_ecma_codegen.proofs.FunctionKnots.{function_mapped, block_mapped, arrow_expr_mapped}
 use Rattle.swc_ecma_codegen.proofs.PatKnots.{pat_mapped, target_pat_mapped}
 use Rattle.swc_ecma_codegen.proofs.PropKnots.{prop_name_mapped, prop_mapped, object_lit_mapped}
@@ -96,12 +97,6 @@ expr_mapped g asks items (exprs.Yield n) place rest = yield_mapped g asks items 
 expr_mapped g asks items (exprs.Arrow n) place rest = arrow_expr_mapped g asks items n place rest
 expr_mapped g asks items n place rest = refl
 
-stmt_mapped : {X Y : Type 0} (g : X → Y) (asks : Y → Answers) (items : Y → Place → Part) (n : Stmt X) (place : Place) (rest : Plan) → node_items asks items (map-AnyNode X Y g (nodes.Stmt n)) place rest ≡ stmt (λ x. asks (g x)) (λ x. items (g x)) n rest
-unfolding node_items stmt stmt_parts stmt_span empty_stmt expr_stmt unsupported refuse
-stmt_mapped g asks items (stmts.Block n) place rest = refl
-stmt_mapped g asks items (stmts.Empty n) place rest = refl
-stmt_mapped g asks items n place rest = refl
-
 -- a target of an assignment, as a part that a link holds
 abbrev as_target : {X : Type 0} → SimpleAssignTarget X → AnyNode-F X
 as_target n = nodes.ExprPart (expr_parts.AssignTarget (targets.Simple n))
@@ -147,6 +142,8 @@ stmt_part_mapped : {X Y : Type 0} (g : X → Y) (asks : Y → Answers) (items : 
 unfolding node_items stmt_part unsupported refuse
 stmt_part_mapped g asks items (stmt_parts.Function n) place rest = function_mapped g asks items n place rest
 stmt_part_mapped g asks items (stmt_parts.BlockStmt n) place rest = block_mapped g asks items n place rest
+stmt_part_mapped g asks items (stmt_parts.Decl n) place rest = decl_mapped g asks items n place rest
+stmt_part_mapped g asks items (stmt_parts.VarDecl n) place rest = var_decl_mapped g asks items n place rest
 stmt_part_mapped g asks items n place rest = refl
 
 node_mapped : {X Y : Type 0} (g : X → Y) (asks : Y → Answers) (items : Y → Place → Part) (n : AnyNode-F X) (place : Place) (rest : Plan) → node_items asks items (map-AnyNode X Y g n) place rest ≡ node_items (λ x. asks (g x)) (λ x. items (g x)) n place rest

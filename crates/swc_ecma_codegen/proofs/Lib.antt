@@ -4,6 +4,8 @@ pub mod PatternLaws
 pub mod BranchLaws
 pub mod PatKnots
 pub mod FunctionKnots
+pub mod DeclKnots
+pub mod StmtKnots
 pub mod PropKnots
 pub mod Knots
 pub mod Steps
