@@ -82,7 +82,7 @@ pub writes_blank : (env : Env) (needed : Bool) → Writes env (words.blank neede
 unfolding words.blank
 writes_blank env needed = writes_if env needed space formatting_space [] (writes_space env) (writes_formatting_space env)
 
-writes_space_if : (env : Env) (needed : Bool) → Writes env (words.space_if needed) []
+pub writes_space_if : (env : Env) (needed : Bool) → Writes env (words.space_if needed) []
 unfolding words.space_if
 writes_space_if env needed = writes_if env needed space (λ rest. rest) [] (writes_space env) (writes_nothing env)
 

@@ -42,6 +42,11 @@ use Rattle.swc_ecma_codegen_tree.specs.declared.lits.Lit.{Lit}
 use Rattle.swc_ecma_codegen_tree.specs.declared.lits.Lit.TheVariants as lits
 use Rattle.swc_ecma_codegen_tree.specs.declared.lits.NumberValue.{NumberValue}
 use Rattle.swc_ecma_codegen_tree.specs.declared.lits.NumberValue.TheVariants.{Finite, Infinity, NegInfinity, NaN}
+use Rattle.swc_ecma_codegen_tree.specs.declared.decls.Decl.{Decl}
+use Rattle.swc_ecma_codegen_tree.specs.declared.decls.Decl.TheVariants as decls
+use Rattle.swc_ecma_codegen_tree.specs.declared.decls.VarDecl.{VarDecl}
+use Rattle.swc_ecma_codegen_tree.specs.declared.decls.VarDeclKind.{VarDeclKind}
+use Rattle.swc_ecma_codegen_tree.specs.declared.decls.VarDeclKind.TheVariants.{Var, Let, Const}
 use Rattle.swc_ecma_codegen_tree.specs.declared.stmts.Stmt.{Stmt}
 use Rattle.swc_ecma_codegen_tree.specs.declared.stmts.Stmt.TheVariants as stmts
 use Rattle.swc_ecma_codegen_ast.specs.Tokens.{Token}
@@ -51,13 +56,14 @@ use Rattle.swc_ecma_codegen_ast.specs.Phrases.{Phrase, Never, Nothing, One, Name
 use Rattle.swc_ecma_codegen_ast.specs.Phrases as phrases
 use Rattle.swc_ecma_codegen_ast.specs.Settings.{Settings}
 use Rattle.swc_ecma_codegen_ast.specs.declared.roles.Role.{Role}
-use Rattle.swc_ecma_codegen_ast.specs.declared.roles.Role.TheVariants.{Expression, Statement, MemberExpression, ChainMember, AssignmentTarget, Pattern, PlainParameter, PropertyName, PropertyDefinition, ObjectLiteral, Function, FunctionHead, MethodHead, Block, Callee as IsCallee, ChainCall}
+use Rattle.swc_ecma_codegen_ast.specs.declared.roles.Role.TheVariants.{Expression, Statement, MemberExpression, ChainMember, AssignmentTarget, Pattern, PlainParameter, PropertyName, PropertyDefinition, ObjectLiteral, Function, FunctionHead, MethodHead, Block, Declaration, VariableDeclaration, Callee as IsCallee, ChainCall}
 use Rattle.swc_ecma_codegen_ast.specs.NamePhrases as names
 use Rattle.swc_ecma_codegen_ast.specs.ExprPhrases as lists
 use Rattle.swc_ecma_codegen_ast.specs.LitPhrases as lit_lists
 use Rattle.swc_ecma_codegen_ast.specs.AssignPhrases as target_lists
 use Rattle.swc_ecma_codegen_ast.specs.CallPhrases as call_lists
 use Rattle.swc_ecma_codegen_ast.specs.PartPhrases as part_lists
+use Rattle.swc_ecma_codegen_ast.specs.DeclPhrases as decl_lists
 use Rattle.swc_ecma_codegen_ast.specs.FunctionPhrases as function_lists
 use Rattle.swc_ecma_codegen_ast.specs.PatPhrases as pat_lists
 use Rattle.swc_ecma_codegen_ast.specs.PropPhrases as prop_lists
@@ -191,9 +197,10 @@ leads PropertyDefinition = false
 leads MethodHead = false
 leads role = true
 
--- `function` is a word; a block and an object begin with a brace
+-- `function` is a word, and so is `let`; a block and an object begin with a brace
 begins_as : Role → Bool → Bool
 begins_as FunctionHead b = true
+begins_as VariableDeclaration b = true
 begins_as Block b = false
 begins_as ObjectLiteral b = false
 begins_as role b = b
@@ -312,11 +319,13 @@ callee_expr_begins reads starts law (exprs.New n) = new_begins reads true n
 callee_expr_begins reads starts law n = expr_begins reads starts law n
 
 stmt_begins : {X : Type 0} (reads : X → Role → Phrase) (starts : X → Bool) → Begin reads starts → (n : Stmt X) → Begins (stmt_lists.stmt reads n) (stmt_starts starts n)
-unfolding stmt_starts stmt_lists.stmt stmt_lists.empty_stmt stmt_lists.expr_stmt
+unfolding stmt_starts names.ident stmt_lists.stmt stmt_lists.empty_stmt stmt_lists.expr_stmt stmt_lists.debugger_stmt stmt_lists.with_stmt stmt_lists.return_stmt stmt_lists.labeled_stmt stmt_lists.break_stmt stmt_lists.continue_stmt stmt_lists.if_stmt stmt_lists.switch_stmt stmt_lists.throw_stmt stmt_lists.try_stmt stmt_lists.while_stmt stmt_lists.do_while_stmt stmt_lists.for_stmt stmt_lists.for_in_stmt stmt_lists.for_of_stmt
 stmt_begins reads starts law (stmts.Block n) = law n.node.value Block refl
 stmt_begins reads starts law (stmts.Empty n) = begins_mark _ false
 stmt_begins reads starts law (stmts.Expr n) = begins_then _ _ _ (law n.expr.node.value Expression refl)
-stmt_begins reads starts law n = begins_never _
+stmt_begins reads starts law (stmts.Decl n) = law n.node.value Declaration refl
+stmt_begins reads starts law (stmts.Labeled n) = begins_then _ _ _ (begins_then _ _ _ (begins_name _ _))
+stmt_begins reads starts law n = begins_then _ _ _ (begins_true _)
 
 binding_begins : (typed : Bool) (id : Ident) → Begins (cond typed Never (names.ident id)) true
 unfolding names.ident
@@ -385,13 +394,37 @@ part_begins reads starts law (expr_parts.OptCall n) (ChainCall optional) h = unl
 part_begins reads starts law (expr_parts.AssignTarget n) AssignmentTarget h = target_begins reads starts law n
 part_begins reads starts law n role h = begins_never _
 
-stmt_part_begins : {X : Type 0} (reads : X → Role → Phrase) (n : StmtPart X) (role : Role) → leads role ≡ true → Begins (part_lists.stmt_part reads n role) (begins_as role (stmt_part_starts n))
+kind_begins : (kind : VarDeclKind) → Begins (decl_lists.var_kind kind) true
+unfolding decl_lists.var_kind
+kind_begins Var = begins_true _
+kind_begins Let = begins_true _
+kind_begins Const = begins_true _
+
+var_decl_begins : {X : Type 0} (reads : X → Role → Phrase) (n : VarDecl X) → Begins (decl_lists.var_decl reads n) true
+unfolding decl_lists.var_decl
+var_decl_begins reads n = unless_begins n.declare _ true (begins_then _ _ _ (kind_begins n.kind))
+
+using_begins : (is_await : Bool) (rest : Phrase) → Begins (function_lists.word_if is_await (phrases.word (codes "await")) > phrases.word (codes "using") > rest) true
+unfolding function_lists.word_if
+using_begins true rest = begins_then _ _ _ (begins_true _)
+using_begins false rest = begins_behind _ _ (begins_then _ _ _ (begins_true _))
+
+decl_begins : {X : Type 0} (reads : X → Role → Phrase) (starts : X → Bool) → Begin reads starts → (n : Decl X) → Begins (decl_lists.decl reads n) true
+unfolding decl_lists.decl decl_lists.fn_decl decl_lists.using_decl
+decl_begins reads starts law (decls.Fn n) = unless_begins n.declare _ true (begins_then _ _ _ (law n.function.node.value FunctionHead refl))
+decl_begins reads starts law (decls.Var n) = begins_then _ _ _ (law n.node.value VariableDeclaration refl)
+decl_begins reads starts law (decls.Using n) = begins_then _ _ _ (using_begins n.is_await _)
+decl_begins reads starts law n = begins_never true
+
+stmt_part_begins : {X : Type 0} (reads : X → Role → Phrase) (starts : X → Bool) → Begin reads starts → (n : StmtPart X) (role : Role) → leads role ≡ true → Begins (part_lists.stmt_part reads n role) (begins_as role (stmt_part_starts n))
 unfolding leads begins_as part_lists.stmt_part stmt_part_starts function_lists.function function_lists.function_head stmt_lists.block_stmt
-stmt_part_begins reads (stmt_parts.Function n) Function h = function_begins (is_some n.value.type_params || (is_some n.value.return_type || function_lists.is_some_listed n.value.decorators.items)) _
-stmt_part_begins reads (stmt_parts.Function n) FunctionHead h = function_head_begins n.value n.value.is_async _
-stmt_part_begins reads (stmt_parts.Function n) MethodHead h = absurd (true≢false (sym h))
-stmt_part_begins reads (stmt_parts.BlockStmt n) Block h = begins_then _ _ _ (begins_mark _ false)
-stmt_part_begins reads n role h = begins_never _
+stmt_part_begins reads starts law (stmt_parts.Function n) Function h = function_begins (is_some n.value.type_params || (is_some n.value.return_type || function_lists.is_some_listed n.value.decorators.items)) _
+stmt_part_begins reads starts law (stmt_parts.Function n) FunctionHead h = function_head_begins n.value n.value.is_async _
+stmt_part_begins reads starts law (stmt_parts.Function n) MethodHead h = absurd (true≢false (sym h))
+stmt_part_begins reads starts law (stmt_parts.BlockStmt n) Block h = begins_then _ _ _ (begins_mark _ false)
+stmt_part_begins reads starts law (stmt_parts.Decl n) Declaration h = decl_begins reads starts law n.value
+stmt_part_begins reads starts law (stmt_parts.VarDecl n) VariableDeclaration h = var_decl_begins reads n
+stmt_part_begins reads starts law n role h = begins_never _
 
 node_begins : {X : Type 0} (reads : X → Role → Phrase) (starts : X → Bool) → Begin reads starts → (n : AnyNode-F X) (role : Role) → leads role ≡ true → Begins (node_phrase reads n role) (begins_as role (node_starts starts n))
 unfolding begins_as node_phrase node_starts lists.member_expr lists.chain_member
@@ -401,7 +434,7 @@ node_begins reads starts law (nodes.Stmt n) Statement h = stmt_begins reads star
 node_begins reads starts law (nodes.MemberExpr n) MemberExpression h = begins_then _ _ _ (law n.obj.node.value IsCallee refl)
 node_begins reads starts law (nodes.MemberExpr n) (ChainMember optional) h = begins_then _ _ _ (law n.obj.node.value IsCallee refl)
 node_begins reads starts law (nodes.ExprPart n) role h = part_begins reads starts law n role h
-node_begins reads starts law (nodes.StmtPart n) role h = stmt_part_begins reads n role h
+node_begins reads starts law (nodes.StmtPart n) role h = stmt_part_begins reads starts law n role h
 node_begins reads starts law n role h = begins_never _
 
 -- ---- whole nodes

@@ -31,7 +31,9 @@ use Rattle.swc_ecma_codegen_base.proofs.Emitting.{minified_same, pretty_same}
 use Rattle.swc_ecma_codegen_base.proofs.ListLaws.{IsUndelimited, children_of, prints_list, prints_in_order}
 use Rattle.swc_ecma_codegen_base.proofs.Phrased.{Prints, then, after, before, prints_nothing, prints_same, prints_keyword, prints_punct, prints_mark, prints_semi, prints_ident, mark_spelled}
 use Rattle.swc_ecma_codegen_base.proofs.Printed.{Writes, with_room, within_then, punct_within, deeper_within, writes_then, writes_same, writes_if, writes_nothing, writes_space, writes_formatting_space, writes_line, writes_commit, writes_position, writes_leading, writes_shallower}
-use Rattle.swc_ecma_codegen.specs.declared.nodes.Place.TheVariants.{Plain, Body}
+use Rattle.swc_ecma_codegen.specs.declared.nodes.Place.{Place}
+use Rattle.swc_ecma_codegen.specs.declared.nodes.Place.TheVariants.{Plain, Body, DeclarationHead}
+use Rattle.swc_ecma_codegen.specs.Places.{before_name}
 use Rattle.swc_ecma_codegen.specs.Functions as words
 use Rattle.swc_ecma_codegen.specs.Functions.{decorators_format, comma_list_format, decorator_place, param_place}
 use Rattle.swc_ecma_codegen.proofs.Impossible.{refused_or, prints_impossible, never_impossible, prints_alone}
@@ -88,15 +90,30 @@ unfolding words.star lists.word_if
 star_prints env true = prints_punct env (codes "*") marks.star
 star_prints env false = prints_nothing
 
-pub function_head_prints : {X : Type 0} (env : Env) (n : functions.Function X) → Prints env (words.function_head n) (lists.function_head n)
+function_head_prints : {X : Type 0} (env : Env) (n : functions.Function X) → Prints env (words.function_head n) (lists.function_head n)
 unfolding words.function_head lists.function_head
 function_head_prints env n = then (async_prints env n.is_async) (then (prints_keyword env None (codes "function") marks.function_word) (star_prints env n.is_generator))
+
+space_prints : (env : Env) (wanted : Bool) → Prints env (words.star_or_space wanted) (lists.word_if wanted (mark (codes "*")))
+unfolding words.star_or_space lists.word_if
+space_prints env true = before (prints_punct env (codes "*") marks.star) (writes_formatting_space env)
+space_prints env false = before prints_nothing (writes_space env)
+
+declaration_head_prints : {X : Type 0} (env : Env) (n : functions.Function X) → Prints env (words.declaration_head n) (lists.function_head n)
+unfolding words.declaration_head lists.function_head
+declaration_head_prints env n = then (async_prints env n.is_async) (then (prints_keyword env None (codes "function") marks.function_word) (space_prints env n.is_generator))
+
+-- what stands before its name, with a blank where the function is declared
+pub head_prints : {X : Type 0} (l : Linked X) (n : functions.Function X) (place : Place) → Prints l.env (words.function l.items n (before_name place)) (lists.function_head n)
+unfolding words.function
+head_prints l n DeclarationHead = declaration_head_prints l.env n
+head_prints l n place = function_head_prints l.env n
 
 pub method_head_prints : {X : Type 0} (env : Env) (n : functions.Function X) → Prints env (words.method_head n) (lists.method_head n)
 unfolding words.method_head lists.method_head
 method_head_prints env n = then (async_prints env n.is_async) (star_prints env n.is_generator)
 
-name_prints : {X : Type 0} (l : Linked X) (n : Option Ident) → Prints l.env (words.optional_name n) (lists.optional_name n)
+pub name_prints : {X : Type 0} (l : Linked X) (n : Option Ident) → Prints l.env (words.optional_name n) (lists.optional_name n)
 unfolding words.optional_name lists.optional_name names.ident
 name_prints l None = prints_nothing
 name_prints l (Some n) = after (writes_space l.env) (prints_ident l.env n.span (string_bytes n.sym) n.optional l.leaves_out)

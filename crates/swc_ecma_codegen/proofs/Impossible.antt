@@ -1,10 +1,11 @@
 -- Phrases that no tree has, and what is said where a phrase is possible.
-use Rattle.std.proofs.Common.{◌≡◌, ◌∙◌, sym, refl, ap, Bool, true, false, cond, ◌&&◌, ◌||◌, List, [], ◌++◌, append-nil, subst}
+use Rattle.std.proofs.Common.{◌≡◌, ◌∙◌, sym, refl, ap, ℕ, Bool, true, false, cond, ◌&&◌, ◌||◌, List, [], ◌++◌, append-nil, subst}
 use Rattle.std.proofs.lemmas.Bool.{true≢false, and_false}
+use Rattle.swc_ecma_codegen_ast.specs.Tokens as lexical
 use Rattle.swc_ecma_codegen_util.specs.declared.config.Config.{Config}
-use Rattle.swc_ecma_codegen_ast.specs.Phrases.{Phrase, Never, Nothing, ◌>◌, Generates, is_possible, names_in}
+use Rattle.swc_ecma_codegen_ast.specs.Phrases.{Phrase, Never, Nothing, ◌>◌, mark, Generates, is_possible, names_in}
 use Rattle.swc_ecma_codegen_ast.specs.FunctionPhrases.{is_never}
-use Rattle.swc_ecma_codegen_base.specs.Escapes.{may_make_text}
+use Rattle.swc_ecma_codegen_base.specs.Escapes.{is_spelled_anew, may_make_text}
 use Rattle.swc_ecma_codegen_base.specs.Run.{Env, Part}
 use Rattle.swc_ecma_codegen_base.specs.Targets.{is_out}
 use Rattle.swc_ecma_codegen_base.proofs.Choices.{IsAmong, prints_among}
@@ -49,3 +50,17 @@ alone_among config f = record {
 
 pub prints_alone : {env : Env} {p : Part} {f : Phrase} → Prints env p (f > Nothing) → Prints env p f
 prints_alone {env} {p} {f} h = prints_among (alone_among env.config f) h
+
+-- so is one behind a mark
+last_among : (config : Config) (t : List ℕ) (f : Phrase) → IsAmong config (mark t > f > Nothing) (mark t > f)
+unfolding Generates is_possible is_out may_make_text names_in is_spelled_anew lexical.punctuator
+last_among config t f = record {
+  generates = λ ts g. (g.0, g.1, g.2, subst (λ z. Generates _ f z) (sym (g.3.4 ∙ ap (λ z. g.3.0 ++ z) g.3.3 ∙ append-nil g.3.0)) g.3.2, g.4);
+  possible = and_true (is_possible f);
+  out = or_false (is_out config f);
+  makes = λ e. sym (or_false (may_make_text config f)) ∙ e;
+  names = append-nil (names_in f);
+}
+
+pub prints_last : {env : Env} {p : Part} (t : List ℕ) {f : Phrase} → Prints env p (mark t > f > Nothing) → Prints env p (mark t > f)
+prints_last {env} {p} t {f} h = prints_among (last_among env.config t f) h

@@ -24,6 +24,8 @@ pub mod BlockParts
 pub mod PropParts
 pub mod TargetParts
 pub mod PartLaws
+pub mod DeclParts
+pub mod LoopParts
 pub mod StmtParts
 pub mod TreeLaw
 pub mod TreeReads

@@ -2,12 +2,14 @@
 use Rattle.std.proofs.Common.{◌≡◌, false, cond}
 use Rattle.swc_ecma_codegen_ast.specs.Phrases.{Phrase, Never}
 use Rattle.swc_ecma_codegen_ast.specs.declared.roles.Role.{Role}
-use Rattle.swc_ecma_codegen_ast.specs.declared.roles.Role.TheVariants.{Expression, Statement, Pattern, PlainParameter, PropertyName, Block}
+use Rattle.swc_ecma_codegen_ast.specs.declared.roles.Role.TheVariants.{Expression, Statement, Pattern, PlainParameter, PropertyName, Block, Declaration, VariableDeclaration}
 use Rattle.swc_ecma_codegen_tree.specs.declared.expr_links.ExprBox.{ExprBox}
 use Rattle.swc_ecma_codegen_tree.specs.declared.expr_links.PatBox.{PatBox}
 use Rattle.swc_ecma_codegen_tree.specs.declared.expr_links.PropNameBox.{PropNameBox}
 use Rattle.swc_ecma_codegen_tree.specs.declared.stmt_links.BlockStmtBox.{BlockStmtBox}
+use Rattle.swc_ecma_codegen_tree.specs.declared.stmt_links.DeclBox.{DeclBox}
 use Rattle.swc_ecma_codegen_tree.specs.declared.stmt_links.StmtBox.{StmtBox}
+use Rattle.swc_ecma_codegen_tree.specs.declared.stmt_links.VarDeclBox.{VarDeclBox}
 use Rattle.swc_ecma_codegen_base.specs.Run.{Env, Part}
 use Rattle.swc_ecma_codegen_base.proofs.Phrased.{Prints}
 use Rattle.swc_ecma_codegen.specs.declared.nodes.Place.{Place}
@@ -41,3 +43,9 @@ prop_name_at l n = l.law n.node.value Plain PropertyName
 
 pub block_at : {X : Type 0} (l : Linked X) (n : BlockStmtBox X) (place : Place) → Prints l.env (l.items n.node.value place) (l.reads n.node.value Block)
 block_at l n place = l.law n.node.value place Block
+
+pub decl_at : {X : Type 0} (l : Linked X) (n : DeclBox X) (place : Place) → Prints l.env (l.items n.node.value place) (l.reads n.node.value Declaration)
+decl_at l n place = l.law n.node.value place Declaration
+
+pub var_decl_at : {X : Type 0} (l : Linked X) (n : VarDeclBox X) → Prints l.env (l.items n.node.value Plain) (l.reads n.node.value VariableDeclaration)
+var_decl_at l n = l.law n.node.value Plain VariableDeclaration

@@ -38,7 +38,7 @@ use Rattle.swc_ecma_codegen.proofs.Linked.{Linked, expr_at, pat_at, prop_name_at
 use Rattle.swc_ecma_codegen.proofs.MarkWords as marks
 use Rattle.swc_ecma_codegen.proofs.NameParts.{binding_ident_prints}
 
-initializer_prints : {X : Type 0} (l : Linked X) (n : Option (ExprBox X)) → Prints l.env (words.initializer l.items n) (lists.initializer l.reads n)
+pub initializer_prints : {X : Type 0} (l : Linked X) (n : Option (ExprBox X)) → Prints l.env (words.initializer l.items n) (lists.initializer l.reads n)
 unfolding words.initializer lists.initializer
 initializer_prints l None = prints_nothing
 initializer_prints l (Some n) = then (spaced_prints l.env (codes "=") marks.equal) (expr_at l n Plain)
