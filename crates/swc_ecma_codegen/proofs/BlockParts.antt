@@ -1,5 +1,5 @@
 -- What is written of blocks is what it reads as.
-use Rattle.std.proofs.Common.{◌≡◌, refl, ap, ℕ, Bool, true, false, cond, List, [], ◌∷◌, map, codes, inl, inr}
+use Rattle.std.proofs.Common.{◌≡◌, refl, ap, ℕ, Bool, true, false, cond, List, [], ◌∷◌, map, codes, inl, inr, None}
 use Rattle.std.proofs.lemmas.Bool.{cases_Bool}
 use Rattle.swc_ecma_codegen_common.specs.declared.positions.Span.{Span}
 use Rattle.swc_ecma_codegen_tree.specs.declared.stmts.BlockStmt.{BlockStmt}
@@ -7,7 +7,9 @@ use Rattle.swc_ecma_codegen_ast.specs.FunctionPhrases.{is_some_listed}
 use Rattle.swc_ecma_codegen_ast.specs.Phrases.{Phrase, ◌>◌, mark}
 use Rattle.swc_ecma_codegen_ast.specs.Phrases as phrases
 use Rattle.swc_ecma_codegen_ast.specs.StmtPhrases as lists
-use Rattle.swc_ecma_codegen_base.specs.Run.{Env, Plan, Part, next, step, when_minified}
+use Rattle.swc_ecma_codegen_ast.specs.declared.kinds.Kind.TheVariants.{Punctuator}
+use Rattle.swc_ecma_codegen_text_writer.specs.Sheet.{Punct}
+use Rattle.swc_ecma_codegen_base.specs.Run.{Env, Plan, Part, next, step, when_minified, Guard, Token}
 use Rattle.swc_ecma_codegen_base.specs.Lists.{list}
 use Rattle.swc_ecma_codegen_base.specs.Words.{punct, position_before}
 use Rattle.swc_ecma_codegen_base.proofs.Emitting.{minified_same, pretty_same}
@@ -26,7 +28,7 @@ use Rattle.swc_ecma_codegen.proofs.MarkWords as marks
 -- what is the same is the same behind a bracket
 pub behind_bracket : (env : Env) (t : List ℕ) (p q : Part) → ((rest : Plan) → p rest env ≡ q rest env) → (rest : Plan) → punct t (p rest) env ≡ punct t (q rest) env
 unfolding punct step
-behind_bracket env t p q same rest = ap (λ z. next _ (next _ z)) (same rest)
+behind_bracket env t p q same rest = ap (λ z. next (Guard t) (next (Token Punctuator (Punct None t)) z)) (same rest)
 
 writes_block_start : (env : Env) (place : Place) (span : Span) → Writes env (words.block_start place span) []
 unfolding words.block_start

@@ -1,6 +1,6 @@
 -- Phrases that no tree has, and what is said where a phrase is possible.
 use Rattle.std.proofs.Common.{◌≡◌, ◌∙◌, sym, refl, ap, Bool, true, false, cond, ◌&&◌, ◌||◌, List, [], ◌++◌, append-nil, subst}
-use Rattle.std.proofs.lemmas.Bool.{true≢false, and_false}
+use Rattle.std.proofs.lemmas.Bool.{true≢false}
 use Rattle.swc_ecma_codegen_util.specs.declared.config.Config.{Config}
 use Rattle.swc_ecma_codegen_ast.specs.Phrases.{Phrase, Never, Nothing, ◌>◌, Generates, is_possible, names_in}
 use Rattle.swc_ecma_codegen_ast.specs.FunctionPhrases.{is_never}

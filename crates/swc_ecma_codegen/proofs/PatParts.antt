@@ -162,7 +162,7 @@ unfolding words.pat
 pat_prints l n = before (parts_print l n) (writes_trailing l.env true (pat_span (place_of l.asks) n).hi)
 
 -- the same as the only parameter that is a name alone: in that role other patterns have no list of tokens
-plain_case : {X : Type 0} {env : Env} {p : Part} {f : Phrase} (optional : Bool) → Prints env p f → Prints env p (cond optional phrases.Never f)
+plain_case : {env : Env} {p : Part} {f : Phrase} (optional : Bool) → Prints env p f → Prints env p (cond optional phrases.Never f)
 plain_case true h = prints_never
 plain_case false h = h
 

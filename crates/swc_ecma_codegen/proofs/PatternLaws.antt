@@ -20,6 +20,7 @@ use Rattle.swc_ecma_codegen_ast.specs.declared.roles.Role.{Role}
 use Rattle.swc_ecma_codegen_ast.specs.declared.roles.Role.TheVariants.{Pattern, PlainParameter}
 use Rattle.swc_ecma_codegen_ast.proofs.TreeLaws.{phrase_at}
 use Rattle.swc_ecma_codegen.specs.declared.patterns.PatternKind.TheVariants.{PlainName, Name}
+use Rattle.swc_ecma_codegen.specs.Answers.{any_answers}
 use Rattle.swc_ecma_codegen.specs.Functions.{is_plain}
 use Rattle.swc_ecma_codegen.specs.Patterns.{name_kind, pat_kind, part_pattern, node_pattern, any_pattern}
 
@@ -62,6 +63,6 @@ node_plain f (nodes.ExprPart n) = part_plain f n
 node_plain f (nodes.StmtPart n) = stmt_part_plain f n
 node_plain f n = refl
 
-pub plain_reads : (n : AnyNode) → phrase n PlainParameter ≡ cond (is_plain (any_pattern n)) (phrase n Pattern) Never
-unfolding any_pattern
+pub plain_reads : (n : AnyNode) → phrase n PlainParameter ≡ cond (is_plain (any_answers n).pattern) (phrase n Pattern) Never
+unfolding any_answers any_pattern
 plain_reads n = phrase_at n PlainParameter ∙ node_plain phrase (out-AnyNode n) ∙ ap (λ z. cond (is_plain (node_pattern (out-AnyNode n))) z Never) (sym (phrase_at n Pattern))
