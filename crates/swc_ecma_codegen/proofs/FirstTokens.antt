@@ -427,7 +427,7 @@ stmt_part_begins reads starts law (stmt_parts.VarDecl n) VariableDeclaration h =
 stmt_part_begins reads starts law n role h = begins_never _
 
 node_begins : {X : Type 0} (reads : X → Role → Phrase) (starts : X → Bool) → Begin reads starts → (n : AnyNode-F X) (role : Role) → leads role ≡ true → Begins (node_phrase reads n role) (begins_as role (node_starts starts n))
-unfolding begins_as node_phrase node_starts lists.member_expr lists.chain_member
+unfolding leads begins_as node_phrase node_starts lists.member_expr lists.chain_member
 node_begins reads starts law (nodes.Expr n) Expression h = expr_begins reads starts law n
 node_begins reads starts law (nodes.Expr n) IsCallee h = callee_expr_begins reads starts law n
 node_begins reads starts law (nodes.Stmt n) Statement h = stmt_begins reads starts law n

@@ -169,7 +169,7 @@ fn of_steps(
     };
     match word {
         "tree" | "script" => has_texts(alloc, &tree, true, answers),
-        "malformed" => has_texts(alloc, &tree, false, answers),
+        "malformed" | "script_malformed" => has_texts(alloc, &tree, false, answers),
         "well_formed" => Ok(is_formed(alloc, &tree, answers[0] == "yes")),
         "node" => Ok(prints_expr(alloc, &tree.json, answers[0])),
         _ => Ok(false),
