@@ -210,7 +210,7 @@ abbrev Begin : {X : Type 0} → (X → Role → Phrase) → (X → Bool) → Typ
 Begin {X} reads starts = (x : X) (role : Role) → leads role ≡ true → Begins (reads x role) (begins_as role (starts x))
 
 seq_begins : {X : Type 0} (reads : X → Role → Phrase) (starts : X → Bool) → Begin reads starts → (xs : List (ExprBox X)) → Begins (phrases.some_listed (codes ",") (map (lists.expr_at reads) xs)) (first_starts starts xs)
-unfolding leads begins_as phrases.some_listed first_starts
+unfolding phrases.some_listed first_starts leads begins_as
 seq_begins reads starts law [] = begins_never false
 seq_begins reads starts law (x ∷ xs) = begins_then _ _ _ (law x.node.value Expression refl)
 
@@ -220,7 +220,7 @@ meta_prop_begins meta_props.NewTarget = begins_then _ _ _ (begins_true _)
 meta_prop_begins meta_props.ImportMeta = begins_then _ _ _ (begins_true _)
 
 chain_begins : {X : Type 0} (reads : X → Role → Phrase) (starts : X → Bool) → Begin reads starts → (optional : Bool) (n : OptChainBase X) → Begins (lists.chain_base reads optional n) (chain_starts starts n)
-unfolding leads begins_as lists.chain_base chain_starts
+unfolding lists.chain_base chain_starts leads begins_as
 chain_begins reads starts law optional (chain_bases.Member n) = law n.node.value (ChainMember optional) refl
 chain_begins reads starts law optional (chain_bases.Call n) = law n.node.value (ChainCall optional) refl
 
@@ -229,7 +229,7 @@ unless_begins true f b h = begins_never b
 unless_begins false f b h = h
 
 callee_begins : {X : Type 0} (reads : X → Role → Phrase) (starts : X → Bool) → Begin reads starts → (n : Callee X) → Begins (call_lists.callee reads n) (callee_starts starts n)
-unfolding leads begins_as call_lists.callee call_lists.import_callee callee_starts
+unfolding call_lists.callee call_lists.import_callee callee_starts leads begins_as
 callee_begins reads starts law (callees.Super n) = begins_true _
 callee_begins reads starts law (callees.Import n) = begins_then _ _ _ (begins_true _)
 callee_begins reads starts law (callees.Expr n) = law n.node.value IsCallee refl
@@ -267,7 +267,7 @@ function_begins true rest = begins_never false
 function_begins false rest = begins_then _ _ _ (begins_mark _ false)
 
 only_begins : {X : Type 0} (reads : X → Role → Phrase) (starts : X → Bool) → Begin reads starts → (n : PatBox X) → Begins (function_lists.only_parameter reads n) (starts n.node.value)
-unfolding leads begins_as function_lists.only_parameter
+unfolding function_lists.only_parameter leads begins_as
 only_begins reads starts law n = either (function_lists.is_never (reads n.node.value PlainParameter))
   where
     either : (never : Bool) → Begins (cond never (mark (codes "(") > reads n.node.value Pattern > mark (codes ")")) (OptionalParentheses (reads n.node.value Pattern))) (starts n.node.value)
@@ -288,7 +288,7 @@ arrow_begins reads starts law false false true ns rest = begins_behind _ _ (begi
 arrow_begins reads starts law false false false ns rest = begins_behind _ _ (begins_behind _ _ (params_begin reads starts law ns rest))
 
 expr_begins : {X : Type 0} (reads : X → Role → Phrase) (starts : X → Bool) → Begin reads starts → (n : Expr X) → Begins (lists.expr reads n) (expr_starts starts n)
-unfolding leads begins_as expr_starts update_starts arrow_starts function_lists.fn_expr function_lists.arrow_expr lists.expr lists.this_expr lists.unary_expr lists.update_expr lists.update_op lists.bin_expr lists.assign_expr lists.super_prop_expr lists.yield_expr lists.meta_prop_expr lists.await_expr lists.opt_chain_expr lists.cond_expr lists.seq_expr lists.paren_expr names.ident call_lists.array_lit call_lists.call_expr
+unfolding expr_starts update_starts arrow_starts function_lists.fn_expr function_lists.arrow_expr lists.expr lists.this_expr lists.unary_expr lists.update_expr lists.update_op lists.bin_expr lists.assign_expr lists.super_prop_expr lists.yield_expr lists.meta_prop_expr lists.await_expr lists.opt_chain_expr lists.cond_expr lists.seq_expr lists.paren_expr names.ident call_lists.array_lit call_lists.call_expr leads begins_as
 expr_begins reads starts law (exprs.This n) = begins_true _
 expr_begins reads starts law (exprs.Object n) = law n.node.value ObjectLiteral refl
 expr_begins reads starts law (exprs.Fn n) = begins_then _ _ _ (law n.function.node.value FunctionHead refl)
@@ -333,7 +333,7 @@ binding_begins true id = begins_never true
 binding_begins false id = begins_then _ _ _ (begins_name _ _)
 
 simple_target_begins : {X : Type 0} (reads : X → Role → Phrase) (starts : X → Bool) → Begin reads starts → (n : SimpleAssignTarget X) → Begins (target_lists.simple_assign_target reads n) (simple_target_starts starts n)
-unfolding leads begins_as simple_target_starts target_lists.simple_assign_target names.binding_ident lists.super_prop_expr lists.paren_expr lists.opt_chain_expr
+unfolding simple_target_starts target_lists.simple_assign_target names.binding_ident lists.super_prop_expr lists.paren_expr lists.opt_chain_expr leads begins_as
 simple_target_begins reads starts law (simple_targets.Ident n) = binding_begins (is_some n.type_ann) n.id
 simple_target_begins reads starts law (simple_targets.Member n) = law n.node.value MemberExpression refl
 simple_target_begins reads starts law (simple_targets.SuperProp n) = begins_then _ _ _ (begins_true _)
@@ -357,7 +357,7 @@ target_begins reads starts law (targets.Simple n) = simple_target_begins reads s
 target_begins reads starts law (targets.Pat n) = target_pat_begins reads n
 
 pat_begins : {X : Type 0} (reads : X → Role → Phrase) (starts : X → Bool) → Begin reads starts → (n : Pat X) → Begins (pat_lists.pat reads n) (pat_starts starts n)
-unfolding leads begins_as pat_starts pat_lists.pat names.binding_ident pat_lists.array_pat pat_lists.rest_pat pat_lists.object_pat pat_lists.assign_pat
+unfolding pat_starts pat_lists.pat names.binding_ident pat_lists.array_pat pat_lists.rest_pat pat_lists.object_pat pat_lists.assign_pat leads begins_as
 pat_begins reads starts law (pats.Ident n) = binding_begins (is_some n.type_ann) n.id
 pat_begins reads starts law (pats.Array n) = bracket_begins (n.optional || is_some n.type_ann) (codes "[") _ false
 pat_begins reads starts law (pats.Rest n) = bracket_begins (is_some n.type_ann) (codes "...") _ false
@@ -427,7 +427,7 @@ stmt_part_begins reads starts law (stmt_parts.VarDecl n) VariableDeclaration h =
 stmt_part_begins reads starts law n role h = begins_never _
 
 node_begins : {X : Type 0} (reads : X → Role → Phrase) (starts : X → Bool) → Begin reads starts → (n : AnyNode-F X) (role : Role) → leads role ≡ true → Begins (node_phrase reads n role) (begins_as role (node_starts starts n))
-unfolding leads begins_as node_phrase node_starts lists.member_expr lists.chain_member
+unfolding begins_as node_phrase node_starts lists.member_expr lists.chain_member leads
 node_begins reads starts law (nodes.Expr n) Expression h = expr_begins reads starts law n
 node_begins reads starts law (nodes.Expr n) IsCallee h = callee_expr_begins reads starts law n
 node_begins reads starts law (nodes.Stmt n) Statement h = stmt_begins reads starts law n
