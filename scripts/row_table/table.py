@@ -125,8 +125,8 @@ class Table:
 
     def of_row(self, row, fields):
         word, rest = fields[0], fields[1:]
-        if word in ("tree", "malformed", "script"):
-            return self.both(row, *rest, word == "script")
+        if word in ("tree", "malformed", "script", "script_malformed"):
+            return self.both(row, *rest, word.startswith("script"))
         if word == "node":
             return [self.case(row, [], *rest)]
         if word in ("prints", "script_prints"):
