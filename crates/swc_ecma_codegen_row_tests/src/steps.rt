@@ -210,3 +210,13 @@ pub fn statements(alloc: Global, steps: &[&Step]) -> Result<Tree, AllocError> {
         is_expression: false,
     })
 }
+
+/// The same, where each node has a place of its own.
+pub fn statements_in_places(alloc: Global, steps: &[&Step]) -> Result<Tree, AllocError> {
+    let body = joined(alloc, &made(alloc, steps, Part::Json)?, ",")?;
+    let tree = statements(alloc, steps)?;
+    Ok(Tree {
+        json: json_in_places(alloc, script_of(alloc, &body)?.as_str())?,
+        ..tree
+    })
+}
