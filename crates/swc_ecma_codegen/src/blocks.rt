@@ -9,12 +9,12 @@ ghost use Rattle.swc_ecma_codegen.specs.View.{state_of};
 
 use crate::emitter::Emitter;
 use crate::nodes::{Child, EmitAt, Held, Place};
+use bitflags::Flags;
+use swc_ecma_codegen_ast::ListFormat;
 use swc_ecma_codegen_ast::comments::Comments;
 use swc_ecma_codegen_ast::mapper::SourceMapper;
-use swc_ecma_codegen_ast::ListFormat;
 use swc_ecma_codegen_common::{Answer, Span};
 use swc_ecma_codegen_literals::Punctuator;
-use bitflags::Flags;
 use swc_ecma_codegen_text_writer::WriteJs;
 use swc_ecma_codegen_tree::{BlockStmt, StmtBox};
 

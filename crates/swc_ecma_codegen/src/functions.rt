@@ -10,9 +10,9 @@ use crate::blocks::is_some_listed;
 use crate::emitter::Emitter;
 use crate::nodes::{AskPattern, Child, EmitAt, Held, Place};
 use crate::patterns::PatternKind;
+use swc_ecma_codegen_ast::ListFormat;
 use swc_ecma_codegen_ast::comments::Comments;
 use swc_ecma_codegen_ast::mapper::SourceMapper;
-use swc_ecma_codegen_ast::ListFormat;
 use swc_ecma_codegen_common::{Answer, Span};
 use swc_ecma_codegen_literals::Punctuator;
 use swc_ecma_codegen_text_writer::WriteJs;
@@ -275,7 +275,8 @@ impl<W: WriteJs, S: SourceMapper, C: Comments> Emitter<'_, W, S, C> {
     {
         if node.type_params.is_some()
             || node.return_type.is_some()
-            || is_some_listed(&node.decorators) {
+            || is_some_listed(&node.decorators)
+        {
             return self.unsupported();
         }
         self.punct(Punctuator::LeftParenthesis)?;

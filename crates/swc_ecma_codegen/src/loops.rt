@@ -12,9 +12,9 @@ ghost use Rattle.swc_ecma_codegen.specs.View.{state_of};
 use crate::emitter::Emitter;
 use crate::nodes::{AskEnds, AskPlace, Child, EmitAt, Held, Place};
 use bitflags::Flags;
+use swc_ecma_codegen_ast::ListFormat;
 use swc_ecma_codegen_ast::comments::Comments;
 use swc_ecma_codegen_ast::mapper::SourceMapper;
-use swc_ecma_codegen_ast::ListFormat;
 use swc_ecma_codegen_common::{Answer, EsVersion, Span};
 use swc_ecma_codegen_literals::Punctuator;
 use swc_ecma_codegen_text_writer::WriteJs;
@@ -401,7 +401,12 @@ impl<W: WriteJs, S: SourceMapper, C: Comments> Emitter<'_, W, S, C> {
 
     /// Writes `(a of b)`.
     #[tactic(auto, unfolding(crate::specs::Stmts::for_each))]
-    fn for_each<N: Held>(&mut self, text: &'static str, left: &ForHead<N>, right: &ExprBox<N>) -> Answer
+    fn for_each<N: Held>(
+        &mut self,
+        text: &'static str,
+        left: &ForHead<N>,
+        right: &ExprBox<N>,
+    ) -> Answer
         requires { begins_letter text.now ≡ true }
         ensures items { Emits (for_each N.answers N.items text.now left.now right.now) (state_of S.lines W.sheet self.old) (state_of S.lines W.sheet self.new) result }
         ensures level { OnOk result ((W.sheet self.new.wr).indentation ≡ (W.sheet self.old.wr).indentation) }

@@ -58,17 +58,15 @@ fn answer(alloc: Global, steps: &[Step], line: &str) -> Result<bool, AllocError>
                 [pretty, minified],
             )
         }
-        [word, lines, words, pretty, minified]
-            if matches!(word.as_str(), "over" | "script_over") =>
-        {
-            match in_places(alloc, steps, word, words)? {
-                Some(tree) => has_texts_over(alloc, lines, &tree, [pretty, minified]),
-                None => Ok(false),
+        [word, lines, words, pretty, minified] if matches!(word.as_str(), "over" | "script_over") =>
+            {
+                match in_places(alloc, steps, word, words)? {
+                    Some(tree) => has_texts_over(alloc, lines, &tree, [pretty, minified]),
+                    None => Ok(false),
+                }
             }
-        }
         [word, words, pretty, minified, longer, short, marks]
-            if matches!(word.as_str(), "commas" | "script_commas") =>
-        {
+            if matches!(word.as_str(), "commas" | "script_commas") => {
             match in_places(alloc, steps, word, words)? {
                 Some(tree) => {
                     has_commas(alloc, &tree, [[pretty, minified], [longer, short]], marks)
