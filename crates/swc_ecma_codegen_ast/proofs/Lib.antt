@@ -12,6 +12,7 @@ pub mod MappedFunctions
 pub mod MappedPats
 pub mod MappedProps
 pub mod MappedStmts
+pub mod MappedTemplates
 pub mod MappedCalls
 pub mod MarkMatch
 pub mod Marks

@@ -32,7 +32,7 @@ use Rattle.swc_ecma_codegen_tree.specs.declared.parts.StmtPart.TheVariants as st
 use Rattle.swc_ecma_codegen_tree.specs.declared.stmts.Stmt.{Stmt}
 use Rattle.swc_ecma_codegen_ast.specs.Phrases.{Phrase, some_listed}
 use Rattle.swc_ecma_codegen_ast.specs.declared.roles.Role.{Role}
-use Rattle.swc_ecma_codegen_ast.specs.declared.roles.Role.TheVariants.{Expression, Statement, MemberExpression, ChainMember, AssignmentTarget, Pattern, PlainParameter, PropertyName, PropertyDefinition, ObjectLiteral, Function, Block, Declaration, VariableDeclaration, Callee, ChainCall}
+use Rattle.swc_ecma_codegen_ast.specs.declared.roles.Role.TheVariants.{Expression, Statement, MemberExpression, ChainMember, AssignmentTarget, Pattern, PlainParameter, PropertyName, PropertyDefinition, ObjectLiteral, Function, Block, Declaration, VariableDeclaration, Callee, ChainCall, Template, TaggedTemplate}
 use Rattle.swc_ecma_codegen_ast.specs.ExprPhrases.{expr, expr_at, this_expr, unary_expr, update_expr, bin_expr, computed_prop_name, member_prop, member_expr, super_prop, super_prop_expr, chain_mark, chain_prop, chain_member, chain_base, opt_chain_expr, meta_prop_expr, assign_expr, yield_arg, yield_expr, await_expr, cond_expr, seq_expr, paren_expr, expr_in}
 use Rattle.swc_ecma_codegen_ast.specs.NamePhrases.{binding_ident}
 use Rattle.swc_ecma_codegen_ast.specs.AssignPhrases.{assign_target, simple_assign_target}
@@ -44,6 +44,7 @@ use Rattle.swc_ecma_codegen_ast.proofs.MappedFunctions.{function_part_mapped, bl
 use Rattle.swc_ecma_codegen_ast.proofs.MappedStmts.{stmt_mapped, decl_mapped, var_decl_mapped}
 use Rattle.swc_ecma_codegen_ast.proofs.MappedPats.{pat_mapped, plain_mapped, target_pat_mapped}
 use Rattle.swc_ecma_codegen_ast.proofs.MappedProps.{prop_name_mapped, prop_mapped, object_lit_mapped}
+use Rattle.swc_ecma_codegen_ast.proofs.MappedTemplates.{tpl_mapped, tagged_mapped, tagged_tpl_mapped}
 use Rattle.swc_ecma_codegen_ast.proofs.MappedCalls.{array_lit_mapped, call_mapped, new_mapped, chain_call_mapped}
 
 -- ---- a production sees what links hold through f alone
@@ -73,6 +74,7 @@ expr_mapped g f (exprs.Arrow n) = arrow_expr_mapped g f n
 expr_mapped g f (exprs.Array n) = array_lit_mapped g f n
 expr_mapped g f (exprs.Call n) = call_mapped g f n
 expr_mapped g f (exprs.New n) = new_mapped g f false n
+expr_mapped g f (exprs.TaggedTpl n) = tagged_tpl_mapped g f n
 expr_mapped g f n = refl
 
 -- a callee is another expression, but for `new A()`
@@ -136,6 +138,8 @@ part_mapped g f (expr_parts.PropName n) PropertyName = prop_name_mapped g f n
 part_mapped g f (expr_parts.Prop n) PropertyDefinition = prop_mapped g f n
 part_mapped g f (expr_parts.OptCall n) (ChainCall optional) = chain_call_mapped g f optional n
 part_mapped g f (expr_parts.AssignTarget n) AssignmentTarget = target_mapped g f n
+part_mapped g f (expr_parts.Tpl n) Template = tpl_mapped g f n
+part_mapped g f (expr_parts.Tpl n) TaggedTemplate = tagged_mapped g f n
 part_mapped g f n role = refl
 
 stmt_part_mapped : {X Y : Type 0} (g : X → Y) (f : Y → Role → Phrase) (n : StmtPart X) (role : Role) → node_phrase f (map-AnyNode X Y g (nodes.StmtPart n)) role ≡ stmt_part (λ x. f (g x)) n role

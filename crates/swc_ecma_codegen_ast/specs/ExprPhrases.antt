@@ -39,8 +39,9 @@ use Rattle.swc_ecma_codegen_ast.specs.Phrases.{Phrase, Never, Nothing, One, Opti
 use Rattle.swc_ecma_codegen_ast.specs.Tokens.{Token}
 use Rattle.swc_ecma_codegen_ast.specs.Tokens as tokens
 use Rattle.swc_ecma_codegen_ast.specs.declared.roles.Role.{Role}
-use Rattle.swc_ecma_codegen_ast.specs.declared.roles.Role.TheVariants.{Expression, MemberExpression, ChainMember, AssignmentTarget, ObjectLiteral, ChainCall}
+use Rattle.swc_ecma_codegen_ast.specs.declared.roles.Role.TheVariants.{Expression, MemberExpression, ChainMember, AssignmentTarget, ObjectLiteral, ChainCall, Template}
 use Rattle.swc_ecma_codegen_ast.specs.FunctionPhrases.{fn_expr, arrow_expr}
+use Rattle.swc_ecma_codegen_ast.specs.TemplatePhrases.{tagged_tpl}
 use Rattle.swc_ecma_codegen_ast.specs.CallPhrases.{callee_at, array_lit, call_expr, new_expr}
 use Rattle.swc_ecma_codegen_ast.specs.LitPhrases.{lit}
 use Rattle.swc_ecma_codegen_ast.specs.NamePhrases.{ident, ident_name}
@@ -181,6 +182,8 @@ expr f (exprs.New n) = new_expr f false n
 expr f (exprs.Seq n) = seq_expr f n
 expr f (exprs.Ident n) = ident n
 expr f (exprs.Lit n) = lit n
+expr f (exprs.Tpl n) = f n.node.value Template
+expr f (exprs.TaggedTpl n) = tagged_tpl f n
 expr f (exprs.Arrow n) = arrow_expr f n
 expr f (exprs.Yield n) = yield_expr f n
 expr f (exprs.MetaProp n) = meta_prop_expr n

@@ -9,6 +9,7 @@ pub mod ElementPhrases
 pub mod Endings
 pub mod ExprPhrases
 pub mod FunctionPhrases
+pub mod TemplatePhrases
 pub mod GapRules
 pub mod Hashbangs
 pub mod HeldNumbers

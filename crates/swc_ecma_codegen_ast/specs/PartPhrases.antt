@@ -5,12 +5,13 @@ use Rattle.swc_ecma_codegen_tree.specs.declared.parts.StmtPart.{StmtPart}
 use Rattle.swc_ecma_codegen_tree.specs.declared.parts.StmtPart.TheVariants as stmt_parts
 use Rattle.swc_ecma_codegen_ast.specs.Phrases.{Phrase, Never}
 use Rattle.swc_ecma_codegen_ast.specs.declared.roles.Role.{Role}
-use Rattle.swc_ecma_codegen_ast.specs.declared.roles.Role.TheVariants.{AssignmentTarget, Pattern, PlainParameter, PropertyName, PropertyDefinition, ObjectLiteral, Function, FunctionHead, MethodHead, Block, Declaration, VariableDeclaration, ChainCall}
+use Rattle.swc_ecma_codegen_ast.specs.declared.roles.Role.TheVariants.{AssignmentTarget, Pattern, PlainParameter, PropertyName, PropertyDefinition, ObjectLiteral, Function, FunctionHead, MethodHead, Block, Declaration, VariableDeclaration, ChainCall, Template, TaggedTemplate}
 use Rattle.swc_ecma_codegen_ast.specs.AssignPhrases.{assign_target}
 use Rattle.swc_ecma_codegen_ast.specs.CallPhrases.{chain_call}
 use Rattle.swc_ecma_codegen_ast.specs.PatPhrases.{pat, plain_parameter}
 use Rattle.swc_ecma_codegen_ast.specs.PropPhrases.{object_lit, prop_name, prop}
 use Rattle.swc_ecma_codegen_ast.specs.FunctionPhrases.{function, function_head, method_head}
+use Rattle.swc_ecma_codegen_ast.specs.TemplatePhrases.{tpl}
 use Rattle.swc_ecma_codegen_ast.specs.DeclPhrases.{decl, var_decl}
 use Rattle.swc_ecma_codegen_ast.specs.StmtPhrases.{block_stmt}
 
@@ -22,6 +23,8 @@ expr_part f (expr_parts.PropName n) PropertyName = prop_name f n
 expr_part f (expr_parts.Prop n) PropertyDefinition = prop f n
 expr_part f (expr_parts.OptCall n) (ChainCall optional) = chain_call f optional n
 expr_part f (expr_parts.AssignTarget n) AssignmentTarget = assign_target f n
+expr_part f (expr_parts.Tpl n) Template = tpl f false n
+expr_part f (expr_parts.Tpl n) TaggedTemplate = tpl f true n
 expr_part f n role = Never
 
 unfoldable pub stmt_part : {X : Type 0} → (X → Role → Phrase) → StmtPart X → Role → Phrase

@@ -37,4 +37,8 @@ pub enum Role {
     Declaration,
     /// `let a = b`, without its semicolon.
     VariableDeclaration,
+    /// `a${b}c` between back quotes.
+    Template,
+    /// The same after a tag.
+    TaggedTemplate,
 }
