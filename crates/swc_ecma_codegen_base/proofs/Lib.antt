@@ -37,6 +37,7 @@ pub mod OwnDots
 pub mod LitTexts
 pub mod Remade
 pub mod LitPrints
+pub mod TemplateLaws
 pub mod StringPrints
 pub mod NumberPrints
 pub mod BigPrints

@@ -6,6 +6,7 @@ pub mod Choices
 pub mod Keys
 pub mod Literals
 pub mod Lits
+pub mod Templates
 pub mod Lists
 pub mod Last
 pub mod View

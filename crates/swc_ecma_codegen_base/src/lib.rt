@@ -19,6 +19,7 @@ mod numbers;
 mod raws;
 mod refusals;
 mod starts;
+mod templates;
 mod tokens;
 
 pub use crate::guard::blank_due;
