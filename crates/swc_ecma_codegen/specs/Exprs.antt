@@ -44,6 +44,7 @@ use Rattle.swc_ecma_codegen.specs.declared.nodes.Place.TheVariants.{Plain, LeftO
 use Rattle.swc_ecma_codegen.specs.Answers.{Answers, place_of}
 use Rattle.swc_ecma_codegen.specs.Operands.{is_word_op, space_after, operand_space}
 use Rattle.swc_ecma_codegen.specs.Functions.{fn_expr, arrow_expr}
+use Rattle.swc_ecma_codegen.specs.Templates.{tagged_tpl}
 use Rattle.swc_ecma_codegen.specs.Calls.{super_keyword, array_lit, call_expr, keeps_arguments, new_expr}
 use Rattle.swc_ecma_codegen.specs.Lists.{listed, unsupported}
 use Rattle.swc_ecma_codegen.specs.Lits.{lit_at, is_number_object}
@@ -245,6 +246,8 @@ expr_parts asks items (exprs.New n) place rest = new_expr asks items (keeps_argu
 expr_parts asks items (exprs.Seq n) place rest = seq items n rest
 expr_parts asks items (exprs.Ident n) place rest = ident n rest
 expr_parts asks items (exprs.Lit n) place rest = lit_at n place rest
+expr_parts asks items (exprs.Tpl n) place rest = items n.node.value Plain rest
+expr_parts asks items (exprs.TaggedTpl n) place rest = tagged_tpl items n rest
 expr_parts asks items (exprs.Arrow n) place rest = arrow_expr asks items n rest
 expr_parts asks items (exprs.Yield n) place rest = yield_expr asks items n rest
 expr_parts asks items (exprs.MetaProp n) place rest = meta_prop_expr n rest

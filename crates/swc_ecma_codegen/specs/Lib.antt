@@ -7,6 +7,7 @@ pub mod Lists
 pub mod Lits
 pub mod Places
 pub mod Functions
+pub mod Templates
 pub mod Calls
 pub mod Exprs
 pub mod Names

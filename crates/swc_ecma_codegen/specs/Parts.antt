@@ -14,6 +14,7 @@ use Rattle.swc_ecma_codegen.specs.Lists.{unsupported}
 use Rattle.swc_ecma_codegen.specs.Pats.{pat}
 use Rattle.swc_ecma_codegen.specs.Props.{object_lit, prop, prop_name}
 use Rattle.swc_ecma_codegen.specs.Targets.{assign_target}
+use Rattle.swc_ecma_codegen.specs.Templates.{tpl, is_tagged}
 
 unfoldable pub expr_part : {X : Type 0} → (X → Answers) → (X → Place → Part) → ExprPart X → Place → Part
 expr_part asks items (expr_parts.Pat n) place rest = pat asks items n rest
@@ -21,6 +22,7 @@ expr_part asks items (expr_parts.ObjectLit n) place rest = object_lit asks items
 expr_part asks items (expr_parts.PropName n) place rest = prop_name items n rest
 expr_part asks items (expr_parts.Prop n) place rest = prop asks items n rest
 expr_part asks items (expr_parts.AssignTarget n) place rest = assign_target asks items n rest
+expr_part asks items (expr_parts.Tpl n) place rest = tpl items (is_tagged place) n rest
 expr_part asks items (expr_parts.OptCall n) place rest = chain_call asks items (is_optional place) n rest
 expr_part asks items n place rest = unsupported rest
 

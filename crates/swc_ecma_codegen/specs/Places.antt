@@ -1,8 +1,8 @@
 -- Where a node may stand in its role.
 use Rattle.swc_ecma_codegen_ast.specs.declared.roles.Role.{Role}
-use Rattle.swc_ecma_codegen_ast.specs.declared.roles.Role.TheVariants.{MemberExpression, ChainMember, Function, FunctionHead as HeadOfFunction, MethodHead as HeadOfMethod, Expression, Callee as IsCallee, ChainCall}
+use Rattle.swc_ecma_codegen_ast.specs.declared.roles.Role.TheVariants.{MemberExpression, ChainMember, Function, FunctionHead as HeadOfFunction, MethodHead as HeadOfMethod, Expression, Callee as IsCallee, ChainCall, Template, TaggedTemplate}
 use Rattle.swc_ecma_codegen.specs.declared.nodes.Place.{Place}
-use Rattle.swc_ecma_codegen.specs.declared.nodes.Place.TheVariants.{Plain, Chain, FunctionHead, MethodHead, DeclarationHead, Object, DottedObject, Callee}
+use Rattle.swc_ecma_codegen.specs.declared.nodes.Place.TheVariants.{Plain, Chain, FunctionHead, MethodHead, DeclarationHead, Object, DottedObject, Callee, Tagged}
 
 -- a place outside of a callee, and one inside
 abbrev pub outside : Place → Place
@@ -22,7 +22,7 @@ before_name DeclarationHead = DeclarationHead
 before_name place = FunctionHead
 
 -- An expression stands where it is called or has a property where that is its role, and there alone, and so does a member, or a call,
--- in a chain, and what of a function stands before its name; another node stands where it is put.
+-- in a chain, what of a function stands before its name, and a template with a tag; another node stands where it is put.
 abbrev pub placed : Role → Place → Place
 placed Expression place = outside place
 placed IsCallee place = inside place
@@ -32,4 +32,6 @@ placed Function place = Plain
 placed HeadOfFunction place = before_name place
 placed HeadOfMethod place = MethodHead
 placed (ChainCall optional) place = Chain optional
+placed Template place = Plain
+placed TaggedTemplate place = Tagged
 placed role place = place

@@ -41,6 +41,8 @@ pub enum Place {
     DeclarationHead,
     /// A declaration as a statement: where one of variables ends isn't recorded there.
     Statement,
+    /// A template after its tag.
+    Tagged,
 }
 
 /// What a node tells those above it.

@@ -24,6 +24,7 @@ impl<N: Held> EmitAt for ExprPart<N> {
             ExprPart::ObjectLit(node) => node.emit_at(e, place),
             ExprPart::PropName(node) => node.emit_at(e, place),
             ExprPart::Prop(node) => node.emit_at(e, place),
+            ExprPart::Tpl(node) => node.emit_at(e, place),
             ExprPart::OptCall(node) => node.emit_at(e, place),
             ExprPart::AssignTarget(node) => node.emit_at(e, place),
             _ => e.unsupported(),

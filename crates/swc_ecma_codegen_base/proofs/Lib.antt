@@ -37,9 +37,11 @@ pub mod OwnDots
 pub mod LitTexts
 pub mod Remade
 pub mod LitPrints
+pub mod LineFeeds
 pub mod TemplateLaws
 pub mod StringPrints
 pub mod NumberPrints
 pub mod BigPrints
+pub mod TemplatePrints
 pub mod EachLit
 pub mod ListLaws
