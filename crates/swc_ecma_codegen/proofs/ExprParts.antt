@@ -54,7 +54,7 @@ use Rattle.swc_ecma_codegen_ast.specs.NamePhrases as names
 use Rattle.swc_ecma_codegen_ast.specs.ExprPhrases as lists
 use Rattle.swc_ecma_codegen_ast.specs.CallPhrases.{callee_at}
 use Rattle.swc_ecma_codegen_ast.specs.LitPhrases as lit_lists
-use Rattle.swc_ecma_codegen_ast.specs.declared.roles.Role.TheVariants.{MemberExpression, ChainMember, AssignmentTarget, ObjectLiteral, Callee as IsCallee, ChainCall}
+use Rattle.swc_ecma_codegen_ast.specs.declared.roles.Role.TheVariants.{MemberExpression, ChainMember, AssignmentTarget, ObjectLiteral, Callee as IsCallee, ChainCall, Template}
 use Rattle.swc_ecma_codegen_ast.specs.declared.roles.Role.{Role}
 use Rattle.swc_ecma_codegen_base.specs.Run.{Env, Part}
 use Rattle.swc_ecma_codegen_base.specs.Words.{operator, space, formatting_space, position, leading_comments, trailing_comments}
@@ -73,6 +73,7 @@ use Rattle.swc_ecma_codegen.specs.Calls as calls
 use Rattle.swc_ecma_codegen.specs.Lits.{lit_at}
 use Rattle.swc_ecma_codegen.proofs.FunctionParts.{fn_expr_prints, arrow_expr_prints}
 use Rattle.swc_ecma_codegen.proofs.CallParts.{super_is_word, array_lit_prints, call_prints, new_prints}
+use Rattle.swc_ecma_codegen.proofs.TemplateParts.{tagged_tpl_prints}
 use Rattle.swc_ecma_codegen.proofs.Linked.{Linked, expr_at}
 use Rattle.swc_ecma_codegen.proofs.ListParts.{some_listed_prints}
 
@@ -431,6 +432,8 @@ parts_print l (exprs.New n) place = new_prints l (calls.keeps_arguments place) n
 parts_print l (exprs.Seq n) place = seq_prints l n
 parts_print l (exprs.Ident n) place = ident_prints l n
 parts_print l (exprs.Lit n) place = lit_prints l.env n place
+parts_print l (exprs.Tpl n) place = l.law n.node.value Plain Template
+parts_print l (exprs.TaggedTpl n) place = tagged_tpl_prints l n
 parts_print l (exprs.Arrow n) place = arrow_expr_prints l n
 parts_print l (exprs.Yield n) place = yield_prints l n
 parts_print l (exprs.MetaProp n) place = meta_prop_expr_prints l.env n

@@ -49,6 +49,7 @@ use Rattle.swc_ecma_codegen.proofs.StmtKnots.{stmt_mapped}
 use Rattle.swc_ecma_codegen.proofs.FunctionKnots.{function_mapped, block_mapped, arrow_expr_mapped}
 use Rattle.swc_ecma_codegen.proofs.PatKnots.{pat_mapped, target_pat_mapped}
 use Rattle.swc_ecma_codegen.proofs.PropKnots.{prop_name_mapped, prop_mapped, object_lit_mapped}
+use Rattle.swc_ecma_codegen.proofs.TemplateKnots.{tpl_mapped, tagged_tpl_mapped}
 use Rattle.swc_ecma_codegen.proofs.CallKnots.{array_lit_mapped, call_mapped, new_mapped, chain_call_mapped}
 
 -- ---- a word sees what links hold through `asks` and `items` alone
@@ -94,6 +95,7 @@ expr_mapped g asks items (exprs.New n) place rest = new_mapped g asks items n pl
 expr_mapped g asks items (exprs.SuperProp n) place rest = super_mapped g asks items n n.prop place rest
 expr_mapped g asks items (exprs.OptChain n) place rest = chain_mapped g asks items n n.base place rest
 expr_mapped g asks items (exprs.Yield n) place rest = yield_mapped g asks items n n.arg place rest
+expr_mapped g asks items (exprs.TaggedTpl n) place rest = tagged_tpl_mapped g asks items n place rest
 expr_mapped g asks items (exprs.Arrow n) place rest = arrow_expr_mapped g asks items n place rest
 expr_mapped g asks items n place rest = refl
 
@@ -134,6 +136,7 @@ part_mapped g asks items (expr_parts.Pat n) place rest = pat_mapped g asks items
 part_mapped g asks items (expr_parts.ObjectLit n) place rest = object_lit_mapped g asks items n place rest
 part_mapped g asks items (expr_parts.PropName n) place rest = prop_name_mapped g asks items n place rest
 part_mapped g asks items (expr_parts.Prop n) place rest = prop_mapped g asks items n place rest
+part_mapped g asks items (expr_parts.Tpl n) place rest = tpl_mapped g asks items n place rest
 part_mapped g asks items (expr_parts.OptCall n) place rest = chain_call_mapped g asks items n place rest
 part_mapped g asks items (expr_parts.AssignTarget n) place rest = target_mapped g asks items n place rest
 part_mapped g asks items n place rest = refl

@@ -16,7 +16,9 @@ pub mod MarkWords
 pub mod Impossible
 pub mod FunctionParts
 pub mod CallKnots
+pub mod TemplateKnots
 pub mod CallParts
+pub mod TemplateParts
 pub mod ExprParts
 pub mod NameParts
 pub mod PatParts

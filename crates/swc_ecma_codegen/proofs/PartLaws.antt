@@ -4,7 +4,7 @@ use Rattle.swc_ecma_codegen_tree.specs.declared.parts.ExprPart.TheVariants as ex
 use Rattle.swc_ecma_codegen_tree.specs.declared.parts.StmtPart.{StmtPart}
 use Rattle.swc_ecma_codegen_tree.specs.declared.parts.StmtPart.TheVariants as stmt_parts
 use Rattle.swc_ecma_codegen_ast.specs.declared.roles.Role.{Role}
-use Rattle.swc_ecma_codegen_ast.specs.declared.roles.Role.TheVariants.{AssignmentTarget, Pattern, PlainParameter, PropertyName, PropertyDefinition, ObjectLiteral, Function, FunctionHead, MethodHead, Block, Declaration, VariableDeclaration, ChainCall}
+use Rattle.swc_ecma_codegen_ast.specs.declared.roles.Role.TheVariants.{AssignmentTarget, Pattern, PlainParameter, PropertyName, PropertyDefinition, ObjectLiteral, Function, FunctionHead, MethodHead, Block, Declaration, VariableDeclaration, ChainCall, Template, TaggedTemplate}
 use Rattle.swc_ecma_codegen_ast.specs.PartPhrases as lists
 use Rattle.swc_ecma_codegen_base.proofs.Phrased.{Prints, prints_never}
 use Rattle.swc_ecma_codegen.specs.declared.nodes.Place.{Place}
@@ -18,6 +18,7 @@ use Rattle.swc_ecma_codegen.proofs.Linked.{Linked}
 use Rattle.swc_ecma_codegen.proofs.PatParts.{pat_prints, plain_prints}
 use Rattle.swc_ecma_codegen.proofs.PropParts.{object_lit_prints, prop_name_prints, prop_prints}
 use Rattle.swc_ecma_codegen.proofs.CallParts.{chain_call_prints}
+use Rattle.swc_ecma_codegen.proofs.TemplateParts.{tpl_prints}
 use Rattle.swc_ecma_codegen.proofs.TargetParts.{assign_target_prints}
 
 pub part_prints : {X : Type 0} (l : Linked X) (n : ExprPart X) (place : Place) (role : Role) → Prints l.env (words.expr_part l.asks l.items n (placed role place)) (lists.expr_part l.reads n role)
@@ -29,6 +30,8 @@ part_prints l (expr_parts.PropName n) place PropertyName = prop_name_prints l n
 part_prints l (expr_parts.Prop n) place PropertyDefinition = prop_prints l n
 part_prints l (expr_parts.OptCall n) place (ChainCall optional) = chain_call_prints l optional n
 part_prints l (expr_parts.AssignTarget n) place AssignmentTarget = assign_target_prints l n
+part_prints l (expr_parts.Tpl n) place Template = tpl_prints l false n
+part_prints l (expr_parts.Tpl n) place TaggedTemplate = tpl_prints l true n
 part_prints l n place role = prints_never
 
 pub stmt_part_prints : {X : Type 0} (l : Linked X) (n : StmtPart X) (place : Place) (role : Role) → Prints l.env (words.stmt_part l.asks l.items n (placed role place)) (lists.stmt_part l.reads n role)

@@ -72,15 +72,15 @@ fn expr_parts<N: Held, W: WriteJs, S: SourceMapper, C: Comments>(
         Expr::Seq(node) => node.emit_at(e, place),
         Expr::Ident(node) => node.emit_at(e, place),
         Expr::Lit(node) => node.emit_at(e, place),
+        Expr::Tpl(node) => node.held().emit_at(e, Place::Plain),
+        Expr::TaggedTpl(node) => node.emit_at(e, place),
         Expr::Arrow(node) => node.emit_at(e, place),
         Expr::Yield(node) => node.emit_at(e, place),
         Expr::MetaProp(node) => node.emit_at(e, place),
         Expr::Await(node) => node.emit_at(e, place),
         Expr::Paren(node) => node.emit_at(e, place),
         Expr::OptChain(node) => node.emit_at(e, place),
-        Expr::Tpl(_)
-        | Expr::TaggedTpl(_)
-        | Expr::Class(_)
+        Expr::Class(_)
         | Expr::JSXMember(_)
         | Expr::JSXNamespacedName(_)
         | Expr::JSXEmpty(_)

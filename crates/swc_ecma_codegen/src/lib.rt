@@ -28,6 +28,7 @@ mod places;
 mod props;
 mod stmt;
 mod targets;
+mod templates;
 mod tokens;
 
 pub use crate::code::to_code;

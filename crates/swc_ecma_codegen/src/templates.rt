@@ -118,14 +118,16 @@ impl<W: WriteJs, S: SourceMapper, C: Comments> Emitter<'_, W, S, C> {
         ensures items { Emits (tpl_rest N.items tagged exprs.now quasis.now) (state_of S.lines W.sheet self.old) (state_of S.lines W.sheet self.new) result }
         ensures level { OnOk result ((W.sheet self.new.wr).indentation ≡ (W.sheet self.old.wr).indentation) }
     {
-        match (exprs, quasis) {
-            ([expr, exprs @ ..], [quasi, quasis @ ..]) => {
-                expr.held().emit_at(self, Place::Plain)?;
-                self.tpl_element(false, part_before(tagged, quasis), quasi)?;
-                self.tpl_rest(tagged, exprs, quasis)
-            }
-            _ => Ok(()),
+        let mut left = quasis;
+        for expr in exprs {
+            let Some((quasi, others)) = left.split_first() else {
+                return Ok(());
+            };
+            expr.held().emit_at(self, Place::Plain)?;
+            self.tpl_element(false, part_before(tagged, others), quasi)?;
+            left = others;
         }
+        Ok(())
     }
 
     /// Writes the parts of a template.

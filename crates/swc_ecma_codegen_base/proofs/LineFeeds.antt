@@ -99,7 +99,7 @@ other_same Continued c xs ys i n s = absurd (true≢false (sym i))
 
 -- a line's end, as CR or as LF
 ended_same : (place : Place) (cs : List ℕ) → is_inner place ≡ true → begins (10 ∷ []) cs ≡ false → Same (with_line_feeds cs) cs → cooked_rest place (10 ∷ with_line_feeds cs) ≡ cooked_rest place (13 ∷ cs)
-unfolding cooked_rest is_inner utf16 is_hex
+unfolding cooked_rest is_inner utf16 is_hex is_digit
 ended_same Between cs i n s = ap (before (10 ∷ [])) (s.values Between refl) ∙ sym (ap (λ b. cond b (cooked_rest Between cs) (before (10 ∷ []) (cooked_rest Between cs))) n)
 ended_same Escaped cs i n s = s.values Between refl ∙ sym (ap (λ b. cooked_rest (cond b Continued Between) cs) n)
 ended_same (Due zero v) cs i n s = refl
@@ -112,7 +112,7 @@ ended_same Continued cs i n s = absurd (true≢false (sym i))
 
 -- CR LF, as LF
 both_same : (place : Place) (ds : List ℕ) → is_inner place ≡ true → Same (with_line_feeds ds) ds → cooked_rest place (10 ∷ with_line_feeds ds) ≡ cooked_rest place (13 ∷ 10 ∷ ds)
-unfolding cooked_rest is_inner utf16 is_hex begins
+unfolding cooked_rest is_inner utf16 is_hex is_digit begins
 both_same Between ds i s = ap (before (10 ∷ [])) (s.values Between refl)
 both_same Escaped ds i s = s.values Between refl
 both_same (Due zero v) ds i s = refl
@@ -178,18 +178,22 @@ feeds_scalars (c ∷ cs) h =
 
 -- ---- a text without CR
 
+neither_of : (b c : Bool) → cond b true c ≡ false → (b ≡ false) × (c ≡ false)
+neither_of true c h = absurd (true≢false h)
+neither_of false c h = (refl, h)
+
 feeds_none : (cs : List ℕ) → has_byte 13 cs ≡ false → with_line_feeds cs ≡ cs
 unfolding with_line_feeds has_byte
 feeds_none [] h = refl
 feeds_none (c ∷ cs) h =
-    let neither = or_parts (c == 13) (has_byte 13 cs) h in
+    let neither = neither_of (c == 13) (has_byte 13 cs) h in
     kept c cs neither.0 ∙ ap (λ z. c ∷ z) (feeds_none cs neither.1)
 
 byte_append : (xs ys : List ℕ) → has_byte 13 (xs ++ ys) ≡ false → (has_byte 13 xs ≡ false) × (has_byte 13 ys ≡ false)
 unfolding has_byte
 byte_append [] ys h = (refl, h)
 byte_append (x ∷ xs) ys h =
-    let neither = or_parts (x == 13) (has_byte 13 (xs ++ ys)) h in
+    let neither = neither_of (x == 13) (has_byte 13 (xs ++ ys)) h in
     let more = byte_append xs ys neither.1 in
     (ap (λ b. cond b true (has_byte 13 xs)) neither.0 ∙ more.0, more.1)
 
