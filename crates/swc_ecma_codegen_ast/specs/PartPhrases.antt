@@ -1,4 +1,5 @@
 -- Parts of expressions and statements that links hold: a production for each sort, in its role.
+use Rattle.std.specs.Prelude.{true, false}
 use Rattle.swc_ecma_codegen_tree.specs.declared.parts.ExprPart.{ExprPart}
 use Rattle.swc_ecma_codegen_tree.specs.declared.parts.ExprPart.TheVariants as expr_parts
 use Rattle.swc_ecma_codegen_tree.specs.declared.parts.StmtPart.{StmtPart}

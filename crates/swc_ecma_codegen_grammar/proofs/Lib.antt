@@ -3,6 +3,8 @@ pub mod CallsPossible
 pub mod DigitCounts
 pub mod DigitForms
 pub mod FunctionsPossible
+pub mod Insides
+pub mod TemplatesPossible
 pub mod DeclsPossible
 pub mod StmtsPossible
 pub mod LastSuffix

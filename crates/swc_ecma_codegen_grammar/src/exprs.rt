@@ -208,15 +208,15 @@ impl<N: Fits> WellFormed for Expr<N> {
             Expr::Seq(node) => node.is_well_formed(),
             Expr::Ident(node) => node.is_well_formed(),
             Expr::Lit(node) => node.is_well_formed(),
+            Expr::Tpl(node) => node.is_well_formed(),
+            Expr::TaggedTpl(node) => node.is_well_formed(),
             Expr::Arrow(node) => node.is_well_formed(),
             Expr::Yield(node) => node.is_well_formed(),
             Expr::MetaProp(node) => node.is_well_formed(),
             Expr::Await(node) => node.is_well_formed(),
             Expr::Paren(node) => node.is_well_formed(),
             Expr::OptChain(node) => node.is_well_formed(),
-            Expr::Tpl(_)
-            | Expr::TaggedTpl(_)
-            | Expr::Class(_)
+            Expr::Class(_)
             | Expr::JSXMember(_)
             | Expr::JSXNamespacedName(_)
             | Expr::JSXEmpty(_)

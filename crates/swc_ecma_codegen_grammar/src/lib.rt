@@ -20,6 +20,7 @@ mod regexes;
 mod stmts;
 mod strings;
 mod targets;
+mod templates;
 mod texts;
 
 pub use crate::forms::{Fits, WellFormed};

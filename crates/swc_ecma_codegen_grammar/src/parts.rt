@@ -6,6 +6,7 @@ ghost use Rattle.swc_ecma_codegen_ast.specs.PartPhrases.{expr_part, stmt_part};
 
 use crate::forms::{Fits, WellFormed};
 use crate::pats::is_plain_parameter;
+use crate::templates::is_template;
 use swc_ecma_codegen_ast::roles::Role;
 use swc_ecma_codegen_tree::{ExprPart, StmtPart};
 
@@ -17,6 +18,8 @@ pub(crate) fn expr_part_fits<N: Fits>(part: &ExprPart<N>, role: Role) -> bool
     match (part, role) {
         (ExprPart::Pat(node), Role::Pattern) => node.is_well_formed(),
         (ExprPart::Pat(node), Role::PlainParameter) => is_plain_parameter(node),
+        (ExprPart::Tpl(node), Role::Template) => is_template(false, node),
+        (ExprPart::Tpl(node), Role::TaggedTemplate) => is_template(true, node),
         (ExprPart::ObjectLit(node), Role::ObjectLiteral) => node.is_well_formed(),
         (ExprPart::PropName(node), Role::PropertyName) => node.is_well_formed(),
         (ExprPart::Prop(node), Role::PropertyDefinition) => node.is_well_formed(),
