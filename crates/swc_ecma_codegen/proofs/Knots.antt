@@ -139,7 +139,6 @@ part_mapped g asks items (expr_parts.Prop n) place rest = prop_mapped g asks ite
 part_mapped g asks items (expr_parts.Tpl n) place rest = tpl_mapped g asks items n place rest
 part_mapped g asks items (expr_parts.OptCall n) place rest = chain_call_mapped g asks items n place rest
 part_mapped g asks items (expr_parts.AssignTarget n) place rest = target_mapped g asks items n place rest
-part_mapped g asks items n place rest = refl
 
 stmt_part_mapped : {X Y : Type 0} (g : X → Y) (asks : Y → Answers) (items : Y → Place → Part) (n : StmtPart X) (place : Place) (rest : Plan) → node_items asks items (map-AnyNode X Y g (nodes.StmtPart n)) place rest ≡ stmt_part (λ x. asks (g x)) (λ x. items (g x)) n place rest
 unfolding node_items stmt_part unsupported refuse

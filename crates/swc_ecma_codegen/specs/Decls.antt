@@ -1,4 +1,4 @@
--- What is written of declarations. Classes, and what TypeScript adds, `declare` and `!` after a name, aren't printed yet.
+-- What is written of declarations. What TypeScript adds, `declare` and `!` after a name, isn't printed yet.
 use Rattle.std.specs.Prelude.{ℕ, Bool, true, false, if◌then◌else◌, List, [], ◌∷◌, map, codes, Option, Some, None}
 use Rattle.swc_ecma_codegen_common.specs.declared.positions.Span.{Span}
 use Rattle.swc_ecma_codegen_tree.specs.declared.decls.Decl.{Decl}
@@ -17,6 +17,7 @@ use Rattle.swc_ecma_codegen.specs.declared.nodes.Place.TheVariants.{Plain, Decla
 use Rattle.swc_ecma_codegen.specs.declared.patterns.PatternKind.{PatternKind}
 use Rattle.swc_ecma_codegen.specs.declared.patterns.PatternKind.TheVariants.{Marked}
 use Rattle.swc_ecma_codegen.specs.Answers.{Answers}
+use Rattle.swc_ecma_codegen.specs.Classes.{class_decl}
 use Rattle.swc_ecma_codegen.specs.Exprs.{blank, opened, ident}
 use Rattle.swc_ecma_codegen.specs.Lists.{child_of, unsupported}
 use Rattle.swc_ecma_codegen.specs.Pats.{initializer}
@@ -90,6 +91,7 @@ decl_end place span rest = end_of span rest
 
 -- a declaration by its variant
 unfoldable pub decl : {X : Type 0} → (X → Answers) → (X → Place → Part) → Decl X → Place → Part
+decl asks items (decls.Class n) place rest = class_decl asks items n rest
 decl asks items (decls.Fn n) place rest = fn_decl asks items n rest
 decl asks items (decls.Var n) place rest = items n.node.value Plain (semi (decl_end place (asks n.node.value).place rest))
 decl asks items (decls.Using n) place rest = using_decl items n (semi rest)

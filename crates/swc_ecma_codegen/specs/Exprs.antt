@@ -44,6 +44,7 @@ use Rattle.swc_ecma_codegen.specs.declared.nodes.Place.TheVariants.{Plain, LeftO
 use Rattle.swc_ecma_codegen.specs.Answers.{Answers, place_of}
 use Rattle.swc_ecma_codegen.specs.Operands.{is_word_op, space_after, operand_space}
 use Rattle.swc_ecma_codegen.specs.Functions.{fn_expr, arrow_expr}
+use Rattle.swc_ecma_codegen.specs.ClassExprs.{class_expr}
 use Rattle.swc_ecma_codegen.specs.Templates.{tagged_tpl}
 use Rattle.swc_ecma_codegen.specs.Calls.{super_keyword, array_lit, call_expr, keeps_arguments, new_expr}
 use Rattle.swc_ecma_codegen.specs.Lists.{listed, unsupported}
@@ -249,6 +250,7 @@ expr_parts asks items (exprs.Lit n) place rest = lit_at n place rest
 expr_parts asks items (exprs.Tpl n) place rest = items n.node.value Plain rest
 expr_parts asks items (exprs.TaggedTpl n) place rest = tagged_tpl items n rest
 expr_parts asks items (exprs.Arrow n) place rest = arrow_expr asks items n rest
+expr_parts asks items (exprs.Class n) place rest = class_expr asks items n rest
 expr_parts asks items (exprs.Yield n) place rest = yield_expr asks items n rest
 expr_parts asks items (exprs.MetaProp n) place rest = meta_prop_expr n rest
 expr_parts asks items (exprs.Await n) place rest = await_expr items n rest

@@ -8,6 +8,8 @@ pub mod Lits
 pub mod Places
 pub mod Functions
 pub mod Templates
+pub mod ClassExprs
+pub mod Classes
 pub mod Calls
 pub mod Exprs
 pub mod Names

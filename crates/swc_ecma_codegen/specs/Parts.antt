@@ -7,6 +7,7 @@ use Rattle.swc_ecma_codegen_base.specs.Run.{Part}
 use Rattle.swc_ecma_codegen.specs.declared.nodes.Place.{Place}
 use Rattle.swc_ecma_codegen.specs.Answers.{Answers}
 use Rattle.swc_ecma_codegen.specs.Blocks.{block_stmt}
+use Rattle.swc_ecma_codegen.specs.Classes.{class, class_member}
 use Rattle.swc_ecma_codegen.specs.Decls.{decl, var_decl}
 use Rattle.swc_ecma_codegen.specs.Functions.{function}
 use Rattle.swc_ecma_codegen.specs.Calls.{chain_call, is_optional}
@@ -24,10 +25,11 @@ expr_part asks items (expr_parts.Prop n) place rest = prop asks items n rest
 expr_part asks items (expr_parts.AssignTarget n) place rest = assign_target asks items n rest
 expr_part asks items (expr_parts.Tpl n) place rest = tpl items (is_tagged place) n rest
 expr_part asks items (expr_parts.OptCall n) place rest = chain_call asks items (is_optional place) n rest
-expr_part asks items n place rest = unsupported rest
 
 unfoldable pub stmt_part : {X : Type 0} → (X → Answers) → (X → Place → Part) → StmtPart X → Place → Part
 stmt_part asks items (stmt_parts.Function n) place rest = function items n.value place rest
+stmt_part asks items (stmt_parts.Class n) place rest = class asks items n.value place rest
+stmt_part asks items (stmt_parts.ClassMember n) place rest = class_member asks items n.value rest
 stmt_part asks items (stmt_parts.BlockStmt n) place rest = block_stmt asks items n place rest
 stmt_part asks items (stmt_parts.Decl n) place rest = decl asks items n.value place rest
 stmt_part asks items (stmt_parts.VarDecl n) place rest = var_decl asks items n rest

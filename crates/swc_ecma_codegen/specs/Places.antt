@@ -1,8 +1,8 @@
 -- Where a node may stand in its role.
 use Rattle.swc_ecma_codegen_ast.specs.declared.roles.Role.{Role}
-use Rattle.swc_ecma_codegen_ast.specs.declared.roles.Role.TheVariants.{MemberExpression, ChainMember, Function, FunctionHead as HeadOfFunction, MethodHead as HeadOfMethod, Expression, Callee as IsCallee, ChainCall, Template, TaggedTemplate}
+use Rattle.swc_ecma_codegen_ast.specs.declared.roles.Role.TheVariants.{MemberExpression, ChainMember, Function, FunctionHead as HeadOfFunction, MethodHead as HeadOfMethod, Expression, Callee as IsCallee, ChainCall, Template, TaggedTemplate, ClassHead as HeadOfClass, ClassTail, MethodDecorators as DecoratorsOfMethod, MethodTail as TailOfMethod}
 use Rattle.swc_ecma_codegen.specs.declared.nodes.Place.{Place}
-use Rattle.swc_ecma_codegen.specs.declared.nodes.Place.TheVariants.{Plain, Chain, FunctionHead, MethodHead, DeclarationHead, Object, DottedObject, Callee, Tagged}
+use Rattle.swc_ecma_codegen.specs.declared.nodes.Place.TheVariants.{Plain, Chain, FunctionHead, MethodHead, DeclarationHead, Object, DottedObject, Callee, Tagged, ClassHead, StaticHead, MethodDecorators, MethodTail}
 
 -- a place outside of a callee, and one inside
 abbrev pub outside : Place → Place
@@ -21,8 +21,13 @@ abbrev pub before_name : Place → Place
 before_name DeclarationHead = DeclarationHead
 before_name place = FunctionHead
 
+-- what of a method stands before its name: of a static one, behind that word
+abbrev pub before_method : Place → Place
+before_method (StaticHead starts) = StaticHead starts
+before_method place = MethodHead
+
 -- An expression stands where it is called or has a property where that is its role, and there alone, and so does a member, or a call,
--- in a chain, what of a function stands before its name, and a template with a tag; another node stands where it is put.
+-- in a chain, what of a function or a class stands before its name, and a template with a tag; another node stands where it is put.
 abbrev pub placed : Role → Place → Place
 placed Expression place = outside place
 placed IsCallee place = inside place
@@ -30,7 +35,11 @@ placed MemberExpression place = Plain
 placed (ChainMember optional) place = Chain optional
 placed Function place = Plain
 placed HeadOfFunction place = before_name place
-placed HeadOfMethod place = MethodHead
+placed HeadOfMethod place = before_method place
+placed HeadOfClass place = ClassHead
+placed ClassTail place = Plain
+placed DecoratorsOfMethod place = MethodDecorators
+placed TailOfMethod place = MethodTail
 placed (ChainCall optional) place = Chain optional
 placed Template place = Plain
 placed TaggedTemplate place = Tagged

@@ -43,6 +43,14 @@ pub enum Place {
     Statement,
     /// A template after its tag.
     Tagged,
+    /// What of a class stands before the word: `@a` of `@a class B {}`
+    ClassHead,
+    /// What of a static method stands before its name, and whether that begins with a character of a name: ` async *`
+    StaticHead(bool),
+    /// What of a method stands before its modifiers: `@a` of `@a b() {}`
+    MethodDecorators,
+    /// The function of a method, whose decorators stand elsewhere: `() {}` of `@a b() {}`
+    MethodTail,
 }
 
 /// What a node tells those above it.
@@ -86,7 +94,7 @@ pub trait AskPattern: Known {
         ensures { result ≡ (Self.answers self.now).pattern };
 }
 
-/// Whether it is a block, where it is a statement.
+/// Whether it is a block, where it is a statement, or a sequence, where it is an expression.
 pub trait AskBlock: Known {
     fn block(&self) -> bool
         ensures { result ≡ (Self.answers self.now).block };

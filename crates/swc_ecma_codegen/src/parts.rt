@@ -27,7 +27,6 @@ impl<N: Held> EmitAt for ExprPart<N> {
             ExprPart::Tpl(node) => node.emit_at(e, place),
             ExprPart::OptCall(node) => node.emit_at(e, place),
             ExprPart::AssignTarget(node) => node.emit_at(e, place),
-            _ => e.unsupported(),
         }
     }
 }

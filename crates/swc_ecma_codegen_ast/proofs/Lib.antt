@@ -13,6 +13,7 @@ pub mod MappedPats
 pub mod MappedProps
 pub mod MappedStmts
 pub mod MappedTemplates
+pub mod MappedClasses
 pub mod MappedCalls
 pub mod MarkMatch
 pub mod Marks

@@ -42,6 +42,7 @@ use Rattle.swc_ecma_codegen_ast.specs.declared.roles.Role.{Role}
 use Rattle.swc_ecma_codegen_ast.specs.declared.roles.Role.TheVariants.{Expression, MemberExpression, ChainMember, AssignmentTarget, ObjectLiteral, ChainCall, Template}
 use Rattle.swc_ecma_codegen_ast.specs.FunctionPhrases.{fn_expr, arrow_expr}
 use Rattle.swc_ecma_codegen_ast.specs.TemplatePhrases.{tagged_tpl}
+use Rattle.swc_ecma_codegen_ast.specs.ClassPhrases.{class_expr}
 use Rattle.swc_ecma_codegen_ast.specs.CallPhrases.{callee_at, array_lit, call_expr, new_expr}
 use Rattle.swc_ecma_codegen_ast.specs.LitPhrases.{lit}
 use Rattle.swc_ecma_codegen_ast.specs.NamePhrases.{ident, ident_name}
@@ -185,6 +186,7 @@ expr f (exprs.Lit n) = lit n
 expr f (exprs.Tpl n) = f n.node.value Template
 expr f (exprs.TaggedTpl n) = tagged_tpl f n
 expr f (exprs.Arrow n) = arrow_expr f n
+expr f (exprs.Class n) = class_expr f n
 expr f (exprs.Yield n) = yield_expr f n
 expr f (exprs.MetaProp n) = meta_prop_expr n
 expr f (exprs.Await n) = await_expr f n

@@ -10,6 +10,7 @@ pub mod Endings
 pub mod ExprPhrases
 pub mod FunctionPhrases
 pub mod TemplatePhrases
+pub mod ClassPhrases
 pub mod GapRules
 pub mod Hashbangs
 pub mod HeldNumbers

@@ -41,4 +41,14 @@ pub enum Role {
     Template,
     /// The same after a tag.
     TaggedTemplate,
+    /// `@a` of `@a class B {}`.
+    ClassHead,
+    /// `extends B { c; }` of `class A extends B { c; }`, all but the word before it and the name.
+    ClassTail,
+    /// `a;` of `class B { a; }`.
+    Member,
+    /// `@a` of `class B { @a c() {} }`.
+    MethodDecorators,
+    /// `() {}` of `class B { @a c() {} }`: the function of a method, whose decorators stand elsewhere.
+    MethodTail,
 }
