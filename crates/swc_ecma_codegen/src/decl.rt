@@ -54,6 +54,7 @@ impl<N: Held> EmitAt for Decl<N> {
         place: Place,
     ) -> Answer {
         match self {
+            Decl::Class(node) => node.emit_at(e, Place::Plain),
             Decl::Fn(node) => node.emit_at(e, Place::Plain),
             Decl::Var(node) => {
                 node.held().emit_at(e, Place::Plain)?;

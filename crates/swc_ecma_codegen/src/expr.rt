@@ -75,13 +75,13 @@ fn expr_parts<N: Held, W: WriteJs, S: SourceMapper, C: Comments>(
         Expr::Tpl(node) => node.held().emit_at(e, Place::Plain),
         Expr::TaggedTpl(node) => node.emit_at(e, place),
         Expr::Arrow(node) => node.emit_at(e, place),
+        Expr::Class(node) => node.emit_at(e, place),
         Expr::Yield(node) => node.emit_at(e, place),
         Expr::MetaProp(node) => node.emit_at(e, place),
         Expr::Await(node) => node.emit_at(e, place),
         Expr::Paren(node) => node.emit_at(e, place),
         Expr::OptChain(node) => node.emit_at(e, place),
-        Expr::Class(_)
-        | Expr::JSXMember(_)
+        Expr::JSXMember(_)
         | Expr::JSXNamespacedName(_)
         | Expr::JSXEmpty(_)
         | Expr::JSXElement(_)

@@ -6,6 +6,7 @@ mod blocks;
 mod branches;
 mod calls;
 mod chains;
+mod classes;
 mod code;
 mod decl;
 mod emitter;

@@ -42,6 +42,8 @@ impl<N: Held> EmitAt for StmtPart<N> {
     ) -> Answer {
         match self {
             StmtPart::Function(node) => (**node).emit_at(e, place),
+            StmtPart::Class(node) => (**node).emit_at(e, place),
+            StmtPart::ClassMember(node) => (**node).emit_at(e, place),
             StmtPart::BlockStmt(node) => node.emit_at(e, place),
             StmtPart::Decl(node) => (**node).emit_at(e, place),
             StmtPart::VarDecl(node) => node.emit_at(e, place),

@@ -41,6 +41,9 @@ pub decorators_mapped : {X Y : Type 0} (g : Decorator X → Decorator Y) (f : Y 
 unfolding decorators
 decorators_mapped g f d same ns = ap in_order (list_mapped g (decorator f) (decorator d) same ns)
 
+decorated : {X Y : Type 0} (g : Decorator X → Decorator Y) (f : Y → Role → Phrase) (d : X → Role → Phrase) → ((n : Decorator X) → decorator f (g n) ≡ decorator d n) → (typed : Bool) (rest : Phrase) (ns : List (Decorator X)) → cond typed Never (decorators f (map g ns) > rest) ≡ cond typed Never (decorators d ns > rest)
+decorated g f d same typed rest ns = ap (λ p. cond typed Never (p > rest)) (decorators_mapped g f d same ns)
+
 -- ---- functions of methods
 
 pub method_decorators_mapped : {X Y : Type 0} (g : X → Y) (f : Y → Role → Phrase) (b : Box (functions.Function X) Global) → node_phrase f (map-AnyNode X Y g (nodes.StmtPart (stmt_parts.Function b))) MethodDecorators ≡ method_decorators (λ x. f (g x)) b.value
@@ -111,17 +114,17 @@ method_by g f b n Setter = refl
 
 prop_by : {X Y : Type 0} (g : X → Y) (f : Y → Role → Phrase) (b : Box (class_members.ClassMember X) Global) (n : ClassProp X) (type_ann : Option (TsTypeAnnBox X)) (value : Option (ExprBox X)) → node_phrase f (map-AnyNode X Y g (as_member b (members.ClassProp (record n { type_ann = type_ann; value = value })))) Member ≡ class_prop (λ x. f (g x)) (record n { type_ann = type_ann; value = value })
 unfolding node_phrase stmt_part class_member class_prop prop_value decorator
-prop_by g f b n None None = ap (λ p. cond (is_typed_prop (record n { type_ann = None; value = None })) Never (p > _)) (decorators_mapped _ f (λ x. f (g x)) (λ m. refl) n.decorators.items)
-prop_by g f b n None (Some v) = ap (λ p. cond (is_typed_prop (record n { type_ann = None; value = Some v })) Never (p > _)) (decorators_mapped _ f (λ x. f (g x)) (λ m. refl) n.decorators.items)
+prop_by g f b n None None = decorated _ f (λ x. f (g x)) (λ m. refl) _ _ n.decorators.items
+prop_by g f b n None (Some v) = decorated _ f (λ x. f (g x)) (λ m. refl) _ _ n.decorators.items
 prop_by g f b n (Some t) None = refl
 prop_by g f b n (Some t) (Some v) = refl
 
 accessor_by : {X Y : Type 0} (g : X → Y) (f : Y → Role → Phrase) (b : Box (class_members.ClassMember X) Global) (n : AutoAccessor X) (key : Key X) (type_ann : Option (TsTypeAnnBox X)) (value : Option (ExprBox X)) → node_phrase f (map-AnyNode X Y g (as_member b (members.AutoAccessor (record n { key = key; type_ann = type_ann; value = value })))) Member ≡ auto_accessor (λ x. f (g x)) (record n { key = key; type_ann = type_ann; value = value })
 unfolding node_phrase stmt_part class_member auto_accessor accessor_key initializer decorator
-accessor_by g f b n (keys.Public k) None None = ap (λ p. cond (is_typed_accessor (record n { key = keys.Public k; type_ann = None; value = None })) Never (p > _)) (decorators_mapped _ f (λ x. f (g x)) (λ m. refl) n.decorators.items)
-accessor_by g f b n (keys.Public k) None (Some v) = ap (λ p. cond (is_typed_accessor (record n { key = keys.Public k; type_ann = None; value = Some v })) Never (p > _)) (decorators_mapped _ f (λ x. f (g x)) (λ m. refl) n.decorators.items)
-accessor_by g f b n (keys.Private k) None None = ap (λ p. cond (is_typed_accessor (record n { key = keys.Private k; type_ann = None; value = None })) Never (p > _)) (decorators_mapped _ f (λ x. f (g x)) (λ m. refl) n.decorators.items)
-accessor_by g f b n (keys.Private k) None (Some v) = ap (λ p. cond (is_typed_accessor (record n { key = keys.Private k; type_ann = None; value = Some v })) Never (p > _)) (decorators_mapped _ f (λ x. f (g x)) (λ m. refl) n.decorators.items)
+accessor_by g f b n (keys.Public k) None None = decorated _ f (λ x. f (g x)) (λ m. refl) _ _ n.decorators.items
+accessor_by g f b n (keys.Public k) None (Some v) = decorated _ f (λ x. f (g x)) (λ m. refl) _ _ n.decorators.items
+accessor_by g f b n (keys.Private k) None None = decorated _ f (λ x. f (g x)) (λ m. refl) _ _ n.decorators.items
+accessor_by g f b n (keys.Private k) None (Some v) = decorated _ f (λ x. f (g x)) (λ m. refl) _ _ n.decorators.items
 accessor_by g f b n (keys.Public k) (Some t) None = refl
 accessor_by g f b n (keys.Public k) (Some t) (Some v) = refl
 accessor_by g f b n (keys.Private k) (Some t) None = refl
