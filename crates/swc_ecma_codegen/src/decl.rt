@@ -161,8 +161,8 @@ impl<N: Held> Child for VarDeclarator<N> {
 
 impl<W: WriteJs, S: SourceMapper, C: Comments> Emitter<'_, W, S, C> {
     /// Writes declarators, with commas between.
-    fn declarators<N: Held>(&mut self, span: Span, nodes: &[VarDeclarator<N>]) -> Answer
-        ensures items { Emits (declarators N.items span nodes.now) (state_of S.lines W.sheet self.old) (state_of S.lines W.sheet self.new) result }
+    fn declarators<N: Held>(&mut self, span: Span, nodes: &Vec<VarDeclarator<N>>) -> Answer
+        ensures items { Emits (declarators N.items span nodes.now.items) (state_of S.lines W.sheet self.old) (state_of S.lines W.sheet self.new) result }
         ensures level { OnOk result ((W.sheet self.new.wr).indentation ≡ (W.sheet self.old.wr).indentation) }
     {
         self.list(declarators_format(), span, nodes)

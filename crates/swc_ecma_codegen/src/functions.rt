@@ -3,7 +3,7 @@
 ghost use Rattle.std.specs.Prelude.{◌≡◌, Bool, OnOk};
 ghost use Rattle.swc_ecma_codegen_literals.specs.Punctuators.{spelling};
 ghost use Rattle.swc_ecma_codegen_base.specs.Run.{Emits};
-ghost use Rattle.swc_ecma_codegen.specs.Functions.{comma_list_format, decorators_format, decorator, param, function_body, fn_trailing, async_word, star, function_head, star_or_space, declaration_head, method_head, function, optional_name, fn_expr, is_plain, is_name, is_only, async_arrow, parenthesis, arrow_parameters, arrow_body, arrow_expr};
+ghost use Rattle.swc_ecma_codegen.specs.Functions.{comma_list_format, decorators_format, decorator, decorators, param, function_body, parameters, fn_trailing_parts, fn_trailing, async_word, star, function_head, star_or_space, declaration_head, method_head, function, optional_name, fn_expr, is_plain, is_name, is_only, async_arrow, parenthesis, arrow_list, arrow_parameters, arrow_body, arrow_expr};
 ghost use Rattle.swc_ecma_codegen.specs.View.{state_of};
 
 use crate::blocks::is_some_listed;
@@ -178,7 +178,7 @@ impl<N: Held> EmitAt for Param<N> {
     ) -> Answer {
         e.leading_comments(self.span.lo)?;
         e.start_of(self.span)?;
-        e.list(decorators_format(), self.span, &self.decorators)?;
+        e.decorators(self)?;
         self.pat.held().emit_at(e, Place::Plain)?;
         e.end_of(self.span)?;
         Ok(())
@@ -268,7 +268,7 @@ impl<W: WriteJs, S: SourceMapper, C: Comments> Emitter<'_, W, S, C> {
     }
 
     /// Writes `(a) { b; }` of `function f(a) { b; }`. swc's `emit_fn_trailing`.
-    #[tactic(auto, unfolding(crate::specs::Functions::fn_trailing, crate::specs::Functions::fn_trailing_parts))]
+    #[tactic(auto, unfolding(crate::specs::Functions::fn_trailing))]
     fn fn_trailing<N: Held>(&mut self, node: &Function<N>) -> Answer
         ensures items { Emits (fn_trailing N.items node.now) (state_of S.lines W.sheet self.old) (state_of S.lines W.sheet self.new) result }
         ensures level { OnOk result ((W.sheet self.new.wr).indentation ≡ (W.sheet self.old.wr).indentation) }
@@ -279,11 +279,36 @@ impl<W: WriteJs, S: SourceMapper, C: Comments> Emitter<'_, W, S, C> {
         {
             return self.unsupported();
         }
+        self.fn_trailing_parts(node)
+    }
+
+    /// Writes `(a) { b; }`.
+    #[tactic(auto, unfolding(crate::specs::Functions::fn_trailing_parts))]
+    fn fn_trailing_parts<N: Held>(&mut self, node: &Function<N>) -> Answer
+        ensures items { Emits (fn_trailing_parts N.items node.now) (state_of S.lines W.sheet self.old) (state_of S.lines W.sheet self.new) result }
+        ensures level { OnOk result ((W.sheet self.new.wr).indentation ≡ (W.sheet self.old.wr).indentation) }
+    {
         self.punct(Punctuator::LeftParenthesis)?;
-        self.list(comma_list_format(), node.span, &node.params)?;
+        self.parameters(node)?;
         self.punct(Punctuator::RightParenthesis)?;
         self.function_body(&node.body)?;
         Ok(())
+    }
+
+    /// Writes the parameters of a function, with commas between.
+    fn parameters<N: Held>(&mut self, node: &Function<N>) -> Answer
+        ensures items { Emits (parameters N.items node.now) (state_of S.lines W.sheet self.old) (state_of S.lines W.sheet self.new) result }
+        ensures level { OnOk result ((W.sheet self.new.wr).indentation ≡ (W.sheet self.old.wr).indentation) }
+    {
+        self.list(comma_list_format(), node.span, &node.params)
+    }
+
+    /// Writes the decorators of a parameter.
+    fn decorators<N: Held>(&mut self, node: &Param<N>) -> Answer
+        ensures items { Emits (decorators N.items node.now) (state_of S.lines W.sheet self.old) (state_of S.lines W.sheet self.new) result }
+        ensures level { OnOk result ((W.sheet self.new.wr).indentation ≡ (W.sheet self.old.wr).indentation) }
+    {
+        self.list(decorators_format(), node.span, &node.decorators)
     }
 
     /// Writes a blank and a body, or a semicolon.
@@ -345,7 +370,15 @@ impl<W: WriteJs, S: SourceMapper, C: Comments> Emitter<'_, W, S, C> {
         self.punct(mark)
     }
 
-    /// Writes the parameters of an arrow function.
+    /// Writes the parameters of an arrow function, with commas between.
+    fn arrow_list<N: Held>(&mut self, node: &ArrowExpr<N>) -> Answer
+        ensures items { Emits (arrow_list N.answers N.items node.now) (state_of S.lines W.sheet self.old) (state_of S.lines W.sheet self.new) result }
+        ensures level { OnOk result ((W.sheet self.new.wr).indentation ≡ (W.sheet self.old.wr).indentation) }
+    {
+        self.list(comma_list_format(), node.span, &node.params)
+    }
+
+    /// Writes the parameters of an arrow function, in parentheses.
     #[tactic(auto, unfolding(crate::specs::Functions::arrow_parameters))]
     fn arrow_parameters<N: Held>(&mut self, node: &ArrowExpr<N>) -> Answer
         ensures items { Emits (arrow_parameters N.answers N.items node.now) (state_of S.lines W.sheet self.old) (state_of S.lines W.sheet self.new) result }
@@ -353,7 +386,7 @@ impl<W: WriteJs, S: SourceMapper, C: Comments> Emitter<'_, W, S, C> {
     {
         let plain = is_only_plain(&node.params);
         self.parenthesis(plain, Punctuator::LeftParenthesis)?;
-        self.list(comma_list_format(), node.span, &node.params)?;
+        self.arrow_list(node)?;
         self.parenthesis(plain, Punctuator::RightParenthesis)?;
         Ok(())
     }
