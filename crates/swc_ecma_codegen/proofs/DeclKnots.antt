@@ -15,6 +15,7 @@ use Rattle.swc_ecma_codegen_base.specs.Words.{keyword, semi, space, commit_pendi
 use Rattle.swc_ecma_codegen.specs.declared.nodes.Place.{Place}
 use Rattle.swc_ecma_codegen.specs.Answers.{Answers}
 use Rattle.swc_ecma_codegen.specs.Decls.{declarators_format, fn_decl_parts, fn_decl, var_declarator_parts, var_declarator, declarator_place, var_kind, is_unmarked, first_is_unmarked, var_decl_parts, var_decl, await_word, using_decl, decl}
+use Rattle.swc_ecma_codegen.specs.Classes.{class_decl, class_decl_parts}
 use Rattle.swc_ecma_codegen.specs.Exprs.{blank}
 use Rattle.swc_ecma_codegen.specs.Lists.{child_of, unsupported}
 use Rattle.swc_ecma_codegen.specs.Parts.{stmt_part}
@@ -47,7 +48,7 @@ pub var_decl_mapped : {X Y : Type 0} (g : X → Y) (asks : Y → Answers) (items
 var_decl_mapped g asks items n place rest = var_by g asks items n n.declare place rest
 
 decl_by : {X Y : Type 0} (g : X → Y) (asks : Y → Answers) (items : Y → Place → Part) (b : Box (Decl X) Global) (n : Decl X) (place : Place) (rest : Plan) → node_items asks items (map-AnyNode X Y g (nodes.StmtPart (stmt_parts.Decl (record b { value = n })))) place rest ≡ decl (λ x. asks (g x)) (λ x. items (g x)) n place rest
-unfolding node_items stmt_part decl fn_decl fn_decl_parts using_decl var_declarator var_declarator_parts initializer unsupported refuse
+unfolding node_items stmt_part decl class_decl class_decl_parts fn_decl fn_decl_parts using_decl var_declarator var_declarator_parts initializer unsupported refuse
 decl_by g asks items b (decls.Fn n) place rest = refl
 decl_by g asks items b (decls.Var n) place rest = refl
 decl_by {X} g asks items b (decls.Using n) place rest = ap (λ z. leading_comments n.span.lo (await_word n.is_await (keyword None (codes "using") (space z))))

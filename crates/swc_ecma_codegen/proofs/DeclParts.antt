@@ -22,6 +22,7 @@ use Rattle.swc_ecma_codegen.specs.declared.nodes.Place.TheVariants.{Plain, Decla
 use Rattle.swc_ecma_codegen.specs.Decls as words
 use Rattle.swc_ecma_codegen.specs.Decls.{declarators_format, declarator_place}
 use Rattle.swc_ecma_codegen.proofs.ExprParts.{writes_blank, writes_opened, ident_prints}
+use Rattle.swc_ecma_codegen.proofs.ClassParts.{class_decl_prints}
 use Rattle.swc_ecma_codegen.proofs.Impossible.{refused_or}
 use Rattle.swc_ecma_codegen.proofs.Linked.{Linked, pat_at, var_decl_at}
 use Rattle.swc_ecma_codegen.proofs.MarkWords as marks
@@ -84,6 +85,7 @@ writes_decl_end env place span = writes_position env span.hi
 
 pub decl_prints : {X : Type 0} (l : Linked X) (n : Decl X) (place : Place) → Prints l.env (words.decl l.asks l.items n place) (lists.decl l.reads n)
 unfolding words.decl lists.decl
+decl_prints l (decls.Class n) place = class_decl_prints l n
 decl_prints l (decls.Fn n) place = fn_decl_prints l n
 decl_prints l (decls.Var n) place = then (var_decl_at l n) (before (prints_semi l.env) (writes_decl_end l.env place (l.asks n.node.value).place))
 decl_prints l (decls.Using n) place = then (using_decl_prints l n) (prints_semi l.env)

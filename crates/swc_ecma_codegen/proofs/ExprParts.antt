@@ -71,7 +71,7 @@ use Rattle.swc_ecma_codegen.specs.Operands.{is_word_op, operand_space}
 use Rattle.swc_ecma_codegen.specs.Exprs as words
 use Rattle.swc_ecma_codegen.specs.Calls as calls
 use Rattle.swc_ecma_codegen.specs.Lits.{lit_at}
-use Rattle.swc_ecma_codegen.proofs.FunctionParts.{fn_expr_prints, arrow_expr_prints}
+use Rattle.swc_ecma_codegen.proofs.FunctionParts.{fn_expr_prints, arrow_expr_prints, class_expr_prints}
 use Rattle.swc_ecma_codegen.proofs.CallParts.{super_is_word, array_lit_prints, call_prints, new_prints}
 use Rattle.swc_ecma_codegen.proofs.TemplateParts.{tagged_tpl_prints}
 use Rattle.swc_ecma_codegen.proofs.Linked.{Linked, expr_at}
@@ -435,6 +435,7 @@ parts_print l (exprs.Lit n) place = lit_prints l.env n place
 parts_print l (exprs.Tpl n) place = l.law n.node.value Plain Template
 parts_print l (exprs.TaggedTpl n) place = tagged_tpl_prints l n
 parts_print l (exprs.Arrow n) place = arrow_expr_prints l n
+parts_print l (exprs.Class n) place = class_expr_prints l n
 parts_print l (exprs.Yield n) place = yield_prints l n
 parts_print l (exprs.MetaProp n) place = meta_prop_expr_prints l.env n
 parts_print l (exprs.Await n) place = await_prints l n

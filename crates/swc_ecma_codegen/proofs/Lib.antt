@@ -4,6 +4,7 @@ pub mod PatternLaws
 pub mod BranchLaws
 pub mod PatKnots
 pub mod FunctionKnots
+pub mod ClassKnots
 pub mod DeclKnots
 pub mod StmtKnots
 pub mod PropKnots
@@ -26,6 +27,7 @@ pub mod BlockParts
 pub mod PropParts
 pub mod TargetParts
 pub mod PartLaws
+pub mod ClassParts
 pub mod DeclParts
 pub mod LoopParts
 pub mod StmtParts

@@ -170,3 +170,23 @@ while_word = record { utf8 = refl; ascii = refl; shape = refl }
 pub with_word : IsWord (codes "with")
 unfolding is_word is_start is_part is_letter is_digit all_part chars is_utf8 lib.Utf8.encode
 with_word = record { utf8 = refl; ascii = refl; shape = refl }
+
+pub class_word : IsWord (codes "class")
+unfolding is_word is_start is_part is_letter is_digit all_part chars is_utf8 lib.Utf8.encode
+class_word = record { utf8 = refl; ascii = refl; shape = refl }
+
+pub extends_word : IsWord (codes "extends")
+unfolding is_word is_start is_part is_letter is_digit all_part chars is_utf8 lib.Utf8.encode
+extends_word = record { utf8 = refl; ascii = refl; shape = refl }
+
+pub constructor_word : IsWord (codes "constructor")
+unfolding is_word is_start is_part is_letter is_digit all_part chars is_utf8 lib.Utf8.encode
+constructor_word = record { utf8 = refl; ascii = refl; shape = refl }
+
+pub static_word : IsWord (codes "static")
+unfolding is_word is_start is_part is_letter is_digit all_part chars is_utf8 lib.Utf8.encode
+static_word = record { utf8 = refl; ascii = refl; shape = refl }
+
+pub accessor_word : IsWord (codes "accessor")
+unfolding is_word is_start is_part is_letter is_digit all_part chars is_utf8 lib.Utf8.encode
+accessor_word = record { utf8 = refl; ascii = refl; shape = refl }

@@ -31,7 +31,7 @@ use Rattle.swc_ecma_codegen_ast.specs.declared.roles.Role.{Role}
 use Rattle.swc_ecma_codegen_ast.specs.declared.roles.Role.TheVariants.{ClassHead, ClassTail, Member, MethodDecorators, MethodTail}
 use Rattle.swc_ecma_codegen_ast.specs.PatPhrases.{initializer}
 use Rattle.swc_ecma_codegen_ast.specs.FunctionPhrases.{decorator, param, function_body, is_some_listed}
-use Rattle.swc_ecma_codegen_ast.specs.ClassPhrases.{member_at, decorators, class_head, heritage, is_typed_class, class_tail, constructor_param, class_constructor, method_decorators, method_tail, kind_head, class_method, prop_value, is_typed_prop, class_prop, accessor_key, is_typed_accessor, auto_accessor, static_block, class_member}
+use Rattle.swc_ecma_codegen_ast.specs.ClassPhrases.{member_at, decorators, class_head, heritage, is_typed_class, class_tail, constructor_param, class_constructor, method_decorators, method_tail, kind_head, method_kind, class_method, prop_value, is_typed_prop, class_prop, accessor_key, is_typed_accessor, auto_accessor, static_block, class_member}
 use Rattle.swc_ecma_codegen_ast.specs.PartPhrases.{stmt_part}
 use Rattle.swc_ecma_codegen_ast.specs.TreePhrases.{node_phrase}
 use Rattle.swc_ecma_codegen_ast.proofs.Mapped.{list_mapped}
@@ -107,7 +107,7 @@ constructor_by {X} {Y} g f b n None = ap (λ ps. cond (is_some n.accessibility) 
 constructor_by {X} {Y} g f b n (Some body) = ap (λ ps. cond (is_some n.accessibility) Never (word (codes "constructor") > mark (codes "(") > listed (codes ",") ps > mark (codes ")") > function_body (λ x. f (g x)) (Some body))) (list_mapped {A = ParamOrTsParamProp X} _ (constructor_param f) (constructor_param (λ x. f (g x))) (each_param {X = X} _ (λ m. refl) (param_mapped {X = X} {Y = Y} _ _ f (λ x. f (g x)) (λ x. refl) (λ x. refl) (λ x. refl))) n.params.items)
 
 method_by : {X Y : Type 0} (g : X → Y) (f : Y → Role → Phrase) (b : Box (class_members.ClassMember X) Global) (n : ClassMethod X) (kind : MethodKind) → node_phrase f (map-AnyNode X Y g (as_member b (members.Method (record n { kind = kind })))) Member ≡ class_method (λ x. f (g x)) (record n { kind = kind })
-unfolding node_phrase stmt_part class_member class_method kind_head
+unfolding node_phrase stmt_part class_member class_method method_kind kind_head
 method_by g f b n Method = refl
 method_by g f b n Getter = refl
 method_by g f b n Setter = refl

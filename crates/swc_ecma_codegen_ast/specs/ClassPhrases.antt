@@ -90,11 +90,15 @@ kind_head f Method n = f n.node.value MethodHead
 kind_head f Getter n = word (codes "get")
 kind_head f Setter n = word (codes "set")
 
+-- `static async *`, `static get`
+unfoldable pub method_kind : {X : Type 0} → (X → Role → Phrase) → ClassMethod X → Phrase
+method_kind f n = word_if n.is_static (word (codes "static")) > kind_head f n.kind n.function
+
 -- `static async *a(b) { c; }`
 unfoldable pub class_method : {X : Type 0} → (X → Role → Phrase) → ClassMethod X → Phrase
 class_method f n =
     if is_some n.accessibility || (n.is_abstract || (n.is_optional || n.is_override)) then Never
-    else (f n.function.node.value MethodDecorators > word_if n.is_static (word (codes "static")) > kind_head f n.kind n.function > prop_name_at f n.key > f n.function.node.value MethodTail)
+    else (f n.function.node.value MethodDecorators > method_kind f n > prop_name_at f n.key > f n.function.node.value MethodTail)
 
 -- `= a` of `class B { c = a; }`; parentheses may stand round it
 unfoldable pub prop_value : {X : Type 0} → (X → Role → Phrase) → Option (ExprBox X) → Phrase
