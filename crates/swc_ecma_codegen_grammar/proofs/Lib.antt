@@ -5,6 +5,7 @@ pub mod DigitForms
 pub mod FunctionsPossible
 pub mod Insides
 pub mod TemplatesPossible
+pub mod ClassesPossible
 pub mod DeclsPossible
 pub mod StmtsPossible
 pub mod LastSuffix

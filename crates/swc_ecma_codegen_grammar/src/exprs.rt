@@ -211,13 +211,13 @@ impl<N: Fits> WellFormed for Expr<N> {
             Expr::Tpl(node) => node.is_well_formed(),
             Expr::TaggedTpl(node) => node.is_well_formed(),
             Expr::Arrow(node) => node.is_well_formed(),
+            Expr::Class(node) => node.is_well_formed(),
             Expr::Yield(node) => node.is_well_formed(),
             Expr::MetaProp(node) => node.is_well_formed(),
             Expr::Await(node) => node.is_well_formed(),
             Expr::Paren(node) => node.is_well_formed(),
             Expr::OptChain(node) => node.is_well_formed(),
-            Expr::Class(_)
-            | Expr::JSXMember(_)
+            Expr::JSXMember(_)
             | Expr::JSXNamespacedName(_)
             | Expr::JSXEmpty(_)
             | Expr::JSXElement(_)

@@ -3,6 +3,7 @@
 
 mod big_integers;
 mod calls;
+mod classes;
 mod code_units;
 mod decls;
 pub mod exprs;
