@@ -28,6 +28,7 @@ use Rattle.swc_ecma_codegen_ast.specs.PatPhrases as pats
 use Rattle.swc_ecma_codegen_ast.specs.Phrases as phrases
 use Rattle.swc_ecma_codegen_ast.specs.Phrases.{Phrase, OptionalParentheses, ◌>◌, mark, word}
 use Rattle.swc_ecma_codegen_ast.specs.declared.roles.Role.TheVariants.{ClassHead as HeadOfClass, ClassTail, Member, MethodHead as HeadOfMethod, MethodDecorators as DecoratorsOfMethod, MethodTail as TailOfMethod}
+use Rattle.swc_ecma_codegen_base.specs.Choices.{optional_parentheses}
 use Rattle.swc_ecma_codegen_base.specs.Run.{Env, Part}
 use Rattle.swc_ecma_codegen_base.specs.Words.{keyword, punct, last_of}
 use Rattle.swc_ecma_codegen_base.proofs.ListLaws.{IsUndelimited, prints_list, prints_in_order, prints_bracketed_in_order}
@@ -65,7 +66,7 @@ members_undelimited = record { no_comma = refl; no_bar = refl; no_ampersand = re
 closing_prints : {X : Type 0} (env : Env) (n : class_nodes.Class X) → Prints env (λ rest. last_of n.span (punct (codes "}") rest)) (mark (codes "}"))
 closing_prints env n = after (writes_position_before env n.span.hi) (prints_punct env (codes "}") marks.right_brace)
 
-braced_prints : {X : Type 0} (l : Linked X) (n : class_nodes.Class X) → Prints l.env (λ rest. punct (codes "{") (words.members l.asks l.items n (last_of n.span (punct (codes "}") rest)))) (mark (codes "{") > phrases.in_order (map (lists.member_at l.reads) n.body.items) > mark (codes "}"))
+braced_prints : {X : Type 0} (l : Linked X) (n : class_nodes.Class X) → Prints l.env (λ rest. punct (codes "{") (words.member_list l.asks l.items n (last_of n.span (punct (codes "}") rest)))) (mark (codes "{") > phrases.in_order (map (lists.member_at l.reads) n.body.items) > mark (codes "}"))
 braced_prints l n =
     prints_bracketed_in_order l.env (codes "{") marks.left_brace (λ rest. rest) (writes_nothing l.env) words.class_members_format n.span (λ m. (l.asks m.node.value).place) (λ m. l.items m.node.value Plain) (lists.member_at l.reads) (mark (codes "}")) (λ rest. last_of n.span (punct (codes "}") rest))
     (member_at l) members_undelimited (closing_prints l.env n) n.body.items
@@ -143,7 +144,7 @@ method_prints l n = refused_or (is_some n.accessibility || (n.is_abstract || (n.
     (then (kind_prints l n n.kind) (then (prop_name_at l n.key) (l.law n.function.node.value Plain TailOfMethod)))))))
 
 value_prints : {X : Type 0} (l : Linked X) (n : Option (ExprBox X)) → Prints l.env (words.prop_value l.asks l.items n) (lists.prop_value l.reads n)
-unfolding words.prop_value words.wrapped lists.prop_value
+unfolding words.prop_value words.wrapped lists.prop_value optional_parentheses
 value_prints l None = prints_nothing
 value_prints l (Some n) =
     after (writes_formatting_space l.env)

@@ -1,4 +1,5 @@
 -- What is written of a part of an expression or a statement that a link holds is what it reads as, by its sort.
+use Rattle.std.proofs.Common.{true, false}
 use Rattle.swc_ecma_codegen_tree.specs.declared.parts.ExprPart.{ExprPart}
 use Rattle.swc_ecma_codegen_tree.specs.declared.parts.ExprPart.TheVariants as expr_parts
 use Rattle.swc_ecma_codegen_tree.specs.declared.parts.StmtPart.{StmtPart}

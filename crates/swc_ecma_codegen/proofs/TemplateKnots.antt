@@ -9,6 +9,7 @@ use Rattle.swc_ecma_codegen_tree.specs.declared.exprs.Expr.TheVariants as exprs
 use Rattle.swc_ecma_codegen_tree.specs.declared.exprs.Tpl.{Tpl}
 use Rattle.swc_ecma_codegen_tree.specs.declared.exprs.TplElement.{TplElement}
 use Rattle.swc_ecma_codegen_tree.specs.declared.exprs.TaggedTpl.{TaggedTpl}
+use Rattle.swc_ecma_codegen_common.specs.declared.positions.Span.{Span}
 use Rattle.swc_ecma_codegen_spans.specs.Spans.{expr_span}
 use Rattle.swc_ecma_codegen_ast.specs.TemplatePhrases.{is_counted, part_before}
 use Rattle.swc_ecma_codegen_ast.proofs.MappedTemplates.{length_mapped}
@@ -38,11 +39,17 @@ unfolding tpl_parts
 parts_mapped g items put same tagged es [] rest = refl
 parts_mapped g items put same tagged es (q ∷ qs) rest = ap (tpl_element true (part_before tagged qs) q) (rest_mapped g items put same tagged es qs rest)
 
+abbrev placed : {X : Type 0} → (X → Place → Part) → Bool → Span → List (ExprBox X) → List TplElement → Plan → Plan
+placed items tagged span es qs rest = leading_comments span.lo (start_of span (tpl_parts items tagged es qs (end_of span rest)))
+
+counted_mapped : {X Y : Type 0} (g : ExprBox X → ExprBox Y) (items : Y → Place → Part) (put : X → Place → Part) → ((n : ExprBox X) → items (g n).node.value Plain ≡ put n.node.value Plain) → (tagged : Bool) (span : Span) (es : List (ExprBox X)) (qs : List TplElement) (rest : Plan) → cond (is_counted (map g es) qs) (placed items tagged span (map g es) qs rest) (bad_shape rest) ≡ cond (is_counted es qs) (placed put tagged span es qs rest) (bad_shape rest)
+counted_mapped g items put same tagged span es qs rest =
+    ap (λ k. cond (length qs == k + 1) (placed items tagged span (map g es) qs rest) (bad_shape rest)) (length_mapped g es)
+    ∙ ap (λ z. cond (is_counted es qs) (leading_comments span.lo (start_of span z)) (bad_shape rest)) (parts_mapped g items put same tagged es qs (end_of span rest))
+
 pub tpl_mapped : {X Y : Type 0} (g : X → Y) (asks : Y → Answers) (items : Y → Place → Part) (n : Tpl X) (place : Place) (rest : Plan) → node_items asks items (map-AnyNode X Y g (nodes.ExprPart (expr_parts.Tpl n))) place rest ≡ tpl (λ x. items (g x)) (is_tagged place) n rest
 unfolding node_items expr_part tpl tpl_placed
-tpl_mapped g asks items n place rest =
-    ap (λ k. cond (length n.quasis.items == k + 1) (leading_comments n.span.lo (start_of n.span (tpl_parts items (is_tagged place) (map _ n.exprs.items) n.quasis.items (end_of n.span rest)))) (bad_shape rest)) (length_mapped _ n.exprs.items)
-    ∙ ap (λ z. cond (is_counted n.exprs.items n.quasis.items) (leading_comments n.span.lo (start_of n.span z)) (bad_shape rest)) (parts_mapped _ items (λ x. items (g x)) (λ x. refl) (is_tagged place) n.exprs.items n.quasis.items (end_of n.span rest))
+tpl_mapped g asks items n place rest = counted_mapped _ items (λ x. items (g x)) (λ x. refl) (is_tagged place) n.span n.exprs.items n.quasis.items rest
 
 tagged_by : {X Y : Type 0} (g : X → Y) (asks : Y → Answers) (items : Y → Place → Part) (n : TaggedTpl X) (type_params : Option (TsTypeParamInstantiationBox X)) (place : Place) (rest : Plan) → node_items asks items (map-AnyNode X Y g (nodes.Expr (exprs.TaggedTpl (record n { type_params = type_params })))) place rest ≡ expr (λ x. asks (g x)) (λ x. items (g x)) (exprs.TaggedTpl (record n { type_params = type_params })) place rest
 unfolding node_items expr words.expr_parts words.expr_closed expr_span words.leaves_comments tagged_tpl tagged_tpl_parts unsupported refuse

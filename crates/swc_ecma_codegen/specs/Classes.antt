@@ -43,14 +43,14 @@ unfoldable pub heritage : {X : Type 0} → (X → Answers) → (X → Place → 
 heritage asks items None rest = rest
 heritage asks items (Some n) rest = space (keyword None (codes "extends") (blank (asks n.node.value).starts (items n.node.value Plain rest)))
 
-abbrev pub members : {X : Type 0} → (X → Answers) → (X → Place → Part) → classes.Class X → Part
-members asks items n = list class_members_format n.span (map (child_of (λ m. (asks m.node.value).place) (λ m place. items m.node.value place)) n.body.items)
+abbrev pub member_list : {X : Type 0} → (X → Answers) → (X → Place → Part) → classes.Class X → Part
+member_list asks items n = list class_members_format n.span (map (child_of (λ m. (asks m.node.value).place) (λ m place. items m.node.value place)) n.body.items)
 
 -- `extends A { b; }`
 unfoldable pub class_trailing : {X : Type 0} → (X → Answers) → (X → Place → Part) → classes.Class X → Part
 class_trailing asks items n rest =
     heritage asks items n.super_class
-    (formatting_space (punct (codes "{") (members asks items n (last_of n.span (punct (codes "}") rest)))))
+    (formatting_space (punct (codes "{") (member_list asks items n (last_of n.span (punct (codes "}") rest)))))
 
 unfoldable pub class_tail : {X : Type 0} → (X → Answers) → (X → Place → Part) → classes.Class X → Part
 class_tail asks items n rest = if is_typed_class n then unsupported rest else class_trailing asks items n rest

@@ -4,7 +4,7 @@ ghost use Rattle.std.specs.Prelude.{◌≡◌, OnOk, codes};
 ghost use Rattle.swc_ecma_codegen_base.specs.Run.{Emits};
 ghost use Rattle.swc_ecma_codegen_ast.specs.ClassPhrases.{is_typed_class, is_typed_prop, is_typed_accessor};
 ghost use Rattle.swc_ecma_codegen.specs.ClassExprs.{class_expr};
-ghost use Rattle.swc_ecma_codegen.specs.Classes.{class_members_format, heritage, members, class, class_tail, class_decl, constructor_param, constructor_param_place, constructor_body, class_constructor, static_word, accessor_word, method_word, method_kind, class_method, wrapped, prop_value, class_prop, accessor_key, auto_accessor, static_block, empty_member, class_member};
+ghost use Rattle.swc_ecma_codegen.specs.Classes.{class_members_format, heritage, member_list, class, class_tail, class_decl, constructor_param, constructor_param_place, constructor_body, class_constructor, static_word, accessor_word, method_word, method_kind, class_method, wrapped, prop_value, class_prop, accessor_key, auto_accessor, static_block, empty_member, class_member};
 ghost use Rattle.swc_ecma_codegen.specs.View.{state_of};
 
 use crate::blocks::is_some_listed;
@@ -333,7 +333,7 @@ impl<W: WriteJs, S: SourceMapper, C: Comments> Emitter<'_, W, S, C> {
         self.heritage(&node.super_class)?;
         self.formatting_space()?;
         self.punct(Punctuator::LeftBrace)?;
-        self.members(node)?;
+        self.member_list(node)?;
         self.last_of(node.span)?;
         self.punct(Punctuator::RightBrace)?;
         Ok(())
@@ -357,8 +357,8 @@ impl<W: WriteJs, S: SourceMapper, C: Comments> Emitter<'_, W, S, C> {
     }
 
     /// Writes the members of a class.
-    fn members<N: Held>(&mut self, node: &Class<N>) -> Answer
-        ensures items { Emits (members N.answers N.items node.now) (state_of S.lines W.sheet self.old) (state_of S.lines W.sheet self.new) result }
+    fn member_list<N: Held>(&mut self, node: &Class<N>) -> Answer
+        ensures items { Emits (member_list N.answers N.items node.now) (state_of S.lines W.sheet self.old) (state_of S.lines W.sheet self.new) result }
         ensures level { OnOk result ((W.sheet self.new.wr).indentation ≡ (W.sheet self.old.wr).indentation) }
     {
         self.list(class_members_format(), node.span, &node.body)
