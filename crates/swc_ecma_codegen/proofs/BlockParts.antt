@@ -67,8 +67,8 @@ stmts_print l n =
     let flat : Part = stmts_by l false n in
     let lines : Part = stmts_by l some n in
     elim (cases_Bool l.env.config.minify) [
-    | inl small ↦ prints_same _ (λ rest. punct (codes "{") (flat (closing n rest))) (behind_bracket l.env (codes "{") (λ rest. when_minified flat lines (closing n rest)) (λ rest. flat (closing n rest)) (λ rest. minified_same flat lines (closing n rest) l.env small)) (lines_prints l n false)
-    | inr wide ↦ prints_same _ (λ rest. punct (codes "{") (lines (closing n rest))) (behind_bracket l.env (codes "{") (λ rest. when_minified flat lines (closing n rest)) (λ rest. lines (closing n rest)) (λ rest. pretty_same flat lines (closing n rest) l.env wide)) (lines_prints l n some)
+      | inl small ↦ prints_same _ (λ rest. punct (codes "{") (flat (closing n rest))) (behind_bracket l.env (codes "{") (λ rest. when_minified flat lines (closing n rest)) (λ rest. flat (closing n rest)) (λ rest. minified_same flat lines (closing n rest) l.env small)) (lines_prints l n false)
+      | inr wide ↦ prints_same _ (λ rest. punct (codes "{") (lines (closing n rest))) (behind_bracket l.env (codes "{") (λ rest. when_minified flat lines (closing n rest)) (λ rest. lines (closing n rest)) (λ rest. pretty_same flat lines (closing n rest) l.env wide)) (lines_prints l n some)
     ]
 
 pub block_stmt_prints : {X : Type 0} (l : Linked X) (n : BlockStmt X) (place : Place) → Prints l.env (words.block_stmt l.asks l.items n place) (lists.block_stmt l.reads n)

@@ -33,7 +33,7 @@ use Rattle.swc_ecma_codegen.specs.declared.nodes.Place.TheVariants.{Plain, Class
 use Rattle.swc_ecma_codegen.specs.Answers.{Answers}
 use Rattle.swc_ecma_codegen.specs.Classes.{class_members_format, heritage, class_trailing, class_tail, class, constructor_param, constructor_param_place, constructor_body, constructor_parts, class_constructor, method_word, method_kind, class_method_parts, class_method, wrapped, prop_value, class_prop_parts, class_prop, accessor_key, auto_accessor_parts, auto_accessor, static_block, class_member}
 use Rattle.swc_ecma_codegen.specs.Exprs.{blank}
-use Rattle.swc_ecma_codegen.specs.Functions.{comma_list_format, decorator, decorators, decorators_format, decorator_place, param}
+use Rattle.swc_ecma_codegen.specs.Functions.{comma_list_format, decorator, decorator_lines, decorators_format, decorator_place, param}
 use Rattle.swc_ecma_codegen.specs.Lists.{child_of, unsupported}
 use Rattle.swc_ecma_codegen.specs.Parts.{stmt_part}
 use Rattle.swc_ecma_codegen.specs.Pats.{initializer}
@@ -66,7 +66,7 @@ class_by {X} {Y} g asks items b n (Some s) None (Some t) rest = class_same {X = 
 class_by {X} {Y} g asks items b n (Some s) (Some p) None rest = class_same {X = X} {Y = Y} _ asks items (λ x. asks (g x)) (λ x. items (g x)) (λ m. refl) n _ _ (λ z. space (keyword None (codes "extends") (blank (asks (g s.node.value)).starts (items (g s.node.value) Plain z)))) n.body.items rest refl
 class_by {X} {Y} g asks items b n (Some s) (Some p) (Some t) rest = class_same {X = X} {Y = Y} _ asks items (λ x. asks (g x)) (λ x. items (g x)) (λ m. refl) n _ _ (λ z. space (keyword None (codes "extends") (blank (asks (g s.node.value)).starts (items (g s.node.value) Plain z)))) n.body.items rest refl
 
-head_mapped : {X Y : Type 0} (g : X → Y) (asks : Y → Answers) (items : Y → Place → Part) (b : Box (classes.Class X) Global) (rest : Plan) → node_items asks items (map-AnyNode X Y g (nodes.StmtPart (stmt_parts.Class b))) ClassHead rest ≡ decorators (λ x. items (g x)) b.value.decorators.items rest
+head_mapped : {X Y : Type 0} (g : X → Y) (asks : Y → Answers) (items : Y → Place → Part) (b : Box (classes.Class X) Global) (rest : Plan) → node_items asks items (map-AnyNode X Y g (nodes.StmtPart (stmt_parts.Class b))) ClassHead rest ≡ decorator_lines (λ x. items (g x)) b.value.decorators.items rest
 unfolding node_items stmt_part class decorator
 head_mapped g asks items b rest = decorators_mapped _ items (λ x. items (g x)) (λ d. refl) b.value.decorators.items rest
 
@@ -94,7 +94,7 @@ method_by g asks items b n Method place rest = refl
 method_by g asks items b n Getter place rest = refl
 method_by g asks items b n Setter place rest = refl
 
-prop_same : {X Y : Type 0} (g : Decorator X → Decorator Y) (items : Y → Place → Part) (put : X → Place → Part) → ((d : Decorator X) → decorator items (g d) ≡ decorator put d) → (n : ClassProp X) (typed : Bool) (after rest : Plan) → cond typed (unsupported rest) (leading_comments n.span.lo (start_of n.span (decorators items (map g n.decorators.items) after))) ≡ cond typed (unsupported rest) (leading_comments n.span.lo (start_of n.span (decorators put n.decorators.items after)))
+prop_same : {X Y : Type 0} (g : Decorator X → Decorator Y) (items : Y → Place → Part) (put : X → Place → Part) → ((d : Decorator X) → decorator items (g d) ≡ decorator put d) → (n : ClassProp X) (typed : Bool) (after rest : Plan) → cond typed (unsupported rest) (leading_comments n.span.lo (start_of n.span (decorator_lines items (map g n.decorators.items) after))) ≡ cond typed (unsupported rest) (leading_comments n.span.lo (start_of n.span (decorator_lines put n.decorators.items after)))
 prop_same g items put same n typed after rest = ap (λ z. cond typed (unsupported rest) (leading_comments n.span.lo (start_of n.span z))) (decorators_mapped g items put same n.decorators.items after)
 
 prop_by : {X Y : Type 0} (g : X → Y) (asks : Y → Answers) (items : Y → Place → Part) (b : Box (class_members.ClassMember X) Global) (n : ClassProp X) (type_ann : Option (TsTypeAnnBox X)) (value : Option (ExprBox X)) (place : Place) (rest : Plan) → node_items asks items (map-AnyNode X Y g (as_member b (members.ClassProp (record n { type_ann = type_ann; value = value })))) place rest ≡ class_prop (λ x. asks (g x)) (λ x. items (g x)) (record n { type_ann = type_ann; value = value }) rest

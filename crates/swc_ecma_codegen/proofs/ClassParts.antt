@@ -39,7 +39,7 @@ use Rattle.swc_ecma_codegen.specs.declared.nodes.Place.{Place}
 use Rattle.swc_ecma_codegen.specs.declared.nodes.Place.TheVariants.{Plain, Body, MethodHead, StaticHead}
 use Rattle.swc_ecma_codegen.specs.ClassExprs as expr_words
 use Rattle.swc_ecma_codegen.specs.Classes as words
-use Rattle.swc_ecma_codegen.specs.Functions.{comma_list_format, decorators_format, decorator, decorators, decorator_place}
+use Rattle.swc_ecma_codegen.specs.Functions.{comma_list_format, decorators_format, decorator, decorator_lines, decorator_place}
 use Rattle.swc_ecma_codegen.proofs.ExprParts.{ident_prints, writes_blank}
 use Rattle.swc_ecma_codegen.proofs.FunctionParts.{body_prints, decorator_prints, decorators_print, name_prints, param_prints, undelimited}
 use Rattle.swc_ecma_codegen.proofs.Impossible.{refused_or}
@@ -75,7 +75,7 @@ pub class_tail_prints : {X : Type 0} (l : Linked X) (n : class_nodes.Class X) �
 unfolding words.class_tail words.class_trailing lists.class_tail
 class_tail_prints l n = refused_or (is_typed_class n) (then (heritage_prints l n.super_class) (after (writes_formatting_space l.env) (braced_prints l n)))
 
-pub class_head_prints : {X : Type 0} (l : Linked X) (n : class_nodes.Class X) → Prints l.env (decorators l.items n.decorators.items) (lists.class_head l.reads n)
+pub class_head_prints : {X : Type 0} (l : Linked X) (n : class_nodes.Class X) → Prints l.env (decorator_lines l.items n.decorators.items) (lists.class_head l.reads n)
 unfolding lists.class_head
 class_head_prints l n = decorators_print l n.decorators.items
 

@@ -131,11 +131,11 @@ unfolding words.function
 before_method_prints l n (StaticHead starts) = static_head_prints l.env starts n
 before_method_prints l n place = method_head_prints l.env n
 
-pub decorators_print : {X : Type 0} (l : Linked X) (ns : List (Decorator X)) → Prints l.env (words.decorators l.items ns) (classes.decorators l.reads ns)
+pub decorators_print : {X : Type 0} (l : Linked X) (ns : List (Decorator X)) → Prints l.env (words.decorator_lines l.items ns) (classes.decorators l.reads ns)
 unfolding classes.decorators
 decorators_print l ns = in_order_prints l.env (words.decorator l.items) (lists.decorator l.reads) (decorator_prints l) ns
 
-pub method_decorators_print : {X : Type 0} (l : Linked X) (n : functions.Function X) → Prints l.env (words.decorators l.items n.decorators.items) (classes.method_decorators l.reads n)
+pub method_decorators_print : {X : Type 0} (l : Linked X) (n : functions.Function X) → Prints l.env (words.decorator_lines l.items n.decorators.items) (classes.method_decorators l.reads n)
 unfolding classes.method_decorators
 method_decorators_print l n = decorators_print l n.decorators.items
 

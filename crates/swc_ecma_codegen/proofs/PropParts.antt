@@ -172,8 +172,8 @@ props_print l n =
     let flat : Part = props_by l flat_object_format n in
     let lines : Part = words.object_lines some n.span (children_of (prop_or_spread_span (place_of l.asks)) (words.prop_or_spread l.asks l.items) n.props.items) in
     elim (cases_Bool l.env.config.minify) [
-    | inl small ↦ prints_same _ (λ rest. punct (codes "{") (flat (closing n rest))) (behind_bracket l.env (codes "{") (λ rest. when_minified flat lines (closing n rest)) (λ rest. flat (closing n rest)) (λ rest. minified_same flat lines (closing n rest) l.env small)) (flat_prints l n)
-    | inr wide ↦ prints_same _ (λ rest. punct (codes "{") (lines (closing n rest))) (behind_bracket l.env (codes "{") (λ rest. when_minified flat lines (closing n rest)) (λ rest. lines (closing n rest)) (λ rest. pretty_same flat lines (closing n rest) l.env wide)) (either_prints l n some)
+      | inl small ↦ prints_same _ (λ rest. punct (codes "{") (flat (closing n rest))) (behind_bracket l.env (codes "{") (λ rest. when_minified flat lines (closing n rest)) (λ rest. flat (closing n rest)) (λ rest. minified_same flat lines (closing n rest) l.env small)) (flat_prints l n)
+      | inr wide ↦ prints_same _ (λ rest. punct (codes "{") (lines (closing n rest))) (behind_bracket l.env (codes "{") (λ rest. when_minified flat lines (closing n rest)) (λ rest. lines (closing n rest)) (λ rest. pretty_same flat lines (closing n rest) l.env wide)) (either_prints l n some)
     ]
 
 pub object_lit_prints : {X : Type 0} (l : Linked X) (n : ObjectLit X) → Prints l.env (words.object_lit l.asks l.items n) (lists.object_lit l.reads n)

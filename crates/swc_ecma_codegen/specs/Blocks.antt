@@ -19,6 +19,10 @@ block_format = 65
 abbrev pub flat_block_format : ℕ
 flat_block_format = 0
 
+-- the statements, as children of a list
+abbrev pub block_children : {X : Type 0} → (X → Answers) → (X → Place → Part) → BlockStmt X → List ListChild
+block_children asks items n = map (child_of (λ s. (asks s.node.value).place) (λ s place. items s.node.value place)) n.stmts.items
+
 -- the statements, each on a line of its own where there are some
 unfoldable pub block_list : Bool → Span → List ListChild → Part
 block_list some span cs = when_minified (list flat_block_format span cs) (list (if some then block_format else flat_block_format) span cs)
@@ -34,5 +38,5 @@ block_stmt asks items n place rest =
     leading_comments n.span.lo
     (block_start place n.span
     (punct (codes "{")
-    (block_list (is_some_listed n.stmts.items) n.span (map (child_of (λ s. (asks s.node.value).place) (λ s place. items s.node.value place)) n.stmts.items)
+    (block_list (is_some_listed n.stmts.items) n.span (block_children asks items n)
     (comments_before n.span.hi (last_of n.span (punct (codes "}") rest))))))

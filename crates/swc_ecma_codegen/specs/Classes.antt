@@ -28,7 +28,7 @@ use Rattle.swc_ecma_codegen_base.specs.Words.{keyword, punct, semi, space, forma
 use Rattle.swc_ecma_codegen.specs.declared.nodes.Place.{Place}
 use Rattle.swc_ecma_codegen.specs.declared.nodes.Place.TheVariants.{Plain, Body, ClassHead, MethodHead, StaticHead, MethodDecorators, MethodTail}
 use Rattle.swc_ecma_codegen.specs.Answers.{Answers}
-use Rattle.swc_ecma_codegen.specs.Functions.{comma_list_format, decorator, decorators, decorators_format, decorator_place, param}
+use Rattle.swc_ecma_codegen.specs.Functions.{comma_list_format, decorator, decorator_lines, decorators_format, decorator_place, param}
 use Rattle.swc_ecma_codegen.specs.Exprs.{blank, ident}
 use Rattle.swc_ecma_codegen.specs.Lists.{child_of, unsupported}
 use Rattle.swc_ecma_codegen.specs.Pats.{initializer}
@@ -57,7 +57,7 @@ class_tail asks items n rest = if is_typed_class n then unsupported rest else cl
 
 -- a class, or what of it stands before the word
 unfoldable pub class : {X : Type 0} → (X → Answers) → (X → Place → Part) → classes.Class X → Place → Part
-class asks items n ClassHead rest = decorators items n.decorators.items rest
+class asks items n ClassHead rest = decorator_lines items n.decorators.items rest
 class asks items n place rest = class_tail asks items n rest
 
 unfoldable pub class_decl_parts : {X : Type 0} → (X → Answers) → (X → Place → Part) → ClassDecl X → Part
@@ -84,6 +84,9 @@ unfoldable pub constructor_body : {X : Type 0} → (X → Place → Part) → Op
 constructor_body items None rest = semi rest
 constructor_body items (Some n) rest = items n.node.value Body rest
 
+abbrev pub constructor_params : {X : Type 0} → (X → Place → Part) → Constructor X → Part
+constructor_params items n = list comma_list_format n.span (map (child_of constructor_param_place (λ p place. constructor_param items p)) n.params.items)
+
 -- `constructor(a){ b; }`
 unfoldable pub constructor_parts : {X : Type 0} → (X → Place → Part) → Constructor X → Part
 constructor_parts items n rest =
@@ -91,7 +94,7 @@ constructor_parts items n rest =
     (start_of n.span
     (keyword None (codes "constructor")
     (punct (codes "(")
-    (list comma_list_format n.span (map (child_of constructor_param_place (λ p place. constructor_param items p)) n.params.items)
+    (constructor_params items n
     (punct (codes ")") (constructor_body items n.body rest))))))
 
 unfoldable pub class_constructor : {X : Type 0} → (X → Place → Part) → Constructor X → Part
@@ -143,7 +146,7 @@ unfoldable pub class_prop_parts : {X : Type 0} → (X → Answers) → (X → Pl
 class_prop_parts asks items n rest =
     leading_comments n.span.lo
     (start_of n.span
-    (decorators items n.decorators.items
+    (decorator_lines items n.decorators.items
     (static_word n.is_static (items n.key.node.value Plain (prop_value asks items n.value (semi (end_of n.span rest)))))))
 
 unfoldable pub class_prop : {X : Type 0} → (X → Answers) → (X → Place → Part) → ClassProp X → Part
@@ -153,10 +156,13 @@ unfoldable pub accessor_key : {X : Type 0} → (X → Place → Part) → Key X 
 accessor_key items (keys.Public n) rest = items n.node.value Plain rest
 accessor_key items (keys.Private n) rest = unsupported rest
 
+abbrev pub accessor_decorators : {X : Type 0} → (X → Place → Part) → AutoAccessor X → Part
+accessor_decorators items n = list decorators_format n.span (map (child_of decorator_place (λ d place. decorator items d)) n.decorators.items)
+
 -- `@a static accessor b = c;`
 unfoldable pub auto_accessor_parts : {X : Type 0} → (X → Place → Part) → AutoAccessor X → Part
 auto_accessor_parts items n rest =
-    list decorators_format n.span (map (child_of decorator_place (λ d place. decorator items d)) n.decorators.items)
+    accessor_decorators items n
     (static_word n.is_static (keyword None (codes "accessor") (space (accessor_key items n.key (initializer items n.value (semi rest))))))
 
 unfoldable pub auto_accessor : {X : Type 0} → (X → Place → Part) → AutoAccessor X → Part

@@ -36,12 +36,16 @@ decorator items n rest = leading_comments n.span.lo (start_of n.span (punct (cod
 abbrev pub decorator_place : {X : Type 0} → Decorator X → Span
 decorator_place n = n.span
 
+-- the decorators of a parameter
+abbrev pub decorators : {X : Type 0} → (X → Place → Part) → Param X → Part
+decorators items n = list decorators_format n.span (map (child_of decorator_place (λ d place. decorator items d)) n.decorators.items)
+
 -- `@a b`
 unfoldable pub param : {X : Type 0} → (X → Place → Part) → Param X → Part
 param items n rest =
     leading_comments n.span.lo
     (start_of n.span
-    (list decorators_format n.span (map (child_of decorator_place (λ d place. decorator items d)) n.decorators.items)
+    (decorators items n
     (items n.pat.node.value Plain (end_of n.span rest))))
 
 abbrev pub param_place : {X : Type 0} → Param X → Span
@@ -52,11 +56,15 @@ unfoldable pub function_body : {X : Type 0} → (X → Place → Part) → Optio
 function_body items None rest = semi rest
 function_body items (Some n) rest = formatting_space (items n.node.value Body rest)
 
+-- the parameters of a function, with commas between
+abbrev pub parameters : {X : Type 0} → (X → Place → Part) → functions.Function X → Part
+parameters items n = list comma_list_format n.span (map (child_of param_place (λ p place. param items p)) n.params.items)
+
 -- `(a) { b; }`
 unfoldable pub fn_trailing_parts : {X : Type 0} → (X → Place → Part) → functions.Function X → Part
 fn_trailing_parts items n rest =
     punct (codes "(")
-    (list comma_list_format n.span (map (child_of param_place (λ p place. param items p)) n.params.items)
+    (parameters items n
     (punct (codes ")") (function_body items n.body rest)))
 
 -- Only methods of classes have decorators.
@@ -97,8 +105,8 @@ unfoldable pub static_head : {X : Type 0} → Bool → functions.Function X → 
 static_head starts n rest = static_gap (n.is_async || (not n.is_generator && starts)) (method_head n rest)
 
 -- decorators, one after another
-abbrev pub decorators : {X : Type 0} → (X → Place → Part) → List (Decorator X) → Part
-decorators items ns = in_order (decorator items) ns
+abbrev pub decorator_lines : {X : Type 0} → (X → Place → Part) → List (Decorator X) → Part
+decorator_lines items ns = in_order (decorator items) ns
 
 -- `(a) { b; }` of a method, whose decorators stand elsewhere
 unfoldable pub method_tail : {X : Type 0} → (X → Place → Part) → functions.Function X → Part
@@ -110,7 +118,7 @@ function items n FunctionHead rest = function_head n rest
 function items n MethodHead rest = method_head n rest
 function items n DeclarationHead rest = declaration_head n rest
 function items n (StaticHead starts) rest = static_head starts n rest
-function items n MethodDecorators rest = decorators items n.decorators.items rest
+function items n MethodDecorators rest = decorator_lines items n.decorators.items rest
 function items n MethodTail rest = method_tail items n rest
 function items n place rest = fn_trailing items n rest
 
@@ -151,11 +159,15 @@ async_arrow wanted named rest = if wanted then keyword None (codes "async") (if 
 unfoldable pub parenthesis : Bool → List ℕ → Part
 parenthesis plain t rest = if plain then when_minified no_part (punct t) rest else punct t rest
 
+-- the parameters of an arrow function, with commas between
+abbrev pub arrow_list : {X : Type 0} → (X → Answers) → (X → Place → Part) → ArrowExpr X → Part
+arrow_list asks items n = list comma_list_format n.span (map (child_of (λ p. (asks p.node.value).place) (λ p place. items p.node.value place)) n.params.items)
+
 -- `(a, b)`, `a`
 unfoldable pub arrow_parameters : {X : Type 0} → (X → Answers) → (X → Place → Part) → ArrowExpr X → Part
 arrow_parameters asks items n rest =
     parenthesis (is_only is_plain asks n.params.items) (codes "(")
-    (list comma_list_format n.span (map (child_of (λ p. (asks p.node.value).place) (λ p place. items p.node.value place)) n.params.items)
+    (arrow_list asks items n
     (parenthesis (is_only is_plain asks n.params.items) (codes ")") rest))
 
 -- an expression is indented, whatever the settings

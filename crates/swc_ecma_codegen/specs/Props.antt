@@ -108,6 +108,10 @@ object_format = 41425
 abbrev pub flat_object_format : ℕ
 flat_object_format = 41360
 
+-- the properties, as children of a list
+abbrev pub object_children : {X : Type 0} → (X → Answers) → (X → Place → Part) → ObjectLit X → List ListChild
+object_children asks items n = map (child_of (prop_or_spread_span (place_of asks)) (λ p place. prop_or_spread asks items p)) n.props.items
+
 -- the properties, each on a line of its own where there are some
 unfoldable pub object_lines : Bool → Span → List ListChild → Part
 object_lines some span cs rest = if some then line_end (list object_format span cs (line_end rest)) else list flat_object_format span cs rest
@@ -120,5 +124,5 @@ unfoldable pub object_lit : {X : Type 0} → (X → Answers) → (X → Place �
 object_lit asks items n rest =
     opened n.span
     (punct (codes "{")
-    (object_list (is_some_listed n.props.items) n.span (map (child_of (prop_or_spread_span (place_of asks)) (λ p place. prop_or_spread asks items p)) n.props.items)
+    (object_list (is_some_listed n.props.items) n.span (object_children asks items n)
     (last_of n.span (punct (codes "}") rest))))

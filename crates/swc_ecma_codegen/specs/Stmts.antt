@@ -180,11 +180,15 @@ switch_case asks items n rest = opened n.span (case_test asks items n.test (case
 abbrev pub case_place : {X : Type 0} → SwitchCase X → Span
 case_place n = n.span
 
+-- the cases, each on a line of its own
+abbrev pub cases : {X : Type 0} → (X → Answers) → (X → Place → Part) → SwitchStmt X → Part
+cases asks items n = list cases_format n.span (map (child_of case_place (λ c place. switch_case asks items c)) n.cases.items)
+
 -- `{ case a: b; }`
 unfoldable pub switch_cases : {X : Type 0} → (X → Answers) → (X → Place → Part) → SwitchStmt X → Part
 switch_cases asks items n rest =
     punct (codes "{")
-    (list cases_format n.span (map (child_of case_place (λ c place. switch_case asks items c)) n.cases.items)
+    (cases asks items n
     (last_of n.span (punct (codes "}") rest)))
 
 -- `switch(a){ case b: c; }`

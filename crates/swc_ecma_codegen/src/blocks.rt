@@ -1,20 +1,20 @@
 //! Blocks.
 
-ghost use Rattle.std.specs.Prelude.{◌≡◌, map, if◌then◌else◌, OnOk};
+ghost use Rattle.std.specs.Prelude.{◌≡◌, if◌then◌else◌, OnOk};
 ghost use Rattle.swc_ecma_codegen_ast.specs.FunctionPhrases.{is_some_listed};
-ghost use Rattle.swc_ecma_codegen.specs.Lists.{child_of};
+ghost use Rattle.swc_ecma_codegen_base.specs.Lists.{list};
 ghost use Rattle.swc_ecma_codegen_base.specs.Run.{Emits};
-ghost use Rattle.swc_ecma_codegen.specs.Blocks.{block_format, flat_block_format, block_list, block_start, block_stmt};
+ghost use Rattle.swc_ecma_codegen.specs.Blocks.{block_format, flat_block_format, block_children, block_list, block_start, block_stmt};
 ghost use Rattle.swc_ecma_codegen.specs.View.{state_of};
 
 use crate::emitter::Emitter;
 use crate::nodes::{Child, EmitAt, Held, Place};
+use bitflags::Flags;
+use swc_ecma_codegen_ast::ListFormat;
 use swc_ecma_codegen_ast::comments::Comments;
 use swc_ecma_codegen_ast::mapper::SourceMapper;
-use swc_ecma_codegen_ast::ListFormat;
 use swc_ecma_codegen_common::{Answer, Span};
 use swc_ecma_codegen_literals::Punctuator;
-use bitflags::Flags;
 use swc_ecma_codegen_text_writer::WriteJs;
 use swc_ecma_codegen_tree::{BlockStmt, StmtBox};
 
@@ -97,16 +97,32 @@ impl<W: WriteJs, S: SourceMapper, C: Comments> Emitter<'_, W, S, C> {
         }
     }
 
-    /// Writes the statements, each on a line of its own where there are some, unless the settings are to minify.
+    /// Writes the statements on one line.
+    fn flat_block_list<N: Held>(&mut self, node: &BlockStmt<N>) -> Answer
+        ensures items { Emits (list flat_block_format node.now.span (block_children N.answers N.items node.now)) (state_of S.lines W.sheet self.old) (state_of S.lines W.sheet self.new) result }
+        ensures level { OnOk result ((W.sheet self.new.wr).indentation ≡ (W.sheet self.old.wr).indentation) }
+    {
+        self.list(flat_block_format(), node.span, &node.stmts)
+    }
+
+    /// Writes the statements, each on a line of its own where there are some.
+    fn lined_block_list<N: Held>(&mut self, node: &BlockStmt<N>) -> Answer
+        ensures items { Emits (list (if is_some_listed node.now.stmts.items then block_format else flat_block_format) node.now.span (block_children N.answers N.items node.now)) (state_of S.lines W.sheet self.old) (state_of S.lines W.sheet self.new) result }
+        ensures level { OnOk result ((W.sheet self.new.wr).indentation ≡ (W.sheet self.old.wr).indentation) }
+    {
+        let format = block_lines(is_some_listed(&node.stmts));
+        self.list(format, node.span, &node.stmts)
+    }
+
+    /// Writes the statements, by lines unless the settings are to minify.
     #[tactic(auto, using(crate::proofs::Asked::minified_part, crate::proofs::Asked::pretty_part), unfolding(crate::specs::Blocks::block_list))]
     fn block_list<N: Held>(&mut self, node: &BlockStmt<N>) -> Answer
-        ensures items { Emits (block_list (is_some_listed node.now.stmts.items) node.now.span (map (child_of (λ s. (N.answers s.node.value).place) (λ s place. N.items s.node.value place)) node.now.stmts.items)) (state_of S.lines W.sheet self.old) (state_of S.lines W.sheet self.new) result }
+        ensures items { Emits (block_list (is_some_listed node.now.stmts.items) node.now.span (block_children N.answers N.items node.now)) (state_of S.lines W.sheet self.old) (state_of S.lines W.sheet self.new) result }
         ensures level { OnOk result ((W.sheet self.new.wr).indentation ≡ (W.sheet self.old.wr).indentation) }
     {
         if self.cfg.minify {
-            return self.list(flat_block_format(), node.span, &node.stmts);
+            return self.flat_block_list(node);
         }
-        let format = block_lines(is_some_listed(&node.stmts));
-        self.list(format, node.span, &node.stmts)
+        self.lined_block_list(node)
     }
 }

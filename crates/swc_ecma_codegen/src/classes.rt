@@ -4,7 +4,7 @@ ghost use Rattle.std.specs.Prelude.{◌≡◌, OnOk, codes};
 ghost use Rattle.swc_ecma_codegen_base.specs.Run.{Emits};
 ghost use Rattle.swc_ecma_codegen_ast.specs.ClassPhrases.{is_typed_class, is_typed_prop, is_typed_accessor};
 ghost use Rattle.swc_ecma_codegen.specs.ClassExprs.{class_expr};
-ghost use Rattle.swc_ecma_codegen.specs.Classes.{class_members_format, heritage, member_list, class, class_tail, class_decl, constructor_param, constructor_param_place, constructor_body, class_constructor, static_word, accessor_word, method_word, method_kind, class_method, wrapped, prop_value, class_prop, accessor_key, auto_accessor, static_block, empty_member, class_member};
+ghost use Rattle.swc_ecma_codegen.specs.Classes.{class_members_format, heritage, member_list, class, class_tail, class_decl, constructor_param, constructor_param_place, constructor_params, constructor_body, class_constructor, static_word, accessor_word, method_word, method_kind, class_method, wrapped, prop_value, class_prop, accessor_key, accessor_decorators, auto_accessor, static_block, empty_member, class_member};
 ghost use Rattle.swc_ecma_codegen.specs.View.{state_of};
 
 use crate::blocks::is_some_listed;
@@ -118,7 +118,7 @@ impl<N: Held> EmitAt for Class<N> {
         place: Place,
     ) -> Answer {
         match place {
-            Place::ClassHead => e.decorators(&self.decorators),
+            Place::ClassHead => e.decorator_lines(&self.decorators),
             _ => e.class_trailing(self),
         }
     }
@@ -177,7 +177,7 @@ impl<N: Held> EmitAt for AutoAccessor<N> {
         if is_typed_accessor(self) {
             return e.unsupported();
         }
-        e.list(decorators_format(), self.span, &self.decorators)?;
+        e.accessor_decorators(self)?;
         e.static_word(self.is_static)?;
         e.keyword(None, "accessor")?;
         e.space()?;
@@ -241,7 +241,7 @@ impl<N: Held> EmitAt for ClassProp<N> {
         }
         e.leading_comments(self.span.lo)?;
         e.start_of(self.span)?;
-        e.decorators(&self.decorators)?;
+        e.decorator_lines(&self.decorators)?;
         e.static_word(self.is_static)?;
         self.key.held().emit_at(e, Place::Plain)?;
         e.prop_value(&self.value)?;
@@ -267,7 +267,7 @@ impl<N: Held> EmitAt for Constructor<N> {
         e.start_of(self.span)?;
         e.keyword(None, "constructor")?;
         e.punct(Punctuator::LeftParenthesis)?;
-        e.list(comma_list_format(), self.span, &self.params)?;
+        e.constructor_params(self)?;
         e.punct(Punctuator::RightParenthesis)?;
         e.constructor_body(&self.body)?;
         Ok(())
@@ -362,6 +362,22 @@ impl<W: WriteJs, S: SourceMapper, C: Comments> Emitter<'_, W, S, C> {
         ensures level { OnOk result ((W.sheet self.new.wr).indentation ≡ (W.sheet self.old.wr).indentation) }
     {
         self.list(class_members_format(), node.span, &node.body)
+    }
+
+    /// Writes the parameters of a constructor, with commas between.
+    fn constructor_params<N: Held>(&mut self, node: &Constructor<N>) -> Answer
+        ensures items { Emits (constructor_params N.items node.now) (state_of S.lines W.sheet self.old) (state_of S.lines W.sheet self.new) result }
+        ensures level { OnOk result ((W.sheet self.new.wr).indentation ≡ (W.sheet self.old.wr).indentation) }
+    {
+        self.list(comma_list_format(), node.span, &node.params)
+    }
+
+    /// Writes the decorators of a field with `accessor`.
+    fn accessor_decorators<N: Held>(&mut self, node: &AutoAccessor<N>) -> Answer
+        ensures items { Emits (accessor_decorators N.items node.now) (state_of S.lines W.sheet self.old) (state_of S.lines W.sheet self.new) result }
+        ensures level { OnOk result ((W.sheet self.new.wr).indentation ≡ (W.sheet self.old.wr).indentation) }
+    {
+        self.list(decorators_format(), node.span, &node.decorators)
     }
 
     /// Writes `;` as a member.

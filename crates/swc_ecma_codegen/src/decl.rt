@@ -8,9 +8,9 @@ ghost use Rattle.swc_ecma_codegen.specs.View.{state_of};
 use crate::emitter::Emitter;
 use crate::nodes::{AskPattern, Child, EmitAt, Held, Place};
 use crate::patterns::PatternKind;
+use swc_ecma_codegen_ast::ListFormat;
 use swc_ecma_codegen_ast::comments::Comments;
 use swc_ecma_codegen_ast::mapper::SourceMapper;
-use swc_ecma_codegen_ast::ListFormat;
 use swc_ecma_codegen_common::{Answer, Span};
 use swc_ecma_codegen_text_writer::WriteJs;
 use swc_ecma_codegen_tree::{Decl, FnDecl, UsingDecl, VarDecl, VarDeclKind, VarDeclarator};
@@ -162,12 +162,8 @@ impl<N: Held> Child for VarDeclarator<N> {
 
 impl<W: WriteJs, S: SourceMapper, C: Comments> Emitter<'_, W, S, C> {
     /// Writes declarators, with commas between.
-    fn declarators<N: Held>(
-        &mut self,
-        span: Span,
-        nodes: &[VarDeclarator<N>],
-    ) -> Answer
-        ensures items { Emits (declarators N.items span nodes.now) (state_of S.lines W.sheet self.old) (state_of S.lines W.sheet self.new) result }
+    fn declarators<N: Held>(&mut self, span: Span, nodes: &Vec<VarDeclarator<N>>) -> Answer
+        ensures items { Emits (declarators N.items span nodes.now.items) (state_of S.lines W.sheet self.old) (state_of S.lines W.sheet self.new) result }
         ensures level { OnOk result ((W.sheet self.new.wr).indentation ≡ (W.sheet self.old.wr).indentation) }
     {
         self.list(declarators_format(), span, nodes)

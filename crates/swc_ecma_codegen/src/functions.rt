@@ -3,16 +3,16 @@
 ghost use Rattle.std.specs.Prelude.{◌≡◌, Bool, OnOk};
 ghost use Rattle.swc_ecma_codegen_literals.specs.Punctuators.{spelling};
 ghost use Rattle.swc_ecma_codegen_base.specs.Run.{Emits};
-ghost use Rattle.swc_ecma_codegen.specs.Functions.{comma_list_format, decorators_format, decorator, param, function_body, fn_trailing_parts, fn_trailing, static_gap, static_head, decorators, method_tail, async_word, star, function_head, star_or_space, declaration_head, method_head, function, optional_name, fn_expr, is_plain, is_name, is_only, async_arrow, parenthesis, arrow_parameters, arrow_body, arrow_expr};
+ghost use Rattle.swc_ecma_codegen.specs.Functions.{comma_list_format, decorators_format, decorator, decorators, decorator_lines, param, function_body, parameters, fn_trailing_parts, fn_trailing, static_gap, static_head, method_tail, async_word, star, function_head, star_or_space, declaration_head, method_head, function, optional_name, fn_expr, is_plain, is_name, is_only, async_arrow, parenthesis, arrow_list, arrow_parameters, arrow_body, arrow_expr};
 ghost use Rattle.swc_ecma_codegen.specs.View.{state_of};
 
 use crate::blocks::is_some_listed;
 use crate::emitter::Emitter;
 use crate::nodes::{AskPattern, Child, EmitAt, Held, Place};
 use crate::patterns::PatternKind;
+use swc_ecma_codegen_ast::ListFormat;
 use swc_ecma_codegen_ast::comments::Comments;
 use swc_ecma_codegen_ast::mapper::SourceMapper;
-use swc_ecma_codegen_ast::ListFormat;
 use swc_ecma_codegen_common::{Answer, Span};
 use swc_ecma_codegen_literals::Punctuator;
 use swc_ecma_codegen_text_writer::WriteJs;
@@ -143,7 +143,7 @@ impl<N: Held> EmitAt for Function<N> {
             Place::MethodHead => e.method_head(self),
             Place::DeclarationHead => e.declaration_head(self),
             Place::StaticHead(starts) => e.static_head(starts, self),
-            Place::MethodDecorators => e.decorators(&self.decorators),
+            Place::MethodDecorators => e.decorator_lines(&self.decorators),
             Place::MethodTail => e.method_tail(self),
             _ => e.fn_trailing(self),
         }
@@ -181,7 +181,7 @@ impl<N: Held> EmitAt for Param<N> {
     ) -> Answer {
         e.leading_comments(self.span.lo)?;
         e.start_of(self.span)?;
-        e.list(decorators_format(), self.span, &self.decorators)?;
+        e.decorators(self)?;
         self.pat.held().emit_at(e, Place::Plain)?;
         e.end_of(self.span)?;
         Ok(())
@@ -278,7 +278,8 @@ impl<W: WriteJs, S: SourceMapper, C: Comments> Emitter<'_, W, S, C> {
     {
         if node.type_params.is_some()
             || node.return_type.is_some()
-            || is_some_listed(&node.decorators) {
+            || is_some_listed(&node.decorators)
+        {
             return self.unsupported();
         }
         self.fn_trailing_parts(node)
@@ -303,7 +304,7 @@ impl<W: WriteJs, S: SourceMapper, C: Comments> Emitter<'_, W, S, C> {
         ensures level { OnOk result ((W.sheet self.new.wr).indentation ≡ (W.sheet self.old.wr).indentation) }
     {
         self.punct(Punctuator::LeftParenthesis)?;
-        self.list(comma_list_format(), node.span, &node.params)?;
+        self.parameters(node)?;
         self.punct(Punctuator::RightParenthesis)?;
         self.function_body(&node.body)?;
         Ok(())
@@ -311,8 +312,8 @@ impl<W: WriteJs, S: SourceMapper, C: Comments> Emitter<'_, W, S, C> {
 
     /// Writes decorators, one after another.
     #[tactic(auto, using(crate::proofs::Steps::in_order_next), unfolding(crate::specs::Lists::in_order))]
-    pub(crate) fn decorators<N: Held>(&mut self, nodes: &[Decorator<N>]) -> Answer
-        ensures items { Emits (decorators N.items nodes.now) (state_of S.lines W.sheet self.old) (state_of S.lines W.sheet self.new) result }
+    pub(crate) fn decorator_lines<N: Held>(&mut self, nodes: &[Decorator<N>]) -> Answer
+        ensures items { Emits (decorator_lines N.items nodes.now) (state_of S.lines W.sheet self.old) (state_of S.lines W.sheet self.new) result }
         ensures level { OnOk result ((W.sheet self.new.wr).indentation ≡ (W.sheet self.old.wr).indentation) }
     {
         for node in nodes {
@@ -344,6 +345,22 @@ impl<W: WriteJs, S: SourceMapper, C: Comments> Emitter<'_, W, S, C> {
         self.static_gap(node.is_async || (!node.is_generator && starts))?;
         self.method_head(node)?;
         Ok(())
+    }
+
+    /// Writes the parameters of a function, with commas between.
+    fn parameters<N: Held>(&mut self, node: &Function<N>) -> Answer
+        ensures items { Emits (parameters N.items node.now) (state_of S.lines W.sheet self.old) (state_of S.lines W.sheet self.new) result }
+        ensures level { OnOk result ((W.sheet self.new.wr).indentation ≡ (W.sheet self.old.wr).indentation) }
+    {
+        self.list(comma_list_format(), node.span, &node.params)
+    }
+
+    /// Writes the decorators of a parameter.
+    fn decorators<N: Held>(&mut self, node: &Param<N>) -> Answer
+        ensures items { Emits (decorators N.items node.now) (state_of S.lines W.sheet self.old) (state_of S.lines W.sheet self.new) result }
+        ensures level { OnOk result ((W.sheet self.new.wr).indentation ≡ (W.sheet self.old.wr).indentation) }
+    {
+        self.list(decorators_format(), node.span, &node.decorators)
     }
 
     /// Writes a blank and a body, or a semicolon.
@@ -405,7 +422,15 @@ impl<W: WriteJs, S: SourceMapper, C: Comments> Emitter<'_, W, S, C> {
         self.punct(mark)
     }
 
-    /// Writes the parameters of an arrow function.
+    /// Writes the parameters of an arrow function, with commas between.
+    fn arrow_list<N: Held>(&mut self, node: &ArrowExpr<N>) -> Answer
+        ensures items { Emits (arrow_list N.answers N.items node.now) (state_of S.lines W.sheet self.old) (state_of S.lines W.sheet self.new) result }
+        ensures level { OnOk result ((W.sheet self.new.wr).indentation ≡ (W.sheet self.old.wr).indentation) }
+    {
+        self.list(comma_list_format(), node.span, &node.params)
+    }
+
+    /// Writes the parameters of an arrow function, in parentheses.
     #[tactic(auto, unfolding(crate::specs::Functions::arrow_parameters))]
     fn arrow_parameters<N: Held>(&mut self, node: &ArrowExpr<N>) -> Answer
         ensures items { Emits (arrow_parameters N.answers N.items node.now) (state_of S.lines W.sheet self.old) (state_of S.lines W.sheet self.new) result }
@@ -413,7 +438,7 @@ impl<W: WriteJs, S: SourceMapper, C: Comments> Emitter<'_, W, S, C> {
     {
         let plain = is_only_plain(&node.params);
         self.parenthesis(plain, Punctuator::LeftParenthesis)?;
-        self.list(comma_list_format(), node.span, &node.params)?;
+        self.arrow_list(node)?;
         self.parenthesis(plain, Punctuator::RightParenthesis)?;
         Ok(())
     }

@@ -8,7 +8,8 @@ ghost use Rattle.swc_ecma_codegen.specs.Tree.{any_items};
 use crate::branches::is_block_node;
 use crate::emitter::Emitter;
 use crate::nodes::{
-    AskBlock, AskEnds, AskKind, AskPattern, AskPlace, AskSpace, AskStarts, Asked, EmitAt, Held, Known, Place,
+    AskBlock, AskEnds, AskKind, AskPattern, AskPlace, AskSpace, AskStarts, Asked, EmitAt, Held,
+    Known, Place,
 };
 use crate::operands::{Operand, OperandKind, SpaceBefore};
 use crate::patterns::{PatternKind, pattern_kind};

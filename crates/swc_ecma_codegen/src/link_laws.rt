@@ -28,8 +28,8 @@ use swc_ecma_codegen_ast::mapper::SourceMapper;
 use swc_ecma_codegen_common::Result;
 use swc_ecma_codegen_text_writer::WriteJs;
 use swc_ecma_codegen_tree::{
-    AnyNode, AssignTargetBox, BlockStmtBox, ExprBox, ExprPart, FunctionBox, MemberExprBox,
-    ObjectLitBox, PatBox, Program, PropBox, PropNameBox, Script, Stmt, StmtBox,
+    AnyNode, AssignTargetBox, BlockStmtBox, DeclBox, ExprBox, ExprPart, FunctionBox, MemberExprBox,
+    ObjectLitBox, PatBox, Program, PropBox, PropNameBox, Script, Stmt, StmtBox, VarDeclBox,
 };
 
 /// What a link writes is what is written of the root that it holds. So the clauses of `emit_with` and `to_code` that speak
@@ -145,6 +145,28 @@ pub fn emitted_function_box_reads<W: WriteJs, S: SourceMapper, C: Comments>(
 /// A link to a block.
 pub fn emitted_block_stmt_box_reads<W: WriteJs, S: SourceMapper, C: Comments>(
     link: &BlockStmtBox,
+    e: &mut Emitter<'_, W, S, C>,
+) -> Result
+    ensures items { (root : Root) → IsHeld link.now.node.value root → Follows (root_items root nothing) (state_of S.lines W.sheet e.old) (state_of S.lines W.sheet e.new) (in_short result) }
+    ensures reads { (root : Root) → IsHeld link.now.node.value root → is_well_formed_root root ≡ true → IsNew (state_of S.lines W.sheet e.old) → OnOk result (AddsReading e.old.cfg (root_phrase root) (W.sheet e.old.wr) (W.sheet e.new.wr)) }
+{
+    link.emit_with(e)
+}
+
+/// A link to a declaration.
+pub fn emitted_decl_box_reads<W: WriteJs, S: SourceMapper, C: Comments>(
+    link: &DeclBox,
+    e: &mut Emitter<'_, W, S, C>,
+) -> Result
+    ensures items { (root : Root) → IsHeld link.now.node.value root → Follows (root_items root nothing) (state_of S.lines W.sheet e.old) (state_of S.lines W.sheet e.new) (in_short result) }
+    ensures reads { (root : Root) → IsHeld link.now.node.value root → is_well_formed_root root ≡ true → IsNew (state_of S.lines W.sheet e.old) → OnOk result (AddsReading e.old.cfg (root_phrase root) (W.sheet e.old.wr) (W.sheet e.new.wr)) }
+{
+    link.emit_with(e)
+}
+
+/// A link to a declaration of variables, which has no semicolon.
+pub fn emitted_var_decl_box_reads<W: WriteJs, S: SourceMapper, C: Comments>(
+    link: &VarDeclBox,
     e: &mut Emitter<'_, W, S, C>,
 ) -> Result
     ensures items { (root : Root) → IsHeld link.now.node.value root → Follows (root_items root nothing) (state_of S.lines W.sheet e.old) (state_of S.lines W.sheet e.new) (in_short result) }

@@ -4,17 +4,18 @@ ghost use Rattle.std.specs.Prelude.{◌≡◌, if◌then◌else◌, map, OnOk, t
 ghost use Rattle.swc_ecma_codegen_ast.specs.Settings.{is_up_to_es5};
 ghost use Rattle.swc_ecma_codegen_util.specs.Ends.{declarator_ends, declarators_end, head_ends};
 ghost use Rattle.swc_ecma_codegen_base.specs.Choices.{loop_ending};
+ghost use Rattle.swc_ecma_codegen_base.specs.Lists.{list};
 ghost use Rattle.swc_ecma_codegen_base.specs.Run.{Emits};
 ghost use Rattle.swc_ecma_codegen_base.specs.Starts.{begins_letter};
-ghost use Rattle.swc_ecma_codegen.specs.Stmts.{cases_format, lines_format, case_format, case_test, is_single, case_list, case_children, case_stmts, switch_case, switch_cases, switch_stmt, while_stmt, loop_test, do_while_stmt, var_decl_or_expr, for_init, for_value, for_clause, for_control, for_stmt, for_head, for_right, for_each, for_in_stmt, for_await, for_of_stmt};
+ghost use Rattle.swc_ecma_codegen.specs.Stmts.{cases_format, lines_format, case_format, case_test, is_single, case_list, case_children, case_stmts, switch_case, cases, switch_cases, switch_stmt, while_stmt, loop_test, do_while_stmt, var_decl_or_expr, for_init, for_value, for_clause, for_control, for_stmt, for_head, for_right, for_each, for_in_stmt, for_await, for_of_stmt};
 ghost use Rattle.swc_ecma_codegen.specs.View.{state_of};
 
 use crate::emitter::Emitter;
 use crate::nodes::{AskEnds, AskPlace, Child, EmitAt, Held, Place};
 use bitflags::Flags;
+use swc_ecma_codegen_ast::ListFormat;
 use swc_ecma_codegen_ast::comments::Comments;
 use swc_ecma_codegen_ast::mapper::SourceMapper;
-use swc_ecma_codegen_ast::ListFormat;
 use swc_ecma_codegen_common::{Answer, EsVersion, Span};
 use swc_ecma_codegen_literals::Punctuator;
 use swc_ecma_codegen_text_writer::WriteJs;
@@ -261,6 +262,14 @@ impl<N: Held> EmitAt for VarDeclOrExpr<N> {
 }
 
 impl<W: WriteJs, S: SourceMapper, C: Comments> Emitter<'_, W, S, C> {
+    /// Writes the cases, each on a line of its own.
+    fn cases<N: Held>(&mut self, node: &SwitchStmt<N>) -> Answer
+        ensures items { Emits (cases N.answers N.items node.now) (state_of S.lines W.sheet self.old) (state_of S.lines W.sheet self.new) result }
+        ensures level { OnOk result ((W.sheet self.new.wr).indentation ≡ (W.sheet self.old.wr).indentation) }
+    {
+        self.list(cases_format(), node.span, &node.cases)
+    }
+
     /// Writes `{ case a: b; }`.
     #[tactic(auto, unfolding(crate::specs::Stmts::switch_cases))]
     fn switch_cases<N: Held>(&mut self, node: &SwitchStmt<N>) -> Answer
@@ -268,7 +277,7 @@ impl<W: WriteJs, S: SourceMapper, C: Comments> Emitter<'_, W, S, C> {
         ensures level { OnOk result ((W.sheet self.new.wr).indentation ≡ (W.sheet self.old.wr).indentation) }
     {
         self.punct(Punctuator::LeftBrace)?;
-        self.list(cases_format(), node.span, &node.cases)?;
+        self.cases(node)?;
         self.last_of(node.span)?;
         self.punct(Punctuator::RightBrace)?;
         Ok(())
@@ -289,6 +298,14 @@ impl<W: WriteJs, S: SourceMapper, C: Comments> Emitter<'_, W, S, C> {
         }
     }
 
+    /// Writes the statements of a case.
+    fn case_children<N: Held>(&mut self, single: bool, node: &SwitchCase<N>) -> Answer
+        ensures items { Emits (list (case_format single) node.now.span (case_children N.answers N.items node.now.cons.items)) (state_of S.lines W.sheet self.old) (state_of S.lines W.sheet self.new) result }
+        ensures level { OnOk result ((W.sheet self.new.wr).indentation ≡ (W.sheet self.old.wr).indentation) }
+    {
+        self.list(case_format(single), node.span, &node.cons)
+    }
+
     /// Writes the colon and the statements of a case, on the same line where there is a single one.
     #[tactic(auto, unfolding(crate::specs::Stmts::case_list))]
     fn case_list<N: Held>(&mut self, single: bool, node: &SwitchCase<N>) -> Answer
@@ -297,7 +314,7 @@ impl<W: WriteJs, S: SourceMapper, C: Comments> Emitter<'_, W, S, C> {
     {
         self.punct(Punctuator::Colon)?;
         self.space_if(single)?;
-        self.list(case_format(single), node.span, &node.cons)?;
+        self.case_children(single, node)?;
         Ok(())
     }
 
@@ -401,7 +418,12 @@ impl<W: WriteJs, S: SourceMapper, C: Comments> Emitter<'_, W, S, C> {
 
     /// Writes `(a of b)`.
     #[tactic(auto, unfolding(crate::specs::Stmts::for_each))]
-    fn for_each<N: Held>(&mut self, text: &'static str, left: &ForHead<N>, right: &ExprBox<N>) -> Answer
+    fn for_each<N: Held>(
+        &mut self,
+        text: &'static str,
+        left: &ForHead<N>,
+        right: &ExprBox<N>,
+    ) -> Answer
         requires { begins_letter text.now ≡ true }
         ensures items { Emits (for_each N.answers N.items text.now left.now right.now) (state_of S.lines W.sheet self.old) (state_of S.lines W.sheet self.new) result }
         ensures level { OnOk result ((W.sheet self.new.wr).indentation ≡ (W.sheet self.old.wr).indentation) }

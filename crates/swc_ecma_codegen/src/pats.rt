@@ -10,12 +10,12 @@ ghost use Rattle.swc_ecma_codegen.specs.View.{state_of};
 use crate::calls::ends_with_hole;
 use crate::emitter::Emitter;
 use crate::nodes::{AskPlace, Child, EmitAt, Held, Place};
+use bitflags::Flags;
+use swc_ecma_codegen_ast::ListFormat;
 use swc_ecma_codegen_ast::comments::Comments;
 use swc_ecma_codegen_ast::mapper::SourceMapper;
-use swc_ecma_codegen_ast::ListFormat;
 use swc_ecma_codegen_common::{Answer, Span};
 use swc_ecma_codegen_literals::Punctuator;
-use bitflags::Flags;
 use swc_ecma_codegen_text_writer::WriteJs;
 use swc_ecma_codegen_tree::{
     ArrayPat, AssignPat, AssignPatProp, AssignTargetPat, ExprBox, KeyValuePatProp, ObjectPat,

@@ -1,24 +1,24 @@
 //! Objects and their properties.
 
-ghost use Rattle.std.specs.Prelude.{◌≡◌, map, OnOk, true};
+ghost use Rattle.std.specs.Prelude.{◌≡◌, OnOk, true};
 ghost use Rattle.swc_ecma_codegen_ast.specs.FunctionPhrases.{is_some_listed};
-ghost use Rattle.swc_ecma_codegen.specs.Lists.{child_of};
 ghost use Rattle.swc_ecma_codegen_spans.specs.Spans.{prop_or_spread_span};
+ghost use Rattle.swc_ecma_codegen_base.specs.Lists.{list};
 ghost use Rattle.swc_ecma_codegen_base.specs.Run.{Emits};
 ghost use Rattle.swc_ecma_codegen_base.specs.Starts.{begins_letter};
 ghost use Rattle.swc_ecma_codegen.specs.Answers.{place_of};
-ghost use Rattle.swc_ecma_codegen.specs.Props.{prop_name, key_end, value_start, key_value_prop, assign_prop, accessor, optional_body, getter_prop, setter_prop, method_prop, prop, prop_or_spread, object_format, flat_object_format, object_lines, object_list, object_lit};
+ghost use Rattle.swc_ecma_codegen.specs.Props.{prop_name, key_end, value_start, key_value_prop, assign_prop, accessor, optional_body, getter_prop, setter_prop, method_prop, prop, prop_or_spread, object_format, flat_object_format, object_children, object_lines, object_list, object_lit};
 ghost use Rattle.swc_ecma_codegen.specs.View.{state_of};
 
 use crate::blocks::is_some_listed;
 use crate::emitter::Emitter;
 use crate::nodes::{Child, EmitAt, Held, Place};
+use bitflags::Flags;
+use swc_ecma_codegen_ast::ListFormat;
 use swc_ecma_codegen_ast::comments::Comments;
 use swc_ecma_codegen_ast::mapper::SourceMapper;
-use swc_ecma_codegen_ast::ListFormat;
 use swc_ecma_codegen_common::{Answer, Span};
 use swc_ecma_codegen_literals::Punctuator;
-use bitflags::Flags;
 use swc_ecma_codegen_text_writer::WriteJs;
 use swc_ecma_codegen_tree::{
     AssignProp, BlockStmtBox, GetterProp, KeyValueProp, MethodProp, ObjectLit, Prop, PropName,
@@ -281,17 +281,33 @@ impl<W: WriteJs, S: SourceMapper, C: Comments> Emitter<'_, W, S, C> {
         }
     }
 
-    /// Writes the properties, each on a line of its own where there are some.
+    /// Writes the properties on one line.
+    fn flat_object_props<N: Held>(&mut self, node: &ObjectLit<N>) -> Answer
+        ensures items { Emits (list flat_object_format node.now.span (object_children N.answers N.items node.now)) (state_of S.lines W.sheet self.old) (state_of S.lines W.sheet self.new) result }
+        ensures level { OnOk result ((W.sheet self.new.wr).indentation ≡ (W.sheet self.old.wr).indentation) }
+    {
+        self.list(flat_object_format(), node.span, &node.props)
+    }
+
+    /// Writes the properties, each on a line of its own.
+    fn object_props<N: Held>(&mut self, node: &ObjectLit<N>) -> Answer
+        ensures items { Emits (list object_format node.now.span (object_children N.answers N.items node.now)) (state_of S.lines W.sheet self.old) (state_of S.lines W.sheet self.new) result }
+        ensures level { OnOk result ((W.sheet self.new.wr).indentation ≡ (W.sheet self.old.wr).indentation) }
+    {
+        self.list(object_format(), node.span, &node.props)
+    }
+
+    /// Writes the properties and the ends of their lines, where there are some.
     #[tactic(auto, unfolding(crate::specs::Props::object_lines))]
     fn object_lines<N: Held>(&mut self, some: bool, node: &ObjectLit<N>) -> Answer
-        ensures items { Emits (object_lines some node.now.span (map (child_of (prop_or_spread_span (place_of N.answers)) (λ p place. prop_or_spread N.answers N.items p)) node.now.props.items)) (state_of S.lines W.sheet self.old) (state_of S.lines W.sheet self.new) result }
+        ensures items { Emits (object_lines some node.now.span (object_children N.answers N.items node.now)) (state_of S.lines W.sheet self.old) (state_of S.lines W.sheet self.new) result }
         ensures level { OnOk result ((W.sheet self.new.wr).indentation ≡ (W.sheet self.old.wr).indentation) }
     {
         if !some {
-            return self.list(flat_object_format(), node.span, &node.props);
+            return self.flat_object_props(node);
         }
         self.line()?;
-        self.list(object_format(), node.span, &node.props)?;
+        self.object_props(node)?;
         self.line()?;
         Ok(())
     }
@@ -299,11 +315,11 @@ impl<W: WriteJs, S: SourceMapper, C: Comments> Emitter<'_, W, S, C> {
     /// Writes the properties; on one line where the settings are to minify.
     #[tactic(auto, using(crate::proofs::Asked::minified_part, crate::proofs::Asked::pretty_part), unfolding(crate::specs::Props::object_list))]
     fn object_list<N: Held>(&mut self, node: &ObjectLit<N>) -> Answer
-        ensures items { Emits (object_list (is_some_listed node.now.props.items) node.now.span (map (child_of (prop_or_spread_span (place_of N.answers)) (λ p place. prop_or_spread N.answers N.items p)) node.now.props.items)) (state_of S.lines W.sheet self.old) (state_of S.lines W.sheet self.new) result }
+        ensures items { Emits (object_list (is_some_listed node.now.props.items) node.now.span (object_children N.answers N.items node.now)) (state_of S.lines W.sheet self.old) (state_of S.lines W.sheet self.new) result }
         ensures level { OnOk result ((W.sheet self.new.wr).indentation ≡ (W.sheet self.old.wr).indentation) }
     {
         if self.cfg.minify {
-            return self.list(flat_object_format(), node.span, &node.props);
+            return self.flat_object_props(node);
         }
         self.object_lines(is_some_listed(&node.props), node)
     }

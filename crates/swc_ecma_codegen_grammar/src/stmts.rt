@@ -132,9 +132,7 @@ impl<N: Fits> WellFormed for IfStmt<N> {
 
     #[tactic(auto, unfolding(swc_ecma_codegen_ast::specs::StmtPhrases::if_stmt, swc_ecma_codegen_ast::specs::Phrases::is_possible))]
     fn is_well_formed(&self) -> bool {
-        self.test.is_well_formed()
-            && self.cons.is_well_formed()
-            && is_else_branch(&self.alt)
+        self.test.is_well_formed() && self.cons.is_well_formed() && is_else_branch(&self.alt)
     }
 }
 
@@ -223,9 +221,7 @@ impl<N: Fits> WellFormed for TryStmt<N> {
 
     #[tactic(auto, unfolding(swc_ecma_codegen_ast::specs::StmtPhrases::try_stmt, swc_ecma_codegen_ast::specs::Phrases::is_possible))]
     fn is_well_formed(&self) -> bool {
-        self.block.is_well_formed()
-            && is_handler(&self.handler)
-            && is_finalizer(&self.finalizer)
+        self.block.is_well_formed() && is_handler(&self.handler) && is_finalizer(&self.finalizer)
     }
 }
 

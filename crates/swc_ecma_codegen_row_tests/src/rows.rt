@@ -9,6 +9,7 @@ use crate::over::{has_commas, has_texts_over};
 use crate::runs::{answers, given, prints, refuses};
 use crate::steps::{
     Sort, Step, Tree, all_named, expression, expression_in_places, is_step, statements,
+    statements_in_places,
 };
 use crate::trees::{has_texts, is_formed, is_printed_with, prints_expr};
 use std::alloc::{AllocError, Global};
@@ -57,14 +58,16 @@ fn answer(alloc: Global, steps: &[Step], line: &str) -> Result<bool, AllocError>
                 [pretty, minified],
             )
         }
-        [word, lines, words, pretty, minified] if word.as_str() == "over" => {
-            match in_places(alloc, steps, words)? {
-                Some(tree) => has_texts_over(alloc, lines, &tree, [pretty, minified]),
-                None => Ok(false),
+        [word, lines, words, pretty, minified] if matches!(word.as_str(), "over" | "script_over") =>
+            {
+                match in_places(alloc, steps, word, words)? {
+                    Some(tree) => has_texts_over(alloc, lines, &tree, [pretty, minified]),
+                    None => Ok(false),
+                }
             }
-        }
-        [word, words, pretty, minified, longer, short, marks] if word.as_str() == "commas" => {
-            match in_places(alloc, steps, words)? {
+        [word, words, pretty, minified, longer, short, marks]
+            if matches!(word.as_str(), "commas" | "script_commas") => {
+            match in_places(alloc, steps, word, words)? {
                 Some(tree) => {
                     has_commas(alloc, &tree, [[pretty, minified], [longer, short]], marks)
                 }
@@ -136,8 +139,16 @@ fn tree_of(
 }
 
 /// The tree that steps make, where each node has a place of its own.
-fn in_places(alloc: Global, steps: &[Step], words: &str) -> Result<Option<Tree>, AllocError> {
+fn in_places(
+    alloc: Global,
+    steps: &[Step],
+    word: &str,
+    words: &str,
+) -> Result<Option<Tree>, AllocError> {
     match all_named(alloc, steps, words)? {
+        Some(found) if word.starts_with("script") => {
+            Ok(Some(statements_in_places(alloc, &found)?))
+        }
         Some(found) => Ok(Some(expression_in_places(alloc, &found)?)),
         None => Ok(None),
     }

@@ -19,8 +19,8 @@ pub struct Source {
 
 impl SourceMapper for Source {
     ghost lines = { λ source. record {
-        same_line = λ lo hi. if bit_and lo.0 1 == 0 then source.even else source.odd;
-        snippet = λ span. option_map string_bytes source.snippet;
+      same_line = λ lo hi. if bit_and lo.0 1 == 0 then source.even else source.odd;
+      snippet = λ span. option_map string_bytes source.snippet;
     } };
 
     fn is_on_same_line(&self, lo: BytePos, _hi: BytePos) -> bool {

@@ -191,7 +191,9 @@ pub fn expression(alloc: Global, steps: &[&Step]) -> Result<Tree, AllocError> {
 
 /// The same, where each node has a place of its own.
 pub fn expression_in_places(alloc: Global, steps: &[&Step]) -> Result<Tree, AllocError> {
-    let expr = made(alloc, steps, Part::Json)?.pop().unwrap_or(String::new(alloc));
+    let expr = made(alloc, steps, Part::Json)?
+        .pop()
+        .unwrap_or(String::new(alloc));
     let tree = expression(alloc, steps)?;
     Ok(Tree {
         json: json_in_places(alloc, script(alloc, &expr)?.as_str())?,
@@ -208,5 +210,15 @@ pub fn statements(alloc: Global, steps: &[&Step]) -> Result<Tree, AllocError> {
         json: json(alloc, script_of(alloc, &body)?.as_str())?,
         tokens: joined(alloc, &made_tokens, " ")?,
         is_expression: false,
+    })
+}
+
+/// The same, where each node has a place of its own.
+pub fn statements_in_places(alloc: Global, steps: &[&Step]) -> Result<Tree, AllocError> {
+    let body = joined(alloc, &made(alloc, steps, Part::Json)?, ",")?;
+    let tree = statements(alloc, steps)?;
+    Ok(Tree {
+        json: json_in_places(alloc, script_of(alloc, &body)?.as_str())?,
+        ..tree
     })
 }

@@ -3,7 +3,7 @@ use Rattle.swc_ecma_codegen_base.specs.Run.{Continues}
 use Rattle.swc_ecma_codegen.specs.Functions.{decorator}
 use Rattle.swc_ecma_codegen.specs.Lists.{in_order}
 use Rattle.swc_ecma_codegen.specs.View.{state_of}
-use Rattle.swc_ecma_codegen.proofs.emitter.Emitter.decorators.Given as goal
+use Rattle.swc_ecma_codegen.proofs.emitter.Emitter.decorator_lines.Given as goal
 
 abbrev pub invariant-loop-node : goal.invariant-loop-node
 invariant-loop-node g l = record {
