@@ -1,10 +1,12 @@
 -- What is written of each expression is what it reads as.
-use Rattle.std.proofs.Common.{ℕ, Bool, true, false, cond, List, [], ◌==◌, ◌-◌, codes, refl, Some, None, string_bytes}
+use Rattle.std.proofs.Common.{◌≡◌, ℕ, Bool, true, false, cond, List, [], ◌==◌, ◌-◌, codes, refl, ap, ◌∙◌, subst, Option, Some, None, string_bytes}
 use Rattle.std.specs.Str.{chars, is_utf8}
 use Rattle.swc_ecma_codegen_common.specs.declared.positions.BytePos.{BytePos}
 use Rattle.swc_ecma_codegen_common.specs.declared.positions.Span.{Span}
 use Rattle.swc_ecma_codegen_tree.specs.declared.idents.Ident.{Ident}
 use Rattle.swc_ecma_codegen_tree.specs.declared.idents.IdentName.{IdentName}
+use Rattle.swc_ecma_codegen_common.specs.declared.operators.AssignOp.{AssignOp}
+use Rattle.swc_ecma_codegen_common.specs.declared.operators.AssignOp.TheVariants as assign
 use Rattle.swc_ecma_codegen_common.specs.declared.operators.UnaryOp.{UnaryOp}
 use Rattle.swc_ecma_codegen_common.specs.declared.operators.UnaryOp.TheVariants as unary
 use Rattle.swc_ecma_codegen_common.specs.declared.operators.UpdateOp.{UpdateOp}
@@ -17,6 +19,20 @@ use Rattle.swc_ecma_codegen_tree.specs.declared.exprs.UpdateExpr.{UpdateExpr}
 use Rattle.swc_ecma_codegen_tree.specs.declared.exprs.BinExpr.{BinExpr}
 use Rattle.swc_ecma_codegen_tree.specs.declared.exprs.MemberExpr.{MemberExpr}
 use Rattle.swc_ecma_codegen_tree.specs.declared.exprs.ComputedPropName.{ComputedPropName}
+use Rattle.swc_ecma_codegen_tree.specs.declared.expr_links.ExprBox.{ExprBox}
+use Rattle.swc_ecma_codegen_tree.specs.declared.exprs.AssignExpr.{AssignExpr}
+use Rattle.swc_ecma_codegen_tree.specs.declared.exprs.SuperPropExpr.{SuperPropExpr}
+use Rattle.swc_ecma_codegen_tree.specs.declared.exprs.SuperProp.{SuperProp}
+use Rattle.swc_ecma_codegen_tree.specs.declared.exprs.SuperProp.TheVariants as super_props
+use Rattle.swc_ecma_codegen_tree.specs.declared.exprs.OptChainExpr.{OptChainExpr}
+use Rattle.swc_ecma_codegen_tree.specs.declared.exprs.OptChainBase.{OptChainBase}
+use Rattle.swc_ecma_codegen_tree.specs.declared.exprs.OptChainBase.TheVariants as chain_bases
+use Rattle.swc_ecma_codegen_tree.specs.declared.exprs.MetaPropExpr.{MetaPropExpr}
+use Rattle.swc_ecma_codegen_tree.specs.declared.exprs.MetaPropKind.{MetaPropKind}
+use Rattle.swc_ecma_codegen_tree.specs.declared.exprs.MetaPropKind.TheVariants as meta_props
+use Rattle.swc_ecma_codegen_tree.specs.declared.exprs.YieldExpr.{YieldExpr}
+use Rattle.swc_ecma_codegen_tree.specs.declared.exprs.AwaitExpr.{AwaitExpr}
+use Rattle.swc_ecma_codegen_tree.specs.declared.exprs.SpreadElement.{SpreadElement}
 use Rattle.swc_ecma_codegen_tree.specs.declared.exprs.CondExpr.{CondExpr}
 use Rattle.swc_ecma_codegen_tree.specs.declared.exprs.MemberProp.{MemberProp}
 use Rattle.swc_ecma_codegen_tree.specs.declared.exprs.MemberProp.TheVariants as member_props
@@ -26,31 +42,36 @@ use Rattle.swc_ecma_codegen_tree.specs.declared.exprs.Expr.{Expr}
 use Rattle.swc_ecma_codegen_tree.specs.declared.exprs.Expr.TheVariants as exprs
 use Rattle.swc_ecma_codegen_tree.specs.declared.lits.Lit.{Lit}
 use Rattle.swc_ecma_codegen_tree.specs.declared.lits.Lit.TheVariants as lits
-use Rattle.swc_ecma_codegen_common.specs.Operators.{unary_text, binary_text, update_text}
-use Rattle.swc_ecma_codegen_spans.specs.Spans.{expr_span}
+use Rattle.swc_ecma_codegen_common.specs.Operators.{assign_text, unary_text, binary_text, update_text}
+use Rattle.swc_ecma_codegen_spans.specs.Spans.{expr_span, spread_element_span}
 use Rattle.swc_ecma_codegen_util.specs.Starts as starts
 use Rattle.swc_ecma_codegen_ast.specs.Chars.{is_start, is_part, is_letter, is_digit}
 use Rattle.swc_ecma_codegen_ast.specs.Names.{is_word, all_part}
 use Rattle.swc_ecma_codegen_ast.specs.Punctuators.{is_punctuator, punctuators}
 use Rattle.swc_ecma_codegen_ast.specs.Texts.{is_same, is_among}
-use Rattle.swc_ecma_codegen_ast.specs.Phrases.{Phrase, One, ◌>◌, mark}
+use Rattle.swc_ecma_codegen_ast.specs.Phrases.{Phrase, Nothing, One, ◌>◌, mark}
 use Rattle.swc_ecma_codegen_ast.specs.NamePhrases as names
 use Rattle.swc_ecma_codegen_ast.specs.ExprPhrases as lists
+use Rattle.swc_ecma_codegen_ast.specs.CallPhrases.{callee_at}
 use Rattle.swc_ecma_codegen_ast.specs.LitPhrases as lit_lists
-use Rattle.swc_ecma_codegen_ast.specs.declared.roles.Role.TheVariants.{MemberExpression}
+use Rattle.swc_ecma_codegen_ast.specs.declared.roles.Role.{Role}
+use Rattle.swc_ecma_codegen_ast.specs.declared.roles.Role.TheVariants.{Callee as IsCallee, MemberExpression, ChainMember, ChainCall, AssignmentTarget}
 use Rattle.swc_ecma_codegen_base.specs.Run.{Env, Part}
 use Rattle.swc_ecma_codegen_base.specs.Words.{operator, space, formatting_space, position, leading_comments, trailing_comments}
 use Rattle.swc_ecma_codegen_base.proofs.Printed.{Writes, writes_then, writes_if, writes_nothing, writes_space, writes_formatting_space, writes_commit, writes_position, writes_position_before, writes_leading, writes_trailing}
 use Rattle.swc_ecma_codegen_base.specs.Written.{IsWord, IsMark}
+use Rattle.swc_ecma_codegen_base.proofs.Choices.{prints_bare}
 use Rattle.swc_ecma_codegen_base.proofs.EachLit.{prints_lit}
 use Rattle.swc_ecma_codegen_base.proofs.NumberPrints.{prints_number, prints_number_object}
-use Rattle.swc_ecma_codegen_base.proofs.Phrased.{Prints, then, after, before, prints_never, prints_keyword, prints_word_operator, prints_operator, prints_punct, prints_ident, prints_name}
+use Rattle.swc_ecma_codegen_base.proofs.Phrased.{Prints, then, after, before, prints_nothing, prints_never, prints_keyword, prints_word_operator, prints_operator, prints_punct, prints_ident, prints_name}
 use Rattle.swc_ecma_codegen.specs.declared.nodes.Place.{Place}
-use Rattle.swc_ecma_codegen.specs.declared.nodes.Place.TheVariants.{Plain, LeftOperand, Object, DottedObject}
+use Rattle.swc_ecma_codegen.specs.declared.nodes.Place.TheVariants.{Plain, LeftOperand, Object, DottedObject, Callee, Chain}
 use Rattle.swc_ecma_codegen.specs.Answers.{Answers, place_of}
 use Rattle.swc_ecma_codegen.specs.Operands.{is_word_op, operand_space}
 use Rattle.swc_ecma_codegen.specs.Exprs as words
+use Rattle.swc_ecma_codegen.specs.Calls as calls
 use Rattle.swc_ecma_codegen.specs.Lits.{lit_at}
+use Rattle.swc_ecma_codegen.proofs.CallParts.{super_is_word, array_lit_prints, call_prints, new_prints}
 use Rattle.swc_ecma_codegen.proofs.Linked.{Linked, expr_at}
 use Rattle.swc_ecma_codegen.proofs.ListParts.{some_listed_prints}
 
@@ -130,9 +151,40 @@ binary_op_prints env binary.LogicalAnd = prints_operator env (codes "&&") (recor
 binary_op_prints env binary.Exp = prints_operator env (codes "**") (record { utf8 = refl; ascii = refl; shape = refl })
 binary_op_prints env binary.NullishCoalescing = prints_operator env (codes "??") (record { utf8 = refl; ascii = refl; shape = refl })
 
+assign_op_prints : (env : Env) (op : AssignOp) → Prints env (operator (assign_text op)) (One (lists.assign_op op))
+unfolding lists.assign_op assign_text is_punctuator is_among is_same punctuators chars is_utf8 lib.Utf8.encode
+assign_op_prints env assign.Assign = prints_operator env (codes "=") (record { utf8 = refl; ascii = refl; shape = refl })
+assign_op_prints env assign.AddAssign = prints_operator env (codes "+=") (record { utf8 = refl; ascii = refl; shape = refl })
+assign_op_prints env assign.SubAssign = prints_operator env (codes "-=") (record { utf8 = refl; ascii = refl; shape = refl })
+assign_op_prints env assign.MulAssign = prints_operator env (codes "*=") (record { utf8 = refl; ascii = refl; shape = refl })
+assign_op_prints env assign.DivAssign = prints_operator env (codes "/=") (record { utf8 = refl; ascii = refl; shape = refl })
+assign_op_prints env assign.ModAssign = prints_operator env (codes "%=") (record { utf8 = refl; ascii = refl; shape = refl })
+assign_op_prints env assign.LShiftAssign = prints_operator env (codes "<<=") (record { utf8 = refl; ascii = refl; shape = refl })
+assign_op_prints env assign.RShiftAssign = prints_operator env (codes ">>=") (record { utf8 = refl; ascii = refl; shape = refl })
+assign_op_prints env assign.ZeroFillRShiftAssign = prints_operator env (codes ">>>=") (record { utf8 = refl; ascii = refl; shape = refl })
+assign_op_prints env assign.BitOrAssign = prints_operator env (codes "|=") (record { utf8 = refl; ascii = refl; shape = refl })
+assign_op_prints env assign.BitXorAssign = prints_operator env (codes "^=") (record { utf8 = refl; ascii = refl; shape = refl })
+assign_op_prints env assign.BitAndAssign = prints_operator env (codes "&=") (record { utf8 = refl; ascii = refl; shape = refl })
+assign_op_prints env assign.ExpAssign = prints_operator env (codes "**=") (record { utf8 = refl; ascii = refl; shape = refl })
+assign_op_prints env assign.AndAssign = prints_operator env (codes "&&=") (record { utf8 = refl; ascii = refl; shape = refl })
+assign_op_prints env assign.OrAssign = prints_operator env (codes "||=") (record { utf8 = refl; ascii = refl; shape = refl })
+assign_op_prints env assign.NullishAssign = prints_operator env (codes "??=") (record { utf8 = refl; ascii = refl; shape = refl })
+
 dot_is_mark : IsMark (codes ".")
 unfolding is_punctuator is_among is_same punctuators chars is_utf8 lib.Utf8.encode
 dot_is_mark = record { utf8 = refl; ascii = refl; shape = refl }
+
+question_dot_is_mark : IsMark (codes "?.")
+unfolding is_punctuator is_among is_same punctuators chars is_utf8 lib.Utf8.encode
+question_dot_is_mark = record { utf8 = refl; ascii = refl; shape = refl }
+
+star_is_mark : IsMark (codes "*")
+unfolding is_punctuator is_among is_same punctuators chars is_utf8 lib.Utf8.encode
+star_is_mark = record { utf8 = refl; ascii = refl; shape = refl }
+
+ellipsis_is_mark : IsMark (codes "...")
+unfolding is_punctuator is_among is_same punctuators chars is_utf8 lib.Utf8.encode
+ellipsis_is_mark = record { utf8 = refl; ascii = refl; shape = refl }
 
 opens_is_mark : IsMark (codes "[")
 unfolding is_punctuator is_among is_same punctuators chars is_utf8 lib.Utf8.encode
@@ -162,6 +214,30 @@ this_is_word : IsWord (codes "this")
 unfolding is_word is_start is_part is_letter is_digit all_part chars is_utf8 lib.Utf8.encode
 this_is_word = record { utf8 = refl; ascii = refl; shape = refl }
 
+new_is_word : IsWord (codes "new")
+unfolding is_word is_start is_part is_letter is_digit all_part chars is_utf8 lib.Utf8.encode
+new_is_word = record { utf8 = refl; ascii = refl; shape = refl }
+
+target_is_word : IsWord (codes "target")
+unfolding is_word is_start is_part is_letter is_digit all_part chars is_utf8 lib.Utf8.encode
+target_is_word = record { utf8 = refl; ascii = refl; shape = refl }
+
+import_is_word : IsWord (codes "import")
+unfolding is_word is_start is_part is_letter is_digit all_part chars is_utf8 lib.Utf8.encode
+import_is_word = record { utf8 = refl; ascii = refl; shape = refl }
+
+meta_is_word : IsWord (codes "meta")
+unfolding is_word is_start is_part is_letter is_digit all_part chars is_utf8 lib.Utf8.encode
+meta_is_word = record { utf8 = refl; ascii = refl; shape = refl }
+
+yield_is_word : IsWord (codes "yield")
+unfolding is_word is_start is_part is_letter is_digit all_part chars is_utf8 lib.Utf8.encode
+yield_is_word = record { utf8 = refl; ascii = refl; shape = refl }
+
+await_is_word : IsWord (codes "await")
+unfolding is_word is_start is_part is_letter is_digit all_part chars is_utf8 lib.Utf8.encode
+await_is_word = record { utf8 = refl; ascii = refl; shape = refl }
+
 -- a mark between two blanks
 spaced_prints : (env : Env) (t : List ℕ) → IsMark t → Prints env (words.spaced_punct t) (mark t)
 unfolding words.spaced_punct
@@ -173,7 +249,7 @@ this_prints : (env : Env) (n : this_exprs.ThisExpr) → Prints env (words.this n
 unfolding words.this lists.this_expr
 this_prints env n = after (writes_leading env n.span.lo) (prints_keyword env (Some n.span) (codes "this") this_is_word)
 
-ident_prints : {X : Type 0} (l : Linked X) (n : Ident) → Prints l.env (words.ident n) (names.ident n)
+pub ident_prints : {X : Type 0} (l : Linked X) (n : Ident) → Prints l.env (words.ident n) (names.ident n)
 unfolding words.ident names.ident
 ident_prints l n = prints_ident l.env n.span (string_bytes n.sym) n.optional l.leaves_out
 
@@ -216,9 +292,97 @@ member_prop_prints l (member_props.Ident n) = after (writes_comments_before l.en
 member_prop_prints l (member_props.Computed n) = computed_prints l n
 member_prop_prints l n = prints_never
 
+-- the object before a property
+object_prints : {X : Type 0} (l : Linked X) (n : ExprBox X) (prop : MemberProp X) → Prints l.env (l.items n.node.value (words.object_place prop)) (callee_at l.reads n)
+unfolding words.object_place
+object_prints l n (member_props.Ident prop) = l.law n.node.value (DottedObject prop.span.lo) IsCallee
+object_prints l n (member_props.PrivateName prop) = l.law n.node.value (DottedObject prop.span.lo) IsCallee
+object_prints l n (member_props.Computed prop) = l.law n.node.value Object IsCallee
+
 pub member_prints : {X : Type 0} (l : Linked X) (n : MemberExpr X) → Prints l.env (words.member l.items n) (lists.member_expr l.reads n)
 unfolding words.member lists.member_expr
-member_prints l n = after (writes_opened l.env n.span) (then (expr_at l n.obj (words.object_place n.prop)) (before (member_prop_prints l n.prop) (writes_position l.env n.span.hi)))
+member_prints l n = after (writes_opened l.env n.span) (then (object_prints l n.obj n.prop) (before (member_prop_prints l n.prop) (writes_position l.env n.span.hi)))
+
+super_prop_prints : {X : Type 0} (l : Linked X) (n : SuperProp X) → Prints l.env (words.super_prop l.items n) (lists.super_prop l.reads n)
+unfolding words.super_prop lists.super_prop
+super_prop_prints l (super_props.Ident n) = after (writes_comments_before l.env n.span.lo) (then (prints_punct l.env (codes ".") dot_is_mark) (ident_name_prints l n))
+super_prop_prints l (super_props.Computed n) = computed_prints l n
+
+pub super_prop_expr_prints : {X : Type 0} (l : Linked X) (n : SuperPropExpr X) → Prints l.env (words.super_prop_expr l.items n) (lists.super_prop_expr l.reads n)
+unfolding words.super_prop_expr calls.super_keyword lists.super_prop_expr
+super_prop_expr_prints l n = after (writes_opened l.env n.span) (then (prints_keyword l.env (Some n.obj.span) (codes "super") super_is_word) (super_prop_prints l n.prop))
+
+-- ---- optional chains
+
+chain_mark_prints : {X : Type 0} (env : Env) (optional : Bool) (n : MemberProp X) → Prints env (words.chain_mark optional n) (lists.chain_mark optional n)
+unfolding words.chain_mark lists.chain_mark
+chain_mark_prints env true n = prints_punct env (codes "?.") question_dot_is_mark
+chain_mark_prints env false (member_props.Computed n) = prints_nothing
+chain_mark_prints env false n = prints_punct env (codes ".") dot_is_mark
+
+chain_prop_prints : {X : Type 0} (l : Linked X) (n : MemberProp X) → Prints l.env (words.chain_prop l.items n) (lists.chain_prop l.reads n)
+unfolding words.chain_prop lists.chain_prop
+chain_prop_prints l (member_props.Ident n) = ident_name_prints l n
+chain_prop_prints l (member_props.Computed n) = computed_prints l n
+chain_prop_prints l n = prints_never
+
+pub chain_member_prints : {X : Type 0} (l : Linked X) (optional : Bool) (n : MemberExpr X) → Prints l.env (words.chain_member l.items optional n) (lists.chain_member l.reads optional n)
+unfolding words.chain_member lists.chain_member
+chain_member_prints l optional n = then (l.law n.obj.node.value Callee IsCallee) (then (chain_mark_prints l.env optional n.prop) (chain_prop_prints l n.prop))
+
+chain_base_prints : {X : Type 0} (l : Linked X) (optional : Bool) (n : OptChainBase X) → Prints l.env (words.chain_base l.items optional n) (lists.chain_base l.reads optional n)
+unfolding words.chain_base lists.chain_base
+chain_base_prints l optional (chain_bases.Member n) = l.law n.node.value (Chain optional) (ChainMember optional)
+chain_base_prints l optional (chain_bases.Call n) = l.law n.node.value (Chain optional) (ChainCall optional)
+
+pub opt_chain_prints : {X : Type 0} (l : Linked X) (n : OptChainExpr X) → Prints l.env (words.opt_chain l.items n) (lists.opt_chain_expr l.reads n)
+unfolding words.opt_chain lists.opt_chain_expr
+opt_chain_prints l n = after (writes_leading l.env n.span.lo) (chain_base_prints l n.optional n.base)
+
+-- ---- words with a dot, assignments, `yield` and `await`
+
+meta_prop_prints : (env : Env) (kind : MetaPropKind) → Prints env (words.meta_prop kind) (lists.meta_prop kind)
+unfolding words.meta_prop lists.meta_prop
+meta_prop_prints env meta_props.NewTarget = then (prints_keyword env None (codes "new") new_is_word) (then (prints_punct env (codes ".") dot_is_mark) (prints_keyword env None (codes "target") target_is_word))
+meta_prop_prints env meta_props.ImportMeta = then (prints_keyword env None (codes "import") import_is_word) (then (prints_punct env (codes ".") dot_is_mark) (prints_keyword env None (codes "meta") meta_is_word))
+
+meta_prop_expr_prints : (env : Env) (n : MetaPropExpr) → Prints env (words.meta_prop_expr n) (lists.meta_prop_expr n)
+unfolding words.meta_prop_expr lists.meta_prop_expr
+meta_prop_expr_prints env n = after (writes_opened env n.span) (meta_prop_prints env n.kind)
+
+assign_prints : {X : Type 0} (l : Linked X) (n : AssignExpr X) → Prints l.env (words.assign l.items n) (lists.assign_expr l.reads n)
+unfolding words.assign lists.assign_expr
+assign_prints l n =
+    after (writes_leading l.env n.span.lo)
+    (then (l.law n.left.node.value Plain AssignmentTarget)
+    (after (writes_formatting_space l.env)
+    (then (assign_op_prints l.env n.op) (after (writes_formatting_space l.env) (expr_at l n.right Plain)))))
+
+yield_star_prints : (env : Env) (delegate : Bool) → Prints env (words.yield_star delegate) (cond delegate (mark (codes "*")) Nothing)
+unfolding words.yield_star
+yield_star_prints env true = prints_operator env (codes "*") star_is_mark
+yield_star_prints env false = prints_nothing
+
+yield_arg_prints : {X : Type 0} (l : Linked X) (delegate : Bool) (arg : Option (ExprBox X)) → Prints l.env (words.yield_arg l.asks l.items delegate arg) (lists.yield_arg l.reads arg)
+unfolding words.yield_arg lists.yield_arg
+yield_arg_prints l delegate None = prints_nothing
+yield_arg_prints l delegate (Some n) = after (writes_blank l.env (cond delegate false (l.asks n.node.value).starts)) (prints_bare (expr_at l n Plain))
+
+yield_prints : {X : Type 0} (l : Linked X) (n : YieldExpr X) → Prints l.env (words.yield_expr l.asks l.items n) (lists.yield_expr l.reads n)
+unfolding words.yield_expr lists.yield_expr
+yield_prints l n =
+    after (writes_opened l.env n.span)
+    (then (prints_keyword l.env None (codes "yield") yield_is_word) (then (yield_star_prints l.env n.delegate) (yield_arg_prints l n.delegate n.arg)))
+
+await_prints : {X : Type 0} (l : Linked X) (n : AwaitExpr X) → Prints l.env (words.await_expr l.items n) (lists.await_expr l.reads n)
+unfolding words.await_expr lists.await_expr
+await_prints l n = after (writes_opened l.env n.span) (then (prints_keyword l.env None (codes "await") await_is_word) (after (writes_space l.env) (expr_at l n.arg Plain)))
+
+pub spread_element_prints : {X : Type 0} (l : Linked X) (n : SpreadElement X) → Prints l.env (words.spread_element l.asks l.items n) (lists.spread_element l.reads n)
+unfolding words.spread_element lists.spread_element
+spread_element_prints l n =
+    let span : Span = spread_element_span (place_of l.asks) n in
+    after (writes_opened l.env span) (then (prints_punct l.env (codes "...") ellipsis_is_mark) (before (expr_at l n.expr Plain) (writes_position l.env span.hi)))
 
 cond_prints : {X : Type 0} (l : Linked X) (n : CondExpr X) → Prints l.env (words.choice l.items n) (lists.cond_expr l.reads n)
 unfolding words.choice lists.cond_expr
@@ -232,7 +396,7 @@ seq_prints : {X : Type 0} (l : Linked X) (n : SeqExpr X) → Prints l.env (words
 unfolding words.seq lists.seq_expr
 seq_prints l n = after (writes_opened l.env n.span) (some_listed_prints l.env (words.held l.items) (lists.expr_at l.reads) (λ x. expr_at l x Plain) n.exprs.items)
 
-paren_prints : {X : Type 0} (l : Linked X) (n : ParenExpr X) → Prints l.env (words.paren l.items n) (lists.paren_expr l.reads n)
+pub paren_prints : {X : Type 0} (l : Linked X) (n : ParenExpr X) → Prints l.env (words.paren l.items n) (lists.paren_expr l.reads n)
 unfolding words.paren lists.paren_expr
 paren_prints l n =
     after (writes_commit l.env)
@@ -248,21 +412,46 @@ lit_prints env (lits.Num n) (DottedObject prop) = prints_number_object env n pro
 lit_prints env (lits.JSXText n) place = prints_never
 lit_prints env n place = prints_lit env n
 
-parts_print : {X : Type 0} (l : Linked X) (n : Expr X) (place : Place) → Prints l.env (words.expr_parts l.asks l.items n place) (lists.expr l.reads n)
-unfolding words.expr_parts lists.expr
+parts_print : {X : Type 0} (l : Linked X) (n : Expr X) (place : Place) → Prints l.env (words.expr_parts l.asks l.items n place) (lists.expr_in l.reads (calls.keeps_arguments place) n)
+unfolding words.expr_parts lists.expr lists.expr_in
 parts_print l (exprs.This n) place = this_prints l.env n
+parts_print l (exprs.Array n) place = array_lit_prints l n
 parts_print l (exprs.Unary n) place = unary_prints l n
 parts_print l (exprs.Update n) place = update_prints l n
 parts_print l (exprs.Bin n) place = bin_prints l n place
+parts_print l (exprs.Assign n) place = assign_prints l n
 parts_print l (exprs.Member n) place = l.law n.node.value Plain MemberExpression
+parts_print l (exprs.SuperProp n) place = super_prop_expr_prints l n
 parts_print l (exprs.Cond n) place = cond_prints l n
+parts_print l (exprs.Call n) place = call_prints l n
+parts_print l (exprs.New n) place = new_prints l (calls.keeps_arguments place) n
 parts_print l (exprs.Seq n) place = seq_prints l n
 parts_print l (exprs.Ident n) place = ident_prints l n
 parts_print l (exprs.Lit n) place = lit_prints l.env n place
+parts_print l (exprs.Yield n) place = yield_prints l n
+parts_print l (exprs.MetaProp n) place = meta_prop_expr_prints l.env n
+parts_print l (exprs.Await n) place = await_prints l n
 parts_print l (exprs.Paren n) place = paren_prints l n
+parts_print l (exprs.OptChain n) place = opt_chain_prints l n
 parts_print l n place = prints_never
 
 -- the comments after it
-pub expr_prints : {X : Type 0} (l : Linked X) (n : Expr X) (place : Place) → Prints l.env (words.expr l.asks l.items n place) (lists.expr l.reads n)
+expr_prints : {X : Type 0} (l : Linked X) (n : Expr X) (place : Place) → Prints l.env (words.expr l.asks l.items n place) (lists.expr_in l.reads (calls.keeps_arguments place) n)
 unfolding words.expr
 expr_prints l n place = before (parts_print l n place) (writes_closed l.env (words.leaves_comments n place) (expr_span (place_of l.asks) n))
+
+-- where it is no callee, and where it is one
+plain_same : {X : Type 0} (f : X → Role → Phrase) (n : Expr X) → lists.expr_in f false n ≡ lists.expr f n
+unfolding lists.expr_in lists.expr
+plain_same f (exprs.New n) = refl
+plain_same f n = refl
+
+pub plain_expr_prints : {X : Type 0} (l : Linked X) (n : Expr X) (place : Place) → calls.keeps_arguments place ≡ false → Prints l.env (words.expr l.asks l.items n place) (lists.expr l.reads n)
+plain_expr_prints l n place h =
+    let P : Phrase → Type 0 = λ f. Prints l.env (words.expr l.asks l.items n place) f in
+    subst P (ap (λ b. lists.expr_in l.reads b n) h ∙ plain_same l.reads n) (expr_prints l n place)
+
+pub callee_expr_prints : {X : Type 0} (l : Linked X) (n : Expr X) (place : Place) → calls.keeps_arguments place ≡ true → Prints l.env (words.expr l.asks l.items n place) (lists.expr_in l.reads true n)
+callee_expr_prints l n place h =
+    let P : Phrase → Type 0 = λ f. Prints l.env (words.expr l.asks l.items n place) f in
+    subst P (ap (λ b. lists.expr_in l.reads b n) h) (expr_prints l n place)

@@ -1,5 +1,5 @@
 -- How the text of a node begins, by the first token of its lists.
-use Rattle.std.proofs.Common.{◌≡◌, ℕ, Bool, true, false, cond, List, [], ◌∷◌, ◌++◌, map, codes, refl, sym, ap, ◌∙◌, subst, Option, Some, None}
+use Rattle.std.proofs.Common.{◌≡◌, ℕ, Bool, true, false, cond, List, [], ◌∷◌, ◌++◌, map, codes, refl, sym, ap, ◌∙◌, subst, is_some, Option, Some, None}
 use Rattle.std.specs.declared.string.String.{String}
 use Rattle.std.proofs.lemmas.Bool.{true≢false}
 use denote.Hole.Holds.{Such}
@@ -13,6 +13,20 @@ use Rattle.swc_ecma_codegen_tree.specs.declared.links.AnyNode.TheFolds.{claims}
 use Rattle.swc_ecma_codegen_tree.specs.declared.expr_links.ExprBox.{ExprBox}
 use Rattle.swc_ecma_codegen_tree.specs.declared.exprs.Expr.{Expr}
 use Rattle.swc_ecma_codegen_tree.specs.declared.exprs.Expr.TheVariants as exprs
+use Rattle.swc_ecma_codegen_tree.specs.declared.exprs.Callee.{Callee}
+use Rattle.swc_ecma_codegen_tree.specs.declared.exprs.Callee.TheVariants as callees
+use Rattle.swc_ecma_codegen_tree.specs.declared.exprs.NewExpr.{NewExpr}
+use Rattle.swc_ecma_codegen_tree.specs.declared.exprs.OptChainBase.{OptChainBase}
+use Rattle.swc_ecma_codegen_tree.specs.declared.exprs.OptChainBase.TheVariants as chain_bases
+use Rattle.swc_ecma_codegen_tree.specs.declared.exprs.MetaPropKind.{MetaPropKind}
+use Rattle.swc_ecma_codegen_tree.specs.declared.exprs.MetaPropKind.TheVariants as meta_props
+use Rattle.swc_ecma_codegen_tree.specs.declared.idents.Ident.{Ident}
+use Rattle.swc_ecma_codegen_tree.specs.declared.parts.ExprPart.{ExprPart}
+use Rattle.swc_ecma_codegen_tree.specs.declared.parts.ExprPart.TheVariants as expr_parts
+use Rattle.swc_ecma_codegen_tree.specs.declared.pats.AssignTarget.{AssignTarget}
+use Rattle.swc_ecma_codegen_tree.specs.declared.pats.AssignTarget.TheVariants as targets
+use Rattle.swc_ecma_codegen_tree.specs.declared.pats.SimpleAssignTarget.{SimpleAssignTarget}
+use Rattle.swc_ecma_codegen_tree.specs.declared.pats.SimpleAssignTarget.TheVariants as simple_targets
 use Rattle.swc_ecma_codegen_common.specs.declared.decimals.Decimal.{Decimal}
 use Rattle.swc_ecma_codegen_tree.specs.declared.lits.Lit.{Lit}
 use Rattle.swc_ecma_codegen_tree.specs.declared.lits.Lit.TheVariants as lits
@@ -25,22 +39,26 @@ use Rattle.swc_ecma_codegen_ast.specs.Tokens as tokens
 use Rattle.swc_ecma_codegen_common.specs.declared.positions.BytePos.{BytePos}
 use Rattle.swc_ecma_codegen_ast.specs.Phrases.{Phrase, Never, One, NameOf, Then, Generates, ◌>◌, mark}
 use Rattle.swc_ecma_codegen_ast.specs.Phrases as phrases
+use Rattle.swc_ecma_codegen_ast.specs.Settings.{Settings}
 use Rattle.swc_ecma_codegen_ast.specs.declared.roles.Role.{Role}
-use Rattle.swc_ecma_codegen_ast.specs.declared.roles.Role.TheVariants.{Expression, Statement, MemberExpression}
+use Rattle.swc_ecma_codegen_ast.specs.declared.roles.Role.TheVariants.{Expression, Callee as IsCallee, Statement, MemberExpression, ChainMember, ChainCall, AssignmentTarget}
 use Rattle.swc_ecma_codegen_ast.specs.NamePhrases as names
 use Rattle.swc_ecma_codegen_ast.specs.ExprPhrases as lists
 use Rattle.swc_ecma_codegen_ast.specs.LitPhrases as lit_lists
+use Rattle.swc_ecma_codegen_ast.specs.AssignPhrases as target_lists
+use Rattle.swc_ecma_codegen_ast.specs.CallPhrases as call_lists
+use Rattle.swc_ecma_codegen_ast.specs.PartPhrases as part_lists
 use Rattle.swc_ecma_codegen_ast.specs.StmtPhrases as stmt_lists
 use Rattle.swc_ecma_codegen_ast.specs.TreePhrases.{node_phrase, phrase, expr_phrase}
 use Rattle.swc_ecma_codegen_ast.proofs.TreeLaws.{phrase_of}
-use Rattle.swc_ecma_codegen_util.specs.Starts.{is_word_op, lit_starts, update_starts, first_starts, expr_starts, stmt_starts, node_starts, any_starts}
+use Rattle.swc_ecma_codegen_util.specs.Starts.{is_word_op, lit_starts, update_starts, first_starts, callee_starts, chain_starts, expr_starts, simple_target_starts, target_starts, expr_part_starts, stmt_starts, node_starts, any_starts}
 use Rattle.swc_ecma_codegen_util.proofs.Begins.{starts_of}
 use Rattle.swc_ecma_codegen.specs.FirstTokens.{joins_a_word}
 
 -- No list of a phrase is empty, and where one begins with a word, a name or a number, b is true.
 record Begins (f : Phrase) (b : Bool) : Type 0 where
-  some : Generates f [] → ⊥
-  told : (x : Token) (xs : List Token) → Generates f (x ∷ xs) → joins_a_word x.kind ≡ true → b ≡ true
+  some : (s : Settings) → Generates s f [] → ⊥
+  told : (s : Settings) (x : Token) (xs : List Token) → Generates s f (x ∷ xs) → joins_a_word x.kind ≡ true → b ≡ true
 
 first_of : Token → List Token → Token
 first_of d [] = d
@@ -54,47 +72,47 @@ nothing_first : (y : Token) (ys : List Token) → [] ≡ y ∷ ys → ⊥
 nothing_first y ys e = cc
 
 -- a phrase begins as its first part does
-then_some : (f g : Phrase) (b : Bool) → Begins f b → (us vs : List Token) → Generates f us → [] ≡ us ++ vs → ⊥
-then_some f g b h [] vs k e = h.some k
-then_some f g b h (u ∷ us) vs k e = nothing_first u (us ++ vs) e
+then_some : (f g : Phrase) (b : Bool) → Begins f b → (s : Settings) (us vs : List Token) → Generates s f us → [] ≡ us ++ vs → ⊥
+then_some f g b h s [] vs k e = h.some s k
+then_some f g b h s (u ∷ us) vs k e = nothing_first u (us ++ vs) e
 
-then_told : (f g : Phrase) (b : Bool) → Begins f b → (x : Token) (xs us vs : List Token) → Generates f us → x ∷ xs ≡ us ++ vs → joins_a_word x.kind ≡ true → b ≡ true
-then_told f g b h x xs [] vs k e j = absurd (h.some k)
-then_told f g b h x xs (u ∷ us) vs k e j = h.told u us k (subst (λ (z : Token). joins_a_word z.kind ≡ true) (same_first x u xs (us ++ vs) e) j)
+then_told : (f g : Phrase) (b : Bool) → Begins f b → (s : Settings) (x : Token) (xs us vs : List Token) → Generates s f us → x ∷ xs ≡ us ++ vs → joins_a_word x.kind ≡ true → b ≡ true
+then_told f g b h s x xs [] vs k e j = absurd (h.some s k)
+then_told f g b h s x xs (u ∷ us) vs k e j = h.told s u us k (subst (λ (z : Token). joins_a_word z.kind ≡ true) (same_first x u xs (us ++ vs) e) j)
 
 begins_then : (f g : Phrase) (b : Bool) → Begins f b → Begins (Then f g) b
 unfolding Generates
 begins_then f g b h = record {
-  some = λ k. then_some f g b h k.0 k.1 k.2 k.4;
-  told = λ x xs k j. then_told f g b h x xs k.0 k.1 k.2 k.4 j;
+  some = λ s k. then_some f g b h s k.0 k.1 k.2 k.4;
+  told = λ s x xs k j. then_told f g b h s x xs k.0 k.1 k.2 k.4 j;
 }
 
 -- a punctuator is no word, and what begins with a word is said to
 begins_mark : (t : List ℕ) (b : Bool) → Begins (mark t) b
 unfolding Generates tokens.punctuator joins_a_word
 begins_mark t b = record {
-  some = λ k. nothing_first _ [] k;
-  told = λ x xs k j. absurd (true≢false (sym j ∙ ap (λ (z : Token). joins_a_word z.kind) (same_first x (tokens.punctuator t) xs [] k)));
+  some = λ s k. nothing_first _ [] k;
+  told = λ s x xs k j. absurd (true≢false (sym j ∙ ap (λ (z : Token). joins_a_word z.kind) (same_first x (tokens.punctuator t) xs [] k)));
 }
 
 begins_true : (x : Token) → Begins (One x) true
 unfolding Generates
-begins_true x = record { some = λ k. nothing_first x [] k; told = λ y ys k j. refl }
+begins_true x = record { some = λ s k. nothing_first x [] k; told = λ s y ys k j. refl }
 
 begins_name : (at : BytePos) (bytes : List ℕ) → Begins (NameOf at bytes) true
 unfolding Generates
-begins_name at bytes = record { some = λ k. nothing_first _ [] k; told = λ y ys k j. refl }
+begins_name at bytes = record { some = λ s k. nothing_first _ [] k; told = λ s y ys k j. refl }
 
 begins_never : (b : Bool) → Begins Never b
 unfolding Generates
-begins_never b = record { some = λ k. k; told = λ y ys k j. absurd k }
+begins_never b = record { some = λ s k. k; told = λ s y ys k j. absurd k }
 
 -- a token that is no word begins as it likes
 begins_other : (x : Token) (b : Bool) → joins_a_word x.kind ≡ false → Begins (One x) b
 unfolding Generates
 begins_other x b e = record {
-  some = λ k. nothing_first x [] k;
-  told = λ y ys k j. absurd (true≢false (sym j ∙ ap (λ (z : Token). joins_a_word z.kind) (same_first y x ys [] k) ∙ e));
+  some = λ s k. nothing_first x [] k;
+  told = λ s y ys k j. absurd (true≢false (sym j ∙ ap (λ (z : Token). joins_a_word z.kind) (same_first y x ys [] k) ∙ e));
 }
 
 begins_where : (c : Bool) (f : Phrase) (b : Bool) → Begins f b → Begins (phrases.where_ c f) b
@@ -162,19 +180,57 @@ unfolding phrases.some_listed first_starts
 seq_begins reads starts law [] = begins_never false
 seq_begins reads starts law (x ∷ xs) = begins_then _ _ _ (law x.node.value Expression)
 
+meta_prop_begins : (kind : MetaPropKind) → Begins (lists.meta_prop kind) true
+unfolding lists.meta_prop
+meta_prop_begins meta_props.NewTarget = begins_then _ _ _ (begins_true _)
+meta_prop_begins meta_props.ImportMeta = begins_then _ _ _ (begins_true _)
+
+chain_begins : {X : Type 0} (reads : X → Role → Phrase) (starts : X → Bool) → Begin reads starts → (optional : Bool) (n : OptChainBase X) → Begins (lists.chain_base reads optional n) (chain_starts starts n)
+unfolding lists.chain_base chain_starts
+chain_begins reads starts law optional (chain_bases.Member n) = law n.node.value (ChainMember optional)
+chain_begins reads starts law optional (chain_bases.Call n) = law n.node.value (ChainCall optional)
+
+unless_begins : (typed : Bool) (f : Phrase) (b : Bool) → Begins f b → Begins (cond typed Never f) b
+unless_begins true f b h = begins_never b
+unless_begins false f b h = h
+
+callee_begins : {X : Type 0} (reads : X → Role → Phrase) (starts : X → Bool) → Begin reads starts → (n : Callee X) → Begins (call_lists.callee reads n) (callee_starts starts n)
+unfolding call_lists.callee call_lists.import_callee callee_starts
+callee_begins reads starts law (callees.Super n) = begins_true _
+callee_begins reads starts law (callees.Import n) = begins_then _ _ _ (begins_true _)
+callee_begins reads starts law (callees.Expr n) = law n.node.value IsCallee
+
+new_begins : {X : Type 0} (reads : X → Role → Phrase) (keeps : Bool) (n : NewExpr X) → Begins (call_lists.new_expr reads keeps n) true
+unfolding call_lists.new_expr
+new_begins reads keeps n = unless_begins (is_some n.type_args) _ true (begins_then _ _ _ (begins_true _))
+
 expr_begins : {X : Type 0} (reads : X → Role → Phrase) (starts : X → Bool) → Begin reads starts → (n : Expr X) → Begins (lists.expr reads n) (expr_starts starts n)
-unfolding expr_starts update_starts lists.expr lists.this_expr lists.unary_expr lists.update_expr lists.update_op lists.bin_expr lists.cond_expr lists.seq_expr lists.paren_expr names.ident
+unfolding expr_starts update_starts lists.expr lists.this_expr lists.unary_expr lists.update_expr lists.update_op lists.bin_expr lists.assign_expr lists.super_prop_expr lists.yield_expr lists.meta_prop_expr lists.await_expr lists.opt_chain_expr call_lists.array_lit call_lists.call_expr lists.cond_expr lists.seq_expr lists.paren_expr names.ident
 expr_begins reads starts law (exprs.This n) = begins_true _
+expr_begins reads starts law (exprs.Array n) = begins_then _ _ _ (begins_mark _ false)
 expr_begins reads starts law (exprs.Unary n) = begins_then _ _ _ (begins_unary n.op)
 expr_begins reads starts law (exprs.Update n) = begins_update n.prefix (update_text n.op) _ _ (law n.arg.node.value Expression)
 expr_begins reads starts law (exprs.Bin n) = begins_then _ _ _ (law n.left.node.value Expression)
+expr_begins reads starts law (exprs.Assign n) = begins_then _ _ _ (law n.left.node.value AssignmentTarget)
 expr_begins reads starts law (exprs.Member n) = law n.node.value MemberExpression
+expr_begins reads starts law (exprs.SuperProp n) = begins_then _ _ _ (begins_true _)
 expr_begins reads starts law (exprs.Cond n) = begins_then _ _ _ (law n.test.node.value Expression)
+expr_begins reads starts law (exprs.Call n) = unless_begins (is_some n.type_args) _ _ (begins_then _ _ _ (callee_begins reads starts law n.callee))
+expr_begins reads starts law (exprs.New n) = new_begins reads false n
 expr_begins reads starts law (exprs.Seq n) = seq_begins reads starts law n.exprs.items
 expr_begins reads starts law (exprs.Ident n) = begins_then _ _ _ (begins_name _ _)
 expr_begins reads starts law (exprs.Lit n) = begins_lit n
+expr_begins reads starts law (exprs.Yield n) = begins_then _ _ _ (begins_true _)
+expr_begins reads starts law (exprs.MetaProp n) = meta_prop_begins n.kind
+expr_begins reads starts law (exprs.Await n) = begins_then _ _ _ (begins_true _)
 expr_begins reads starts law (exprs.Paren n) = begins_then _ _ _ (begins_mark _ false)
+expr_begins reads starts law (exprs.OptChain n) = chain_begins reads starts law n.optional n.base
 expr_begins reads starts law n = begins_never _
+
+callee_expr_begins : {X : Type 0} (reads : X → Role → Phrase) (starts : X → Bool) → Begin reads starts → (n : Expr X) → Begins (lists.expr_in reads true n) (expr_starts starts n)
+unfolding lists.expr_in expr_starts
+callee_expr_begins reads starts law (exprs.New n) = new_begins reads true n
+callee_expr_begins reads starts law n = expr_begins reads starts law n
 
 stmt_begins : {X : Type 0} (reads : X → Role → Phrase) (starts : X → Bool) → Begin reads starts → (n : Stmt X) → Begins (stmt_lists.stmt reads n) (stmt_starts starts n)
 unfolding stmt_starts stmt_lists.stmt stmt_lists.empty_stmt stmt_lists.expr_stmt
@@ -182,11 +238,39 @@ stmt_begins reads starts law (stmts.Empty n) = begins_mark _ false
 stmt_begins reads starts law (stmts.Expr n) = begins_then _ _ _ (law n.expr.node.value Expression)
 stmt_begins reads starts law n = begins_never _
 
+binding_begins : (typed : Bool) (id : Ident) → Begins (cond typed Never (names.ident id)) true
+unfolding names.ident
+binding_begins true id = begins_never true
+binding_begins false id = begins_then _ _ _ (begins_name _ _)
+
+simple_target_begins : {X : Type 0} (reads : X → Role → Phrase) (starts : X → Bool) → Begin reads starts → (n : SimpleAssignTarget X) → Begins (target_lists.simple_assign_target reads n) (simple_target_starts starts n)
+unfolding simple_target_starts target_lists.simple_assign_target names.binding_ident lists.super_prop_expr lists.paren_expr lists.opt_chain_expr
+simple_target_begins reads starts law (simple_targets.Ident n) = binding_begins (is_some n.type_ann) n.id
+simple_target_begins reads starts law (simple_targets.Member n) = law n.node.value MemberExpression
+simple_target_begins reads starts law (simple_targets.SuperProp n) = begins_then _ _ _ (begins_true _)
+simple_target_begins reads starts law (simple_targets.Paren n) = begins_then _ _ _ (begins_mark _ false)
+simple_target_begins reads starts law (simple_targets.OptChain n) = chain_begins reads starts law n.optional n.base
+simple_target_begins reads starts law n = begins_never _
+
+target_begins : {X : Type 0} (reads : X → Role → Phrase) (starts : X → Bool) → Begin reads starts → (n : AssignTarget X) → Begins (target_lists.assign_target reads n) (target_starts starts n)
+unfolding target_starts target_lists.assign_target
+target_begins reads starts law (targets.Simple n) = simple_target_begins reads starts law n
+target_begins reads starts law n = begins_never _
+
+part_begins : {X : Type 0} (reads : X → Role → Phrase) (starts : X → Bool) → Begin reads starts → (n : ExprPart X) (role : Role) → Begins (part_lists.expr_part reads n role) (expr_part_starts starts n)
+unfolding part_lists.expr_part expr_part_starts call_lists.chain_call
+part_begins reads starts law (expr_parts.OptCall n) (ChainCall optional) = unless_begins (is_some n.type_args) _ _ (begins_then _ _ _ (law n.callee.node.value IsCallee))
+part_begins reads starts law (expr_parts.AssignTarget n) AssignmentTarget = target_begins reads starts law n
+part_begins reads starts law n role = begins_never _
+
 node_begins : {X : Type 0} (reads : X → Role → Phrase) (starts : X → Bool) → Begin reads starts → (n : AnyNode-F X) (role : Role) → Begins (node_phrase reads n role) (node_starts starts n)
-unfolding node_phrase node_starts lists.member_expr
+unfolding node_phrase node_starts lists.member_expr lists.chain_member
 node_begins reads starts law (nodes.Expr n) Expression = expr_begins reads starts law n
+node_begins reads starts law (nodes.Expr n) IsCallee = callee_expr_begins reads starts law n
 node_begins reads starts law (nodes.Stmt n) Statement = stmt_begins reads starts law n
-node_begins reads starts law (nodes.MemberExpr n) MemberExpression = begins_then _ _ _ (law n.obj.node.value Expression)
+node_begins reads starts law (nodes.MemberExpr n) MemberExpression = begins_then _ _ _ (law n.obj.node.value IsCallee)
+node_begins reads starts law (nodes.MemberExpr n) (ChainMember optional) = begins_then _ _ _ (law n.obj.node.value IsCallee)
+node_begins reads starts law (nodes.ExprPart n) role = part_begins reads starts law n role
 node_begins reads starts law n role = begins_never _
 
 -- ---- whole nodes
@@ -206,5 +290,5 @@ begins = ind-AnyNode Law (λ x y q. subst (λ z. Law (roll-AnyNode z)) q (λ rol
     (node_begins {X = Child} (λ z. phrase z.0) (λ z. any_starts z.0) (λ z. z.1) y role)))
 
 -- Where an expression begins with a word, a name or a number, it is said to begin with a character of a name.
-pub first_told : (n : Expr AnyNode) (x : Token) (xs : List Token) → Generates (expr_phrase n) (x ∷ xs) → joins_a_word x.kind ≡ true → expr_starts any_starts n ≡ true
-first_told n x xs k j = (expr_begins phrase any_starts begins n).told x xs k j
+pub first_told : (n : Expr AnyNode) (s : Settings) (x : Token) (xs : List Token) → Generates s (expr_phrase n) (x ∷ xs) → joins_a_word x.kind ≡ true → expr_starts any_starts n ≡ true
+first_told n s x xs k j = (expr_begins phrase any_starts begins n).told s x xs k j

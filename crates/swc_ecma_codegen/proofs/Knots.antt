@@ -1,5 +1,5 @@
 -- What is written of whole nodes.
-use Rattle.std.proofs.Common.{◌≡◌, List, [], ◌∷◌, Bool, true, false, map, refl, sym, ◌∙◌, ap}
+use Rattle.std.proofs.Common.{◌≡◌, List, [], ◌∷◌, Bool, true, false, map, refl, sym, ◌∙◌, ap, Option, Some, None}
 use Rattle.swc_ecma_codegen_tree.specs.declared.links.AnyNode.{AnyNode, AnyNode-F, map-AnyNode, roll-AnyNode, out-AnyNode}
 use Rattle.swc_ecma_codegen_tree.specs.declared.links.AnyNode.TheOpen as nodes
 use Rattle.swc_ecma_codegen_tree.specs.declared.links.AnyNode.TheViews.{roll-out-AnyNode}
@@ -14,15 +14,35 @@ use Rattle.swc_ecma_codegen_tree.specs.declared.expr_links.ExprBox.{ExprBox}
 use Rattle.swc_ecma_codegen_common.specs.declared.positions.Span.{Span}
 use Rattle.swc_ecma_codegen_tree.specs.declared.exprs.MemberProp.{MemberProp}
 use Rattle.swc_ecma_codegen_tree.specs.declared.exprs.MemberProp.TheVariants as member_props
+use Rattle.swc_ecma_codegen_tree.specs.declared.exprs.SuperPropExpr.{SuperPropExpr}
+use Rattle.swc_ecma_codegen_tree.specs.declared.exprs.SuperProp.{SuperProp}
+use Rattle.swc_ecma_codegen_tree.specs.declared.exprs.SuperProp.TheVariants as super_props
+use Rattle.swc_ecma_codegen_tree.specs.declared.exprs.OptChainExpr.{OptChainExpr}
+use Rattle.swc_ecma_codegen_tree.specs.declared.exprs.OptChainBase.{OptChainBase}
+use Rattle.swc_ecma_codegen_tree.specs.declared.exprs.OptChainBase.TheVariants as chain_bases
+use Rattle.swc_ecma_codegen_tree.specs.declared.exprs.YieldExpr.{YieldExpr}
+use Rattle.swc_ecma_codegen_tree.specs.declared.idents.Ident.{Ident}
+use Rattle.swc_ecma_codegen_tree.specs.declared.ts_links.TsTypeAnnBox.{TsTypeAnnBox}
+use Rattle.swc_ecma_codegen_tree.specs.declared.parts.ExprPart.{ExprPart}
+use Rattle.swc_ecma_codegen_tree.specs.declared.parts.ExprPart.TheVariants as expr_parts
+use Rattle.swc_ecma_codegen_tree.specs.declared.pats.AssignTarget.{AssignTarget}
+use Rattle.swc_ecma_codegen_tree.specs.declared.pats.AssignTarget.TheVariants as targets
+use Rattle.swc_ecma_codegen_tree.specs.declared.pats.SimpleAssignTarget.{SimpleAssignTarget}
+use Rattle.swc_ecma_codegen_tree.specs.declared.pats.SimpleAssignTarget.TheVariants as simple_targets
 use Rattle.swc_ecma_codegen_spans.specs.Spans.{expr_span, stmt_span}
 use Rattle.swc_ecma_codegen_base.specs.Run.{Plan, Part, refuse}
 use Rattle.swc_ecma_codegen_base.specs.Words.{trailing_comments}
 use Rattle.swc_ecma_codegen.specs.declared.nodes.Place.{Place}
+use Rattle.swc_ecma_codegen.specs.declared.nodes.Place.TheVariants.{Chain}
 use Rattle.swc_ecma_codegen.specs.Answers.{Answers, any_answers}
 use Rattle.swc_ecma_codegen.specs.Lists.{comma, listed, unsupported}
-use Rattle.swc_ecma_codegen.specs.Exprs.{this, unary, update, update_parts, bin, bin_trailing, member, member_prop, object_place, computed_prop_name, choice, seq, held, paren, ident, opened, expr_parts, expr_closed, leaves_comments, expr}
+use Rattle.swc_ecma_codegen.specs.Exprs.{this, unary, update, update_parts, bin, bin_trailing, member, member_at, member_prop, object_place, computed_prop_name, super_prop, super_prop_expr, chain_mark, chain_prop, chain_member, chain_base, opt_chain, meta_prop_expr, assign, yield_arg, yield_expr, await_expr, choice, seq, held, paren, ident, opened, expr_parts, expr_closed, leaves_comments, expr}
+use Rattle.swc_ecma_codegen.specs.Names.{binding_ident}
+use Rattle.swc_ecma_codegen.specs.Targets.{simple_assign_target, assign_target}
+use Rattle.swc_ecma_codegen.specs.Parts.{expr_part}
 use Rattle.swc_ecma_codegen.specs.Stmts.{empty_stmt, expr_stmt, stmt_parts, stmt}
 use Rattle.swc_ecma_codegen.specs.Tree.{node_items, any_items}
+use Rattle.swc_ecma_codegen.proofs.CallKnots.{array_lit_mapped, call_mapped, new_mapped, chain_call_mapped}
 
 -- ---- a word sees what links hold through `asks` and `items` alone
 
@@ -31,15 +51,42 @@ unfolding listed
 listed_mapped g e d same first [] rest = refl
 listed_mapped g e d same first (x ∷ xs) rest = ap (λ part. comma first (part (listed e false (map g xs) rest))) (same x) ∙ ap (λ after. comma first (d x after)) (listed_mapped g e d same false xs rest)
 
-member_mapped : {X Y : Type 0} (g : X → Y) (asks : Y → Answers) (items : Y → Place → Part) (span : Span) (obj : ExprBox X) (prop : MemberProp X) (place : Place) (rest : Plan) → node_items asks items (map-AnyNode X Y g (nodes.MemberExpr (record { span = span; obj = obj; prop = prop }))) place rest ≡ member (λ x. items (g x)) (record { span = span; obj = obj; prop = prop }) rest
-unfolding node_items member member_prop object_place computed_prop_name unsupported refuse
+member_mapped : {X Y : Type 0} (g : X → Y) (asks : Y → Answers) (items : Y → Place → Part) (span : Span) (obj : ExprBox X) (prop : MemberProp X) (place : Place) (rest : Plan) → node_items asks items (map-AnyNode X Y g (nodes.MemberExpr (record { span = span; obj = obj; prop = prop }))) place rest ≡ member_at (λ x. items (g x)) (record { span = span; obj = obj; prop = prop }) place rest
+unfolding node_items member_at member member_prop object_place computed_prop_name chain_member chain_mark chain_prop unsupported refuse
+member_mapped g asks items span obj (member_props.Ident n) (Chain true) rest = refl
+member_mapped g asks items span obj (member_props.Ident n) (Chain false) rest = refl
 member_mapped g asks items span obj (member_props.Ident n) place rest = refl
+member_mapped g asks items span obj (member_props.Computed n) (Chain true) rest = refl
+member_mapped g asks items span obj (member_props.Computed n) (Chain false) rest = refl
 member_mapped g asks items span obj (member_props.Computed n) place rest = refl
+member_mapped g asks items span obj n (Chain true) rest = refl
+member_mapped g asks items span obj n (Chain false) rest = refl
 member_mapped g asks items span obj n place rest = refl
 
+super_mapped : {X Y : Type 0} (g : X → Y) (asks : Y → Answers) (items : Y → Place → Part) (n : SuperPropExpr X) (prop : SuperProp X) (place : Place) (rest : Plan) → node_items asks items (map-AnyNode X Y g (nodes.Expr (exprs.SuperProp (record n { prop = prop })))) place rest ≡ expr (λ x. asks (g x)) (λ x. items (g x)) (exprs.SuperProp (record n { prop = prop })) place rest
+unfolding node_items expr expr_parts expr_closed expr_span leaves_comments super_prop_expr super_prop computed_prop_name
+super_mapped g asks items n (super_props.Ident p) place rest = refl
+super_mapped g asks items n (super_props.Computed p) place rest = refl
+
+chain_mapped : {X Y : Type 0} (g : X → Y) (asks : Y → Answers) (items : Y → Place → Part) (n : OptChainExpr X) (base : OptChainBase X) (place : Place) (rest : Plan) → node_items asks items (map-AnyNode X Y g (nodes.Expr (exprs.OptChain (record n { base = base })))) place rest ≡ expr (λ x. asks (g x)) (λ x. items (g x)) (exprs.OptChain (record n { base = base })) place rest
+unfolding node_items expr expr_parts expr_closed expr_span leaves_comments opt_chain chain_base unsupported refuse
+chain_mapped g asks items n (chain_bases.Member b) place rest = refl
+chain_mapped g asks items n (chain_bases.Call b) place rest = refl
+
+yield_mapped : {X Y : Type 0} (g : X → Y) (asks : Y → Answers) (items : Y → Place → Part) (n : YieldExpr X) (arg : Option (ExprBox X)) (place : Place) (rest : Plan) → node_items asks items (map-AnyNode X Y g (nodes.Expr (exprs.Yield (record n { arg = arg })))) place rest ≡ expr (λ x. asks (g x)) (λ x. items (g x)) (exprs.Yield (record n { arg = arg })) place rest
+unfolding node_items expr expr_parts expr_closed expr_span leaves_comments yield_expr yield_arg
+yield_mapped g asks items n None place rest = refl
+yield_mapped g asks items n (Some x) place rest = refl
+
 expr_mapped : {X Y : Type 0} (g : X → Y) (asks : Y → Answers) (items : Y → Place → Part) (n : Expr X) (place : Place) (rest : Plan) → node_items asks items (map-AnyNode X Y g (nodes.Expr n)) place rest ≡ expr (λ x. asks (g x)) (λ x. items (g x)) n place rest
-unfolding node_items expr expr_parts expr_closed expr_span leaves_comments unsupported refuse this unary update update_parts bin bin_trailing choice seq paren ident
+unfolding node_items expr expr_parts expr_closed expr_span leaves_comments unsupported refuse this unary update update_parts bin bin_trailing assign meta_prop_expr await_expr choice seq paren ident
 expr_mapped {X} g asks items (exprs.Seq n) place rest = ap (opened n.span) (listed_mapped {A = ExprBox X} _ (held items) (held (λ x. items (g x))) (λ x. refl) true n.exprs.items (trailing_comments true n.span.hi rest))
+expr_mapped g asks items (exprs.Array n) place rest = array_lit_mapped g asks items n place rest
+expr_mapped g asks items (exprs.Call n) place rest = call_mapped g asks items n place rest
+expr_mapped g asks items (exprs.New n) place rest = new_mapped g asks items n place rest
+expr_mapped g asks items (exprs.SuperProp n) place rest = super_mapped g asks items n n.prop place rest
+expr_mapped g asks items (exprs.OptChain n) place rest = chain_mapped g asks items n n.base place rest
+expr_mapped g asks items (exprs.Yield n) place rest = yield_mapped g asks items n n.arg place rest
 expr_mapped g asks items n place rest = refl
 
 stmt_mapped : {X Y : Type 0} (g : X → Y) (asks : Y → Answers) (items : Y → Place → Part) (n : Stmt X) (place : Place) (rest : Plan) → node_items asks items (map-AnyNode X Y g (nodes.Stmt n)) place rest ≡ stmt (λ x. asks (g x)) (λ x. items (g x)) n rest
@@ -47,11 +94,49 @@ unfolding node_items stmt stmt_parts stmt_span empty_stmt expr_stmt unsupported 
 stmt_mapped g asks items (stmts.Empty n) place rest = refl
 stmt_mapped g asks items n place rest = refl
 
+-- a target of an assignment, as a part that a link holds
+abbrev as_target : {X : Type 0} → SimpleAssignTarget X → AnyNode-F X
+as_target n = nodes.ExprPart (expr_parts.AssignTarget (targets.Simple n))
+
+binding_target_mapped : {X Y : Type 0} (g : X → Y) (asks : Y → Answers) (items : Y → Place → Part) (id : Ident) (type_ann : Option (TsTypeAnnBox X)) (place : Place) (rest : Plan) → node_items asks items (map-AnyNode X Y g (as_target (simple_targets.Ident (record { id = id; type_ann = type_ann })))) place rest ≡ binding_ident {X = X} (record { id = id; type_ann = type_ann }) rest
+unfolding node_items expr_part assign_target simple_assign_target binding_ident
+binding_target_mapped g asks items id None place rest = refl
+binding_target_mapped g asks items id (Some x) place rest = refl
+
+super_target_mapped : {X Y : Type 0} (g : X → Y) (asks : Y → Answers) (items : Y → Place → Part) (n : SuperPropExpr X) (prop : SuperProp X) (place : Place) (rest : Plan) → node_items asks items (map-AnyNode X Y g (as_target (simple_targets.SuperProp (record n { prop = prop })))) place rest ≡ super_prop_expr (λ x. items (g x)) (record n { prop = prop }) rest
+unfolding node_items expr_part assign_target simple_assign_target super_prop_expr super_prop computed_prop_name
+super_target_mapped g asks items n (super_props.Ident p) place rest = refl
+super_target_mapped g asks items n (super_props.Computed p) place rest = refl
+
+chain_target_mapped : {X Y : Type 0} (g : X → Y) (asks : Y → Answers) (items : Y → Place → Part) (n : OptChainExpr X) (base : OptChainBase X) (place : Place) (rest : Plan) → node_items asks items (map-AnyNode X Y g (as_target (simple_targets.OptChain (record n { base = base })))) place rest ≡ opt_chain (λ x. items (g x)) (record n { base = base }) rest
+unfolding node_items expr_part assign_target simple_assign_target opt_chain chain_base unsupported refuse
+chain_target_mapped g asks items n (chain_bases.Member b) place rest = refl
+chain_target_mapped g asks items n (chain_bases.Call b) place rest = refl
+
+simple_target_mapped : {X Y : Type 0} (g : X → Y) (asks : Y → Answers) (items : Y → Place → Part) (n : SimpleAssignTarget X) (place : Place) (rest : Plan) → node_items asks items (map-AnyNode X Y g (as_target n)) place rest ≡ simple_assign_target (λ x. items (g x)) n rest
+unfolding node_items expr_part assign_target simple_assign_target paren unsupported refuse
+simple_target_mapped g asks items (simple_targets.Ident n) place rest = binding_target_mapped g asks items n.id n.type_ann place rest
+simple_target_mapped g asks items (simple_targets.SuperProp n) place rest = super_target_mapped g asks items n n.prop place rest
+simple_target_mapped g asks items (simple_targets.OptChain n) place rest = chain_target_mapped g asks items n n.base place rest
+simple_target_mapped g asks items n place rest = refl
+
+target_mapped : {X Y : Type 0} (g : X → Y) (asks : Y → Answers) (items : Y → Place → Part) (n : AssignTarget X) (place : Place) (rest : Plan) → node_items asks items (map-AnyNode X Y g (nodes.ExprPart (expr_parts.AssignTarget n))) place rest ≡ assign_target (λ x. items (g x)) n rest
+unfolding node_items expr_part assign_target unsupported refuse
+target_mapped g asks items (targets.Simple n) place rest = simple_target_mapped g asks items n place rest
+target_mapped g asks items n place rest = refl
+
+part_mapped : {X Y : Type 0} (g : X → Y) (asks : Y → Answers) (items : Y → Place → Part) (n : ExprPart X) (place : Place) (rest : Plan) → node_items asks items (map-AnyNode X Y g (nodes.ExprPart n)) place rest ≡ expr_part (λ x. asks (g x)) (λ x. items (g x)) n place rest
+unfolding node_items expr_part unsupported refuse
+part_mapped g asks items (expr_parts.OptCall n) place rest = chain_call_mapped g asks items n place rest
+part_mapped g asks items (expr_parts.AssignTarget n) place rest = target_mapped g asks items n place rest
+part_mapped g asks items n place rest = refl
+
 node_mapped : {X Y : Type 0} (g : X → Y) (asks : Y → Answers) (items : Y → Place → Part) (n : AnyNode-F X) (place : Place) (rest : Plan) → node_items asks items (map-AnyNode X Y g n) place rest ≡ node_items (λ x. asks (g x)) (λ x. items (g x)) n place rest
 unfolding node_items
 node_mapped g asks items (nodes.Expr n) place rest = expr_mapped g asks items n place rest
 node_mapped g asks items (nodes.Stmt n) place rest = stmt_mapped g asks items n place rest
 node_mapped g asks items (nodes.MemberExpr n) place rest = member_mapped g asks items n.span n.obj n.prop place rest
+node_mapped g asks items (nodes.ExprPart n) place rest = part_mapped g asks items n place rest
 node_mapped g asks items n place rest = refl
 
 -- ---- whole nodes
@@ -79,6 +164,10 @@ pub any_items_stmt : (n : Stmt AnyNode) (place : Place) → any_items (whole.Stm
 unfolding node_items
 any_items_stmt n place = λ i. λ rest. (at_rest (ap any_items (sym (whole.rolls-Stmt n))) place rest ∙ items_of_layer (nodes.Stmt n) place rest) i
 
-pub any_items_member_expr : (n : MemberExpr AnyNode) (place : Place) → any_items (whole.MemberExpr n) place ≡ member any_items n
+pub any_items_member_expr : (n : MemberExpr AnyNode) (place : Place) → any_items (whole.MemberExpr n) place ≡ member_at any_items n place
 unfolding node_items
 any_items_member_expr n place = λ i. λ rest. (at_rest (ap any_items (sym (whole.rolls-MemberExpr n))) place rest ∙ items_of_layer (nodes.MemberExpr n) place rest) i
+
+pub any_items_expr_part : (n : ExprPart AnyNode) (place : Place) → any_items (whole.ExprPart n) place ≡ expr_part any_answers any_items n place
+unfolding node_items
+any_items_expr_part n place = λ i. λ rest. (at_rest (ap any_items (sym (whole.rolls-ExprPart n))) place rest ∙ items_of_layer (nodes.ExprPart n) place rest) i

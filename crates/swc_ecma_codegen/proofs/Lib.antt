@@ -5,7 +5,11 @@ pub mod Steps
 pub mod Asked
 pub mod Linked
 pub mod ListParts
+pub mod CallKnots
+pub mod CallParts
 pub mod ExprParts
+pub mod TargetParts
+pub mod PartLaws
 pub mod StmtParts
 pub mod TreeLaw
 pub mod TreeReads

@@ -10,6 +10,7 @@ use Rattle.swc_ecma_codegen_base.proofs.Phrased.{Prints}
 use Rattle.swc_ecma_codegen.specs.declared.nodes.Place.{Place}
 use Rattle.swc_ecma_codegen.specs.declared.nodes.Place.TheVariants.{Plain}
 use Rattle.swc_ecma_codegen.specs.Answers.{Answers}
+use Rattle.swc_ecma_codegen.specs.Places.{placed}
 
 -- what it answers, what is written of it, and what it reads as, in each role; and that the one is the other
 pub record Linked (X : Type 0) : Type 0 where
@@ -18,9 +19,9 @@ pub record Linked (X : Type 0) : Type 0 where
   pub asks : X → Answers
   pub items : X → Place → Part
   pub reads : X → Role → Phrase
-  pub law : (x : X) (place : Place) (role : Role) → Prints env (items x place) (reads x role)
+  pub law : (x : X) (place : Place) (role : Role) → Prints env (items x (placed role place)) (reads x role)
 
-pub expr_at : {X : Type 0} (l : Linked X) (n : ExprBox X) (place : Place) → Prints l.env (l.items n.node.value place) (l.reads n.node.value Expression)
+pub expr_at : {X : Type 0} (l : Linked X) (n : ExprBox X) (place : Place) → Prints l.env (l.items n.node.value (placed Expression place)) (l.reads n.node.value Expression)
 expr_at l n place = l.law n.node.value place Expression
 
 pub stmt_at : {X : Type 0} (l : Linked X) (n : StmtBox X) → Prints l.env (l.items n.node.value Plain) (l.reads n.node.value Statement)

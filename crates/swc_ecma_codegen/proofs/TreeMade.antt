@@ -12,6 +12,7 @@ use Rattle.swc_ecma_codegen_ast.specs.TreePhrases.{program_phrase}
 use Rattle.swc_ecma_codegen_util.specs.declared.config.Config.{Config}
 use Rattle.swc_ecma_codegen_util.specs.Defaults.{default_config}
 use Rattle.swc_ecma_codegen_text_writer.specs.View.{new_sheet}
+use Rattle.swc_ecma_codegen_ast.specs.SourceLines.{Lines, no_lines}
 use Rattle.swc_ecma_codegen_base.specs.Run.{Env, Part, State, nothing, unprintable_in, Follows, HasCause, PassesLimit, IsTooFar, start, steps_in, steps_of}
 use Rattle.swc_ecma_codegen_base.specs.declared.refusals.Unprintable.{Unprintable}
 use Rattle.swc_ecma_codegen_base.specs.Targets.{is_out}
@@ -41,8 +42,8 @@ pub program_made : (n : Program AnyNode) (a b : State) (r : Result (Unit {0}) Er
 program_made n a b r t s e h = root_made (OfProgram n) _ a b r refl t s e h
 
 -- a new emitter over a new writer
-pub new_is_ready : (config : Config) (bytes line_end : List ℕ) → IsReady (start config (new_sheet bytes line_end))
-new_is_ready config bytes line_end = record { none_failed = refl; none_refused = refl; no_memory = refl; no_positions = refl; leaves_out = refl; can_count = omega arith }
+pub new_is_ready : (lines : Lines) (config : Config) (bytes line_end : List ℕ) → IsReady (start lines config (new_sheet bytes line_end))
+new_is_ready lines config bytes line_end = record { none_failed = refl; none_refused = refl; no_memory = refl; no_positions = refl; leaves_out = refl; can_count = omega arith }
 
 -- ---- a text in memory
 
@@ -50,24 +51,24 @@ new_is_ready config bytes line_end = record { none_failed = refl; none_refused =
 default_not_out : (n : Root) → is_out default_config (root_phrase n) ≡ false
 default_not_out n = bare_not_out default_config (root_phrase n) refl
 
-pub code_reads : (n : Root) (p : Part) → p ≡ root_items n → is_well_formed_root n ≡ true → ReadsAs false (root_phrase n) (text_of p)
+pub code_reads : (n : Root) (p : Part) → p ≡ root_items n → is_well_formed_root n ≡ true → ReadsAs default_config false (root_phrase n) (text_of p)
 code_reads n p same w =
-    let a : State = start default_config blank_sheet in
-    whole_reads false (root_phrase n) (text_of p) (steps_read p (root_phrase n) a (new_is_new default_config [] (10 ∷ []) (inl refl)) (part_prints n p a.env refl same) w (default_not_out n))
+    let a : State = start no_lines default_config blank_sheet in
+    whole_reads default_config false (root_phrase n) (text_of p) (steps_read p (root_phrase n) a (new_is_new no_lines default_config [] (10 ∷ []) (inl refl)) (part_prints n p a.env refl same) w (default_not_out n))
 
-root_printable : (n : Root) (p : Part) → p ≡ root_items n → is_well_formed_root n ≡ true → unprintable_in (steps_in p (start default_config blank_sheet)) ≡ None
-root_printable n p same w = let a : State = start default_config blank_sheet in printable p (root_phrase n) a.env (part_prints n p a.env refl same) w (default_not_out n)
+root_printable : (n : Root) (p : Part) → p ≡ root_items n → is_well_formed_root n ≡ true → unprintable_in (steps_in p (start no_lines default_config blank_sheet)) ≡ None
+root_printable n p same w = let a : State = start no_lines default_config blank_sheet in printable p (root_phrase n) a.env (part_prints n p a.env refl same) w (default_not_out n)
 
 no_refusal : (r : Unprintable) → ◌≡◌ {A = Option Unprintable} (Some r) None → ⊥
 no_refusal r h = absurd (cc)
 
 -- it comes to no limit, and keeps no position
-no_limit : (n : Root) (p : Part) → p ≡ root_items n → is_well_formed_root n ≡ true → token_count (root_phrase n) < 2 ^ 32 → (b : State) → PassesLimit (steps_of (steps_in p (start default_config blank_sheet))) (start default_config blank_sheet) ⊎ IsTooFar (start default_config blank_sheet) b → ⊥
-no_limit n p same w room b (inl h) = within p (root_phrase n) (start default_config blank_sheet) (part_prints n p _ refl same) w (default_not_out n) (omega (arith, room)) h
+no_limit : (n : Root) (p : Part) → p ≡ root_items n → is_well_formed_root n ≡ true → token_count (root_phrase n) < 2 ^ 32 → (b : State) → PassesLimit (steps_of (steps_in p (start no_lines default_config blank_sheet))) (start no_lines default_config blank_sheet) ⊎ IsTooFar (start no_lines default_config blank_sheet) b → ⊥
+no_limit n p same w room b (inl h) = within p (root_phrase n) (start no_lines default_config blank_sheet) (part_prints n p _ refl same) w (default_not_out n) (omega (arith, room)) h
 no_limit n p same w room b (inr h) = true≢false (sym h.0)
 
 -- of a well-formed tree memory alone can be wanting, besides the writer
-pub code_cause : (n : Root) (p : Part) (error : Error) → p ≡ root_items n → is_well_formed_root n ≡ true → token_count (root_phrase n) < 2 ^ 32 → GivesCause p (start default_config blank_sheet) error → (IsOfWriter error → ⊥) → error ≡ OutOfMemory
+pub code_cause : (n : Root) (p : Part) (error : Error) → p ≡ root_items n → is_well_formed_root n ≡ true → token_count (root_phrase n) < 2 ^ 32 → GivesCause p (start no_lines default_config blank_sheet) error → (IsOfWriter error → ⊥) → error ≡ OutOfMemory
 unfolding HasCause
 code_cause n p (Writer x) same w room h not_writer = absurd (not_writer tt)
 code_cause n p OutOfMemory same w room h not_writer = refl

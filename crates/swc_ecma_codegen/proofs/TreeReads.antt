@@ -12,6 +12,7 @@ use Rattle.swc_ecma_codegen_util.specs.declared.config.Config.{Config}
 use Rattle.swc_ecma_codegen_text_writer.specs.View.{new_sheet}
 use Rattle.swc_ecma_codegen_common.specs.declared.errors.Refusal.TheVariants as refusals
 use Rattle.swc_ecma_codegen_base.specs.declared.refusals.Unprintable.TheVariants.{NameOutOfTarget}
+use Rattle.swc_ecma_codegen_ast.specs.SourceLines.{Lines}
 use Rattle.swc_ecma_codegen_base.specs.Run.{Env, Plan, Part, State, nothing, Follows, start, makes_text, steps_of, steps_in, unprintable_in}
 use Rattle.swc_ecma_codegen_base.specs.Targets.{is_out}
 use Rattle.swc_ecma_codegen_base.specs.Escapes.{may_make_text}
@@ -32,26 +33,26 @@ use Rattle.swc_ecma_codegen.specs.declared.nodes.Place.TheVariants.{Plain}
 use Rattle.swc_ecma_codegen.specs.Programs as programs
 use Rattle.swc_ecma_codegen.specs.Tree.{any_items}
 use Rattle.swc_ecma_codegen.specs.Roots.{Root, OfExpr, OfStmt, OfScript, OfProgram, OfLink, root_items, root_phrase, is_well_formed_root}
-use Rattle.swc_ecma_codegen.proofs.ExprParts.{expr_prints}
+use Rattle.swc_ecma_codegen.proofs.ExprParts.{plain_expr_prints}
 use Rattle.swc_ecma_codegen.proofs.StmtParts.{stmt_prints, script_prints, program_prints}
 use Rattle.swc_ecma_codegen.proofs.TreeLaw.{prints, known}
 
 pub root_prints : (env : Env) → env.keeps_invalid ≡ false → (n : Root) → Prints env (root_items n) (root_phrase n)
 unfolding stmt_lists.program
-root_prints env e (OfExpr n) = expr_prints (known env e) n Plain
+root_prints env e (OfExpr n) = plain_expr_prints (known env e) n Plain refl
 root_prints env e (OfStmt n) = stmt_prints (known env e) n
 root_prints env e (OfScript n) = script_prints (known env e) n
 root_prints env e (OfProgram n) = program_prints (known env e) n
 root_prints env e (OfLink n role) = prints env e n Plain role
 
 -- whatever the root is, and whatever refers to it
-pub root_reads : (n : Root) (p : Part) (a b : State) (r : Result (Unit {0}) Error) → p ≡ root_items n → is_well_formed_root n ≡ true → IsNew a → Follows (p nothing) a b (in_short r) → OnOk r (AddsReading (root_phrase n) a.sheet b.sheet)
+pub root_reads : (n : Root) (p : Part) (a b : State) (r : Result (Unit {0}) Error) → p ≡ root_items n → is_well_formed_root n ≡ true → IsNew a → Follows (p nothing) a b (in_short r) → OnOk r (AddsReading a.env.config (root_phrase n) a.sheet b.sheet)
 root_reads n p a b r same w s h = on_ok_in_short _ r (printed_reads p (root_phrase n) a b (in_short r) s (subst (λ z. Prints a.env z (root_phrase n)) (sym same) (root_prints a.env s.leaves_out n)) w h)
 
-pub script_reads : (n : Script AnyNode) (a b : State) (r : Result (Unit {0}) Error) → is_well_formed (a_script n) ≡ true → IsNew a → Follows (programs.script any_items n nothing) a b (in_short r) → OnOk r (AddsReading (program_phrase (a_script n)) a.sheet b.sheet)
+pub script_reads : (n : Script AnyNode) (a b : State) (r : Result (Unit {0}) Error) → is_well_formed (a_script n) ≡ true → IsNew a → Follows (programs.script any_items n nothing) a b (in_short r) → OnOk r (AddsReading a.env.config (program_phrase (a_script n)) a.sheet b.sheet)
 script_reads n a b r w s h = root_reads (OfScript n) _ a b r refl w s h
 
-pub program_reads : (n : Program AnyNode) (a b : State) (r : Result (Unit {0}) Error) → is_well_formed n ≡ true → IsNew a → Follows (programs.program any_items n nothing) a b (in_short r) → OnOk r (AddsReading (program_phrase n) a.sheet b.sheet)
+pub program_reads : (n : Program AnyNode) (a b : State) (r : Result (Unit {0}) Error) → is_well_formed n ≡ true → IsNew a → Follows (programs.program any_items n nothing) a b (in_short r) → OnOk r (AddsReading a.env.config (program_phrase n) a.sheet b.sheet)
 program_reads n a b r w s h = root_reads (OfProgram n) _ a b r refl w s h
 
 -- what is recorded is true
@@ -93,9 +94,9 @@ pub root_keeps : (n : Root) (s : State) → is_well_formed_root n ≡ true → s
 root_keeps n s w e o none = printed_keeps (root_items n) (root_phrase n) s.env (root_prints s.env e n) w o none
 
 -- a new emitter over a new writer
-pub new_wants_ascii : (config : Config) (bytes line_end : List ℕ) → config.ascii_only ≡ true → IsLineEnd line_end → WantsAscii (start config (new_sheet bytes line_end))
-new_wants_ascii config bytes line_end e (inl h) = record { by_settings = e; leaves_out = refl; indent_text = refl; line_end = ap is_ascii_text h }
-new_wants_ascii config bytes line_end e (inr h) = record { by_settings = e; leaves_out = refl; indent_text = refl; line_end = ap is_ascii_text h }
+pub new_wants_ascii : (lines : Lines) (config : Config) (bytes line_end : List ℕ) → config.ascii_only ≡ true → IsLineEnd line_end → WantsAscii (start lines config (new_sheet bytes line_end))
+new_wants_ascii lines config bytes line_end e (inl h) = record { by_settings = e; leaves_out = refl; indent_text = refl; line_end = ap is_ascii_text h }
+new_wants_ascii lines config bytes line_end e (inr h) = record { by_settings = e; leaves_out = refl; indent_text = refl; line_end = ap is_ascii_text h }
 
 -- no text is made anew where nothing of the tree may be
 pub root_remakes : (n : Root) (s : State) → is_well_formed_root n ≡ true → s.env.keeps_invalid ≡ false → may_make_text s.env.config (root_phrase n) ≡ false → makes_text (steps_of (steps_in (root_items n) s)) ≡ false
@@ -111,14 +112,14 @@ root_in_target n a b w e h = follows_in_target (root_items n) (root_phrase n) a 
 pub root_out_of_target : (n : Root) (a b : State) → is_well_formed_root n ≡ true → a.env.keeps_invalid ≡ false → Follows (root_items n nothing) a b (Err refusals.NameOutOfTarget) → is_out a.env.config (root_phrase n) ≡ true
 root_out_of_target n a b w e h = follows_out_of_target (root_items n) (root_phrase n) a b (root_prints a.env e n) w h
 
-pub new_is_new : (config : Config) (bytes line_end : List ℕ) → IsLineEnd line_end → IsNew (start config (new_sheet bytes line_end))
+pub new_is_new : (lines : Lines) (config : Config) (bytes line_end : List ℕ) → IsLineEnd line_end → IsNew (start lines config (new_sheet bytes line_end))
 unfolding all_indent is_indent holds_one
-new_is_new config bytes line_end h = record { nothing_written = refl; nothing_held = refl; indent_text = refl; line_end = h; leaves_out = refl }
+new_is_new lines config bytes line_end h = record { nothing_written = refl; nothing_held = refl; indent_text = refl; line_end = h; leaves_out = refl }
 
-pub indented_is_new : (config : Config) (bytes line_end indent : List ℕ) → IsLineEnd line_end → all_indent indent ≡ true → IsNew (start config (record (new_sheet bytes line_end) { indent_text = indent }))
+pub indented_is_new : (lines : Lines) (config : Config) (bytes line_end indent : List ℕ) → IsLineEnd line_end → all_indent indent ≡ true → IsNew (start lines config (record (new_sheet bytes line_end) { indent_text = indent }))
 unfolding holds_one
-indented_is_new config bytes line_end indent h k = record { nothing_written = refl; nothing_held = refl; indent_text = k; line_end = h; leaves_out = refl }
+indented_is_new lines config bytes line_end indent h k = record { nothing_written = refl; nothing_held = refl; indent_text = k; line_end = h; leaves_out = refl }
 
-pub holding_is_new : (config : Config) (bytes line_end : List ℕ) → IsLineEnd line_end → IsNew (start config (record (new_sheet bytes line_end) { semicolons = HoldsNone }))
+pub holding_is_new : (lines : Lines) (config : Config) (bytes line_end : List ℕ) → IsLineEnd line_end → IsNew (start lines config (record (new_sheet bytes line_end) { semicolons = HoldsNone }))
 unfolding all_indent is_indent holds_one
-holding_is_new config bytes line_end h = record { nothing_written = refl; nothing_held = refl; indent_text = refl; line_end = h; leaves_out = refl }
+holding_is_new lines config bytes line_end h = record { nothing_written = refl; nothing_held = refl; indent_text = refl; line_end = h; leaves_out = refl }

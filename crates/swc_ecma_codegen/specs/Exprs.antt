@@ -1,6 +1,6 @@
 -- What is written of each expression. A word is generic in what a link holds, X. It takes what is known of that:
 -- `asks` says what it answers, `items` what is written of it, where its parent puts it.
-use Rattle.std.specs.Prelude.{ℕ, ◌-◌, ◌==◌, Bool, true, false, if◌then◌else◌, List, codes, Some, None, string_bytes}
+use Rattle.std.specs.Prelude.{ℕ, ◌-◌, ◌==◌, Bool, true, false, if◌then◌else◌, List, codes, Option, Some, None, string_bytes}
 use Rattle.swc_ecma_codegen_common.specs.declared.positions.BytePos.{BytePos}
 use Rattle.swc_ecma_codegen_common.specs.declared.positions.Span.{Span}
 use Rattle.swc_ecma_codegen_tree.specs.declared.idents.Ident.{Ident}
@@ -16,20 +16,34 @@ use Rattle.swc_ecma_codegen_tree.specs.declared.exprs.MemberExpr.{MemberExpr}
 use Rattle.swc_ecma_codegen_tree.specs.declared.exprs.MemberProp.{MemberProp}
 use Rattle.swc_ecma_codegen_tree.specs.declared.exprs.MemberProp.TheVariants as member_props
 use Rattle.swc_ecma_codegen_tree.specs.declared.exprs.ComputedPropName.{ComputedPropName}
+use Rattle.swc_ecma_codegen_tree.specs.declared.exprs.AssignExpr.{AssignExpr}
+use Rattle.swc_ecma_codegen_tree.specs.declared.exprs.SuperPropExpr.{SuperPropExpr}
+use Rattle.swc_ecma_codegen_tree.specs.declared.exprs.SuperProp.{SuperProp}
+use Rattle.swc_ecma_codegen_tree.specs.declared.exprs.SuperProp.TheVariants as super_props
+use Rattle.swc_ecma_codegen_tree.specs.declared.exprs.OptChainExpr.{OptChainExpr}
+use Rattle.swc_ecma_codegen_tree.specs.declared.exprs.OptChainBase.{OptChainBase}
+use Rattle.swc_ecma_codegen_tree.specs.declared.exprs.OptChainBase.TheVariants as chain_bases
+use Rattle.swc_ecma_codegen_tree.specs.declared.exprs.MetaPropExpr.{MetaPropExpr}
+use Rattle.swc_ecma_codegen_tree.specs.declared.exprs.MetaPropKind.{MetaPropKind}
+use Rattle.swc_ecma_codegen_tree.specs.declared.exprs.MetaPropKind.TheVariants as meta_props
+use Rattle.swc_ecma_codegen_tree.specs.declared.exprs.YieldExpr.{YieldExpr}
+use Rattle.swc_ecma_codegen_tree.specs.declared.exprs.AwaitExpr.{AwaitExpr}
+use Rattle.swc_ecma_codegen_tree.specs.declared.exprs.SpreadElement.{SpreadElement}
 use Rattle.swc_ecma_codegen_tree.specs.declared.exprs.CondExpr.{CondExpr}
 use Rattle.swc_ecma_codegen_tree.specs.declared.exprs.SeqExpr.{SeqExpr}
 use Rattle.swc_ecma_codegen_tree.specs.declared.exprs.ParenExpr.{ParenExpr}
 use Rattle.swc_ecma_codegen_tree.specs.declared.exprs.Expr.{Expr}
 use Rattle.swc_ecma_codegen_tree.specs.declared.exprs.Expr.TheVariants as exprs
-use Rattle.swc_ecma_codegen_common.specs.Operators.{unary_text, binary_text, update_text}
-use Rattle.swc_ecma_codegen_spans.specs.Spans.{expr_span}
+use Rattle.swc_ecma_codegen_common.specs.Operators.{assign_text, unary_text, binary_text, update_text}
+use Rattle.swc_ecma_codegen_spans.specs.Spans.{expr_span, spread_element_span}
 use Rattle.swc_ecma_codegen_util.specs.Starts as starts
 use Rattle.swc_ecma_codegen_base.specs.Run.{Part}
 use Rattle.swc_ecma_codegen_base.specs.Words.{keyword, operator, word_operator, punct, space, formatting_space, commit_pending_semi, start_of, end_of, last_of, leading_comments, trailing_comments, name}
 use Rattle.swc_ecma_codegen.specs.declared.nodes.Place.{Place}
-use Rattle.swc_ecma_codegen.specs.declared.nodes.Place.TheVariants.{Plain, LeftOperand, Object, DottedObject}
+use Rattle.swc_ecma_codegen.specs.declared.nodes.Place.TheVariants.{Plain, LeftOperand, Object, DottedObject, Callee, Chain}
 use Rattle.swc_ecma_codegen.specs.Answers.{Answers, place_of}
 use Rattle.swc_ecma_codegen.specs.Operands.{is_word_op, space_after, operand_space}
+use Rattle.swc_ecma_codegen.specs.Calls.{super_keyword, array_lit, call_expr, keeps_arguments, new_expr}
 use Rattle.swc_ecma_codegen.specs.Lists.{listed, unsupported}
 use Rattle.swc_ecma_codegen.specs.Lits.{lit_at, is_number_object}
 
@@ -124,6 +138,78 @@ object_place (member_props.Computed n) = Object
 unfoldable pub member : {X : Type 0} → (X → Place → Part) → MemberExpr X → Part
 member items n rest = opened n.span (items n.obj.node.value (object_place n.prop) (member_prop items n.prop (end_of n.span rest)))
 
+-- `.a`, `[a]`
+unfoldable pub super_prop : {X : Type 0} → (X → Place → Part) → SuperProp X → Part
+super_prop items (super_props.Ident n) rest = comments_before n.span.lo (punct (codes ".") (ident_name n rest))
+super_prop items (super_props.Computed n) rest = computed_prop_name items n rest
+
+unfoldable pub super_prop_expr : {X : Type 0} → (X → Place → Part) → SuperPropExpr X → Part
+super_prop_expr items n rest = opened n.span (super_keyword n.obj (super_prop items n.prop rest))
+
+-- `?.` of `a?.b` and `a?.[b]`, `.` of `.c` in `a?.b.c`, nothing before `[c]` in `a?.b[c]`
+unfoldable pub chain_mark : {X : Type 0} → Bool → MemberProp X → Part
+chain_mark true n rest = punct (codes "?.") rest
+chain_mark false (member_props.Computed n) rest = rest
+chain_mark false n rest = punct (codes ".") rest
+
+unfoldable pub chain_prop : {X : Type 0} → (X → Place → Part) → MemberProp X → Part
+chain_prop items (member_props.Ident n) rest = ident_name n rest
+chain_prop items (member_props.Computed n) rest = computed_prop_name items n rest
+chain_prop items n rest = unsupported rest
+
+-- A member of an optional chain has neither comments nor positions of its own.
+unfoldable pub chain_member : {X : Type 0} → (X → Place → Part) → Bool → MemberExpr X → Part
+chain_member items optional n rest = items n.obj.node.value Callee (chain_mark optional n.prop (chain_prop items n.prop rest))
+
+-- a member where it stands
+unfoldable pub member_at : {X : Type 0} → (X → Place → Part) → MemberExpr X → Place → Part
+member_at items n (Chain optional) rest = chain_member items optional n rest
+member_at items n place rest = member items n rest
+
+unfoldable pub chain_base : {X : Type 0} → (X → Place → Part) → Bool → OptChainBase X → Part
+chain_base items optional (chain_bases.Member n) rest = items n.node.value (Chain optional) rest
+chain_base items optional (chain_bases.Call n) rest = items n.node.value (Chain optional) rest
+
+unfoldable pub opt_chain : {X : Type 0} → (X → Place → Part) → OptChainExpr X → Part
+opt_chain items n rest = leading_comments n.span.lo (chain_base items n.optional n.base rest)
+
+-- `new.target` and `import.meta` are three tokens; swc writes them by one call
+unfoldable pub meta_prop : MetaPropKind → Part
+meta_prop meta_props.NewTarget rest = keyword None (codes "new") (punct (codes ".") (keyword None (codes "target") rest))
+meta_prop meta_props.ImportMeta rest = keyword None (codes "import") (punct (codes ".") (keyword None (codes "meta") rest))
+
+unfoldable pub meta_prop_expr : MetaPropExpr → Part
+meta_prop_expr n rest = opened n.span (meta_prop n.kind rest)
+
+-- `a = b`, minified `a=b`; where it begins isn't recorded
+unfoldable pub assign : {X : Type 0} → (X → Place → Part) → AssignExpr X → Part
+assign items n rest =
+    leading_comments n.span.lo
+    (items n.left.node.value Plain
+    (formatting_space (operator (assign_text n.op) (formatting_space (items n.right.node.value Plain rest)))))
+
+-- `*` of `yield* a`
+unfoldable pub yield_star : Bool → Part
+yield_star delegate rest = if delegate then operator (codes "*") rest else rest
+
+-- `yield a`, minified `yield[a]` and `yield*a`
+unfoldable pub yield_arg : {X : Type 0} → (X → Answers) → (X → Place → Part) → Bool → Option (ExprBox X) → Part
+yield_arg asks items delegate None rest = rest
+yield_arg asks items delegate (Some n) rest = blank (if delegate then false else (asks n.node.value).starts) (items n.node.value Plain rest)
+
+unfoldable pub yield_expr : {X : Type 0} → (X → Answers) → (X → Place → Part) → YieldExpr X → Part
+yield_expr asks items n rest = opened n.span (keyword None (codes "yield") (yield_star n.delegate (yield_arg asks items n.delegate n.arg rest)))
+
+-- `...a` of `{ ...a }`
+unfoldable pub spread_element : {X : Type 0} → (X → Answers) → (X → Place → Part) → SpreadElement X → Part
+spread_element asks items n rest =
+    opened (spread_element_span (place_of asks) n)
+    (punct (codes "...") (items n.expr.node.value Plain (end_of (spread_element_span (place_of asks) n) rest)))
+
+-- a blank always: `await (a)`
+unfoldable pub await_expr : {X : Type 0} → (X → Place → Part) → AwaitExpr X → Part
+await_expr items n rest = opened n.span (keyword None (codes "await") (space (items n.arg.node.value Plain rest)))
+
 unfoldable pub choice : {X : Type 0} → (X → Place → Part) → CondExpr X → Part
 choice items n rest =
     opened n.span
@@ -143,15 +229,24 @@ paren items n rest = commit_pending_semi (opened n.span (punct (codes "(") (item
 -- an expression by its variant
 unfoldable pub expr_parts : {X : Type 0} → (X → Answers) → (X → Place → Part) → Expr X → Place → Part
 expr_parts asks items (exprs.This n) place rest = this n rest
+expr_parts asks items (exprs.Array n) place rest = array_lit asks items n rest
 expr_parts asks items (exprs.Unary n) place rest = unary asks items n rest
 expr_parts asks items (exprs.Update n) place rest = update items n rest
 expr_parts asks items (exprs.Bin n) place rest = bin asks items n place rest
+expr_parts asks items (exprs.Assign n) place rest = assign items n rest
 expr_parts asks items (exprs.Member n) place rest = items n.node.value Plain rest
+expr_parts asks items (exprs.SuperProp n) place rest = super_prop_expr items n rest
 expr_parts asks items (exprs.Cond n) place rest = choice items n rest
+expr_parts asks items (exprs.Call n) place rest = call_expr asks items n rest
+expr_parts asks items (exprs.New n) place rest = new_expr asks items (keeps_arguments place) n rest
 expr_parts asks items (exprs.Seq n) place rest = seq items n rest
 expr_parts asks items (exprs.Ident n) place rest = ident n rest
 expr_parts asks items (exprs.Lit n) place rest = lit_at n place rest
+expr_parts asks items (exprs.Yield n) place rest = yield_expr asks items n rest
+expr_parts asks items (exprs.MetaProp n) place rest = meta_prop_expr n rest
+expr_parts asks items (exprs.Await n) place rest = await_expr items n rest
 expr_parts asks items (exprs.Paren n) place rest = paren items n rest
+expr_parts asks items (exprs.OptChain n) place rest = opt_chain items n rest
 expr_parts asks items n place rest = unsupported rest
 
 unfoldable pub is_left_operand : Place → Bool

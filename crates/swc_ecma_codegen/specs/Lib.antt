@@ -3,7 +3,12 @@ pub mod Answers
 pub mod View
 pub mod Lists
 pub mod Lits
+pub mod Places
+pub mod Calls
 pub mod Exprs
+pub mod Names
+pub mod Targets
+pub mod Parts
 pub mod Stmts
 pub mod Programs
 pub mod Tree

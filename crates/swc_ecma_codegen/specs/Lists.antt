@@ -2,7 +2,10 @@
 use Rattle.std.specs.Prelude.{Bool, false, if◌then◌else◌, List, [], ◌∷◌, Option, Some, None, codes}
 use Rattle.swc_ecma_codegen_base.specs.Run.{Part, refuse}
 use Rattle.swc_ecma_codegen_base.specs.declared.refusals.Unprintable.TheVariants as unprintable
+use Rattle.swc_ecma_codegen_common.specs.declared.positions.Span.{Span}
 use Rattle.swc_ecma_codegen.specs.declared.nodes.Place.{Place}
+use Rattle.swc_ecma_codegen.specs.declared.nodes.Place.TheVariants.{Plain}
+use Rattle.swc_ecma_codegen_base.specs.Lists.{ListChild}
 use Rattle.swc_ecma_codegen_base.specs.Words.{punct, formatting_space}
 
 -- a node that isn't printed yet
@@ -27,3 +30,7 @@ in_order each (x ∷ xs) rest = each x (in_order each xs rest)
 unfoldable pub if_some_at : {A : Type 0} → (A → Place → Part) → Option A → Place → Part
 if_some_at items None place rest = rest
 if_some_at items (Some x) place rest = items x place rest
+
+-- a child of a list, by where it stands and what is written of it
+abbrev pub child_of : {A : Type 0} → (A → Span) → (A → Place → Part) → A → ListChild
+child_of place items x = record { place = place x; part = items x Plain }

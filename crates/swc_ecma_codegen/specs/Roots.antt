@@ -12,6 +12,7 @@ use Rattle.swc_ecma_codegen_ast.specs.TreePhrases.{phrase, expr_phrase, stmt_phr
 use Rattle.swc_ecma_codegen_base.specs.Run.{Part}
 use Rattle.swc_ecma_codegen.specs.declared.nodes.Place.TheVariants.{Plain}
 use Rattle.swc_ecma_codegen.specs.Answers.{any_answers}
+use Rattle.swc_ecma_codegen.specs.Places.{placed}
 use Rattle.swc_ecma_codegen.specs.Exprs.{expr}
 use Rattle.swc_ecma_codegen.specs.Stmts.{stmt}
 use Rattle.swc_ecma_codegen.specs.Programs.{script, program}
@@ -31,7 +32,7 @@ root_items (OfExpr n) = expr any_answers any_items n Plain
 root_items (OfStmt n) = stmt any_answers any_items n
 root_items (OfScript n) = script any_items n
 root_items (OfProgram n) = program any_items n
-root_items (OfLink n role) = any_items n Plain
+root_items (OfLink n role) = any_items n (placed role Plain)
 
 -- what it is read as
 abbrev pub root_phrase : Root → Phrase

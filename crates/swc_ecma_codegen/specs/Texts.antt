@@ -6,6 +6,7 @@ use Rattle.swc_ecma_codegen_common.specs.Refusals.{reason_of}
 use Rattle.swc_ecma_codegen_util.specs.Defaults.{default_config}
 use Rattle.swc_ecma_codegen_text_writer.specs.Sheet.{Sheet}
 use Rattle.swc_ecma_codegen_text_writer.specs.View.{new_sheet}
+use Rattle.swc_ecma_codegen_ast.specs.SourceLines.{no_lines}
 use Rattle.swc_ecma_codegen_base.specs.Run.{Part, State, HasCause, printed, start, steps_in}
 
 -- the sheet of a new writer over an empty vector, whose lines end with LF
@@ -14,7 +15,7 @@ blank_sheet = new_sheet [] (10 ∷ [])
 
 -- the text of a part, with the settings that stand where none are given
 abbrev pub text_of : Part → List ℕ
-text_of part = (printed part (start default_config blank_sheet)).sheet.text
+text_of part = (printed part (start no_lines default_config blank_sheet)).sheet.text
 
 -- an error of the writer
 abbrev pub IsOfWriter : Error → Type 0

@@ -2,6 +2,7 @@
 
 ghost use Rattle.std.specs.Prelude.{◌≡◌, ◌⊎◌, ◌<◌, ◌^◌, true, false, IfOk, IfErr, string_bytes};
 ghost use Rattle.swc_ecma_codegen_common.specs.declared.errors.Error.TheVariants.{OutOfMemory};
+ghost use Rattle.swc_ecma_codegen_ast.specs.SourceLines.{no_lines};
 ghost use Rattle.swc_ecma_codegen_base.specs.Run.{printed, start};
 ghost use Rattle.swc_ecma_codegen_base.specs.Written.{ReadsAs};
 ghost use Rattle.swc_ecma_codegen_base.specs.Ready.{token_count};
@@ -24,8 +25,8 @@ fn print_to<N: Node, W: WriteJs + Drop>(
     node: &N,
     wr: W,
 ) -> std::result::Result<W, Error>
-    ensures sheet { IfOk result (λ w. W.sheet w ≡ (printed (N.part node.now) (start default_config (W.sheet wr))).sheet) }
-    ensures cause { IfErr result (GivesCause (N.part node.now) (start default_config (W.sheet wr))) }
+    ensures sheet { IfOk result (λ w. W.sheet w ≡ (printed (N.part node.now) (start no_lines default_config (W.sheet wr))).sheet) }
+    ensures cause { IfErr result (GivesCause (N.part node.now) (start no_lines default_config (W.sheet wr))) }
 {
     let mut emitter = Emitter::new(alloc, Config::default(), &NoSource, None::<CommentMaps>, wr);
     node.emit_with(&mut emitter)?;
@@ -37,11 +38,11 @@ fn print_to<N: Node, W: WriteJs + Drop>(
 pub fn to_code<N: Node>(alloc: Global, node: &N) -> std::result::Result<String, Error>
     ensures text { IfOk result (λ text. string_bytes text ≡ text_of (N.part node.now)) }
     // The text of a well-formed tree is UTF-8, and reads as one of the tree's token lists.
-    ensures reads { (root : Root) → N.part node.now ≡ root_items root → is_well_formed_root root ≡ true → IfOk result (λ text. ReadsAs false (root_phrase root) (string_bytes text)) }
+    ensures reads { (root : Root) → N.part node.now ≡ root_items root → is_well_formed_root root ≡ true → IfOk result (λ text. ReadsAs default_config false (root_phrase root) (string_bytes text)) }
     // A well-formed tree is refused for want of memory alone.
     ensures made { (root : Root) → N.part node.now ≡ root_items root → is_well_formed_root root ≡ true → token_count (root_phrase root) < 2 ^ 32 → IfErr result (λ error. error ≡ OutOfMemory) }
     // It is refused for want of memory, or for the cause that the error names.
-    ensures cause { IfErr result (λ error. (error ≡ OutOfMemory) ⊎ GivesCause (N.part node.now) (start default_config blank_sheet) error) }
+    ensures cause { IfErr result (λ error. (error ≡ OutOfMemory) ⊎ GivesCause (N.part node.now) (start no_lines default_config blank_sheet) error) }
     ensures not_writer { IfErr result (λ error. IsOfWriter error → ⊥) }
 {
     let writer = JsWriter::new(alloc, &NoSource, "\n", Vec::new(alloc), None);

@@ -49,7 +49,7 @@ impl<'a, W: WriteJs, S: SourceMapper, C: Comments> Emitter<'a, W, S, C> {
     /// An emitter that has written nothing. Takes no memory.
     pub fn new(alloc: Global, cfg: Config, cm: &'a S, comments: Option<C>, wr: W) -> Self
         requires comments { IsTrue (is_none comments) }
-        ensures state { state_of W.sheet result ≡ start cfg (W.sheet wr) }
+        ensures state { state_of S.lines W.sheet result ≡ start (S.lines cm.now) cfg (W.sheet wr) }
         ensures wr { result.wr ≡ wr }
     {
         Emitter {
@@ -65,15 +65,15 @@ impl<'a, W: WriteJs, S: SourceMapper, C: Comments> Emitter<'a, W, S, C> {
     #[tactic(auto, using(swc_ecma_codegen_base::proofs::Emitting::emits_nothing, swc_ecma_codegen_base::proofs::Fronts::follows_failed, swc_ecma_codegen_base::proofs::Fronts::follows_front, swc_ecma_codegen_base::proofs::Fronts::follows_marked, swc_ecma_codegen_base::proofs::Fronts::follows_cause, swc_ecma_codegen_base::proofs::Fronts::follows_succeeds))]
     pub(crate) fn emit<T: EmitAt>(&mut self, node: &T) -> Result
         // The steps of the tree are made, and it comes to no node that can't be printed; or it halts.
-        ensures items { Follows (T.items node.now Plain nothing) (state_of W.sheet self.old) (state_of W.sheet self.new) (in_short result) }
+        ensures items { Follows (T.items node.now Plain nothing) (state_of S.lines W.sheet self.old) (state_of S.lines W.sheet self.new) (in_short result) }
         // What is out is a beginning of the text of these steps.
-        ensures front { IsFront (W.sheet self.new.wr).text (printed (T.items node.now Plain) (state_of W.sheet self.old)).sheet.text }
+        ensures front { IsFront (W.sheet self.new.wr).text (printed (T.items node.now Plain) (state_of S.lines W.sheet self.old)).sheet.text }
         // It is refused only for the cause that the error names.
-        ensures cause { IfErr result (λ error. HasCause (steps_in (T.items node.now Plain) (state_of W.sheet self.old)) (reason_of error) (state_of W.sheet self.old) (state_of W.sheet self.new)) }
+        ensures cause { IfErr result (λ error. HasCause (steps_in (T.items node.now Plain) (state_of S.lines W.sheet self.old)) (reason_of error) (state_of S.lines W.sheet self.old) (state_of S.lines W.sheet self.new)) }
         // Where nothing stands in its way, it is made.
-        ensures succeeds { IsUnhindered (steps_in (T.items node.now Plain) (state_of W.sheet self.old)) (state_of W.sheet self.old) (state_of W.sheet self.new) → IsOk result }
-        ensures marked { OnErr result ((state_of W.sheet self.new).failed ≡ true) }
-        ensures failed { (state_of W.sheet self.old).failed ≡ true → result ≡ Err Error.Failed }
+        ensures succeeds { IsUnhindered (steps_in (T.items node.now Plain) (state_of S.lines W.sheet self.old)) (state_of S.lines W.sheet self.old) (state_of S.lines W.sheet self.new) → IsOk result }
+        ensures marked { OnErr result ((state_of S.lines W.sheet self.new).failed ≡ true) }
+        ensures failed { (state_of S.lines W.sheet self.old).failed ≡ true → result ≡ Err Error.Failed }
         // The indentation is what it was.
         ensures level { OnOk result ((W.sheet self.new.wr).indentation ≡ (W.sheet self.old.wr).indentation) }
     {
@@ -87,7 +87,7 @@ impl<'a, W: WriteJs, S: SourceMapper, C: Comments> Emitter<'a, W, S, C> {
     /// An answer, with the error that the writer gave.
     fn answer(&mut self, answer: Answer) -> Result
         ensures answer { in_short result ≡ answer }
-        ensures state { state_of W.sheet self.new ≡ state_of W.sheet self.old }
+        ensures state { state_of S.lines W.sheet self.new ≡ state_of S.lines W.sheet self.old }
         ensures wr { self.new.wr ≡ self.old.wr }
     {
         match answer {
@@ -100,33 +100,33 @@ impl<'a, W: WriteJs, S: SourceMapper, C: Comments> Emitter<'a, W, S, C> {
     #[tactic(auto, using(crate::proofs::TreeReads::program_reads, crate::proofs::TreeReads::steps_recorded, crate::proofs::TreeReads::program_names, crate::proofs::TreeReads::program_ascii, crate::proofs::TreeReads::program_safe, crate::proofs::TreeMade::program_made, swc_ecma_codegen_base::proofs::Made::ready_after, swc_ecma_codegen_base::proofs::Phrased::never_out_of_memory))]
     pub fn emit_program(&mut self, node: &Program) -> Result
         // The steps of the tree are made, and it comes to no node that can't be printed; or it halts.
-        ensures items { Follows (program any_items node.now nothing) (state_of W.sheet self.old) (state_of W.sheet self.new) (in_short result) }
+        ensures items { Follows (program any_items node.now nothing) (state_of S.lines W.sheet self.old) (state_of S.lines W.sheet self.new) (in_short result) }
         // What a new emitter adds to the text, of a well-formed tree, reads as one of the tree's token lists.
-        ensures reads { is_well_formed node.now ≡ true → IsNew (state_of W.sheet self.old) → OnOk result (AddsReading (program_phrase node.now) (W.sheet self.old.wr) (W.sheet self.new.wr)) }
+        ensures reads { is_well_formed node.now ≡ true → IsNew (state_of S.lines W.sheet self.old) → OnOk result (AddsReading self.old.cfg (program_phrase node.now) (W.sheet self.old.wr) (W.sheet self.new.wr)) }
         // Each position that is recorded holds the place that the text had reached, and none is recorded twice.
         ensures recorded { OnOk result (RecordsTruly (W.sheet self.old.wr) (W.sheet self.new.wr)) }
         // Where positions are kept, each name of a well-formed tree has its own where it begins, unless that is 0.
         ensures names { is_well_formed node.now ≡ true → (W.sheet self.old.wr).keeps_positions ≡ true → (W.sheet self.old.wr).keeps_invalid ≡ false → OnOk result (RecordsNames self.old.cfg (names_in (program_phrase node.now)) (W.sheet self.old.wr) (W.sheet self.new.wr)) }
         // Where the settings ask for ASCII, what is added is, unless a text that stands as it is in the tree isn't: a regular
         // expression, or a directive with a backslash.
-        ensures ascii { is_well_formed node.now ≡ true → WantsAscii (state_of W.sheet self.old) → keeps_other (steps_of (steps_in (program any_items node.now) (state_of W.sheet self.old))) ≡ false → OnOk result (AddsAscii (W.sheet self.old.wr).text (W.sheet self.new.wr).text) }
+        ensures ascii { is_well_formed node.now ≡ true → WantsAscii (state_of S.lines W.sheet self.old) → keeps_other (steps_of (steps_in (program any_items node.now) (state_of S.lines W.sheet self.old))) ≡ false → OnOk result (AddsAscii (W.sheet self.old.wr).text (W.sheet self.new.wr).text) }
         // Under `inline_script` no string of a well-formed tree that is printed by its value ends a script of an HTML page, or
         // opens or closes a comment there: it holds no `<!--`, no `-->`, and no `</script` before `>` or ASCII whitespace.
-        ensures inline { is_well_formed node.now ≡ true → self.old.cfg.inline_script ≡ true → (W.sheet self.old.wr).keeps_invalid ≡ false → OnOk result (AddsSafe (value_strings (steps_of (steps_in (program any_items node.now) (state_of W.sheet self.old)))) (W.sheet self.old.wr).text (W.sheet self.new.wr).text) }
+        ensures inline { is_well_formed node.now ≡ true → self.old.cfg.inline_script ≡ true → (W.sheet self.old.wr).keeps_invalid ≡ false → OnOk result (AddsSafe (value_strings (steps_of (steps_in (program any_items node.now) (state_of S.lines W.sheet self.old)))) (W.sheet self.old.wr).text (W.sheet self.new.wr).text) }
         // What is out is a beginning of the text of these steps.
-        ensures front { IsFront (W.sheet self.new.wr).text (printed (program any_items node.now) (state_of W.sheet self.old)).sheet.text }
+        ensures front { IsFront (W.sheet self.new.wr).text (printed (program any_items node.now) (state_of S.lines W.sheet self.old)).sheet.text }
         // It is refused only for the cause that the error names.
-        ensures cause { IfErr result (λ error. HasCause (steps_in (program any_items node.now) (state_of W.sheet self.old)) (reason_of error) (state_of W.sheet self.old) (state_of W.sheet self.new)) }
+        ensures cause { IfErr result (λ error. HasCause (steps_in (program any_items node.now) (state_of S.lines W.sheet self.old)) (reason_of error) (state_of S.lines W.sheet self.old) (state_of S.lines W.sheet self.new)) }
         // Where no text is made anew, and no call of the writer takes memory, none is wanting.
-        ensures no_memory { makes_text (steps_of (steps_in (program any_items node.now) (state_of W.sheet self.old))) ≡ false → (W.sheet self.old.wr).takes_memory ≡ false → result ≢ Err Error.OutOfMemory }
+        ensures no_memory { makes_text (steps_of (steps_in (program any_items node.now) (state_of S.lines W.sheet self.old))) ≡ false → (W.sheet self.old.wr).takes_memory ≡ false → result ≢ Err Error.OutOfMemory }
         // Where nothing stands in its way, it is made.
-        ensures succeeds { IsUnhindered (steps_in (program any_items node.now) (state_of W.sheet self.old)) (state_of W.sheet self.old) (state_of W.sheet self.new) → IsOk result }
+        ensures succeeds { IsUnhindered (steps_in (program any_items node.now) (state_of S.lines W.sheet self.old)) (state_of S.lines W.sheet self.old) (state_of S.lines W.sheet self.new) → IsOk result }
         // Where it is ready, and the writer counts no fault, a plain tree is printed.
-        ensures made { IsPlainTree self.old.cfg (program_phrase node.now) (W.sheet self.old.wr).indentation → IsReady (state_of W.sheet self.old) → (W.sheet self.new.wr).faults ≡ (W.sheet self.old.wr).faults → IsOk result }
+        ensures made { IsPlainTree self.old.cfg (program_phrase node.now) (W.sheet self.old.wr).indentation → IsReady (state_of S.lines W.sheet self.old) → (W.sheet self.new.wr).faults ≡ (W.sheet self.old.wr).faults → IsOk result }
         // It is ready again for the next.
-        ensures ready { OnOk result (IsReady (state_of W.sheet self.old) → IsReady (state_of W.sheet self.new)) }
-        ensures marked { OnErr result ((state_of W.sheet self.new).failed ≡ true) }
-        ensures failed { (state_of W.sheet self.old).failed ≡ true → result ≡ Err Error.Failed }
+        ensures ready { OnOk result (IsReady (state_of S.lines W.sheet self.old) → IsReady (state_of S.lines W.sheet self.new)) }
+        ensures marked { OnErr result ((state_of S.lines W.sheet self.new).failed ≡ true) }
+        ensures failed { (state_of S.lines W.sheet self.old).failed ≡ true → result ≡ Err Error.Failed }
         // The indentation is what it was.
         ensures level { OnOk result ((W.sheet self.new.wr).indentation ≡ (W.sheet self.old.wr).indentation) }
     {
@@ -138,33 +138,33 @@ impl<'a, W: WriteJs, S: SourceMapper, C: Comments> Emitter<'a, W, S, C> {
     #[tactic(auto, using(crate::proofs::TreeReads::script_reads, crate::proofs::TreeReads::steps_recorded, crate::proofs::TreeReads::script_names, crate::proofs::TreeReads::script_ascii, crate::proofs::TreeReads::script_safe, crate::proofs::TreeMade::script_made, swc_ecma_codegen_base::proofs::Made::ready_after, swc_ecma_codegen_base::proofs::Phrased::never_out_of_memory))]
     pub fn emit_script(&mut self, node: &Script) -> Result
         // The steps of the tree are made, and it comes to no node that can't be printed; or it halts.
-        ensures items { Follows (script any_items node.now nothing) (state_of W.sheet self.old) (state_of W.sheet self.new) (in_short result) }
+        ensures items { Follows (script any_items node.now nothing) (state_of S.lines W.sheet self.old) (state_of S.lines W.sheet self.new) (in_short result) }
         // What a new emitter adds to the text, of a well-formed tree, reads as one of the tree's token lists.
-        ensures reads { is_well_formed (Program.Script node.now) ≡ true → IsNew (state_of W.sheet self.old) → OnOk result (AddsReading (program_phrase (Program.Script node.now)) (W.sheet self.old.wr) (W.sheet self.new.wr)) }
+        ensures reads { is_well_formed (Program.Script node.now) ≡ true → IsNew (state_of S.lines W.sheet self.old) → OnOk result (AddsReading self.old.cfg (program_phrase (Program.Script node.now)) (W.sheet self.old.wr) (W.sheet self.new.wr)) }
         // Each position that is recorded holds the place that the text had reached, and none is recorded twice.
         ensures recorded { OnOk result (RecordsTruly (W.sheet self.old.wr) (W.sheet self.new.wr)) }
         // Where positions are kept, each name of a well-formed tree has its own where it begins, unless that is 0.
         ensures names { is_well_formed (Program.Script node.now) ≡ true → (W.sheet self.old.wr).keeps_positions ≡ true → (W.sheet self.old.wr).keeps_invalid ≡ false → OnOk result (RecordsNames self.old.cfg (names_in (program_phrase (Program.Script node.now))) (W.sheet self.old.wr) (W.sheet self.new.wr)) }
         // Where the settings ask for ASCII, what is added is, unless a text that stands as it is in the tree isn't: a regular
         // expression, or a directive with a backslash.
-        ensures ascii { is_well_formed (Program.Script node.now) ≡ true → WantsAscii (state_of W.sheet self.old) → keeps_other (steps_of (steps_in (script any_items node.now) (state_of W.sheet self.old))) ≡ false → OnOk result (AddsAscii (W.sheet self.old.wr).text (W.sheet self.new.wr).text) }
+        ensures ascii { is_well_formed (Program.Script node.now) ≡ true → WantsAscii (state_of S.lines W.sheet self.old) → keeps_other (steps_of (steps_in (script any_items node.now) (state_of S.lines W.sheet self.old))) ≡ false → OnOk result (AddsAscii (W.sheet self.old.wr).text (W.sheet self.new.wr).text) }
         // Under `inline_script` no string of a well-formed tree that is printed by its value ends a script of an HTML page, or
         // opens or closes a comment there: it holds no `<!--`, no `-->`, and no `</script` before `>` or ASCII whitespace.
-        ensures inline { is_well_formed (Program.Script node.now) ≡ true → self.old.cfg.inline_script ≡ true → (W.sheet self.old.wr).keeps_invalid ≡ false → OnOk result (AddsSafe (value_strings (steps_of (steps_in (script any_items node.now) (state_of W.sheet self.old)))) (W.sheet self.old.wr).text (W.sheet self.new.wr).text) }
+        ensures inline { is_well_formed (Program.Script node.now) ≡ true → self.old.cfg.inline_script ≡ true → (W.sheet self.old.wr).keeps_invalid ≡ false → OnOk result (AddsSafe (value_strings (steps_of (steps_in (script any_items node.now) (state_of S.lines W.sheet self.old)))) (W.sheet self.old.wr).text (W.sheet self.new.wr).text) }
         // What is out is a beginning of the text of these steps.
-        ensures front { IsFront (W.sheet self.new.wr).text (printed (script any_items node.now) (state_of W.sheet self.old)).sheet.text }
+        ensures front { IsFront (W.sheet self.new.wr).text (printed (script any_items node.now) (state_of S.lines W.sheet self.old)).sheet.text }
         // It is refused only for the cause that the error names.
-        ensures cause { IfErr result (λ error. HasCause (steps_in (script any_items node.now) (state_of W.sheet self.old)) (reason_of error) (state_of W.sheet self.old) (state_of W.sheet self.new)) }
+        ensures cause { IfErr result (λ error. HasCause (steps_in (script any_items node.now) (state_of S.lines W.sheet self.old)) (reason_of error) (state_of S.lines W.sheet self.old) (state_of S.lines W.sheet self.new)) }
         // Where no text is made anew, and no call of the writer takes memory, none is wanting.
-        ensures no_memory { makes_text (steps_of (steps_in (script any_items node.now) (state_of W.sheet self.old))) ≡ false → (W.sheet self.old.wr).takes_memory ≡ false → result ≢ Err Error.OutOfMemory }
+        ensures no_memory { makes_text (steps_of (steps_in (script any_items node.now) (state_of S.lines W.sheet self.old))) ≡ false → (W.sheet self.old.wr).takes_memory ≡ false → result ≢ Err Error.OutOfMemory }
         // Where nothing stands in its way, it is made.
-        ensures succeeds { IsUnhindered (steps_in (script any_items node.now) (state_of W.sheet self.old)) (state_of W.sheet self.old) (state_of W.sheet self.new) → IsOk result }
+        ensures succeeds { IsUnhindered (steps_in (script any_items node.now) (state_of S.lines W.sheet self.old)) (state_of S.lines W.sheet self.old) (state_of S.lines W.sheet self.new) → IsOk result }
         // Where it is ready, and the writer counts no fault, a plain tree is printed.
-        ensures made { IsPlainTree self.old.cfg (program_phrase (Program.Script node.now)) (W.sheet self.old.wr).indentation → IsReady (state_of W.sheet self.old) → (W.sheet self.new.wr).faults ≡ (W.sheet self.old.wr).faults → IsOk result }
+        ensures made { IsPlainTree self.old.cfg (program_phrase (Program.Script node.now)) (W.sheet self.old.wr).indentation → IsReady (state_of S.lines W.sheet self.old) → (W.sheet self.new.wr).faults ≡ (W.sheet self.old.wr).faults → IsOk result }
         // It is ready again for the next.
-        ensures ready { OnOk result (IsReady (state_of W.sheet self.old) → IsReady (state_of W.sheet self.new)) }
-        ensures marked { OnErr result ((state_of W.sheet self.new).failed ≡ true) }
-        ensures failed { (state_of W.sheet self.old).failed ≡ true → result ≡ Err Error.Failed }
+        ensures ready { OnOk result (IsReady (state_of S.lines W.sheet self.old) → IsReady (state_of S.lines W.sheet self.new)) }
+        ensures marked { OnErr result ((state_of S.lines W.sheet self.new).failed ≡ true) }
+        ensures failed { (state_of S.lines W.sheet self.old).failed ≡ true → result ≡ Err Error.Failed }
         // The indentation is what it was.
         ensures level { OnOk result ((W.sheet self.new.wr).indentation ≡ (W.sheet self.old.wr).indentation) }
     {

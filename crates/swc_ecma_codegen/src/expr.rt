@@ -2,24 +2,25 @@
 
 ghost use Rattle.std.specs.Prelude.{◌≡◌, Some, None, OnOk};
 ghost use Rattle.swc_ecma_codegen_base.specs.Run.{Emits};
-ghost use Rattle.swc_ecma_codegen.specs.Exprs.{ident, ident_name, this, unary_op, unary_gap, unary, update_parts, update, binary_op, before_op, after_op, bin_trailing, bin_opened, bin, computed_prop_name, member_prop, object_place, member, choice, seq, paren, expr_parts, is_left_operand, leaves_comments, expr_closed, expr};
+ghost use Rattle.swc_ecma_codegen.specs.Exprs.{ident, ident_name, this, unary_op, unary_gap, unary, update_parts, update, binary_op, before_op, after_op, bin_trailing, bin_opened, bin, computed_prop_name, choice, meta_prop_expr, assign, yield_star, yield_arg, yield_expr, spread_element, await_expr, seq, paren, expr_parts, is_left_operand, leaves_comments, expr_closed, expr};
 ghost use Rattle.swc_ecma_codegen_util.specs.Starts.{is_word_op as is_word_unary};
 ghost use Rattle.swc_ecma_codegen.specs.View.{state_of};
 
 use crate::emitter::Emitter;
 use crate::lits::is_number_object;
-use crate::marks::{binary_mark, unary_mark, update_mark};
+use crate::marks::{assign_mark, binary_mark, unary_mark, update_mark};
 use crate::nodes::{AskEnds, AskKind, AskSpace, AskStarts, Asked, EmitAt, Held, Place};
 use crate::operands::{is_word_op, operand_space, space_after};
-use crate::places::expr_place;
+use crate::places::{expr_place, spread_element_place};
 use swc_ecma_codegen_ast::comments::Comments;
 use swc_ecma_codegen_ast::mapper::SourceMapper;
 use swc_ecma_codegen_common::{Answer, BinaryOp, Span, UnaryOp};
 use swc_ecma_codegen_literals::Punctuator;
 use swc_ecma_codegen_text_writer::WriteJs;
 use swc_ecma_codegen_tree::{
-    BinExpr, ComputedPropName, CondExpr, Expr, Ident, IdentName, MemberExpr, MemberProp, ParenExpr,
-    SeqExpr, ThisExpr, UnaryExpr, UpdateExpr,
+    AssignExpr, AwaitExpr, BinExpr, ComputedPropName, CondExpr, Expr, ExprBox, Ident, IdentName,
+    MetaPropExpr, MetaPropKind, ParenExpr, SeqExpr, SpreadElement, ThisExpr, UnaryExpr, UpdateExpr,
+    YieldExpr,
 };
 
 /// Whether it is the place of a left operand.
@@ -43,59 +44,115 @@ fn leaves_comments<N>(node: &Expr<N>, place: Place) -> bool
     }
 }
 
-/// The place of the object before a property.
-#[tactic(auto, unfolding(crate::specs::Exprs::object_place))]
-fn object_place<N>(prop: &MemberProp<N>) -> Place
-    ensures { result ≡ object_place prop.now }
+/// Writes an expression by its variant, without the comments after it.
+#[inline(always)]
+#[tactic(auto, unfolding(crate::specs::Exprs::expr_parts))]
+fn expr_parts<N: Held, W: WriteJs, S: SourceMapper, C: Comments>(
+    node: &Expr<N>,
+    e: &mut Emitter<'_, W, S, C>,
+    place: Place,
+) -> Answer
+    ensures items { Emits (expr_parts N.answers N.items node.now place) (state_of S.lines W.sheet e.old) (state_of S.lines W.sheet e.new) result }
+    ensures level { OnOk result ((W.sheet e.new.wr).indentation ≡ (W.sheet e.old.wr).indentation) }
 {
-    match prop {
-        MemberProp::Ident(name) => Place::DottedObject(name.span.lo),
-        MemberProp::PrivateName(name) => Place::DottedObject(name.span.lo),
-        MemberProp::Computed(_) => Place::Object,
+    match node {
+        Expr::This(node) => node.emit_at(e, place),
+        Expr::Array(node) => node.emit_at(e, place),
+        Expr::Unary(node) => node.emit_at(e, place),
+        Expr::Update(node) => node.emit_at(e, place),
+        Expr::Bin(node) => node.emit_at(e, place),
+        Expr::Assign(node) => node.emit_at(e, place),
+        Expr::Member(node) => node.held().emit_at(e, Place::Plain),
+        Expr::SuperProp(node) => node.emit_at(e, place),
+        Expr::Cond(node) => node.emit_at(e, place),
+        Expr::Call(node) => node.emit_at(e, place),
+        Expr::New(node) => node.emit_at(e, place),
+        Expr::Seq(node) => node.emit_at(e, place),
+        Expr::Ident(node) => node.emit_at(e, place),
+        Expr::Lit(node) => node.emit_at(e, place),
+        Expr::Yield(node) => node.emit_at(e, place),
+        Expr::MetaProp(node) => node.emit_at(e, place),
+        Expr::Await(node) => node.emit_at(e, place),
+        Expr::Paren(node) => node.emit_at(e, place),
+        Expr::OptChain(node) => node.emit_at(e, place),
+        Expr::Object(_)
+        | Expr::Fn(_)
+        | Expr::Tpl(_)
+        | Expr::TaggedTpl(_)
+        | Expr::Arrow(_)
+        | Expr::Class(_)
+        | Expr::JSXMember(_)
+        | Expr::JSXNamespacedName(_)
+        | Expr::JSXEmpty(_)
+        | Expr::JSXElement(_)
+        | Expr::JSXFragment(_)
+        | Expr::TsTypeAssertion(_)
+        | Expr::TsConstAssertion(_)
+        | Expr::TsNonNull(_)
+        | Expr::TsAs(_)
+        | Expr::TsInstantiation(_)
+        | Expr::TsSatisfies(_)
+        | Expr::PrivateName(_)
+        | Expr::Invalid(_) => e.unsupported(),
     }
 }
 
 impl<N: Held> EmitAt for Expr<N> {
     ghost items = { expr N.answers N.items };
 
-    #[tactic(auto, unfolding(crate::specs::Exprs::expr, crate::specs::Exprs::expr_parts))]
+    #[tactic(auto, unfolding(crate::specs::Exprs::expr))]
     fn emit_at<W: WriteJs, S: SourceMapper, C: Comments>(
         &self,
         e: &mut Emitter<'_, W, S, C>,
         place: Place,
     ) -> Answer {
-        match self {
-            Expr::This(node) => node.emit_at(e, place)?,
-            Expr::Unary(node) => node.emit_at(e, place)?,
-            Expr::Update(node) => node.emit_at(e, place)?,
-            Expr::Bin(node) => node.emit_at(e, place)?,
-            Expr::Member(node) => node.held().emit_at(e, Place::Plain)?,
-            Expr::Cond(node) => node.emit_at(e, place)?,
-            Expr::Seq(node) => node.emit_at(e, place)?,
-            Expr::Ident(node) => node.emit_at(e, place)?,
-            Expr::Lit(node) => node.emit_at(e, place)?,
-            Expr::Paren(node) => node.emit_at(e, place)?,
-            _ => e.unsupported()?,
-        }
+        expr_parts(self, e, place)?;
         e.expr_closed(leaves_comments(self, place), expr_place(self))?;
         Ok(())
     }
 }
 
-impl<N: Held> EmitAt for MemberExpr<N> {
-    ghost items = { λ n _. member N.items n };
+impl EmitAt for MetaPropExpr {
+    ghost items = { λ n _. meta_prop_expr n };
 
-    #[tactic(auto, unfolding(crate::specs::Exprs::member))]
+    #[tactic(auto, unfolding(crate::specs::Exprs::meta_prop_expr, crate::specs::Exprs::meta_prop))]
     fn emit_at<W: WriteJs, S: SourceMapper, C: Comments>(
         &self,
         e: &mut Emitter<'_, W, S, C>,
         place: Place,
     ) -> Answer {
         e.opened(self.span)?;
-        self.obj.held().emit_at(e, object_place(&self.prop))?;
-        e.member_prop(&self.prop)?;
-        e.end_of(self.span)?;
+        match self.kind {
+            MetaPropKind::NewTarget => {
+                e.keyword(None, "new")?;
+                e.punct(Punctuator::Dot)?;
+                e.keyword(None, "target")?;
+            }
+            MetaPropKind::ImportMeta => {
+                e.keyword(None, "import")?;
+                e.punct(Punctuator::Dot)?;
+                e.keyword(None, "meta")?;
+            }
+        }
         Ok(())
+    }
+}
+
+impl<N: Held> EmitAt for AssignExpr<N> {
+    ghost items = { λ n _. assign N.items n };
+
+    #[tactic(auto, unfolding(crate::specs::Exprs::assign))]
+    fn emit_at<W: WriteJs, S: SourceMapper, C: Comments>(
+        &self,
+        e: &mut Emitter<'_, W, S, C>,
+        place: Place,
+    ) -> Answer {
+        e.leading_comments(self.span.lo)?;
+        self.left.held().emit_at(e, Place::Plain)?;
+        e.formatting_space()?;
+        e.operator(assign_mark(self.op))?;
+        e.formatting_space()?;
+        self.right.held().emit_at(e, Place::Plain)
     }
 }
 
@@ -219,6 +276,40 @@ impl<N: Held> EmitAt for UpdateExpr<N> {
     }
 }
 
+impl<N: Held> EmitAt for YieldExpr<N> {
+    ghost items = { λ n _. yield_expr N.answers N.items n };
+
+    #[tactic(auto, unfolding(crate::specs::Exprs::yield_expr))]
+    fn emit_at<W: WriteJs, S: SourceMapper, C: Comments>(
+        &self,
+        e: &mut Emitter<'_, W, S, C>,
+        place: Place,
+    ) -> Answer {
+        e.opened(self.span)?;
+        e.keyword(None, "yield")?;
+        e.yield_star(self.delegate)?;
+        e.yield_arg(self.delegate, &self.arg)?;
+        Ok(())
+    }
+}
+
+impl<N: Held> EmitAt for AwaitExpr<N> {
+    ghost items = { λ n _. await_expr N.items n };
+
+    #[tactic(auto, unfolding(crate::specs::Exprs::await_expr))]
+    fn emit_at<W: WriteJs, S: SourceMapper, C: Comments>(
+        &self,
+        e: &mut Emitter<'_, W, S, C>,
+        place: Place,
+    ) -> Answer {
+        e.opened(self.span)?;
+        e.keyword(None, "await")?;
+        e.space()?;
+        self.arg.held().emit_at(e, Place::Plain)?;
+        Ok(())
+    }
+}
+
 impl<N: Held> EmitAt for ParenExpr<N> {
     ghost items = { λ n _. paren N.items n };
 
@@ -266,11 +357,29 @@ impl EmitAt for IdentName {
     }
 }
 
+impl<N: Held> EmitAt for SpreadElement<N> {
+    ghost items = { λ n _. spread_element N.answers N.items n };
+
+    #[tactic(auto, unfolding(crate::specs::Exprs::spread_element))]
+    fn emit_at<W: WriteJs, S: SourceMapper, C: Comments>(
+        &self,
+        e: &mut Emitter<'_, W, S, C>,
+        place: Place,
+    ) -> Answer {
+        let span = spread_element_place(self);
+        e.opened(span)?;
+        e.punct(Punctuator::Ellipsis)?;
+        self.expr.held().emit_at(e, Place::Plain)?;
+        e.end_of(span)?;
+        Ok(())
+    }
+}
+
 impl<W: WriteJs, S: SourceMapper, C: Comments> Emitter<'_, W, S, C> {
     /// Writes the comments after an expression, unless they are left where they are.
     #[tactic(auto, unfolding(crate::specs::Exprs::expr_closed))]
     fn expr_closed(&mut self, left: bool, span: Span) -> Answer
-        ensures items { Emits (expr_closed left span) (state_of W.sheet self.old) (state_of W.sheet self.new) result }
+        ensures items { Emits (expr_closed left span) (state_of S.lines W.sheet self.old) (state_of S.lines W.sheet self.new) result }
         ensures level { OnOk result ((W.sheet self.new.wr).indentation ≡ (W.sheet self.old.wr).indentation) }
     {
         if left {
@@ -279,27 +388,10 @@ impl<W: WriteJs, S: SourceMapper, C: Comments> Emitter<'_, W, S, C> {
         self.trailing_comments(span.hi, true)
     }
 
-    /// Writes `.b` or `[b]`.
-    #[tactic(auto, unfolding(crate::specs::Exprs::member_prop))]
-    fn member_prop<N: Held>(&mut self, prop: &MemberProp<N>) -> Answer
-        ensures items { Emits (member_prop N.items prop.now) (state_of W.sheet self.old) (state_of W.sheet self.new) result }
-        ensures level { OnOk result ((W.sheet self.new.wr).indentation ≡ (W.sheet self.old.wr).indentation) }
-    {
-        match prop {
-            MemberProp::Ident(name) => {
-                self.comments_before(name.span.lo)?;
-                self.punct(Punctuator::Dot)?;
-                name.emit_at(self, Place::Plain)
-            }
-            MemberProp::Computed(name) => name.emit_at(self, Place::Plain),
-            MemberProp::PrivateName(_) => self.unsupported(),
-        }
-    }
-
     /// Writes the comments before a binary expression and its start, unless it is an inner left operand.
     #[tactic(auto, unfolding(crate::specs::Exprs::bin_opened))]
     fn bin_opened(&mut self, place: Place, span: Span) -> Answer
-        ensures items { Emits (bin_opened place span) (state_of W.sheet self.old) (state_of W.sheet self.new) result }
+        ensures items { Emits (bin_opened place span) (state_of S.lines W.sheet self.old) (state_of S.lines W.sheet self.new) result }
         ensures level { OnOk result ((W.sheet self.new.wr).indentation ≡ (W.sheet self.old.wr).indentation) }
     {
         match place {
@@ -311,7 +403,7 @@ impl<W: WriteJs, S: SourceMapper, C: Comments> Emitter<'_, W, S, C> {
     /// Writes a binary operator.
     #[tactic(auto, using(crate::proofs::OperatorLaws::marked_binary, crate::proofs::OperatorLaws::worded_binary))]
     fn binary_op(&mut self, op: BinaryOp) -> Answer
-        ensures items { Emits (binary_op op) (state_of W.sheet self.old) (state_of W.sheet self.new) result }
+        ensures items { Emits (binary_op op) (state_of S.lines W.sheet self.old) (state_of S.lines W.sheet self.new) result }
         ensures level { OnOk result ((W.sheet self.new.wr).indentation ≡ (W.sheet self.old.wr).indentation) }
     {
         match binary_mark(op) {
@@ -323,7 +415,7 @@ impl<W: WriteJs, S: SourceMapper, C: Comments> Emitter<'_, W, S, C> {
     /// Writes the operator and the right operand. swc's `emit_bin_expr_trailing`.
     #[tactic(auto, unfolding(crate::specs::Exprs::bin_trailing))]
     fn bin_trailing<N: Held>(&mut self, node: &BinExpr<N>) -> Answer
-        ensures items { Emits (bin_trailing N.answers N.items node.now) (state_of W.sheet self.old) (state_of W.sheet self.new) result }
+        ensures items { Emits (bin_trailing N.answers N.items node.now) (state_of S.lines W.sheet self.old) (state_of S.lines W.sheet self.new) result }
         ensures level { OnOk result ((W.sheet self.new.wr).indentation ≡ (W.sheet self.old.wr).indentation) }
     {
         self.blank(before_op(node.op, node.left.held()))?;
@@ -336,7 +428,7 @@ impl<W: WriteJs, S: SourceMapper, C: Comments> Emitter<'_, W, S, C> {
     /// Writes a unary operator.
     #[tactic(auto, using(crate::proofs::OperatorLaws::marked_unary, crate::proofs::OperatorLaws::worded_unary))]
     fn unary_op(&mut self, op: UnaryOp) -> Answer
-        ensures items { Emits (unary_op op) (state_of W.sheet self.old) (state_of W.sheet self.new) result }
+        ensures items { Emits (unary_op op) (state_of S.lines W.sheet self.old) (state_of S.lines W.sheet self.new) result }
         ensures level { OnOk result ((W.sheet self.new.wr).indentation ≡ (W.sheet self.old.wr).indentation) }
     {
         match unary_mark(op) {
@@ -348,13 +440,40 @@ impl<W: WriteJs, S: SourceMapper, C: Comments> Emitter<'_, W, S, C> {
     /// Writes what stands between a unary operator and its operand.
     #[tactic(auto, unfolding(crate::specs::Exprs::unary_gap))]
     fn unary_gap<N: Asked>(&mut self, op: UnaryOp, arg: &N) -> Answer
-        ensures items { Emits (unary_gap op (N.answers arg.now)) (state_of W.sheet self.old) (state_of W.sheet self.new) result }
+        ensures items { Emits (unary_gap op (N.answers arg.now)) (state_of S.lines W.sheet self.old) (state_of S.lines W.sheet self.new) result }
         ensures level { OnOk result ((W.sheet self.new.wr).indentation ≡ (W.sheet self.old.wr).indentation) }
     {
         if is_word_unary(op) {
             self.blank(arg.starts())
         } else {
             self.space_if(operand_space(op, arg.kind()))
+        }
+    }
+
+    /// Writes `*` after `yield`.
+    #[tactic(auto, unfolding(crate::specs::Exprs::yield_star))]
+    fn yield_star(&mut self, delegate: bool) -> Answer
+        ensures items { Emits (yield_star delegate) (state_of S.lines W.sheet self.old) (state_of S.lines W.sheet self.new) result }
+        ensures level { OnOk result ((W.sheet self.new.wr).indentation ≡ (W.sheet self.old.wr).indentation) }
+    {
+        if delegate {
+            return self.operator(Punctuator::Star);
+        }
+        Ok(())
+    }
+
+    /// Writes the argument of `yield`, and the blank before it.
+    #[tactic(auto, unfolding(crate::specs::Exprs::yield_arg))]
+    fn yield_arg<N: Held>(&mut self, delegate: bool, arg: &Option<ExprBox<N>>) -> Answer
+        ensures items { Emits (yield_arg N.answers N.items delegate arg.now) (state_of S.lines W.sheet self.old) (state_of S.lines W.sheet self.new) result }
+        ensures level { OnOk result ((W.sheet self.new.wr).indentation ≡ (W.sheet self.old.wr).indentation) }
+    {
+        match arg {
+            Some(node) => {
+                self.blank(!delegate && node.held().starts())?;
+                node.held().emit_at(self, Place::Plain)
+            }
+            None => Ok(()),
         }
     }
 }

@@ -62,7 +62,7 @@ impl Asked for AnyNode {}
 impl EmitAt for AnyNode {
     ghost items = { any_items };
 
-    #[tactic(auto, using(crate::proofs::Knots::any_items_of, crate::proofs::Knots::any_items_expr, crate::proofs::Knots::any_items_stmt, crate::proofs::Knots::any_items_member_expr), unfolding(crate::specs::Tree::node_items))]
+    #[tactic(auto, using(crate::proofs::Knots::any_items_of, crate::proofs::Knots::any_items_expr, crate::proofs::Knots::any_items_stmt, crate::proofs::Knots::any_items_member_expr, crate::proofs::Knots::any_items_expr_part), unfolding(crate::specs::Tree::node_items))]
     fn emit_at<W: WriteJs, S: SourceMapper, C: Comments>(
         &self,
         e: &mut Emitter<'_, W, S, C>,
@@ -72,6 +72,7 @@ impl EmitAt for AnyNode {
             AnyNode::Expr(node) => node.emit_at(e, place),
             AnyNode::Stmt(node) => node.emit_at(e, place),
             AnyNode::MemberExpr(node) => node.emit_at(e, place),
+            AnyNode::ExprPart(node) => node.emit_at(e, place),
             _ => e.unsupported(),
         }
     }

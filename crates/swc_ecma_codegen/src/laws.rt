@@ -11,11 +11,14 @@ ghost use Rattle.std.specs.String.{string_bytes};
 ghost use Rattle.swc_ecma_codegen_tree.specs.declared.lits.Str.{Str};
 ghost use Rattle.swc_ecma_codegen_util.specs.declared.config.Config.{Config};
 ghost use Rattle.swc_ecma_codegen_ast.specs.Tokens.{Token};
-ghost use Rattle.swc_ecma_codegen_ast.specs.Phrases.{Generates, is_possible};
+ghost use Rattle.swc_ecma_codegen_ast.specs.Phrases.{Phrase, Generates, is_possible};
+ghost use Rattle.swc_ecma_codegen_ast.specs.Settings.{Settings};
+ghost use Rattle.swc_ecma_codegen_ast.specs.Layouts.{AreAlike, AreSameBut, IsWritten};
 ghost use Rattle.swc_ecma_codegen_ast.specs.TreePhrases.{expr_phrase, stmt_phrase};
 ghost use Rattle.swc_ecma_codegen_text_writer.specs.Sheet.{HoldsNone};
 ghost use Rattle.swc_ecma_codegen_text_writer.specs.View.{new_sheet};
 ghost use Rattle.swc_ecma_codegen_base.specs.declared.refusals.Unprintable.TheVariants.{NameOutOfTarget};
+ghost use Rattle.swc_ecma_codegen_ast.specs.SourceLines.{Lines};
 ghost use Rattle.swc_ecma_codegen_base.specs.Run.{Env, Follows, State, nothing, makes_text, start, steps_in, steps_of, unprintable_in};
 ghost use Rattle.swc_ecma_codegen_base.specs.Lits.{prints_raw, string_at, value_text};
 ghost use Rattle.swc_ecma_codegen_base.specs.Scripts.{value_strings};
@@ -36,9 +39,9 @@ ghost use Rattle.swc_ecma_codegen.specs.View.{state_of};
 
 use crate::emitter::Emitter;
 pub use crate::link_laws::{
-    emitted_boxed_stmt_reads, emitted_expr_box_reads, emitted_member_expr_box_reads,
-    emitted_optional_stmt_reads, emitted_program_reads, emitted_script_reads,
-    emitted_stmt_box_reads, emitted_stmt_ref_reads, links_write_their_roots,
+    emitted_assign_target_box_reads, emitted_boxed_stmt_reads, emitted_expr_box_reads,
+    emitted_member_expr_box_reads, emitted_optional_stmt_reads, emitted_program_reads,
+    emitted_script_reads, emitted_stmt_box_reads, emitted_stmt_ref_reads, links_write_their_roots,
 };
 use crate::node::Node;
 use swc_ecma_codegen_ast::comments::Comments;
@@ -57,8 +60,8 @@ pub fn emitted_expr_reads<W: WriteJs, S: SourceMapper, C: Comments>(
     e: &mut Emitter<'_, W, S, C>,
 ) -> Result
     // It is what `emit_with` does.
-    ensures items { Follows (expr_items any_answers any_items expr.now Plain nothing) (state_of W.sheet e.old) (state_of W.sheet e.new) (in_short result) }
-    ensures reads { is_possible (expr_phrase expr.now) ≡ true → IsNew (state_of W.sheet e.old) → OnOk result (AddsReading (expr_phrase expr.now) (W.sheet e.old.wr) (W.sheet e.new.wr)) }
+    ensures items { Follows (expr_items any_answers any_items expr.now Plain nothing) (state_of S.lines W.sheet e.old) (state_of S.lines W.sheet e.new) (in_short result) }
+    ensures reads { is_possible (expr_phrase expr.now) ≡ true → IsNew (state_of S.lines W.sheet e.old) → OnOk result (AddsReading e.old.cfg (expr_phrase expr.now) (W.sheet e.old.wr) (W.sheet e.new.wr)) }
 {
     expr.emit_with(e)
 }
@@ -69,8 +72,8 @@ pub fn emitted_stmt_reads<W: WriteJs, S: SourceMapper, C: Comments>(
     e: &mut Emitter<'_, W, S, C>,
 ) -> Result
     // It is what `emit_with` does.
-    ensures items { Follows (stmt_items any_answers any_items stmt.now nothing) (state_of W.sheet e.old) (state_of W.sheet e.new) (in_short result) }
-    ensures reads { is_possible (stmt_phrase stmt.now) ≡ true → IsNew (state_of W.sheet e.old) → OnOk result (AddsReading (stmt_phrase stmt.now) (W.sheet e.old.wr) (W.sheet e.new.wr)) }
+    ensures items { Follows (stmt_items any_answers any_items stmt.now nothing) (state_of S.lines W.sheet e.old) (state_of S.lines W.sheet e.new) (in_short result) }
+    ensures reads { is_possible (stmt_phrase stmt.now) ≡ true → IsNew (state_of S.lines W.sheet e.old) → OnOk result (AddsReading e.old.cfg (stmt_phrase stmt.now) (W.sheet e.old.wr) (W.sheet e.new.wr)) }
 {
     stmt.emit_with(e)
 }
@@ -79,11 +82,11 @@ pub fn emitted_stmt_reads<W: WriteJs, S: SourceMapper, C: Comments>(
 /// after `set_indent_str` of blanks and tabs, and inside `omit_trailing_semi`. It is ready, whatever its lines end with. Under
 /// `ascii_only` it is one that is to write ASCII.
 pub fn new_emitter_reads()
-    ensures new { (config : Config) (bytes line_end : List ℕ) → IsLineEnd line_end → IsNew (start config (new_sheet bytes line_end)) }
-    ensures holding { (config : Config) (bytes line_end : List ℕ) → IsLineEnd line_end → IsNew (start config (record (new_sheet bytes line_end) { semicolons = HoldsNone })) }
-    ensures ready { (config : Config) (bytes line_end : List ℕ) → IsReady (start config (new_sheet bytes line_end)) }
-    ensures ascii { (config : Config) (bytes line_end : List ℕ) → config.ascii_only ≡ true → IsLineEnd line_end → WantsAscii (start config (new_sheet bytes line_end)) }
-    ensures indented { (config : Config) (bytes line_end indent : List ℕ) → IsLineEnd line_end → all_indent indent ≡ true → IsNew (start config (record (new_sheet bytes line_end) { indent_text = indent })) }
+    ensures new { (lines : Lines) (config : Config) (bytes line_end : List ℕ) → IsLineEnd line_end → IsNew (start lines config (new_sheet bytes line_end)) }
+    ensures holding { (lines : Lines) (config : Config) (bytes line_end : List ℕ) → IsLineEnd line_end → IsNew (start lines config (record (new_sheet bytes line_end) { semicolons = HoldsNone })) }
+    ensures ready { (lines : Lines) (config : Config) (bytes line_end : List ℕ) → IsReady (start lines config (new_sheet bytes line_end)) }
+    ensures ascii { (lines : Lines) (config : Config) (bytes line_end : List ℕ) → config.ascii_only ≡ true → IsLineEnd line_end → WantsAscii (start lines config (new_sheet bytes line_end)) }
+    ensures indented { (lines : Lines) (config : Config) (bytes line_end indent : List ℕ) → IsLineEnd line_end → all_indent indent ≡ true → IsNew (start lines config (record (new_sheet bytes line_end) { indent_text = indent })) }
 {}
 
 /// Where an expression begins with a word, a name or a number, by the first token of a list that
@@ -92,7 +95,7 @@ pub fn new_emitter_reads()
 pub fn first_token_is_told(expr: &Expr) -> bool
     // It is what `starts_with_alpha_num` answers.
     ensures answer { result ≡ expr_starts any_starts expr.now }
-    ensures told { (first : Token) (rest : List Token) → Generates (expr_phrase expr.now) (first ∷ rest) → joins_a_word first.kind ≡ true → result ≡ true }
+    ensures told { (settings : Settings) (first : Token) (rest : List Token) → Generates settings (expr_phrase expr.now) (first ∷ rest) → joins_a_word first.kind ≡ true → result ≡ true }
 {
     expr.starts_with_alpha_num()
 }
@@ -129,4 +132,12 @@ pub fn names_out_of_target_are_refused()
     ensures steps { (root : Root) (s : State) → is_well_formed_root root ≡ true → s.env.keeps_invalid ≡ false → unprintable_in (steps_in (root_items root) s) ≡ (if is_out s.env.config (root_phrase root) then Some NameOutOfTarget else None) }
     ensures printed { (root : Root) (a b : State) → is_well_formed_root root ≡ true → a.env.keeps_invalid ≡ false → Follows (root_items root nothing) a b (Ok tt) → is_out a.env.config (root_phrase root) ≡ false }
     ensures refused { (root : Root) (a b : State) → is_well_formed_root root ≡ true → a.env.keeps_invalid ≡ false → Follows (root_items root nothing) a b (Err refusals.NameOutOfTarget) → is_out a.env.config (root_phrase root) ≡ true }
+{}
+
+/// The lists of a tree under settings that differ in whether they minify are the same but for semicolons that end a
+/// statement, commas and pairs of parentheses: `(a) => new B();` and minified `a=>new B`. So are those that are written of
+/// it, where a writer leaves semicolons out.
+pub fn layouts_keep_the_tokens()
+    ensures lists { (s t : Settings) (phrase : Phrase) (xs ys : List Token) → AreAlike s t → Generates s phrase xs → Generates t phrase ys → AreSameBut xs ys }
+    ensures written { (s t : Settings) (phrase : Phrase) (xs ys : List Token) → AreAlike s t → IsWritten s phrase xs → IsWritten t phrase ys → AreSameBut xs ys }
 {}

@@ -2,6 +2,8 @@
 #![tactic(auto)]
 
 pub mod ast;
+mod calls;
+mod chains;
 mod code;
 mod emitter;
 mod expr;
@@ -14,8 +16,10 @@ mod marks;
 mod node;
 pub mod nodes;
 pub mod operands;
+mod parts;
 mod places;
 mod stmt;
+mod targets;
 mod tokens;
 
 pub use crate::code::to_code;

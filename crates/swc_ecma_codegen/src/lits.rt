@@ -24,7 +24,7 @@ fn is_object(place: Place) -> bool
 {
     match place {
         Place::Object | Place::DottedObject(_) => true,
-        Place::Plain | Place::LeftOperand => false,
+        _ => false,
     }
 }
 
@@ -60,36 +60,42 @@ impl EmitAt for Lit {
 impl EmitAt for Str {
     ghost items = { λ n _. str_lit n };
 
+    #[tactic(auto, unfolding(swc_ecma_codegen_base::specs::Run::with_lines))]
     fn emit_at<W: WriteJs, S: SourceMapper, C: Comments>(
         &self,
         e: &mut Emitter<'_, W, S, C>,
         place: Place,
     ) -> Answer {
-        e.lower.str_lit(&e.cfg, &e.comments, &mut e.wr, self)
+        e.lower.str_lit(&e.cfg, &e.comments, &mut e.wr, self)?;
+        Ok(())
     }
 }
 
 impl EmitAt for Bool {
     ghost items = { λ n _. bool_lit n };
 
+    #[tactic(auto, unfolding(swc_ecma_codegen_base::specs::Run::with_lines))]
     fn emit_at<W: WriteJs, S: SourceMapper, C: Comments>(
         &self,
         e: &mut Emitter<'_, W, S, C>,
         place: Place,
     ) -> Answer {
-        e.lower.bool_lit(&e.cfg, &mut e.wr, self)
+        e.lower.bool_lit(&e.cfg, &mut e.wr, self)?;
+        Ok(())
     }
 }
 
 impl EmitAt for Null {
     ghost items = { λ n _. null_lit n };
 
+    #[tactic(auto, unfolding(swc_ecma_codegen_base::specs::Run::with_lines))]
     fn emit_at<W: WriteJs, S: SourceMapper, C: Comments>(
         &self,
         e: &mut Emitter<'_, W, S, C>,
         place: Place,
     ) -> Answer {
-        e.lower.null_lit(&e.cfg, &mut e.wr, self)
+        e.lower.null_lit(&e.cfg, &mut e.wr, self)?;
+        Ok(())
     }
 }
 
@@ -108,32 +114,36 @@ impl EmitAt for Number {
 impl EmitAt for BigInt {
     ghost items = { λ n _. big_int_lit n };
 
+    #[tactic(auto, unfolding(swc_ecma_codegen_base::specs::Run::with_lines))]
     fn emit_at<W: WriteJs, S: SourceMapper, C: Comments>(
         &self,
         e: &mut Emitter<'_, W, S, C>,
         place: Place,
     ) -> Answer {
-        e.lower.big_int_lit(&e.cfg, &e.comments, &mut e.wr, self)
+        e.lower.big_int_lit(&e.cfg, &e.comments, &mut e.wr, self)?;
+        Ok(())
     }
 }
 
 impl EmitAt for Regex {
     ghost items = { λ n _. regex_lit n };
 
+    #[tactic(auto, unfolding(swc_ecma_codegen_base::specs::Run::with_lines))]
     fn emit_at<W: WriteJs, S: SourceMapper, C: Comments>(
         &self,
         e: &mut Emitter<'_, W, S, C>,
         place: Place,
     ) -> Answer {
-        e.lower.regex_lit(&e.cfg, &mut e.wr, self)
+        e.lower.regex_lit(&e.cfg, &mut e.wr, self)?;
+        Ok(())
     }
 }
 
-impl<W: WriteJs, S, C: Comments> Emitter<'_, W, S, C> {
+impl<W: WriteJs, S: SourceMapper, C: Comments> Emitter<'_, W, S, C> {
     /// Writes a literal.
     #[inline(never)]
     fn lit(&mut self, node: &Lit) -> Answer
-        ensures items { Emits (lit node.now) (state_of W.sheet self.old) (state_of W.sheet self.new) result }
+        ensures items { Emits (lit node.now) (state_of S.lines W.sheet self.old) (state_of S.lines W.sheet self.new) result }
         ensures level { OnOk result ((W.sheet self.new.wr).indentation ≡ (W.sheet self.old.wr).indentation) }
     {
         self.lower
@@ -143,7 +153,7 @@ impl<W: WriteJs, S, C: Comments> Emitter<'_, W, S, C> {
     /// Writes a number.
     #[inline(never)]
     fn number_lit(&mut self, node: &Number) -> Answer
-        ensures items { Emits (number_lit node.now) (state_of W.sheet self.old) (state_of W.sheet self.new) result }
+        ensures items { Emits (number_lit node.now) (state_of S.lines W.sheet self.old) (state_of S.lines W.sheet self.new) result }
         ensures level { OnOk result ((W.sheet self.new.wr).indentation ≡ (W.sheet self.old.wr).indentation) }
     {
         self.lower
@@ -154,7 +164,7 @@ impl<W: WriteJs, S, C: Comments> Emitter<'_, W, S, C> {
     /// be its.
     #[inline(never)]
     fn number_object(&mut self, node: &Number, prop: BytePos) -> Answer
-        ensures items { Emits (number_object node.now prop) (state_of W.sheet self.old) (state_of W.sheet self.new) result }
+        ensures items { Emits (number_object node.now prop) (state_of S.lines W.sheet self.old) (state_of S.lines W.sheet self.new) result }
         ensures level { OnOk result ((W.sheet self.new.wr).indentation ≡ (W.sheet self.old.wr).indentation) }
     {
         self.lower

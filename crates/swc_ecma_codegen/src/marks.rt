@@ -1,13 +1,13 @@
 //! Operators that are punctuators.
 
 ghost use Rattle.std.specs.Prelude.{◌≡◌, true, false, IfNone, IfSome};
-ghost use Rattle.swc_ecma_codegen_common.specs.Operators.{binary_text, unary_text, update_text};
+ghost use Rattle.swc_ecma_codegen_common.specs.Operators.{assign_text, binary_text, unary_text, update_text};
 ghost use Rattle.swc_ecma_codegen_literals.specs.Punctuators.{spelling};
 ghost use Rattle.swc_ecma_codegen_util.specs.Starts.{is_word_op as is_word_unary};
 ghost use Rattle.swc_ecma_codegen_base.specs.Starts.{begins_letter};
 ghost use Rattle.swc_ecma_codegen.specs.Operands.{is_word_op};
 
-use swc_ecma_codegen_common::{BinaryOp, UnaryOp, UpdateOp};
+use swc_ecma_codegen_common::{AssignOp, BinaryOp, UnaryOp, UpdateOp};
 use swc_ecma_codegen_literals::Punctuator;
 
 /// The punctuator that a binary operator is; `None` for a word.
@@ -72,5 +72,30 @@ pub(crate) fn update_mark(op: UpdateOp) -> Punctuator
     match op {
         UpdateOp::PlusPlus => Punctuator::PlusPlus,
         UpdateOp::MinusMinus => Punctuator::MinusMinus,
+    }
+}
+
+/// The punctuator that an assignment operator is.
+#[tactic(auto, unfolding(swc_ecma_codegen_common::specs::Operators::assign_text))]
+pub(crate) fn assign_mark(op: AssignOp) -> Punctuator
+    ensures { spelling result ≡ assign_text op }
+{
+    match op {
+        AssignOp::Assign => Punctuator::Equal,
+        AssignOp::AddAssign => Punctuator::PlusEqual,
+        AssignOp::SubAssign => Punctuator::MinusEqual,
+        AssignOp::MulAssign => Punctuator::StarEqual,
+        AssignOp::DivAssign => Punctuator::SlashEqual,
+        AssignOp::ModAssign => Punctuator::PercentEqual,
+        AssignOp::LShiftAssign => Punctuator::LessLessEqual,
+        AssignOp::RShiftAssign => Punctuator::GreaterGreaterEqual,
+        AssignOp::ZeroFillRShiftAssign => Punctuator::GreaterGreaterGreaterEqual,
+        AssignOp::BitOrAssign => Punctuator::BarEqual,
+        AssignOp::BitXorAssign => Punctuator::CaretEqual,
+        AssignOp::BitAndAssign => Punctuator::AmpersandEqual,
+        AssignOp::ExpAssign => Punctuator::StarStarEqual,
+        AssignOp::AndAssign => Punctuator::AmpersandAmpersandEqual,
+        AssignOp::OrAssign => Punctuator::BarBarEqual,
+        AssignOp::NullishAssign => Punctuator::QuestionQuestionEqual,
     }
 }

@@ -23,7 +23,7 @@ use swc_ecma_codegen_ast::mapper::SourceMapper;
 use swc_ecma_codegen_common::{Answer, Error, Result};
 use swc_ecma_codegen_spans::Spanned;
 use swc_ecma_codegen_text_writer::WriteJs;
-use swc_ecma_codegen_tree::{ExprBox, MemberExprBox, StmtBox};
+use swc_ecma_codegen_tree::{AssignTargetBox, ExprBox, MemberExprBox, StmtBox};
 
 /// A node that can be printed: each type of node, a link, and a reference, a box or an option of these. swc's `Node`.
 pub trait Node: Spanned {
@@ -35,33 +35,33 @@ pub trait Node: Spanned {
         e: &mut Emitter<'_, W, S, C>,
     ) -> Result
         // The steps of the tree are made, and it comes to no node that can't be printed; or it halts.
-        ensures items { Follows (part self.now nothing) (state_of W.sheet e.old) (state_of W.sheet e.new) (in_short result) }
+        ensures items { Follows (part self.now nothing) (state_of S.lines W.sheet e.old) (state_of S.lines W.sheet e.new) (in_short result) }
         // What a new emitter adds to the text, of a well-formed tree, reads as one of the tree's token lists.
-        ensures reads { (root : Root) → part self.now ≡ root_items root → is_well_formed_root root ≡ true → IsNew (state_of W.sheet e.old) → OnOk result (AddsReading (root_phrase root) (W.sheet e.old.wr) (W.sheet e.new.wr)) }
+        ensures reads { (root : Root) → part self.now ≡ root_items root → is_well_formed_root root ≡ true → IsNew (state_of S.lines W.sheet e.old) → OnOk result (AddsReading e.old.cfg (root_phrase root) (W.sheet e.old.wr) (W.sheet e.new.wr)) }
         // Each position that is recorded holds the place that the text had reached, and none is recorded twice.
         ensures recorded { OnOk result (RecordsTruly (W.sheet e.old.wr) (W.sheet e.new.wr)) }
         // Where positions are kept, each name of a well-formed tree has its own where it begins, unless that is 0.
         ensures names { (root : Root) → part self.now ≡ root_items root → is_well_formed_root root ≡ true → (W.sheet e.old.wr).keeps_positions ≡ true → (W.sheet e.old.wr).keeps_invalid ≡ false → OnOk result (RecordsNames e.old.cfg (names_in (root_phrase root)) (W.sheet e.old.wr) (W.sheet e.new.wr)) }
         // Where the settings ask for ASCII, what is added is, unless a text that stands as it is in the tree isn't: a regular
         // expression, or a directive with a backslash.
-        ensures ascii { (root : Root) → part self.now ≡ root_items root → is_well_formed_root root ≡ true → WantsAscii (state_of W.sheet e.old) → keeps_other (steps_of (steps_in (part self.now) (state_of W.sheet e.old))) ≡ false → OnOk result (AddsAscii (W.sheet e.old.wr).text (W.sheet e.new.wr).text) }
+        ensures ascii { (root : Root) → part self.now ≡ root_items root → is_well_formed_root root ≡ true → WantsAscii (state_of S.lines W.sheet e.old) → keeps_other (steps_of (steps_in (part self.now) (state_of S.lines W.sheet e.old))) ≡ false → OnOk result (AddsAscii (W.sheet e.old.wr).text (W.sheet e.new.wr).text) }
         // Under `inline_script` no string of a well-formed tree that is printed by its value ends a script of an HTML page, or
         // opens or closes a comment there: it holds no `<!--`, no `-->`, and no `</script` before `>` or ASCII whitespace.
-        ensures inline { (root : Root) → part self.now ≡ root_items root → is_well_formed_root root ≡ true → e.old.cfg.inline_script ≡ true → (W.sheet e.old.wr).keeps_invalid ≡ false → OnOk result (AddsSafe (value_strings (steps_of (steps_in (part self.now) (state_of W.sheet e.old)))) (W.sheet e.old.wr).text (W.sheet e.new.wr).text) }
+        ensures inline { (root : Root) → part self.now ≡ root_items root → is_well_formed_root root ≡ true → e.old.cfg.inline_script ≡ true → (W.sheet e.old.wr).keeps_invalid ≡ false → OnOk result (AddsSafe (value_strings (steps_of (steps_in (part self.now) (state_of S.lines W.sheet e.old)))) (W.sheet e.old.wr).text (W.sheet e.new.wr).text) }
         // What is out is a beginning of the text of these steps.
-        ensures front { IsFront (W.sheet e.new.wr).text (printed (part self.now) (state_of W.sheet e.old)).sheet.text }
+        ensures front { IsFront (W.sheet e.new.wr).text (printed (part self.now) (state_of S.lines W.sheet e.old)).sheet.text }
         // It is refused only for the cause that the error names.
-        ensures cause { IfErr result (λ error. HasCause (steps_in (part self.now) (state_of W.sheet e.old)) (reason_of error) (state_of W.sheet e.old) (state_of W.sheet e.new)) }
+        ensures cause { IfErr result (λ error. HasCause (steps_in (part self.now) (state_of S.lines W.sheet e.old)) (reason_of error) (state_of S.lines W.sheet e.old) (state_of S.lines W.sheet e.new)) }
         // Where no text is made anew, and no call of the writer takes memory, none is wanting.
-        ensures no_memory { makes_text (steps_of (steps_in (part self.now) (state_of W.sheet e.old))) ≡ false → (W.sheet e.old.wr).takes_memory ≡ false → result ≢ Err Error.OutOfMemory }
+        ensures no_memory { makes_text (steps_of (steps_in (part self.now) (state_of S.lines W.sheet e.old))) ≡ false → (W.sheet e.old.wr).takes_memory ≡ false → result ≢ Err Error.OutOfMemory }
         // Where nothing stands in its way, it is made.
-        ensures succeeds { IsUnhindered (steps_in (part self.now) (state_of W.sheet e.old)) (state_of W.sheet e.old) (state_of W.sheet e.new) → IsOk result }
+        ensures succeeds { IsUnhindered (steps_in (part self.now) (state_of S.lines W.sheet e.old)) (state_of S.lines W.sheet e.old) (state_of S.lines W.sheet e.new) → IsOk result }
         // Where it is ready, and the writer counts no fault, a plain tree is printed.
-        ensures made { (root : Root) → part self.now ≡ root_items root → IsPlainTree e.old.cfg (root_phrase root) (W.sheet e.old.wr).indentation → IsReady (state_of W.sheet e.old) → (W.sheet e.new.wr).faults ≡ (W.sheet e.old.wr).faults → IsOk result }
+        ensures made { (root : Root) → part self.now ≡ root_items root → IsPlainTree e.old.cfg (root_phrase root) (W.sheet e.old.wr).indentation → IsReady (state_of S.lines W.sheet e.old) → (W.sheet e.new.wr).faults ≡ (W.sheet e.old.wr).faults → IsOk result }
         // It is ready again for the next.
-        ensures ready { OnOk result (IsReady (state_of W.sheet e.old) → IsReady (state_of W.sheet e.new)) }
-        ensures marked { OnErr result ((state_of W.sheet e.new).failed ≡ true) }
-        ensures failed { (state_of W.sheet e.old).failed ≡ true → result ≡ Err Error.Failed }
+        ensures ready { OnOk result (IsReady (state_of S.lines W.sheet e.old) → IsReady (state_of S.lines W.sheet e.new)) }
+        ensures marked { OnErr result ((state_of S.lines W.sheet e.new).failed ≡ true) }
+        ensures failed { (state_of S.lines W.sheet e.old).failed ≡ true → result ≡ Err Error.Failed }
         // The indentation is what it was.
         ensures level { OnOk result ((W.sheet e.new.wr).indentation ≡ (W.sheet e.old.wr).indentation) };
 }
@@ -143,6 +143,18 @@ impl<N: EmitAt> EmitAt for StmtBox<N> {
 }
 
 impl<N: EmitAt> EmitAt for MemberExprBox<N> {
+    ghost items = { λ n place. N.items n.node.value place };
+
+    fn emit_at<W: WriteJs, S: SourceMapper, C: Comments>(
+        &self,
+        e: &mut Emitter<'_, W, S, C>,
+        place: Place,
+    ) -> Answer {
+        self.held().emit_at(e, place)
+    }
+}
+
+impl<N: EmitAt> EmitAt for AssignTargetBox<N> {
     ghost items = { λ n place. N.items n.node.value place };
 
     fn emit_at<W: WriteJs, S: SourceMapper, C: Comments>(

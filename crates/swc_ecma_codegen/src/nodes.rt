@@ -4,13 +4,15 @@ ghost use Rattle.std.specs.Prelude.{◌≡◌, OnOk};
 ghost use Rattle.swc_ecma_codegen_base.specs.Run.{Part, Emits};
 ghost use Rattle.swc_ecma_codegen.specs.declared.nodes.Place.{Place as At};
 ghost use Rattle.swc_ecma_codegen.specs.Answers.{Answers};
+ghost use Rattle.swc_ecma_codegen_common.specs.declared.positions.Span.{Span as Stretch};
+ghost use Rattle.swc_ecma_codegen_spans.specs.Spans.{option_span};
 ghost use Rattle.swc_ecma_codegen.specs.View.{state_of};
 
 use crate::emitter::Emitter;
 use crate::operands::OperandKind;
 use swc_ecma_codegen_ast::comments::Comments;
 use swc_ecma_codegen_ast::mapper::SourceMapper;
-use swc_ecma_codegen_common::{Answer, BinaryOp, BytePos, Span};
+use swc_ecma_codegen_common::{Answer, BinaryOp, BytePos, DUMMY_SP, Span};
 use swc_ecma_codegen_text_writer::WriteJs;
 
 /// Where a node stands in the one above it.
@@ -24,6 +26,10 @@ pub enum Place {
     Object,
     /// The object of a property after a dot, and where the property stands: `1` in `1..a`.
     DottedObject(BytePos),
+    /// What is called: `f` of `f(a)`. The object of a property in an optional chain stands there too.
+    Callee,
+    /// A member or a call in an optional chain, and whether `?.` stands before its property or its arguments: `a?.b`
+    Chain(bool),
 }
 
 /// What a node tells those above it.
@@ -74,8 +80,29 @@ pub trait EmitAt {
         e: &mut Emitter<'_, W, S, C>,
         place: Place,
     ) -> Answer
-        ensures items { Emits (items self.now place) (state_of W.sheet e.old) (state_of W.sheet e.new) result }
+        ensures items { Emits (items self.now place) (state_of S.lines W.sheet e.old) (state_of S.lines W.sheet e.new) result }
         ensures level { OnOk result ((W.sheet e.new.wr).indentation ≡ (W.sheet e.old.wr).indentation) };
+}
+
+/// What a list has to know of a child, besides how it is printed.
+pub trait Child: EmitAt {
+    ghost stands: { Self → Stretch };
+
+    /// Where it stands.
+    fn place(&self) -> Span
+        ensures { result ≡ stands self.now };
+}
+
+impl<T: Child> Child for Option<T> {
+    ghost stands = { option_span T.stands };
+
+    #[tactic(auto, unfolding(swc_ecma_codegen_spans::specs::Spans::option_span))]
+    fn place(&self) -> Span {
+        match self {
+            Some(child) => child.place(),
+            None => DUMMY_SP,
+        }
+    }
 }
 
 /// All that a link may hold.

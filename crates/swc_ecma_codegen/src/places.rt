@@ -1,13 +1,13 @@
 //! Where a node stands whose place is that of what it holds.
 
 ghost use Rattle.std.specs.Prelude.{◌≡◌};
-ghost use Rattle.swc_ecma_codegen_spans.specs.Spans.{expr_span, stmt_span};
+ghost use Rattle.swc_ecma_codegen_spans.specs.Spans.{expr_or_spread_span, expr_span, spread_element_span, stmt_span};
 ghost use Rattle.swc_ecma_codegen.specs.Answers.{place_of};
 
 use crate::nodes::AskPlace;
 use swc_ecma_codegen_common::Span;
 use swc_ecma_codegen_spans::Spanned;
-use swc_ecma_codegen_tree::{Expr, Stmt};
+use swc_ecma_codegen_tree::{Expr, ExprOrSpread, SpreadElement, Stmt};
 
 /// Where an expression stands.
 #[tactic(auto, unfolding(swc_ecma_codegen_spans::specs::Spans::expr_span, swc_ecma_codegen_spans::specs::Spans::fn_expr_span, swc_ecma_codegen_spans::specs::Spans::class_expr_span, swc_ecma_codegen_spans::specs::Spans::jsx_member_expr_span))]
@@ -84,5 +84,31 @@ pub(crate) fn stmt_place<N: AskPlace>(node: &Stmt<N>) -> Span
         Stmt::ForOf(node) => node.span,
         Stmt::Decl(node) => node.held().place(),
         Stmt::Expr(node) => node.span,
+    }
+}
+
+/// Where an argument or an element stands: `a` or `...a`.
+#[tactic(auto, unfolding(swc_ecma_codegen_spans::specs::Spans::expr_or_spread_span))]
+pub(crate) fn expr_or_spread_place<N: AskPlace>(node: &ExprOrSpread<N>) -> Span
+    ensures { result ≡ expr_or_spread_span (place_of N.answers) node.now }
+{
+    let span = node.expr.held().place();
+    match node.spread {
+        Some(dots) => Span {
+            lo: dots.lo,
+            hi: span.hi,
+        },
+        None => span,
+    }
+}
+
+/// Where `...a` stands.
+#[tactic(auto, unfolding(swc_ecma_codegen_spans::specs::Spans::spread_element_span))]
+pub(crate) fn spread_element_place<N: AskPlace>(node: &SpreadElement<N>) -> Span
+    ensures { result ≡ spread_element_span (place_of N.answers) node.now }
+{
+    Span {
+        lo: node.dot3_token.lo,
+        hi: node.expr.held().place().hi,
     }
 }

@@ -109,7 +109,7 @@ impl<W: WriteJs, S: SourceMapper, C: Comments> Emitter<'_, W, S, C> {
     /// Records the start of a program without statements.
     #[tactic(auto, unfolding(crate::specs::Programs::start_if_empty))]
     fn start_if_empty<N>(&mut self, body: &[StmtBox<N>], span: Span) -> Answer
-        ensures items { Emits (start_if_empty body.now span) (state_of W.sheet self.old) (state_of W.sheet self.new) result }
+        ensures items { Emits (start_if_empty body.now span) (state_of S.lines W.sheet self.old) (state_of S.lines W.sheet self.new) result }
         ensures level { OnOk result ((W.sheet self.new.wr).indentation ≡ (W.sheet self.old.wr).indentation) }
     {
         match body {

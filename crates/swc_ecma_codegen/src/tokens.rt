@@ -15,16 +15,17 @@ ghost use Rattle.swc_ecma_codegen.specs.View.{state_of};
 
 use crate::emitter::Emitter;
 use swc_ecma_codegen_ast::comments::Comments;
+use swc_ecma_codegen_ast::mapper::SourceMapper;
 use swc_ecma_codegen_base::Unprintable;
 use swc_ecma_codegen_common::{Answer, BytePos, Span};
 use swc_ecma_codegen_literals::Punctuator;
 use swc_ecma_codegen_text_writer::WriteJs;
 
-impl<W: WriteJs, S, C: Comments> Emitter<'_, W, S, C> {
+impl<W: WriteJs, S: SourceMapper, C: Comments> Emitter<'_, W, S, C> {
     /// Comes to a node that isn't printed yet.
     #[tactic(auto, unfolding(crate::specs::Lists::unsupported))]
     pub(crate) fn unsupported(&mut self) -> Answer
-        ensures items { Emits unsupported (state_of W.sheet self.old) (state_of W.sheet self.new) result }
+        ensures items { Emits unsupported (state_of S.lines W.sheet self.old) (state_of S.lines W.sheet self.new) result }
         ensures level { OnOk result ((W.sheet self.new.wr).indentation ≡ (W.sheet self.old.wr).indentation) }
     {
         self.lower
@@ -34,7 +35,7 @@ impl<W: WriteJs, S, C: Comments> Emitter<'_, W, S, C> {
     /// Writes a keyword.
     pub(crate) fn keyword(&mut self, span: Option<Span>, text: &'static str) -> Answer
         requires { begins_letter text.now ≡ true }
-        ensures items { Emits (keyword span text.now) (state_of W.sheet self.old) (state_of W.sheet self.new) result }
+        ensures items { Emits (keyword span text.now) (state_of S.lines W.sheet self.old) (state_of S.lines W.sheet self.new) result }
         ensures level { OnOk result ((W.sheet self.new.wr).indentation ≡ (W.sheet self.old.wr).indentation) }
     {
         self.lower.keyword(&self.cfg, &mut self.wr, span, text)
@@ -42,7 +43,7 @@ impl<W: WriteJs, S, C: Comments> Emitter<'_, W, S, C> {
 
     /// Writes an operator that is a punctuator.
     pub(crate) fn operator(&mut self, mark: Punctuator) -> Answer
-        ensures items { Emits (operator (spelling mark)) (state_of W.sheet self.old) (state_of W.sheet self.new) result }
+        ensures items { Emits (operator (spelling mark)) (state_of S.lines W.sheet self.old) (state_of S.lines W.sheet self.new) result }
         ensures level { OnOk result ((W.sheet self.new.wr).indentation ≡ (W.sheet self.old.wr).indentation) }
     {
         self.lower.operator(&self.cfg, &mut self.wr, mark)
@@ -52,7 +53,7 @@ impl<W: WriteJs, S, C: Comments> Emitter<'_, W, S, C> {
     #[inline(never)]
     pub(crate) fn word_operator(&mut self, text: &'static str) -> Answer
         requires { begins_letter text.now ≡ true }
-        ensures items { Emits (word_operator text.now) (state_of W.sheet self.old) (state_of W.sheet self.new) result }
+        ensures items { Emits (word_operator text.now) (state_of S.lines W.sheet self.old) (state_of S.lines W.sheet self.new) result }
         ensures level { OnOk result ((W.sheet self.new.wr).indentation ≡ (W.sheet self.old.wr).indentation) }
     {
         self.lower.word_operator(&self.cfg, &mut self.wr, text)
@@ -60,7 +61,7 @@ impl<W: WriteJs, S, C: Comments> Emitter<'_, W, S, C> {
 
     /// Writes a punctuator.
     pub(crate) fn punct(&mut self, mark: Punctuator) -> Answer
-        ensures items { Emits (punct (spelling mark)) (state_of W.sheet self.old) (state_of W.sheet self.new) result }
+        ensures items { Emits (punct (spelling mark)) (state_of S.lines W.sheet self.old) (state_of S.lines W.sheet self.new) result }
         ensures level { OnOk result ((W.sheet self.new.wr).indentation ≡ (W.sheet self.old.wr).indentation) }
     {
         self.lower.punct(&self.cfg, &mut self.wr, mark)
@@ -69,7 +70,7 @@ impl<W: WriteJs, S, C: Comments> Emitter<'_, W, S, C> {
     /// Writes a semicolon that may be left out where it isn't needed.
     #[inline(never)]
     pub(crate) fn semi(&mut self) -> Answer
-        ensures items { Emits (semi) (state_of W.sheet self.old) (state_of W.sheet self.new) result }
+        ensures items { Emits (semi) (state_of S.lines W.sheet self.old) (state_of S.lines W.sheet self.new) result }
         ensures level { OnOk result ((W.sheet self.new.wr).indentation ≡ (W.sheet self.old.wr).indentation) }
     {
         self.lower.semi(&self.cfg, &mut self.wr)
@@ -77,7 +78,7 @@ impl<W: WriteJs, S, C: Comments> Emitter<'_, W, S, C> {
 
     /// Writes a blank.
     pub(crate) fn space(&mut self) -> Answer
-        ensures items { Emits (space) (state_of W.sheet self.old) (state_of W.sheet self.new) result }
+        ensures items { Emits (space) (state_of S.lines W.sheet self.old) (state_of S.lines W.sheet self.new) result }
         ensures level { OnOk result ((W.sheet self.new.wr).indentation ≡ (W.sheet self.old.wr).indentation) }
     {
         self.lower.space(&self.cfg, &mut self.wr)
@@ -85,7 +86,7 @@ impl<W: WriteJs, S, C: Comments> Emitter<'_, W, S, C> {
 
     /// Writes a blank, unless the settings are to minify.
     pub(crate) fn formatting_space(&mut self) -> Answer
-        ensures items { Emits (formatting_space) (state_of W.sheet self.old) (state_of W.sheet self.new) result }
+        ensures items { Emits (formatting_space) (state_of S.lines W.sheet self.old) (state_of S.lines W.sheet self.new) result }
         ensures level { OnOk result ((W.sheet self.new.wr).indentation ≡ (W.sheet self.old.wr).indentation) }
     {
         self.lower.formatting_space(&self.cfg, &mut self.wr)
@@ -94,7 +95,7 @@ impl<W: WriteJs, S, C: Comments> Emitter<'_, W, S, C> {
     /// Ends the line, unless the settings are to minify.
     #[inline(never)]
     pub(crate) fn formatting_line(&mut self) -> Answer
-        ensures items { Emits (formatting_line) (state_of W.sheet self.old) (state_of W.sheet self.new) result }
+        ensures items { Emits (formatting_line) (state_of S.lines W.sheet self.old) (state_of S.lines W.sheet self.new) result }
         ensures level { OnOk result ((W.sheet self.new.wr).indentation ≡ (W.sheet self.old.wr).indentation) }
     {
         self.lower.formatting_line(&self.cfg, &mut self.wr)
@@ -102,7 +103,7 @@ impl<W: WriteJs, S, C: Comments> Emitter<'_, W, S, C> {
 
     /// Writes a semicolon that is held back.
     pub(crate) fn commit_pending_semi(&mut self) -> Answer
-        ensures items { Emits (commit_pending_semi) (state_of W.sheet self.old) (state_of W.sheet self.new) result }
+        ensures items { Emits (commit_pending_semi) (state_of S.lines W.sheet self.old) (state_of S.lines W.sheet self.new) result }
         ensures level { OnOk result ((W.sheet self.new.wr).indentation ≡ (W.sheet self.old.wr).indentation) }
     {
         self.lower.commit_pending_semi(&self.cfg, &mut self.wr)
@@ -110,7 +111,7 @@ impl<W: WriteJs, S, C: Comments> Emitter<'_, W, S, C> {
 
     /// Records a position, unless it is none.
     pub(crate) fn position(&mut self, pos: BytePos) -> Answer
-        ensures items { Emits (position pos) (state_of W.sheet self.old) (state_of W.sheet self.new) result }
+        ensures items { Emits (position pos) (state_of S.lines W.sheet self.old) (state_of S.lines W.sheet self.new) result }
         ensures level { OnOk result ((W.sheet self.new.wr).indentation ≡ (W.sheet self.old.wr).indentation) }
     {
         self.lower.position(&self.cfg, &mut self.wr, pos)
@@ -118,7 +119,7 @@ impl<W: WriteJs, S, C: Comments> Emitter<'_, W, S, C> {
 
     /// Records the position before one, unless that one is none.
     pub(crate) fn position_before(&mut self, pos: BytePos) -> Answer
-        ensures items { Emits (position_before pos) (state_of W.sheet self.old) (state_of W.sheet self.new) result }
+        ensures items { Emits (position_before pos) (state_of S.lines W.sheet self.old) (state_of S.lines W.sheet self.new) result }
         ensures level { OnOk result ((W.sheet self.new.wr).indentation ≡ (W.sheet self.old.wr).indentation) }
     {
         self.lower.position_before(&self.cfg, &mut self.wr, pos)
@@ -126,7 +127,7 @@ impl<W: WriteJs, S, C: Comments> Emitter<'_, W, S, C> {
 
     /// Records where a node begins.
     pub(crate) fn start_of(&mut self, span: Span) -> Answer
-        ensures items { Emits (start_of span) (state_of W.sheet self.old) (state_of W.sheet self.new) result }
+        ensures items { Emits (start_of span) (state_of S.lines W.sheet self.old) (state_of S.lines W.sheet self.new) result }
         ensures level { OnOk result ((W.sheet self.new.wr).indentation ≡ (W.sheet self.old.wr).indentation) }
     {
         self.position(span.lo)
@@ -134,7 +135,7 @@ impl<W: WriteJs, S, C: Comments> Emitter<'_, W, S, C> {
 
     /// Records where a node ends.
     pub(crate) fn end_of(&mut self, span: Span) -> Answer
-        ensures items { Emits (end_of span) (state_of W.sheet self.old) (state_of W.sheet self.new) result }
+        ensures items { Emits (end_of span) (state_of S.lines W.sheet self.old) (state_of S.lines W.sheet self.new) result }
         ensures level { OnOk result ((W.sheet self.new.wr).indentation ≡ (W.sheet self.old.wr).indentation) }
     {
         self.position(span.hi)
@@ -142,7 +143,7 @@ impl<W: WriteJs, S, C: Comments> Emitter<'_, W, S, C> {
 
     /// Records where a node's last character stands.
     pub(crate) fn last_of(&mut self, span: Span) -> Answer
-        ensures items { Emits (last_of span) (state_of W.sheet self.old) (state_of W.sheet self.new) result }
+        ensures items { Emits (last_of span) (state_of S.lines W.sheet self.old) (state_of S.lines W.sheet self.new) result }
         ensures level { OnOk result ((W.sheet self.new.wr).indentation ≡ (W.sheet self.old.wr).indentation) }
     {
         self.position_before(span.hi)
@@ -150,7 +151,7 @@ impl<W: WriteJs, S, C: Comments> Emitter<'_, W, S, C> {
 
     /// Writes the comments that stand before a position.
     pub(crate) fn leading_comments(&mut self, pos: BytePos) -> Answer
-        ensures items { Emits (leading_comments pos) (state_of W.sheet self.old) (state_of W.sheet self.new) result }
+        ensures items { Emits (leading_comments pos) (state_of S.lines W.sheet self.old) (state_of S.lines W.sheet self.new) result }
         ensures level { OnOk result ((W.sheet self.new.wr).indentation ≡ (W.sheet self.old.wr).indentation) }
     {
         self.lower
@@ -159,7 +160,7 @@ impl<W: WriteJs, S, C: Comments> Emitter<'_, W, S, C> {
 
     /// Writes the comments that stand after a position.
     pub(crate) fn trailing_comments(&mut self, pos: BytePos, prefix_space: bool) -> Answer
-        ensures items { Emits (trailing_comments prefix_space pos) (state_of W.sheet self.old) (state_of W.sheet self.new) result }
+        ensures items { Emits (trailing_comments prefix_space pos) (state_of S.lines W.sheet self.old) (state_of S.lines W.sheet self.new) result }
         ensures level { OnOk result ((W.sheet self.new.wr).indentation ≡ (W.sheet self.old.wr).indentation) }
     {
         self.lower
@@ -168,7 +169,7 @@ impl<W: WriteJs, S, C: Comments> Emitter<'_, W, S, C> {
 
     /// Writes a name with its comments.
     pub(crate) fn name(&mut self, span: Span, sym: &str, optional: bool) -> Answer
-        ensures items { Emits (name span sym.now optional) (state_of W.sheet self.old) (state_of W.sheet self.new) result }
+        ensures items { Emits (name span sym.now optional) (state_of S.lines W.sheet self.old) (state_of S.lines W.sheet self.new) result }
         ensures level { OnOk result ((W.sheet self.new.wr).indentation ≡ (W.sheet self.old.wr).indentation) }
     {
         self.lower.name(&self.cfg, &self.comments, &mut self.wr, span, sym, optional)
@@ -177,7 +178,7 @@ impl<W: WriteJs, S, C: Comments> Emitter<'_, W, S, C> {
     /// Writes a blank where one is needed, else what the settings want.
     #[tactic(auto, unfolding(crate::specs::Exprs::blank))]
     pub(crate) fn blank(&mut self, needed: bool) -> Answer
-        ensures items { Emits (blank needed) (state_of W.sheet self.old) (state_of W.sheet self.new) result }
+        ensures items { Emits (blank needed) (state_of S.lines W.sheet self.old) (state_of S.lines W.sheet self.new) result }
         ensures level { OnOk result ((W.sheet self.new.wr).indentation ≡ (W.sheet self.old.wr).indentation) }
     {
         if needed {
@@ -190,7 +191,7 @@ impl<W: WriteJs, S, C: Comments> Emitter<'_, W, S, C> {
     /// Writes a blank where one is needed.
     #[tactic(auto, unfolding(crate::specs::Exprs::space_if))]
     pub(crate) fn space_if(&mut self, needed: bool) -> Answer
-        ensures items { Emits (space_if needed) (state_of W.sheet self.old) (state_of W.sheet self.new) result }
+        ensures items { Emits (space_if needed) (state_of S.lines W.sheet self.old) (state_of S.lines W.sheet self.new) result }
         ensures level { OnOk result ((W.sheet self.new.wr).indentation ≡ (W.sheet self.old.wr).indentation) }
     {
         if needed {
@@ -202,7 +203,7 @@ impl<W: WriteJs, S, C: Comments> Emitter<'_, W, S, C> {
     /// Writes a punctuator between two blanks, as ` ? `; the blanks aren't written where the settings are to minify.
     #[tactic(auto, unfolding(crate::specs::Exprs::spaced_punct))]
     pub(crate) fn spaced_punct(&mut self, mark: Punctuator) -> Answer
-        ensures items { Emits (spaced_punct (spelling mark)) (state_of W.sheet self.old) (state_of W.sheet self.new) result }
+        ensures items { Emits (spaced_punct (spelling mark)) (state_of S.lines W.sheet self.old) (state_of S.lines W.sheet self.new) result }
         ensures level { OnOk result ((W.sheet self.new.wr).indentation ≡ (W.sheet self.old.wr).indentation) }
     {
         self.formatting_space()?;
@@ -214,7 +215,7 @@ impl<W: WriteJs, S, C: Comments> Emitter<'_, W, S, C> {
     /// Writes the comments before a node, and records its start.
     #[tactic(auto, unfolding(crate::specs::Exprs::opened))]
     pub(crate) fn opened(&mut self, span: Span) -> Answer
-        ensures items { Emits (opened span) (state_of W.sheet self.old) (state_of W.sheet self.new) result }
+        ensures items { Emits (opened span) (state_of S.lines W.sheet self.old) (state_of S.lines W.sheet self.new) result }
         ensures level { OnOk result ((W.sheet self.new.wr).indentation ≡ (W.sheet self.old.wr).indentation) }
     {
         self.leading_comments(span.lo)?;
@@ -225,7 +226,7 @@ impl<W: WriteJs, S, C: Comments> Emitter<'_, W, S, C> {
     /// Writes the comments at the position before one.
     #[tactic(auto, unfolding(crate::specs::Exprs::comments_before))]
     pub(crate) fn comments_before(&mut self, pos: BytePos) -> Answer
-        ensures items { Emits (comments_before pos) (state_of W.sheet self.old) (state_of W.sheet self.new) result }
+        ensures items { Emits (comments_before pos) (state_of S.lines W.sheet self.old) (state_of S.lines W.sheet self.new) result }
         ensures level { OnOk result ((W.sheet self.new.wr).indentation ≡ (W.sheet self.old.wr).indentation) }
     {
         if pos.0 == 0 {
@@ -237,7 +238,7 @@ impl<W: WriteJs, S, C: Comments> Emitter<'_, W, S, C> {
     /// Writes a semicolon that is held back at the end, unless the settings leave it out.
     #[tactic(auto, unfolding(crate::specs::Programs::last_semi), using(crate::proofs::Asked::kept_back, crate::proofs::Asked::committed))]
     pub(crate) fn last_semi(&mut self) -> Answer
-        ensures items { Emits (last_semi) (state_of W.sheet self.old) (state_of W.sheet self.new) result }
+        ensures items { Emits (last_semi) (state_of S.lines W.sheet self.old) (state_of S.lines W.sheet self.new) result }
         ensures level { OnOk result ((W.sheet self.new.wr).indentation ≡ (W.sheet self.old.wr).indentation) }
     {
         if self.cfg.omit_last_semi {

@@ -4,8 +4,11 @@ pub mod Dropped
 pub mod HashbangShapes
 pub mod Heads
 pub mod JsxShapes
+pub mod LayoutLaws
 pub mod Lists
 pub mod Longest
+pub mod Mapped
+pub mod MappedCalls
 pub mod MarkMatch
 pub mod Marks
 pub mod NameShapes

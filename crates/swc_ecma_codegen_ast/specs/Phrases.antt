@@ -1,31 +1,62 @@
 -- Sets of token lists, as plain data: what a tree reads as, and on what condition.
-use Rattle.std.specs.Prelude.{◌≡◌, ℕ, Bool, true, false, ◌&&◌, List, [], ◌∷◌, ◌++◌, Option, Some, None}
+use Rattle.std.specs.Prelude.{◌≡◌, ◌⊎◌, ℕ, Bool, true, false, ◌&&◌, List, [], ◌∷◌, ◌++◌, Option, Some, None, codes, if◌then◌else◌}
 use Rattle.swc_ecma_codegen_common.specs.declared.positions.BytePos.{BytePos}
+use Rattle.swc_ecma_codegen_ast.specs.Keys.{key_token}
 use Rattle.swc_ecma_codegen_ast.specs.Names.{name_value}
+use Rattle.swc_ecma_codegen_ast.specs.Settings.{Settings}
 use Rattle.swc_ecma_codegen_ast.specs.SpelledNames.{spelled_name, is_well_formed_name}
 use Rattle.swc_ecma_codegen_ast.specs.Tokens.{Token}
 use Rattle.swc_ecma_codegen_ast.specs.Tokens as tokens
 
--- no list at all, no token, one token, a name by its bytes in the tree and where it stands in its source, or one list and
--- then another
+-- What is chosen by the settings: `()` after `new A`, which isn't there where they are to minify.
+pub data Choice : Type 0 where
+  EmptyArguments : Choice
+
+-- No list at all, no token, one token, a name by its bytes in the tree and where it stands in its source, the same of a key of
+-- a property, or one list and then another. What syntax leaves open: a comma or none, `[a,] = b` or `[a] = b`; a list, bare or
+-- in parentheses, `a => b` or `(a) => b`; what is chosen by the settings.
 pub data Phrase : Type 0 where
   Never : Phrase
   Nothing : Phrase
   One : (token : Token) → Phrase
   NameOf : (at : BytePos) → (bytes : List ℕ) → Phrase
+  KeyOf : (at : BytePos) → (bytes : List ℕ) → Phrase
   Then : (first second : Phrase) → Phrase
+  OptionalComma : Phrase
+  OptionalParentheses : (inside : Phrase) → Phrase
+  Chosen : (choice : Choice) → Phrase
 
 infixr 20 ◌>◌
 abbrev pub ◌>◌ : Phrase → Phrase → Phrase
 a > b = Then a b
 
--- a list is one of the set
-unfoldable pub Generates : Phrase → List Token → Type 0
-Generates Never ts = ⊥
-Generates Nothing ts = ts ≡ []
-Generates (One x) ts = ts ≡ x ∷ []
-Generates (NameOf at bytes) ts = ts ≡ tokens.name (name_value (spelled_name bytes)) ∷ []
-Generates (Then a b) ts = (us vs : List Token) × Generates a us × Generates b vs × (ts ≡ us ++ vs)
+abbrev pub comma : Token
+comma = tokens.punctuator (codes ",")
+
+abbrev pub open_parenthesis : Token
+open_parenthesis = tokens.punctuator (codes "(")
+
+abbrev pub close_parenthesis : Token
+close_parenthesis = tokens.punctuator (codes ")")
+
+abbrev pub in_parentheses : List Token → List Token
+in_parentheses ts = open_parenthesis ∷ (ts ++ (close_parenthesis ∷ []))
+
+-- the tokens of a choice
+unfoldable pub chosen : Settings → Choice → List Token
+chosen s EmptyArguments = if s.minify then [] else in_parentheses []
+
+-- A list is one of the set, under these settings.
+unfoldable pub Generates : Settings → Phrase → List Token → Type 0
+Generates s Never ts = ⊥
+Generates s Nothing ts = ts ≡ []
+Generates s (One x) ts = ts ≡ x ∷ []
+Generates s (NameOf at bytes) ts = ts ≡ tokens.name (name_value (spelled_name bytes)) ∷ []
+Generates s (KeyOf at bytes) ts = ts ≡ key_token s bytes ∷ []
+Generates s (Then a b) ts = (us vs : List Token) × Generates s a us × Generates s b vs × (ts ≡ us ++ vs)
+Generates s OptionalComma ts = (ts ≡ []) ⊎ (ts ≡ comma ∷ [])
+Generates s (OptionalParentheses a) ts = Generates s a ts ⊎ ((us : List Token) × Generates s a us × (ts ≡ in_parentheses us))
+Generates s (Chosen choice) ts = ts ≡ chosen s choice
 
 -- The tree is well-formed: no part of it is refused, and its names are names.
 unfoldable pub is_possible : Phrase → Bool
@@ -33,15 +64,29 @@ is_possible Never = false
 is_possible Nothing = true
 is_possible (One x) = true
 is_possible (NameOf at bytes) = is_well_formed_name bytes
+is_possible (KeyOf at bytes) = is_well_formed_name bytes
 is_possible (Then a b) = is_possible a && is_possible b
+is_possible OptionalComma = true
+is_possible (OptionalParentheses a) = is_possible a
+is_possible (Chosen choice) = true
 
--- the names in order, each with its position and its bytes
-unfoldable pub names_in : Phrase → List (BytePos × List ℕ)
+-- a name that is printed: where it stands in its source, its bytes, and whether it is a key, which may be put in quotes
+pub record PlacedName : Type 0 where
+  pub at : BytePos
+  pub bytes : List ℕ
+  pub is_key : Bool
+
+-- the names in order
+unfoldable pub names_in : Phrase → List PlacedName
 names_in Never = []
 names_in Nothing = []
 names_in (One x) = []
-names_in (NameOf at bytes) = (at, bytes) ∷ []
+names_in (NameOf at bytes) = record { at = at; bytes = bytes; is_key = false } ∷ []
+names_in (KeyOf at bytes) = record { at = at; bytes = bytes; is_key = true } ∷ []
 names_in (Then a b) = names_in a ++ names_in b
+names_in OptionalComma = []
+names_in (OptionalParentheses a) = names_in a
+names_in (Chosen choice) = []
 
 -- on a condition
 unfoldable pub where_ : Bool → Phrase → Phrase

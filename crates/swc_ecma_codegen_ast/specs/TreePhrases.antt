@@ -1,22 +1,27 @@
 -- What a whole node is read as, in a role: a fold over the tree.
-use Rattle.std.specs.Prelude.{Bool, List}
+use Rattle.std.specs.Prelude.{Bool, true, List}
 use Rattle.swc_ecma_codegen_tree.specs.declared.links.AnyNode.{AnyNode, AnyNode-F, fold-AnyNode}
 use Rattle.swc_ecma_codegen_tree.specs.declared.links.AnyNode.TheOpen as nodes
 use Rattle.swc_ecma_codegen_tree.specs.declared.exprs.Expr.{Expr}
 use Rattle.swc_ecma_codegen_tree.specs.declared.stmts.Stmt.{Stmt}
 use Rattle.swc_ecma_codegen_tree.specs.declared.programs.Program.{Program}
+use Rattle.swc_ecma_codegen_ast.specs.Settings.{Settings}
 use Rattle.swc_ecma_codegen_ast.specs.Tokens.{Token}
 use Rattle.swc_ecma_codegen_ast.specs.Phrases.{Phrase, Never, Generates, is_possible}
 use Rattle.swc_ecma_codegen_ast.specs.declared.roles.Role.{Role}
-use Rattle.swc_ecma_codegen_ast.specs.declared.roles.Role.TheVariants.{Expression, Statement, MemberExpression}
-use Rattle.swc_ecma_codegen_ast.specs.ExprPhrases.{expr, member_expr}
+use Rattle.swc_ecma_codegen_ast.specs.declared.roles.Role.TheVariants.{Expression, Callee, Statement, MemberExpression, ChainMember}
+use Rattle.swc_ecma_codegen_ast.specs.ExprPhrases.{expr, expr_in, member_expr, chain_member}
+use Rattle.swc_ecma_codegen_ast.specs.PartPhrases.{expr_part}
 use Rattle.swc_ecma_codegen_ast.specs.StmtPhrases.{stmt, program}
 
 -- one node, where f says what is read of what its links hold: a node of another sort has no place there
 unfoldable pub node_phrase : {X : Type 0} → (X → Role → Phrase) → AnyNode-F X → Role → Phrase
 node_phrase f (nodes.Expr n) Expression = expr f n
+node_phrase f (nodes.Expr n) Callee = expr_in f true n
 node_phrase f (nodes.Stmt n) Statement = stmt f n
 node_phrase f (nodes.MemberExpr n) MemberExpression = member_expr f n
+node_phrase f (nodes.MemberExpr n) (ChainMember optional) = chain_member f optional n
+node_phrase f (nodes.ExprPart n) role = expr_part f n role
 node_phrase f n role = Never
 
 -- a whole node
@@ -33,9 +38,9 @@ stmt_phrase n = stmt phrase n
 abbrev pub program_phrase : Program AnyNode → Phrase
 program_phrase n = program phrase n
 
--- a list of tokens is one of the program's
-abbrev pub IsTokenList : Program AnyNode → List Token → Type 0
-IsTokenList n ts = Generates (program_phrase n) ts
+-- a list of tokens is one of the program's, under these settings
+abbrev pub IsTokenList : Settings → Program AnyNode → List Token → Type 0
+IsTokenList s n ts = Generates s (program_phrase n) ts
 
 -- a program is well-formed
 abbrev pub is_well_formed : Program AnyNode → Bool

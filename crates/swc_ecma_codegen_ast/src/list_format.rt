@@ -1,7 +1,7 @@
 //! How a list of nodes is laid out: what stands before, between and after its children.
 
 ghost use Rattle.std.specs.Prelude.{⊤, ◌≡◌};
-ghost use Rattle.swc_ecma_codegen_ast.specs.ListFormats.{flag_table, apart, line_before_child, line_after_last};
+ghost use Rattle.swc_ecma_codegen_ast.specs.ListFormats.{flag_table, apart, leading_line, separating_line, closing_line};
 
 use crate::mapper::SourceMapper;
 use bitflags::{Flag, Flags};
@@ -295,7 +295,7 @@ impl Flags for ListFormat {
 impl ListFormat {
     /// Whether a line ends before the first child. `should_write_leading_line_terminator` of swc.
     pub fn leading_line<S: SourceMapper>(self, cm: &S, parent: Span, first: Span) -> bool
-        ensures { result ≡ line_before_child self.0 (apart parent.lo.0 first.lo.0 (S.same_line cm.now parent.lo first.lo)) }
+        ensures { result ≡ leading_line (S.lines cm.now) self.0 parent first }
     {
         self.contains(Self::MultiLine)
             || self.contains(Self::PreserveLines) && are_apart(cm, parent.lo, first.lo)
@@ -303,7 +303,7 @@ impl ListFormat {
 
     /// Whether a line ends between two children. `should_write_separating_line_terminator` of swc.
     pub fn separating_line<S: SourceMapper>(self, cm: &S, previous: Span, next: Span) -> bool
-        ensures { result ≡ line_before_child self.0 (apart previous.hi.0 next.lo.0 (S.same_line cm.now previous.hi next.lo)) }
+        ensures { result ≡ separating_line (S.lines cm.now) self.0 previous next }
     {
         self.contains(Self::MultiLine)
             || self.contains(Self::PreserveLines) && are_apart(cm, previous.hi, next.lo)
@@ -311,7 +311,7 @@ impl ListFormat {
 
     /// Whether a line ends after the last child. `should_write_closing_line_terminator` of swc.
     pub fn closing_line<S: SourceMapper>(self, cm: &S, parent: Span, last: Span) -> bool
-        ensures { result ≡ line_after_last self.0 (apart last.hi.0 parent.hi.0 (S.same_line cm.now last.hi parent.hi)) }
+        ensures { result ≡ closing_line (S.lines cm.now) self.0 parent last }
     {
         if self.contains(Self::MultiLine) {
             !self.contains(Self::NoTrailingNewLine)
@@ -323,7 +323,7 @@ impl ListFormat {
 
 /// Whether two positions are known to stand on different lines of the source text.
 fn are_apart<S: SourceMapper>(cm: &S, left: BytePos, right: BytePos) -> bool
-    ensures { result ≡ apart left.0 right.0 (S.same_line cm.now left right) }
+    ensures { result ≡ apart (S.lines cm.now) left right }
 {
     !left.is_dummy() && !right.is_dummy() && !cm.is_on_same_line(left, right)
 }

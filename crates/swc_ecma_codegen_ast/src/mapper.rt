@@ -1,9 +1,8 @@
 //! What an emission asks of the source text that a tree was read from.
 
-ghost use Rattle.std.specs.Prelude.{◌≡◌, ℕ, Bool, false, List, Option, None, option_map, IfOk, IfErr};
+ghost use Rattle.std.specs.Prelude.{◌≡◌, option_map, IfOk, IfErr};
 ghost use Rattle.std.specs.String.{string_bytes};
-ghost use Rattle.swc_ecma_codegen_common.specs.declared.positions.BytePos.{BytePos as Pos};
-ghost use Rattle.swc_ecma_codegen_common.specs.declared.positions.Span.{Span as Place};
+ghost use Rattle.swc_ecma_codegen_ast.specs.SourceLines.{Lines, no_lines};
 ghost use Rattle.swc_ecma_codegen_common.specs.declared.errors.Error.TheVariants.{OutOfMemory};
 
 use std::alloc::Global;
@@ -11,13 +10,11 @@ use swc_ecma_codegen_common::{BytePos, Error, Span};
 
 /// A source text. Each answer depends on the mapper's value and the arguments alone. `SourceMapper` of `swc_common`.
 pub trait SourceMapper {
-    ghost same_line: { Self → Pos → Pos → Bool };
-
-    ghost snippet: { Self → Place → Option (List ℕ) };
+    ghost lines: { Self → Lines };
 
     /// Whether the two positions stand on one line.
     fn is_on_same_line(&self, lo: BytePos, hi: BytePos) -> bool
-        ensures { result ≡ same_line self.now lo hi };
+        ensures { result ≡ (lines self.now).same_line lo hi };
 
     /// The source text of a span, where it is known. `Error::OutOfMemory`: a growth was refused.
     fn span_to_snippet(
@@ -25,7 +22,7 @@ pub trait SourceMapper {
         alloc: Global,
         span: Span,
     ) -> std::result::Result<Option<String>, Error>
-        ensures answer { IfOk result (λ text. option_map string_bytes text ≡ snippet self.now span) }
+        ensures answer { IfOk result (λ text. option_map string_bytes text ≡ (lines self.now).snippet span) }
         ensures refused { IfErr result (λ error. error ≡ OutOfMemory) };
 }
 
@@ -34,9 +31,7 @@ pub trait SourceMapper {
 pub struct NoSource;
 
 impl SourceMapper for NoSource {
-    ghost same_line = { λ _ _ _. false };
-
-    ghost snippet = { λ _ _. None };
+    ghost lines = { λ _. no_lines };
 
     fn is_on_same_line(&self, _lo: BytePos, _hi: BytePos) -> bool {
         false

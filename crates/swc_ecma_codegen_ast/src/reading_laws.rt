@@ -6,6 +6,9 @@ ghost use Rattle.swc_ecma_codegen_ast.specs.Trivia.{Remark};
 ghost use Rattle.swc_ecma_codegen_ast.specs.Reads.{Reads, kinds_of};
 ghost use Rattle.swc_ecma_codegen_ast.specs.Endings.{IsReduced};
 ghost use Rattle.swc_ecma_codegen_ast.specs.GapRules.{Start};
+ghost use Rattle.swc_ecma_codegen_ast.specs.Layouts.{AreAlike, AreSameBut, IsWritten};
+ghost use Rattle.swc_ecma_codegen_ast.specs.Phrases.{Phrase, Generates};
+ghost use Rattle.swc_ecma_codegen_ast.specs.Settings.{Settings};
 ghost use Rattle.swc_ecma_codegen_ast.specs.Parts.{Part, text_of, tokens_of, remarks_in, AllSpelled, AtStart, NoneFuse, Reduced, spaced};
 
 /// What the second pass makes of tokens, their spellings and comments reads as these tokens, with the comments between,
@@ -27,4 +30,12 @@ pub fn reduced_tokens_read()
 #[tactic(auto, using(crate::proofs::Unique::reads_once))]
 pub fn one_reading()
     ensures { (xs ys : List Token) (text : List ℕ) (cs ds : List Remark) → Reads text xs cs → Reads text ys ds → kinds_of xs ≡ kinds_of ys → (xs ≡ ys) × (cs ≡ ds) }
+{}
+
+/// The lists of a tree under settings that differ in whether they minify are the same but for semicolons that end a
+/// statement, commas and pairs of parentheses: `(a) => new B();` and minified `a=>new B`. So are those that are written of
+/// it, where a writer leaves semicolons out.
+pub fn layouts_keep_the_tokens()
+    ensures lists { (s t : Settings) (phrase : Phrase) (xs ys : List Token) → AreAlike s t → Generates s phrase xs → Generates t phrase ys → AreSameBut xs ys }
+    ensures written { (s t : Settings) (phrase : Phrase) (xs ys : List Token) → AreAlike s t → IsWritten s phrase xs → IsWritten t phrase ys → AreSameBut xs ys }
 {}

@@ -1,5 +1,5 @@
 -- What an emission under ASCII only adds to a text.
-use Rattle.std.proofs.Common.{◌≡◌, ℕ, zero, suc, Bool, true, false, cond, ◌||◌, List, [], ◌∷◌, ◌++◌, codes, nat_lt, refl, sym, ap, ◌∙◌, subst, append_assoc, append-nil, Option, Some, None, Result, Ok, Err, OnOk}
+use Rattle.std.proofs.Common.{◌≡◌, ℕ, zero, suc, Bool, true, false, cond, ◌||◌, List, [], ◌∷◌, ◌++◌, codes, nat_lt, refl, sym, ap, ◌∙◌, subst, append_assoc, append-nil, inl, inr, Option, Some, None, Result, Ok, Err, OnOk}
 use Rattle.std.specs.List.{repeat}
 use Rattle.std.specs.Str.{chars}
 use Rattle.std.proofs.lemmas.Bool.{and_from, and_parts, false_from_ne_true, true≢false}
@@ -7,15 +7,18 @@ use Rattle.std.proofs.lemmas.List.Folds.{list_all-append}
 use Rattle.swc_ecma_codegen_common.specs.declared.errors.Refusal.{Refusal}
 use Rattle.swc_ecma_codegen_common.specs.declared.positions.Span.{Span}
 use Rattle.swc_ecma_codegen_ast.specs.GapRules.{fuses, Apart}
-use Rattle.swc_ecma_codegen_ast.specs.Phrases.{Phrase, Never, Nothing, One, NameOf, Then, Generates, is_possible}
+use Rattle.swc_ecma_codegen_ast.specs.Settings.{Settings}
+use Rattle.swc_ecma_codegen_ast.specs.Phrases.{Phrase, Never, Nothing, One, NameOf, KeyOf, Then, OptionalComma, OptionalParentheses, Chosen, EmptyArguments, in_parentheses, close_parenthesis, Generates, chosen, is_possible}
 use Rattle.swc_ecma_codegen_ast.specs.Tokens as lexical
 use Rattle.swc_ecma_codegen_text_writer.specs.Sheet.{Item, Semi, Space, Keyword, Operator, Param, Property, Line, Lit, Comment, StrLit, Str, Symbol, Punct, Position, Commit, Deeper, Shallower, Sheet, Semicolons, AtOnce, HoldsNone, HoldsOne, appended, written, literal_written, ended, settled, settled_by, semicolon_by, before_punct, is_ending, dropped, effect}
 use Rattle.swc_ecma_codegen_text_writer.proofs.Sheets.{effect_indent_text, effect_line_end, settled_same}
 use Rattle.swc_ecma_codegen_literals.specs.AsciiNames.{is_ascii_text}
 use Rattle.swc_ecma_codegen_base.specs.Ascii.{is_other_value, keeps_other, are_ascii, keeps_tokens, may_keep_other, WantsAscii, AddsAscii}
 use Rattle.swc_ecma_codegen_base.specs.Run.{Env, Part, State, Step, Guard, Token, Plain, Ends, Remake, put, run, steps_of, nothing, text_of, Follows}
+use Rattle.swc_ecma_codegen_base.specs.Settings.{settings_of}
 use Rattle.swc_ecma_codegen_base.specs.Targets.{is_out}
 use Rattle.swc_ecma_codegen_base.proofs.Hands.{tokens_keep}
+use Rattle.swc_ecma_codegen_base.proofs.KeyTexts.{key_kept}
 use Rattle.swc_ecma_codegen_base.proofs.Held.{front, front_of, written_text, pointed_keeps}
 use Rattle.swc_ecma_codegen_base.proofs.Phrased.{Prints, steps_of_chain, made_not_out}
 use Rattle.swc_ecma_codegen_base.proofs.Texts.{adds_literal}
@@ -164,14 +167,25 @@ kept_alone : (b : Bool) → (b || false) ≡ b
 kept_alone true = refl
 kept_alone false = refl
 
-kept_listed : (f : Phrase) (ts : List lexical.Token) → Generates f ts → keeps_tokens ts ≡ may_keep_other f
-unfolding Generates keeps_tokens may_keep_other is_other_value lexical.name
-kept_listed Never ts g = absurd g
-kept_listed Nothing ts g = ap keeps_tokens g
-kept_listed (One x) ts g = ap keeps_tokens g ∙ kept_alone (is_other_value x.kind x.value)
-kept_listed (NameOf at bytes) ts g = ap keeps_tokens g
-kept_listed (Then a b) ts g =
-    ap keeps_tokens g.4 ∙ tokens_keep g.0 g.1 ∙ ap (λ z. z || keeps_tokens g.1) (kept_listed a g.0 g.2) ∙ ap (λ z. may_keep_other a || z) (kept_listed b g.1 g.3)
+choice_kept : (s : Settings) → keeps_tokens (chosen s EmptyArguments) ≡ false
+unfolding keeps_tokens chosen is_other_value lexical.punctuator
+choice_kept s = elim s.minify as (λ b. keeps_tokens (cond b [] (in_parentheses [])) ≡ false) [ true ↦ refl | false ↦ refl ]
+
+kept_listed : (s : Settings) (f : Phrase) (ts : List lexical.Token) → is_possible f ≡ true → Generates s f ts → keeps_tokens ts ≡ may_keep_other f
+unfolding Generates is_possible keeps_tokens may_keep_other is_other_value lexical.name lexical.punctuator
+kept_listed s Never ts w g = absurd g
+kept_listed s Nothing ts w g = ap keeps_tokens g
+kept_listed s (One x) ts w g = ap keeps_tokens g ∙ kept_alone (is_other_value x.kind x.value)
+kept_listed s (NameOf at bytes) ts w g = ap keeps_tokens g
+kept_listed s (KeyOf at bytes) ts w g = ap keeps_tokens g ∙ key_kept s bytes w
+kept_listed s (Then a b) ts w g =
+    let p = and_parts (is_possible a) (is_possible b) w in
+    ap keeps_tokens g.4 ∙ tokens_keep g.0 g.1 ∙ ap (λ z. z || keeps_tokens g.1) (kept_listed s a g.0 p.0 g.2) ∙ ap (λ z. may_keep_other a || z) (kept_listed s b g.1 p.1 g.3)
+kept_listed s OptionalComma ts w (inl g) = ap keeps_tokens g
+kept_listed s OptionalComma ts w (inr g) = ap keeps_tokens g
+kept_listed s (OptionalParentheses a) ts w (inl g) = kept_listed s a ts w g
+kept_listed s (OptionalParentheses a) ts w (inr g) = ap keeps_tokens g.2 ∙ tokens_keep g.0 (close_parenthesis ∷ []) ∙ kept_alone (keeps_tokens g.0) ∙ kept_listed s a g.0 w g.1
+kept_listed s (Chosen EmptyArguments) ts w g = ap keeps_tokens g ∙ choice_kept s
 
 -- where no such token is in the tree, no such text is among the steps
 pub printed_keeps : (p : Part) (f : Phrase) (env : Env) → Prints env p f → is_possible f ≡ true → is_out env.config f ≡ false → may_keep_other f ≡ false → keeps_other (steps_of (p nothing env)) ≡ false
@@ -179,4 +193,4 @@ unfolding nothing
 printed_keeps p f env prints w o none =
     let h = prints.where_possible w o in
     let same : steps_of (p nothing env) ≡ h.writes.steps = ap steps_of (h.writes.is_steps nothing) ∙ steps_of_chain h.writes.steps in
-    ap keeps_other same ∙ false_from_ne_true (keeps_other h.writes.steps) (λ n. true≢false (sym (h.writes.hands.keeps n) ∙ kept_listed f h.tokens h.generated ∙ none))
+    ap keeps_other same ∙ false_from_ne_true (keeps_other h.writes.steps) (λ n. true≢false (sym (h.writes.hands.keeps n) ∙ kept_listed (settings_of env.config) f h.tokens w h.generated ∙ none))

@@ -1,9 +1,10 @@
 -- Calls of a writer, as steps of an emission.
-use Rattle.std.proofs.Common.{◌≡◌, true, false, cond, List, ℕ, Result, Ok, Err, OnOk, OnErr, refl, sym, ◌∙◌, ap, subst, Bool}
+use Rattle.std.proofs.Common.{◌≡◌, ◌+◌, ◌-◌, ◌<◌, arith, true, false, cond, List, ℕ, Result, Ok, Err, OnOk, OnErr, refl, sym, ◌∙◌, ap, subst, Bool}
 use Rattle.std.specs.Str.{chars}
 use Rattle.swc_ecma_codegen_common.specs.declared.errors.Refusal.{Refusal}
 use Rattle.swc_ecma_codegen_util.specs.declared.config.Config.{Config}
 use Rattle.swc_ecma_codegen_ast.specs.declared.kinds.Kind.{Kind}
+use Rattle.swc_ecma_codegen_ast.specs.SourceLines.{no_lines}
 use Rattle.swc_ecma_codegen_ast.specs.GapRules as rules
 use Rattle.swc_ecma_codegen_ast.specs.GapRules.{fuses}
 use Rattle.swc_ecma_codegen_text_writer.specs.Sheet.{Item, Semi, Space, Keyword, Operator, Param, Property, Line, Lit, Comment, StrLit, Str, Symbol, Punct, Position, Commit, Deeper, Shallower, Sheet, effect, Writes, Refuses, earlier, stopped}
@@ -13,8 +14,8 @@ use Rattle.swc_ecma_codegen_base.specs.declared.last.Last.{Last}
 use Rattle.swc_ecma_codegen_base.specs.declared.last.Last.TheVariants as last
 use Rattle.swc_ecma_codegen_base.specs.Last.{last_at}
 use Rattle.swc_ecma_codegen_base.specs.View.{state_of}
-use Rattle.swc_ecma_codegen_base.specs.Run.{Part, when_minified, no_part, State, Step, Guard, Token, Plain, Ends, IsRefused, Emits, put, step, text_of, after_token, after_tokens, after_plain}
-use Rattle.swc_ecma_codegen_base.proofs.Emitting.{emits_step, emits_refused, follows_same, minified_same, pretty_same}
+use Rattle.swc_ecma_codegen_base.specs.Run.{Part, when_minified, no_part, State, Step, Guard, Token, Plain, Ends, IsRefused, Does, with_lines, put, step, text_of, after_token, after_tokens, after_plain}
+use Rattle.swc_ecma_codegen_base.proofs.Emitting.{emits_step, emits_refused, does_step, put_lines, refused_lines, follows_same, minified_same, pretty_same}
 
 -- ---- what no call changes
 
@@ -60,6 +61,20 @@ unfolding Writes
 level x old new (Ok u) r h eq l = let P : Result (Unit {0}) Refusal → Type 0 = λ z. OnOk z (new.indentation ≡ old.indentation) in subst P (sym eq) (ap (λ (s : Sheet). s.indentation) h.1 ∙ effect_level x old l)
 level x old new (Err e) r h eq l = let P : Result (Unit {0}) Refusal → Type 0 = λ z. OnOk z (new.indentation ≡ old.indentation) in subst P (sym eq) tt
 
+-- one that changes it by a level
+pub deeper_level : (old new : Sheet) (answer r : Result (Unit {0}) Refusal) → Writes Deeper old new answer → r ≡ answer → OnOk r (new.indentation ≡ old.indentation + 1)
+unfolding Writes
+deeper_level old new (Ok u) r h eq = let P : Result (Unit {0}) Refusal → Type 0 = λ z. OnOk z (new.indentation ≡ old.indentation + 1) in subst P (sym eq) (ap (λ (s : Sheet). s.indentation) h.1 ∙ effect_indentation Deeper old)
+deeper_level old new (Err e) r h eq = let P : Result (Unit {0}) Refusal → Type 0 = λ z. OnOk z (new.indentation ≡ old.indentation + 1) in subst P (sym eq) tt
+
+pub shallower_level : (old new : Sheet) (answer r : Result (Unit {0}) Refusal) → 0 < old.indentation → Writes Shallower old new answer → r ≡ answer → OnOk r (new.indentation + 1 ≡ old.indentation)
+unfolding Writes
+shallower_level old new (Ok u) r some h eq =
+    let P : Result (Unit {0}) Refusal → Type 0 = λ z. OnOk z (new.indentation + 1 ≡ old.indentation) in
+    let less : new.indentation ≡ old.indentation - 1 = ap (λ (s : Sheet). s.indentation) h.1 ∙ effect_indentation Shallower old in
+    subst P (sym eq) (omega (arith, some, less))
+shallower_level old new (Err e) r some h eq = let P : Result (Unit {0}) Refusal → Type 0 = λ z. OnOk z (new.indentation + 1 ≡ old.indentation) in subst P (sym eq) tt
+
 -- ---- calls as steps
 
 on_ok : {A B : Type 0} (r : Result (Unit {0}) Refusal) → (A → B) → OnOk r A → OnOk r B
@@ -77,26 +92,26 @@ step_called : (x : Step) (item : Item) (config : Config) (e f : LowerEmitter) (o
     → e.failed ≡ false → Writes item old new r
     → OnOk r ((last_at f.token.value ≡ (put x (state_of config old e)).last) × (f.failed ≡ e.failed))
     → OnErr r ((last_at f.token.value ≡ last_at e.token.value) × (f.failed ≡ true))
-    → Emits (step x) (state_of config old e) (state_of config new f) r
-unfolding Writes
-step_called x item config e f old new (Ok u) made refused fresh w ok err =
+    → Does (step x) (state_of config old e) (state_of config new f) r
+unfolding Writes with_lines
+step_called x item config e f old new (Ok u) made refused fresh w ok err = λ lines.
     let there : State = state_of config old e in
     let q : state_of config new f ≡ put x there =
-    (λ i. record { env = record { config = config; keeps_invalid = (ap (λ (s : Sheet). s.keeps_invalid) w.1 ∙ effect_keeps item old) i }; sheet = w.1 i; last = ok.0 i; failed = ok.1 i })
+    (λ i. record { env = record { config = config; keeps_invalid = (ap (λ (s : Sheet). s.keeps_invalid) w.1 ∙ effect_keeps item old) i; lines = no_lines }; sheet = w.1 i; last = ok.0 i; failed = ok.1 i })
     ∙ sym made in
-    emits_step x there (state_of config new f) fresh q
-step_called x item config e f old new (Err er) made refused fresh w ok err =
+    emits_step x (with_lines lines there) (with_lines lines (state_of config new f)) fresh (ap (with_lines lines) q ∙ put_lines x lines there)
+step_called x item config e f old new (Err er) made refused fresh w ok err = λ lines.
     let there : State = state_of config old e in
     let q : state_of config new f ≡ record there { sheet = new; failed = true } =
-    (λ i. record { env = record { config = config; keeps_invalid = refuses_keeps old new w i }; sheet = new; last = err.0 i; failed = err.1 i }) in
-    emits_refused x er there (state_of config new f) fresh q (refused er new w)
+    (λ i. record { env = record { config = config; keeps_invalid = refuses_keeps old new w i; lines = no_lines }; sheet = new; last = err.0 i; failed = err.1 i }) in
+    emits_refused x er (with_lines lines there) (with_lines lines (state_of config new f)) fresh (ap (with_lines lines) q) (refused_lines x er there new lines (refused er new w))
 
 -- a token, by one call
 pub called : (kind : Kind) (item : Item) (config : Config) (e f : LowerEmitter) (old new : Sheet) (l : Last) (answer r : Result (Unit {0}) Refusal)
     → e.failed ≡ false → Writes item old new answer
     → OnOk r ((f.token.value ≡ l) × (f.failed ≡ e.failed)) → OnErr r ((f.token.value ≡ e.token.value) × (f.failed ≡ true)) → r ≡ answer
     → last_at l ≡ after_token kind (text_of item) (last_at e.token.value)
-    → Emits (step (Token kind item)) (state_of config old e) (state_of config new f) r
+    → Does (step (Token kind item)) (state_of config old e) (state_of config new f) r
 unfolding put IsRefused
 called kind item config e f old new l answer r fresh w ok err eq last =
     step_called (Token kind item) item config e f old new r refl (λ err z h. h) fresh (subst (λ z. Writes item old new z) (sym eq) w)
@@ -107,7 +122,7 @@ pub called_ends : (tokens : List (Kind × List ℕ)) (item : Item) (config : Con
     → e.failed ≡ false → Writes item old new answer
     → OnOk r ((f.token.value ≡ l) × (f.failed ≡ e.failed)) → OnErr r ((f.token.value ≡ e.token.value) × (f.failed ≡ true)) → r ≡ answer
     → last_at l ≡ after_tokens tokens (last_at e.token.value)
-    → Emits (step (Ends tokens item)) (state_of config old e) (state_of config new f) r
+    → Does (step (Ends tokens item)) (state_of config old e) (state_of config new f) r
 unfolding put IsRefused
 called_ends tokens item config e f old new l answer r fresh w ok err eq last =
     step_called (Ends tokens item) item config e f old new r refl (λ err z h. h) fresh (subst (λ z. Writes item old new z) (sym eq) w)
@@ -118,7 +133,7 @@ pub called_plain : (item : Item) (config : Config) (e f : LowerEmitter) (old new
     → e.failed ≡ false → Writes item old new answer
     → OnOk r ((f.token.value ≡ l) × (f.failed ≡ e.failed)) → OnErr r ((f.token.value ≡ e.token.value) × (f.failed ≡ true)) → r ≡ answer
     → last_at l ≡ after_plain item (last_at e.token.value)
-    → Emits (step (Plain item)) (state_of config old e) (state_of config new f) r
+    → Does (step (Plain item)) (state_of config old e) (state_of config new f) r
 unfolding put IsRefused
 called_plain item config e f old new l answer r fresh w ok err eq last =
     step_called (Plain item) item config e f old new r refl (λ err z h. h) fresh (subst (λ z. Writes item old new z) (sym eq) w)
@@ -129,7 +144,7 @@ pub called_kept : (item : Item) (config : Config) (e f : LowerEmitter) (old new 
     → e.failed ≡ false → Writes item old new answer
     → f.token.value ≡ e.token.value → OnOk r (f.failed ≡ e.failed) → OnErr r (f.failed ≡ true) → r ≡ answer
     → last_at e.token.value ≡ after_plain item (last_at e.token.value)
-    → Emits (step (Plain item)) (state_of config old e) (state_of config new f) r
+    → Does (step (Plain item)) (state_of config old e) (state_of config new f) r
 called_kept item config e f old new answer r fresh w token ok err eq last =
     called_plain item config e f old new e.token.value answer r fresh w (on_ok r (λ h. (token, h)) ok) (on_err r (λ h. (token, h)) err) eq last
 
@@ -142,15 +157,15 @@ unfolding put
 passed_put t s h = ap (λ b. cond b (record s { sheet = effect Space s.sheet; last = rules.Apart }) s) h
 
 -- the last token and a text don't fuse, and nothing is done
-pub passed : (t : List ℕ) (a : State) → a.failed ≡ false → fuses a.last (chars t) ≡ false → Emits (step (Guard t)) a a (Ok tt)
-passed t a fresh h = emits_step (Guard t) a a fresh (sym (passed_put t a h))
+pub passed : (t : List ℕ) (a : State) → a.failed ≡ false → fuses a.last (chars t) ≡ false → Does (step (Guard t)) a a (Ok tt)
+passed t a fresh h = does_step (Guard t) a a fresh (sym (passed_put t a h))
 
 -- they fuse, and a blank is written
 pub guarded : (t : List ℕ) (config : Config) (e f : LowerEmitter) (old new : Sheet) (answer r : Result (Unit {0}) Refusal)
     → e.failed ≡ false → Writes Space old new answer
     → OnOk r ((f.token.value ≡ last.Apart) × (f.failed ≡ e.failed)) → OnErr r ((f.token.value ≡ e.token.value) × (f.failed ≡ true)) → r ≡ answer
     → fuses (last_at e.token.value) (chars t) ≡ true
-    → Emits (step (Guard t)) (state_of config old e) (state_of config new f) r
+    → Does (step (Guard t)) (state_of config old e) (state_of config new f) r
 unfolding IsRefused last_at
 guarded t config e f old new answer r fresh w ok err eq h =
     let there : State = state_of config old e in
@@ -161,10 +176,11 @@ guarded t config e f old new answer r fresh w ok err eq h =
 
 -- ---- what is done unless minified
 
-pub skipped : (part : Part) (a : State) → a.env.config.minify ≡ true → Emits (when_minified no_part part) a a (Ok tt)
-unfolding no_part
-skipped part a h rest c r k = follows_same (when_minified no_part part rest) rest a c r (minified_same no_part part rest a.env h) k
+pub skipped : (part : Part) (a : State) → a.env.config.minify ≡ true → Does (when_minified no_part part) a a (Ok tt)
+unfolding no_part with_lines
+skipped part a h lines rest c r k = follows_same (when_minified no_part part rest) rest (with_lines lines a) c r (minified_same no_part part rest (with_lines lines a).env h) k
 
-pub not_skipped : (part : Part) (a b : State) (r : Result (Unit {0}) Refusal) → a.env.config.minify ≡ false → Emits part a b r → Emits (when_minified no_part part) a b r
-not_skipped part a b (Ok u) h k = λ rest c r f. follows_same (when_minified no_part part rest) (part rest) a c r (pretty_same no_part part rest a.env h) (k rest c r f)
-not_skipped part a b (Err e) h k = λ rest. follows_same (when_minified no_part part rest) (part rest) a b (Err e) (pretty_same no_part part rest a.env h) (k rest)
+pub not_skipped : (part : Part) (a b : State) (r : Result (Unit {0}) Refusal) → a.env.config.minify ≡ false → Does part a b r → Does (when_minified no_part part) a b r
+unfolding with_lines
+not_skipped part a b (Ok u) h k = λ lines rest c r f. follows_same (when_minified no_part part rest) (part rest) (with_lines lines a) c r (pretty_same no_part part rest (with_lines lines a).env h) (k lines rest c r f)
+not_skipped part a b (Err e) h k = λ lines rest. follows_same (when_minified no_part part rest) (part rest) (with_lines lines a) (with_lines lines b) (Err e) (pretty_same no_part part rest (with_lines lines a).env h) (k lines rest)

@@ -4,9 +4,10 @@ use Rattle.std.specs.Str.{chars}
 use Rattle.swc_ecma_codegen_common.specs.declared.errors.Refusal.{Refusal}
 use Rattle.swc_ecma_codegen_common.specs.declared.errors.Refusal.TheVariants.{Failed}
 use Rattle.swc_ecma_codegen_ast.specs.GapRules.{fuses, Apart}
-use Rattle.swc_ecma_codegen_text_writer.specs.Sheet.{Space, effect}
+use Rattle.swc_ecma_codegen_text_writer.specs.Sheet.{Sheet, Space, effect}
+use Rattle.swc_ecma_codegen_ast.specs.SourceLines.{Lines}
 use Rattle.swc_ecma_codegen_base.specs.declared.refusals.Unprintable.{Unprintable}
-use Rattle.swc_ecma_codegen_base.specs.Run.{Env, Plan, Part, State, Step, Guard, Token, Plain, Ends, Remake, Steps, next, IsRefused, Halts, earlier, stopped, reached, Follows, run, steps_of, refusal_of, unprintable_in, put, step, refuse, nothing, when_minified}
+use Rattle.swc_ecma_codegen_base.specs.Run.{Env, Plan, Part, State, Step, Guard, Token, Plain, Ends, Remake, Steps, next, IsRefused, Halts, earlier, stopped, reached, Follows, Emits, Does, at_lines, with_lines, run, steps_of, refusal_of, unprintable_in, put, step, refuse, nothing, when_minified}
 
 -- an earlier refusal is not forgotten
 pub put_failed : (x : Step) (s : State) → (put x s).failed ≡ s.failed
@@ -86,3 +87,46 @@ minified_same part other rest env h = ap (λ m. cond m (part rest env) (other re
 pub pretty_same : (part other : Part) (rest : Plan) (env : Env) → env.config.minify ≡ false → when_minified part other rest env ≡ other rest env
 unfolding when_minified
 pretty_same part other rest env h = ap (λ m. cond m (part rest env) (other rest env)) h
+
+-- ---- wherever lines end
+
+pub put_lines : (x : Step) (lines : Lines) (s : State) → with_lines lines (put x s) ≡ put x (with_lines lines s)
+unfolding put with_lines
+put_lines (Guard t) lines s = elim (fuses s.last (chars t)) as (λ b. with_lines lines (cond b (record s { sheet = effect Space s.sheet; last = Apart }) s) ≡ cond b (record (with_lines lines s) { sheet = effect Space s.sheet; last = Apart }) (with_lines lines s)) [ true ↦ refl | false ↦ refl ]
+put_lines (Token kind x) lines s = refl
+put_lines (Plain x) lines s = refl
+put_lines (Ends tokens x) lines s = refl
+put_lines (Remake due) lines s = refl
+
+pub refused_lines : (x : Step) (e : Refusal) (a : State) (new : Sheet) (lines : Lines) → IsRefused x e a new → IsRefused x e (with_lines lines a) new
+unfolding IsRefused with_lines
+refused_lines (Guard t) e a new lines h = h
+refused_lines (Token kind x) e a new lines h = h
+refused_lines (Plain x) e a new lines h = h
+refused_lines (Ends tokens x) e a new lines h = h
+refused_lines (Remake due) e a new lines h = h
+
+-- a part is done by what another is done by
+pub does_by : (p q : Part) (a b : State) (r : Result (Unit {0}) Refusal) → ((lines : Lines) (s : Result (Unit {0}) Refusal) → Emits p (with_lines lines a) (with_lines lines b) s → Emits q (with_lines lines a) (with_lines lines b) s) → Does p a b r → Does q a b r
+does_by p q a b (Ok u) f h = λ lines. f lines (Ok u) (h lines)
+does_by p q a b (Err e) f h = λ lines. f lines (Err e) (h lines)
+
+-- what is done wherever lines end is done where they end so
+pub does_here : (lines : Lines) (p : Part) (a b : State) (r : Result (Unit {0}) Refusal) → Does p a b r → Emits p (at_lines lines a) (at_lines lines b) r
+unfolding with_lines
+does_here lines p a b (Ok u) h = h lines
+does_here lines p a b (Err e) h = h lines
+
+pub does_step : (x : Step) (a b : State) → a.failed ≡ false → b ≡ put x a → Does (step x) a b (Ok tt)
+unfolding with_lines
+does_step x a b f eq = λ lines. emits_step x (with_lines lines a) (with_lines lines b) f (ap (with_lines lines) eq ∙ put_lines x lines a)
+
+-- an emitter that was refused before
+pub does_failed : (p : Plan) (a : State) → a.failed ≡ true → (lines : Lines) → Follows p (with_lines lines a) (with_lines lines a) (Err Failed)
+unfolding with_lines
+does_failed p a h lines = emits_failed p (with_lines lines a) h
+
+-- a node that can't be printed
+pub does_refusal : (r : Unprintable) (e : Refusal) (a b : State) → a.failed ≡ false → e ≡ refusal_of r → b ≡ record a { failed = true } → Does (refuse r) a b (Err e)
+unfolding with_lines
+does_refusal r e a b h eq k = λ lines. emits_refusal r e (with_lines lines a) (with_lines lines b) h eq (ap (with_lines lines) k)

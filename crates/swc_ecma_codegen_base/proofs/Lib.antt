@@ -7,7 +7,9 @@ pub mod ValueStrings
 pub mod Calls
 pub mod Spelled
 pub mod Anew
+pub mod ListCommas
 pub mod RawTexts
+pub mod KeySteps
 pub mod Fronts
 pub mod Levels
 pub mod Strangers
@@ -24,7 +26,10 @@ pub mod Positions
 pub mod Printed
 pub mod LiteralParts
 pub mod Phrased
+pub mod Choices
+pub mod KeyPrints
 pub mod SoFar
+pub mod KeyTexts
 pub mod AsciiTexts
 pub mod ScriptTexts
 pub mod Made
@@ -36,3 +41,4 @@ pub mod StringPrints
 pub mod NumberPrints
 pub mod BigPrints
 pub mod EachLit
+pub mod ListLaws

@@ -1,5 +1,5 @@
 -- When an emission of a tree is made, and what is left after it.
-use Rattle.std.proofs.Common.{◌≡◌, ◌+◌, ◌^◌, ◌<◌, true, false, cond, if◌then◌else◌, inl, inr, List, [], ◌∷◌, ◌++◌, length, length-append, Result, Ok, Err, None, Option, Some, OnOk, IsOk, refl, sym, ap, ◌∙◌, subst, arith}
+use Rattle.std.proofs.Common.{◌≡◌, ◌+◌, ◌^◌, ◌<◌, ◌≤◌, true, false, cond, if◌then◌else◌, inl, inr, List, [], ◌∷◌, ◌++◌, length, length-append, Result, Ok, Err, None, Option, Some, OnOk, IsOk, refl, sym, ap, ◌∙◌, subst, arith}
 use Rattle.std.proofs.lemmas.Bool.{cases_Bool, or_from, true_from_ne_false, true≢false}
 use Rattle.swc_ecma_codegen_common.specs.declared.errors.Error.{Error}
 use Rattle.swc_ecma_codegen_common.specs.declared.errors.Refusal.{Refusal}
@@ -8,10 +8,12 @@ use Rattle.swc_ecma_codegen_common.specs.Refusals.{in_short}
 use Rattle.swc_ecma_codegen_base.specs.declared.refusals.Unprintable.{Unprintable}
 use Rattle.swc_ecma_codegen_text_writer.proofs.Sheets.{effect_refused, effect_faults, effect_takes_memory, effect_keeps_positions}
 use Rattle.swc_ecma_codegen_ast.specs.Tokens.{Token as LexicalToken}
-use Rattle.swc_ecma_codegen_ast.specs.Phrases.{Phrase, Never, Nothing, One, NameOf, Then, Generates, is_possible}
+use Rattle.swc_ecma_codegen_ast.specs.Settings.{Settings}
+use Rattle.swc_ecma_codegen_ast.specs.Phrases.{Phrase, Never, Nothing, One, NameOf, KeyOf, Then, OptionalComma, OptionalParentheses, Chosen, EmptyArguments, in_parentheses, close_parenthesis, Generates, chosen, is_possible}
 use Rattle.swc_ecma_codegen_base.specs.declared.refusals.Unprintable.TheVariants.{NameOutOfTarget}
 use Rattle.swc_ecma_codegen_base.specs.Targets.{is_out}
 use Rattle.swc_ecma_codegen_base.specs.Run.{Env, Plan, Part, Step, State, run, steps_of, unprintable_in, nothing, Follows, HasCause, PassesLimit, IsUnhindered, earlier, stopped, reached}
+use Rattle.swc_ecma_codegen_base.specs.Settings.{settings_of}
 use Rattle.swc_ecma_codegen_base.specs.Ready.{token_count, IsPlainTree, IsReady}
 use Rattle.swc_ecma_codegen_base.proofs.Emitting.{put_failed, put_env}
 use Rattle.swc_ecma_codegen_base.proofs.Fronts.{run_sheet, follows_cause, follows_succeeds}
@@ -19,18 +21,31 @@ use Rattle.swc_ecma_codegen_base.proofs.Levels.{levels, stays_within}
 use Rattle.swc_ecma_codegen_base.proofs.Phrased.{Prints, steps_of_chain, goes_on, made_not_out, printed_remakes}
 use Rattle.swc_ecma_codegen_base.proofs.Targets.{plain_not_out}
 
--- each list of a phrase has as many tokens
-counted : (f : Phrase) (ts : List LexicalToken) → Generates f ts → length ts ≡ token_count f
+argument_count : (s : Settings) → length (chosen s EmptyArguments) ≤ 2
+unfolding chosen
+argument_count s = elim s.minify as (λ b. length (cond b [] (in_parentheses [])) ≤ 2) [ true ↦ omega arith | false ↦ omega arith ]
+
+-- each list of a phrase has no more tokens
+counted : (s : Settings) (f : Phrase) (ts : List LexicalToken) → Generates s f ts → length ts ≤ token_count f
 unfolding Generates token_count
-counted Never ts g = absurd g
-counted Nothing ts g = ap length g
-counted (One x) ts g = ap length g
-counted (NameOf at bytes) ts g = ap length g
-counted (Then a b) ts g =
-    let h = counted a g.0 g.2 in
-    let k = counted b g.1 g.3 in
+counted s Never ts g = absurd g
+counted s Nothing ts g = let e = ap length g in omega (arith, e)
+counted s (One x) ts g = let e = ap length g in omega (arith, e)
+counted s (NameOf at bytes) ts g = let e = ap length g in omega (arith, e)
+counted s (KeyOf at bytes) ts g = let e = ap length g in omega (arith, e)
+counted s (Then a b) ts g =
+    let h = counted s a g.0 g.2 in
+    let k = counted s b g.1 g.3 in
     let e = ap length g.4 in
     omega (arith, h, k, e, length-append g.0 g.1)
+counted s OptionalComma ts (inl g) = let e = ap length g in omega (arith, e)
+counted s OptionalComma ts (inr g) = let e = ap length g in omega (arith, e)
+counted s (OptionalParentheses a) ts (inl g) = let h = counted s a ts g in omega (arith, h)
+counted s (OptionalParentheses a) ts (inr g) =
+    let h = counted s a g.0 g.1 in
+    let e = ap length g.2 in
+    omega (arith, h, e, length-append g.0 (close_parenthesis ∷ []))
+counted s (Chosen EmptyArguments) ts g = let h = argument_count s in let e = ap length g in omega (arith, h, e)
 
 -- each node of a well-formed tree can be printed, whose names can
 pub printable : (p : Part) (f : Phrase) (env : Env) → Prints env p f → is_possible f ≡ true → is_out env.config f ≡ false → unprintable_in (p nothing env) ≡ None
@@ -64,7 +79,7 @@ within p f a prints w o room =
     let h = prints.where_possible w o in
     let same : steps_of (p nothing a.env) ≡ h.writes.steps = ap steps_of (h.writes.is_steps nothing) ∙ steps_of_chain h.writes.steps in
     let deep = h.writes.deep in
-    let count = counted f h.tokens h.generated in
+    let count = counted (settings_of a.env.config) f h.tokens h.generated in
     let few = ap levels same in
     stays_within (steps_of (p nothing a.env)) a (omega (arith, deep, count, few, room))
 
@@ -90,7 +105,7 @@ unfolding run
 run_failed [] a = refl
 run_failed (x ∷ xs) a = run_failed xs _ ∙ put_failed x a
 
-run_env : (xs : List Step) (a : State) → (run xs a).env ≡ a.env
+pub run_env : (xs : List Step) (a : State) → (run xs a).env ≡ a.env
 unfolding run
 run_env [] a = refl
 run_env (x ∷ xs) a = run_env xs _ ∙ put_env x a

@@ -24,7 +24,7 @@ use Rattle.swc_ecma_codegen_spans.specs.Spans.{dummy_span}
 use Rattle.swc_ecma_codegen_text_writer.specs.Recorded.{RecordsTruly}
 use Rattle.swc_ecma_codegen_text_writer.specs.Sheet.{Sheet, Symbol, Position, Commit}
 use Rattle.swc_ecma_codegen_text_writer.proofs.Sheets.{effect_keeps_positions}
-use Rattle.swc_ecma_codegen_ast.specs.Phrases.{Phrase, Never, Nothing, One, NameOf, Then, Generates, is_possible, names_in, where_, ◌>◌, mark}
+use Rattle.swc_ecma_codegen_ast.specs.Phrases.{Phrase, Never, Nothing, One, NameOf, Then, PlacedName, Generates, is_possible, names_in, where_, ◌>◌, mark}
 use Rattle.swc_ecma_codegen_ast.specs.Phrases as phrases
 use Rattle.swc_ecma_codegen_ast.specs.SpelledNames as names
 use Rattle.swc_ecma_codegen_ast.specs.SpelledNames.{is_well_formed_name}
@@ -36,7 +36,8 @@ use Rattle.swc_ecma_codegen_literals.proofs.NameTexts.{ascii_chars}
 use Rattle.swc_ecma_codegen_literals.proofs.SpelledTexts.{ascii_from_all}
 use Rattle.swc_ecma_codegen_base.specs.declared.refusals.Unprintable.TheVariants.{NameOutOfTarget}
 use Rattle.swc_ecma_codegen_base.specs.Run.{Env, Plan, Part, State, Step, Guard, Token, Plain, Remake, Steps, done, step, steps_of, unprintable_in, refuse, run, nothing, spelling, Follows, HasCause, has_backslash, makes_text}
-use Rattle.swc_ecma_codegen_base.specs.Targets.{wants_escapes, is_out_name, written_name, is_out}
+use Rattle.swc_ecma_codegen_base.specs.Settings.{settings_of}
+use Rattle.swc_ecma_codegen_base.specs.Targets.{written_as, wants_escapes, is_out_name, written_name, is_out}
 use Rattle.swc_ecma_codegen_base.specs.Words.{keyword, operator, word_operator, punct, semi, commit_pending_semi, position, symbol, valid_symbol, name_text, question, name}
 use Rattle.swc_ecma_codegen_base.specs.Written.{AtRest, is_free, holds_one, IsNew, ReadsAs, AddsText, AddsReading, IsWord, IsMark}
 use Rattle.swc_ecma_codegen_base.specs.Escapes.{may_make_text}
@@ -73,14 +74,14 @@ steps_then {env} h q =
     ap steps_of (h.is_steps (q nothing)) ∙ steps_of_more h.steps (q nothing env) ∙ ap (λ z. z ++ steps_of (q nothing env)) (sym alone)
 
 -- Where positions are kept, the steps of a part write these names, and record the position of each where it begins.
-unfoldable pub NamedBy : Env → Part → List (BytePos × List ℕ) → Type 0
+unfoldable pub NamedBy : Env → Part → List PlacedName → Type 0
 NamedBy env p names = (s : State) → s.sheet.keeps_positions ≡ true → Named env.config names s.sheet (run (steps_of (p nothing env)) s).sheet
 
 pub no_names : (env : Env) (p : Part) → NamedBy env p []
 unfolding NamedBy
 no_names env p s k = named_none env.config s.sheet _ (run_records (steps_of (p nothing env)) s)
 
-names_then : {env : Env} {p : Part} {ts : List lexical.Token} {b : Bool} (q : Part) (xs ys : List (BytePos × List ℕ)) → Makes env p ts b → NamedBy env p xs → NamedBy env q ys → NamedBy env (λ rest. p (q rest)) (xs ++ ys)
+pub names_then : {env : Env} {p : Part} {ts : List lexical.Token} {b : Bool} (q : Part) (xs ys : List PlacedName) → Makes env p ts b → NamedBy env p xs → NamedBy env q ys → NamedBy env (λ rest. p (q rest)) (xs ++ ys)
 unfolding NamedBy
 names_then {env} {p} q xs ys m h k s keeps =
     let here = steps_of (p nothing env) in
@@ -102,7 +103,7 @@ no_strings {env} {p} {ts} h none e anew =
     let no : has_string h.steps ≡ false = false_from_ne_true (has_string h.steps) (λ s. true≢false (sym (h.hands.strings s) ∙ none)) in
     subst AreSafe (sym (ap (strings_after anew) same ∙ none_by_value anew h.steps no)) tt
 
-safe_then : {env : Env} {p : Part} {ts : List lexical.Token} {b : Bool} (q : Part) → Makes env p ts b → IsSafe env p → IsSafe env q → IsSafe env (λ rest. p (q rest))
+pub safe_then : {env : Env} {p : Part} {ts : List lexical.Token} {b : Bool} (q : Part) → Makes env p ts b → IsSafe env p → IsSafe env q → IsSafe env (λ rest. p (q rest))
 unfolding IsSafe
 safe_then {env} {p} q m h k e anew =
     let here = steps_of (p nothing env) in
@@ -112,7 +113,7 @@ safe_then {env} {p} q m h k e anew =
 -- A part writes a token list of a phrase, whatever comes after it, and makes no name anew but those of the phrase.
 pub record Printed (env : Env) (part : Part) (phrase : Phrase) : Type 0 where
   pub tokens : List lexical.Token
-  pub generated : Generates phrase tokens
+  pub generated : Generates (settings_of env.config) phrase tokens
   pub writes : Makes env part tokens (may_make_text env.config phrase)
   pub named : NamedBy env part (names_in phrase)
   pub safe : IsSafe env part
@@ -243,7 +244,7 @@ ascii_same t a = (ascii_chars t (ascii_from_all t a)).0
 word_spelled : (t : List ℕ) → IsWord t → Spelled Word t
 word_spelled t w = spelled_word t w.utf8 (ap is_word (ascii_same t w.ascii) ∙ w.shape)
 
-mark_spelled : (t : List ℕ) → IsMark t → Spelled Punctuator t
+pub mark_spelled : (t : List ℕ) → IsMark t → Spelled Punctuator t
 mark_spelled t w = spelled_mark t w.utf8 (ascii_same t w.ascii) w.shape
 
 prints_word : (env : Env) (p : Part) (t : List ℕ) → IsWord t → Writes env p (token_of Word (spelling Word t) ∷ []) → Prints env p (phrases.word t)
@@ -284,7 +285,7 @@ name_written config bytes w o = let p = and_parts (is_utf8 (turned bytes)) (is_n
 settled_name : Span → List ℕ → Part
 settled_name span bytes rest = commit_pending_semi (name_text span bytes rest)
 
-symbol_steps : (env : Env) (span : Span) (bytes : List ℕ) → env.keeps_invalid ≡ false → is_out_name env.config (turned bytes) ≡ false → steps_of (settled_name span bytes nothing env) ≡ name_steps env.config (span.lo.0 == 0) span.lo bytes
+symbol_steps : (env : Env) (span : Span) (bytes : List ℕ) → env.keeps_invalid ≡ false → is_out_name env.config (turned bytes) ≡ false → steps_of (settled_name span bytes nothing env) ≡ name_steps (has_backslash bytes) (wants_escapes env.config (turned bytes)) Name (span.lo.0 == 0) span.lo (written_name env.config bytes)
 unfolding settled_name name_steps name_call written_name commit_pending_semi valid_symbol symbol position step steps_of nothing
 symbol_steps env span bytes e o =
     let t : List ℕ = written_name env.config bytes in
@@ -292,13 +293,16 @@ symbol_steps env span bytes e o =
     ap (λ z. Plain Commit ∷ steps_of z) (valid_same span bytes nothing env e)
     ∙ ap (λ z. Plain Commit ∷ Remake (has_backslash bytes) ∷ steps_of z) (spelled_same span (turned bytes) nothing env o)
     ∙ ap (λ z. Plain Commit ∷ Remake (has_backslash bytes) ∷ Remake (wants_escapes env.config (turned bytes)) ∷ Guard t ∷ z)
-    (elim (span.lo.0 == 0) as (λ b. steps_of ((cond b (step x nothing) (step (Plain (Position span.lo)) (step x nothing))) env) ≡ name_call b span.lo t) [ true ↦ refl | false ↦ refl ])
+    (elim (span.lo.0 == 0) as (λ b. steps_of ((cond b (step x nothing) (step (Plain (Position span.lo)) (step x nothing))) env) ≡ name_call Name b span.lo t) [ true ↦ refl | false ↦ refl ])
 
-names_here : (env : Env) (span : Span) (bytes : List ℕ) → env.keeps_invalid ≡ false → is_out_name env.config (turned bytes) ≡ false → (written_name env.config bytes ≡ [] → ⊥) → NamedBy env (settled_name span bytes) ((span.lo, bytes) ∷ [])
-unfolding NamedBy
+abbrev pub named_at : BytePos → List ℕ → PlacedName
+named_at at bytes = record { at = at; bytes = bytes; is_key = false }
+
+names_here : (env : Env) (span : Span) (bytes : List ℕ) → env.keeps_invalid ≡ false → is_out_name env.config (turned bytes) ≡ false → (written_name env.config bytes ≡ [] → ⊥) → NamedBy env (settled_name span bytes) (named_at span.lo bytes ∷ [])
+unfolding NamedBy written_as
 names_here env span bytes e o some s k =
-    let P : List Step → Type 0 = λ z. Named env.config ((span.lo, bytes) ∷ []) s.sheet (run z s).sheet in
-    subst P (sym (symbol_steps env span bytes e o)) (name_named env.config (span.lo.0 == 0) span.lo bytes s refl some k)
+    let P : List Step → Type 0 = λ z. Named env.config (named_at span.lo bytes ∷ []) s.sheet (run z s).sheet in
+    subst P (sym (symbol_steps env span bytes e o)) (name_named env.config (has_backslash bytes) (wants_escapes env.config (turned bytes)) Name (span.lo.0 == 0) (named_at span.lo bytes) s refl some k)
 
 -- a name that can't be written ends it
 name_out : (env : Env) (span : Span) (bytes : List ℕ) (rest : Plan) → env.keeps_invalid ≡ false → is_out_name env.config (turned bytes) ≡ true → unprintable_in (settled_name span bytes rest env) ≡ Some NameOutOfTarget
@@ -366,9 +370,9 @@ unfolding end_of tokens_of
 no_end_tokens true s = refl
 no_end_tokens false s = refl
 
-laid_reads : (f : Phrase) (ts : List lexical.Token) (a b : State) → Generates f ts → IsNew a → Lays ts a b → AddsReading f a.sheet b.sheet
+laid_reads : (config : Config) (f : Phrase) (ts : List lexical.Token) (a b : State) → Generates (settings_of config) f ts → IsNew a → Lays ts a b → AddsReading config f a.sheet b.sheet
 unfolding NoneFuse
-laid_reads f ts a b g n l =
+laid_reads config f ts a b g n l =
     let last : Bool = holds_one b.sheet.semicolons in
     let end : List parts.Part = end_of last b.sheet in
     let none : held a.sheet ≡ [] = ap (λ z. held_of z a.sheet) n.nothing_held in
@@ -392,25 +396,25 @@ laid_reads f ts a b g n l =
     }
 
 -- the steps of a part, made from a state where an emission begins
-pub steps_read : (p : Part) (f : Phrase) (a : State) → IsNew a → Prints a.env p f → is_possible f ≡ true → is_out a.env.config f ≡ false → AddsReading f a.sheet (run (steps_of (p nothing a.env)) a).sheet
+pub steps_read : (p : Part) (f : Phrase) (a : State) → IsNew a → Prints a.env p f → is_possible f ≡ true → is_out a.env.config f ≡ false → AddsReading a.env.config f a.sheet (run (steps_of (p nothing a.env)) a).sheet
 unfolding nothing
 steps_read p f a n prints w o =
     let h = prints.where_possible w o in
     let end : run (steps_of (p nothing a.env)) a ≡ run h.writes.steps a = ap (λ z. run (steps_of z) a) (h.writes.is_steps nothing) ∙ ap (λ z. run z a) (steps_of_chain h.writes.steps) in
-    let P : State → Type 0 = λ z. AddsReading f a.sheet z.sheet in
-    subst P (sym end) (laid_reads f h.tokens a (run h.writes.steps a) h.generated n (h.writes.lays a (new_at_rest a n)))
+    let P : State → Type 0 = λ z. AddsReading a.env.config f a.sheet z.sheet in
+    subst P (sym end) (laid_reads a.env.config f h.tokens a (run h.writes.steps a) h.generated n (h.writes.lays a (new_at_rest a n)))
 
 -- steps that come to their end come to no name that can't be written
 pub made_not_out : (p : Part) (f : Phrase) (env : Env) → Prints env p f → is_possible f ≡ true → unprintable_in (p nothing env) ≡ None → is_out env.config f ≡ false
 made_not_out p f env prints w end = false_from_ne_true (is_out env.config f) (λ o. let z = sym end ∙ prints.where_out w o nothing in absurd (cc))
 
 -- of an empty text the whole reads
-pub whole_reads : (holds : Bool) (f : Phrase) (text : List ℕ) → AddsText holds f [] text → ReadsAs holds f text
-whole_reads holds f text h = subst (λ z. ReadsAs holds f z) (sym h.is_added) h.reading
+pub whole_reads : (config : Config) (holds : Bool) (f : Phrase) (text : List ℕ) → AddsText config holds f [] text → ReadsAs config holds f text
+whole_reads config holds f text h = subst (λ z. ReadsAs config holds f z) (sym h.is_added) h.reading
 
-pub printed_reads : (p : Part) (f : Phrase) (a b : State) (r : Result (Unit {0}) Refusal) → IsNew a → Prints a.env p f → is_possible f ≡ true → Follows (p nothing) a b r → OnOk r (AddsReading f a.sheet b.sheet)
+pub printed_reads : (p : Part) (f : Phrase) (a b : State) (r : Result (Unit {0}) Refusal) → IsNew a → Prints a.env p f → is_possible f ≡ true → Follows (p nothing) a b r → OnOk r (AddsReading a.env.config f a.sheet b.sheet)
 unfolding Follows
-printed_reads p f a b (Ok u) n prints w k = let P : State → Type 0 = λ z. AddsReading f a.sheet z.sheet in subst P (sym k.1) (steps_read p f a n prints w (made_not_out p f a.env prints w k.0))
+printed_reads p f a b (Ok u) n prints w k = let P : State → Type 0 = λ z. AddsReading a.env.config f a.sheet z.sheet in subst P (sym k.1) (steps_read p f a n prints w (made_not_out p f a.env prints w k.0))
 printed_reads p f a b (Err e) n prints w k = tt
 
 -- no text is made anew where nothing of the phrase may be

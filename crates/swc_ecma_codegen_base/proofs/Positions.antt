@@ -5,9 +5,9 @@ use Rattle.std.proofs.lemmas.Bool.Decides.{nat_tests}
 use Rattle.std.specs.Str.{chars}
 use Rattle.swc_ecma_codegen_common.specs.declared.positions.BytePos.{BytePos}
 use Rattle.swc_ecma_codegen_spans.specs.Spans.{dummy_span}
-use Rattle.swc_ecma_codegen_ast.specs.declared.kinds.Kind.TheVariants.{Name}
+use Rattle.swc_ecma_codegen_ast.specs.declared.kinds.Kind.{Kind}
 use Rattle.swc_ecma_codegen_ast.specs.GapRules.{fuses, Apart}
-use Rattle.swc_ecma_codegen_ast.specs.ValidNames.{turned}
+use Rattle.swc_ecma_codegen_ast.specs.Phrases.{PlacedName}
 use Rattle.swc_ecma_codegen_util.specs.declared.config.Config.{Config}
 use Rattle.swc_ecma_codegen_text_writer.specs.Places.{Place, after_text}
 use Rattle.swc_ecma_codegen_text_writer.specs.Recorded.{RecordsTruly}
@@ -15,8 +15,8 @@ use Rattle.swc_ecma_codegen_text_writer.specs.Sheet.{Sheet, Pair, Space, Symbol,
 use Rattle.swc_ecma_codegen_text_writer.proofs.Pairs.{after_both, records_refl, records_trans, pointed_records, started_records, effect_records}
 use Rattle.swc_ecma_codegen_text_writer.proofs.Sheets.{effect_keeps_positions}
 use Rattle.swc_ecma_codegen_base.specs.Named.{IsRecorded, NamesStand, RecordsNames}
-use Rattle.swc_ecma_codegen_base.specs.Run.{State, Step, Guard, Token, Plain, Ends, Remake, put, run, has_backslash}
-use Rattle.swc_ecma_codegen_base.specs.Targets.{wants_escapes, written_name}
+use Rattle.swc_ecma_codegen_base.specs.Run.{State, Step, Guard, Token, Plain, Ends, Remake, put, run}
+use Rattle.swc_ecma_codegen_base.specs.Targets.{written_as}
 use Rattle.swc_ecma_codegen_base.specs.Written.{holds_one}
 use Rattle.swc_ecma_codegen_base.proofs.Fronts.{run_sheet}
 use Rattle.swc_ecma_codegen_base.proofs.Held.{begun_sheet, written_semicolons, pointed_keeps, settled_none, unheld_settled}
@@ -121,24 +121,24 @@ noted_has pos s k =
 
 -- ---- names in a text
 
-stand_later : (config : Config) (p : Place) (t u : List ℕ) (pairs : List Pair) (xs : List (BytePos × List ℕ)) → NamesStand config (after_text t p) u pairs xs → NamesStand config p (t ++ u) pairs xs
+stand_later : (config : Config) (p : Place) (t u : List ℕ) (pairs : List Pair) (xs : List PlacedName) → NamesStand config (after_text t p) u pairs xs → NamesStand config p (t ++ u) pairs xs
 unfolding NamesStand
 stand_later config p t u pairs [] h = tt
 stand_later config p t u pairs (x ∷ xs) h =
     let e : after_text h.0 (after_text t p) ≡ after_text (t ++ h.0) p = sym (after_both t h.0 p) in
-    (t ++ h.0, h.1, ap (λ z. t ++ z) h.2 ∙ sym (append_assoc t h.0 (written_name config x.1 ++ h.1)), subst (λ (q : Place). IsRecorded x.0 q pairs) e h.3, subst (λ (q : Place). NamesStand config (after_text (written_name config x.1) q) h.1 pairs xs) e h.4)
+    (t ++ h.0, h.1, ap (λ z. t ++ z) h.2 ∙ sym (append_assoc t h.0 (written_as config x ++ h.1)), subst (λ (q : Place). IsRecorded x.at q pairs) e h.3, subst (λ (q : Place). NamesStand config (after_text (written_as config x) q) h.1 pairs xs) e h.4)
 
 -- names of a text, and then those of the text after it
-stand_both : (config : Config) (p : Place) (t u : List ℕ) (pairs more : List Pair) (xs ys : List (BytePos × List ℕ)) → NamesStand config p t pairs xs → NamesStand config (after_text t p) u (pairs ++ more) ys → NamesStand config p (t ++ u) (pairs ++ more) (xs ++ ys)
+stand_both : (config : Config) (p : Place) (t u : List ℕ) (pairs more : List Pair) (xs ys : List PlacedName) → NamesStand config p t pairs xs → NamesStand config (after_text t p) u (pairs ++ more) ys → NamesStand config p (t ++ u) (pairs ++ more) (xs ++ ys)
 unfolding NamesStand
 stand_both config p t u pairs more [] ys h k = stand_later config p t u (pairs ++ more) ys k
 stand_both config p t u pairs more (x ∷ xs) ys h k =
-    let q : Place = after_text (written_name config x.1) (after_text h.0 p) in
-    let e : after_text t p ≡ after_text h.1 q = ap (λ z. after_text z p) h.2 ∙ after_both h.0 (written_name config x.1 ++ h.1) p ∙ after_both (written_name config x.1) h.1 (after_text h.0 p) in
-    (h.0, h.1 ++ u, ap (λ z. z ++ u) h.2 ∙ append_assoc h.0 (written_name config x.1 ++ h.1) u ∙ ap (λ z. h.0 ++ z) (append_assoc (written_name config x.1) h.1 u), recorded_more x.0 (after_text h.0 p) pairs more h.3, stand_both config q h.1 u pairs more xs ys h.4 (subst (λ (z : Place). NamesStand config z u (pairs ++ more) ys) e k))
+    let q : Place = after_text (written_as config x) (after_text h.0 p) in
+    let e : after_text t p ≡ after_text h.1 q = ap (λ z. after_text z p) h.2 ∙ after_both h.0 (written_as config x ++ h.1) p ∙ after_both (written_as config x) h.1 (after_text h.0 p) in
+    (h.0, h.1 ++ u, ap (λ z. z ++ u) h.2 ∙ append_assoc h.0 (written_as config x ++ h.1) u ∙ ap (λ z. h.0 ++ z) (append_assoc (written_as config x) h.1 u), recorded_more x.at (after_text h.0 p) pairs more h.3, stand_both config q h.1 u pairs more xs ys h.4 (subst (λ (z : Place). NamesStand config z u (pairs ++ more) ys) e k))
 
 -- From one sheet to another these names were written, with their positions, and further pairs were recorded.
-pub record Named (config : Config) (names : List (BytePos × List ℕ)) (a b : Sheet) : Type 0 where
+pub record Named (config : Config) (names : List PlacedName) (a b : Sheet) : Type 0 where
   pub text : List ℕ
   pub is_text : b.text ≡ a.text ++ text
   pub added : List Pair
@@ -150,7 +150,7 @@ pub named_none : (config : Config) (a b : Sheet) → RecordsTruly a b → Named 
 unfolding NamesStand
 named_none config a b h = record { text = h.text; is_text = h.is_text; added = h.added; is_added = h.is_added; place = h.place; stand = tt }
 
-pub named_then : (config : Config) (xs ys : List (BytePos × List ℕ)) (a b c : Sheet) → Named config xs a b → Named config ys b c → Named config (xs ++ ys) a c
+pub named_then : (config : Config) (xs ys : List PlacedName) (a b c : Sheet) → Named config xs a b → Named config ys b c → Named config (xs ++ ys) a c
 named_then config xs ys a b c h k =
     let next : NamesStand config (after_text h.text a.place) k.text (b.pairs ++ k.added) ys =
     subst (λ (p : Place). NamesStand config p k.text (b.pairs ++ k.added) ys) h.place (subst (λ (z : List Pair). NamesStand config b.place k.text z ys) k.is_added k.stand) in
@@ -163,20 +163,20 @@ named_then config xs ys a b c h k =
       stand = subst (λ (z : List Pair). NamesStand config a.place (h.text ++ k.text) z (xs ++ ys)) (sym k.is_added) (stand_both config a.place h.text k.text b.pairs k.added xs ys h.stand next);
     }
 
-pub named_records : (config : Config) (xs : List (BytePos × List ℕ)) (a b : Sheet) → Named config xs a b → RecordsNames config xs a b
+pub named_records : (config : Config) (xs : List PlacedName) (a b : Sheet) → Named config xs a b → RecordsNames config xs a b
 named_records config xs a b h = record { text = h.text; is_text = h.is_text; stand = h.stand }
 
 -- ---- one name
 
-named_one : (config : Config) (pos : BytePos) (bytes : List ℕ) (s : Sheet) → IsRecorded pos s.place s.pairs → Named config ((pos, bytes) ∷ []) s (appended (written_name config bytes) s)
+named_one : (config : Config) (x : PlacedName) (s : Sheet) → IsRecorded x.at s.place s.pairs → Named config (x ∷ []) s (appended (written_as config x) s)
 unfolding NamesStand appended after_text
-named_one config pos bytes s h = record {
-  text = written_name config bytes;
+named_one config x s h = record {
+  text = written_as config x;
   is_text = refl;
   added = [];
   is_added = sym (append-nil s.pairs);
   place = refl;
-  stand = ([], [], sym (append-nil (written_name config bytes)), h, tt);
+  stand = ([], [], sym (append-nil (written_as config x)), h, tt);
 }
 
 recorded_none : (s : Sheet) → recorded dummy_span.lo s ≡ s
@@ -193,27 +193,30 @@ symbol_sheet : (t : List ℕ) (s : Sheet) → (t ≡ [] → ⊥) → holds_one s
 unfolding effect
 symbol_sheet t s some h = written_plain t (settled s) some ∙ ap (λ z. appended t (started z)) (unheld_settled s h)
 
-symbol_named : (config : Config) (pos : BytePos) (bytes : List ℕ) (s : Sheet) → (written_name config bytes ≡ [] → ⊥) → holds_one s.semicolons ≡ false → IsRecorded pos (started s).place (started s).pairs → Named config ((pos, bytes) ∷ []) s (effect (Symbol dummy_span (written_name config bytes)) s)
-symbol_named config pos bytes s some h k =
-    let t : List ℕ = written_name config bytes in
-    subst (λ (z : Sheet). Named config ((pos, bytes) ∷ []) s z) (sym (symbol_sheet t s some h))
-    (named_then config [] ((pos, bytes) ∷ []) s (started s) (appended t (started s)) (named_none config s (started s) (started_records s)) (named_one config pos bytes (started s) k))
+symbol_named : (config : Config) (x : PlacedName) (s : Sheet) → (written_as config x ≡ [] → ⊥) → holds_one s.semicolons ≡ false → IsRecorded x.at (started s).place (started s).pairs → Named config (x ∷ []) s (effect (Symbol dummy_span (written_as config x)) s)
+symbol_named config x s some h k =
+    let t : List ℕ = written_as config x in
+    subst (λ (z : Sheet). Named config (x ∷ []) s z) (sym (symbol_sheet t s some h))
+    (named_then config [] (x ∷ []) s (started s) (appended t (started s)) (named_none config s (started s) (started_records s)) (named_one config x (started s) k))
 
 -- the same with its position before it
-placed_named : (config : Config) (pos : BytePos) (bytes : List ℕ) (s : Sheet) → (written_name config bytes ≡ [] → ⊥) → holds_one s.semicolons ≡ false → s.keeps_positions ≡ true → Named config ((pos, bytes) ∷ []) s (effect (Symbol dummy_span (written_name config bytes)) (pointed pos s))
-placed_named config pos bytes s some h k =
-    named_then config [] ((pos, bytes) ∷ []) s (pointed pos s) _ (named_none config s (pointed pos s) (pointed_records pos s))
-    (symbol_named config pos bytes (pointed pos s) some (pointed_keeps (λ z. holds_one z.semicolons) (λ z x. refl) (λ z x. refl) pos s ∙ h) (noted_has pos s k))
+placed_named : (config : Config) (x : PlacedName) (s : Sheet) → (written_as config x ≡ [] → ⊥) → holds_one s.semicolons ≡ false → s.keeps_positions ≡ true → Named config (x ∷ []) s (effect (Symbol dummy_span (written_as config x)) (pointed x.at s))
+placed_named config x s some h k =
+    named_then config [] (x ∷ []) s (pointed x.at s) _ (named_none config s (pointed x.at s) (pointed_records x.at s))
+    (symbol_named config x (pointed x.at s) some (pointed_keeps (λ z. holds_one z.semicolons) (λ z y. refl) (λ z y. refl) x.at s ∙ h) (noted_has x.at s k))
 
 -- ---- the steps of a name
 
--- the call of a name, and its position before it
-unfoldable pub name_call : Bool → BytePos → List ℕ → List Step
-name_call b pos t = cond b (Token Name (Symbol dummy_span t) ∷ []) (Plain (Position pos) ∷ Token Name (Symbol dummy_span t) ∷ [])
+-- the call of a name by a text, and its position before it
+unfoldable pub name_call : Kind → Bool → BytePos → List ℕ → List Step
+name_call kind b pos t = cond b (Token kind (Symbol dummy_span t) ∷ []) (Plain (Position pos) ∷ Token kind (Symbol dummy_span t) ∷ [])
 
-unfoldable pub name_steps : Config → Bool → BytePos → List ℕ → List Step
-name_steps config b pos bytes =
-    Plain Commit ∷ Remake (has_backslash bytes) ∷ Remake (wants_escapes config (turned bytes)) ∷ Guard (written_name config bytes) ∷ name_call b pos (written_name config bytes)
+-- where a name begins: what was held back is written, the text is made anew, twice where that is due, and the blank that is due
+before_name : Bool → Bool → List ℕ → List Step
+before_name first second t = Plain Commit ∷ Remake first ∷ Remake second ∷ Guard t ∷ []
+
+unfoldable pub name_steps : Bool → Bool → Kind → Bool → BytePos → List ℕ → List Step
+name_steps first second kind b pos t = Plain Commit ∷ Remake first ∷ Remake second ∷ Guard t ∷ name_call kind b pos t
 
 guard_unheld : (t : List ℕ) (a : State) → holds_one a.sheet.semicolons ≡ false → holds_one (put (Guard t) a).sheet.semicolons ≡ false
 unfolding put effect
@@ -221,21 +224,17 @@ guard_unheld t a h =
     elim (fuses a.last (chars t)) as (λ b. holds_one (cond b (record a { sheet = effect Space a.sheet; last = Apart }) a).sheet.semicolons ≡ false)
     [ true ↦ ap holds_one (written_semicolons None (codes " ") (settled a.sheet)) ∙ settled_none a.sheet | false ↦ h ]
 
--- where a name begins: what was held back is written, and the blank that is due
-before_name : Config → List ℕ → List Step
-before_name config bytes = Plain Commit ∷ Remake (has_backslash bytes) ∷ Remake (wants_escapes config (turned bytes)) ∷ Guard (written_name config bytes) ∷ []
-
-before_unheld : (config : Config) (bytes : List ℕ) (s : State) → holds_one (run (before_name config bytes) s).sheet.semicolons ≡ false
+before_unheld : (first second : Bool) (t : List ℕ) (s : State) → holds_one (run (before_name first second t) s).sheet.semicolons ≡ false
 unfolding before_name run put effect
-before_unheld config bytes s = guard_unheld (written_name config bytes) (put (Remake (wants_escapes config (turned bytes))) (put (Remake (has_backslash bytes)) (put (Plain Commit) s))) (settled_none s.sheet)
+before_unheld first second t s = guard_unheld t (put (Remake second) (put (Remake first) (put (Plain Commit) s))) (settled_none s.sheet)
 
-pub name_named : (config : Config) (b : Bool) (pos : BytePos) (bytes : List ℕ) (s : State) → b ≡ (pos.0 == 0) → (written_name config bytes ≡ [] → ⊥) → s.sheet.keeps_positions ≡ true → Named config ((pos, bytes) ∷ []) s.sheet (run (name_steps config b pos bytes) s).sheet
+pub name_named : (config : Config) (first second : Bool) (kind : Kind) (b : Bool) (x : PlacedName) (s : State) → b ≡ (x.at.0 == 0) → (written_as config x ≡ [] → ⊥) → s.sheet.keeps_positions ≡ true → Named config (x ∷ []) s.sheet (run (name_steps first second kind b x.at (written_as config x)) s).sheet
 unfolding name_steps name_call before_name run put effect
-name_named config true pos bytes s e some k =
-    let there : State = run (before_name config bytes) s in
-    named_then config [] ((pos, bytes) ∷ []) s.sheet there.sheet _ (named_none config s.sheet there.sheet (run_records (before_name config bytes) s))
-    (symbol_named config pos bytes there.sheet some (before_unheld config bytes s) (inl (is_none pos (sym e))))
-name_named config false pos bytes s e some k =
-    let there : State = run (before_name config bytes) s in
-    named_then config [] ((pos, bytes) ∷ []) s.sheet there.sheet _ (named_none config s.sheet there.sheet (run_records (before_name config bytes) s))
-    (placed_named config pos bytes there.sheet some (before_unheld config bytes s) (run_sheet (λ z. z.keeps_positions) effect_keeps_positions (before_name config bytes) s ∙ k))
+name_named config first second kind true x s e some k =
+    let there : State = run (before_name first second (written_as config x)) s in
+    named_then config [] (x ∷ []) s.sheet there.sheet _ (named_none config s.sheet there.sheet (run_records (before_name first second (written_as config x)) s))
+    (symbol_named config x there.sheet some (before_unheld first second (written_as config x) s) (inl (is_none x.at (sym e))))
+name_named config first second kind false x s e some k =
+    let there : State = run (before_name first second (written_as config x)) s in
+    named_then config [] (x ∷ []) s.sheet there.sheet _ (named_none config s.sheet there.sheet (run_records (before_name first second (written_as config x)) s))
+    (placed_named config x there.sheet some (before_unheld first second (written_as config x) s) (run_sheet (λ z. z.keeps_positions) effect_keeps_positions (before_name first second (written_as config x)) s ∙ k))

@@ -1,16 +1,18 @@
 -- What each word writes, whatever comes after it.
-use Rattle.std.proofs.Common.{◌≡◌, ℕ, ◌≤◌, Bool, true, false, cond, ◌&&◌, ◌||◌, List, [], ◌∷◌, ◌++◌, length, length-append, arith, ◌==◌, codes, refl, sym, ap, ◌∙◌, subst, inl, inr, Option, Some, None}
+use Rattle.std.proofs.Common.{◌≡◌, ℕ, ◌+◌, ◌-◌, ◌≤◌, Bool, true, false, cond, ◌&&◌, ◌||◌, List, [], ◌∷◌, ◌++◌, length, length-append, arith, ◌==◌, codes, refl, sym, ap, ◌∙◌, subst, inl, inr, Option, Some, None}
 use Rattle.std.proofs.lemmas.Bool.{and_from, cases_Bool, or_cases, or_left, or_right, true≢false}
 use Rattle.swc_ecma_codegen_common.specs.declared.positions.BytePos.{BytePos}
 use Rattle.swc_ecma_codegen_common.specs.declared.positions.Span.{Span}
 use Rattle.swc_ecma_codegen_spans.specs.Spans.{dummy_span}
+use Rattle.swc_ecma_codegen_ast.specs.declared.kinds.Kind.{Kind}
 use Rattle.swc_ecma_codegen_ast.specs.declared.kinds.Kind.TheVariants.{Word, Name, Punctuator, Ending}
 use Rattle.swc_ecma_codegen_ast.specs.Tokens as lexical
 use Rattle.swc_ecma_codegen_ast.specs.Tokens.{token_of}
-use Rattle.swc_ecma_codegen_text_writer.specs.Sheet.{Semi, Space, Keyword, Operator, Line, Symbol, Punct, Position, Commit, effect}
+use Rattle.swc_ecma_codegen_text_writer.specs.Sheet.{Semi, Space, Keyword, Operator, Line, Symbol, Punct, Position, Commit, Deeper, Shallower, effect}
 use Rattle.swc_ecma_codegen_ast.specs.ValidNames.{turned}
 use Rattle.swc_ecma_codegen_base.specs.Run.{Env, Plan, Part, State, Step, Guard, Token, Plain, Ends, Remake, Steps, next, put, run, step, spelling, text_of, after_token, after_plain, when_minified, no_part, has_backslash, makes_text}
 use Rattle.swc_ecma_codegen_base.specs.Words.{keyword, operator, word_operator, punct, semi, space, formatting_space, line_end, formatting_line, commit_pending_semi, position, position_before, leading_comments, trailing_comments, symbol, spelled_symbol, valid_symbol, name_text}
+use Rattle.swc_ecma_codegen_base.specs.Lists.{deeper, shallower}
 use Rattle.swc_ecma_codegen_literals.specs.AsciiNames.{is_ascii_text}
 use Rattle.swc_ecma_codegen_base.specs.Ascii.{is_kept, is_other, keeps_other, are_ascii}
 use Rattle.swc_ecma_codegen_base.specs.Scripts.{is_string_call}
@@ -21,7 +23,7 @@ use Rattle.swc_ecma_codegen_base.proofs.Fronts.{run_append}
 use Rattle.swc_ecma_codegen_base.proofs.Hands.{Hands, has_string, hands_ascii, hands_by_settings, hands_then}
 use Rattle.swc_ecma_codegen_base.proofs.Levels.{levels, rise, levels_append}
 use Rattle.swc_ecma_codegen_base.proofs.Spelled.{valid_same, spelled_same}
-use Rattle.swc_ecma_codegen_base.proofs.Written.{Lays, lays_then, lays_nothing, lays_blank, lays_line, lays_commit, lays_position, lays_token, lays_punct, lays_semi, lays_placed, Spelled, own_put, punct_put, semi_put}
+use Rattle.swc_ecma_codegen_base.proofs.Written.{Lays, lays_then, lays_nothing, lays_blank, lays_line, lays_commit, lays_level, lays_position, lays_token, lays_punct, lays_semi, lays_placed, Spelled, own_put, punct_put, semi_put}
 
 -- some steps, and then more
 unfoldable pub chain : List Step → Steps → Steps
@@ -34,14 +36,18 @@ chain_append [] ys rest = refl
 chain_append (x ∷ xs) ys rest = ap (λ z. next x z) (chain_append xs ys rest)
 
 -- A part is these steps, whatever comes after it, and they write these tokens; where `made` is false, none of their texts is
--- made anew, in memory. They make no more levels than tokens, and hand over ASCII where the settings ask for that.
-pub record Makes (env : Env) (part : Part) (ts : List lexical.Token) (made : Bool) : Type 0 where
+-- made anew, in memory. They make no more levels than `room`, and hand over ASCII where the settings ask for that.
+pub record MakesWithin (room : ℕ) (env : Env) (part : Part) (ts : List lexical.Token) (made : Bool) : Type 0 where
   pub steps : List Step
   pub is_steps : (rest : Plan) → part rest env ≡ chain steps (rest env)
   pub lays : (s : State) → AtRest s → Lays ts s (run steps s)
   pub remakes : makes_text steps ≡ true → made ≡ true
-  pub deep : levels steps ≤ length ts
+  pub deep : levels steps ≤ room
   pub hands : Hands env steps ts
+
+-- They make no more levels than tokens.
+abbrev pub Makes : Env → Part → List lexical.Token → Bool → Type 0
+Makes env part ts made = MakesWithin (length ts) env part ts made
 
 abbrev pub Writes : Env → Part → List lexical.Token → Type 0
 Writes env part ts = Makes env part ts false
@@ -70,8 +76,8 @@ pub no_text : {b : Bool} → false ≡ true → b ≡ true
 no_text h = absurd (true≢false (sym h))
 
 -- one part after the other
-pub writes_then : (env : Env) (p q : Part) (ts us : List lexical.Token) {a b : Bool} → Makes env p ts a → Makes env q us b → Makes env (λ rest. p (q rest)) (ts ++ us) (a || b)
-writes_then env p q ts us {a} {b} h k = record {
+pub within_then : (env : Env) (p q : Part) (ts us : List lexical.Token) {m n : ℕ} {a b : Bool} → MakesWithin m env p ts a → MakesWithin n env q us b → MakesWithin (m + n) env (λ rest. p (q rest)) (ts ++ us) (a || b)
+within_then env p q ts us {m} {n} {a} {b} h k = record {
   steps = h.steps ++ k.steps;
   is_steps = λ rest. h.is_steps (q rest) ∙ ap (λ z. chain h.steps z) (k.is_steps rest) ∙ sym (chain_append h.steps k.steps (rest env));
   lays = λ s r.
@@ -79,9 +85,15 @@ writes_then env p q ts us {a} {b} h k = record {
       let P : State → Type 0 = λ z. Lays (ts ++ us) s z in
       subst P (sym (run_append h.steps k.steps s)) (lays_then ts us s (run h.steps s) (run k.steps (run h.steps s)) a (k.lays (run h.steps s) a.rest));
   remakes = λ e. or_either (makes_text h.steps) (makes_text k.steps) a b (sym (remakes_append h.steps k.steps) ∙ e) h.remakes k.remakes;
-  deep = let x = h.deep in let y = k.deep in omega (arith, x, y, levels_append h.steps k.steps, length-append ts us);
+  deep = let x = h.deep in let y = k.deep in omega (arith, x, y, levels_append h.steps k.steps);
   hands = hands_then h.hands k.hands;
 }
+
+pub with_room : {env : Env} {p : Part} {ts : List lexical.Token} {a : Bool} (m n : ℕ) → m ≤ n → MakesWithin m env p ts a → MakesWithin n env p ts a
+with_room m n le h = record { steps = h.steps; is_steps = h.is_steps; lays = h.lays; remakes = h.remakes; deep = let x = h.deep in omega (arith, x, le); hands = h.hands }
+
+pub writes_then : (env : Env) (p q : Part) (ts us : List lexical.Token) {a b : Bool} → Makes env p ts a → Makes env q us b → Makes env (λ rest. p (q rest)) (ts ++ us) (a || b)
+writes_then env p q ts us h k = with_room (length ts + length us) (length (ts ++ us)) (omega (arith, length-append ts us)) (within_then env p q ts us h k)
 
 -- none of its texts is made anew, so none is where some may be
 pub writes_whatever : {env : Env} {p : Part} {ts : List lexical.Token} (b : Bool) → Writes env p ts → Makes env p ts b
@@ -92,7 +104,7 @@ pub makes_some : {env : Env} {p : Part} {ts : List lexical.Token} {made : Bool} 
 makes_some h = record { steps = h.steps; is_steps = h.is_steps; lays = h.lays; remakes = λ e. refl; deep = h.deep; hands = h.hands }
 
 -- a part that is written as another is
-pub writes_same : (env : Env) (p q : Part) (ts : List lexical.Token) {a : Bool} → ((rest : Plan) → p rest env ≡ q rest env) → Makes env q ts a → Makes env p ts a
+pub writes_same : (env : Env) (p q : Part) (ts : List lexical.Token) {a : Bool} {room : ℕ} → ((rest : Plan) → p rest env ≡ q rest env) → MakesWithin room env q ts a → MakesWithin room env p ts a
 writes_same env p q ts e h = record { steps = h.steps; is_steps = λ rest. e rest ∙ h.is_steps rest; lays = h.lays; remakes = h.remakes; deep = h.deep; hands = h.hands }
 
 pub writes_nothing : (env : Env) → Writes env (λ rest. rest) []
@@ -193,31 +205,57 @@ pub writes_trailing : (env : Env) (b : Bool) (pos : BytePos) → Writes env (tra
 unfolding trailing_comments
 writes_trailing env b pos = writes_nothing env
 
+-- ---- indentation
+
+pub writes_shallower : (env : Env) → Writes env shallower []
+unfolding shallower put effect text_of after_plain makes_text levels rise are_ascii has_string is_string_call
+writes_shallower env = writes_step env (Plain Shallower) [] (λ s r. lays_level (s.sheet.indentation - 1) s r) (omega arith) (hands_ascii env _ [] refl no_text)
+
+pub deeper_within : (env : Env) → MakesWithin 1 env deeper [] false
+unfolding deeper step chain run put effect text_of after_plain makes_text levels rise are_ascii has_string is_string_call
+deeper_within env = record { steps = Plain Deeper ∷ []; is_steps = λ rest. refl; lays = λ s r. lays_level (s.sheet.indentation + 1) s r; remakes = no_text; deep = omega arith; hands = hands_ascii env _ [] refl no_text }
+
+pub punct_within : (env : Env) (t : List ℕ) → Spelled Punctuator t → is_ascii_text t ≡ true → MakesWithin 0 env (punct t) (token_of Punctuator (spelling Punctuator t) ∷ []) false
+unfolding punct step chain run put effect text_of after_token punct_put makes_text levels rise are_ascii has_string is_string_call
+punct_within env t p a = record {
+  steps = Guard t ∷ Token Punctuator (Punct None t) ∷ [];
+  is_steps = λ rest. refl;
+  lays = λ s r. lays_punct None t s p r;
+  remakes = no_text;
+  deep = omega arith;
+  hands = hands_ascii env _ _ (guarded_ascii t a) no_text;
+}
+
 -- ---- names
 
-name_token : (env : Env) (t : List ℕ) → Spelled Name t → (env.config.ascii_only ≡ true → is_ascii_text t ≡ true) → Writes env (λ rest. step (Guard t) (step (Token Name (Symbol dummy_span t)) rest)) (token_of Name (spelling Name t) ∷ [])
+name_token : (env : Env) (kind : Kind) (t : List ℕ) → Spelled kind t → (env.config.ascii_only ≡ true → is_ascii_text t ≡ true) → Writes env (λ rest. step (Guard t) (step (Token kind (Symbol dummy_span t)) rest)) (token_of kind (spelling kind t) ∷ [])
 unfolding put effect text_of after_token own_put makes_text levels rise are_ascii has_string is_string_call keeps_other is_other is_kept
-name_token env t p a = writes_two env (Guard t) (Token Name (Symbol dummy_span t)) _ (λ s r. lays_token Name (Some dummy_span) t s p r) (omega arith) (hands_by_settings env _ _ (λ e. guarded_ascii t (a e)) refl no_text)
+name_token env kind t p a = writes_two env (Guard t) (Token kind (Symbol dummy_span t)) _ (λ s r. lays_token kind (Some dummy_span) t s p r) (omega arith) (hands_by_settings env _ _ (λ e. guarded_ascii t (a e)) refl no_text)
 
 -- with a position, which stands after the blank that is due
-placed_token : (env : Env) (pos : BytePos) (t : List ℕ) → Spelled Name t → (env.config.ascii_only ≡ true → is_ascii_text t ≡ true) → Writes env (λ rest. step (Guard t) (step (Plain (Position pos)) (step (Token Name (Symbol dummy_span t)) rest))) (token_of Name (spelling Name t) ∷ [])
+placed_token : (env : Env) (kind : Kind) (pos : BytePos) (t : List ℕ) → Spelled kind t → (env.config.ascii_only ≡ true → is_ascii_text t ≡ true) → Writes env (λ rest. step (Guard t) (step (Plain (Position pos)) (step (Token kind (Symbol dummy_span t)) rest))) (token_of kind (spelling kind t) ∷ [])
 unfolding step chain run put effect text_of after_token after_plain own_put makes_text levels rise are_ascii has_string is_string_call keeps_other is_other is_kept
-placed_token env pos t p a = record {
-  steps = Guard t ∷ Plain (Position pos) ∷ Token Name (Symbol dummy_span t) ∷ [];
+placed_token env kind pos t p a = record {
+  steps = Guard t ∷ Plain (Position pos) ∷ Token kind (Symbol dummy_span t) ∷ [];
   is_steps = λ rest. refl;
-  lays = λ s r. lays_placed pos Name (Some dummy_span) t s p r;
+  lays = λ s r. lays_placed pos kind (Some dummy_span) t s p r;
   remakes = no_text;
   deep = omega arith;
   hands = hands_by_settings env _ _ (λ e. guarded_ascii t (a e)) refl no_text;
 }
 
-symbol_at : (env : Env) (pos : BytePos) (b : Bool) (t : List ℕ) → Spelled Name t → (env.config.ascii_only ≡ true → is_ascii_text t ≡ true) → Writes env (λ rest. step (Guard t) (cond b (step (Token Name (Symbol dummy_span t)) rest) (step (Plain (Position pos)) (step (Token Name (Symbol dummy_span t)) rest)))) (token_of Name (spelling Name t) ∷ [])
-symbol_at env pos true t p a = name_token env t p a
-symbol_at env pos false t p a = placed_token env pos t p a
+symbol_at : (env : Env) (kind : Kind) (pos : BytePos) (b : Bool) (t : List ℕ) → Spelled kind t → (env.config.ascii_only ≡ true → is_ascii_text t ≡ true) → Writes env (λ rest. step (Guard t) (cond b (step (Token kind (Symbol dummy_span t)) rest) (step (Plain (Position pos)) (step (Token kind (Symbol dummy_span t)) rest)))) (token_of kind (spelling kind t) ∷ [])
+symbol_at env kind pos true t p a = name_token env kind t p a
+symbol_at env kind pos false t p a = placed_token env kind pos t p a
+
+-- a token by the call of a name, with its position
+pub writes_placed : (env : Env) (kind : Kind) (span : Span) (t : List ℕ) → Spelled kind t → (env.config.ascii_only ≡ true → is_ascii_text t ≡ true) → Writes env (λ rest. step (Guard t) (position span.lo (step (Token kind (Symbol dummy_span t)) rest))) (token_of kind (spelling kind t) ∷ [])
+unfolding position
+writes_placed env kind span t p a = symbol_at env kind span.lo (span.lo.0 == 0) t p a
 
 pub writes_symbol : (env : Env) (span : Span) (t : List ℕ) → Spelled Name t → (env.config.ascii_only ≡ true → is_ascii_text t ≡ true) → Writes env (symbol span t) (token_of Name (spelling Name t) ∷ [])
-unfolding symbol position
-writes_symbol env span t p a = symbol_at env span.lo (span.lo.0 == 0) t p a
+unfolding symbol
+writes_symbol env span t p a = writes_placed env Name span t p a
 
 writes_spelled_symbol : (env : Env) (span : Span) (t : List ℕ) → is_out_name env.config t ≡ false → Spelled Name (in_ascii env.config t) → (env.config.ascii_only ≡ true → is_ascii_text (in_ascii env.config t) ≡ true) → Makes env (spelled_symbol span t) (token_of Name (spelling Name (in_ascii env.config t)) ∷ []) (wants_escapes env.config t)
 writes_spelled_symbol env span t o p a =

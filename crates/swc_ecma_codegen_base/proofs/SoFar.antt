@@ -10,6 +10,9 @@ use Rattle.swc_ecma_codegen_ast.specs.Endings.{IsReduced}
 use Rattle.swc_ecma_codegen_text_writer.specs.Sheet.{holds_semicolons}
 use Rattle.swc_ecma_codegen_ast.specs.Parts as parts
 use Rattle.swc_ecma_codegen_ast.specs.Parts.{NoneFuse, tokens_of, remarks_in}
+use Rattle.swc_ecma_codegen_ast.specs.Settings.{Settings}
+use Rattle.swc_ecma_codegen_util.specs.declared.config.Config.{Config}
+use Rattle.swc_ecma_codegen_base.specs.Settings.{settings_of}
 use Rattle.swc_ecma_codegen_ast.specs.Phrases.{Phrase, Nothing, One, NameOf, Generates, is_possible, ◌>◌, mark}
 use Rattle.swc_ecma_codegen_ast.specs.SpelledNames.{is_well_formed_name}
 use Rattle.swc_ecma_codegen_ast.proofs.Reading.{reads}
@@ -71,7 +74,7 @@ unfolding Follows
 emitted_ends part a b e = (e nothing b (Ok tt) (emits_nothing b)).0
 
 -- a part that writes one of the token lists of a phrase
-pub phrase_so_far : (part : Part) (f : Phrase) (old : List ℕ) (tokens : List lexical.Token) (a b : State) → Prints a.env part f → is_possible f ≡ true → Emits part a b (Ok tt) → ReadsSoFar old tokens a → (ts : List lexical.Token) × Generates f ts × ReadsSoFar old (tokens ++ ts) b
+pub phrase_so_far : (part : Part) (f : Phrase) (old : List ℕ) (tokens : List lexical.Token) (a b : State) → Prints a.env part f → is_possible f ≡ true → Emits part a b (Ok tt) → ReadsSoFar old tokens a → (ts : List lexical.Token) × Generates (settings_of a.env.config) f ts × ReadsSoFar old (tokens ++ ts) b
 phrase_so_far part f old tokens a b prints w e h =
     let p = prints.where_possible w (made_not_out part f a.env prints w (emitted_ends part a b e)) in
     (p.tokens, p.generated, emitted_so_far part old tokens p.tokens a b p.writes e h)
@@ -92,10 +95,10 @@ pub semi_so_far : (old : List ℕ) (tokens : List lexical.Token) (a b : State) �
 semi_so_far old tokens a b e h = one_so_far semi lexical.ending old tokens a b (prints_semi a.env) e h
 
 -- a name, and `?` after an optional one
-name_list : (at : BytePos) (bytes : List ℕ) (optional : Bool) (ts : List lexical.Token) → Generates (NameOf at bytes > cond optional (mark (codes "?")) Nothing) ts → ts ≡ name_tokens bytes optional
+name_list : (s : Settings) (at : BytePos) (bytes : List ℕ) (optional : Bool) (ts : List lexical.Token) → Generates s (NameOf at bytes > cond optional (mark (codes "?")) Nothing) ts → ts ≡ name_tokens bytes optional
 unfolding Generates
-name_list at bytes true ts g = g.4 ∙ ap (λ z. z ++ g.1) g.2 ∙ ap (λ z. name_tokens bytes false ++ z) g.3
-name_list at bytes false ts g = g.4 ∙ ap (λ z. z ++ g.1) g.2 ∙ ap (λ z. name_tokens bytes false ++ z) g.3
+name_list s at bytes true ts g = g.4 ∙ ap (λ z. z ++ g.1) g.2 ∙ ap (λ z. name_tokens bytes false ++ z) g.3
+name_list s at bytes false ts g = g.4 ∙ ap (λ z. z ++ g.1) g.2 ∙ ap (λ z. name_tokens bytes false ++ z) g.3
 
 name_possible : (at : BytePos) (bytes : List ℕ) (optional : Bool) → is_well_formed_name bytes ≡ true → is_possible (NameOf at bytes > cond optional (mark (codes "?")) Nothing) ≡ true
 unfolding is_possible
@@ -105,7 +108,7 @@ name_possible at bytes false w = ap (λ z. z && true) w
 pub name_so_far : (span : Span) (bytes : List ℕ) (optional : Bool) (old : List ℕ) (tokens : List lexical.Token) (a b : State) → a.env.keeps_invalid ≡ false → is_well_formed_name bytes ≡ true → Emits (name span bytes optional) a b (Ok tt) → ReadsSoFar old tokens a → ReadsSoFar old (tokens ++ name_tokens bytes optional) b
 name_so_far span bytes optional old tokens a b v w e h =
     let p = phrase_so_far (name span bytes optional) _ old tokens a b (prints_ident a.env span bytes optional v) (name_possible span.lo bytes optional w) e h in
-    subst (λ z. ReadsSoFar old (tokens ++ z) b) (name_list span.lo bytes optional p.0 p.1) p.2
+    subst (λ z. ReadsSoFar old (tokens ++ z) b) (name_list (settings_of a.env.config) span.lo bytes optional p.0 p.1) p.2
 
 -- nothing was written yet
 pub new_so_far : (s : State) → IsNew s → holds_semicolons s.sheet.semicolons ≡ false → ReadsSoFar s.sheet.text [] s
@@ -125,9 +128,9 @@ all_kept [] = refl
 all_kept (x ∷ xs) = inl (xs, refl, all_kept xs)
 
 -- where nothing follows
-pub so_far_reads : (f : Phrase) (old : List ℕ) (tokens : List lexical.Token) (s : State) → Generates f tokens → ReadsSoFar old tokens s → AddsText false f old s.sheet.text
+pub so_far_reads : (config : Config) (f : Phrase) (old : List ℕ) (tokens : List lexical.Token) (s : State) → Generates (settings_of config) f tokens → ReadsSoFar old tokens s → AddsText config false f old s.sheet.text
 unfolding NoneFuse parts.text_of tokens_of remarks_in
-so_far_reads f old tokens s g h = record {
+so_far_reads config f old tokens s g h = record {
   added = h.added;
   is_added = h.is_added;
   reading = record {

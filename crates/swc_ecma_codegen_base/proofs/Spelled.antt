@@ -10,7 +10,7 @@ use Rattle.swc_ecma_codegen_ast.specs.ValidNames.{turned}
 use Rattle.swc_ecma_codegen_literals.specs.AsciiNames.{is_out_of_target, ascii_name}
 use Rattle.swc_ecma_codegen_literals.specs.ValidNames.{has_byte}
 use Rattle.swc_ecma_codegen_base.specs.declared.refusals.Unprintable.TheVariants.{NameOutOfTarget}
-use Rattle.swc_ecma_codegen_base.specs.Run.{Env, Plan, State, Remake, step, refuse, refusal_of, has_backslash, Follows, Emits, IsRefused}
+use Rattle.swc_ecma_codegen_base.specs.Run.{Env, Plan, State, Remake, step, refuse, refusal_of, has_backslash, Follows, Emits, Does, with_lines, IsRefused}
 use Rattle.swc_ecma_codegen_base.specs.Targets.{wants_escapes, in_ascii, is_out_name}
 use Rattle.swc_ecma_codegen_base.specs.Words.{symbol, spelled_symbol, valid_symbol, name_text}
 use Rattle.swc_ecma_codegen_base.proofs.Emitting.{emits_refused, emits_refusal, follows_remade, follows_same}
@@ -33,25 +33,26 @@ spelled_follows span t u rest a c r o e h =
     follows_same (spelled_symbol span t rest) (step (Remake (wants_escapes a.env.config t)) (symbol span (in_ascii a.env.config t) rest)) a c r (spelled_same span t rest a.env o)
     (follows_remade (wants_escapes a.env.config t) (symbol span (in_ascii a.env.config t) rest) a c r (subst P e h))
 
-spelled : (span : Span) (t u : List ℕ) (a b : State) (r : Result (Unit {0}) Refusal) → is_out_name a.env.config t ≡ false → u ≡ in_ascii a.env.config t → Emits (symbol span u) a b r → Emits (spelled_symbol span t) a b r
-spelled span t u a b (Ok x) o e h = λ rest c r f. spelled_follows span t u rest a c r o e (h rest c r f)
-spelled span t u a b (Err x) o e h = λ rest. spelled_follows span t u rest a b (Err x) o e (h rest)
+spelled : (span : Span) (t u : List ℕ) (a b : State) (r : Result (Unit {0}) Refusal) → is_out_name a.env.config t ≡ false → u ≡ in_ascii a.env.config t → Does (symbol span u) a b r → Does (spelled_symbol span t) a b r
+unfolding with_lines
+spelled span t u a b (Ok x) o e h = λ lines rest c r f. spelled_follows span t u rest (with_lines lines a) c r o e (h lines rest c r f)
+spelled span t u a b (Err x) o e h = λ lines rest. spelled_follows span t u rest (with_lines lines a) (with_lines lines b) (Err x) o e (h lines rest)
 
 -- as it is
-pub spelled_as_it_is : (span : Span) (t : List ℕ) (a b : State) (r : Result (Unit {0}) Refusal) → wants_escapes a.env.config t ≡ false → Emits (symbol span t) a b r → Emits (spelled_symbol span t) a b r
+pub spelled_as_it_is : (span : Span) (t : List ℕ) (a b : State) (r : Result (Unit {0}) Refusal) → wants_escapes a.env.config t ≡ false → Does (symbol span t) a b r → Does (spelled_symbol span t) a b r
 spelled_as_it_is span t a b r k h = spelled span t t a b r (kept_is_in a.env.config t k) (sym (kept_text a.env.config t k)) h
 
 -- in ASCII
-pub spelled_in_ascii : (span : Span) (t u : List ℕ) (a b : State) (r : Result (Unit {0}) Refusal) → wants_escapes a.env.config t ≡ true → (is_out_of_target false a.env.config.target (chars t) ≡ true → ⊥) → u ≡ ascii_name false a.env.config.target (chars t) → Emits (symbol span u) a b r → Emits (spelled_symbol span t) a b r
+pub spelled_in_ascii : (span : Span) (t u : List ℕ) (a b : State) (r : Result (Unit {0}) Refusal) → wants_escapes a.env.config t ≡ true → (is_out_of_target false a.env.config.target (chars t) ≡ true → ⊥) → u ≡ ascii_name false a.env.config.target (chars t) → Does (symbol span u) a b r → Does (spelled_symbol span t) a b r
 spelled_in_ascii span t u a b r k o e h = spelled span t u a b r (out_by_settings a.env.config t k ∙ false_from_ne_true _ o) (e ∙ sym (escaped_text a.env.config t k)) h
 
 pub marked_with : (a b : State) → b ≡ record a { failed = true } → b ≡ record a { sheet = b.sheet; failed = true }
 marked_with a b eq = let P : State → Type 0 = λ s. s ≡ record a { sheet = s.sheet; failed = true } in subst P (sym eq) refl
 
 -- or it can't be, or memory is wanting
-pub not_spelled : (span : Span) (t : List ℕ) (e : Refusal) (a b : State) → a.failed ≡ false → wants_escapes a.env.config t ≡ true → (is_out_of_target false a.env.config.target (chars t) ≡ true → e ≡ refusals.NameOutOfTarget) → (is_out_of_target false a.env.config.target (chars t) ≡ false → e ≡ OutOfMemory) → b ≡ record a { failed = true } → Emits (spelled_symbol span t) a b (Err e)
+not_spelled_here : (span : Span) (t : List ℕ) (e : Refusal) (a b : State) → a.failed ≡ false → wants_escapes a.env.config t ≡ true → (is_out_of_target false a.env.config.target (chars t) ≡ true → e ≡ refusals.NameOutOfTarget) → (is_out_of_target false a.env.config.target (chars t) ≡ false → e ≡ OutOfMemory) → b ≡ record a { failed = true } → Emits (spelled_symbol span t) a b (Err e)
 unfolding IsRefused refusal_of
-not_spelled span t e a b fresh k out refused marked rest =
+not_spelled_here span t e a b fresh k out refused marked rest =
     let same = out_by_settings a.env.config t k in
     elim (cases_Bool (is_out_of_target false a.env.config.target (chars t))) [
       | inl o ↦ follows_same (spelled_symbol span t rest) (refuse NameOutOfTarget rest) a b (Err e) (out_same span t rest a.env (same ∙ o)) (emits_refusal NameOutOfTarget e a b fresh (out o) marked rest)
@@ -59,22 +60,26 @@ not_spelled span t e a b fresh k out refused marked rest =
           (emits_refused (Remake (wants_escapes a.env.config t)) e a b fresh (marked_with a b marked) (refused o, k, ap (λ (s : State). s.sheet) marked) (symbol span (in_ascii a.env.config t) rest))
     ]
 
+pub not_spelled : (span : Span) (t : List ℕ) (e : Refusal) (a b : State) → a.failed ≡ false → wants_escapes a.env.config t ≡ true → (is_out_of_target false a.env.config.target (chars t) ≡ true → e ≡ refusals.NameOutOfTarget) → (is_out_of_target false a.env.config.target (chars t) ≡ false → e ≡ OutOfMemory) → b ≡ record a { failed = true } → Does (spelled_symbol span t) a b (Err e)
+unfolding with_lines
+not_spelled span t e a b fresh k out refused marked = λ lines. not_spelled_here span t e (with_lines lines a) (with_lines lines b) fresh k out refused (ap (with_lines lines) marked)
+
 -- ---- as the writer takes names
 
 -- a name whose text is made anew
-pub remade : (span : Span) (name text : List ℕ) (a b : State) (r : Result (Unit {0}) Refusal) → text ≡ turned name → Emits (spelled_symbol span text) a b r → Emits (valid_symbol span name) a b r
-unfolding valid_symbol
-remade span name text a b (Ok u) eq h = λ rest c r f. follows_remade (has_backslash name) (spelled_symbol span (turned name) rest) a c r (let P : List ℕ → Type 0 = λ t. Follows (spelled_symbol span t rest) a c r in subst P eq (h rest c r f))
-remade span name text a b (Err e) eq h = λ rest. follows_remade (has_backslash name) (spelled_symbol span (turned name) rest) a b (Err e) (let P : List ℕ → Type 0 = λ t. Follows (spelled_symbol span t rest) a b (Err e) in subst P eq (h rest))
+pub remade : (span : Span) (name text : List ℕ) (a b : State) (r : Result (Unit {0}) Refusal) → text ≡ turned name → Does (spelled_symbol span text) a b r → Does (valid_symbol span name) a b r
+unfolding valid_symbol with_lines
+remade span name text a b (Ok u) eq h = λ lines rest c r f. follows_remade (has_backslash name) (spelled_symbol span (turned name) rest) (with_lines lines a) c r (let P : List ℕ → Type 0 = λ t. Follows (spelled_symbol span t rest) (with_lines lines a) c r in subst P eq (h lines rest c r f))
+remade span name text a b (Err e) eq h = λ lines rest. follows_remade (has_backslash name) (spelled_symbol span (turned name) rest) (with_lines lines a) (with_lines lines b) (Err e) (let P : List ℕ → Type 0 = λ t. Follows (spelled_symbol span t rest) (with_lines lines a) (with_lines lines b) (Err e) in subst P eq (h lines rest))
 
 -- memory is refused only for a name with a backslash
 backslash : (b : Bool) → (b ≡ false → ⊥) → b ≡ true
 backslash true h = refl
 backslash false h = absurd (h refl)
 
-pub not_remade : (span : Span) (name : List ℕ) (e : Refusal) (a b : State) → a.failed ≡ false → e ≡ OutOfMemory → (has_byte 92 name ≡ false → ⊥) → b ≡ record a { failed = true } → Emits (valid_symbol span name) a b (Err e)
-unfolding valid_symbol IsRefused
-not_remade span name e a b fresh eq h marked rest = emits_refused (Remake (has_backslash name)) e a b fresh (marked_with a b marked) (eq, backslash (has_byte 92 name) h, ap (λ (s : State). s.sheet) marked) (spelled_symbol span (turned name) rest)
+pub not_remade : (span : Span) (name : List ℕ) (e : Refusal) (a b : State) → a.failed ≡ false → e ≡ OutOfMemory → (has_byte 92 name ≡ false → ⊥) → b ≡ record a { failed = true } → Does (valid_symbol span name) a b (Err e)
+unfolding valid_symbol IsRefused with_lines
+not_remade span name e a b fresh eq h marked = λ lines rest. emits_refused (Remake (has_backslash name)) e (with_lines lines a) (with_lines lines b) fresh (ap (with_lines lines) (marked_with a b marked)) (eq, backslash (has_byte 92 name) h, ap (λ (s : State). s.sheet) marked) (spelled_symbol span (turned name) rest)
 
 pub lent_same : (span : Span) (name : List ℕ) (rest : Plan) (env : Env) → env.keeps_invalid ≡ true → name_text span name rest env ≡ spelled_symbol span name rest env
 unfolding name_text
@@ -85,10 +90,12 @@ unfolding name_text
 valid_same span name rest env h = ap (λ b. cond b (spelled_symbol span name rest env) (valid_symbol span name rest env)) h
 
 -- a name as it is, and one whose text is made anew
-pub kept_name : (span : Span) (name : List ℕ) (a b : State) (r : Result (Unit {0}) Refusal) → a.env.keeps_invalid ≡ true → Emits (spelled_symbol span name) a b r → Emits (name_text span name) a b r
-kept_name span name a b (Ok u) h k = λ rest c r f. follows_same (name_text span name rest) (spelled_symbol span name rest) a c r (lent_same span name rest a.env h) (k rest c r f)
-kept_name span name a b (Err e) h k = λ rest. follows_same (name_text span name rest) (spelled_symbol span name rest) a b (Err e) (lent_same span name rest a.env h) (k rest)
+pub kept_name : (span : Span) (name : List ℕ) (a b : State) (r : Result (Unit {0}) Refusal) → a.env.keeps_invalid ≡ true → Does (spelled_symbol span name) a b r → Does (name_text span name) a b r
+unfolding with_lines
+kept_name span name a b (Ok u) h k = λ lines rest c r f. follows_same (name_text span name rest) (spelled_symbol span name rest) (with_lines lines a) c r (lent_same span name rest (with_lines lines a).env h) (k lines rest c r f)
+kept_name span name a b (Err e) h k = λ lines rest. follows_same (name_text span name rest) (spelled_symbol span name rest) (with_lines lines a) (with_lines lines b) (Err e) (lent_same span name rest (with_lines lines a).env h) (k lines rest)
 
-pub made_name : (span : Span) (name : List ℕ) (a b : State) (r : Result (Unit {0}) Refusal) → a.env.keeps_invalid ≡ false → Emits (valid_symbol span name) a b r → Emits (name_text span name) a b r
-made_name span name a b (Ok u) h k = λ rest c r f. follows_same (name_text span name rest) (valid_symbol span name rest) a c r (valid_same span name rest a.env h) (k rest c r f)
-made_name span name a b (Err e) h k = λ rest. follows_same (name_text span name rest) (valid_symbol span name rest) a b (Err e) (valid_same span name rest a.env h) (k rest)
+pub made_name : (span : Span) (name : List ℕ) (a b : State) (r : Result (Unit {0}) Refusal) → a.env.keeps_invalid ≡ false → Does (valid_symbol span name) a b r → Does (name_text span name) a b r
+unfolding with_lines
+made_name span name a b (Ok u) h k = λ lines rest c r f. follows_same (name_text span name rest) (valid_symbol span name rest) (with_lines lines a) c r (valid_same span name rest (with_lines lines a).env h) (k lines rest c r f)
+made_name span name a b (Err e) h k = λ lines rest. follows_same (name_text span name rest) (valid_symbol span name rest) (with_lines lines a) (with_lines lines b) (Err e) (valid_same span name rest (with_lines lines a).env h) (k lines rest)

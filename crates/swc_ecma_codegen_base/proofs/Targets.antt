@@ -4,7 +4,7 @@ use Rattle.std.specs.Str.{IsNotAscii, chars, is_utf8}
 use Rattle.std.proofs.lemmas.Bool.{cases_lt, cases_Bool, lt-ltb, and_from, and_parts, or_from, or_parts, not-true, false≢true, false_from_ne_true}
 use Rattle.std.proofs.lemmas.Str.{IsUtf8-from_is_utf8, is_utf8-from_IsUtf8, IsUtf8-from_ascii}
 use Rattle.swc_ecma_codegen_ast.specs.Names.{is_name, name_value}
-use Rattle.swc_ecma_codegen_ast.specs.Phrases.{Phrase, Never, Nothing, One, NameOf, Then}
+use Rattle.swc_ecma_codegen_ast.specs.Phrases.{Phrase, Never, Nothing, One, NameOf, KeyOf, Then, OptionalComma, OptionalParentheses, Chosen}
 use Rattle.swc_ecma_codegen_ast.specs.ValidNames.{turned}
 use Rattle.swc_ecma_codegen_util.specs.declared.config.Config.{Config}
 use Rattle.swc_ecma_codegen_literals.specs.AsciiNames.{is_ascii_text, is_quoted_key, is_out_of_target, name_escapes, ascii_name}
@@ -16,7 +16,7 @@ use Rattle.swc_ecma_codegen_base.specs.Escapes.{may_make_text}
 use Rattle.swc_ecma_codegen_base.proofs.RawTexts.{ascii_is}
 
 -- some byte isn't ASCII
-not_ascii : (t : List ℕ) → is_ascii_text t ≡ false → IsNotAscii t
+pub not_ascii : (t : List ℕ) → is_ascii_text t ≡ false → IsNotAscii t
 not_ascii [] h = absurd (false≢true (sym h))
 not_ascii (c ∷ cs) h = elim (cases_lt c 128) [
   | inl l ↦ let n = not_ascii cs (sym (ap (λ b. b && is_ascii_text cs) (lt-ltb c 128 l)) ∙ h) in (suc n.0, n.1)
@@ -42,6 +42,10 @@ plain_not_out config Never h = refl
 plain_not_out config Nothing h = refl
 plain_not_out config (One x) h = refl
 plain_not_out config (NameOf at bytes) h = kept_is_in config (turned bytes) (or_parts (has_backslash bytes) (wants_escapes config (turned bytes)) h).1
+plain_not_out config (KeyOf at bytes) h = refl
+plain_not_out config OptionalComma h = refl
+plain_not_out config (OptionalParentheses a) h = plain_not_out config a h
+plain_not_out config (Chosen choice) h = refl
 plain_not_out config (Then a b) h =
     let p = or_parts (may_make_text config a) (may_make_text config b) h in
     or_from (is_out config a) (is_out config b) (plain_not_out config a p.0) (plain_not_out config b p.1)
@@ -53,6 +57,10 @@ bare_not_out config Never h = refl
 bare_not_out config Nothing h = refl
 bare_not_out config (One x) h = refl
 bare_not_out config (NameOf at bytes) h = ap (λ b. b && is_out_of_target false config.target (chars (turned bytes))) h
+bare_not_out config (KeyOf at bytes) h = refl
+bare_not_out config OptionalComma h = refl
+bare_not_out config (OptionalParentheses a) h = bare_not_out config a h
+bare_not_out config (Chosen choice) h = refl
 bare_not_out config (Then a b) h = or_from (is_out config a) (is_out config b) (bare_not_out config a h) (bare_not_out config b h)
 
 -- ---- what is written of the others
@@ -89,7 +97,7 @@ not_false : (b : Bool) → not b ≡ false → b ≡ true
 not_false true h = refl
 not_false false h = absurd (false≢true (sym h))
 
-kept_ascii : (config : Config) (t : List ℕ) → wants_escapes config t ≡ false → config.ascii_only ≡ true → is_ascii_text t ≡ true
+pub kept_ascii : (config : Config) (t : List ℕ) → wants_escapes config t ≡ false → config.ascii_only ≡ true → is_ascii_text t ≡ true
 unfolding wants_escapes
 kept_ascii config t k e = not_false (is_ascii_text t) (sym (ap (λ b. b && not (is_ascii_text t)) e) ∙ k)
 

@@ -283,6 +283,16 @@ lays_settled s b ts r l = settles s.sheet.semicolons s b ts refl r l
 pub lays_commit : (s : State) → AtRest s → Lays [] s (settle s)
 lays_commit s r = lays_settled s (settle s) [] r (lays_nothing (settle s) (settle_rest s r))
 
+-- later lines are indented otherwise
+pub lays_level : (n : ℕ) (s : State) → AtRest s → Lays [] s (record s { sheet = record (settled s.sheet) { indentation = n } })
+lays_level n s r =
+    let there : State = settle s in
+    let after : State = record there { sheet = record there.sheet { indentation = n } } in
+    let none = settled_none s.sheet in
+    let q = settle_rest s r in
+    let same : held after.sheet ≡ held there.sheet = ap (λ z. held_of z after.sheet) none ∙ sym (ap (λ z. held_of z there.sheet) none) in
+    lays_settled s after [] r (lays_same there after refl refl same refl (record { indent_text = q.indent_text; line_end = q.line_end; free = q.free; allowed = q.allowed }))
+
 -- a position that is noted
 pub lays_position : (pos : BytePos) (s : State) → AtRest s → Lays [] s (record s { sheet = pointed pos s.sheet })
 lays_position pos s r =

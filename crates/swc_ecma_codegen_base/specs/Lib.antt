@@ -1,8 +1,12 @@
 pub mod Run
+pub mod Settings
 pub mod Targets
 pub mod Words
+pub mod Choices
+pub mod Keys
 pub mod Literals
 pub mod Lits
+pub mod Lists
 pub mod Last
 pub mod View
 pub mod Written

@@ -6,6 +6,7 @@ use Rattle.swc_ecma_codegen_common.specs.declared.errors.Refusal.TheVariants.{Wr
 use Rattle.swc_ecma_codegen_util.specs.declared.config.Config.{Config}
 use Rattle.swc_ecma_codegen_ast.specs.declared.kinds.Kind.{Kind}
 use Rattle.swc_ecma_codegen_ast.specs.declared.kinds.Kind.TheVariants.{Punctuator, Ending}
+use Rattle.swc_ecma_codegen_ast.specs.SourceLines.{Lines}
 use Rattle.swc_ecma_codegen_ast.specs.GapRules.{Last, Start, Apart, fuses, last_after}
 use Rattle.swc_ecma_codegen_text_writer.specs.Sheet.{Item, Semi, Space, Keyword, Operator, Param, Property, Line, Lit, Comment, StrLit, Str, Symbol, Punct, Position, Commit, Deeper, Shallower, Sheet, effect, IsFar, Refuses}
 use Rattle.swc_ecma_codegen_text_writer.specs.Told.{Rises}
@@ -73,6 +74,8 @@ pub record Env : Type 0 where
   pub config : Config
   -- the writer keeps U+0000 after a backslash in a name
   pub keeps_invalid : Bool
+  -- what the map of the source text answers
+  pub lines : Lines
 
 -- where an emission stands
 pub record State : Type 0 where
@@ -168,6 +171,19 @@ abbrev pub Emits : Part → State → State → Result (Unit {0}) Refusal → Ty
 Emits part a b (Ok _) = (rest : Plan) (c : State) (r : Result (Unit {0}) Refusal) → Follows rest b c r → Follows (part rest) a c r
 Emits part a b (Err e) = (rest : Plan) → Follows (part rest) a b (Err e)
 
+-- where an emission stands, with another map of the source text
+abbrev pub at_lines : Lines → State → State
+at_lines lines s = record s { env = record s.env { lines = lines } }
+
+-- the same, not to be looked into
+unfoldable pub with_lines : Lines → State → State
+with_lines lines s = at_lines lines s
+
+-- A part of a plan is done, wherever lines end in the source text.
+abbrev pub Does : Part → State → State → Result (Unit {0}) Refusal → Type 0
+Does part a b (Ok u) = (lines : Lines) → Emits part (with_lines lines a) (with_lines lines b) (Ok u)
+Does part a b (Err e) = (lines : Lines) → Emits part (with_lines lines a) (with_lines lines b) (Err e)
+
 -- What goes on after a rest, now, goes on after the whole, from the start: a loop has come so far.
 abbrev pub Continues : Part → State → Part → State → Type 0
 Continues remaining now whole start = (rest : Plan) (c : State) (r : Result (Unit {0}) Refusal) → Follows (remaining rest) now c r → Follows (whole rest) start c r
@@ -254,5 +270,5 @@ abbrev pub printed : Part → State → State
 printed part a = run (steps_of (steps_in part a)) a
 
 -- where an emission over a sheet begins
-abbrev pub start : Config → Sheet → State
-start config sheet = record { env = record { config = config; keeps_invalid = sheet.keeps_invalid }; sheet = sheet; last = Start; failed = false }
+abbrev pub start : Lines → Config → Sheet → State
+start lines config sheet = record { env = record { config = config; keeps_invalid = sheet.keeps_invalid; lines = lines }; sheet = sheet; last = Start; failed = false }

@@ -1,14 +1,15 @@
 -- Where a lower emitter stands.
 use Rattle.swc_ecma_codegen_util.specs.declared.config.Config.{Config}
+use Rattle.swc_ecma_codegen_ast.specs.SourceLines.{Lines, no_lines}
 use Rattle.swc_ecma_codegen_text_writer.specs.Sheet.{Sheet}
 use Rattle.swc_ecma_codegen_base.specs.declared.LowerEmitter.{LowerEmitter}
 use Rattle.swc_ecma_codegen_base.specs.Last.{last_at}
 use Rattle.swc_ecma_codegen_base.specs.Run.{Env, State}
 
 -- what an emission over a sheet goes by
-abbrev pub env_of : Config → Sheet → Env
-env_of config sheet = record { config = config; keeps_invalid = sheet.keeps_invalid }
+abbrev pub env_of : Lines → Config → Sheet → Env
+env_of lines config sheet = record { config = config; keeps_invalid = sheet.keeps_invalid; lines = lines }
 
--- where a lower emitter stands, over a sheet and under some settings
+-- where a lower emitter stands, over a sheet and under some settings; it knows of no source text
 abbrev pub state_of : Config → Sheet → LowerEmitter → State
-state_of config sheet e = record { env = env_of config sheet; sheet = sheet; last = last_at e.token.value; failed = e.failed }
+state_of config sheet e = record { env = env_of no_lines config sheet; sheet = sheet; last = last_at e.token.value; failed = e.failed }

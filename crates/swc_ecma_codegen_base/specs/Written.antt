@@ -12,7 +12,9 @@ use Rattle.swc_ecma_codegen_ast.specs.GapRules.{Last, Start, Apart, allows}
 use Rattle.swc_ecma_codegen_ast.specs.Parts.{Part, text_of, tokens_of, remarks_in, NoneFuse}
 use Rattle.swc_ecma_codegen_text_writer.specs.Sheet.{Sheet, Semicolons, AtOnce, HoldsNone, HoldsOne, holds_semicolons}
 use Rattle.swc_ecma_codegen_literals.specs.AsciiNames.{is_ascii_text}
+use Rattle.swc_ecma_codegen_util.specs.declared.config.Config.{Config}
 use Rattle.swc_ecma_codegen_base.specs.Run.{State}
+use Rattle.swc_ecma_codegen_base.specs.Settings.{settings_of}
 
 -- LF, or CR and LF
 abbrev pub IsLineEnd : List ℕ → Type 0
@@ -54,26 +56,26 @@ pub record IsNew (s : State) : Type 0 where
   pub line_end : IsLineEnd s.sheet.line_end
   pub leaves_out : s.env.keeps_invalid ≡ false
 
--- A text is UTF-8, and reads as one of the token lists of a phrase, without comments. Where the writer holds semicolons back,
+-- A text is UTF-8, and reads as one of the token lists that a phrase has under some settings, without comments. Where the writer holds semicolons back,
 -- some of those that end a statement are left out, none of which is needed.
-pub record ReadsAs (holds : Bool) (phrase : Phrase) (text : List ℕ) : Type 0 where
+pub record ReadsAs (config : Config) (holds : Bool) (phrase : Phrase) (text : List ℕ) : Type 0 where
   pub utf8 : IsUtf8 text
   pub tokens : List Token
-  pub is_list : Generates phrase tokens
+  pub is_list : Generates (settings_of config) phrase tokens
   pub written : List Token
   pub reduced : IsReduced tokens written
   pub whole : holds ≡ false → written ≡ tokens
   pub reads : Reads (chars text) written []
 
 -- What a text is longer by reads so.
-pub record AddsText (holds : Bool) (phrase : Phrase) (old new : List ℕ) : Type 0 where
+pub record AddsText (config : Config) (holds : Bool) (phrase : Phrase) (old new : List ℕ) : Type 0 where
   pub added : List ℕ
   pub is_added : new ≡ old ++ added
-  pub reading : ReadsAs holds phrase added
+  pub reading : ReadsAs config holds phrase added
 
 -- What the text of a sheet is longer by reads so.
-abbrev pub AddsReading : Phrase → Sheet → Sheet → Type 0
-AddsReading phrase old new = AddsText (holds_semicolons old.semicolons) phrase old.text new.text
+abbrev pub AddsReading : Config → Phrase → Sheet → Sheet → Type 0
+AddsReading config phrase old new = AddsText config (holds_semicolons old.semicolons) phrase old.text new.text
 
 -- a text is a word of the grammar, or a punctuator: in ASCII
 pub record IsWord (t : List ℕ) : Type 0 where

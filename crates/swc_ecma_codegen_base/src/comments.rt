@@ -1,7 +1,7 @@
 //! The comments before and after a node.
 
 ghost use Rattle.std.specs.Prelude.{◌≡◌, OnOk, IsNone};
-ghost use Rattle.swc_ecma_codegen_base.specs.Run.{Emits};
+ghost use Rattle.swc_ecma_codegen_base.specs.Run.{Does};
 ghost use Rattle.swc_ecma_codegen_base.specs.Words.{leading_comments, trailing_comments};
 ghost use Rattle.swc_ecma_codegen_base.specs.View.{state_of};
 
@@ -22,7 +22,7 @@ impl LowerEmitter {
         pos: BytePos,
     ) -> Answer
         requires { IsNone comments.now }
-        ensures items { Emits (leading_comments pos) (state_of cfg.now (W.sheet wr.old) self.old) (state_of cfg.now (W.sheet wr.new) self.new) result }
+        ensures items { Does (leading_comments pos) (state_of cfg.now (W.sheet wr.old) self.old) (state_of cfg.now (W.sheet wr.new) self.new) result }
         ensures level { OnOk result ((W.sheet wr.new).indentation ≡ (W.sheet wr.old).indentation) }
     {
         let _ = cfg;
@@ -42,7 +42,7 @@ impl LowerEmitter {
         prefix_space: bool,
     ) -> Answer
         requires { IsNone comments.now }
-        ensures items { Emits (trailing_comments prefix_space pos) (state_of cfg.now (W.sheet wr.old) self.old) (state_of cfg.now (W.sheet wr.new) self.new) result }
+        ensures items { Does (trailing_comments prefix_space pos) (state_of cfg.now (W.sheet wr.old) self.old) (state_of cfg.now (W.sheet wr.new) self.new) result }
         ensures level { OnOk result ((W.sheet wr.new).indentation ≡ (W.sheet wr.old).indentation) }
     {
         let _ = cfg;

@@ -6,7 +6,9 @@ ghost use Rattle.swc_ecma_codegen_common.specs.declared.positions.BytePos.{ByteP
 ghost use Rattle.swc_ecma_codegen_ast.specs.Tokens.{Token};
 ghost use Rattle.swc_ecma_codegen_ast.specs.Phrases.{Phrase, Generates};
 ghost use Rattle.swc_ecma_codegen_text_writer.specs.Sheet.{holds_semicolons};
+ghost use Rattle.swc_ecma_codegen_util.specs.declared.config.Config.{Config};
 ghost use Rattle.swc_ecma_codegen_base.specs.Run.{State, Emits};
+ghost use Rattle.swc_ecma_codegen_base.specs.Settings.{settings_of};
 ghost use Rattle.swc_ecma_codegen_base.specs.Words.{space, formatting_space, line_end, formatting_line, commit_pending_semi, position, position_before, leading_comments, trailing_comments};
 ghost use Rattle.swc_ecma_codegen_base.specs.Written.{IsNew, ReadsSoFar, AddsText};
 
@@ -19,7 +21,7 @@ pub fn nothing_so_far()
 /// Where nothing follows, what was added reads as the tokens so far.
 #[tactic(auto, using(crate::proofs::SoFar::so_far_reads))]
 pub fn so_far_reads()
-    ensures { (phrase : Phrase) (text_before : List ℕ) (tokens : List Token) (s : State) → Generates phrase tokens → ReadsSoFar text_before tokens s → AddsText false phrase text_before s.sheet.text }
+    ensures { (config : Config) (phrase : Phrase) (text_before : List ℕ) (tokens : List Token) (s : State) → Generates (settings_of config) phrase tokens → ReadsSoFar text_before tokens s → AddsText config false phrase text_before s.sheet.text }
 {}
 
 /// Blanks, line ends, a semicolon that was held back, positions and comments that aren't there leave the tokens so far.

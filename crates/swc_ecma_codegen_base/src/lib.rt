@@ -7,8 +7,11 @@ ghost use Rattle.swc_ecma_codegen_base.specs.Last.{class_of};
 
 mod comments;
 mod guard;
+mod keys;
 mod last;
 pub mod laws;
+mod list_commas;
+mod lists;
 mod literals;
 mod lits;
 mod names;

@@ -9,7 +9,7 @@ ghost use Rattle.swc_ecma_codegen_ast.specs.Numbers.{takes_dot};
 ghost use Rattle.swc_ecma_codegen_text_writer.specs.Sheet as calls;
 ghost use Rattle.swc_ecma_codegen_text_writer.specs.Sheet.{Lit, StrLit, Punct};
 ghost use Rattle.swc_ecma_codegen_base.specs.Last.{last_at};
-ghost use Rattle.swc_ecma_codegen_base.specs.Run.{Emits, step, Token, Plain, Ends};
+ghost use Rattle.swc_ecma_codegen_base.specs.Run.{Does, step, Token, Plain, Ends};
 ghost use Rattle.swc_ecma_codegen_base.specs.Literals.{size_of, signed, string, number, dotted_number, sign, number_name, big_digits, big_integer, regex_text, regex};
 ghost use Rattle.swc_ecma_codegen_base.specs.View.{state_of};
 
@@ -54,7 +54,7 @@ impl LowerEmitter {
     /// The call of a string.
     fn put_string<W: WriteJs>(&mut self, cfg: &Config, wr: &mut W, text: &str) -> Answer
         requires { self.old.failed ≡ false }
-        ensures items { Emits (step (Token kind.Str (StrLit dummy_span text.now))) (state_of cfg.now (W.sheet wr.old) self.old) (state_of cfg.now (W.sheet wr.new) self.new) result }
+        ensures items { Does (step (Token kind.Str (StrLit dummy_span text.now))) (state_of cfg.now (W.sheet wr.old) self.old) (state_of cfg.now (W.sheet wr.new) self.new) result }
         ensures level { OnOk result ((W.sheet wr.new).indentation ≡ (W.sheet wr.old).indentation) }
     {
         let _ = cfg;
@@ -65,7 +65,7 @@ impl LowerEmitter {
     /// The call of a number, which may have a sign.
     fn put_number<W: WriteJs>(&mut self, cfg: &Config, wr: &mut W, text: &str) -> Answer
         requires { self.old.failed ≡ false }
-        ensures items { Emits (step (Ends (signed kind.Number text.now) (StrLit dummy_span text.now))) (state_of cfg.now (W.sheet wr.old) self.old) (state_of cfg.now (W.sheet wr.new) self.new) result }
+        ensures items { Does (step (Ends (signed kind.Number text.now) (StrLit dummy_span text.now))) (state_of cfg.now (W.sheet wr.old) self.old) (state_of cfg.now (W.sheet wr.new) self.new) result }
         ensures level { OnOk result ((W.sheet wr.new).indentation ≡ (W.sheet wr.old).indentation) }
     {
         let _ = cfg;
@@ -77,7 +77,7 @@ impl LowerEmitter {
     /// The call of a number before its dot.
     fn put_before_dot<W: WriteJs>(&mut self, cfg: &Config, wr: &mut W, text: &str) -> Answer
         requires { self.old.failed ≡ false }
-        ensures items { Emits (step (Plain (StrLit dummy_span text.now))) (state_of cfg.now (W.sheet wr.old) self.old) (state_of cfg.now (W.sheet wr.new) self.new) result }
+        ensures items { Does (step (Plain (StrLit dummy_span text.now))) (state_of cfg.now (W.sheet wr.old) self.old) (state_of cfg.now (W.sheet wr.new) self.new) result }
         ensures level { OnOk result ((W.sheet wr.new).indentation ≡ (W.sheet wr.old).indentation) }
         ensures fresh { OnOk result (self.new.failed ≡ false) }
     {
@@ -90,7 +90,7 @@ impl LowerEmitter {
     fn put_dot<W: WriteJs>(&mut self, cfg: &Config, wr: &mut W, text: &str) -> Answer
         requires fresh { self.old.failed ≡ false }
         requires integer { takes_dot (chars (size_of text.now)) ≡ true }
-        ensures items { Emits (step (Ends (signed kind.Number (text.now ++ codes ".")) (Punct None (codes ".")))) (state_of cfg.now (W.sheet wr.old) self.old) (state_of cfg.now (W.sheet wr.new) self.new) result }
+        ensures items { Does (step (Ends (signed kind.Number (text.now ++ codes ".")) (Punct None (codes ".")))) (state_of cfg.now (W.sheet wr.old) self.old) (state_of cfg.now (W.sheet wr.new) self.new) result }
         ensures level { OnOk result ((W.sheet wr.new).indentation ≡ (W.sheet wr.old).indentation) }
     {
         let _ = cfg;
@@ -102,7 +102,7 @@ impl LowerEmitter {
     /// The call of the sign before `Infinity`.
     fn put_sign<W: WriteJs>(&mut self, cfg: &Config, wr: &mut W, span: Span) -> Answer
         requires { self.old.failed ≡ false }
-        ensures items { Emits (step (Token kind.Punctuator (StrLit span (codes "-")))) (state_of cfg.now (W.sheet wr.old) self.old) (state_of cfg.now (W.sheet wr.new) self.new) result }
+        ensures items { Does (step (Token kind.Punctuator (StrLit span (codes "-")))) (state_of cfg.now (W.sheet wr.old) self.old) (state_of cfg.now (W.sheet wr.new) self.new) result }
         ensures level { OnOk result ((W.sheet wr.new).indentation ≡ (W.sheet wr.old).indentation) }
     {
         let _ = cfg;
@@ -120,7 +120,7 @@ impl LowerEmitter {
         text: &str,
     ) -> Answer
         requires { self.old.failed ≡ false }
-        ensures items { Emits (step (Token kind.Name (StrLit span text.now))) (state_of cfg.now (W.sheet wr.old) self.old) (state_of cfg.now (W.sheet wr.new) self.new) result }
+        ensures items { Does (step (Token kind.Name (StrLit span text.now))) (state_of cfg.now (W.sheet wr.old) self.old) (state_of cfg.now (W.sheet wr.new) self.new) result }
         ensures level { OnOk result ((W.sheet wr.new).indentation ≡ (W.sheet wr.old).indentation) }
     {
         let _ = cfg;
@@ -131,7 +131,7 @@ impl LowerEmitter {
     /// The call of the digits of a big integer, before its `n`.
     fn put_digits<W: WriteJs>(&mut self, cfg: &Config, wr: &mut W, span: Span, text: &str) -> Answer
         requires { self.old.failed ≡ false }
-        ensures items { Emits (step (Plain (Lit span text.now))) (state_of cfg.now (W.sheet wr.old) self.old) (state_of cfg.now (W.sheet wr.new) self.new) result }
+        ensures items { Does (step (Plain (Lit span text.now))) (state_of cfg.now (W.sheet wr.old) self.old) (state_of cfg.now (W.sheet wr.new) self.new) result }
         ensures level { OnOk result ((W.sheet wr.new).indentation ≡ (W.sheet wr.old).indentation) }
         ensures fresh { OnOk result (self.new.failed ≡ false) }
     {
@@ -143,7 +143,7 @@ impl LowerEmitter {
     /// The call of the `n` after these digits.
     fn put_suffix<W: WriteJs>(&mut self, cfg: &Config, wr: &mut W, span: Span, text: &str) -> Answer
         requires { self.old.failed ≡ false }
-        ensures items { Emits (step (Ends (signed kind.BigInt (text.now ++ codes "n")) (Lit span (codes "n")))) (state_of cfg.now (W.sheet wr.old) self.old) (state_of cfg.now (W.sheet wr.new) self.new) result }
+        ensures items { Does (step (Ends (signed kind.BigInt (text.now ++ codes "n")) (Lit span (codes "n")))) (state_of cfg.now (W.sheet wr.old) self.old) (state_of cfg.now (W.sheet wr.new) self.new) result }
         ensures level { OnOk result ((W.sheet wr.new).indentation ≡ (W.sheet wr.old).indentation) }
     {
         let _ = cfg;
@@ -161,7 +161,7 @@ impl LowerEmitter {
         text: &str,
     ) -> Answer
         requires { self.old.failed ≡ false }
-        ensures items { Emits (step (Token kind.BigInt (StrLit span text.now))) (state_of cfg.now (W.sheet wr.old) self.old) (state_of cfg.now (W.sheet wr.new) self.new) result }
+        ensures items { Does (step (Token kind.BigInt (StrLit span text.now))) (state_of cfg.now (W.sheet wr.old) self.old) (state_of cfg.now (W.sheet wr.new) self.new) result }
         ensures level { OnOk result ((W.sheet wr.new).indentation ≡ (W.sheet wr.old).indentation) }
     {
         let _ = cfg;
@@ -173,7 +173,7 @@ impl LowerEmitter {
     /// The call of a slash of a regular expression.
     fn put_slash<W: WriteJs>(&mut self, cfg: &Config, wr: &mut W) -> Answer
         requires { self.old.failed ≡ false }
-        ensures items { Emits (step (Plain (Punct None (codes "/")))) (state_of cfg.now (W.sheet wr.old) self.old) (state_of cfg.now (W.sheet wr.new) self.new) result }
+        ensures items { Does (step (Plain (Punct None (codes "/")))) (state_of cfg.now (W.sheet wr.old) self.old) (state_of cfg.now (W.sheet wr.new) self.new) result }
         ensures level { OnOk result ((W.sheet wr.new).indentation ≡ (W.sheet wr.old).indentation) }
         ensures fresh { OnOk result (self.new.failed ≡ false) }
     {
@@ -185,7 +185,7 @@ impl LowerEmitter {
     /// The call of what stands between the slashes.
     fn put_pattern<W: WriteJs>(&mut self, cfg: &Config, wr: &mut W, text: &str) -> Answer
         requires { self.old.failed ≡ false }
-        ensures items { Emits (step (Plain (calls.Str text.now))) (state_of cfg.now (W.sheet wr.old) self.old) (state_of cfg.now (W.sheet wr.new) self.new) result }
+        ensures items { Does (step (Plain (calls.Str text.now))) (state_of cfg.now (W.sheet wr.old) self.old) (state_of cfg.now (W.sheet wr.new) self.new) result }
         ensures level { OnOk result ((W.sheet wr.new).indentation ≡ (W.sheet wr.old).indentation) }
         ensures fresh { OnOk result (self.new.failed ≡ false) }
     {
@@ -197,7 +197,7 @@ impl LowerEmitter {
     /// The call of the flags, with which it ends.
     fn put_flags<W: WriteJs>(&mut self, cfg: &Config, wr: &mut W, exp: &str, flags: &str) -> Answer
         requires { self.old.failed ≡ false }
-        ensures items { Emits (step (Ends ((kind.Regex, regex_text exp.now flags.now) ∷ []) (calls.Str flags.now))) (state_of cfg.now (W.sheet wr.old) self.old) (state_of cfg.now (W.sheet wr.new) self.new) result }
+        ensures items { Does (step (Ends ((kind.Regex, regex_text exp.now flags.now) ∷ []) (calls.Str flags.now))) (state_of cfg.now (W.sheet wr.old) self.old) (state_of cfg.now (W.sheet wr.new) self.new) result }
         ensures level { OnOk result ((W.sheet wr.new).indentation ≡ (W.sheet wr.old).indentation) }
     {
         let _ = cfg;
@@ -209,7 +209,7 @@ impl LowerEmitter {
     /// Writes a string as it is spelled.
     #[tactic(auto, unfolding(crate::specs::Literals::string))]
     pub fn string<W: WriteJs>(&mut self, cfg: &Config, wr: &mut W, text: &str) -> Answer
-        ensures items { Emits (string text.now) (state_of cfg.now (W.sheet wr.old) self.old) (state_of cfg.now (W.sheet wr.new) self.new) result }
+        ensures items { Does (string text.now) (state_of cfg.now (W.sheet wr.old) self.old) (state_of cfg.now (W.sheet wr.new) self.new) result }
         ensures level { OnOk result ((W.sheet wr.new).indentation ≡ (W.sheet wr.old).indentation) }
     {
         self.guard(cfg, wr, text, StartClass::of_text(text))?;
@@ -220,7 +220,7 @@ impl LowerEmitter {
     /// Writes a number as it is spelled; it may have a sign.
     #[tactic(auto, unfolding(crate::specs::Literals::number))]
     pub fn number<W: WriteJs>(&mut self, cfg: &Config, wr: &mut W, text: &str) -> Answer
-        ensures items { Emits (number text.now) (state_of cfg.now (W.sheet wr.old) self.old) (state_of cfg.now (W.sheet wr.new) self.new) result }
+        ensures items { Does (number text.now) (state_of cfg.now (W.sheet wr.old) self.old) (state_of cfg.now (W.sheet wr.new) self.new) result }
         ensures level { OnOk result ((W.sheet wr.new).indentation ≡ (W.sheet wr.old).indentation) }
     {
         self.guard(cfg, wr, text, StartClass::of_text(text))?;
@@ -232,7 +232,7 @@ impl LowerEmitter {
     #[tactic(auto, unfolding(crate::specs::Literals::dotted_number))]
     pub fn dotted_number<W: WriteJs>(&mut self, cfg: &Config, wr: &mut W, text: &str) -> Answer
         requires { takes_dot (chars (size_of text.now)) ≡ true }
-        ensures items { Emits (dotted_number text.now) (state_of cfg.now (W.sheet wr.old) self.old) (state_of cfg.now (W.sheet wr.new) self.new) result }
+        ensures items { Does (dotted_number text.now) (state_of cfg.now (W.sheet wr.old) self.old) (state_of cfg.now (W.sheet wr.new) self.new) result }
         ensures level { OnOk result ((W.sheet wr.new).indentation ≡ (W.sheet wr.old).indentation) }
     {
         self.guard(cfg, wr, text, StartClass::of_text(text))?;
@@ -250,7 +250,7 @@ impl LowerEmitter {
         negative: bool,
         span: Span,
     ) -> Answer
-        ensures items { Emits (sign negative span) (state_of cfg.now (W.sheet wr.old) self.old) (state_of cfg.now (W.sheet wr.new) self.new) result }
+        ensures items { Does (sign negative span) (state_of cfg.now (W.sheet wr.old) self.old) (state_of cfg.now (W.sheet wr.new) self.new) result }
         ensures level { OnOk result ((W.sheet wr.new).indentation ≡ (W.sheet wr.old).indentation) }
     {
         if negative {
@@ -269,7 +269,7 @@ impl LowerEmitter {
         span: Span,
         text: &str,
     ) -> Answer
-        ensures items { Emits (number_name span text.now) (state_of cfg.now (W.sheet wr.old) self.old) (state_of cfg.now (W.sheet wr.new) self.new) result }
+        ensures items { Does (number_name span text.now) (state_of cfg.now (W.sheet wr.old) self.old) (state_of cfg.now (W.sheet wr.new) self.new) result }
         ensures level { OnOk result ((W.sheet wr.new).indentation ≡ (W.sheet wr.old).indentation) }
     {
         self.guard(cfg, wr, text, StartClass::of_text(text))?;
@@ -286,7 +286,7 @@ impl LowerEmitter {
         span: Span,
         text: &str,
     ) -> Answer
-        ensures items { Emits (big_digits span text.now) (state_of cfg.now (W.sheet wr.old) self.old) (state_of cfg.now (W.sheet wr.new) self.new) result }
+        ensures items { Does (big_digits span text.now) (state_of cfg.now (W.sheet wr.old) self.old) (state_of cfg.now (W.sheet wr.new) self.new) result }
         ensures level { OnOk result ((W.sheet wr.new).indentation ≡ (W.sheet wr.old).indentation) }
     {
         self.guard(cfg, wr, text, StartClass::of_text(text))?;
@@ -304,7 +304,7 @@ impl LowerEmitter {
         span: Span,
         text: &str,
     ) -> Answer
-        ensures items { Emits (big_integer span text.now) (state_of cfg.now (W.sheet wr.old) self.old) (state_of cfg.now (W.sheet wr.new) self.new) result }
+        ensures items { Does (big_integer span text.now) (state_of cfg.now (W.sheet wr.old) self.old) (state_of cfg.now (W.sheet wr.new) self.new) result }
         ensures level { OnOk result ((W.sheet wr.new).indentation ≡ (W.sheet wr.old).indentation) }
     {
         self.guard(cfg, wr, text, StartClass::of_text(text))?;
@@ -315,7 +315,7 @@ impl LowerEmitter {
     /// Writes a regular expression.
     #[tactic(auto, unfolding(crate::specs::Literals::regex))]
     pub fn regex<W: WriteJs>(&mut self, cfg: &Config, wr: &mut W, exp: &str, flags: &str) -> Answer
-        ensures items { Emits (regex exp.now flags.now) (state_of cfg.now (W.sheet wr.old) self.old) (state_of cfg.now (W.sheet wr.new) self.new) result }
+        ensures items { Does (regex exp.now flags.now) (state_of cfg.now (W.sheet wr.old) self.old) (state_of cfg.now (W.sheet wr.new) self.new) result }
         ensures level { OnOk result ((W.sheet wr.new).indentation ≡ (W.sheet wr.old).indentation) }
     {
         self.guard_mark(cfg, wr, Punctuator::Slash)?;

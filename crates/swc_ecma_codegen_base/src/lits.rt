@@ -3,7 +3,7 @@
 ghost use Rattle.std.specs.Prelude.{◌≡◌, OnOk, IfOk, IfErr, IsNone, List, [], ◌∷◌, codes, None, true, false, string_bytes};
 ghost use Rattle.std.specs.Cow.{cow_str_bytes};
 ghost use Rattle.swc_ecma_codegen_common.specs.declared.errors.Error.TheVariants.{OutOfMemory};
-ghost use Rattle.swc_ecma_codegen_base.specs.Run.{Emits};
+ghost use Rattle.swc_ecma_codegen_base.specs.Run.{Does};
 ghost use Rattle.swc_ecma_codegen_base.specs.Starts.{begins_letter};
 ghost use Rattle.swc_ecma_codegen_base.specs.Literals.{begun, settled_begun};
 ghost use Rattle.swc_ecma_codegen_base.specs.Lits.{begun_in, is_directive, takes_raw, prints_raw, value_text, string_text, directive_end, string_by, string_at, str_lit, bool_text, bool_lit, null_lit, regex_lit, lit};
@@ -98,7 +98,7 @@ impl LowerEmitter {
         text: &str,
     ) -> Answer
         requires { IsNone comments.now }
-        ensures items { Emits (begun span text.now) (state_of cfg.now (W.sheet wr.old) self.old) (state_of cfg.now (W.sheet wr.new) self.new) result }
+        ensures items { Does (begun span text.now) (state_of cfg.now (W.sheet wr.old) self.old) (state_of cfg.now (W.sheet wr.new) self.new) result }
         ensures level { OnOk result ((W.sheet wr.new).indentation ≡ (W.sheet wr.old).indentation) }
     {
         self.leading_comments(cfg, comments, wr, span.lo)?;
@@ -118,7 +118,7 @@ impl LowerEmitter {
         text: &str,
     ) -> Answer
         requires { IsNone comments.now }
-        ensures items { Emits (settled_begun span text.now) (state_of cfg.now (W.sheet wr.old) self.old) (state_of cfg.now (W.sheet wr.new) self.new) result }
+        ensures items { Does (settled_begun span text.now) (state_of cfg.now (W.sheet wr.old) self.old) (state_of cfg.now (W.sheet wr.new) self.new) result }
         ensures level { OnOk result ((W.sheet wr.new).indentation ≡ (W.sheet wr.old).indentation) }
     {
         self.commit_pending_semi(cfg, wr)?;
@@ -138,7 +138,7 @@ impl LowerEmitter {
         in_lit: bool,
     ) -> Answer
         requires { IsNone comments.now }
-        ensures items { Emits (begun_in in_lit span text.now) (state_of cfg.now (W.sheet wr.old) self.old) (state_of cfg.now (W.sheet wr.new) self.new) result }
+        ensures items { Does (begun_in in_lit span text.now) (state_of cfg.now (W.sheet wr.old) self.old) (state_of cfg.now (W.sheet wr.new) self.new) result }
         ensures level { OnOk result ((W.sheet wr.new).indentation ≡ (W.sheet wr.old).indentation) }
     {
         if in_lit {
@@ -150,7 +150,7 @@ impl LowerEmitter {
     /// The end of a directive is recorded.
     #[tactic(auto, unfolding(crate::specs::Lits::directive_end))]
     fn directive_end<W: WriteJs>(&mut self, cfg: &Config, wr: &mut W, n: &Str) -> Answer
-        ensures items { Emits (directive_end n.now) (state_of cfg.now (W.sheet wr.old) self.old) (state_of cfg.now (W.sheet wr.new) self.new) result }
+        ensures items { Does (directive_end n.now) (state_of cfg.now (W.sheet wr.old) self.old) (state_of cfg.now (W.sheet wr.new) self.new) result }
         ensures level { OnOk result ((W.sheet wr.new).indentation ≡ (W.sheet wr.old).indentation) }
     {
         if is_directive(n) {
@@ -171,7 +171,7 @@ impl LowerEmitter {
         in_lit: bool,
     ) -> Answer
         requires { IsNone comments.now }
-        ensures items { Emits (string_by in_lit n.now text.now) (state_of cfg.now (W.sheet wr.old) self.old) (state_of cfg.now (W.sheet wr.new) self.new) result }
+        ensures items { Does (string_by in_lit n.now text.now) (state_of cfg.now (W.sheet wr.old) self.old) (state_of cfg.now (W.sheet wr.new) self.new) result }
         ensures level { OnOk result ((W.sheet wr.new).indentation ≡ (W.sheet wr.old).indentation) }
     {
         self.begun_in(cfg, comments, wr, n.span, text, in_lit)?;
@@ -191,7 +191,7 @@ impl LowerEmitter {
         in_lit: bool,
     ) -> Answer
         requires { IsNone comments.now }
-        ensures items { Emits (string_at in_lit n.now) (state_of cfg.now (W.sheet wr.old) self.old) (state_of cfg.now (W.sheet wr.new) self.new) result }
+        ensures items { Does (string_at in_lit n.now) (state_of cfg.now (W.sheet wr.old) self.old) (state_of cfg.now (W.sheet wr.new) self.new) result }
         ensures level { OnOk result ((W.sheet wr.new).indentation ≡ (W.sheet wr.old).indentation) }
     {
         if self.failed {
@@ -215,7 +215,7 @@ impl LowerEmitter {
         n: &Str,
     ) -> Answer
         requires { IsNone comments.now }
-        ensures items { Emits (str_lit n.now) (state_of cfg.now (W.sheet wr.old) self.old) (state_of cfg.now (W.sheet wr.new) self.new) result }
+        ensures items { Does (str_lit n.now) (state_of cfg.now (W.sheet wr.old) self.old) (state_of cfg.now (W.sheet wr.new) self.new) result }
         ensures level { OnOk result ((W.sheet wr.new).indentation ≡ (W.sheet wr.old).indentation) }
     {
         self.string_at(cfg, comments, wr, n, false)
@@ -224,7 +224,7 @@ impl LowerEmitter {
     /// Writes `true` or `false`.
     #[tactic(auto, unfolding(crate::specs::Lits::bool_lit))]
     pub fn bool_lit<W: WriteJs>(&mut self, cfg: &Config, wr: &mut W, n: &Bool) -> Answer
-        ensures items { Emits (bool_lit n.now) (state_of cfg.now (W.sheet wr.old) self.old) (state_of cfg.now (W.sheet wr.new) self.new) result }
+        ensures items { Does (bool_lit n.now) (state_of cfg.now (W.sheet wr.old) self.old) (state_of cfg.now (W.sheet wr.new) self.new) result }
         ensures level { OnOk result ((W.sheet wr.new).indentation ≡ (W.sheet wr.old).indentation) }
     {
         self.keyword(cfg, wr, None, bool_text(n.value))?;
@@ -234,7 +234,7 @@ impl LowerEmitter {
     /// Writes `null`.
     #[tactic(auto, unfolding(crate::specs::Lits::null_lit))]
     pub fn null_lit<W: WriteJs>(&mut self, cfg: &Config, wr: &mut W, n: &Null) -> Answer
-        ensures items { Emits (null_lit n.now) (state_of cfg.now (W.sheet wr.old) self.old) (state_of cfg.now (W.sheet wr.new) self.new) result }
+        ensures items { Does (null_lit n.now) (state_of cfg.now (W.sheet wr.old) self.old) (state_of cfg.now (W.sheet wr.new) self.new) result }
         ensures level { OnOk result ((W.sheet wr.new).indentation ≡ (W.sheet wr.old).indentation) }
     {
         let _ = n;
@@ -245,7 +245,7 @@ impl LowerEmitter {
     /// Writes a regular expression.
     #[tactic(auto, unfolding(crate::specs::Lits::regex_lit))]
     pub fn regex_lit<W: WriteJs>(&mut self, cfg: &Config, wr: &mut W, n: &Regex) -> Answer
-        ensures items { Emits (regex_lit n.now) (state_of cfg.now (W.sheet wr.old) self.old) (state_of cfg.now (W.sheet wr.new) self.new) result }
+        ensures items { Does (regex_lit n.now) (state_of cfg.now (W.sheet wr.old) self.old) (state_of cfg.now (W.sheet wr.new) self.new) result }
         ensures level { OnOk result ((W.sheet wr.new).indentation ≡ (W.sheet wr.old).indentation) }
     {
         self.regex(cfg, wr, n.exp.as_str(), n.flags.as_str())?;
@@ -262,7 +262,7 @@ impl LowerEmitter {
         n: &Lit,
     ) -> Answer
         requires { IsNone comments.now }
-        ensures items { Emits (lit n.now) (state_of cfg.now (W.sheet wr.old) self.old) (state_of cfg.now (W.sheet wr.new) self.new) result }
+        ensures items { Does (lit n.now) (state_of cfg.now (W.sheet wr.old) self.old) (state_of cfg.now (W.sheet wr.new) self.new) result }
         ensures level { OnOk result ((W.sheet wr.new).indentation ≡ (W.sheet wr.old).indentation) }
     {
         match n {

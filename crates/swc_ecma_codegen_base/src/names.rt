@@ -1,7 +1,7 @@
 //! Names.
 
 ghost use Rattle.std.specs.Prelude.{◌≡◌, ℕ, OnOk, IsNone, List, ◌++◌, false, true};
-ghost use Rattle.swc_ecma_codegen_base.specs.Run.{Emits};
+ghost use Rattle.swc_ecma_codegen_base.specs.Run.{Does};
 ghost use Rattle.swc_ecma_codegen_base.specs.Targets.{wants_escapes};
 ghost use Rattle.swc_ecma_codegen_base.specs.Words.{name, name_text, symbol, spelled_symbol, valid_symbol, question};
 ghost use Rattle.swc_ecma_codegen_ast.specs.Tokens.{Token};
@@ -20,7 +20,7 @@ use swc_ecma_codegen_util::config::Config;
 
 /// Whether a text of a name is made anew in ASCII.
 #[tactic(auto, unfolding(crate::specs::Targets::wants_escapes))]
-fn wants_escapes(cfg: &Config, text: &str) -> bool
+pub(crate) fn wants_escapes(cfg: &Config, text: &str) -> bool
     ensures { result ≡ wants_escapes cfg.now text.now }
 {
     cfg.ascii_only && !is_ascii(text)
@@ -29,8 +29,14 @@ fn wants_escapes(cfg: &Config, text: &str) -> bool
 impl LowerEmitter {
     /// Writes a name by a text, and records its position.
     #[tactic(auto, unfolding(crate::specs::Words::symbol))]
-    fn symbol<W: WriteJs>(&mut self, cfg: &Config, wr: &mut W, span: Span, text: &str) -> Answer
-        ensures items { Emits (symbol span text.now) (state_of cfg.now (W.sheet wr.old) self.old) (state_of cfg.now (W.sheet wr.new) self.new) result }
+    pub(crate) fn symbol<W: WriteJs>(
+        &mut self,
+        cfg: &Config,
+        wr: &mut W,
+        span: Span,
+        text: &str,
+    ) -> Answer
+        ensures items { Does (symbol span text.now) (state_of cfg.now (W.sheet wr.old) self.old) (state_of cfg.now (W.sheet wr.new) self.new) result }
         ensures level { OnOk result ((W.sheet wr.new).indentation ≡ (W.sheet wr.old).indentation) }
     {
         self.guard(cfg, wr, text, StartClass::of_text(text))?;
@@ -48,7 +54,7 @@ impl LowerEmitter {
         text: &str,
     ) -> Answer
         requires { wants_escapes cfg.now text.now ≡ true }
-        ensures items { Emits (spelled_symbol span text.now) (state_of cfg.now (W.sheet wr.old) self.old) (state_of cfg.now (W.sheet wr.new) self.new) result }
+        ensures items { Does (spelled_symbol span text.now) (state_of cfg.now (W.sheet wr.old) self.old) (state_of cfg.now (W.sheet wr.new) self.new) result }
         ensures level { OnOk result ((W.sheet wr.new).indentation ≡ (W.sheet wr.old).indentation) }
     {
         if self.failed {
@@ -71,7 +77,7 @@ impl LowerEmitter {
         span: Span,
         text: &str,
     ) -> Answer
-        ensures items { Emits (spelled_symbol span text.now) (state_of cfg.now (W.sheet wr.old) self.old) (state_of cfg.now (W.sheet wr.new) self.new) result }
+        ensures items { Does (spelled_symbol span text.now) (state_of cfg.now (W.sheet wr.old) self.old) (state_of cfg.now (W.sheet wr.new) self.new) result }
         ensures level { OnOk result ((W.sheet wr.new).indentation ≡ (W.sheet wr.old).indentation) }
     {
         if wants_escapes(cfg, text) {
@@ -89,7 +95,7 @@ impl LowerEmitter {
         span: Span,
         name: &str,
     ) -> Answer
-        ensures items { Emits (valid_symbol span name.now) (state_of cfg.now (W.sheet wr.old) self.old) (state_of cfg.now (W.sheet wr.new) self.new) result }
+        ensures items { Does (valid_symbol span name.now) (state_of cfg.now (W.sheet wr.old) self.old) (state_of cfg.now (W.sheet wr.new) self.new) result }
         ensures level { OnOk result ((W.sheet wr.new).indentation ≡ (W.sheet wr.old).indentation) }
     {
         if self.failed {
@@ -110,7 +116,7 @@ impl LowerEmitter {
     /// Writes the text of a name, as the writer takes names.
     #[tactic(auto, unfolding(crate::specs::Words::name_text))]
     fn name_text<W: WriteJs>(&mut self, cfg: &Config, wr: &mut W, span: Span, sym: &str) -> Answer
-        ensures items { Emits (name_text span sym.now) (state_of cfg.now (W.sheet wr.old) self.old) (state_of cfg.now (W.sheet wr.new) self.new) result }
+        ensures items { Does (name_text span sym.now) (state_of cfg.now (W.sheet wr.old) self.old) (state_of cfg.now (W.sheet wr.new) self.new) result }
         ensures level { OnOk result ((W.sheet wr.new).indentation ≡ (W.sheet wr.old).indentation) }
     {
         if wr.can_ignore_invalid_unicodes() {
@@ -122,7 +128,7 @@ impl LowerEmitter {
     /// Writes `?` after an optional name.
     #[tactic(auto, unfolding(crate::specs::Words::question))]
     fn question<W: WriteJs>(&mut self, cfg: &Config, wr: &mut W, optional: bool) -> Answer
-        ensures items { Emits (question optional) (state_of cfg.now (W.sheet wr.old) self.old) (state_of cfg.now (W.sheet wr.new) self.new) result }
+        ensures items { Does (question optional) (state_of cfg.now (W.sheet wr.old) self.old) (state_of cfg.now (W.sheet wr.new) self.new) result }
         ensures level { OnOk result ((W.sheet wr.new).indentation ≡ (W.sheet wr.old).indentation) }
     {
         if optional {
@@ -143,7 +149,7 @@ impl LowerEmitter {
         optional: bool,
     ) -> Answer
         requires { IsNone comments.now }
-        ensures items { Emits (name span sym.now optional) (state_of cfg.now (W.sheet wr.old) self.old) (state_of cfg.now (W.sheet wr.new) self.new) result }
+        ensures items { Does (name span sym.now optional) (state_of cfg.now (W.sheet wr.old) self.old) (state_of cfg.now (W.sheet wr.new) self.new) result }
         // The text reads as the tokens so far and the name, whatever follows that doesn't fuse.
         ensures reads { (text_before : List ℕ) (tokens : List Token) → is_well_formed_name sym.now ≡ true → (W.sheet wr.old).keeps_invalid ≡ false → ReadsSoFar text_before tokens (state_of cfg.now (W.sheet wr.old) self.old) → OnOk result (ReadsSoFar text_before (tokens ++ name_tokens sym.now optional) (state_of cfg.now (W.sheet wr.new) self.new)) }
         ensures level { OnOk result ((W.sheet wr.new).indentation ≡ (W.sheet wr.old).indentation) }

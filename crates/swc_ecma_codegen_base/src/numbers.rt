@@ -3,7 +3,7 @@
 ghost use Rattle.std.specs.Prelude.{◌≡◌, OnOk, IfOk, IfErr, IsNone, true, string_bytes};
 ghost use Rattle.std.specs.Cow.{cow_str_bytes};
 ghost use Rattle.swc_ecma_codegen_common.specs.declared.errors.Error.TheVariants.{OutOfMemory};
-ghost use Rattle.swc_ecma_codegen_base.specs.Run.{Emits};
+ghost use Rattle.swc_ecma_codegen_base.specs.Run.{Does};
 ghost use Rattle.swc_ecma_codegen_base.specs.Lits.{prints_number_raw, is_finite, by_value, decimal_text, number_text, makes_number, is_named, infinity_text, infinity, not_a_number, named_number, number_by, spelled_number, number_at, number_lit, between_dots, before_property, object_by, spelled_object, number_object, prints_big_raw, big_int_text, makes_big_int, big_int_parts, big_int_by, big_int_at, big_int_lit};
 ghost use Rattle.swc_ecma_codegen_base.specs.View.{state_of};
 
@@ -144,7 +144,7 @@ impl LowerEmitter {
         in_lit: bool,
     ) -> Answer
         requires { IsNone comments.now }
-        ensures items { Emits (infinity in_lit negative span) (state_of cfg.now (W.sheet wr.old) self.old) (state_of cfg.now (W.sheet wr.new) self.new) result }
+        ensures items { Does (infinity in_lit negative span) (state_of cfg.now (W.sheet wr.old) self.old) (state_of cfg.now (W.sheet wr.new) self.new) result }
         ensures level { OnOk result ((W.sheet wr.new).indentation ≡ (W.sheet wr.old).indentation) }
     {
         self.begun_in(cfg, comments, wr, span, infinity_text(negative), in_lit)?;
@@ -166,7 +166,7 @@ impl LowerEmitter {
         in_lit: bool,
     ) -> Answer
         requires { IsNone comments.now }
-        ensures items { Emits (not_a_number in_lit span) (state_of cfg.now (W.sheet wr.old) self.old) (state_of cfg.now (W.sheet wr.new) self.new) result }
+        ensures items { Does (not_a_number in_lit span) (state_of cfg.now (W.sheet wr.old) self.old) (state_of cfg.now (W.sheet wr.new) self.new) result }
         ensures level { OnOk result ((W.sheet wr.new).indentation ≡ (W.sheet wr.old).indentation) }
     {
         self.begun_in(cfg, comments, wr, span, "NaN", in_lit)?;
@@ -187,7 +187,7 @@ impl LowerEmitter {
         in_lit: bool,
     ) -> Answer
         requires { IsNone comments.now }
-        ensures items { Emits (named_number in_lit span value.now) (state_of cfg.now (W.sheet wr.old) self.old) (state_of cfg.now (W.sheet wr.new) self.new) result }
+        ensures items { Does (named_number in_lit span value.now) (state_of cfg.now (W.sheet wr.old) self.old) (state_of cfg.now (W.sheet wr.new) self.new) result }
         ensures level { OnOk result ((W.sheet wr.new).indentation ≡ (W.sheet wr.old).indentation) }
     {
         match value {
@@ -209,7 +209,7 @@ impl LowerEmitter {
         in_lit: bool,
     ) -> Answer
         requires { IsNone comments.now }
-        ensures items { Emits (number_by in_lit span text.now) (state_of cfg.now (W.sheet wr.old) self.old) (state_of cfg.now (W.sheet wr.new) self.new) result }
+        ensures items { Does (number_by in_lit span text.now) (state_of cfg.now (W.sheet wr.old) self.old) (state_of cfg.now (W.sheet wr.new) self.new) result }
         ensures level { OnOk result ((W.sheet wr.new).indentation ≡ (W.sheet wr.old).indentation) }
     {
         self.begun_in(cfg, comments, wr, span, text, in_lit)?;
@@ -228,7 +228,7 @@ impl LowerEmitter {
         in_lit: bool,
     ) -> Answer
         requires { IsNone comments.now }
-        ensures items { Emits (spelled_number in_lit n.now) (state_of cfg.now (W.sheet wr.old) self.old) (state_of cfg.now (W.sheet wr.new) self.new) result }
+        ensures items { Does (spelled_number in_lit n.now) (state_of cfg.now (W.sheet wr.old) self.old) (state_of cfg.now (W.sheet wr.new) self.new) result }
         ensures level { OnOk result ((W.sheet wr.new).indentation ≡ (W.sheet wr.old).indentation) }
     {
         if self.failed {
@@ -254,7 +254,7 @@ impl LowerEmitter {
         in_lit: bool,
     ) -> Answer
         requires { IsNone comments.now }
-        ensures items { Emits (number_at in_lit n.now) (state_of cfg.now (W.sheet wr.old) self.old) (state_of cfg.now (W.sheet wr.new) self.new) result }
+        ensures items { Does (number_at in_lit n.now) (state_of cfg.now (W.sheet wr.old) self.old) (state_of cfg.now (W.sheet wr.new) self.new) result }
         ensures level { OnOk result ((W.sheet wr.new).indentation ≡ (W.sheet wr.old).indentation) }
     {
         if is_named(n) {
@@ -273,7 +273,7 @@ impl LowerEmitter {
         n: &Number,
     ) -> Answer
         requires { IsNone comments.now }
-        ensures items { Emits (number_lit n.now) (state_of cfg.now (W.sheet wr.old) self.old) (state_of cfg.now (W.sheet wr.new) self.new) result }
+        ensures items { Does (number_lit n.now) (state_of cfg.now (W.sheet wr.old) self.old) (state_of cfg.now (W.sheet wr.new) self.new) result }
         ensures level { OnOk result ((W.sheet wr.new).indentation ≡ (W.sheet wr.old).indentation) }
     {
         self.number_at(cfg, comments, wr, n, false)
@@ -289,7 +289,7 @@ impl LowerEmitter {
         pos: BytePos,
     ) -> Answer
         requires { IsNone comments.now }
-        ensures items { Emits (between_dots pos) (state_of cfg.now (W.sheet wr.old) self.old) (state_of cfg.now (W.sheet wr.new) self.new) result }
+        ensures items { Does (between_dots pos) (state_of cfg.now (W.sheet wr.old) self.old) (state_of cfg.now (W.sheet wr.new) self.new) result }
         ensures level { OnOk result ((W.sheet wr.new).indentation ≡ (W.sheet wr.old).indentation) }
     {
         if pos.0 < 2 {
@@ -309,7 +309,7 @@ impl LowerEmitter {
         pos: BytePos,
     ) -> Answer
         requires { IsNone comments.now }
-        ensures items { Emits (before_property text.now pos) (state_of cfg.now (W.sheet wr.old) self.old) (state_of cfg.now (W.sheet wr.new) self.new) result }
+        ensures items { Does (before_property text.now pos) (state_of cfg.now (W.sheet wr.old) self.old) (state_of cfg.now (W.sheet wr.new) self.new) result }
         ensures level { OnOk result ((W.sheet wr.new).indentation ≡ (W.sheet wr.old).indentation) }
     {
         if takes_dot(size_of(text)) {
@@ -332,7 +332,7 @@ impl LowerEmitter {
         text: &str,
     ) -> Answer
         requires { IsNone comments.now }
-        ensures items { Emits (object_by span pos text.now) (state_of cfg.now (W.sheet wr.old) self.old) (state_of cfg.now (W.sheet wr.new) self.new) result }
+        ensures items { Does (object_by span pos text.now) (state_of cfg.now (W.sheet wr.old) self.old) (state_of cfg.now (W.sheet wr.new) self.new) result }
         ensures level { OnOk result ((W.sheet wr.new).indentation ≡ (W.sheet wr.old).indentation) }
     {
         self.settled_begun(cfg, comments, wr, span, text)?;
@@ -350,7 +350,7 @@ impl LowerEmitter {
         pos: BytePos,
     ) -> Answer
         requires { IsNone comments.now }
-        ensures items { Emits (spelled_object n.now pos) (state_of cfg.now (W.sheet wr.old) self.old) (state_of cfg.now (W.sheet wr.new) self.new) result }
+        ensures items { Does (spelled_object n.now pos) (state_of cfg.now (W.sheet wr.old) self.old) (state_of cfg.now (W.sheet wr.new) self.new) result }
         ensures level { OnOk result ((W.sheet wr.new).indentation ≡ (W.sheet wr.old).indentation) }
     {
         if self.failed {
@@ -377,7 +377,7 @@ impl LowerEmitter {
         pos: BytePos,
     ) -> Answer
         requires { IsNone comments.now }
-        ensures items { Emits (number_object n.now pos) (state_of cfg.now (W.sheet wr.old) self.old) (state_of cfg.now (W.sheet wr.new) self.new) result }
+        ensures items { Does (number_object n.now pos) (state_of cfg.now (W.sheet wr.old) self.old) (state_of cfg.now (W.sheet wr.new) self.new) result }
         ensures level { OnOk result ((W.sheet wr.new).indentation ≡ (W.sheet wr.old).indentation) }
     {
         if is_named(n) {
@@ -397,7 +397,7 @@ impl LowerEmitter {
         text: &str,
         whole: bool,
     ) -> Answer
-        ensures items { Emits (big_int_parts whole span text.now) (state_of cfg.now (W.sheet wr.old) self.old) (state_of cfg.now (W.sheet wr.new) self.new) result }
+        ensures items { Does (big_int_parts whole span text.now) (state_of cfg.now (W.sheet wr.old) self.old) (state_of cfg.now (W.sheet wr.new) self.new) result }
         ensures level { OnOk result ((W.sheet wr.new).indentation ≡ (W.sheet wr.old).indentation) }
     {
         if whole {
@@ -420,7 +420,7 @@ impl LowerEmitter {
         in_lit: bool,
     ) -> Answer
         requires { IsNone comments.now }
-        ensures items { Emits (big_int_by in_lit whole span text.now) (state_of cfg.now (W.sheet wr.old) self.old) (state_of cfg.now (W.sheet wr.new) self.new) result }
+        ensures items { Does (big_int_by in_lit whole span text.now) (state_of cfg.now (W.sheet wr.old) self.old) (state_of cfg.now (W.sheet wr.new) self.new) result }
         ensures level { OnOk result ((W.sheet wr.new).indentation ≡ (W.sheet wr.old).indentation) }
     {
         self.begun_in(cfg, comments, wr, span, text, in_lit)?;
@@ -439,7 +439,7 @@ impl LowerEmitter {
         in_lit: bool,
     ) -> Answer
         requires { IsNone comments.now }
-        ensures items { Emits (big_int_at in_lit n.now) (state_of cfg.now (W.sheet wr.old) self.old) (state_of cfg.now (W.sheet wr.new) self.new) result }
+        ensures items { Does (big_int_at in_lit n.now) (state_of cfg.now (W.sheet wr.old) self.old) (state_of cfg.now (W.sheet wr.new) self.new) result }
         ensures level { OnOk result ((W.sheet wr.new).indentation ≡ (W.sheet wr.old).indentation) }
     {
         if self.failed {
@@ -466,7 +466,7 @@ impl LowerEmitter {
         n: &BigInt,
     ) -> Answer
         requires { IsNone comments.now }
-        ensures items { Emits (big_int_lit n.now) (state_of cfg.now (W.sheet wr.old) self.old) (state_of cfg.now (W.sheet wr.new) self.new) result }
+        ensures items { Does (big_int_lit n.now) (state_of cfg.now (W.sheet wr.old) self.old) (state_of cfg.now (W.sheet wr.new) self.new) result }
         ensures level { OnOk result ((W.sheet wr.new).indentation ≡ (W.sheet wr.old).indentation) }
     {
         self.big_int_at(cfg, comments, wr, n, false)

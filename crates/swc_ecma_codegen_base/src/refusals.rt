@@ -1,7 +1,7 @@
 //! Nodes that can't be printed.
 
 ghost use Rattle.std.specs.Prelude.{◌≡◌};
-ghost use Rattle.swc_ecma_codegen_base.specs.Run.{Emits, refuse, refusal_of};
+ghost use Rattle.swc_ecma_codegen_base.specs.Run.{Does, refuse, refusal_of};
 ghost use Rattle.swc_ecma_codegen_base.specs.View.{state_of};
 
 use crate::LowerEmitter;
@@ -35,9 +35,9 @@ impl Unprintable {
 
 impl LowerEmitter {
     /// Comes to a node that can't be printed: nothing more is written.
-    #[tactic(auto, using(crate::proofs::Emitting::emits_refusal, crate::proofs::Emitting::emits_failed))]
+    #[tactic(auto, using(crate::proofs::Emitting::does_refusal, crate::proofs::Emitting::does_failed))]
     pub fn refuse<W: WriteJs>(&mut self, cfg: &Config, wr: &W, why: Unprintable) -> Answer
-        ensures items { Emits (refuse why) (state_of cfg.now (W.sheet wr.now) self.old) (state_of cfg.now (W.sheet wr.now) self.new) result }
+        ensures items { Does (refuse why) (state_of cfg.now (W.sheet wr.now) self.old) (state_of cfg.now (W.sheet wr.now) self.new) result }
     {
         let _ = cfg;
         let _ = wr;

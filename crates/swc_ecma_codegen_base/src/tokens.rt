@@ -9,7 +9,7 @@ ghost use Rattle.swc_ecma_codegen_spans.specs.Spans.{dummy_span};
 ghost use Rattle.swc_ecma_codegen_text_writer.specs.Sheet.{Semi, Keyword, Operator, Symbol, Punct, Position};
 ghost use Rattle.swc_ecma_codegen_ast.specs.declared.kinds.Kind.TheVariants as kind;
 ghost use Rattle.swc_ecma_codegen_ast.specs.Tokens as lexical;
-ghost use Rattle.swc_ecma_codegen_base.specs.Run.{Emits, step, Guard, Token, Plain};
+ghost use Rattle.swc_ecma_codegen_base.specs.Run.{Does, step, Guard, Token, Plain};
 ghost use Rattle.swc_ecma_codegen_base.specs.Words.{keyword, operator, word_operator, punct, semi, space, formatting_space, formatting_line, line_end, commit_pending_semi, position, position_before};
 ghost use Rattle.swc_ecma_codegen_base.specs.Written.{IsWord, ReadsSoFar};
 ghost use Rattle.swc_ecma_codegen_base.specs.View.{state_of};
@@ -56,7 +56,7 @@ impl LowerEmitter {
     }
 
     /// Writes a blank where the last token and `text`, which begins so, would fuse.
-    #[tactic(auto, using(crate::proofs::Emitting::emits_failed, crate::proofs::Calls::level))]
+    #[tactic(auto, using(crate::proofs::Emitting::does_failed, crate::proofs::Calls::level))]
     pub(crate) fn guard<W: WriteJs>(
         &mut self,
         cfg: &Config,
@@ -65,7 +65,7 @@ impl LowerEmitter {
         next: StartClass,
     ) -> Answer
         requires { start_class (chars text.now) ≡ next }
-        ensures items { Emits (step (Guard text.now)) (state_of cfg.now (W.sheet wr.old) self.old) (state_of cfg.now (W.sheet wr.new) self.new) result }
+        ensures items { Does (step (Guard text.now)) (state_of cfg.now (W.sheet wr.old) self.old) (state_of cfg.now (W.sheet wr.new) self.new) result }
         ensures level { OnOk result ((W.sheet wr.new).indentation ≡ (W.sheet wr.old).indentation) }
         ensures fresh { OnOk result (self.new.failed ≡ false) }
     {
@@ -88,7 +88,7 @@ impl LowerEmitter {
         wr: &mut W,
         mark: Punctuator,
     ) -> Answer
-        ensures items { Emits (step (Guard (spelling mark))) (state_of cfg.now (W.sheet wr.old) self.old) (state_of cfg.now (W.sheet wr.new) self.new) result }
+        ensures items { Does (step (Guard (spelling mark))) (state_of cfg.now (W.sheet wr.old) self.old) (state_of cfg.now (W.sheet wr.new) self.new) result }
         ensures level { OnOk result ((W.sheet wr.new).indentation ≡ (W.sheet wr.old).indentation) }
         ensures fresh { OnOk result (self.new.failed ≡ false) }
     {
@@ -99,7 +99,7 @@ impl LowerEmitter {
     #[tactic(auto, using(crate::proofs::Starting::letter_start))]
     fn guard_word<W: WriteJs>(&mut self, cfg: &Config, wr: &mut W, word: &'static str) -> Answer
         requires { begins_letter word.now ≡ true }
-        ensures items { Emits (step (Guard word.now)) (state_of cfg.now (W.sheet wr.old) self.old) (state_of cfg.now (W.sheet wr.new) self.new) result }
+        ensures items { Does (step (Guard word.now)) (state_of cfg.now (W.sheet wr.old) self.old) (state_of cfg.now (W.sheet wr.new) self.new) result }
         ensures level { OnOk result ((W.sheet wr.new).indentation ≡ (W.sheet wr.old).indentation) }
         ensures fresh { OnOk result (self.new.failed ≡ false) }
     {
@@ -115,7 +115,7 @@ impl LowerEmitter {
         text: &'static str,
     ) -> Answer
         requires { self.old.failed ≡ false }
-        ensures items { Emits (step (Token kind.Word (Keyword span text.now))) (state_of cfg.now (W.sheet wr.old) self.old) (state_of cfg.now (W.sheet wr.new) self.new) result }
+        ensures items { Does (step (Token kind.Word (Keyword span text.now))) (state_of cfg.now (W.sheet wr.old) self.old) (state_of cfg.now (W.sheet wr.new) self.new) result }
         ensures level { OnOk result ((W.sheet wr.new).indentation ≡ (W.sheet wr.old).indentation) }
     {
         let _ = cfg;
@@ -126,7 +126,7 @@ impl LowerEmitter {
     /// The call of an operator that is a punctuator.
     fn put_operator<W: WriteJs>(&mut self, cfg: &Config, wr: &mut W, mark: Punctuator) -> Answer
         requires { self.old.failed ≡ false }
-        ensures items { Emits (step (Token kind.Punctuator (Operator None (spelling mark)))) (state_of cfg.now (W.sheet wr.old) self.old) (state_of cfg.now (W.sheet wr.new) self.new) result }
+        ensures items { Does (step (Token kind.Punctuator (Operator None (spelling mark)))) (state_of cfg.now (W.sheet wr.old) self.old) (state_of cfg.now (W.sheet wr.new) self.new) result }
         ensures level { OnOk result ((W.sheet wr.new).indentation ≡ (W.sheet wr.old).indentation) }
     {
         let _ = cfg;
@@ -143,7 +143,7 @@ impl LowerEmitter {
         text: &'static str,
     ) -> Answer
         requires { self.old.failed ≡ false }
-        ensures items { Emits (step (Token kind.Word (Operator None text.now))) (state_of cfg.now (W.sheet wr.old) self.old) (state_of cfg.now (W.sheet wr.new) self.new) result }
+        ensures items { Does (step (Token kind.Word (Operator None text.now))) (state_of cfg.now (W.sheet wr.old) self.old) (state_of cfg.now (W.sheet wr.new) self.new) result }
         ensures level { OnOk result ((W.sheet wr.new).indentation ≡ (W.sheet wr.old).indentation) }
     {
         let _ = cfg;
@@ -154,7 +154,7 @@ impl LowerEmitter {
     /// The call of a punctuator.
     fn put_punct<W: WriteJs>(&mut self, cfg: &Config, wr: &mut W, mark: Punctuator) -> Answer
         requires { self.old.failed ≡ false }
-        ensures items { Emits (step (Token kind.Punctuator (Punct None (spelling mark)))) (state_of cfg.now (W.sheet wr.old) self.old) (state_of cfg.now (W.sheet wr.new) self.new) result }
+        ensures items { Does (step (Token kind.Punctuator (Punct None (spelling mark)))) (state_of cfg.now (W.sheet wr.old) self.old) (state_of cfg.now (W.sheet wr.new) self.new) result }
         ensures level { OnOk result ((W.sheet wr.new).indentation ≡ (W.sheet wr.old).indentation) }
     {
         let _ = cfg;
@@ -166,7 +166,7 @@ impl LowerEmitter {
     /// The call of a semicolon.
     fn put_semi<W: WriteJs>(&mut self, cfg: &Config, wr: &mut W) -> Answer
         requires { self.old.failed ≡ false }
-        ensures items { Emits (step (Token kind.Ending (Semi None))) (state_of cfg.now (W.sheet wr.old) self.old) (state_of cfg.now (W.sheet wr.new) self.new) result }
+        ensures items { Does (step (Token kind.Ending (Semi None))) (state_of cfg.now (W.sheet wr.old) self.old) (state_of cfg.now (W.sheet wr.new) self.new) result }
         ensures level { OnOk result ((W.sheet wr.new).indentation ≡ (W.sheet wr.old).indentation) }
     {
         let _ = cfg;
@@ -178,7 +178,7 @@ impl LowerEmitter {
     /// The call of a name.
     pub(crate) fn put_symbol<W: WriteJs>(&mut self, cfg: &Config, wr: &mut W, text: &str) -> Answer
         requires { self.old.failed ≡ false }
-        ensures items { Emits (step (Token kind.Name (Symbol dummy_span text.now))) (state_of cfg.now (W.sheet wr.old) self.old) (state_of cfg.now (W.sheet wr.new) self.new) result }
+        ensures items { Does (step (Token kind.Name (Symbol dummy_span text.now))) (state_of cfg.now (W.sheet wr.old) self.old) (state_of cfg.now (W.sheet wr.new) self.new) result }
         ensures level { OnOk result ((W.sheet wr.new).indentation ≡ (W.sheet wr.old).indentation) }
     {
         let _ = cfg;
@@ -196,7 +196,7 @@ impl LowerEmitter {
         word: &'static str,
     ) -> Answer
         requires { begins_letter word.now ≡ true }
-        ensures items { Emits (keyword span word.now) (state_of cfg.now (W.sheet wr.old) self.old) (state_of cfg.now (W.sheet wr.new) self.new) result }
+        ensures items { Does (keyword span word.now) (state_of cfg.now (W.sheet wr.old) self.old) (state_of cfg.now (W.sheet wr.new) self.new) result }
         // The text reads as the tokens so far and this one, whatever follows that doesn't fuse.
         ensures reads { (text_before : List ℕ) (tokens : List lexical.Token) → IsWord word.now → ReadsSoFar text_before tokens (state_of cfg.now (W.sheet wr.old) self.old) → OnOk result (ReadsSoFar text_before (tokens ++ lexical.word word.now ∷ []) (state_of cfg.now (W.sheet wr.new) self.new)) }
         ensures level { OnOk result ((W.sheet wr.new).indentation ≡ (W.sheet wr.old).indentation) }
@@ -209,7 +209,7 @@ impl LowerEmitter {
     /// Writes an operator that is a punctuator.
     #[tactic(auto, unfolding(crate::specs::Words::operator))]
     pub fn operator<W: WriteJs>(&mut self, cfg: &Config, wr: &mut W, mark: Punctuator) -> Answer
-        ensures items { Emits (operator (spelling mark)) (state_of cfg.now (W.sheet wr.old) self.old) (state_of cfg.now (W.sheet wr.new) self.new) result }
+        ensures items { Does (operator (spelling mark)) (state_of cfg.now (W.sheet wr.old) self.old) (state_of cfg.now (W.sheet wr.new) self.new) result }
         // The text reads as the tokens so far and this one, whatever follows that doesn't fuse.
         ensures reads { (text_before : List ℕ) (tokens : List lexical.Token) → ReadsSoFar text_before tokens (state_of cfg.now (W.sheet wr.old) self.old) → OnOk result (ReadsSoFar text_before (tokens ++ lexical.punctuator (spelling mark) ∷ []) (state_of cfg.now (W.sheet wr.new) self.new)) }
         ensures level { OnOk result ((W.sheet wr.new).indentation ≡ (W.sheet wr.old).indentation) }
@@ -228,7 +228,7 @@ impl LowerEmitter {
         text: &'static str,
     ) -> Answer
         requires { begins_letter text.now ≡ true }
-        ensures items { Emits (word_operator text.now) (state_of cfg.now (W.sheet wr.old) self.old) (state_of cfg.now (W.sheet wr.new) self.new) result }
+        ensures items { Does (word_operator text.now) (state_of cfg.now (W.sheet wr.old) self.old) (state_of cfg.now (W.sheet wr.new) self.new) result }
         // The text reads as the tokens so far and this one, whatever follows that doesn't fuse.
         ensures reads { (text_before : List ℕ) (tokens : List lexical.Token) → IsWord text.now → ReadsSoFar text_before tokens (state_of cfg.now (W.sheet wr.old) self.old) → OnOk result (ReadsSoFar text_before (tokens ++ lexical.word text.now ∷ []) (state_of cfg.now (W.sheet wr.new) self.new)) }
         ensures level { OnOk result ((W.sheet wr.new).indentation ≡ (W.sheet wr.old).indentation) }
@@ -241,7 +241,7 @@ impl LowerEmitter {
     /// Writes a punctuator.
     #[tactic(auto, unfolding(crate::specs::Words::punct))]
     pub fn punct<W: WriteJs>(&mut self, cfg: &Config, wr: &mut W, mark: Punctuator) -> Answer
-        ensures items { Emits (punct (spelling mark)) (state_of cfg.now (W.sheet wr.old) self.old) (state_of cfg.now (W.sheet wr.new) self.new) result }
+        ensures items { Does (punct (spelling mark)) (state_of cfg.now (W.sheet wr.old) self.old) (state_of cfg.now (W.sheet wr.new) self.new) result }
         // The text reads as the tokens so far and this one, whatever follows that doesn't fuse.
         ensures reads { (text_before : List ℕ) (tokens : List lexical.Token) → ReadsSoFar text_before tokens (state_of cfg.now (W.sheet wr.old) self.old) → OnOk result (ReadsSoFar text_before (tokens ++ lexical.punctuator (spelling mark) ∷ []) (state_of cfg.now (W.sheet wr.new) self.new)) }
         ensures level { OnOk result ((W.sheet wr.new).indentation ≡ (W.sheet wr.old).indentation) }
@@ -254,7 +254,7 @@ impl LowerEmitter {
     /// Writes a semicolon that may be left out where it isn't needed.
     #[tactic(auto, unfolding(crate::specs::Words::semi))]
     pub fn semi<W: WriteJs>(&mut self, cfg: &Config, wr: &mut W) -> Answer
-        ensures items { Emits (semi) (state_of cfg.now (W.sheet wr.old) self.old) (state_of cfg.now (W.sheet wr.new) self.new) result }
+        ensures items { Does (semi) (state_of cfg.now (W.sheet wr.old) self.old) (state_of cfg.now (W.sheet wr.new) self.new) result }
         // The text reads as the tokens so far and this one, whatever follows that doesn't fuse.
         ensures reads { (text_before : List ℕ) (tokens : List lexical.Token) → ReadsSoFar text_before tokens (state_of cfg.now (W.sheet wr.old) self.old) → OnOk result (ReadsSoFar text_before (tokens ++ lexical.ending ∷ []) (state_of cfg.now (W.sheet wr.new) self.new)) }
         ensures level { OnOk result ((W.sheet wr.new).indentation ≡ (W.sheet wr.old).indentation) }
@@ -266,7 +266,7 @@ impl LowerEmitter {
 
     /// Writes a blank.
     pub fn space<W: WriteJs>(&mut self, cfg: &Config, wr: &mut W) -> Answer
-        ensures items { Emits (space) (state_of cfg.now (W.sheet wr.old) self.old) (state_of cfg.now (W.sheet wr.new) self.new) result }
+        ensures items { Does (space) (state_of cfg.now (W.sheet wr.old) self.old) (state_of cfg.now (W.sheet wr.new) self.new) result }
         ensures level { OnOk result ((W.sheet wr.new).indentation ≡ (W.sheet wr.old).indentation) }
     {
         let _ = cfg;
@@ -279,7 +279,7 @@ impl LowerEmitter {
 
     /// Ends the line, unless at a line's start.
     pub fn line<W: WriteJs>(&mut self, cfg: &Config, wr: &mut W) -> Answer
-        ensures items { Emits (line_end) (state_of cfg.now (W.sheet wr.old) self.old) (state_of cfg.now (W.sheet wr.new) self.new) result }
+        ensures items { Does (line_end) (state_of cfg.now (W.sheet wr.old) self.old) (state_of cfg.now (W.sheet wr.new) self.new) result }
         ensures level { OnOk result ((W.sheet wr.new).indentation ≡ (W.sheet wr.old).indentation) }
     {
         let _ = cfg;
@@ -292,7 +292,7 @@ impl LowerEmitter {
 
     /// Writes a semicolon that is held back.
     pub fn commit_pending_semi<W: WriteJs>(&mut self, cfg: &Config, wr: &mut W) -> Answer
-        ensures items { Emits (commit_pending_semi) (state_of cfg.now (W.sheet wr.old) self.old) (state_of cfg.now (W.sheet wr.new) self.new) result }
+        ensures items { Does (commit_pending_semi) (state_of cfg.now (W.sheet wr.old) self.old) (state_of cfg.now (W.sheet wr.new) self.new) result }
         ensures level { OnOk result ((W.sheet wr.new).indentation ≡ (W.sheet wr.old).indentation) }
     {
         let _ = cfg;
@@ -305,7 +305,7 @@ impl LowerEmitter {
 
     /// Records a position. A writer that keeps none isn't asked to.
     fn record<W: WriteJs>(&mut self, cfg: &Config, wr: &mut W, pos: BytePos) -> Answer
-        ensures items { Emits (step (Plain (Position pos))) (state_of cfg.now (W.sheet wr.old) self.old) (state_of cfg.now (W.sheet wr.new) self.new) result }
+        ensures items { Does (step (Plain (Position pos))) (state_of cfg.now (W.sheet wr.old) self.old) (state_of cfg.now (W.sheet wr.new) self.new) result }
         ensures level { OnOk result ((W.sheet wr.new).indentation ≡ (W.sheet wr.old).indentation) }
         ensures fresh { OnOk result (self.new.failed ≡ false) }
     {
@@ -323,7 +323,7 @@ impl LowerEmitter {
     /// Writes a blank, unless the settings are to minify.
     #[tactic(auto, unfolding(crate::specs::Words::formatting_space), using(crate::proofs::Calls::skipped, crate::proofs::Calls::not_skipped))]
     pub fn formatting_space<W: WriteJs>(&mut self, cfg: &Config, wr: &mut W) -> Answer
-        ensures items { Emits formatting_space (state_of cfg.now (W.sheet wr.old) self.old) (state_of cfg.now (W.sheet wr.new) self.new) result }
+        ensures items { Does formatting_space (state_of cfg.now (W.sheet wr.old) self.old) (state_of cfg.now (W.sheet wr.new) self.new) result }
         ensures level { OnOk result ((W.sheet wr.new).indentation ≡ (W.sheet wr.old).indentation) }
     {
         if cfg.minify {
@@ -335,7 +335,7 @@ impl LowerEmitter {
     /// Ends the line, unless the settings are to minify.
     #[tactic(auto, unfolding(crate::specs::Words::formatting_line), using(crate::proofs::Calls::skipped, crate::proofs::Calls::not_skipped))]
     pub fn formatting_line<W: WriteJs>(&mut self, cfg: &Config, wr: &mut W) -> Answer
-        ensures items { Emits formatting_line (state_of cfg.now (W.sheet wr.old) self.old) (state_of cfg.now (W.sheet wr.new) self.new) result }
+        ensures items { Does formatting_line (state_of cfg.now (W.sheet wr.old) self.old) (state_of cfg.now (W.sheet wr.new) self.new) result }
         ensures level { OnOk result ((W.sheet wr.new).indentation ≡ (W.sheet wr.old).indentation) }
     {
         if cfg.minify {
@@ -347,7 +347,7 @@ impl LowerEmitter {
     /// Records a position, unless it is none.
     #[tactic(auto, unfolding(crate::specs::Words::position))]
     pub fn position<W: WriteJs>(&mut self, cfg: &Config, wr: &mut W, pos: BytePos) -> Answer
-        ensures items { Emits (position pos) (state_of cfg.now (W.sheet wr.old) self.old) (state_of cfg.now (W.sheet wr.new) self.new) result }
+        ensures items { Does (position pos) (state_of cfg.now (W.sheet wr.old) self.old) (state_of cfg.now (W.sheet wr.new) self.new) result }
         ensures level { OnOk result ((W.sheet wr.new).indentation ≡ (W.sheet wr.old).indentation) }
         ensures fresh { self.old.failed ≡ false → OnOk result (self.new.failed ≡ false) }
     {
@@ -360,7 +360,7 @@ impl LowerEmitter {
     /// Records the position before one, unless that one is none.
     #[tactic(auto, unfolding(crate::specs::Words::position_before))]
     pub fn position_before<W: WriteJs>(&mut self, cfg: &Config, wr: &mut W, pos: BytePos) -> Answer
-        ensures items { Emits (position_before pos) (state_of cfg.now (W.sheet wr.old) self.old) (state_of cfg.now (W.sheet wr.new) self.new) result }
+        ensures items { Does (position_before pos) (state_of cfg.now (W.sheet wr.old) self.old) (state_of cfg.now (W.sheet wr.new) self.new) result }
         ensures level { OnOk result ((W.sheet wr.new).indentation ≡ (W.sheet wr.old).indentation) }
     {
         if pos.0 == 0 {

@@ -1,4 +1,5 @@
 pub mod BigSpellings
+pub mod CallsPossible
 pub mod DigitCounts
 pub mod DigitForms
 pub mod LastSuffix

@@ -1,12 +1,14 @@
 //! Expressions.
 
 ghost use Rattle.std.specs.Prelude.{◌≡◌};
-ghost use Rattle.swc_ecma_codegen_ast.specs.ExprPhrases.{this_expr, unary_expr, update_expr, bin_expr, computed_prop_name, member_prop, member_expr, cond_expr, seq_expr, paren_expr, expr};
+ghost use Rattle.swc_ecma_codegen_ast.specs.ExprPhrases.{this_expr, unary_expr, update_expr, bin_expr, computed_prop_name, member_prop, member_expr, super_prop, super_prop_expr, spread_element, opt_chain_expr, meta_prop_expr, assign_expr, yield_expr, await_expr, cond_expr, seq_expr, paren_expr, expr};
 
 use crate::forms::{Fits, WellFormed, all_well_formed};
+use swc_ecma_codegen_ast::roles::Role;
 use swc_ecma_codegen_tree::{
-    BinExpr, ComputedPropName, CondExpr, Expr, MemberExpr, MemberProp, ParenExpr, SeqExpr,
-    ThisExpr, UnaryExpr, UpdateExpr,
+    AssignExpr, AwaitExpr, BinExpr, ComputedPropName, CondExpr, Expr, MemberExpr, MemberProp,
+    MetaPropExpr, OptChainBase, OptChainExpr, ParenExpr, SeqExpr, SpreadElement, SuperProp,
+    SuperPropExpr, ThisExpr, UnaryExpr, UpdateExpr, YieldExpr,
 };
 
 impl WellFormed for ThisExpr {
@@ -72,7 +74,88 @@ impl<N: Fits> WellFormed for MemberExpr<N> {
 
     #[tactic(auto, unfolding(swc_ecma_codegen_ast::specs::ExprPhrases::member_expr, swc_ecma_codegen_ast::specs::Phrases::is_possible))]
     fn is_well_formed(&self) -> bool {
-        self.obj.is_well_formed() && self.prop.is_well_formed()
+        self.obj.held().fits(Role::Callee) && self.prop.is_well_formed()
+    }
+}
+
+impl<N: Fits> WellFormed for SuperProp<N> {
+    ghost phrase = { super_prop N.reads };
+
+    #[tactic(auto, unfolding(swc_ecma_codegen_ast::specs::ExprPhrases::super_prop, swc_ecma_codegen_ast::specs::Phrases::is_possible))]
+    fn is_well_formed(&self) -> bool {
+        match self {
+            SuperProp::Ident(name) => name.is_well_formed(),
+            SuperProp::Computed(name) => name.is_well_formed(),
+        }
+    }
+}
+
+impl<N: Fits> WellFormed for SuperPropExpr<N> {
+    ghost phrase = { super_prop_expr N.reads };
+
+    #[tactic(auto, unfolding(swc_ecma_codegen_ast::specs::ExprPhrases::super_prop_expr, swc_ecma_codegen_ast::specs::Phrases::is_possible))]
+    fn is_well_formed(&self) -> bool {
+        self.prop.is_well_formed()
+    }
+}
+
+impl<N: Fits> WellFormed for SpreadElement<N> {
+    ghost phrase = { spread_element N.reads };
+
+    #[tactic(auto, unfolding(swc_ecma_codegen_ast::specs::ExprPhrases::spread_element, swc_ecma_codegen_ast::specs::Phrases::is_possible))]
+    fn is_well_formed(&self) -> bool {
+        self.expr.is_well_formed()
+    }
+}
+
+impl<N: Fits> WellFormed for OptChainExpr<N> {
+    ghost phrase = { opt_chain_expr N.reads };
+
+    #[tactic(auto, unfolding(swc_ecma_codegen_ast::specs::ExprPhrases::opt_chain_expr, swc_ecma_codegen_ast::specs::ExprPhrases::chain_base, swc_ecma_codegen_ast::specs::Phrases::is_possible))]
+    fn is_well_formed(&self) -> bool {
+        match &self.base {
+            OptChainBase::Member(node) => node.held().fits(Role::ChainMember(self.optional)),
+            OptChainBase::Call(node) => node.held().fits(Role::ChainCall(self.optional)),
+        }
+    }
+}
+
+impl WellFormed for MetaPropExpr {
+    ghost phrase = { meta_prop_expr };
+
+    #[tactic(auto, using(crate::proofs::Possible::meta_prop_possible), unfolding(swc_ecma_codegen_ast::specs::ExprPhrases::meta_prop_expr))]
+    fn is_well_formed(&self) -> bool {
+        true
+    }
+}
+
+impl<N: Fits> WellFormed for AssignExpr<N> {
+    ghost phrase = { assign_expr N.reads };
+
+    #[tactic(auto, unfolding(swc_ecma_codegen_ast::specs::ExprPhrases::assign_expr, swc_ecma_codegen_ast::specs::Phrases::is_possible))]
+    fn is_well_formed(&self) -> bool {
+        self.left.is_well_formed() && self.right.is_well_formed()
+    }
+}
+
+impl<N: Fits> WellFormed for YieldExpr<N> {
+    ghost phrase = { yield_expr N.reads };
+
+    #[tactic(auto, using(crate::proofs::Possible::star_possible), unfolding(swc_ecma_codegen_ast::specs::ExprPhrases::yield_expr, swc_ecma_codegen_ast::specs::ExprPhrases::yield_arg, swc_ecma_codegen_ast::specs::Phrases::is_possible))]
+    fn is_well_formed(&self) -> bool {
+        match &self.arg {
+            Some(arg) => arg.is_well_formed(),
+            None => true,
+        }
+    }
+}
+
+impl<N: Fits> WellFormed for AwaitExpr<N> {
+    ghost phrase = { await_expr N.reads };
+
+    #[tactic(auto, unfolding(swc_ecma_codegen_ast::specs::ExprPhrases::await_expr, swc_ecma_codegen_ast::specs::Phrases::is_possible))]
+    fn is_well_formed(&self) -> bool {
+        self.arg.is_well_formed()
     }
 }
 
@@ -110,16 +193,43 @@ impl<N: Fits> WellFormed for Expr<N> {
     fn is_well_formed(&self) -> bool {
         match self {
             Expr::This(node) => node.is_well_formed(),
+            Expr::Array(node) => node.is_well_formed(),
             Expr::Unary(node) => node.is_well_formed(),
             Expr::Update(node) => node.is_well_formed(),
             Expr::Bin(node) => node.is_well_formed(),
+            Expr::Assign(node) => node.is_well_formed(),
             Expr::Member(node) => node.is_well_formed(),
+            Expr::SuperProp(node) => node.is_well_formed(),
             Expr::Cond(node) => node.is_well_formed(),
+            Expr::Call(node) => node.is_well_formed(),
+            Expr::New(node) => node.is_well_formed(),
             Expr::Seq(node) => node.is_well_formed(),
             Expr::Ident(node) => node.is_well_formed(),
             Expr::Lit(node) => node.is_well_formed(),
+            Expr::Yield(node) => node.is_well_formed(),
+            Expr::MetaProp(node) => node.is_well_formed(),
+            Expr::Await(node) => node.is_well_formed(),
             Expr::Paren(node) => node.is_well_formed(),
-            _ => false,
+            Expr::OptChain(node) => node.is_well_formed(),
+            Expr::Object(_)
+            | Expr::Fn(_)
+            | Expr::Tpl(_)
+            | Expr::TaggedTpl(_)
+            | Expr::Arrow(_)
+            | Expr::Class(_)
+            | Expr::JSXMember(_)
+            | Expr::JSXNamespacedName(_)
+            | Expr::JSXEmpty(_)
+            | Expr::JSXElement(_)
+            | Expr::JSXFragment(_)
+            | Expr::TsTypeAssertion(_)
+            | Expr::TsConstAssertion(_)
+            | Expr::TsNonNull(_)
+            | Expr::TsAs(_)
+            | Expr::TsInstantiation(_)
+            | Expr::TsSatisfies(_)
+            | Expr::PrivateName(_)
+            | Expr::Invalid(_) => false,
         }
     }
 }

@@ -2,12 +2,13 @@
 
 ghost use Rattle.std.specs.Prelude.{◌≡◌, Bool, List, true};
 ghost use Rattle.swc_ecma_codegen_ast.specs.declared.roles.Role.{Role as InRole};
-ghost use Rattle.swc_ecma_codegen_ast.specs.declared.roles.Role.TheVariants.{Expression, Statement, MemberExpression};
+ghost use Rattle.swc_ecma_codegen_ast.specs.declared.roles.Role.TheVariants.{Expression, Statement, MemberExpression, AssignmentTarget};
+ghost use Rattle.swc_ecma_codegen_ast.specs.ElementPhrases.{element};
 ghost use Rattle.swc_ecma_codegen_ast.specs.Phrases.{Phrase, is_possible};
 ghost use Rattle.swc_ecma_codegen_grammar.specs.Possible.{all_possible};
 
 use swc_ecma_codegen_ast::roles::Role;
-use swc_ecma_codegen_tree::{ExprBox, MemberExprBox, StmtBox};
+use swc_ecma_codegen_tree::{AssignTargetBox, ExprBox, MemberExprBox, StmtBox};
 
 /// A node, or a link to one.
 pub trait WellFormed {
@@ -48,6 +49,27 @@ impl<N: Fits> WellFormed for MemberExprBox<N> {
 
     fn is_well_formed(&self) -> bool {
         self.held().fits(Role::MemberExpression)
+    }
+}
+
+impl<N: Fits> WellFormed for AssignTargetBox<N> {
+    ghost phrase = { λ n. N.reads n.node.value AssignmentTarget };
+
+    fn is_well_formed(&self) -> bool {
+        self.held().fits(Role::AssignmentTarget)
+    }
+}
+
+/// A hole among elements is nothing.
+impl<T: WellFormed> WellFormed for Option<T> {
+    ghost phrase = { element T.phrase };
+
+    #[tactic(auto, unfolding(swc_ecma_codegen_ast::specs::ElementPhrases::element, swc_ecma_codegen_ast::specs::Phrases::is_possible))]
+    fn is_well_formed(&self) -> bool {
+        match self {
+            Some(node) => node.is_well_formed(),
+            None => true,
+        }
     }
 }
 

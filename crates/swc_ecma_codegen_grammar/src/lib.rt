@@ -2,6 +2,7 @@
 #![tactic(auto)]
 
 mod big_integers;
+mod calls;
 mod code_units;
 pub mod exprs;
 pub mod forms;
@@ -10,9 +11,11 @@ mod lits;
 mod names;
 mod numbers;
 mod numerals;
+mod parts;
 mod regexes;
 mod stmts;
 mod strings;
+mod targets;
 mod texts;
 
 pub use crate::forms::{Fits, WellFormed};

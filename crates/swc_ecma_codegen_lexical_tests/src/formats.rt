@@ -126,9 +126,10 @@ struct Answers {
 }
 
 impl SourceMapper for Answers {
-    ghost same_line = { λ answers lo hi. if bit_and lo.0 1 == 0 then answers.even else answers.odd };
-
-    ghost snippet = { λ _ _. None };
+    ghost lines = { λ answers. record {
+      same_line = λ lo hi. if bit_and lo.0 1 == 0 then answers.even else answers.odd;
+      snippet = λ span. None;
+    } };
 
     fn is_on_same_line(&self, lo: BytePos, _hi: BytePos) -> bool {
         if lo.0 & 1 == 0 { self.even } else { self.odd }

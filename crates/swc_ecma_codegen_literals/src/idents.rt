@@ -96,7 +96,9 @@ fn is_better_quoted(text: &str, key: bool, target: EsVersion) -> bool
     key && wants_quotes(text, target)
 }
 
-fn wants_quotes(text: &str, target: EsVersion) -> bool
+/// Whether some character has a shorter escape in a string than in a name, or one there alone: U+007F to U+00FF, and up
+/// to ECMAScript 5 one above U+FFFF. So a key of an object or a class that isn't ASCII is quoted in ASCII.
+pub fn wants_quotes(text: &str, target: EsVersion) -> bool
     ensures { result ≡ list_any (wants_quotes target) (chars text.now) }
 {
     text.chars().any(|c| asks_quotes(c, target))

@@ -16,7 +16,7 @@ mod templates;
 
 pub use crate::big_integers::big_integer_text;
 pub use crate::classes::{TokenClass, number_class};
-pub use crate::idents::ascii_only_ident;
+pub use crate::idents::{ascii_only_ident, wants_quotes};
 pub use crate::names::{holds_backslash, valid_name};
 pub use crate::numbers::{minified_number, plain_number};
 pub use crate::punctuators::Punctuator;

@@ -61,13 +61,22 @@ pub fn json(alloc: Global, short: &str) -> Result<String, AllocError> {
     Ok(json)
 }
 
+/// A script of statements, in its short form.
+pub fn script_of(alloc: Global, body: &str) -> Result<String, AllocError> {
+    let mut short = String::new(alloc);
+    short.push_str(r#"{"Script":{"span":~,"body":["#)?;
+    short.push_str(body)?;
+    short.push_str(r#"],"shebang":null}}"#)?;
+    Ok(short)
+}
+
 /// A script of one expression, in its short form.
 pub fn script(alloc: Global, expr: &str) -> Result<String, AllocError> {
-    let mut short = String::new(alloc);
-    short.push_str(r#"{"Script":{"span":~,"body":[{"Expr":{"span":~,"expr":"#)?;
-    short.push_str(expr)?;
-    short.push_str(r#"}}],"shebang":null}}"#)?;
-    Ok(short)
+    let mut body = String::new(alloc);
+    body.push_str(r#"{"Expr":{"span":~,"expr":"#)?;
+    body.push_str(expr)?;
+    body.push_str("}}")?;
+    script_of(alloc, &body)
 }
 
 /// Bytes in hexadecimal, with blanks between; `None` where a word is none.

@@ -2,7 +2,7 @@
 
 use crate::fields::{json, script};
 use crate::looks::look;
-use crate::reading::reads_as;
+use crate::reading::{PRETTY, reads_as};
 use crate::runs::prints_with;
 use std::alloc::{AllocError, Global};
 
@@ -61,7 +61,10 @@ fn is_printed(
         ";\n"
     };
     let text = format!(in alloc; "{text}{end}")?;
-    Ok(prints_with(alloc, words, json.as_bytes(), &text)? && reads_as(alloc, &text, tokens)?)
+    Ok(
+        prints_with(alloc, words, json.as_bytes(), &text)?
+            && reads_as(alloc, &text, tokens, PRETTY)?,
+    )
 }
 
 /// The texts of the columns. An empty one is that of the column before.

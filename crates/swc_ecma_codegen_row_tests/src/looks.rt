@@ -87,7 +87,7 @@ fn node_text<N: Printed>(alloc: Global, expr: &Expr<N>) -> Result<String, Error>
         Expr::Ident(node) => to_code(alloc, node),
         Expr::Lit(node) => to_code(alloc, node),
         Expr::Paren(node) => to_code(alloc, node),
-        _ => Err(Error::UnsupportedNode),
+        _ => to_code(alloc, expr),
     }
 }
 

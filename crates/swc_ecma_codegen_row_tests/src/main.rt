@@ -5,9 +5,11 @@
 //! `ababab`, `‹›` for no text. In JSON `~` stands for a span that stands nowhere, and `@` for the expression `a`. Lines
 //! that begin with `#` say where the rows come from.
 //!
-//! A tree is also written in steps, each after those of its operands: `a b + c *` for `(a + b) * c`. A row `operator` or
-//! `step` says what one is: its JSON and its tokens, with `•` for each operand. A token has a letter for its kind before
-//! it: `w` a word, `n` a name, `p` a punctuator, `0` a number, `b` a big integer, `s` a string, `r` a regular expression.
+//! A tree is also written in steps, each after those of its operands: `a b + c *` for `(a + b) * c`. A row `operator`,
+//! `expression` or `step` says what one is: its JSON and its tokens, with `•` for each operand. A token has a letter for its
+//! kind before it: `w` a word, `n` a name, `h` a private name, `p` a punctuator, `P` one that stands only with blanks, `e`
+//! a semicolon that ends a statement, `c` a comma that stands where the source text of its list ends with one, `C` one that
+//! then stands only with blanks, `0` a number, `b` a big integer, `s` a string, `r` a regular expression.
 //! A row `literal` says of one, in JSON, which tokens it is, and its texts with the words of each column of `literals`.
 #![tactic(auto)]
 

@@ -7,38 +7,110 @@ use swc_ecma_codegen_ast::number_values::{HeldNumber, numeric_value};
 use swc_ecma_codegen_ast::reader::{characters, read_tokens};
 use swc_ecma_codegen_ast::string_values::string_value;
 
+/// How a text was printed, where its tokens go by that.
+#[derive(Clone, Copy)]
+pub struct Manner {
+    /// Without blanks, and so without what stands with them alone: the parentheses of `(x)=>x`, those of `new a()`.
+    pub minified: bool,
+    /// Without the semicolons at the ends of statements before a closing brace and at the end of the text.
+    pub omits: bool,
+    /// With a comma at the end of each list whose source text may have one.
+    pub comma: bool,
+}
+
+/// With blanks.
+pub const PRETTY: Manner = Manner {
+    minified: false,
+    omits: false,
+    comma: false,
+};
+
+/// Without blanks.
+pub const MINIFIED: Manner = Manner {
+    minified: true,
+    omits: false,
+    comma: false,
+};
+
 /// A letter for each kind, as in the rows.
 fn kind_of(letter: &str) -> Kind {
     match letter {
         "n" => Kind::Name,
+        "h" => Kind::PrivateName,
         "w" => Kind::Word,
         "0" => Kind::Number,
         "b" => Kind::BigInt,
         "s" => Kind::Str,
         "r" => Kind::Regex,
+        "e" => Kind::Ending,
         _ => Kind::Punctuator,
     }
 }
 
-/// Whether a text reads as these tokens. A name, a number, a big integer or a string may be spelled otherwise there.
-pub fn reads_as(alloc: Global, text: &str, tokens: &str) -> Result<bool, AllocError> {
-    let text = characters(alloc, text)?;
-    let mut kinds = Vec::new(alloc);
-    for token in tokens.split_ascii_whitespace() {
-        if let Some((letter, _)) = token.split_once(':') {
-            kinds.push(kind_of(letter))?;
+/// Whether a token is printed before the next one.
+fn is_written(manner: Manner, token: &str, next: Option<&&str>) -> bool {
+    if token.starts_with("P:") {
+        !manner.minified
+    } else if token.starts_with("c:") {
+        manner.comma
+    } else if token.starts_with("C:") {
+        manner.comma && !manner.minified
+    } else if manner.omits && token == "e:;" {
+        match next {
+            Some(next) => !matches!(*next, "p:}" | "p:;" | "e:;"),
+            None => false,
         }
-    }
-    match read_tokens(alloc, &text, &kinds)? {
-        None => Ok(false),
-        Some(found) => are_tokens(alloc, &found, tokens),
+    } else {
+        true
     }
 }
 
-fn are_tokens(alloc: Global, found: &[&[char]], tokens: &str) -> Result<bool, AllocError> {
-    let mut left = found;
+/// The tokens of a text that is printed so.
+fn tokens_of<'a>(
+    alloc: Global,
+    tokens: &'a str,
+    manner: Manner,
+) -> Result<Vec<(&'a str, &'a str)>, AllocError> {
+    let mut all = Vec::new(alloc);
     for token in tokens.split_ascii_whitespace() {
-        let (letter, spelling) = token.split_once(':').unwrap_or(("", ""));
+        all.push(token)?;
+    }
+    let mut found = Vec::new(alloc);
+    for at in 0..all.len() {
+        let token = all[at];
+        if is_written(manner, token, all.get(at.saturating_add(1))) {
+            found.push(token.split_once(':').unwrap_or(("", "")))?;
+        }
+    }
+    Ok(found)
+}
+
+/// Whether a text reads as these tokens. A name, a number, a big integer or a string may be spelled otherwise there.
+pub fn reads_as(
+    alloc: Global,
+    text: &str,
+    tokens: &str,
+    manner: Manner,
+) -> Result<bool, AllocError> {
+    let text = characters(alloc, text)?;
+    let tokens = tokens_of(alloc, tokens, manner)?;
+    let mut kinds = Vec::new(alloc);
+    for (letter, _) in &tokens {
+        kinds.push(kind_of(letter))?;
+    }
+    match read_tokens(alloc, &text, &kinds)? {
+        None => Ok(false),
+        Some(found) => are_tokens(alloc, &found, &tokens),
+    }
+}
+
+fn are_tokens(
+    alloc: Global,
+    found: &[&[char]],
+    tokens: &[(&str, &str)],
+) -> Result<bool, AllocError> {
+    let mut left = found;
+    for (letter, spelling) in tokens {
         match left {
             [first, rest @ ..] if is_token(alloc, letter, first, &characters(alloc, spelling)?)? =>
                 { left = rest }
@@ -46,6 +118,14 @@ fn are_tokens(alloc: Global, found: &[&[char]], tokens: &str) -> Result<bool, Al
         }
     }
     Ok(left.is_empty())
+}
+
+/// The name in a private name.
+fn without_mark(text: &[char]) -> &[char] {
+    match text {
+        ['#', name @ ..] => name,
+        _ => text,
+    }
 }
 
 /// Whether a text is this token of this kind.
@@ -57,6 +137,10 @@ fn is_token(
 ) -> Result<bool, AllocError> {
     match letter {
         "n" => Ok(is_same_name(name_value(alloc, found)?, name_value(alloc, token)?)),
+        "h" => Ok(is_same_name(
+            name_value(alloc, without_mark(found))?,
+            name_value(alloc, without_mark(token))?,
+        )),
         "0" | "b" => Ok(found == token || is_as_much(value(found), value(token))),
         "s" => is_alike(
             string_value(alloc, true, found)?,

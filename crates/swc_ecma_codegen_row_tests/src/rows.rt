@@ -6,7 +6,7 @@ use crate::literals;
 use crate::looks::look;
 use crate::nestings::are_printed;
 use crate::runs::{answers, given, prints, refuses};
-use crate::steps::{Step, all_named, is_step, program};
+use crate::steps::{Sort, Step, Tree, all_named, expression, is_step, statements};
 use crate::trees::{has_texts, is_formed, is_printed_with, prints_expr};
 use std::alloc::{AllocError, Global};
 use swc_ecma_codegen_common::Error;
@@ -32,12 +32,27 @@ fn answer(alloc: Global, steps: &[Step], line: &str) -> Result<bool, AllocError>
         [word, kind, levels, text] if word.as_str() == "deep" => {
             Ok(have_text(alloc, kind, levels, text))
         }
-        [word, words, made_of, text] if word.as_str() == "prints" => {
-            is_printed_with(alloc, steps, words, [made_of, text])
+        [word, words, made_of, text] if matches!(word.as_str(), "prints" | "script_prints") => {
+            with_words(alloc, steps, word, [words, made_of, text])
         }
         [word, words, pretty, minified] => of_steps(alloc, steps, word, words, [pretty, minified]),
         [word, outer, place, pretty, minified] if word.as_str() == "nestings" => {
-            are_printed(alloc, steps, [outer, place], [pretty, minified])
+            are_printed(
+                alloc,
+                steps,
+                Sort::Operator,
+                [outer, place],
+                [pretty, minified],
+            )
+        }
+        [word, outer, place, pretty, minified] if word.as_str() == "placed" => {
+            are_printed(
+                alloc,
+                steps,
+                Sort::Expression,
+                [outer, place],
+                [pretty, minified],
+            )
         }
         [word, literal, tokens, texts, of_member] if word.as_str() == "literal" => {
             literals::has_texts(alloc, literal, tokens, [texts, of_member])
@@ -89,6 +104,33 @@ fn of_run(alloc: Global, words: &str, short: &str, answer: [&str; 3]) -> Result<
     }
 }
 
+/// The tree that steps make: an expression, or the statements of a row that speaks of a script.
+fn tree_of(
+    alloc: Global,
+    steps: &[Step],
+    word: &str,
+    words: &str,
+) -> Result<Option<Tree>, AllocError> {
+    match all_named(alloc, steps, words)? {
+        Some(found) if word.starts_with("script") => Ok(Some(statements(alloc, &found)?)),
+        Some(found) => Ok(Some(expression(alloc, &found)?)),
+        None => Ok(None),
+    }
+}
+
+/// What is printed with words of a tree in steps.
+fn with_words(
+    alloc: Global,
+    steps: &[Step],
+    word: &str,
+    [words, made_of, text]: [&str; 3],
+) -> Result<bool, AllocError> {
+    match tree_of(alloc, steps, word, made_of)? {
+        Some(tree) => is_printed_with(alloc, words, &tree, text),
+        None => Ok(false),
+    }
+}
+
 /// What trees in steps answer.
 fn of_steps(
     alloc: Global,
@@ -97,14 +139,14 @@ fn of_steps(
     words: &str,
     answers: [&str; 2],
 ) -> Result<bool, AllocError> {
-    let Some(tree) = all_named(alloc, steps, words)? else {
+    let Some(tree) = tree_of(alloc, steps, word, words)? else {
         return Ok(false);
     };
     match word {
-        "tree" => has_texts(alloc, &tree, true, answers),
+        "tree" | "script" => has_texts(alloc, &tree, true, answers),
         "malformed" => has_texts(alloc, &tree, false, answers),
-        "well_formed" => is_formed(alloc, &tree, answers[0] == "yes"),
-        "node" => Ok(prints_expr(alloc, &program(alloc, &tree)?, answers[0])),
+        "well_formed" => Ok(is_formed(alloc, &tree, answers[0] == "yes")),
+        "node" => Ok(prints_expr(alloc, &tree.json, answers[0])),
         _ => Ok(false),
     }
 }

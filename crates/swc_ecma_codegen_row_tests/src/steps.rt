@@ -1,6 +1,6 @@
 //! Trees in steps: their JSON, and their tokens in the order of the text, by the grammar alone.
 
-use crate::fields::{fields, json, script};
+use crate::fields::{fields, json, script, script_of};
 use std::alloc::{AllocError, Global};
 
 /// Stands for an operand.
@@ -13,6 +13,14 @@ enum Part {
     Tokens,
 }
 
+/// What a step is an example of: an operator, an expression of another type, or nothing that nests.
+#[derive(Clone, Copy, PartialEq, Eq)]
+pub enum Sort {
+    Operator,
+    Expression,
+    Other,
+}
+
 /// A step in the making of an expression, after the steps of its operands.
 #[derive(Drop)]
 pub struct Step {
@@ -20,7 +28,16 @@ pub struct Step {
     json: String,
     /// With a blank between, each a letter for its kind, a colon and its text.
     tokens: String,
-    pub is_operator: bool,
+    pub sort: Sort,
+}
+
+/// What steps make, as a program: its JSON and its tokens.
+#[derive(Drop)]
+pub struct Tree {
+    pub json: String,
+    pub tokens: String,
+    /// Whether it is one expression.
+    pub is_expression: bool,
 }
 
 impl Step {
@@ -29,6 +46,11 @@ impl Step {
             Part::Json => self.json.as_str(),
             Part::Tokens => self.tokens.as_str(),
         }
+    }
+
+    /// Whether a row of this sort said it.
+    pub fn is_of(&self, sort: Sort) -> bool {
+        self.sort == sort
     }
 
     /// How many operands it takes.
@@ -42,9 +64,19 @@ fn places(text: &str) -> usize {
     text.split(OPERAND).count().saturating_sub(1)
 }
 
+/// What a row of this word says a step of; `None` where it says none.
+fn sort_of(word: &str) -> Option<Sort> {
+    match word {
+        "operator" => Some(Sort::Operator),
+        "expression" => Some(Sort::Expression),
+        "step" => Some(Sort::Other),
+        _ => None,
+    }
+}
+
 /// Whether a row of this word says what a step is.
 pub fn is_step(word: &str) -> bool {
-    word == "step" || word == "operator"
+    sort_of(word).is_some()
 }
 
 /// The steps of a table.
@@ -52,8 +84,8 @@ pub fn steps(alloc: Global, table: &str) -> Result<Vec<Step>, AllocError> {
     let mut steps = Vec::new(alloc);
     for line in table.lines() {
         if let Some((word, rest)) = line.split_once('\t') {
-            if is_step(word) {
-                add_step(alloc, word == "operator", rest, &mut steps)?;
+            if let Some(sort) = sort_of(word) {
+                add_step(alloc, sort, rest, &mut steps)?;
             }
         }
     }
@@ -62,7 +94,7 @@ pub fn steps(alloc: Global, table: &str) -> Result<Vec<Step>, AllocError> {
 
 fn add_step(
     alloc: Global,
-    is_operator: bool,
+    sort: Sort,
     line: &str,
     steps: &mut Vec<Step>,
 ) -> Result<(), AllocError> {
@@ -72,7 +104,7 @@ fn add_step(
             word: word.clone()?,
             json: json.clone()?,
             tokens: tokens.clone()?,
-            is_operator,
+            sort,
         })?;
     }
     Ok(())
@@ -121,28 +153,50 @@ fn make(alloc: Global, text: &str, made: &mut Vec<String>) -> Result<(), AllocEr
 }
 
 /// What steps make, in one part.
-fn made(alloc: Global, steps: &[&Step], part: Part) -> Result<String, AllocError> {
+fn made(alloc: Global, steps: &[&Step], part: Part) -> Result<Vec<String>, AllocError> {
     let mut made = Vec::new(alloc);
     for step in steps {
         make(alloc, step.text(part), &mut made)?;
     }
-    Ok(made.pop().unwrap_or(String::new(alloc)))
+    Ok(made)
 }
 
-/// The JSON of the script of the expression that steps make.
-pub fn program(alloc: Global, steps: &[&Step]) -> Result<String, AllocError> {
-    let expr = made(alloc, steps, Part::Json)?;
-    json(alloc, script(alloc, &expr)?.as_str())
+/// The texts with something between.
+fn joined(alloc: Global, texts: &[String], between: &str) -> Result<String, AllocError> {
+    let mut joined = String::new(alloc);
+    for text in texts {
+        if !joined.is_empty() {
+            joined.push_str(between)?;
+        }
+        joined.push_str(text)?;
+    }
+    Ok(joined)
 }
 
-/// The tokens of that expression.
-pub fn tokens_within(alloc: Global, steps: &[&Step]) -> Result<String, AllocError> {
-    made(alloc, steps, Part::Tokens)
+/// The script of the expression that steps make.
+pub fn expression(alloc: Global, steps: &[&Step]) -> Result<Tree, AllocError> {
+    let expr = made(alloc, steps, Part::Json)?
+        .pop()
+        .unwrap_or(String::new(alloc));
+    let mut tokens = made(alloc, steps, Part::Tokens)?
+        .pop()
+        .unwrap_or(String::new(alloc));
+    tokens.push_str(" e:;")?;
+    Ok(Tree {
+        json: json(alloc, script(alloc, &expr)?.as_str())?,
+        tokens,
+        is_expression: true,
+    })
 }
 
-/// The tokens of that script.
-pub fn tokens(alloc: Global, steps: &[&Step]) -> Result<String, AllocError> {
-    let mut tokens = tokens_within(alloc, steps)?;
-    tokens.push_str(" p:;")?;
-    Ok(tokens)
+/// The script of the statements that steps make.
+pub fn statements(alloc: Global, steps: &[&Step]) -> Result<Tree, AllocError> {
+    let made_json = made(alloc, steps, Part::Json)?;
+    let made_tokens = made(alloc, steps, Part::Tokens)?;
+    let body = joined(alloc, &made_json, ",")?;
+    Ok(Tree {
+        json: json(alloc, script_of(alloc, &body)?.as_str())?,
+        tokens: joined(alloc, &made_tokens, " ")?,
+        is_expression: false,
+    })
 }

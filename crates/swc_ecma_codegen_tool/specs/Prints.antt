@@ -6,6 +6,7 @@ use Rattle.swc_ecma_codegen_tree.specs.declared.links.AnyNode.{AnyNode}
 use Rattle.swc_ecma_codegen_tree.specs.declared.programs.Program.{Program}
 use Rattle.swc_ecma_codegen_text_writer.specs.Sheet.{Sheet, HoldsNone}
 use Rattle.swc_ecma_codegen_text_writer.specs.View.{keeping}
+use Rattle.swc_ecma_codegen_ast.specs.SourceLines.{no_lines}
 use Rattle.swc_ecma_codegen_base.specs.Run.{Part, printed, start}
 use Rattle.swc_ecma_codegen.specs.Programs.{program}
 use Rattle.swc_ecma_codegen.specs.Texts.{blank_sheet}
@@ -30,7 +31,7 @@ sheet_for options = with_semicolons options.minify (with_positions options.posit
 
 -- the text of a part, as the options ask for it
 unfoldable pub text_with : Options → Part → List ℕ
-text_with options part = (printed part (start (settings_of options) (sheet_for options))).sheet.text
+text_with options part = (printed part (start no_lines (settings_of options) (sheet_for options))).sheet.text
 
 -- a text is that of a program
 abbrev pub IsText : Options → List ℕ → Type 0

@@ -2,6 +2,7 @@
 
 ghost use Rattle.std.specs.Prelude.{◌≡◌, ◌≢◌, [], Err, IfOk};
 ghost use Rattle.swc_ecma_codegen_text_writer.specs.View.{sheet_of};
+ghost use Rattle.swc_ecma_codegen_ast.specs.SourceLines.{no_lines};
 ghost use Rattle.swc_ecma_codegen_base.specs.Run.{printed, start};
 ghost use Rattle.swc_ecma_codegen.specs.Programs.{program};
 ghost use Rattle.swc_ecma_codegen.specs.Texts.{blank_sheet};
@@ -70,7 +71,7 @@ fn printed_on<W: WriteJs + Drop>(
     tree: &Program,
     wr: W,
 ) -> Result<W, Fault>
-    ensures sheet { IfOk result (λ w. W.sheet w ≡ (printed (program any_items tree.now) (start config (W.sheet wr))).sheet) }
+    ensures sheet { IfOk result (λ w. W.sheet w ≡ (printed (program any_items tree.now) (start no_lines config (W.sheet wr))).sheet) }
     ensures no_usage { result ≢ Err Fault.Usage }
 {
     let mut emitter = Emitter::new(alloc, config, &NoSource, None::<CommentMaps>, wr);

@@ -1,11 +1,11 @@
 use Rattle.std.proofs.Common.{refl, ap, ◌∙◌}
 use Rattle.swc_ecma_codegen_common.specs.Refusals.{reason_of}
-use Rattle.swc_ecma_codegen_base.proofs.Emitting.{emits_failed}
+use Rattle.swc_ecma_codegen_base.proofs.Emitting.{does_failed}
 use Rattle.swc_ecma_codegen_base.proofs.Spelled.{spelled_in_ascii, not_spelled}
 use Rattle.swc_ecma_codegen_base.proofs.LowerEmitter.ascii_symbol.Goals as goal
 
 pub returns-then-self-clause-items : goal.returns-then-self-clause-items
-returns-then-self-clause-items g c = λ rest. emits_failed _ _ c.if-self.true
+returns-then-self-clause-items g c = λ lines rest. does_failed _ _ c.if-self.true lines
 
 pub returns-in-Ok-clause-items : goal.returns-in-Ok-clause-items
 returns-in-Ok-clause-items g c = spelled_in_ascii _ _ _ _ _ _ c.requires c.in-Ok.ensures.out_of_target (c.deref.ensures ∙ c.in-Ok.ensures.exactly) c.symbol.ensures.items

@@ -3,11 +3,11 @@ use Rattle.swc_ecma_codegen_text_writer.specs.Sheet.{Commit}
 use Rattle.swc_ecma_codegen_base.specs.Run.{after_plain}
 use Rattle.swc_ecma_codegen_base.specs.Words.{commit_pending_semi}
 use Rattle.swc_ecma_codegen_base.proofs.Calls.{called_kept, level, is_level}
-use Rattle.swc_ecma_codegen_base.proofs.Emitting.{emits_failed}
+use Rattle.swc_ecma_codegen_base.proofs.Emitting.{does_failed}
 use Rattle.swc_ecma_codegen_base.proofs.LowerEmitter.commit_pending_semi.Goals as goal
 
 pub returns-then-self-clause-items : goal.returns-then-self-clause-items
-returns-then-self-clause-items g c = λ rest. emits_failed _ _ c.if-self.true
+returns-then-self-clause-items g c = λ lines rest. does_failed _ _ c.if-self.true lines
 
 pub returns-clause-items : goal.returns-clause-items
 unfolding after_plain commit_pending_semi

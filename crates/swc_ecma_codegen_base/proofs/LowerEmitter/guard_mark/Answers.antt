@@ -1,6 +1,6 @@
 use Rattle.std.proofs.Common.{List, ℕ, sym, ◌∙◌, ap, subst}
 use Rattle.std.specs.Str.{chars}
-use Rattle.swc_ecma_codegen_base.specs.Run.{Emits, Guard, step}
+use Rattle.swc_ecma_codegen_base.specs.Run.{Does, Guard, step}
 use Rattle.swc_ecma_codegen_base.specs.Starts.{start_class}
 use Rattle.swc_ecma_codegen_base.specs.View.{state_of}
 use Rattle.swc_ecma_codegen_base.proofs.Marks.{mark_chars}
@@ -11,5 +11,5 @@ guard-requires g c = ap (λ t. start_class (chars t)) c.as_str.ensures ∙ ap st
 
 pub returns-clause-items : goal.returns-clause-items
 returns-clause-items g c =
-    let P : List ℕ → Type 0 = λ t. Emits (step (Guard t)) (state_of c.args.cfg.now (g.W.WriteJs.sheet c.args.wr.now) c.args.self.now) (state_of c.args.cfg.now (g.W.WriteJs.sheet c.guard.new.wr) c.guard.new.self) c.guard.result in
+    let P : List ℕ → Type 0 = λ t. Does (step (Guard t)) (state_of c.args.cfg.now (g.W.WriteJs.sheet c.args.wr.now) c.args.self.now) (state_of c.args.cfg.now (g.W.WriteJs.sheet c.guard.new.wr) c.guard.new.self) c.guard.result in
     subst P c.as_str.ensures c.guard.ensures.items

@@ -1,7 +1,9 @@
+use Rattle.swc_ecma_codegen_base.specs.Run.{with_lines}
+use Rattle.swc_ecma_codegen_ast.specs.SourceLines.{no_lines}
 use Rattle.swc_ecma_codegen_base.specs.Words as words
 use Rattle.swc_ecma_codegen_base.proofs.SoFar.{keyword_so_far}
 use Rattle.swc_ecma_codegen_base.proofs.LowerEmitter.keyword.Goals as goal
 
 pub returns-clause-reads : goal.returns-clause-reads
-unfolding words.keyword
-returns-clause-reads g c = λ old tokens w h. keyword_so_far c.args.span c.args.word.now old tokens _ _ w (λ rest z r f. c.in_ok-guard_word.ensures.items _ z r (c.in_ok-put_keyword.ensures.items rest z r f)) h
+unfolding words.keyword with_lines
+returns-clause-reads g c = λ old tokens w h. keyword_so_far c.args.span c.args.word.now old tokens _ _ w (λ rest z r f. c.in_ok-guard_word.ensures.items no_lines _ z r (c.in_ok-put_keyword.ensures.items no_lines rest z r f)) h

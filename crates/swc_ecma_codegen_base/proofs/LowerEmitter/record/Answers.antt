@@ -3,11 +3,11 @@ use Rattle.swc_ecma_codegen_common.specs.declared.positions.BytePos.{BytePos}
 use Rattle.swc_ecma_codegen_text_writer.specs.Sheet.{Sheet, Position, effect, pointed, recorded, with_pair}
 use Rattle.swc_ecma_codegen_base.specs.Run.{State, Plain, put, after_plain}
 use Rattle.swc_ecma_codegen_base.proofs.Calls.{called_kept, level, is_level}
-use Rattle.swc_ecma_codegen_base.proofs.Emitting.{emits_failed, emits_step}
+use Rattle.swc_ecma_codegen_base.proofs.Emitting.{does_failed, does_step}
 use Rattle.swc_ecma_codegen_base.proofs.LowerEmitter.record.Goals as goal
 
 pub returns-then-self-clause-items : goal.returns-then-self-clause-items
-returns-then-self-clause-items g c = λ rest. emits_failed _ _ c.if-self.true
+returns-then-self-clause-items g c = λ lines rest. does_failed _ _ c.if-self.true lines
 
 pub returns-clause-items : goal.returns-clause-items
 unfolding after_plain
@@ -29,4 +29,4 @@ same_state pos a h = ap (λ z. record a { sheet = z }) (unrecorded pos a.sheet h
 pub returns-then-not-care_about_srcmap-clause-items : goal.returns-then-not-care_about_srcmap-clause-items
 returns-then-not-care_about_srcmap-clause-items g c =
     let none : c.care_about_srcmap.result ≡ false = search rules in
-    emits_step (Plain (Position c.args.pos)) _ _ c.if-self.false (same_state c.args.pos _ (sym c.care_about_srcmap.ensures ∙ none))
+    does_step (Plain (Position c.args.pos)) _ _ c.if-self.false (same_state c.args.pos _ (sym c.care_about_srcmap.ensures ∙ none))

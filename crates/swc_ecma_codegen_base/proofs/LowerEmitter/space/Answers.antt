@@ -4,11 +4,11 @@ use Rattle.swc_ecma_codegen_base.specs.Last.{last_at}
 use Rattle.swc_ecma_codegen_base.specs.Run.{after_plain}
 use Rattle.swc_ecma_codegen_base.specs.Words.{space}
 use Rattle.swc_ecma_codegen_base.proofs.Calls.{called_plain, level, is_level}
-use Rattle.swc_ecma_codegen_base.proofs.Emitting.{emits_failed}
+use Rattle.swc_ecma_codegen_base.proofs.Emitting.{does_failed}
 use Rattle.swc_ecma_codegen_base.proofs.LowerEmitter.space.Goals as goal
 
 pub returns-then-self-clause-items : goal.returns-then-self-clause-items
-returns-then-self-clause-items g c = λ rest. emits_failed _ _ c.if-self.true
+returns-then-self-clause-items g c = λ lines rest. does_failed _ _ c.if-self.true lines
 
 pub returns-clause-items : goal.returns-clause-items
 unfolding last_at after_plain space

@@ -1,12 +1,12 @@
 use Rattle.std.proofs.Common.{refl, sym, ap, ◌∙◌}
 use Rattle.swc_ecma_codegen_common.specs.Refusals.{reason_of}
 use Rattle.swc_ecma_codegen_literals.proofs.Nulls.{turned_no_backslash}
-use Rattle.swc_ecma_codegen_base.proofs.Emitting.{emits_failed}
+use Rattle.swc_ecma_codegen_base.proofs.Emitting.{does_failed}
 use Rattle.swc_ecma_codegen_base.proofs.Spelled.{remade, not_remade}
 use Rattle.swc_ecma_codegen_base.proofs.LowerEmitter.valid_symbol.Goals as goal
 
 pub returns-then-self-clause-items : goal.returns-then-self-clause-items
-returns-then-self-clause-items g c = λ rest. emits_failed _ _ c.if-self.true
+returns-then-self-clause-items g c = λ lines rest. does_failed _ _ c.if-self.true lines
 
 pub returns-then-not-holds_backslash-clause-items : goal.returns-then-not-holds_backslash-clause-items
 returns-then-not-holds_backslash-clause-items g c = remade _ _ _ _ _ _ (sym (turned_no_backslash c.args.name.now (sym c.holds_backslash.ensures ∙ c.if-not-holds_backslash.true))) c.spelled_symbol.ensures.items

@@ -3,6 +3,7 @@ use Rattle.swc_ecma_codegen_text_writer.specs.Told.{told}
 use Rattle.swc_ecma_codegen_text_writer.specs.Sheet.{Sheet, HoldsNone, holds_semicolons}
 use Rattle.swc_ecma_codegen_text_writer.specs.Held.{with_held}
 use Rattle.swc_ecma_codegen_text_writer.specs.View.{sheet_of}
+use Rattle.swc_ecma_codegen_ast.specs.SourceLines.{no_lines}
 use Rattle.swc_ecma_codegen_base.specs.Run.{printed, start}
 use Rattle.swc_ecma_codegen.specs.Programs.{program}
 use Rattle.swc_ecma_codegen.specs.Texts.{blank_sheet}
@@ -31,5 +32,5 @@ returns-in_ok-writer-clause-text c =
     let held : Sheet = with_held c.omit_trailing_semi.result.pending (sheet_of c.omit_trailing_semi.result.inner) in
     let begun : held ≡ sheet_for options =
     c.omit_trailing_semi.ensures ∙ ap (λ (s : Sheet). record s { semicolons = HoldsNone }) c.new_writer-writer.ensures ∙ ap (λ minify. with_semicolons minify (with_positions options.positions blank_sheet)) (sym c.if-options.true) in
-    let end : (sheet_of c.in_ok-writer.writer.inner).text ≡ (printed part (start c.settings-config.result held)).sheet.text = ap (λ (s : Sheet). s.text) c.in_ok-writer.ensures.sheet in
-    all ∙ under ∙ end ∙ ap (λ config. (printed part (start config held)).sheet.text) c.settings-config.ensures ∙ ap (λ s. (printed part (start (settings_of options) s)).sheet.text) begun
+    let end : (sheet_of c.in_ok-writer.writer.inner).text ≡ (printed part (start no_lines c.settings-config.result held)).sheet.text = ap (λ (s : Sheet). s.text) c.in_ok-writer.ensures.sheet in
+    all ∙ under ∙ end ∙ ap (λ config. (printed part (start no_lines config held)).sheet.text) c.settings-config.ensures ∙ ap (λ s. (printed part (start no_lines (settings_of options) s)).sheet.text) begun

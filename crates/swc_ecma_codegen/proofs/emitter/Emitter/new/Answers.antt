@@ -5,7 +5,7 @@ pub returns-clause-state : goal.returns-clause-state
 unfolding last_at
 returns-clause-state g c = λ i.
     record {
-      env = record { config = c.args.cfg; keeps_invalid = (g.W.WriteJs.sheet c.args.wr).keeps_invalid };
+      env = record { config = c.args.cfg; keeps_invalid = (g.W.WriteJs.sheet c.args.wr).keeps_invalid; lines = g.S.SourceMapper.lines c.args.cm.now };
       sheet = g.W.WriteJs.sheet c.args.wr;
       last = last_at (c.new.ensures.token i);
       failed = c.new.ensures.failed i;

@@ -7,6 +7,6 @@ use Rattle.swc_ecma_codegen.proofs.emitter.Emitter.stmts.Given as goal
 
 abbrev pub invariant-loop-node : goal.invariant-loop-node
 invariant-loop-node g l = record {
-  items : Continues (in_order (held g.N.EmitAt.items) (drop l.node-index l.nodes)) (state_of g.W.WriteJs.sheet l.self) (in_order (held g.N.EmitAt.items) l.nodes) (state_of g.W.WriteJs.sheet l.initial.self);
+  items : Continues (in_order (held g.N.EmitAt.items) (drop l.node-index l.nodes)) (state_of g.S.SourceMapper.lines g.W.WriteJs.sheet l.self) (in_order (held g.N.EmitAt.items) l.nodes) (state_of g.S.SourceMapper.lines g.W.WriteJs.sheet l.initial.self);
   level : (g.W.WriteJs.sheet l.self.wr).indentation ≡ (g.W.WriteJs.sheet l.initial.self.wr).indentation;
 }

@@ -1,0 +1,27 @@
+-- Where a node may stand in its role.
+use Rattle.swc_ecma_codegen_ast.specs.declared.roles.Role.{Role}
+use Rattle.swc_ecma_codegen_ast.specs.declared.roles.Role.TheVariants.{Expression, Callee as IsCallee, MemberExpression, ChainMember, ChainCall}
+use Rattle.swc_ecma_codegen.specs.declared.nodes.Place.{Place}
+use Rattle.swc_ecma_codegen.specs.declared.nodes.Place.TheVariants.{Plain, Object, DottedObject, Callee, Chain}
+
+-- a place outside of a callee, and one inside
+abbrev pub outside : Place → Place
+outside Object = Plain
+outside (DottedObject prop) = Plain
+outside Callee = Plain
+outside place = place
+
+abbrev pub inside : Place → Place
+inside Object = Object
+inside (DottedObject prop) = DottedObject prop
+inside place = Callee
+
+-- An expression stands where it is called or has a property where that is its role, and there alone, and so does a member, or a call,
+-- in a chain; another node stands where it is put.
+abbrev pub placed : Role → Place → Place
+placed Expression place = outside place
+placed IsCallee place = inside place
+placed MemberExpression place = Plain
+placed (ChainMember optional) place = Chain optional
+placed (ChainCall optional) place = Chain optional
+placed role place = place

@@ -1,0 +1,25 @@
+-- What is written of what is assigned to.
+use Rattle.swc_ecma_codegen_tree.specs.declared.pats.AssignTarget.{AssignTarget}
+use Rattle.swc_ecma_codegen_tree.specs.declared.pats.AssignTarget.TheVariants as targets
+use Rattle.swc_ecma_codegen_tree.specs.declared.pats.SimpleAssignTarget.{SimpleAssignTarget}
+use Rattle.swc_ecma_codegen_tree.specs.declared.pats.SimpleAssignTarget.TheVariants as simple_targets
+use Rattle.swc_ecma_codegen_base.specs.Run.{Part}
+use Rattle.swc_ecma_codegen.specs.declared.nodes.Place.{Place}
+use Rattle.swc_ecma_codegen.specs.declared.nodes.Place.TheVariants.{Plain}
+use Rattle.swc_ecma_codegen.specs.Exprs.{super_prop_expr, paren, opt_chain}
+use Rattle.swc_ecma_codegen.specs.Lists.{unsupported}
+use Rattle.swc_ecma_codegen.specs.Names.{binding_ident}
+
+-- `a`, `a.b`, `super.a`, `(a)`
+unfoldable pub simple_assign_target : {X : Type 0} → (X → Place → Part) → SimpleAssignTarget X → Part
+simple_assign_target items (simple_targets.Ident n) rest = binding_ident n rest
+simple_assign_target items (simple_targets.Member n) rest = items n.node.value Plain rest
+simple_assign_target items (simple_targets.SuperProp n) rest = super_prop_expr items n rest
+simple_assign_target items (simple_targets.Paren n) rest = paren items n rest
+simple_assign_target items (simple_targets.OptChain n) rest = opt_chain items n rest
+simple_assign_target items n rest = unsupported rest
+
+-- patterns aren't printed yet
+unfoldable pub assign_target : {X : Type 0} → (X → Place → Part) → AssignTarget X → Part
+assign_target items (targets.Simple n) rest = simple_assign_target items n rest
+assign_target items n rest = unsupported rest

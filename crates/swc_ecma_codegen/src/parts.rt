@@ -1,0 +1,28 @@
+//! Parts of expressions that links hold.
+
+ghost use Rattle.swc_ecma_codegen.specs.Parts.{expr_part};
+
+use crate::emitter::Emitter;
+use crate::nodes::{EmitAt, Held, Place};
+use swc_ecma_codegen_ast::comments::Comments;
+use swc_ecma_codegen_ast::mapper::SourceMapper;
+use swc_ecma_codegen_common::Answer;
+use swc_ecma_codegen_text_writer::WriteJs;
+use swc_ecma_codegen_tree::ExprPart;
+
+impl<N: Held> EmitAt for ExprPart<N> {
+    ghost items = { expr_part N.answers N.items };
+
+    #[tactic(auto, unfolding(crate::specs::Parts::expr_part))]
+    fn emit_at<W: WriteJs, S: SourceMapper, C: Comments>(
+        &self,
+        e: &mut Emitter<'_, W, S, C>,
+        place: Place,
+    ) -> Answer {
+        match self {
+            ExprPart::OptCall(node) => node.emit_at(e, place),
+            ExprPart::AssignTarget(node) => node.emit_at(e, place),
+            _ => e.unsupported(),
+        }
+    }
+}

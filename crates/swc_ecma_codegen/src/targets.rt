@@ -1,0 +1,65 @@
+//! What is assigned to, and names that are bound.
+
+ghost use Rattle.std.specs.Prelude.{◌≡◌};
+ghost use Rattle.swc_ecma_codegen.specs.Names.{binding_ident};
+ghost use Rattle.swc_ecma_codegen.specs.Targets.{simple_assign_target, assign_target};
+
+use crate::emitter::Emitter;
+use crate::nodes::{EmitAt, Held, Place};
+use swc_ecma_codegen_ast::comments::Comments;
+use swc_ecma_codegen_ast::mapper::SourceMapper;
+use swc_ecma_codegen_common::Answer;
+use swc_ecma_codegen_text_writer::WriteJs;
+use swc_ecma_codegen_tree::{AssignTarget, BindingIdent, SimpleAssignTarget};
+
+impl<N> EmitAt for BindingIdent<N> {
+    ghost items = { λ n _. binding_ident n };
+
+    #[tactic(auto, unfolding(crate::specs::Names::binding_ident))]
+    fn emit_at<W: WriteJs, S: SourceMapper, C: Comments>(
+        &self,
+        e: &mut Emitter<'_, W, S, C>,
+        place: Place,
+    ) -> Answer {
+        if self.type_ann.is_some() {
+            return e.unsupported();
+        }
+        self.id.emit_at(e, place)
+    }
+}
+
+impl<N: Held> EmitAt for AssignTarget<N> {
+    ghost items = { λ n _. assign_target N.items n };
+
+    #[tactic(auto, unfolding(crate::specs::Targets::assign_target))]
+    fn emit_at<W: WriteJs, S: SourceMapper, C: Comments>(
+        &self,
+        e: &mut Emitter<'_, W, S, C>,
+        place: Place,
+    ) -> Answer {
+        match self {
+            AssignTarget::Simple(node) => node.emit_at(e, place),
+            AssignTarget::Pat(_) => e.unsupported(),
+        }
+    }
+}
+
+impl<N: Held> EmitAt for SimpleAssignTarget<N> {
+    ghost items = { λ n _. simple_assign_target N.items n };
+
+    #[tactic(auto, unfolding(crate::specs::Targets::simple_assign_target))]
+    fn emit_at<W: WriteJs, S: SourceMapper, C: Comments>(
+        &self,
+        e: &mut Emitter<'_, W, S, C>,
+        place: Place,
+    ) -> Answer {
+        match self {
+            SimpleAssignTarget::Ident(node) => node.emit_at(e, place),
+            SimpleAssignTarget::Member(node) => node.held().emit_at(e, Place::Plain),
+            SimpleAssignTarget::SuperProp(node) => node.emit_at(e, place),
+            SimpleAssignTarget::Paren(node) => node.emit_at(e, place),
+            SimpleAssignTarget::OptChain(node) => node.emit_at(e, place),
+            _ => e.unsupported(),
+        }
+    }
+}

@@ -1,0 +1,173 @@
+-- Parts that write what syntax leaves open: one of the lists that their phrase has.
+use Rattle.std.proofs.Common.{◌≡◌, ◌⊎◌, Bool, true, false, cond, ◌||◌, List, [], ◌∷◌, ◌++◌, ◌&&◌, append-nil, codes, refl, sym, ap, ◌∙◌, subst, inl, inr}
+use Rattle.std.proofs.lemmas.Bool.{cases_Bool, true≢false}
+use Rattle.swc_ecma_codegen_ast.specs.Phrases.{Phrase, Nothing, One, Then, OptionalComma, OptionalParentheses, Chosen, EmptyArguments, Generates, chosen, in_parentheses, comma, open_parenthesis, is_possible, names_in, ◌>◌, mark}
+use Rattle.swc_ecma_codegen_ast.specs.Punctuators.{is_punctuator, punctuators}
+use Rattle.swc_ecma_codegen_ast.specs.Texts.{is_same, is_among}
+use Rattle.swc_ecma_codegen_ast.specs.Tokens.{Token}
+use Rattle.swc_ecma_codegen_ast.specs.Tokens as lexical
+use Rattle.swc_ecma_codegen_ast.specs.declared.kinds.Kind.TheVariants.{Punctuator}
+use Rattle.swc_ecma_codegen_util.specs.declared.config.Config.{Config}
+use Rattle.std.specs.Str.{chars, is_utf8}
+use Rattle.swc_ecma_codegen_base.specs.Choices.{optional_comma, optional_parentheses, empty_arguments}
+use Rattle.swc_ecma_codegen_base.specs.Escapes.{is_spelled_anew, may_make_text}
+use Rattle.swc_ecma_codegen_base.specs.Run.{Env, Part, no_part, when_minified}
+use Rattle.swc_ecma_codegen_base.specs.Scripts.{is_str}
+use Rattle.swc_ecma_codegen_base.specs.Settings.{settings_of}
+use Rattle.swc_ecma_codegen_base.specs.Targets.{is_out}
+use Rattle.swc_ecma_codegen_base.specs.Words.{punct}
+use Rattle.swc_ecma_codegen_base.specs.Written.{IsMark}
+use Rattle.swc_ecma_codegen_base.proofs.Emitting.{minified_same, pretty_same}
+use Rattle.swc_ecma_codegen_base.proofs.Hands.{holds_string}
+use Rattle.swc_ecma_codegen_base.proofs.Printed.{Makes, makes_some}
+use Rattle.swc_ecma_codegen_base.proofs.Phrased.{NamedBy, Prints, no_names, no_strings, then, prints_nothing, prints_punct, prints_same}
+
+-- ---- a phrase whose lists another has too
+
+-- Each list of a phrase is one of another's, under these settings; what is asked of the two is the same, and the other may take
+-- memory where this one may.
+pub record IsAmong (config : Config) (f g : Phrase) : Type 0 where
+  pub generates : (ts : List Token) → Generates (settings_of config) f ts → Generates (settings_of config) g ts
+  pub possible : is_possible f ≡ is_possible g
+  pub out : is_out config f ≡ is_out config g
+  pub makes : may_make_text config f ≡ true → may_make_text config g ≡ true
+  pub names : names_in f ≡ names_in g
+
+-- a text may be made anew where another may
+makes_where : {env : Env} {p : Part} {ts : List Token} {a b : Bool} → (a ≡ true → b ≡ true) → Makes env p ts a → Makes env p ts b
+makes_where k h = record { steps = h.steps; is_steps = h.is_steps; lays = h.lays; remakes = λ e. k (h.remakes e); deep = h.deep; hands = h.hands }
+
+pub prints_among : {env : Env} {p : Part} {f g : Phrase} → IsAmong env.config f g → Prints env p f → Prints env p g
+prints_among {env} {p} {f} {g} i h = record {
+  where_possible = λ w o.
+      let a = h.where_possible (i.possible ∙ w) (i.out ∙ o) in
+      record {
+        tokens = a.tokens;
+        generated = i.generates a.tokens a.generated;
+        writes = makes_where i.makes a.writes;
+        named = subst (λ ns. NamedBy env p ns) i.names a.named;
+        safe = a.safe;
+      };
+  where_out = λ w o rest. h.where_out (i.possible ∙ w) (i.out ∙ o) rest;
+}
+
+-- ---- a comma or none
+
+pub no_comma_among : (config : Config) → IsAmong config Nothing OptionalComma
+unfolding Generates is_possible is_out may_make_text names_in
+no_comma_among config = record { generates = λ ts g. inl g; possible = refl; out = refl; makes = λ e. refl; names = refl }
+
+pub comma_among : (config : Config) → IsAmong config (mark (codes ",")) OptionalComma
+unfolding Generates is_possible is_out may_make_text names_in is_spelled_anew lexical.punctuator
+comma_among config = record { generates = λ ts g. inr g; possible = refl; out = refl; makes = λ e. refl; names = refl }
+
+-- a part that writes nothing, or a comma, writes an optional comma
+pub prints_no_comma : {env : Env} {p : Part} → Prints env p Nothing → Prints env p OptionalComma
+prints_no_comma {env} h = prints_among (no_comma_among env.config) h
+
+pub prints_comma : {env : Env} {p : Part} → Prints env p (mark (codes ",")) → Prints env p OptionalComma
+prints_comma {env} h = prints_among (comma_among env.config) h
+
+-- the same of a part that may take memory to find out whether the comma stands
+commas : (there : Bool) (ts : List Token) → ts ≡ cond there (comma ∷ []) [] → (ts ≡ []) ⊎ (ts ≡ comma ∷ [])
+commas true ts e = inr e
+commas false ts e = inl e
+
+comma_strings : (there : Bool) → holds_string (cond there (comma ∷ []) []) ≡ false
+unfolding holds_string is_str lexical.punctuator
+comma_strings true = refl
+comma_strings false = refl
+
+pub prints_comma_where : {env : Env} {p : Part} {made : Bool} (there : Bool) → Makes env p (cond there (comma ∷ []) []) made → Prints env p OptionalComma
+unfolding Generates is_out may_make_text names_in
+prints_comma_where {env} {p} there h = record {
+  where_possible = λ w o. record { tokens = cond there (comma ∷ []) []; generated = commas there _ refl; writes = makes_some h; named = no_names env p; safe = no_strings h (comma_strings there) };
+  where_out = λ w o. absurd (true≢false (sym o));
+}
+
+comma_is_mark : IsMark (codes ",")
+unfolding is_punctuator is_among is_same punctuators chars is_utf8 lib.Utf8.encode
+comma_is_mark = record { utf8 = refl; ascii = refl; shape = refl }
+
+pub prints_optional_comma : {env : Env} (there : Bool) → Prints env (optional_comma there) OptionalComma
+unfolding optional_comma
+prints_optional_comma {env} true = prints_comma (prints_punct env (codes ",") comma_is_mark)
+prints_optional_comma {env} false = prints_no_comma prints_nothing
+
+-- ---- parentheses or none
+
+or_false : (b : Bool) → (b || false) ≡ b
+or_false true = refl
+or_false false = refl
+
+possible_within : (b : Bool) → (true && (b && true)) ≡ b
+possible_within true = refl
+possible_within false = refl
+
+pub bare_among : (config : Config) (f : Phrase) → IsAmong config f (OptionalParentheses f)
+unfolding Generates is_possible is_out may_make_text names_in
+bare_among config f = record { generates = λ ts g. inl g; possible = refl; out = refl; makes = λ e. e; names = refl }
+
+pub parentheses_among : (config : Config) (f : Phrase) → IsAmong config (mark (codes "(") > f > mark (codes ")")) (OptionalParentheses f)
+unfolding Generates is_possible is_out may_make_text names_in is_spelled_anew lexical.punctuator
+parentheses_among config f = record {
+  generates = λ ts g. inr (g.3.0, g.3.2, g.4 ∙ ap (λ z. z ++ g.1) g.2 ∙ ap (λ z. open_parenthesis ∷ z) (g.3.4 ∙ ap (λ z. g.3.0 ++ z) g.3.3));
+  possible = possible_within (is_possible f);
+  out = or_false (is_out config f);
+  makes = λ e. sym (or_false (may_make_text config f)) ∙ e;
+  names = append-nil (names_in f);
+}
+
+-- a part that writes a phrase bare, or in parentheses, writes it in optional ones
+pub prints_bare : {env : Env} {p : Part} {f : Phrase} → Prints env p f → Prints env p (OptionalParentheses f)
+prints_bare {env} {p} {f} h = prints_among (bare_among env.config f) h
+
+pub prints_parentheses : {env : Env} {p : Part} {f : Phrase} → Prints env p (mark (codes "(") > f > mark (codes ")")) → Prints env p (OptionalParentheses f)
+prints_parentheses {env} {p} {f} h = prints_among (parentheses_among env.config f) h
+
+open_is_mark : IsMark (codes "(")
+unfolding is_punctuator is_among is_same punctuators chars is_utf8 lib.Utf8.encode
+open_is_mark = record { utf8 = refl; ascii = refl; shape = refl }
+
+close_is_mark : IsMark (codes ")")
+unfolding is_punctuator is_among is_same punctuators chars is_utf8 lib.Utf8.encode
+close_is_mark = record { utf8 = refl; ascii = refl; shape = refl }
+
+-- the same of a part that is written with parentheses or without
+pub prints_optional_parentheses : {env : Env} {p : Part} {f : Phrase} (there : Bool) → Prints env p f → Prints env (optional_parentheses there p) (OptionalParentheses f)
+unfolding optional_parentheses
+prints_optional_parentheses {env} true h = prints_parentheses (then (prints_punct env (codes "(") open_is_mark) (then h (prints_punct env (codes ")") close_is_mark)))
+prints_optional_parentheses {env} false h = prints_bare h
+
+-- ---- what the settings choose
+
+chosen_small : (config : Config) → config.minify ≡ true → chosen (settings_of config) EmptyArguments ≡ []
+unfolding chosen
+chosen_small config m = ap (λ b. cond b [] (in_parentheses [])) m
+
+chosen_wide : (config : Config) → config.minify ≡ false → chosen (settings_of config) EmptyArguments ≡ in_parentheses []
+unfolding chosen
+chosen_wide config m = ap (λ b. cond b [] (in_parentheses [])) m
+
+none_among : (config : Config) → config.minify ≡ true → IsAmong config Nothing (Chosen EmptyArguments)
+unfolding Generates is_possible is_out may_make_text names_in
+none_among config m = record { generates = λ ts g. g ∙ sym (chosen_small config m); possible = refl; out = refl; makes = λ e. e; names = refl }
+
+empty_among : (config : Config) → config.minify ≡ false → IsAmong config (mark (codes "(") > mark (codes ")")) (Chosen EmptyArguments)
+unfolding Generates is_possible is_out may_make_text names_in is_spelled_anew lexical.punctuator
+empty_among config m = record { generates = λ ts g. g.4 ∙ ap (λ z. z ++ g.1) g.2 ∙ ap (λ z. open_parenthesis ∷ z) g.3 ∙ sym (chosen_wide config m); possible = refl; out = refl; makes = λ e. e; names = refl }
+
+-- by the settings: minified nothing is written, else `()`
+pub prints_chosen : {env : Env} {p : Part} → (env.config.minify ≡ true → Prints env p Nothing) → (env.config.minify ≡ false → Prints env p (mark (codes "(") > mark (codes ")"))) → Prints env p (Chosen EmptyArguments)
+prints_chosen {env} h k = elim (cases_Bool env.config.minify) [
+  | inl m ↦ prints_among (none_among env.config m) (h m)
+  | inr m ↦ prints_among (empty_among env.config m) (k m)
+]
+
+pub prints_empty_arguments : {env : Env} → Prints env empty_arguments (Chosen EmptyArguments)
+unfolding empty_arguments no_part
+prints_empty_arguments {env} =
+    let other : Part = λ rest. punct (codes "(") (punct (codes ")") rest) in
+    prints_chosen
+    (λ m. prints_same empty_arguments (λ rest. rest) (λ rest. minified_same no_part other rest env m) prints_nothing)
+    (λ m. prints_same empty_arguments other (λ rest. pretty_same no_part other rest env m) (then (prints_punct env (codes "(") open_is_mark) (prints_punct env (codes ")") close_is_mark)))

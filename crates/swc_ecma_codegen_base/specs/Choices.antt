@@ -1,0 +1,16 @@
+-- The parts that write what syntax leaves open.
+use Rattle.std.specs.Prelude.{Bool, if◌then◌else◌, codes}
+use Rattle.swc_ecma_codegen_base.specs.Run.{Part, when_minified, no_part}
+use Rattle.swc_ecma_codegen_base.specs.Words.{punct}
+
+-- a comma or none: `[a,] = b`, `[a] = b`
+unfoldable pub optional_comma : Bool → Part
+optional_comma there rest = if there then punct (codes ",") rest else rest
+
+-- a part in parentheses or bare: `(a) => b`, `a => b`
+unfoldable pub optional_parentheses : Bool → Part → Part
+optional_parentheses there part rest = if there then punct (codes "(") (part (punct (codes ")") rest)) else part rest
+
+-- no arguments: `new A()`, and minified `new A`
+unfoldable pub empty_arguments : Part
+empty_arguments = when_minified no_part (λ rest. punct (codes "(") (punct (codes ")") rest))

@@ -1,0 +1,130 @@
+'use strict';
+// Reads lines of JSON, each some texts of one tree, `{"texts":[{"text":"..","tokens":["n:a",..]},..]}`, and answers each with
+// who told the tokens of each text, how many texts Babel parsed, and a fault or null. See scripts/read-back.
+let acorn, babel;
+try {
+  acorn = require('acorn');
+  babel = require('@babel/parser');
+} catch (error) {
+  process.exit(3);
+}
+
+// Inside of a class, so that each of `super`, `#a`, `await`, `yield` and `new.target` has a meaning.
+const OPEN = 'class A extends B { #a; #\u00e9; #\u{1d4ab}; async *a() {';
+const CLOSE = '\n}}';
+const PLUGINS = ['decorators', 'importReflection', ['optionalChainingAssign', { version: '2023-07' }], 'sourcePhaseImports', 'deferredImportEvaluation', 'createImportExpressions'];
+
+const ESCAPE = /\\u(?:\{([0-9a-fA-F]+)\}|([0-9a-fA-F]{4}))/g;
+const unescaped = (name) => name.replace(ESCAPE, (_, braces, four) => String.fromCodePoint(parseInt(braces || four, 16)));
+const NUMBER = (text) => String(Number(text.replace(/_/g, '').replace(/^0(?=[0-7]+$)/, '0o').replace(/^0+(?=[0-9]+(\.|$))/, '')));
+const VALUES = { n: unescaped, w: unescaped, h: unescaped, 0: NUMBER, b: (text) => String(BigInt(text.replace(/_/g, '').slice(0, -1))), s: (text) => (0, eval)('"";' + text) };
+const value = (letter, text) => (VALUES[letter] || ((same) => same))(text);
+
+const PUNCTUATORS = '{ } ( ) [ ] . ... ; , < > <= >= == != === !== + - * % ** ++ -- << >> >>> & | ^ ! ~ && || ?? ? : = += -= *= %= **= <<= >>= >>>= &= |= ^= &&= ||= ??= => / /= ?. @'
+  .split(' ').sort((one, two) => two.length - one.length);
+const PART = '\\\\u\\{[0-9a-fA-F]+\\}|\\\\u[0-9a-fA-F]{4}';
+const NAME = `(?:[\\p{ID_Start}$_]|${PART})(?:[\\p{ID_Continue}$\\u200c\\u200d]|${PART})*`;
+const SHAPES = {
+  n: new RegExp('^' + NAME, 'u'), w: new RegExp('^' + NAME, 'u'), h: new RegExp('^#' + NAME, 'u'),
+  0: /^(?:0[xX][0-9a-fA-F_]+|0[bB][01_]+|0[oO][0-7_]+|[0-9][0-9_]*\.?[0-9_]*(?:[eE][+-]?[0-9]+)?|\.[0-9_]+(?:[eE][+-]?[0-9]+)?)/, b: /^0?[0-9xXoObB][0-9a-fA-F_]*n/,
+  s: /^(?:"(?:[^"\\]|\\[^])*"|'(?:[^'\\]|\\[^])*')/, r: /^\/(?:[^/\\[]|\\.|\[(?:[^\]\\]|\\.)*\])+\/[a-z]*/,
+};
+
+// Whether these texts are the tokens that are wanted.
+function are(found, wanted) {
+  return found !== null && found.length === wanted.length && wanted.every((token, at) => value(token[0], token.slice(2)) === value(token[0], found[at]));
+}
+
+function tokensByAcorn(text) {
+  const src = '(' + text;
+  try {
+    return [...acorn.tokenizer(src, { ecmaVersion: 'latest' })].slice(1).map((token) => src.slice(token.start, token.end));
+  } catch (error) {
+    return null;
+  }
+}
+
+function parsed(text) {
+  try {
+    return babel.parse(OPEN + text + CLOSE, { sourceType: 'script', plugins: PLUGINS, tokens: true, allowSuperOutsideMethod: true, allowImportExportEverywhere: true });
+  } catch (error) {
+    return null;
+  }
+}
+
+function tokensByBabel(text, file) {
+  if (file === null) return null;
+  const src = OPEN + text + CLOSE, found = [];
+  for (const token of file.tokens) {
+    if (token.start >= OPEN.length && token.end <= OPEN.length + text.length) {
+      const spelled = src.slice(token.start, token.end);
+      // (some versions have `#` for itself)
+      if (found.length && found[found.length - 1] === '#') found.push(found.pop() + spelled);
+      else found.push(spelled);
+    }
+  }
+  return found;
+}
+
+// The tokens one after the other, each the longest of its kind; null where there is none.
+function tokensByKinds(text, wanted) {
+  const found = [];
+  let rest = text.trimStart();
+  for (const token of wanted) {
+    const shape = SHAPES[token[0]];
+    const match = shape ? shape.exec(rest) : null;
+    const spelled = shape ? match && match[0] : PUNCTUATORS.find((mark) => rest.startsWith(mark) && !(mark === '?.' && /^\?\.[0-9]/.test(rest)));
+    if (!spelled || ('0b'.includes(token[0]) && /^[\p{ID_Continue}$\\]/u.test(rest.slice(spelled.length)))) return null;
+    found.push(spelled);
+    rest = rest.slice(spelled.length).trimStart();
+  }
+  return rest === '' ? found : null;
+}
+
+// A tree without places, spellings, parentheses, and marks that the parser leaves.
+function bare(node) {
+  if (Array.isArray(node)) return node.map(bare);
+  if (node === null || typeof node !== 'object') return node;
+  if (node.type === 'NumericLiteral') return { type: node.type, value: node.value };
+  const made = {};
+  for (const [name, held] of Object.entries(node)) {
+    if (!['start', 'end', 'loc', 'extra', 'tokens', 'errors', 'comments', 'range', 'trailingComma'].includes(name)) made[name] = bare(held);
+  }
+  return made;
+}
+
+const isSame = (one, two) => JSON.stringify(bare(one)) === JSON.stringify(bare(two));
+
+// Literals are spelled otherwise without blanks.
+const spelled = (token) => (/^(?:\.?[0-9]|["'])/.test(token) ? 'literal' : token);
+
+// What is left of tokens when all goes that may be there or not.
+function core(tokens) {
+  return tokens.filter((token, at) => !['(', ')', ';'].includes(token) && !(token === ',' && [']', '}', ')'].includes(tokens[at + 1])));
+}
+
+function look({ texts }) {
+  const files = texts.map(({ text }) => parsed(text));
+  const eyes = [];
+  let fault = null;
+  texts.forEach(({ text, tokens }, at) => {
+    if (tokens === null) return;
+    if (are(tokensByAcorn(text), tokens)) eyes.push('acorn');
+    else if (are(tokensByBabel(text, files[at]), tokens)) eyes.push('babel');
+    else if (files[at] === null && are(tokensByKinds(text, tokens), tokens)) eyes.push('kinds');
+    else fault = 'other tokens';
+  });
+  if (texts.length === 2) {
+    if (files[0] !== null && files[1] !== null && !isSame(files[0].program, files[1].program)) fault = fault || 'two programs';
+    if (texts[0].tokens === null) {
+      const [pretty, minified] = texts.map(({ text }, at) => tokensByBabel(text, files[at]));
+      if (pretty === null || minified === null) fault = fault || 'no program';
+      else if (core(pretty).map(spelled).join(' ') !== core(minified).map(spelled).join(' ')) fault = fault || 'other tokens';
+    }
+  }
+  const read = files.filter((file) => file !== null).length;
+  return { eyes, parsed: read, alone: texts.length === 2 && read === 1, fault };
+}
+
+const lines = require('fs').readFileSync(0, 'utf8').split('\n').filter((line) => line);
+for (const line of lines) process.stdout.write(JSON.stringify(look(JSON.parse(line))) + '\n');

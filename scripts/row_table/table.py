@@ -1,0 +1,148 @@
+"""The rows of the table of crates/swc_ecma_codegen_row_tests: trees, and the texts that they ask for."""
+
+import collections
+import itertools
+import json
+import os
+import re
+
+TABLE = os.path.join(os.path.dirname(os.path.abspath(__file__)), "../../crates/swc_ecma_codegen_row_tests/stdin")
+NOWHERE = '{"lo":0,"hi":0}'
+A = '{"Ident":{"span":{"lo":0,"hi":0},"sym":"a","optional":false}}'
+NAMES = ["a", "in_", "$", "\u00e9"]
+LETTERS = ["a", ",", " ", "\U0001f600"]
+MAPPERS = {"same": "same", "apart": "different", "even": "parity"}
+# A text that a row asks for: the row, the words of a run, the JSON of the tree, the text, the lines on standard error, and
+# the tokens, or nothing where the row tells none.
+Case = collections.namedtuple("Case", "row words tree text lines tokens")
+
+
+def decoded(field):
+    """The text that a field of a row stands for."""
+
+    def group(found):
+        times, cross, part = found[1].partition("×")
+        if cross:
+            return int(times) * part
+        return chr(int(times, 16)) if times else ""
+
+    return re.sub("‹([^›]*)›", group, field)
+
+
+def tree(short):
+    return json.loads(short.replace("~", NOWHERE).replace("@", A))
+
+
+def in_places(short):
+    """A tree where each span is another, as the program that goes through the table has them."""
+    ends = itertools.count(1, 3)
+
+    def span(_):
+        lo = next(ends)
+        return '{"lo":%d,"hi":%d}' % (lo, lo + 1)
+
+    return tree(re.sub("~", span, short))
+
+
+def snippets():
+    """The texts of up to four letters, the shorter ones first."""
+    return ["".join(text) for length in range(5) for text in itertools.product(LETTERS, repeat=length)]
+
+
+def script_of(body, tree=tree):
+    return tree('{"Script":{"span":~,"body":[%s],"shebang":null}}' % body)
+
+
+def script(expr, tree=tree):
+    return script_of('{"Expr":{"span":~,"expr":%s}}' % expr, tree)
+
+
+def filled(text, operands):
+    return "".join(part + operand for part, operand in zip(text.split("•"), operands + [""]))
+
+
+def written(tokens, words, comma=False):
+    """The tokens of a text that is printed with these words: without blanks some don't stand, nor some semicolons.
+
+    The commas at the ends of lists stand with `comma`, where the source text has them.
+    """
+    is_minified = "--minify" in words
+    omits = is_minified and "--omit-last-semi" in words
+    absent = "PC" * is_minified + "cC" * (not comma)
+    found = ["p" + token[1:] if token[0] in "PcC" else token for token in tokens.split() if token[0] not in absent]
+    left = {"p:}", "p:;", "e:;", None}
+    return [token for token, after in zip(found, found[1:] + [None]) if not (omits and token == "e:;" and after in left)]
+
+
+class Table:
+    def __init__(self):
+        with open(TABLE, encoding="utf-8") as table:
+            lines = [line for line in table.read().split("\n") if line and not line.startswith("#")]
+        self.rows = [(line, [decoded(field) for field in line.split("\t")]) for line in lines]
+        self.steps, self.sorts = {}, {"operator": [], "expression": [], "step": []}
+        for _, fields in self.rows:
+            if fields[0] in self.sorts:
+                self.steps.setdefault(fields[1], fields[2:])
+                self.sorts[fields[0]].append(fields[1])
+
+    def operands(self, word):
+        return self.steps[word][0].count("•")
+
+    def made(self, words, part):
+        """What steps leave: their JSON (0) or their tokens (1)."""
+        left = []
+        for word in words.split():
+            text = self.steps[word][part]
+            from_ = len(left) - text.count("•")
+            left[from_:] = [filled(text, left[from_:])]
+        return left
+
+    def nesting(self, outer, inner, place):
+        """The words of a step whose operand at `place` is another."""
+        words, turn = [], 0
+        for at in range(self.operands(outer)):
+            for _ in range(self.operands(inner) if at == place else 1):
+                words.append(NAMES[turn % 4])
+                turn += 1
+            words += [inner] * (at == place)
+        return " ".join([*words, outer])
+
+    def case(self, row, words, made_of, text, is_script=False):
+        parts, tokens = self.made(made_of, 0), " ".join(self.made(made_of, 1))
+        program = script_of(",".join(parts)) if is_script else script(parts[-1])
+        return Case(row, words, program, text, "", written(tokens if is_script else tokens + " e:;", words))
+
+    def both(self, row, made_of, pretty, minified, is_script=False):
+        return [self.case(row, [], made_of, pretty, is_script), self.case(row, ["--minify", "--bare"], made_of, minified, is_script)]
+
+    def over(self, row, words, made_of, texts, comma=False):
+        """The two texts over a source text, where each node has a place of its own."""
+        program, tokens = script(self.made(made_of, 0)[-1], in_places), self.made(made_of, 1)[-1] + " e:;"
+        both = [(words, texts[0]), ([*words, "--minify", "--bare"], texts[1])]
+        return [Case(row, words, program, text, "", written(tokens, words, comma)) for words, text in both]
+
+    def of_row(self, row, fields):
+        word, rest = fields[0], fields[1:]
+        if word in ("tree", "malformed", "script"):
+            return self.both(row, *rest, word == "script")
+        if word == "node":
+            return [self.case(row, [], *rest)]
+        if word in ("prints", "script_prints"):
+            return [self.case(row, rest[0].split(), *rest[1:], word == "script_prints")]
+        if word == "run" and rest[2] == "0":
+            return [Case(row, rest[0].split(), tree(rest[1]), rest[3], rest[4], None)]
+        if word == "over":
+            return self.over(row, ["--mapper", MAPPERS[rest[0]]], rest[1], rest[2:])
+        if word == "commas":
+            marked = [(["--mapper", "same", "--snippet", text], mark == "1") for text, mark in zip(snippets(), rest[5])]
+            return [case for words, comma in marked for case in self.over(row, words, rest[0], rest[3:5] if comma else rest[1:3], comma)]
+        if word in ("nestings", "placed"):
+            inners = self.sorts["operator" if word == "nestings" else "expression"]
+            texts = zip(inners, rest[2].split("¦"), rest[3].split("¦"))
+            nested = [(self.nesting(rest[0], inner, int(rest[1])), *both) for inner, *both in texts]
+            return [case for made, pretty, minified in nested for case in self.both(row, made, pretty + ";\n", minified + ";")]
+        return []
+
+    def cases(self):
+        """Each text that the table asks for."""
+        return [case for row, fields in self.rows for case in self.of_row(row, fields)]
