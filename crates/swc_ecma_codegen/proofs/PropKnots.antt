@@ -26,7 +26,7 @@ use Rattle.swc_ecma_codegen.specs.Answers.{Answers, place_of}
 use Rattle.swc_ecma_codegen.specs.Exprs.{opened, computed_prop_name, spread_element}
 use Rattle.swc_ecma_codegen.specs.Lists.{child_of, unsupported}
 use Rattle.swc_ecma_codegen.specs.Parts.{expr_part}
-use Rattle.swc_ecma_codegen.specs.Props.{prop_name, key_value_prop, assign_prop, accessor, optional_body, getter_parts, getter_prop, setter_parts, setter_prop, method_prop, prop, prop_or_spread, object_list, object_lit}
+use Rattle.swc_ecma_codegen.specs.Props.{prop_name, key_value_prop, assign_prop, accessor, optional_body, getter_parts, getter_prop, setter_parts, setter_prop, method_prop, prop, prop_or_spread, object_children, object_list, object_lit}
 use Rattle.swc_ecma_codegen.specs.Tree.{node_items}
 
 pub prop_name_mapped : {X Y : Type 0} (g : X → Y) (asks : Y → Answers) (items : Y → Place → Part) (n : PropName X) (place : Place) (rest : Plan) → node_items asks items (map-AnyNode X Y g (nodes.ExprPart (expr_parts.PropName n))) place rest ≡ prop_name (λ x. items (g x)) n rest
@@ -63,5 +63,5 @@ object_same n some other cs ds after e h =
     ap (λ z. opened n.span (punct (codes "{") (object_list z n.span cs after))) e ∙ ap (λ z. opened n.span (punct (codes "{") (object_list other n.span z after))) h
 
 pub object_lit_mapped : {X Y : Type 0} (g : X → Y) (asks : Y → Answers) (items : Y → Place → Part) (n : ObjectLit X) (place : Place) (rest : Plan) → node_items asks items (map-AnyNode X Y g (nodes.ExprPart (expr_parts.ObjectLit n))) place rest ≡ object_lit (λ x. asks (g x)) (λ x. items (g x)) n rest
-unfolding node_items expr_part object_lit prop_or_spread prop_or_spread_span spread_element spread_element_span
+unfolding node_items expr_part object_lit object_children prop_or_spread prop_or_spread_span spread_element spread_element_span
 object_lit_mapped {X} g asks items n place rest = object_same n _ _ _ _ _ (some_mapped _ n.props.items) (list_mapped {A = PropOrSpread X} _ _ (child_of (prop_or_spread_span (place_of (λ x. asks (g x)))) (λ p place. prop_or_spread (λ x. asks (g x)) (λ x. items (g x)) p)) (each_prop {X = X} _ (λ m. refl) (λ m. refl)) n.props.items)

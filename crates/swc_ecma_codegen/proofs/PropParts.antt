@@ -161,7 +161,7 @@ lines_prints l n =
     (prop_or_spread_prints l) refl refl refl (after (writes_line l.env) (closing_prints l.env n)) n.props.items
 
 either_prints : {X : Type 0} (l : Linked X) (n : ObjectLit X) (some : Bool) → Prints l.env (λ rest. punct (codes "{") (words.object_lines some n.span (children_of (prop_or_spread_span (place_of l.asks)) (words.prop_or_spread l.asks l.items) n.props.items) (closing n rest))) (whole l n)
-unfolding words.object_lines
+unfolding words.object_lines words.lined_object_list
 either_prints l n true = lines_prints l n
 either_prints l n false = flat_prints l n
 
@@ -177,5 +177,5 @@ props_print l n =
     ]
 
 pub object_lit_prints : {X : Type 0} (l : Linked X) (n : ObjectLit X) → Prints l.env (words.object_lit l.asks l.items n) (lists.object_lit l.reads n)
-unfolding words.object_lit lists.object_lit
+unfolding words.object_lit words.object_children lists.object_lit
 object_lit_prints l n = after (writes_opened l.env n.span) (props_print l n)

@@ -109,12 +109,16 @@ abbrev pub flat_object_format : ℕ
 flat_object_format = 41360
 
 -- the properties, as children of a list
-abbrev pub object_children : {X : Type 0} → (X → Answers) → (X → Place → Part) → ObjectLit X → List ListChild
+unfoldable pub object_children : {X : Type 0} → (X → Answers) → (X → Place → Part) → ObjectLit X → List ListChild
 object_children asks items n = map (child_of (prop_or_spread_span (place_of asks)) (λ p place. prop_or_spread asks items p)) n.props.items
 
--- the properties, each on a line of its own where there are some
+-- the properties, each on a line of its own
+unfoldable pub lined_object_list : Span → List ListChild → Part
+lined_object_list span cs rest = line_end (list object_format span cs (line_end rest))
+
+-- so where there are some
 unfoldable pub object_lines : Bool → Span → List ListChild → Part
-object_lines some span cs rest = if some then line_end (list object_format span cs (line_end rest)) else list flat_object_format span cs rest
+object_lines some span cs rest = if some then lined_object_list span cs rest else list flat_object_format span cs rest
 
 unfoldable pub object_list : Bool → Span → List ListChild → Part
 object_list some span cs = when_minified (list flat_object_format span cs) (object_lines some span cs)

@@ -7,7 +7,7 @@ ghost use Rattle.swc_ecma_codegen_base.specs.Lists.{list};
 ghost use Rattle.swc_ecma_codegen_base.specs.Run.{Emits};
 ghost use Rattle.swc_ecma_codegen_base.specs.Starts.{begins_letter};
 ghost use Rattle.swc_ecma_codegen.specs.Answers.{place_of};
-ghost use Rattle.swc_ecma_codegen.specs.Props.{prop_name, key_end, value_start, key_value_prop, assign_prop, accessor, optional_body, getter_prop, setter_prop, method_prop, prop, prop_or_spread, object_format, flat_object_format, object_children, object_lines, object_list, object_lit};
+ghost use Rattle.swc_ecma_codegen.specs.Props.{prop_name, key_end, value_start, key_value_prop, assign_prop, accessor, optional_body, getter_prop, setter_prop, method_prop, prop, prop_or_spread, object_format, flat_object_format, object_children, lined_object_list, object_lines, object_list, object_lit};
 ghost use Rattle.swc_ecma_codegen.specs.View.{state_of};
 
 use crate::blocks::is_some_listed;
@@ -297,19 +297,39 @@ impl<W: WriteJs, S: SourceMapper, C: Comments> Emitter<'_, W, S, C> {
         self.list(object_format(), node.span, &node.props)
     }
 
-    /// Writes the properties and the ends of their lines, where there are some.
+    /// Writes the properties and the ends of their lines.
+    #[tactic(auto, unfolding(crate::specs::Props::lined_object_list))]
+    fn lined_object_list<N: Held>(&mut self, node: &ObjectLit<N>) -> Answer
+        ensures items { Emits (lined_object_list node.now.span (object_children N.answers N.items node.now)) (state_of S.lines W.sheet self.old) (state_of S.lines W.sheet self.new) result }
+        ensures level { OnOk result ((W.sheet self.new.wr).indentation ≡ (W.sheet self.old.wr).indentation) }
+    {
+        self.line()?;
+        self.object_props(node)?;
+        self.line()?;
+        Ok(())
+    }
+
+    /// Writes the properties, each on a line of its own where there are some.
     #[tactic(auto, unfolding(crate::specs::Props::object_lines))]
     fn object_lines<N: Held>(&mut self, some: bool, node: &ObjectLit<N>) -> Answer
         ensures items { Emits (object_lines some node.now.span (object_children N.answers N.items node.now)) (state_of S.lines W.sheet self.old) (state_of S.lines W.sheet self.new) result }
         ensures level { OnOk result ((W.sheet self.new.wr).indentation ≡ (W.sheet self.old.wr).indentation) }
     {
-        if !some {
-            return self.flat_object_props(node);
+        if some {
+            self.lined_object_list(node)?;
+        } else {
+            self.flat_object_props(node)?;
         }
-        self.line()?;
-        self.object_props(node)?;
-        self.line()?;
         Ok(())
+    }
+
+    /// Writes the properties, where the settings aren't to minify.
+    fn pretty_object_list<N: Held>(&mut self, node: &ObjectLit<N>) -> Answer
+        ensures items { Emits (object_lines (is_some_listed node.now.props.items) node.now.span (object_children N.answers N.items node.now)) (state_of S.lines W.sheet self.old) (state_of S.lines W.sheet self.new) result }
+        ensures level { OnOk result ((W.sheet self.new.wr).indentation ≡ (W.sheet self.old.wr).indentation) }
+    {
+        let some = is_some_listed(&node.props);
+        self.object_lines(some, node)
     }
 
     /// Writes the properties; on one line where the settings are to minify.
@@ -321,6 +341,6 @@ impl<W: WriteJs, S: SourceMapper, C: Comments> Emitter<'_, W, S, C> {
         if self.cfg.minify {
             return self.flat_object_props(node);
         }
-        self.object_lines(is_some_listed(&node.props), node)
+        self.pretty_object_list(node)
     }
 }

@@ -6,10 +6,11 @@ use Rattle.swc_ecma_codegen.specs.View.{state_of}
 use Rattle.swc_ecma_codegen.specs.Lists.{child_of}
 use Rattle.swc_ecma_codegen_spans.specs.Spans.{prop_or_spread_span}
 use Rattle.swc_ecma_codegen.specs.Answers.{place_of}
-use Rattle.swc_ecma_codegen.specs.Props.{object_format, prop_or_spread}
+use Rattle.swc_ecma_codegen.specs.Props.{object_format, object_children, prop_or_spread}
 use Rattle.swc_ecma_codegen.proofs.emitter.Emitter.object_props.Goals as goal
 
 pub returns-clause-items : goal.returns-clause-items
+unfolding object_children
 returns-clause-items g c =
     let a : State = state_of g.S.SourceMapper.lines g.W.WriteJs.sheet c.args.self.now in
     let b : State = state_of g.S.SourceMapper.lines g.W.WriteJs.sheet c.list.new.self in
