@@ -62,6 +62,26 @@ fn is_printed(
     Ok(true)
 }
 
+/// The steps of a sort.
+fn of_sort<'a>(alloc: Global, steps: &'a [Step], sort: Sort) -> Result<Vec<&'a Step>, AllocError> {
+    let mut found = Vec::new(alloc);
+    for step in steps {
+        if step.is_of(sort) {
+            found.push(step)?;
+        }
+    }
+    Ok(found)
+}
+
+/// The texts between `¦`.
+fn texts_of<'a>(alloc: Global, texts: &'a str) -> Result<Vec<&'a str>, AllocError> {
+    let mut found = Vec::new(alloc);
+    for text in texts.split('¦') {
+        found.push(text)?;
+    }
+    Ok(found)
+}
+
 /// Whether a step is printed so with each of a sort at a place, with `¦` between the texts.
 pub fn are_printed(
     alloc: Global,
@@ -73,17 +93,20 @@ pub fn are_printed(
     let (Some(outer), Ok(place)) = (named(steps, outer), place.parse()) else {
         return Ok(false);
     };
-    let mut pretty = pretty.split('¦');
-    let mut minified = minified.split('¦');
-    for inner in steps {
-        if inner.is_of(sort) {
-            let (Some(pretty), Some(minified)) = (pretty.next(), minified.next()) else {
-                return Ok(false);
-            };
-            if !is_printed(alloc, steps, [outer, inner], place, [pretty, minified])? {
-                return Ok(false);
-            }
+    let sorted = of_sort(alloc, steps, sort)?;
+    let pretty = texts_of(alloc, pretty)?;
+    let minified = texts_of(alloc, minified)?;
+    for at in 0..sorted.len() {
+        let (Some(inner), Some(pretty), Some(minified)) = (
+            sorted.get(at),
+            pretty.get(at),
+            minified.get(at),
+        ) else {
+            return Ok(false);
+        };
+        if !is_printed(alloc, steps, [outer, *inner], place, [*pretty, *minified])? {
+            return Ok(false);
         }
     }
-    Ok(pretty.next().is_none() && minified.next().is_none())
+    Ok(pretty.len() == sorted.len() && minified.len() == sorted.len())
 }
