@@ -314,8 +314,7 @@ impl<W: WriteJs, S: SourceMapper, C: Comments> Emitter<'_, W, S, C> {
     {
         self.punct(Punctuator::Colon)?;
         self.space_if(single)?;
-        self.case_children(single, node)?;
-        Ok(())
+        self.case_children(single, node)
     }
 
     /// Writes the colon and the statements of a case.
