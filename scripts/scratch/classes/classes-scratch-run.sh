@@ -1,0 +1,1 @@
+cd /tmp/classes-scratch; ./$1.sh ${@:2} > /tmp/classes-mk.log 2>&1; grep -n "error" -A6 /tmp/classes-$1.log | grep -v "statements thiserror\|statements ucd\|statements unic\|statements bitf\|statements core\|statements io\|statements libc\|modules loaded" | cut -c1-420 > /tmp/classes-$1.err
