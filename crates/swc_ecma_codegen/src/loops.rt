@@ -314,7 +314,8 @@ impl<W: WriteJs, S: SourceMapper, C: Comments> Emitter<'_, W, S, C> {
     {
         self.punct(Punctuator::Colon)?;
         self.space_if(single)?;
-        self.case_children(single, node)
+        self.case_children(single, node)?;
+        Ok(())
     }
 
     /// Writes the colon and the statements of a case.
