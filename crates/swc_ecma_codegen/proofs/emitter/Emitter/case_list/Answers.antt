@@ -15,7 +15,7 @@ returns-in_err-case_children-clause-items g c =
     let e : Refusal = c.in_err-case_children.field-0.0 in
     let all = λ (rest : Plan).
     c.in_ok-punct.ensures.items (space_if c.args.single (case_body c.args.single c.args.node.now.span cs rest)) b (Err e)
-        (c.in_ok-space_if.ensures.items (case_body c.args.single c.args.node.now.span cs rest) b (Err e) (c.in_err-case_children.ensures.items rest)) in
+    (c.in_ok-space_if.ensures.items (case_body c.args.single c.args.node.now.span cs rest) b (Err e) (c.in_err-case_children.ensures.items rest)) in
     let same : c.from_residual-in_err-case_children.result ≡ Err e = search rules in
     let Q : Result (Unit {0}) Refusal → Type 0 = λ z. Emits (case_list c.args.single c.args.node.now.span cs) a b z in
     subst Q (sym same) all
