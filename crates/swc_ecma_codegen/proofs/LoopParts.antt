@@ -70,7 +70,7 @@ undelimited true = record { no_comma = refl; no_bar = refl; no_ampersand = refl 
 undelimited false = record { no_comma = refl; no_bar = refl; no_ampersand = refl }
 
 case_list_prints : {X : Type 0} (l : Linked X) (single : Bool) (span : Span) (ns : List (StmtBox X)) → Prints l.env (words.case_list single span (words.case_children l.asks l.items ns)) (mark (codes ":") > phrases.in_order (map (lists.stmt_at l.reads) ns))
-unfolding words.case_list
+unfolding words.case_list words.case_body
 case_list_prints l single span ns = prints_last (codes ":")
     (prints_bracketed_in_order l.env (codes ":") marks.colon (space_if single) (writes_space_if l.env single) (case_format single) span (λ s. (l.asks s.node.value).place) (λ s. l.items s.node.value Plain) (lists.stmt_at l.reads) phrases.Nothing (λ rest. rest)
     (stmt_at l) (undelimited single) prints_nothing ns)

@@ -163,9 +163,13 @@ unfoldable pub is_single : {X : Type 0} → (X → Answers) → Lines → Span �
 is_single asks lines span (n ∷ []) = not (leading_line lines lines_format span (asks n.node.value).place)
 is_single asks lines span ns = false
 
+-- the statements of a case
+unfoldable pub case_body : Bool → Span → List ListChild → Part
+case_body single span cs = list (case_format single) span cs
+
 -- the colon and the statements, on the same line where there is a single one
 unfoldable pub case_list : Bool → Span → List ListChild → Part
-case_list single span cs rest = punct (codes ":") (space_if single (list (case_format single) span cs rest))
+case_list single span cs rest = punct (codes ":") (space_if single (case_body single span cs rest))
 
 -- the statements, as children of a list
 abbrev pub case_children : {X : Type 0} → (X → Answers) → (X → Place → Part) → List (StmtBox X) → List ListChild

@@ -7,7 +7,7 @@ ghost use Rattle.swc_ecma_codegen_base.specs.Choices.{loop_ending};
 ghost use Rattle.swc_ecma_codegen_base.specs.Lists.{list};
 ghost use Rattle.swc_ecma_codegen_base.specs.Run.{Emits};
 ghost use Rattle.swc_ecma_codegen_base.specs.Starts.{begins_letter};
-ghost use Rattle.swc_ecma_codegen.specs.Stmts.{cases_format, lines_format, case_format, case_test, is_single, case_list, case_children, case_stmts, switch_case, cases, switch_cases, switch_stmt, while_stmt, loop_test, do_while_stmt, var_decl_or_expr, for_init, for_value, for_clause, for_control, for_stmt, for_head, for_right, for_each, for_in_stmt, for_await, for_of_stmt};
+ghost use Rattle.swc_ecma_codegen.specs.Stmts.{case_body, cases_format, lines_format, case_format, case_test, is_single, case_list, case_children, case_stmts, switch_case, cases, switch_cases, switch_stmt, while_stmt, loop_test, do_while_stmt, var_decl_or_expr, for_init, for_value, for_clause, for_control, for_stmt, for_head, for_right, for_each, for_in_stmt, for_await, for_of_stmt};
 ghost use Rattle.swc_ecma_codegen.specs.View.{state_of};
 
 use crate::emitter::Emitter;
@@ -300,7 +300,7 @@ impl<W: WriteJs, S: SourceMapper, C: Comments> Emitter<'_, W, S, C> {
 
     /// Writes the statements of a case.
     fn case_children<N: Held>(&mut self, single: bool, node: &SwitchCase<N>) -> Answer
-        ensures items { Emits (list (case_format single) node.now.span (case_children N.answers N.items node.now.cons.items)) (state_of S.lines W.sheet self.old) (state_of S.lines W.sheet self.new) result }
+        ensures items { Emits (case_body single node.now.span (case_children N.answers N.items node.now.cons.items)) (state_of S.lines W.sheet self.old) (state_of S.lines W.sheet self.new) result }
         ensures level { OnOk result ((W.sheet self.new.wr).indentation ≡ (W.sheet self.old.wr).indentation) }
     {
         self.list(case_format(single), node.span, &node.cons)

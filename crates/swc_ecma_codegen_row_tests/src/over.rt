@@ -2,7 +2,7 @@
 
 use crate::looks::printed_over;
 use crate::reading::{Manner, reads_as};
-use crate::sources::{Source, source};
+use crate::sources::{Source, source_of};
 use crate::steps::Tree;
 use std::alloc::{AllocError, Global};
 
@@ -40,7 +40,7 @@ pub fn has_texts_over(
     tree: &Tree,
     texts: [&str; 2],
 ) -> Result<bool, AllocError> {
-    is_printed(alloc, &source(alloc, lines, None)?, tree, false, texts)
+    is_printed(alloc, &source_of(alloc, lines, None)?, tree, false, texts)
 }
 
 /// Of what the texts of spans are made.
@@ -79,7 +79,7 @@ pub fn has_commas(
         };
         let comma = mark == '1';
         let texts = if comma { with } else { without };
-        let source = source(alloc, "same", Some(snippet))?;
+        let source = source_of(alloc, "same", Some(snippet))?;
         if !is_printed(alloc, &source, tree, comma, texts)? {
             return Ok(false);
         }

@@ -43,7 +43,7 @@ impl SourceMapper for Source {
 }
 
 /// A source text by the names of its answers: `same` line, lines `apart`, or one line where the first position is `even`.
-pub fn source(alloc: Global, lines: &str, snippet: Option<&str>) -> Result<Source, AllocError> {
+pub fn source_of(alloc: Global, lines: &str, snippet: Option<&str>) -> Result<Source, AllocError> {
     let snippet = match snippet {
         Some(text) => Some(String::from_str(alloc, text)?),
         None => None,

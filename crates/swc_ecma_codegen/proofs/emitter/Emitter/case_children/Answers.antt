@@ -4,10 +4,11 @@ use Rattle.swc_ecma_codegen_base.specs.Run.{State, Emits}
 use Rattle.swc_ecma_codegen_base.specs.Lists.{list}
 use Rattle.swc_ecma_codegen.specs.View.{state_of}
 use Rattle.swc_ecma_codegen.specs.Lists.{child_of}
-use Rattle.swc_ecma_codegen.specs.Stmts.{case_format}
+use Rattle.swc_ecma_codegen.specs.Stmts.{case_body, case_format}
 use Rattle.swc_ecma_codegen.proofs.emitter.Emitter.case_children.Goals as goal
 
 pub returns-clause-items : goal.returns-clause-items
+unfolding case_body
 returns-clause-items g c =
     let a : State = state_of g.S.SourceMapper.lines g.W.WriteJs.sheet c.args.self.now in
     let b : State = state_of g.S.SourceMapper.lines g.W.WriteJs.sheet c.list.new.self in
