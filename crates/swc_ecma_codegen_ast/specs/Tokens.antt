@@ -117,6 +117,10 @@ word spelling = record { kind = Word; value = Characters spelling }
 unfoldable pub name : List ℕ → Token
 name characters = record { kind = Name; value = Characters characters }
 
+-- `#a`, by the characters after `#`
+unfoldable pub private_name : List ℕ → Token
+private_name characters = record { kind = PrivateName; value = Characters characters }
+
 unfoldable pub punctuator : List ℕ → Token
 punctuator spelling = record { kind = Punctuator; value = Characters spelling }
 

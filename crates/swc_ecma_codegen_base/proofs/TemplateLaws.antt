@@ -44,7 +44,7 @@ after_part false part t k = refl
 -- ---- pieces of a token
 
 -- Some steps add a text to one that was added to a sheet where no semicolon is held back; the last token stays.
-record Inside (env : Env) (part : Part) (t : List ℕ) (tagged : Bool) : Type 0 where
+pub record Inside (env : Env) (part : Part) (t : List ℕ) (tagged : Bool) : Type 0 where
   pub steps : List Step
   pub is_steps : (rest : Plan) → part rest env ≡ chain steps (rest env)
   pub adds : (u : List ℕ) (a : Sheet) (s : State) → holds_one a.semicolons ≡ false → Adds u a s.sheet → Adds (u ++ t) a (run steps s).sheet
@@ -121,7 +121,7 @@ inside_if : {env : Env} (b : Bool) {p q : Part} {t : List ℕ} {tagged : Bool} �
 inside_if true h k = h
 inside_if false h k = k
 
-position_inside : (env : Env) (pos : BytePos) (tagged : Bool) → Inside env (position pos) [] tagged
+pub position_inside : (env : Env) (pos : BytePos) (tagged : Bool) → Inside env (position pos) [] tagged
 unfolding position
 position_inside env pos tagged = inside_if (pos.0 == 0) (nothing_inside env tagged) (recorded_inside env pos tagged)
 

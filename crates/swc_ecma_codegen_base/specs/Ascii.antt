@@ -3,7 +3,7 @@ use Rattle.std.specs.Prelude.{◌≡◌, ℕ, Bool, true, false, not, ◌&&◌, 
 use Rattle.std.specs.Str.{chars}
 use Rattle.swc_ecma_codegen_ast.specs.declared.kinds.Kind.{Kind}
 use Rattle.swc_ecma_codegen_ast.specs.declared.kinds.Kind.TheVariants as kinds
-use Rattle.swc_ecma_codegen_ast.specs.Phrases.{Phrase, Never, Nothing, One, NameOf, KeyOf, Then, OptionalComma, OptionalParentheses, Chosen}
+use Rattle.swc_ecma_codegen_ast.specs.Phrases.{Phrase, Never, Nothing, One, NameOf, KeyOf, PrivateOf, Then, OptionalComma, OptionalParentheses, Chosen}
 use Rattle.swc_ecma_codegen_ast.specs.StringValues.{string_value}
 use Rattle.swc_ecma_codegen_ast.specs.Texts.{is_same}
 use Rattle.swc_ecma_codegen_ast.specs.Tokens as lexical
@@ -87,6 +87,7 @@ may_keep_other Nothing = false
 may_keep_other (One x) = is_other_value x.kind x.value
 may_keep_other (NameOf at bytes) = false
 may_keep_other (KeyOf at bytes) = false
+may_keep_other (PrivateOf bytes) = false
 may_keep_other (Then a b) = may_keep_other a || may_keep_other b
 may_keep_other OptionalComma = false
 may_keep_other (OptionalParentheses a) = may_keep_other a

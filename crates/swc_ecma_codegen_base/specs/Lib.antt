@@ -7,6 +7,7 @@ pub mod Keys
 pub mod Literals
 pub mod Lits
 pub mod Templates
+pub mod PrivateNames
 pub mod Lists
 pub mod Last
 pub mod View

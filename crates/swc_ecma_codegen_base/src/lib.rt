@@ -16,6 +16,7 @@ mod literals;
 mod lits;
 mod names;
 mod numbers;
+mod private_names;
 mod raws;
 mod refusals;
 mod starts;
