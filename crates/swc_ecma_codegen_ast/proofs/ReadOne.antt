@@ -3,6 +3,7 @@ use Rattle.std.proofs.Common.{Bool, List, [], ap, append_assoc, ap₂, arith, co
 use Rattle.std.proofs.Math.Seq.{drop-append-add, drop-append_seam, take-append-add, take-append_seam, take-length}
 use Rattle.std.proofs.lemmas.Bool.{and_from, and_parts, cases_lt, false_from_ne_true, lt-ltb, ltb-true, not-true, or_cases, or_from, or_left, or_parts, or_right, true≢false}
 use Rattle.std.proofs.lemmas.List.{length-append, length-drop, length-take-le, take-append-drop}
+use Rattle.swc_ecma_codegen_ast.proofs.Conditions.{same_line_unspelled}
 use Rattle.swc_ecma_codegen_ast.proofs.Heads.{some_text}
 use Rattle.swc_ecma_codegen_ast.proofs.Marks.{ending_punctuator, opener_cases}
 use Rattle.swc_ecma_codegen_ast.proofs.Reading.{no_trivia}
@@ -15,10 +16,10 @@ use Rattle.swc_ecma_codegen_ast.specs.Reading.{ReadsOne, Starts, fits, is_jsx_te
 use Rattle.swc_ecma_codegen_ast.specs.Reads.{is_close_by, is_hashbang_kind}
 use Rattle.swc_ecma_codegen_ast.specs.Skipping.{Skips}
 use Rattle.swc_ecma_codegen_ast.specs.Texts.{begins, is_among, is_same}
-use Rattle.swc_ecma_codegen_ast.specs.Tokens.{Attribute, Child, Closing, FirstLine, Goal, InTag, Ordinary, RegularExpression, TemplateTail, Token, goal, has_shape, token_of}
+use Rattle.swc_ecma_codegen_ast.specs.Tokens.{Attribute, Child, Closing, FirstLine, Goal, InTag, Ordinary, RegularExpression, TemplateTail, Token, goal, has_shape, token_of, NoToken}
 use Rattle.swc_ecma_codegen_ast.specs.Trivia.{pieces_text, remarks_of}
 use Rattle.swc_ecma_codegen_ast.specs.declared.kinds.Kind.{Kind}
-use Rattle.swc_ecma_codegen_ast.specs.declared.kinds.Kind.TheVariants.{BigInt, Close, Ending, Hashbang, JsxName, JsxOpen, JsxString, JsxText, Name, Number, PrivateName, Punctuator, Regex, Str, Template, TemplateRest, Word}
+use Rattle.swc_ecma_codegen_ast.specs.declared.kinds.Kind.TheVariants.{BigInt, Close, Ending, Hashbang, JsxName, JsxOpen, JsxString, JsxText, Name, Number, PrivateName, Punctuator, Regex, Str, Template, TemplateRest, Word, SameLine}
 use Rattle.swc_ecma_codegen_ast.specs.declared.kinds.TemplatePart.{TemplatePart}
 
 part_of : (holds : TemplatePart → Bool) (t o : Bool) → holds (record { tagged = t; opens = o }) ≡ true → some_part holds ≡ true
@@ -63,6 +64,7 @@ some_shape_of JsxName t h = h
 some_shape_of JsxString t h = h
 some_shape_of JsxText t h = h
 some_shape_of Hashbang t h = h
+some_shape_of SameLine t h = absurd (same_line_unspelled t h)
 
 -- a token of a goal is one of some kind
 pub data IsOfKind (g : Goal) (t : List ℕ) : Type 0 where
@@ -77,6 +79,7 @@ some_kind Closing t h = of_kind Close refl h
 some_kind InTag t h = of_kind JsxName refl h
 some_kind Attribute t h = of_kind JsxString refl h
 some_kind Child t h = of_kind JsxText refl h
+some_kind NoToken t h = absurd (true≢false (sym h))
 some_kind Ordinary t h =
     elim (or_cases (has_shape Word t) _ h) [
       | inl x ↦ of_kind Word refl x
@@ -229,6 +232,7 @@ text_kind JsxName g = refl
 text_kind JsxString g = refl
 text_kind JsxOpen g = refl
 text_kind Hashbang g = refl
+text_kind SameLine g = refl
 
 no_text_goal : (kind : Kind) → is_jsx_text_kind kind ≡ false → goal kind ≡ Child → ⊥
 unfolding goal is_jsx_text_kind

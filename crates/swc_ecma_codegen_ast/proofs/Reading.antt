@@ -1,7 +1,7 @@
 -- A text in which no two tokens become one reads as its tokens.
 use Rattle.std.proofs.Common.{Bool, List, [], ap, append_assoc, codes, cond, false, inl, inr, not, refl, subst, sym, true, ℕ, ◌&&◌, ◌++◌, ◌==◌, ◌||◌, ◌∙◌, ◌∷◌, ◌≡◌}
-use Rattle.std.proofs.lemmas.Bool.{and_from, and_left, and_parts, and_right, eqb-true, false_from_ne_true, or_cases, or_from, or_parts, or_right, true≢false}
-use Rattle.swc_ecma_codegen_ast.proofs.Conditions.{at_eq}
+use Rattle.std.proofs.lemmas.Bool.{and_from, and_left, and_parts, and_right, eqb-true, false_from_ne_true, or_cases, or_from, or_left, or_parts, or_right, true≢false}
+use Rattle.swc_ecma_codegen_ast.proofs.Conditions.{at_eq, same_line_unspelled}
 use Rattle.swc_ecma_codegen_ast.proofs.Heads.{AsClose, AsMark, AsRegex, AsText, HasHead, Head, Plain, has_head, head_of, is_plain, plain_ne, some_text}
 use Rattle.swc_ecma_codegen_ast.proofs.Longest.{longest}
 use Rattle.swc_ecma_codegen_ast.proofs.MarkMatch.{mark_ready}
@@ -9,18 +9,18 @@ use Rattle.swc_ecma_codegen_ast.proofs.Marks.{grows_says}
 use Rattle.swc_ecma_codegen_ast.proofs.NameShapes.{starts_name}
 use Rattle.swc_ecma_codegen_ast.proofs.RegexShapes.{regex_head}
 use Rattle.swc_ecma_codegen_ast.proofs.Tables.{blank_ne}
-use Rattle.swc_ecma_codegen_ast.specs.Chars.{begins_digit, is_blank, is_digit, is_letter, is_part, is_quote, is_start}
+use Rattle.swc_ecma_codegen_ast.specs.Chars.{begins_digit, is_blank, is_digit, is_letter, is_part, is_quote, is_start, is_one_line, is_line_end}
 use Rattle.swc_ecma_codegen_ast.specs.GapRules.{Apart, IntegerEnd, Last, LessBang, LineEnd, Mark, MayBegin, Ready, Start, TagNameEnd, TextEnd, Whole, WordEnd, allows, ends_line, ends_text, fuses, grows, holds_child, is_choice, last_after, last_after_gap, mark_after, mark_fuses}
 use Rattle.swc_ecma_codegen_ast.specs.Numbers.{takes_dot}
-use Rattle.swc_ecma_codegen_ast.specs.Parts.{Gap, NoneFuse, Own, Part, remarks_in, text_of, tokens_of}
+use Rattle.swc_ecma_codegen_ast.specs.Parts.{Gap, NoneFuse, Own, Part, remarks_in, text_of, tokens_of, Joint, OfLine, OnLine, PastLine, AtJoint, Broken, walk, over_own, over_gap, over_joint, is_broken, KeepsLines}
 use Rattle.swc_ecma_codegen_ast.specs.Punctuators.{punctuators}
-use Rattle.swc_ecma_codegen_ast.specs.Reads.{Reads, ReadsOn, is_child, is_close_by, is_hashbang_kind}
+use Rattle.swc_ecma_codegen_ast.specs.Reads.{Reads, ReadsOn, is_child, is_close_by, is_hashbang_kind, is_same_line}
 use Rattle.swc_ecma_codegen_ast.specs.RegularExpressions.{is_regex}
 use Rattle.swc_ecma_codegen_ast.specs.Texts.{begins, is_among, is_same, some_begins}
-use Rattle.swc_ecma_codegen_ast.specs.Tokens.{Token, has_shape, token_of}
+use Rattle.swc_ecma_codegen_ast.specs.Tokens.{Token, has_shape, token_of, same_line}
 use Rattle.swc_ecma_codegen_ast.specs.Trivia.{Blank, Block, BlockOf, Line, LineOf, Piece, Remark, Trivia, all_pieces, is_piece, piece_text, pieces_text, remarks_of}
 use Rattle.swc_ecma_codegen_ast.specs.declared.kinds.Kind.{Kind}
-use Rattle.swc_ecma_codegen_ast.specs.declared.kinds.Kind.TheVariants.{BigInt, Close, Ending, Hashbang, JsxName, JsxOpen, JsxString, JsxText, Name, Number, PrivateName, Punctuator, Regex, Str, Template, TemplateRest, Word}
+use Rattle.swc_ecma_codegen_ast.specs.declared.kinds.Kind.TheVariants.{BigInt, Close, Ending, Hashbang, JsxName, JsxOpen, JsxString, JsxText, Name, Number, PrivateName, Punctuator, Regex, Str, Template, TemplateRest, Word, SameLine}
 
 -- trivia
 pub no_trivia : Trivia [] []
@@ -52,19 +52,35 @@ more_trivia ps text cs h t = record {
   are_remarks = ap (λ z. remarks_of ps ++ z) t.are_remarks ∙ sym (remarks_append ps t.pieces);
 }
 
+pub one_line_append : (a b : List ℕ) → is_one_line a ≡ true → is_one_line b ≡ true → is_one_line (a ++ b) ≡ true
+unfolding is_one_line
+one_line_append [] b h k = k
+one_line_append (c ∷ cs) b h k = let p = and_parts (not (is_line_end c)) (is_one_line cs) h in and_from (not (is_line_end c)) (is_one_line (cs ++ b)) p.0 (one_line_append cs b p.1 k)
+
 -- neither a child of JSX nor a hashbang comes first
 unfoldable pub NoneCloseBy : List Token → Type 0
 NoneCloseBy [] = Unit {0}
-NoneCloseBy (x ∷ xs) = is_close_by x.kind ≡ true → ⊥
+NoneCloseBy (x ∷ xs) = (is_close_by x.kind ≡ true → ⊥) × (x ≡ same_line → NoneCloseBy xs)
 
 hashbang_close_by : (x : Kind) → is_hashbang_kind x ≡ true → is_close_by x ≡ true
 unfolding is_close_by
 hashbang_close_by x h = or_right (is_child x) (is_hashbang_kind x) h
 
-reads_gap : (first f : Bool) (ps : List Piece) (text : List ℕ) (xs : List Token) (cs : List Remark) → all_pieces ps ≡ true → NoneCloseBy xs → ReadsOn f text xs cs → ReadsOn first (pieces_text ps ++ text) xs (remarks_of ps ++ cs)
+-- `[no LineTerminator here]` comes first
+unfoldable leads_same : List Token → Bool
+leads_same [] = false
+leads_same (x ∷ xs) = is_same_line x.kind
+
+same_leads : (x : Token) (xs : List Token) → x ≡ same_line → leads_same (x ∷ xs) ≡ true
+unfolding leads_same is_same_line same_line
+same_leads x xs e = ap (λ z. is_same_line z.kind) e
+
+reads_gap : (first joined f : Bool) (ps : List Piece) (text : List ℕ) (xs : List Token) (cs : List Remark) → all_pieces ps ≡ true → NoneCloseBy xs → ((joined || leads_same xs) ≡ true → is_one_line (pieces_text ps) ≡ true) → ReadsOn f joined text xs cs
+    → ReadsOn first joined (pieces_text ps ++ text) xs (remarks_of ps ++ cs)
 unfolding ReadsOn NoneCloseBy
-reads_gap first f ps text [] cs h n r = more_trivia ps text cs h r
-reads_gap first f ps text (x ∷ xs) cs h n r = (
+reads_gap first joined f ps text [] cs h n o r = more_trivia ps text cs h r
+reads_gap first joined f ps text (x ∷ xs) cs h n o (inl r) = inl (r.0, reads_gap first true f ps text xs cs h (n.1 r.0) (λ e. o (or_right joined _ (same_leads x xs r.0))) r.1)
+reads_gap first joined f ps text (x ∷ xs) cs h n o (inr r) = inr (
   pieces_text ps ++ r.0,
   r.1,
   r.2,
@@ -72,11 +88,12 @@ reads_gap first f ps text (x ∷ xs) cs h n r = (
   r.4,
   ap (λ z. pieces_text ps ++ z) r.5 ∙ sym (append_assoc (pieces_text ps) r.0 (r.1 ++ r.2)),
   more_trivia ps r.0 r.3 h r.6,
-  (λ e. absurd (n e)),
-  (λ e. absurd (n (hashbang_close_by x.kind e))),
-  r.9,
+  (λ e. absurd (n.0 e)),
+  (λ e. absurd (n.0 (hashbang_close_by x.kind e))),
+  (λ e. one_line_append (pieces_text ps) r.0 (o (or_left joined _ e)) (r.9 e)),
   r.10,
-  ap (λ z. remarks_of ps ++ z) r.11 ∙ sym (append_assoc (remarks_of ps) r.3 r.4),
+  r.11,
+  ap (λ z. remarks_of ps ++ z) r.12 ∙ sym (append_assoc (remarks_of ps) r.3 r.4),
 )
 
 apart_stays : (ps : List Piece) → last_after_gap Apart ps ≡ Apart
@@ -95,11 +112,20 @@ none_apart x b e =
       | inr h ↦ apart_is_no_start (b.first h)
     ]
 
+joint_apart : is_close_by same_line.kind ≡ true → ⊥
+unfolding is_close_by is_child is_hashbang_kind same_line
+joint_apart e = true≢false (sym e)
+
+kind_same : (x : Token) → x ≡ same_line → x.kind ≡ SameLine
+unfolding same_line
+kind_same x e = ap (λ (z : Token). z.kind) e
+
 none_close_by : (xs : List Part) → NoneFuse Apart xs → NoneCloseBy (tokens_of xs)
 unfolding NoneCloseBy tokens_of NoneFuse token_of
 none_close_by [] h = tt
+none_close_by (Joint ∷ xs) h = (joint_apart, λ e. none_close_by xs h)
 none_close_by (Gap ps ∷ xs) h = none_close_by xs (subst (λ k. NoneFuse k xs) (apart_stays ps) h.3)
-none_close_by (Own x t ∷ xs) h = none_apart x h.2
+none_close_by (Own x t ∷ xs) h = (none_apart x h.2, λ e. absurd (same_line_unspelled t (subst (λ (z : Kind). has_shape z t ≡ true) (kind_same (token_of x t) e) h.0)))
 
 no_growth : (t : List ℕ) (c : ℕ) → is_blank c ≡ true → grows t c ≡ false
 unfolding grows
@@ -300,13 +326,17 @@ after_gap : (k : Last) (p : Piece) (ps : List Piece) (xs : List Part) → NoneFu
 unfolding last_after_gap
 after_gap k p ps xs h = h
 
+no_line : (w : OfLine) (xs : List Part) → is_broken (walk w (Gap [] ∷ xs)) ≡ false → is_broken (walk w xs) ≡ false
+unfolding walk over_gap is_one_line pieces_text
+no_line w xs h = h
+
 ready_past : (k : Last) (t : List ℕ) → Ready k t → Ready k (pieces_text [] ++ t)
 unfolding pieces_text
 ready_past k t h = h
 
-reads_past : (f : Bool) (t : List ℕ) (xs : List Token) (cs : List Remark) → ReadsOn f t xs cs → ReadsOn f (pieces_text [] ++ t) xs (remarks_of [] ++ cs)
+reads_past : (f j : Bool) (t : List ℕ) (xs : List Token) (cs : List Remark) → ReadsOn f j t xs cs → ReadsOn f j (pieces_text [] ++ t) xs (remarks_of [] ++ cs)
 unfolding pieces_text remarks_of
-reads_past f t xs cs h = h
+reads_past f j t xs cs h = h
 
 piece_first : (p : Piece) (ps : List Piece) → all_pieces (p ∷ ps) ≡ true → is_piece p ≡ true
 unfolding all_pieces
@@ -318,6 +348,7 @@ unfolding NoneFuse text_of
 ready k [] h = record { apart = nothing_fuses k; no_html = λ e. nothing_begins 33 (codes "--"); allowed = h }
 ready k (Gap [] ∷ xs) h = ready_past k (text_of xs) (ready k xs (no_gap k xs h.3))
 ready k (Gap (p ∷ ps) ∷ xs) h = gap_ready_at k (pieces_text (p ∷ ps)) (text_of xs) (gap_begins p ps (piece_first p ps h.0)) h.1 h.2
+ready k (Joint ∷ xs) h = ready k xs h
 ready k (Own x t ∷ xs) h = own_ready k x t (text_of xs) h.0 h.1 h.2 h.3 (ready (last_after k x t) xs h.4)
 
 -- nothing was written yet
@@ -366,19 +397,90 @@ no_start k JsxName t = refl
 no_start k JsxString t = refl
 no_start k JsxText t = refl
 no_start k Hashbang t = refl
+no_start k SameLine t = refl
 
 first_start : (k : Last) → k ≡ Start → is_start_of k ≡ true
 unfolding is_start_of
 first_start k e = subst (λ z. is_start_of z ≡ true) (sym e) refl
 
--- a text in which no two tokens become one reads as its tokens
-pub reads_on : (k : Last) (xs : List Part) → NoneFuse k xs → ReadsOn (is_start_of k) (text_of xs) (tokens_of xs) (remarks_in xs)
-unfolding ReadsOn NoneFuse text_of tokens_of remarks_in token_of
-reads_on k [] h = no_trivia
-reads_on k (Gap [] ∷ xs) h = reads_past (is_start_of k) (text_of xs) (tokens_of xs) (remarks_in xs) (reads_on k xs (no_gap k xs h.3))
-reads_on k (Gap (p ∷ ps) ∷ xs) h = let n = after_gap k p ps xs h.3 in reads_gap (is_start_of k) (is_start_of Apart) (p ∷ ps) (text_of xs) (tokens_of xs) (remarks_in xs) h.0 (none_close_by xs n) (reads_on Apart xs n)
-reads_on k (Own x t ∷ xs) h =
-    let next = last_after k x t in (
+-- `[no LineTerminator here]` stands right before
+unfoldable pub is_joint : OfLine → Bool
+is_joint AtJoint = true
+is_joint w = false
+
+pub broken_stays : (xs : List Part) → is_broken (walk Broken xs) ≡ true
+unfolding walk is_broken over_gap over_own over_joint
+broken_stays [] = refl
+broken_stays (Gap ps ∷ xs) = one (is_one_line (pieces_text ps))
+  where
+    one : (o : Bool) → is_broken (walk (over_gap o Broken) xs) ≡ true
+    one true = broken_stays xs
+    one false = broken_stays xs
+broken_stays (Own x t ∷ xs) = broken_stays xs
+broken_stays (Joint ∷ xs) = broken_stays xs
+
+gap_joint : (o : Bool) (w : OfLine) (xs : List Part) → is_broken (walk (over_gap o w) xs) ≡ false → is_joint (over_gap o w) ≡ is_joint w
+unfolding is_joint over_gap
+gap_joint true w xs h = refl
+gap_joint false OnLine xs h = refl
+gap_joint false PastLine xs h = refl
+gap_joint false AtJoint xs h = absurd (true≢false (sym (broken_stays xs) ∙ h))
+gap_joint false Broken xs h = refl
+
+own_joint : (w : OfLine) → is_joint (over_own w) ≡ false
+unfolding is_joint over_own
+own_joint OnLine = refl
+own_joint PastLine = refl
+own_joint AtJoint = refl
+own_joint Broken = refl
+
+joint_joint : (w : OfLine) (xs : List Part) → is_broken (walk (over_joint w) xs) ≡ false → is_joint (over_joint w) ≡ true
+unfolding is_joint over_joint
+joint_joint OnLine xs h = refl
+joint_joint AtJoint xs h = refl
+joint_joint PastLine xs h = absurd (true≢false (sym (broken_stays xs) ∙ h))
+joint_joint Broken xs h = absurd (true≢false (sym (broken_stays xs) ∙ h))
+
+past_gap : (o : Bool) → over_gap o PastLine ≡ PastLine
+unfolding over_gap
+past_gap true = refl
+past_gap false = refl
+
+-- past the end of a line nothing is joined
+past_leads : (k : Last) (xs : List Part) → NoneFuse k xs → leads_same (tokens_of xs) ≡ true → is_broken (walk PastLine xs) ≡ true
+unfolding NoneFuse leads_same tokens_of walk over_joint token_of
+past_leads k [] h l = absurd (true≢false (sym l))
+past_leads k (Gap ps ∷ xs) h l = subst (λ w. is_broken (walk w xs) ≡ true) (sym (past_gap (is_one_line (pieces_text ps)))) (past_leads (last_after_gap k ps) xs h.3 l)
+past_leads k (Own x t ∷ xs) h l = absurd (own_leads x t l h.0)
+  where
+    own_leads : (x : Kind) (t : List ℕ) → is_same_line x ≡ true → has_shape x t ≡ true → ⊥
+    unfolding is_same_line
+    own_leads SameLine t l s = same_line_unspelled t s
+    own_leads x t l s = true≢false (sym l)
+past_leads k (Joint ∷ xs) h l = broken_stays xs
+
+-- so a gap before what is joined holds no line terminator
+one_line_due : (o : Bool) (w : OfLine) (k : Last) (xs : List Part) → NoneFuse k xs → is_broken (walk (over_gap o w) xs) ≡ false → (is_joint w || leads_same (tokens_of xs)) ≡ true → o ≡ true
+unfolding is_joint over_gap
+one_line_due true w k xs n h l = refl
+one_line_due false OnLine k xs n h l = absurd (true≢false (sym (past_leads k xs n l) ∙ h))
+one_line_due false PastLine k xs n h l = absurd (true≢false (sym (past_leads k xs n l) ∙ h))
+one_line_due false AtJoint k xs n h l = absurd (true≢false (sym (broken_stays xs) ∙ h))
+one_line_due false Broken k xs n h l = absurd (true≢false (sym (broken_stays xs) ∙ h))
+
+-- a text in which no two tokens become one, and no line ends where none may, reads as its tokens
+pub reads_on : (k : Last) (w : OfLine) (xs : List Part) → NoneFuse k xs → is_broken (walk w xs) ≡ false → ReadsOn (is_start_of k) (is_joint w) (text_of xs) (tokens_of xs) (remarks_in xs)
+unfolding ReadsOn NoneFuse text_of tokens_of remarks_in token_of walk over_gap is_one_line
+reads_on k w [] h b = no_trivia
+reads_on k w (Gap [] ∷ xs) h b = reads_past (is_start_of k) (is_joint w) (text_of xs) (tokens_of xs) (remarks_in xs) (reads_on k w xs (no_gap k xs h.3) (no_line w xs b))
+reads_on k w (Gap (p ∷ ps) ∷ xs) h b =
+    let n = after_gap k p ps xs h.3 in
+    let o : Bool = is_one_line (pieces_text (p ∷ ps)) in
+    reads_gap (is_start_of k) (is_joint w) (is_start_of Apart) (p ∷ ps) (text_of xs) (tokens_of xs) (remarks_in xs) h.0 (none_close_by xs n) (one_line_due o w Apart xs n b)
+    (subst (λ j. ReadsOn (is_start_of Apart) j (text_of xs) (tokens_of xs) (remarks_in xs)) (gap_joint o w xs b) (reads_on Apart (over_gap o w) xs n b))
+reads_on k w (Joint ∷ xs) h b = inl (refl, subst (λ j. ReadsOn (is_start_of k) j (text_of xs) (tokens_of xs) (remarks_in xs)) (joint_joint w xs b) (reads_on k (over_joint w) xs h b))
+reads_on k w (Own x t ∷ xs) h b =
+    let next = last_after k x t in inr (
       [],
       t,
       text_of xs,
@@ -388,11 +490,12 @@ reads_on k (Own x t ∷ xs) h =
       no_trivia,
       (λ e. refl),
       (λ e. first_start k (h.2.first e)),
+      (λ e. refl),
       longest k x t (text_of xs) h.0 (ready next xs h.4),
-      subst (λ f. ReadsOn f (text_of xs) (tokens_of xs) (remarks_in xs)) (no_start k x t) (reads_on next xs h.4),
+      subst (λ f. ReadsOn f false (text_of xs) (tokens_of xs) (remarks_in xs)) (no_start k x t) (subst (λ j. ReadsOn (is_start_of next) j (text_of xs) (tokens_of xs) (remarks_in xs)) (own_joint w) (reads_on next (over_own w) xs h.4 b)),
       refl,
     )
 
-pub reads : (xs : List Part) → NoneFuse Start xs → Reads (text_of xs) (tokens_of xs) (remarks_in xs)
-unfolding Reads is_start_of
-reads xs h = reads_on Start xs h
+pub reads : (xs : List Part) → NoneFuse Start xs → KeepsLines xs → Reads (text_of xs) (tokens_of xs) (remarks_in xs)
+unfolding Reads is_start_of is_joint
+reads xs h b = reads_on Start OnLine xs h b

@@ -2,9 +2,9 @@
 use Rattle.std.specs.Prelude.{◌≡◌, ℕ, Bool, true, false, not, List, [], ◌∷◌, ◌++◌, ◌&&◌, ◌||◌, codes, take, drop, nat_lt, length}
 use Rattle.swc_ecma_codegen_ast.specs.declared.kinds.Kind.{Kind}
 use Rattle.swc_ecma_codegen_ast.specs.declared.kinds.TemplatePart.{TemplatePart}
-use Rattle.swc_ecma_codegen_ast.specs.Chars.{begins_digit}
+use Rattle.swc_ecma_codegen_ast.specs.Chars.{begins_digit, is_one_line}
 use Rattle.swc_ecma_codegen_ast.specs.Texts.{is_same, begins}
-use Rattle.swc_ecma_codegen_ast.specs.Tokens.{Token, Goal, Ordinary, RegularExpression, TemplateTail, FirstLine, Closing, InTag, Attribute, Child, has_shape, token_of, goal}
+use Rattle.swc_ecma_codegen_ast.specs.Tokens.{Token, Goal, Ordinary, RegularExpression, TemplateTail, FirstLine, Closing, InTag, Attribute, Child, NoToken, has_shape, token_of, goal}
 use Rattle.swc_ecma_codegen_ast.specs.declared.kinds.Kind.TheVariants.{Word, Name, PrivateName, Punctuator, Number, BigInt, Str, Regex, Template, TemplateRest, Close, JsxName, JsxString, JsxText, JsxOpen, Hashbang}
 use Rattle.swc_ecma_codegen_ast.specs.LongestMatch.{IsLongest, is_numeric_kind, goes_on}
 use Rattle.swc_ecma_codegen_ast.specs.Trivia.{Remark, Trivia}
@@ -28,19 +28,21 @@ some_shape Closing text = has_shape Close text
 some_shape InTag text = has_shape JsxName text
 some_shape Attribute text = has_shape JsxString text
 some_shape Child text = has_shape JsxText text
+some_shape NoToken text = false
 
 -- the first n characters are a token of a goal, where the others follow
 unfoldable pub stands_at : Kind → List ℕ → ℕ → Bool
 stands_at kind text n = some_shape (goal kind) (take n text) && not (is_same (take n text) (codes "?.") && begins_digit (drop n text))
 
--- a text is trivia, a longest token of a kind, and what is left
-pub record ReadsOne (first : Bool) (kind : Kind) (text own rest : List ℕ) : Type 0 where
+-- A text is trivia, a longest token of a kind, and what is left. `joined`: the trivia hold no line terminator.
+pub record ReadsOne (first joined : Bool) (kind : Kind) (text own rest : List ℕ) : Type 0 where
   pub gap : List ℕ
   pub before : List Remark
   pub is_text : text ≡ gap ++ (own ++ rest)
   pub trivia : Trivia gap before
   pub close_by : is_close_by kind ≡ true → gap ≡ []
   pub at_start : is_hashbang_kind kind ≡ true → first ≡ true
+  pub in_line : joined ≡ true → is_one_line gap ≡ true
   pub is_longest : IsLongest (token_of kind own) own rest
 
 -- tokens of given kinds, as they are spelled
