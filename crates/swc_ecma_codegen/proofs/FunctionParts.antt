@@ -139,9 +139,22 @@ pub method_decorators_print : {X : Type 0} (l : Linked X) (n : functions.Functio
 unfolding classes.method_decorators
 method_decorators_print l n = decorators_print l n.decorators.items
 
+method_body_prints : {X : Type 0} (l : Linked X) (body : Option (BlockStmtBox X)) → Prints l.env (words.method_body l.items body) (classes.method_body l.reads body)
+unfolding words.method_body classes.method_body
+method_body_prints l None = prints_punct l.env (codes ";") marks.semicolon
+method_body_prints l (Some n) = after (writes_formatting_space l.env) (block_at l n Plain)
+
+method_trailing_prints : {X : Type 0} (l : Linked X) (n : functions.Function X) → Prints l.env (words.method_tail_parts l.items n) (mark (codes "(") > phrases.listed (codes ",") (map (lists.param l.reads) n.params.items) > mark (codes ")") > classes.method_body l.reads n.body)
+unfolding words.method_tail_parts
+METHODTRAIL
+
 pub method_tail_prints : {X : Type 0} (l : Linked X) (n : functions.Function X) → Prints l.env (words.method_tail l.items n) (classes.method_tail l.reads n)
 unfolding words.method_tail classes.method_tail
-method_tail_prints l n = refused_or (is_some n.type_params || is_some n.return_type) (trailing_prints l n)
+method_tail_prints l n = refused_or (is_some n.type_params || is_some n.return_type) (method_trailing_prints l n)
+
+pub private_tail_prints : {X : Type 0} (l : Linked X) (n : functions.Function X) → Prints l.env (words.private_tail l.items n) (classes.private_tail l.reads n)
+unfolding words.private_tail classes.private_tail
+private_tail_prints l n = refused_or (is_some n.type_params || is_some n.return_type) (trailing_prints l n)
 
 pub name_prints : {X : Type 0} (l : Linked X) (n : Option Ident) → Prints l.env (words.optional_name n) (lists.optional_name n)
 unfolding words.optional_name lists.optional_name names.ident

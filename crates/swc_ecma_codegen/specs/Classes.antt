@@ -1,5 +1,4 @@
--- What is written of classes. Private names aren't printed yet, nor is what TypeScript adds: types and their parameters, modifiers,
--- and index signatures.
+-- What is written of classes. What TypeScript adds isn't printed yet: types and their parameters, modifiers, and index signatures.
 use Rattle.std.specs.Prelude.{ℕ, Bool, true, false, ◌||◌, is_some, if◌then◌else◌, List, map, codes, Option, Some, None}
 use Rattle.swc_ecma_codegen_common.specs.declared.positions.Span.{Span}
 use Rattle.swc_ecma_codegen_tree.specs.declared.expr_links.ExprBox.{ExprBox}
@@ -15,21 +14,23 @@ use Rattle.swc_ecma_codegen_tree.specs.declared.classes.ClassMethod.{ClassMethod
 use Rattle.swc_ecma_codegen_tree.specs.declared.classes.MethodKind.{MethodKind}
 use Rattle.swc_ecma_codegen_tree.specs.declared.classes.MethodKind.TheVariants.{Method, Getter, Setter}
 use Rattle.swc_ecma_codegen_tree.specs.declared.classes.ClassProp.{ClassProp}
+use Rattle.swc_ecma_codegen_tree.specs.declared.classes.PrivateMethod.{PrivateMethod}
+use Rattle.swc_ecma_codegen_tree.specs.declared.classes.PrivateProp.{PrivateProp}
 use Rattle.swc_ecma_codegen_tree.specs.declared.classes.AutoAccessor.{AutoAccessor}
 use Rattle.swc_ecma_codegen_tree.specs.declared.classes.Key.{Key}
 use Rattle.swc_ecma_codegen_tree.specs.declared.classes.Key.TheVariants as keys
 use Rattle.swc_ecma_codegen_tree.specs.declared.classes.StaticBlock.{StaticBlock}
 use Rattle.swc_ecma_codegen_tree.specs.declared.decls.ClassDecl.{ClassDecl}
 use Rattle.swc_ecma_codegen_tree.specs.declared.stmts.EmptyStmt.{EmptyStmt}
-use Rattle.swc_ecma_codegen_ast.specs.ClassPhrases.{is_typed_class, is_typed_prop, is_typed_accessor}
+use Rattle.swc_ecma_codegen_ast.specs.ClassPhrases.{is_typed_class, is_typed_prop, is_typed_private, is_typed_accessor}
 use Rattle.swc_ecma_codegen_base.specs.Run.{Part}
 use Rattle.swc_ecma_codegen_base.specs.Lists.{list}
 use Rattle.swc_ecma_codegen_base.specs.Words.{keyword, punct, semi, space, formatting_space, start_of, end_of, last_of, leading_comments}
 use Rattle.swc_ecma_codegen.specs.declared.nodes.Place.{Place}
-use Rattle.swc_ecma_codegen.specs.declared.nodes.Place.TheVariants.{Plain, Body, ClassHead, MethodHead, StaticHead, MethodDecorators, MethodTail}
+use Rattle.swc_ecma_codegen.specs.declared.nodes.Place.TheVariants.{Plain, ClassHead, MethodHead, StaticHead, MethodDecorators, MethodTail, PrivateTail}
 use Rattle.swc_ecma_codegen.specs.Answers.{Answers}
 use Rattle.swc_ecma_codegen.specs.Functions.{comma_list_format, decorator, decorator_lines, decorators_format, decorator_place, param}
-use Rattle.swc_ecma_codegen.specs.Exprs.{blank, ident}
+use Rattle.swc_ecma_codegen.specs.Exprs.{blank, ident, private_name}
 use Rattle.swc_ecma_codegen.specs.Lists.{child_of, unsupported}
 use Rattle.swc_ecma_codegen.specs.Pats.{initializer}
 
@@ -79,10 +80,10 @@ unfoldable pub constructor_param_place : {X : Type 0} → ParamOrTsParamProp X �
 constructor_param_place (params.Param n) = n.span
 constructor_param_place (params.TsParamProp n) = n.span
 
--- `{ a; }` without a blank, or the semicolon in its place
+-- `{ a; }` without a blank, or the semicolon in its place, which is never left out
 unfoldable pub constructor_body : {X : Type 0} → (X → Place → Part) → Option (BlockStmtBox X) → Part
-constructor_body items None rest = semi rest
-constructor_body items (Some n) rest = items n.node.value Body rest
+constructor_body items None rest = punct (codes ";") rest
+constructor_body items (Some n) rest = items n.node.value Plain rest
 
 abbrev pub constructor_params : {X : Type 0} → (X → Place → Part) → Constructor X → Part
 constructor_params items n = list comma_list_format n.span (map (child_of constructor_param_place (λ p place. constructor_param items p)) n.params.items)
@@ -131,6 +132,23 @@ class_method_parts asks items n rest =
 unfoldable pub class_method : {X : Type 0} → (X → Answers) → (X → Place → Part) → ClassMethod X → Part
 class_method asks items n rest = if is_some n.accessibility || (n.is_abstract || (n.is_optional || n.is_override)) then unsupported rest else class_method_parts asks items n rest
 
+-- what stands between `static` of a private method and its name, with blanks whatever begins it: `get #a() {}`
+unfoldable pub private_kind : {X : Type 0} → (X → Place → Part) → MethodKind → PrivateMethod X → Part
+private_kind items Method n rest = items n.function.node.value MethodHead rest
+private_kind items Getter n rest = accessor_word (codes "get") true rest
+private_kind items Setter n rest = accessor_word (codes "set") true rest
+
+-- `@a static async *#b(c) { d; }`
+unfoldable pub private_method_parts : {X : Type 0} → (X → Place → Part) → PrivateMethod X → Part
+private_method_parts items n rest =
+    leading_comments n.span.lo
+    (start_of n.span
+    (items n.function.node.value MethodDecorators
+    (static_word n.is_static (private_kind items n.kind n (private_name n.key (items n.function.node.value PrivateTail rest))))))
+
+unfoldable pub private_method : {X : Type 0} → (X → Place → Part) → PrivateMethod X → Part
+private_method items n rest = if is_some n.accessibility || (n.is_abstract || (n.is_optional || n.is_override)) then unsupported rest else private_method_parts items n rest
+
 -- `a`, and a sequence in parentheses: `(a, b)`
 unfoldable pub wrapped : {X : Type 0} → (X → Answers) → (X → Place → Part) → ExprBox X → Part
 wrapped asks items n rest =
@@ -152,9 +170,23 @@ class_prop_parts asks items n rest =
 unfoldable pub class_prop : {X : Type 0} → (X → Answers) → (X → Place → Part) → ClassProp X → Part
 class_prop asks items n rest = if is_typed_prop n then unsupported rest else class_prop_parts asks items n rest
 
+abbrev pub private_decorators : {X : Type 0} → (X → Place → Part) → PrivateProp X → Part
+private_decorators items n = list decorators_format n.span (map (child_of decorator_place (λ d place. decorator items d)) n.decorators.items)
+
+-- `@a static #b = c;`
+unfoldable pub private_prop_parts : {X : Type 0} → (X → Answers) → (X → Place → Part) → PrivateProp X → Part
+private_prop_parts asks items n rest =
+    leading_comments n.span.lo
+    (start_of n.span
+    (private_decorators items n
+    (static_word n.is_static (private_name n.key (prop_value asks items n.value (semi (end_of n.span rest)))))))
+
+unfoldable pub private_prop : {X : Type 0} → (X → Answers) → (X → Place → Part) → PrivateProp X → Part
+private_prop asks items n rest = if is_typed_private n then unsupported rest else private_prop_parts asks items n rest
+
 unfoldable pub accessor_key : {X : Type 0} → (X → Place → Part) → Key X → Part
 accessor_key items (keys.Public n) rest = items n.node.value Plain rest
-accessor_key items (keys.Private n) rest = unsupported rest
+accessor_key items (keys.Private n) rest = private_name n rest
 
 abbrev pub accessor_decorators : {X : Type 0} → (X → Place → Part) → AutoAccessor X → Part
 accessor_decorators items n = list decorators_format n.span (map (child_of decorator_place (λ d place. decorator items d)) n.decorators.items)
@@ -178,7 +210,9 @@ empty_member n rest = leading_comments n.span.lo (punct (codes ";") rest)
 unfoldable pub class_member : {X : Type 0} → (X → Answers) → (X → Place → Part) → class_members.ClassMember X → Part
 class_member asks items (members.Constructor n) rest = class_constructor items n rest
 class_member asks items (members.Method n) rest = class_method asks items n rest
+class_member asks items (members.PrivateMethod n) rest = private_method items n rest
 class_member asks items (members.ClassProp n) rest = class_prop asks items n rest
+class_member asks items (members.PrivateProp n) rest = private_prop asks items n rest
 class_member asks items (members.Empty n) rest = empty_member n rest
 class_member asks items (members.StaticBlock n) rest = static_block items n rest
 class_member asks items (members.AutoAccessor n) rest = auto_accessor items n rest

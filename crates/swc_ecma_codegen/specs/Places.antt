@@ -1,8 +1,8 @@
 -- Where a node may stand in its role.
 use Rattle.swc_ecma_codegen_ast.specs.declared.roles.Role.{Role}
-use Rattle.swc_ecma_codegen_ast.specs.declared.roles.Role.TheVariants.{MemberExpression, ChainMember, Function, FunctionHead as HeadOfFunction, MethodHead as HeadOfMethod, Expression, Callee as IsCallee, ChainCall, Template, TaggedTemplate, ClassHead as HeadOfClass, ClassTail, MethodDecorators as DecoratorsOfMethod, MethodTail as TailOfMethod}
+use Rattle.swc_ecma_codegen_ast.specs.declared.roles.Role.TheVariants.{MemberExpression, ChainMember, Function, FunctionHead as HeadOfFunction, MethodHead as HeadOfMethod, Expression, Callee as IsCallee, ChainCall, Template, TaggedTemplate, ClassHead as HeadOfClass, ClassTail, MethodDecorators as DecoratorsOfMethod, MethodTail as TailOfMethod, PrivateTail as TailOfPrivate}
 use Rattle.swc_ecma_codegen.specs.declared.nodes.Place.{Place}
-use Rattle.swc_ecma_codegen.specs.declared.nodes.Place.TheVariants.{Plain, Chain, FunctionHead, MethodHead, DeclarationHead, Object, DottedObject, Callee, Tagged, ClassHead, StaticHead, MethodDecorators, MethodTail}
+use Rattle.swc_ecma_codegen.specs.declared.nodes.Place.TheVariants.{Plain, Chain, FunctionHead, MethodHead, DeclarationHead, Object, DottedObject, Callee, Tagged, ClassHead, StaticHead, MethodDecorators, MethodTail, PrivateTail}
 
 -- a place outside of a callee, and one inside
 abbrev pub outside : Place → Place
@@ -40,6 +40,7 @@ placed HeadOfClass place = ClassHead
 placed ClassTail place = Plain
 placed DecoratorsOfMethod place = MethodDecorators
 placed TailOfMethod place = MethodTail
+placed TailOfPrivate place = PrivateTail
 placed (ChainCall optional) place = Chain optional
 placed Template place = Plain
 placed TaggedTemplate place = Tagged

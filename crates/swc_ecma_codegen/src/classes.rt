@@ -2,9 +2,9 @@
 
 ghost use Rattle.std.specs.Prelude.{◌≡◌, OnOk, codes};
 ghost use Rattle.swc_ecma_codegen_base.specs.Run.{Emits};
-ghost use Rattle.swc_ecma_codegen_ast.specs.ClassPhrases.{is_typed_class, is_typed_prop, is_typed_accessor};
+ghost use Rattle.swc_ecma_codegen_ast.specs.ClassPhrases.{is_typed_class, is_typed_prop, is_typed_private, is_typed_accessor};
 ghost use Rattle.swc_ecma_codegen.specs.ClassExprs.{class_expr};
-ghost use Rattle.swc_ecma_codegen.specs.Classes.{class_members_format, heritage, member_list, class, class_tail, class_decl, constructor_param, constructor_param_place, constructor_params, constructor_body, class_constructor, static_word, accessor_word, method_word, method_kind, class_method, wrapped, prop_value, class_prop, accessor_key, accessor_decorators, auto_accessor, static_block, empty_member, class_member};
+ghost use Rattle.swc_ecma_codegen.specs.Classes.{class_members_format, heritage, member_list, class, class_tail, class_decl, constructor_param, constructor_param_place, constructor_params, constructor_body, class_constructor, static_word, accessor_word, method_word, method_kind, class_method, private_kind, private_method, wrapped, prop_value, class_prop, private_decorators, private_prop, accessor_key, accessor_decorators, auto_accessor, static_block, empty_member, class_member};
 ghost use Rattle.swc_ecma_codegen.specs.View.{state_of};
 
 use crate::blocks::is_some_listed;
@@ -19,7 +19,7 @@ use swc_ecma_codegen_literals::Punctuator;
 use swc_ecma_codegen_text_writer::WriteJs;
 use swc_ecma_codegen_tree::{
     AutoAccessor, BlockStmtBox, Class, ClassDecl, ClassExpr, ClassMember, ClassMemberBox,
-    ClassMethod, ClassProp, Constructor, EmptyStmt, ExprBox, Key, MethodKind, ParamOrTsParamProp, StaticBlock,
+    ClassMethod, ClassProp, Constructor, EmptyStmt, ExprBox, Key, MethodKind, ParamOrTsParamProp, PrivateMethod, PrivateProp, StaticBlock,
 };
 
 /// The format of members.
@@ -50,6 +50,18 @@ fn is_typed_prop<N>(node: &ClassProp<N>) -> bool
         || node.is_override
         || node.readonly
         || node.declare
+        || node.definite
+}
+
+/// Whether TypeScript adds to a private field.
+fn is_typed_private<N>(node: &PrivateProp<N>) -> bool
+    ensures { result ≡ is_typed_private node.now }
+{
+    node.type_ann.is_some()
+        || node.accessibility.is_some()
+        || node.is_optional
+        || node.is_override
+        || node.readonly
         || node.definite
 }
 
@@ -156,7 +168,9 @@ impl<N: Held> EmitAt for ClassMember<N> {
         match self {
             ClassMember::Constructor(node) => node.emit_at(e, Place::Plain),
             ClassMember::Method(node) => node.emit_at(e, Place::Plain),
+            ClassMember::PrivateMethod(node) => node.emit_at(e, Place::Plain),
             ClassMember::ClassProp(node) => node.emit_at(e, Place::Plain),
+            ClassMember::PrivateProp(node) => node.emit_at(e, Place::Plain),
             ClassMember::Empty(node) => e.empty_member(node),
             ClassMember::StaticBlock(node) => node.emit_at(e, Place::Plain),
             ClassMember::AutoAccessor(node) => node.emit_at(e, Place::Plain),
@@ -199,8 +213,31 @@ impl<N: Held> EmitAt for Key<N> {
     ) -> Answer {
         match self {
             Key::Public(node) => node.held().emit_at(e, Place::Plain),
-            Key::Private(_) => e.unsupported(),
+            Key::Private(node) => node.emit_at(e, Place::Plain),
         }
+    }
+}
+
+impl<N: Held> EmitAt for PrivateMethod<N> {
+    ghost items = { λ n _. private_method N.items n };
+
+    #[tactic(auto, unfolding(crate::specs::Classes::private_method, crate::specs::Classes::private_method_parts))]
+    fn emit_at<W: WriteJs, S: SourceMapper, C: Comments>(
+        &self,
+        e: &mut Emitter<'_, W, S, C>,
+        place: Place,
+    ) -> Answer {
+        if self.accessibility.is_some() || self.is_abstract || self.is_optional || self.is_override {
+            return e.unsupported();
+        }
+        e.leading_comments(self.span.lo)?;
+        e.start_of(self.span)?;
+        self.function.held().emit_at(e, Place::MethodDecorators)?;
+        e.static_word(self.is_static)?;
+        e.private_kind(self)?;
+        self.key.emit_at(e, Place::Plain)?;
+        self.function.held().emit_at(e, Place::PrivateTail)?;
+        Ok(())
     }
 }
 
@@ -223,6 +260,30 @@ impl<N: Held> EmitAt for ClassMethod<N> {
         e.method_kind(self)?;
         self.key.held().emit_at(e, Place::Plain)?;
         self.function.held().emit_at(e, Place::MethodTail)?;
+        Ok(())
+    }
+}
+
+impl<N: Held> EmitAt for PrivateProp<N> {
+    ghost items = { λ n _. private_prop N.answers N.items n };
+
+    #[tactic(auto, unfolding(crate::specs::Classes::private_prop, crate::specs::Classes::private_prop_parts))]
+    fn emit_at<W: WriteJs, S: SourceMapper, C: Comments>(
+        &self,
+        e: &mut Emitter<'_, W, S, C>,
+        place: Place,
+    ) -> Answer {
+        if is_typed_private(self) {
+            return e.unsupported();
+        }
+        e.leading_comments(self.span.lo)?;
+        e.start_of(self.span)?;
+        e.private_decorators(self)?;
+        e.static_word(self.is_static)?;
+        self.key.emit_at(e, Place::Plain)?;
+        e.prop_value(&self.value)?;
+        e.semi()?;
+        e.end_of(self.span)?;
         Ok(())
     }
 }
@@ -380,6 +441,14 @@ impl<W: WriteJs, S: SourceMapper, C: Comments> Emitter<'_, W, S, C> {
         self.list(decorators_format(), node.span, &node.decorators)
     }
 
+    /// Writes the decorators of a private field.
+    fn private_decorators<N: Held>(&mut self, node: &PrivateProp<N>) -> Answer
+        ensures items { Emits (private_decorators N.items node.now) (state_of S.lines W.sheet self.old) (state_of S.lines W.sheet self.new) result }
+        ensures level { OnOk result ((W.sheet self.new.wr).indentation ≡ (W.sheet self.old.wr).indentation) }
+    {
+        self.list(decorators_format(), node.span, &node.decorators)
+    }
+
     /// Writes `;` as a member.
     #[tactic(auto, unfolding(crate::specs::Classes::empty_member))]
     fn empty_member(&mut self, node: &EmptyStmt) -> Answer
@@ -460,6 +529,19 @@ impl<W: WriteJs, S: SourceMapper, C: Comments> Emitter<'_, W, S, C> {
         }
     }
 
+    /// Writes what stands between `static` of a private method and its name.
+    #[tactic(auto, unfolding(crate::specs::Classes::private_kind))]
+    fn private_kind<N: Held>(&mut self, node: &PrivateMethod<N>) -> Answer
+        ensures items { Emits (private_kind N.items node.now.kind node.now) (state_of S.lines W.sheet self.old) (state_of S.lines W.sheet self.new) result }
+        ensures level { OnOk result ((W.sheet self.new.wr).indentation ≡ (W.sheet self.old.wr).indentation) }
+    {
+        match node.kind {
+            MethodKind::Method => node.function.held().emit_at(self, Place::MethodHead),
+            MethodKind::Getter => self.getter_word(true),
+            MethodKind::Setter => self.setter_word(true),
+        }
+    }
+
     /// Writes the value of a field, with parentheses round a sequence.
     #[tactic(auto, unfolding(crate::specs::Classes::wrapped))]
     fn wrapped<N: Held>(&mut self, value: &ExprBox<N>) -> Answer
@@ -499,8 +581,8 @@ impl<W: WriteJs, S: SourceMapper, C: Comments> Emitter<'_, W, S, C> {
         ensures level { OnOk result ((W.sheet self.new.wr).indentation ≡ (W.sheet self.old.wr).indentation) }
     {
         match body {
-            Some(body) => body.held().emit_at(self, Place::Body),
-            None => self.semi(),
+            Some(body) => body.held().emit_at(self, Place::Plain),
+            None => self.punct(Punctuator::Semicolon),
         }
     }
 }

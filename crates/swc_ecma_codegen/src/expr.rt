@@ -80,6 +80,7 @@ fn expr_parts<N: Held, W: WriteJs, S: SourceMapper, C: Comments>(
         Expr::MetaProp(node) => node.emit_at(e, place),
         Expr::Await(node) => node.emit_at(e, place),
         Expr::Paren(node) => node.emit_at(e, place),
+        Expr::PrivateName(node) => node.emit_at(e, place),
         Expr::OptChain(node) => node.emit_at(e, place),
         Expr::JSXMember(_)
         | Expr::JSXNamespacedName(_)
@@ -92,7 +93,6 @@ fn expr_parts<N: Held, W: WriteJs, S: SourceMapper, C: Comments>(
         | Expr::TsAs(_)
         | Expr::TsInstantiation(_)
         | Expr::TsSatisfies(_)
-        | Expr::PrivateName(_)
         | Expr::Invalid(_) => e.unsupported(),
     }
 }
@@ -340,6 +340,19 @@ impl EmitAt for Ident {
     ) -> Answer {
         e.name(self.span, &self.sym, self.optional)?;
         Ok(())
+    }
+}
+
+impl EmitAt for PrivateName {
+    ghost items = { λ n _. private_name n };
+
+    #[tactic(auto, unfolding(crate::specs::Exprs::private_name))]
+    fn emit_at<W: WriteJs, S: SourceMapper, C: Comments>(
+        &self,
+        e: &mut Emitter<'_, W, S, C>,
+        place: Place,
+    ) -> Answer {
+        e.private_name(self.span, &self.name)
     }
 }
 

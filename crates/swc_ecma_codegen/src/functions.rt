@@ -3,7 +3,7 @@
 ghost use Rattle.std.specs.Prelude.{◌≡◌, Bool, OnOk};
 ghost use Rattle.swc_ecma_codegen_literals.specs.Punctuators.{spelling};
 ghost use Rattle.swc_ecma_codegen_base.specs.Run.{Emits};
-ghost use Rattle.swc_ecma_codegen.specs.Functions.{comma_list_format, decorators_format, decorator, decorators, decorator_lines, param, function_body, parameters, fn_trailing_parts, fn_trailing, static_gap, static_head, method_tail, async_word, star, function_head, star_or_space, declaration_head, method_head, function, optional_name, fn_expr, is_plain, is_name, is_only, async_arrow, parenthesis, arrow_list, arrow_parameters, arrow_body, arrow_expr};
+ghost use Rattle.swc_ecma_codegen.specs.Functions.{comma_list_format, decorators_format, decorator, decorators, decorator_lines, param, function_body, parameters, fn_trailing_parts, fn_trailing, static_gap, static_head, method_body, method_tail_parts, method_tail, private_tail, async_word, star, function_head, star_or_space, declaration_head, method_head, function, optional_name, fn_expr, is_plain, is_name, is_only, async_arrow, parenthesis, arrow_list, arrow_parameters, arrow_body, arrow_expr};
 ghost use Rattle.swc_ecma_codegen.specs.View.{state_of};
 
 use crate::blocks::is_some_listed;
@@ -145,6 +145,7 @@ impl<N: Held> EmitAt for Function<N> {
             Place::StaticHead(starts) => e.static_head(starts, self),
             Place::MethodDecorators => e.decorator_lines(&self.decorators),
             Place::MethodTail => e.method_tail(self),
+            Place::PrivateTail => e.private_tail(self),
             _ => e.fn_trailing(self),
         }
     }
@@ -285,10 +286,50 @@ impl<W: WriteJs, S: SourceMapper, C: Comments> Emitter<'_, W, S, C> {
         self.fn_trailing_parts(node)
     }
 
+    /// Writes the body of a method, or a semicolon in its place.
+    #[tactic(auto, unfolding(crate::specs::Functions::method_body))]
+    fn method_body<N: Held>(&mut self, body: &Option<BlockStmtBox<N>>) -> Answer
+        ensures items { Emits (method_body N.items body.now) (state_of S.lines W.sheet self.old) (state_of S.lines W.sheet self.new) result }
+        ensures level { OnOk result ((W.sheet self.new.wr).indentation ≡ (W.sheet self.old.wr).indentation) }
+    {
+        match body {
+            Some(body) => {
+                self.formatting_space()?;
+                body.held().emit_at(self, Place::Plain)
+            }
+            None => self.punct(Punctuator::Semicolon),
+        }
+    }
+
+    /// Writes `(a) { b; }` of a method, without what TypeScript adds.
+    #[tactic(auto, unfolding(crate::specs::Functions::method_tail_parts))]
+    fn method_tail_parts<N: Held>(&mut self, node: &Function<N>) -> Answer
+        ensures items { Emits (method_tail_parts N.items node.now) (state_of S.lines W.sheet self.old) (state_of S.lines W.sheet self.new) result }
+        ensures level { OnOk result ((W.sheet self.new.wr).indentation ≡ (W.sheet self.old.wr).indentation) }
+    {
+        self.punct(Punctuator::LeftParenthesis)?;
+        self.parameters(node)?;
+        self.punct(Punctuator::RightParenthesis)?;
+        self.method_body(&node.body)?;
+        Ok(())
+    }
+
     /// Writes `(a) { b; }` of a method, whose decorators stand elsewhere.
     #[tactic(auto, unfolding(crate::specs::Functions::method_tail))]
     fn method_tail<N: Held>(&mut self, node: &Function<N>) -> Answer
         ensures items { Emits (method_tail N.items node.now) (state_of S.lines W.sheet self.old) (state_of S.lines W.sheet self.new) result }
+        ensures level { OnOk result ((W.sheet self.new.wr).indentation ≡ (W.sheet self.old.wr).indentation) }
+    {
+        if node.type_params.is_some() || node.return_type.is_some() {
+            return self.unsupported();
+        }
+        self.method_tail_parts(node)
+    }
+
+    /// Writes `(a) { b; }` of a private method, whose decorators stand elsewhere.
+    #[tactic(auto, unfolding(crate::specs::Functions::private_tail))]
+    fn private_tail<N: Held>(&mut self, node: &Function<N>) -> Answer
+        ensures items { Emits (private_tail N.items node.now) (state_of S.lines W.sheet self.old) (state_of S.lines W.sheet self.new) result }
         ensures level { OnOk result ((W.sheet self.new.wr).indentation ≡ (W.sheet self.old.wr).indentation) }
     {
         if node.type_params.is_some() || node.return_type.is_some() {

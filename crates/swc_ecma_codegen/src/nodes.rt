@@ -51,6 +51,8 @@ pub enum Place {
     MethodDecorators,
     /// The function of a method, whose decorators stand elsewhere: `() {}` of `@a b() {}`
     MethodTail,
+    /// The same of a private method: `() {}` of `@a #b() {}`
+    PrivateTail,
 }
 
 /// What a node tells those above it.

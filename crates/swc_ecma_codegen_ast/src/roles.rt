@@ -51,4 +51,6 @@ pub enum Role {
     MethodDecorators,
     /// `() {}` of `class B { @a c() {} }`: the function of a method, whose decorators stand elsewhere.
     MethodTail,
+    /// `() {}` of `class B { @a #c() {} }`: the same of a private method.
+    PrivateTail,
 }

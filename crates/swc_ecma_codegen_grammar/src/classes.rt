@@ -2,7 +2,7 @@
 
 ghost use Rattle.std.specs.Prelude.{◌≡◌};
 ghost use Rattle.swc_ecma_codegen_ast.specs.Phrases.{is_possible};
-ghost use Rattle.swc_ecma_codegen_ast.specs.ClassPhrases.{class_head, heritage, is_typed_class, class_tail, class_decl, class_expr, constructor_param, class_constructor, method_decorators, method_tail, kind_head, class_method, prop_value, is_typed_prop, class_prop, accessor_key, is_typed_accessor, auto_accessor, static_block, class_member};
+ghost use Rattle.swc_ecma_codegen_ast.specs.ClassPhrases.{class_head, heritage, is_typed_class, class_tail, class_decl, class_expr, constructor_param, method_body, class_constructor, method_decorators, method_tail, private_tail, kind_head, class_method, private_method, prop_value, is_typed_prop, class_prop, is_typed_private, private_prop, accessor_key, is_typed_accessor, auto_accessor, static_block, class_member};
 ghost use Rattle.swc_ecma_codegen_ast.specs.declared.roles.Role.TheVariants.{Member};
 
 use crate::forms::{Fits, WellFormed, all_well_formed};
@@ -10,8 +10,8 @@ use crate::functions::{is_body, is_optional_name};
 use crate::pats::is_initializer;
 use swc_ecma_codegen_ast::roles::Role;
 use swc_ecma_codegen_tree::{
-    AutoAccessor, Class, ClassDecl, ClassExpr, ClassMember, ClassMemberBox, ClassMethod, ClassProp,
-    Constructor, ExprBox, Function, FunctionBox, Key, MethodKind, ParamOrTsParamProp, StaticBlock,
+    AutoAccessor, BlockStmtBox, Class, ClassDecl, ClassExpr, ClassMember, ClassMemberBox, ClassMethod, ClassProp,
+    Constructor, ExprBox, Function, FunctionBox, Key, MethodKind, ParamOrTsParamProp, PrivateMethod, PrivateProp, StaticBlock,
 };
 
 /// Whether what stands before the word of a class is well-formed.
@@ -96,12 +96,25 @@ impl<N: Fits> WellFormed for ParamOrTsParamProp<N> {
     }
 }
 
+/// Whether the body of a method is well-formed, or there is none.
+#[tactic(auto, unfolding(swc_ecma_codegen_ast::specs::ClassPhrases::method_body, swc_ecma_codegen_ast::specs::Phrases::is_possible))]
+fn is_method_body<N: Fits>(body: &Option<BlockStmtBox<N>>) -> bool
+    ensures { result ≡ is_possible (method_body N.reads body.now) }
+{
+    match body {
+        Some(body) => body.is_well_formed(),
+        None => true,
+    }
+}
+
 impl<N: Fits> WellFormed for Constructor<N> {
     ghost phrase = { class_constructor N.reads };
 
     #[tactic(auto, using(crate::proofs::ClassesPossible::constructor_possible))]
     fn is_well_formed(&self) -> bool {
-        self.accessibility.is_none() && all_well_formed(&self.params) && is_body(&self.body)
+        self.accessibility.is_none()
+            && all_well_formed(&self.params)
+            && is_method_body(&self.body)
     }
 }
 
@@ -117,6 +130,17 @@ pub(crate) fn are_method_decorators<N: Fits>(node: &Function<N>) -> bool
 #[tactic(auto, using(crate::proofs::ClassesPossible::method_tail_possible))]
 pub(crate) fn is_method_tail<N: Fits>(node: &Function<N>) -> bool
     ensures { result ≡ is_possible (method_tail N.reads node.now) }
+{
+    node.type_params.is_none()
+        && node.return_type.is_none()
+        && all_well_formed(&node.params)
+        && is_method_body(&node.body)
+}
+
+/// Whether the rest of a private method is well-formed.
+#[tactic(auto, using(crate::proofs::ClassesPossible::private_tail_possible))]
+pub(crate) fn is_private_tail<N: Fits>(node: &Function<N>) -> bool
+    ensures { result ≡ is_possible (private_tail N.reads node.now) }
 {
     node.type_params.is_none()
         && node.return_type.is_none()
@@ -148,6 +172,22 @@ impl<N: Fits> WellFormed for ClassMethod<N> {
             && is_kind_head(self.kind, &self.function)
             && self.key.is_well_formed()
             && self.function.held().fits(Role::MethodTail)
+    }
+}
+
+impl<N: Fits> WellFormed for PrivateMethod<N> {
+    ghost phrase = { private_method N.reads };
+
+    #[tactic(auto, using(crate::proofs::ClassesPossible::private_method_possible))]
+    fn is_well_formed(&self) -> bool {
+        self.accessibility.is_none()
+            && !self.is_abstract
+            && !self.is_optional
+            && !self.is_override
+            && self.function.held().fits(Role::MethodDecorators)
+            && is_kind_head(self.kind, &self.function)
+            && self.key.is_well_formed()
+            && self.function.held().fits(Role::PrivateTail)
     }
 }
 
@@ -188,6 +228,30 @@ impl<N: Fits> WellFormed for ClassProp<N> {
     }
 }
 
+/// Whether TypeScript adds to a private field.
+fn is_typed_private<N>(node: &PrivateProp<N>) -> bool
+    ensures { result ≡ is_typed_private node.now }
+{
+    node.type_ann.is_some()
+        || node.accessibility.is_some()
+        || node.is_optional
+        || node.is_override
+        || node.readonly
+        || node.definite
+}
+
+impl<N: Fits> WellFormed for PrivateProp<N> {
+    ghost phrase = { private_prop N.reads };
+
+    #[tactic(auto, using(crate::proofs::ClassesPossible::private_prop_possible))]
+    fn is_well_formed(&self) -> bool {
+        !is_typed_private(self)
+            && all_well_formed(&self.decorators)
+            && self.key.is_well_formed()
+            && is_prop_value(&self.value)
+    }
+}
+
 impl<N: Fits> WellFormed for Key<N> {
     ghost phrase = { accessor_key N.reads };
 
@@ -195,7 +259,7 @@ impl<N: Fits> WellFormed for Key<N> {
     fn is_well_formed(&self) -> bool {
         match self {
             Key::Public(node) => node.is_well_formed(),
-            Key::Private(_) => false,
+            Key::Private(node) => node.is_well_formed(),
         }
     }
 }
@@ -240,13 +304,13 @@ impl<N: Fits> WellFormed for ClassMember<N> {
         match self {
             ClassMember::Constructor(node) => node.is_well_formed(),
             ClassMember::Method(node) => node.is_well_formed(),
+            ClassMember::PrivateMethod(node) => node.is_well_formed(),
             ClassMember::ClassProp(node) => node.is_well_formed(),
+            ClassMember::PrivateProp(node) => node.is_well_formed(),
             ClassMember::Empty(_) => true,
             ClassMember::StaticBlock(node) => node.is_well_formed(),
             ClassMember::AutoAccessor(node) => node.is_well_formed(),
-            ClassMember::PrivateMethod(_)
-            | ClassMember::PrivateProp(_)
-            | ClassMember::TsIndexSignature(_) => false,
+            ClassMember::TsIndexSignature(_) => false,
         }
     }
 }

@@ -64,7 +64,7 @@ impl<N: Fits> WellFormed for MemberProp<N> {
         match self {
             MemberProp::Ident(name) => name.is_well_formed(),
             MemberProp::Computed(name) => name.is_well_formed(),
-            _ => false,
+            MemberProp::PrivateName(name) => name.is_well_formed(),
         }
     }
 }
@@ -216,6 +216,7 @@ impl<N: Fits> WellFormed for Expr<N> {
             Expr::MetaProp(node) => node.is_well_formed(),
             Expr::Await(node) => node.is_well_formed(),
             Expr::Paren(node) => node.is_well_formed(),
+            Expr::PrivateName(node) => node.is_well_formed(),
             Expr::OptChain(node) => node.is_well_formed(),
             Expr::JSXMember(_)
             | Expr::JSXNamespacedName(_)
@@ -228,7 +229,6 @@ impl<N: Fits> WellFormed for Expr<N> {
             | Expr::TsAs(_)
             | Expr::TsInstantiation(_)
             | Expr::TsSatisfies(_)
-            | Expr::PrivateName(_)
             | Expr::Invalid(_) => false,
         }
     }
