@@ -18,6 +18,8 @@ use Rattle.swc_ecma_codegen_tree.specs.declared.classes.ClassMethod.{ClassMethod
 use Rattle.swc_ecma_codegen_tree.specs.declared.classes.MethodKind.{MethodKind}
 use Rattle.swc_ecma_codegen_tree.specs.declared.classes.MethodKind.TheVariants.{Method, Getter, Setter}
 use Rattle.swc_ecma_codegen_tree.specs.declared.classes.ClassProp.{ClassProp}
+use Rattle.swc_ecma_codegen_tree.specs.declared.classes.PrivateMethod.{PrivateMethod}
+use Rattle.swc_ecma_codegen_tree.specs.declared.classes.PrivateProp.{PrivateProp}
 use Rattle.swc_ecma_codegen_tree.specs.declared.classes.AutoAccessor.{AutoAccessor}
 use Rattle.swc_ecma_codegen_tree.specs.declared.classes.Key.{Key}
 use Rattle.swc_ecma_codegen_tree.specs.declared.classes.Key.TheVariants as keys
@@ -31,7 +33,7 @@ use Rattle.swc_ecma_codegen_base.specs.Words.{keyword, punct, space, formatting_
 use Rattle.swc_ecma_codegen.specs.declared.nodes.Place.{Place}
 use Rattle.swc_ecma_codegen.specs.declared.nodes.Place.TheVariants.{Plain, ClassHead}
 use Rattle.swc_ecma_codegen.specs.Answers.{Answers}
-use Rattle.swc_ecma_codegen.specs.Classes.{class_members_format, heritage, class_trailing, class_tail, class, constructor_param, constructor_param_place, constructor_body, constructor_parts, class_constructor, method_word, method_kind, class_method_parts, class_method, wrapped, prop_value, class_prop_parts, class_prop, accessor_key, auto_accessor_parts, auto_accessor, static_block, class_member}
+use Rattle.swc_ecma_codegen.specs.Classes.{class_members_format, heritage, class_trailing, class_tail, class, constructor_param, constructor_param_place, constructor_body, constructor_tail, constructor_parts, class_constructor, method_word, method_kind, class_method_parts, class_method, private_kind, private_method_parts, private_method, wrapped, prop_value, class_prop_parts, class_prop, private_prop_tail, private_prop_parts, private_prop, accessor_key, accessor_tail, auto_accessor_parts, auto_accessor, static_block, class_member}
 use Rattle.swc_ecma_codegen.specs.Exprs.{blank}
 use Rattle.swc_ecma_codegen.specs.Functions.{comma_list_format, decorator, decorator_lines, decorators_format, decorator_place, param}
 use Rattle.swc_ecma_codegen.specs.Lists.{child_of, unsupported}
@@ -84,7 +86,7 @@ constructor_same : {X : Type 0} (n : Constructor X) (typed : Bool) (before after
 constructor_same n typed before after rest e = ap (λ z. cond typed (unsupported rest) (leading_comments n.span.lo (start_of n.span (keyword None (codes "constructor") (punct (codes "(") z))))) e
 
 constructor_by : {X Y : Type 0} (g : X → Y) (asks : Y → Answers) (items : Y → Place → Part) (b : Box (class_members.ClassMember X) Global) (n : Constructor X) (body : Option (BlockStmtBox X)) (place : Place) (rest : Plan) → node_items asks items (map-AnyNode X Y g (as_member b (members.Constructor (record n { body = body })))) place rest ≡ class_constructor (λ x. items (g x)) (record n { body = body }) rest
-unfolding node_items stmt_part class_member class_constructor constructor_parts constructor_param constructor_param_place constructor_body param decorator
+unfolding node_items stmt_part class_member class_constructor constructor_parts constructor_tail constructor_param constructor_param_place constructor_body param decorator
 constructor_by {X} {Y} g asks items b n None place rest = constructor_same n _ _ _ rest (children_mapped {A = ParamOrTsParamProp X} _ _ _ (each_param {X = X} _ (λ m. refl) (λ p. ap (λ ds. param_child p.span ds (items (g p.pat.node.value) Plain)) (list_mapped {A = Decorator X} _ _ (child_of decorator_place (λ d place. decorator (λ x. items (g x)) d)) (λ d. refl) p.decorators.items))) comma_list_format n.span n.params.items _)
 constructor_by {X} {Y} g asks items b n (Some body) place rest = constructor_same n _ _ _ rest (children_mapped {A = ParamOrTsParamProp X} _ _ _ (each_param {X = X} _ (λ m. refl) (λ p. ap (λ ds. param_child p.span ds (items (g p.pat.node.value) Plain)) (list_mapped {A = Decorator X} _ _ (child_of decorator_place (λ d place. decorator (λ x. items (g x)) d)) (λ d. refl) p.decorators.items))) comma_list_format n.span n.params.items _)
 
@@ -93,6 +95,12 @@ unfolding node_items stmt_part class_member class_method class_method_parts meth
 method_by g asks items b n Method place rest = refl
 method_by g asks items b n Getter place rest = refl
 method_by g asks items b n Setter place rest = refl
+
+private_method_by : {X Y : Type 0} (g : X → Y) (asks : Y → Answers) (items : Y → Place → Part) (b : Box (class_members.ClassMember X) Global) (n : PrivateMethod X) (kind : MethodKind) (place : Place) (rest : Plan) → node_items asks items (map-AnyNode X Y g (as_member b (members.PrivateMethod (record n { kind = kind })))) place rest ≡ private_method (λ x. items (g x)) (record n { kind = kind }) rest
+unfolding node_items stmt_part class_member private_method private_method_parts private_kind
+private_method_by g asks items b n Method place rest = refl
+private_method_by g asks items b n Getter place rest = refl
+private_method_by g asks items b n Setter place rest = refl
 
 prop_same : {X Y : Type 0} (g : Decorator X → Decorator Y) (items : Y → Place → Part) (put : X → Place → Part) → ((d : Decorator X) → decorator items (g d) ≡ decorator put d) → (n : ClassProp X) (typed : Bool) (after rest : Plan) → cond typed (unsupported rest) (leading_comments n.span.lo (start_of n.span (decorator_lines items (map g n.decorators.items) after))) ≡ cond typed (unsupported rest) (leading_comments n.span.lo (start_of n.span (decorator_lines put n.decorators.items after)))
 prop_same g items put same n typed after rest = ap (λ z. cond typed (unsupported rest) (leading_comments n.span.lo (start_of n.span z))) (decorators_mapped g items put same n.decorators.items after)
@@ -104,11 +112,21 @@ prop_by g asks items b n None (Some v) place rest = prop_same _ items (λ x. ite
 prop_by g asks items b n (Some t) None place rest = refl
 prop_by g asks items b n (Some t) (Some v) place rest = refl
 
+private_prop_same : {X : Type 0} (n : PrivateProp X) (typed : Bool) (cs ds : List ListChild) (after rest : Plan) → cs ≡ ds → cond typed (unsupported rest) (leading_comments n.span.lo (start_of n.span (list decorators_format n.span cs after))) ≡ cond typed (unsupported rest) (leading_comments n.span.lo (start_of n.span (list decorators_format n.span ds after)))
+private_prop_same n typed cs ds after rest e = ap (λ z. cond typed (unsupported rest) (leading_comments n.span.lo (start_of n.span (list decorators_format n.span z after)))) e
+
+private_prop_by : {X Y : Type 0} (g : X → Y) (asks : Y → Answers) (items : Y → Place → Part) (b : Box (class_members.ClassMember X) Global) (n : PrivateProp X) (type_ann : Option (TsTypeAnnBox X)) (value : Option (ExprBox X)) (place : Place) (rest : Plan) → node_items asks items (map-AnyNode X Y g (as_member b (members.PrivateProp (record n { type_ann = type_ann; value = value })))) place rest ≡ private_prop (λ x. asks (g x)) (λ x. items (g x)) (record n { type_ann = type_ann; value = value }) rest
+unfolding node_items stmt_part class_member private_prop private_prop_parts private_prop_tail prop_value wrapped decorator
+private_prop_by {X} g asks items b n None None place rest = private_prop_same n _ _ _ _ rest (list_mapped {A = Decorator X} _ _ (child_of decorator_place (λ d place. decorator (λ x. items (g x)) d)) (λ d. refl) n.decorators.items)
+private_prop_by {X} g asks items b n None (Some v) place rest = private_prop_same n _ _ _ _ rest (list_mapped {A = Decorator X} _ _ (child_of decorator_place (λ d place. decorator (λ x. items (g x)) d)) (λ d. refl) n.decorators.items)
+private_prop_by g asks items b n (Some t) None place rest = refl
+private_prop_by g asks items b n (Some t) (Some v) place rest = refl
+
 accessor_same : {X : Type 0} (n : AutoAccessor X) (typed : Bool) (cs ds : List ListChild) (after rest : Plan) → cs ≡ ds → cond typed (unsupported rest) (list decorators_format n.span cs after) ≡ cond typed (unsupported rest) (list decorators_format n.span ds after)
 accessor_same n typed cs ds after rest e = ap (λ z. cond typed (unsupported rest) (list decorators_format n.span z after)) e
 
 accessor_by : {X Y : Type 0} (g : X → Y) (asks : Y → Answers) (items : Y → Place → Part) (b : Box (class_members.ClassMember X) Global) (n : AutoAccessor X) (key : Key X) (type_ann : Option (TsTypeAnnBox X)) (value : Option (ExprBox X)) (place : Place) (rest : Plan) → node_items asks items (map-AnyNode X Y g (as_member b (members.AutoAccessor (record n { key = key; type_ann = type_ann; value = value })))) place rest ≡ auto_accessor (λ x. items (g x)) (record n { key = key; type_ann = type_ann; value = value }) rest
-unfolding node_items stmt_part class_member auto_accessor auto_accessor_parts accessor_key initializer decorator
+unfolding node_items stmt_part class_member auto_accessor auto_accessor_parts accessor_tail accessor_key initializer decorator
 accessor_by {X} g asks items b n (keys.Public k) None None place rest = accessor_same n _ _ _ _ rest (list_mapped {A = Decorator X} _ _ (child_of decorator_place (λ d place. decorator (λ x. items (g x)) d)) (λ d. refl) n.decorators.items)
 accessor_by {X} g asks items b n (keys.Public k) None (Some v) place rest = accessor_same n _ _ _ _ rest (list_mapped {A = Decorator X} _ _ (child_of decorator_place (λ d place. decorator (λ x. items (g x)) d)) (λ d. refl) n.decorators.items)
 accessor_by {X} g asks items b n (keys.Private k) None None place rest = accessor_same n _ _ _ _ rest (list_mapped {A = Decorator X} _ _ (child_of decorator_place (λ d place. decorator (λ x. items (g x)) d)) (λ d. refl) n.decorators.items)
@@ -122,7 +140,9 @@ member_by : {X Y : Type 0} (g : X → Y) (asks : Y → Answers) (items : Y → P
 unfolding node_items stmt_part class_member static_block unsupported refuse
 member_by g asks items b (members.Constructor n) place rest = constructor_by g asks items b n n.body place rest
 member_by g asks items b (members.Method n) place rest = method_by g asks items b n n.kind place rest
+member_by g asks items b (members.PrivateMethod n) place rest = private_method_by g asks items b n n.kind place rest
 member_by g asks items b (members.ClassProp n) place rest = prop_by g asks items b n n.type_ann n.value place rest
+member_by g asks items b (members.PrivateProp n) place rest = private_prop_by g asks items b n n.type_ann n.value place rest
 member_by g asks items b (members.AutoAccessor n) place rest = accessor_by g asks items b n n.key n.type_ann n.value place rest
 member_by g asks items b n place rest = refl
 

@@ -13,6 +13,8 @@ use Rattle.swc_ecma_codegen_tree.specs.declared.classes.ClassMethod.{ClassMethod
 use Rattle.swc_ecma_codegen_tree.specs.declared.classes.MethodKind.{MethodKind}
 use Rattle.swc_ecma_codegen_tree.specs.declared.classes.MethodKind.TheVariants.{Method, Getter, Setter}
 use Rattle.swc_ecma_codegen_tree.specs.declared.classes.ClassProp.{ClassProp}
+use Rattle.swc_ecma_codegen_tree.specs.declared.classes.PrivateMethod.{PrivateMethod}
+use Rattle.swc_ecma_codegen_tree.specs.declared.classes.PrivateProp.{PrivateProp}
 use Rattle.swc_ecma_codegen_tree.specs.declared.classes.AutoAccessor.{AutoAccessor}
 use Rattle.swc_ecma_codegen_tree.specs.declared.classes.Key.{Key}
 use Rattle.swc_ecma_codegen_tree.specs.declared.classes.Key.TheVariants as keys
@@ -21,13 +23,13 @@ use Rattle.swc_ecma_codegen_tree.specs.declared.decls.ClassDecl.{ClassDecl}
 use Rattle.swc_ecma_codegen_tree.specs.declared.exprs.ClassExpr.{ClassExpr}
 use Rattle.swc_ecma_codegen_tree.specs.declared.stmts.EmptyStmt.{EmptyStmt}
 use Rattle.swc_ecma_codegen_ast.specs.ClassPhrases as lists
-use Rattle.swc_ecma_codegen_ast.specs.ClassPhrases.{is_typed_class, is_typed_prop, is_typed_accessor}
+use Rattle.swc_ecma_codegen_ast.specs.ClassPhrases.{is_typed_class, is_typed_prop, is_typed_private, is_typed_accessor}
 use Rattle.swc_ecma_codegen_ast.specs.FunctionPhrases.{word_if}
 use Rattle.swc_ecma_codegen_ast.specs.FunctionPhrases as function_lists
 use Rattle.swc_ecma_codegen_ast.specs.PatPhrases as pats
 use Rattle.swc_ecma_codegen_ast.specs.Phrases as phrases
 use Rattle.swc_ecma_codegen_ast.specs.Phrases.{Phrase, OptionalParentheses, ◌>◌, mark, word}
-use Rattle.swc_ecma_codegen_ast.specs.declared.roles.Role.TheVariants.{ClassHead as HeadOfClass, ClassTail, Member, MethodHead as HeadOfMethod, MethodDecorators as DecoratorsOfMethod, MethodTail as TailOfMethod}
+use Rattle.swc_ecma_codegen_ast.specs.declared.roles.Role.TheVariants.{ClassHead as HeadOfClass, ClassTail, Member, MethodHead as HeadOfMethod, MethodDecorators as DecoratorsOfMethod, MethodTail as TailOfMethod, PrivateTail as TailOfPrivate}
 use Rattle.swc_ecma_codegen_base.specs.Choices.{optional_parentheses}
 use Rattle.swc_ecma_codegen_base.specs.Run.{Env, Part}
 use Rattle.swc_ecma_codegen_base.specs.Words.{keyword, punct, last_of}
@@ -36,11 +38,11 @@ use Rattle.swc_ecma_codegen_base.proofs.Choices.{prints_optional_parentheses}
 use Rattle.swc_ecma_codegen_base.proofs.Phrased.{Prints, then, after, before, prints_nothing, prints_never, prints_keyword, prints_punct, prints_semi}
 use Rattle.swc_ecma_codegen_base.proofs.Printed.{Writes, writes_nothing, writes_space, writes_formatting_space, writes_position, writes_position_before, writes_leading}
 use Rattle.swc_ecma_codegen.specs.declared.nodes.Place.{Place}
-use Rattle.swc_ecma_codegen.specs.declared.nodes.Place.TheVariants.{Plain, Body, MethodHead, StaticHead}
+use Rattle.swc_ecma_codegen.specs.declared.nodes.Place.TheVariants.{Plain, MethodHead, StaticHead}
 use Rattle.swc_ecma_codegen.specs.ClassExprs as expr_words
 use Rattle.swc_ecma_codegen.specs.Classes as words
 use Rattle.swc_ecma_codegen.specs.Functions.{comma_list_format, decorators_format, decorator, decorator_lines, decorator_place}
-use Rattle.swc_ecma_codegen.proofs.ExprParts.{ident_prints, writes_blank}
+use Rattle.swc_ecma_codegen.proofs.ExprParts.{ident_prints, private_name_prints, writes_blank}
 use Rattle.swc_ecma_codegen.proofs.FunctionParts.{body_prints, decorator_prints, decorators_print, name_prints, param_prints, undelimited}
 use Rattle.swc_ecma_codegen.proofs.Impossible.{refused_or}
 use Rattle.swc_ecma_codegen.proofs.Linked.{Linked, expr_at, prop_name_at, block_at}
@@ -95,13 +97,13 @@ unfolding words.constructor_param lists.constructor_param
 constructor_param_prints l (params.Param n) = param_prints l n
 constructor_param_prints l (params.TsParamProp n) = prints_never
 
-constructor_body_prints : {X : Type 0} (l : Linked X) (body : Option (BlockStmtBox X)) → Prints l.env (words.constructor_body l.items body) (function_lists.function_body l.reads body)
-unfolding words.constructor_body function_lists.function_body
-constructor_body_prints l None = prints_semi l.env
-constructor_body_prints l (Some n) = block_at l n Body
+constructor_body_prints : {X : Type 0} (l : Linked X) (body : Option (BlockStmtBox X)) → Prints l.env (words.constructor_body l.items body) (lists.method_body l.reads body)
+unfolding words.constructor_body lists.method_body
+constructor_body_prints l None = prints_punct l.env (codes ";") marks.semicolon
+constructor_body_prints l (Some n) = block_at l n Plain
 
 constructor_prints : {X : Type 0} (l : Linked X) (n : Constructor X) → Prints l.env (words.class_constructor l.items n) (lists.class_constructor l.reads n)
-unfolding words.class_constructor words.constructor_parts lists.class_constructor
+unfolding words.class_constructor words.constructor_parts words.constructor_tail lists.class_constructor
 constructor_prints l n = refused_or (is_some n.accessibility)
     (after (writes_leading l.env n.span.lo)
     (after (writes_position l.env n.span.lo)
@@ -143,6 +145,20 @@ method_prints l n = refused_or (is_some n.accessibility || (n.is_abstract || (n.
     (then (l.law n.function.node.value Plain DecoratorsOfMethod)
     (then (kind_prints l n n.kind) (then (prop_name_at l n.key) (l.law n.function.node.value Plain TailOfMethod)))))))
 
+private_kind_prints : {X : Type 0} (l : Linked X) (n : PrivateMethod X) (kind : MethodKind) → Prints l.env (words.private_kind l.items kind n) (lists.kind_head l.reads kind n.function)
+unfolding words.private_kind lists.kind_head
+private_kind_prints l n Method = l.law n.function.node.value Plain HeadOfMethod
+private_kind_prints l n Getter = get_prints l.env true
+private_kind_prints l n Setter = set_prints l.env true
+
+private_method_prints : {X : Type 0} (l : Linked X) (n : PrivateMethod X) → Prints l.env (words.private_method l.items n) (lists.private_method l.reads n)
+unfolding words.private_method words.private_method_parts lists.private_method lists.method_kind
+private_method_prints l n = refused_or (is_some n.accessibility || (n.is_abstract || (n.is_optional || n.is_override)))
+    (after (writes_leading l.env n.span.lo)
+    (after (writes_position l.env n.span.lo)
+    (then (l.law n.function.node.value Plain DecoratorsOfMethod)
+    (then (then (static_prints l.env n.is_static) (private_kind_prints l n n.kind)) (then (private_name_prints l n.key) (l.law n.function.node.value Plain TailOfPrivate))))))
+
 value_prints : {X : Type 0} (l : Linked X) (n : Option (ExprBox X)) → Prints l.env (words.prop_value l.asks l.items n) (lists.prop_value l.reads n)
 unfolding words.prop_value words.wrapped lists.prop_value optional_parentheses
 value_prints l None = prints_nothing
@@ -161,13 +177,23 @@ prop_prints l n = refused_or (is_typed_prop n)
     (then (prop_name_at l n.key)
     (then (value_prints l n.value) (before (prints_semi l.env) (writes_position l.env n.span.hi))))))))
 
+private_prop_prints : {X : Type 0} (l : Linked X) (n : PrivateProp X) → Prints l.env (words.private_prop l.asks l.items n) (lists.private_prop l.reads n)
+unfolding words.private_prop words.private_prop_parts words.private_prop_tail lists.private_prop lists.decorators
+private_prop_prints l n = refused_or (is_typed_private n)
+    (after (writes_leading l.env n.span.lo)
+    (after (writes_position l.env n.span.lo)
+    (then (prints_in_order l.env decorators_format n.span decorator_place (decorator l.items) (function_lists.decorator l.reads) (decorator_prints l) undelimited refl n.decorators.items)
+    (then (static_prints l.env n.is_static)
+    (then (private_name_prints l n.key)
+    (then (value_prints l n.value) (before (prints_semi l.env) (writes_position l.env n.span.hi))))))))
+
 key_prints : {X : Type 0} (l : Linked X) (n : Key X) → Prints l.env (words.accessor_key l.items n) (lists.accessor_key l.reads n)
 unfolding words.accessor_key lists.accessor_key
 key_prints l (keys.Public n) = prop_name_at l n
-key_prints l (keys.Private n) = prints_never
+key_prints l (keys.Private n) = private_name_prints l n
 
 accessor_prints : {X : Type 0} (l : Linked X) (n : AutoAccessor X) → Prints l.env (words.auto_accessor l.items n) (lists.auto_accessor l.reads n)
-unfolding words.auto_accessor words.auto_accessor_parts lists.auto_accessor lists.decorators
+unfolding words.auto_accessor words.auto_accessor_parts words.accessor_tail lists.auto_accessor lists.decorators
 accessor_prints l n = refused_or (is_typed_accessor n)
     (then (prints_in_order l.env decorators_format n.span decorator_place (decorator l.items) (function_lists.decorator l.reads) (decorator_prints l) undelimited refl n.decorators.items)
     (then (static_prints l.env n.is_static)
@@ -189,7 +215,9 @@ pub class_member_prints : {X : Type 0} (l : Linked X) (n : class_members.ClassMe
 unfolding words.class_member lists.class_member
 class_member_prints l (members.Constructor n) = constructor_prints l n
 class_member_prints l (members.Method n) = method_prints l n
+class_member_prints l (members.PrivateMethod n) = private_method_prints l n
 class_member_prints l (members.ClassProp n) = prop_prints l n
+class_member_prints l (members.PrivateProp n) = private_prop_prints l n
 class_member_prints l (members.Empty n) = empty_prints l.env n
 class_member_prints l (members.StaticBlock n) = static_block_prints l n
 class_member_prints l (members.AutoAccessor n) = accessor_prints l n

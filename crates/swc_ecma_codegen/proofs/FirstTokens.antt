@@ -53,11 +53,11 @@ use Rattle.swc_ecma_codegen_tree.specs.declared.stmts.Stmt.TheVariants as stmts
 use Rattle.swc_ecma_codegen_ast.specs.Tokens.{Token}
 use Rattle.swc_ecma_codegen_ast.specs.Tokens as tokens
 use Rattle.swc_ecma_codegen_common.specs.declared.positions.BytePos.{BytePos}
-use Rattle.swc_ecma_codegen_ast.specs.Phrases.{Phrase, Never, Nothing, One, NameOf, KeyOf, Then, OptionalParentheses, Generates, ◌>◌, mark, open_parenthesis}
+use Rattle.swc_ecma_codegen_ast.specs.Phrases.{Phrase, Never, Nothing, One, NameOf, KeyOf, PrivateOf, Then, OptionalParentheses, Generates, ◌>◌, mark, open_parenthesis}
 use Rattle.swc_ecma_codegen_ast.specs.Phrases as phrases
 use Rattle.swc_ecma_codegen_ast.specs.Settings.{Settings}
 use Rattle.swc_ecma_codegen_ast.specs.declared.roles.Role.{Role}
-use Rattle.swc_ecma_codegen_ast.specs.declared.roles.Role.TheVariants.{Expression, Statement, MemberExpression, ChainMember, AssignmentTarget, Pattern, PlainParameter, PropertyName, PropertyDefinition, ObjectLiteral, Function, FunctionHead, MethodHead, Block, Declaration, VariableDeclaration, Callee as IsCallee, ChainCall, Template, TaggedTemplate, ClassHead, ClassTail, Member, MethodDecorators, MethodTail}
+use Rattle.swc_ecma_codegen_ast.specs.declared.roles.Role.TheVariants.{Expression, Statement, MemberExpression, ChainMember, AssignmentTarget, Pattern, PlainParameter, PropertyName, PropertyDefinition, ObjectLiteral, Function, FunctionHead, MethodHead, Block, Declaration, VariableDeclaration, Callee as IsCallee, ChainCall, Template, TaggedTemplate, ClassHead, ClassTail, Member, MethodDecorators, MethodTail, PrivateTail}
 use Rattle.swc_ecma_codegen_ast.specs.NamePhrases as names
 use Rattle.swc_ecma_codegen_ast.specs.ExprPhrases as lists
 use Rattle.swc_ecma_codegen_ast.specs.LitPhrases as lit_lists
@@ -124,6 +124,14 @@ begins_true x = record { some = λ s k. nothing_first x [] k; told = λ s y ys k
 begins_name : (at : BytePos) (bytes : List ℕ) → Begins (NameOf at bytes) true
 unfolding Generates
 begins_name at bytes = record { some = λ s k. nothing_first _ [] k; told = λ s y ys k j. refl }
+
+-- `#a` is no word
+begins_private : (bytes : List ℕ) (b : Bool) → Begins (PrivateOf bytes) b
+unfolding Generates tokens.private_name joins_a_word
+begins_private bytes b = record {
+  some = λ s k. nothing_first _ [] k;
+  told = λ s x xs k j. absurd (true≢false (sym j ∙ ap (λ (z : Token). joins_a_word z.kind) (same_first x _ xs [] k)));
+}
 
 begins_never : (b : Bool) → Begins Never b
 unfolding Generates
@@ -203,6 +211,7 @@ leads ClassTail = false
 leads Member = false
 leads MethodDecorators = false
 leads MethodTail = false
+leads PrivateTail = false
 leads role = true
 
 -- `function` is a word, and so is `let`; a block and an object begin with a brace, and a template with a back quote
@@ -320,7 +329,7 @@ tpl_begins reads true tagged es (q ∷ qs) = begins_then _ _ _ (begins_where _ _
 tpl_begins reads false tagged es qs = begins_never false
 
 expr_begins : {X : Type 0} (reads : X → Role → Phrase) (starts : X → Bool) → Begin reads starts → (n : Expr X) → Begins (lists.expr reads n) (expr_starts starts n)
-unfolding expr_starts update_starts arrow_starts template_lists.tagged_tpl class_lists.class_expr function_lists.fn_expr function_lists.arrow_expr lists.expr lists.this_expr lists.unary_expr lists.update_expr lists.update_op lists.bin_expr lists.assign_expr lists.super_prop_expr lists.yield_expr lists.meta_prop_expr lists.await_expr lists.opt_chain_expr lists.cond_expr lists.seq_expr lists.paren_expr names.ident call_lists.array_lit call_lists.call_expr leads begins_as
+unfolding expr_starts update_starts arrow_starts template_lists.tagged_tpl class_lists.class_expr function_lists.fn_expr function_lists.arrow_expr lists.expr lists.this_expr lists.unary_expr lists.update_expr lists.update_op lists.bin_expr lists.assign_expr lists.super_prop_expr lists.yield_expr lists.meta_prop_expr lists.await_expr lists.opt_chain_expr lists.cond_expr lists.seq_expr lists.paren_expr names.ident names.private_name call_lists.array_lit call_lists.call_expr leads begins_as
 expr_begins reads starts law (exprs.This n) = begins_true _
 expr_begins reads starts law (exprs.Object n) = law n.node.value ObjectLiteral refl
 expr_begins reads starts law (exprs.Fn n) = begins_then _ _ _ (law n.function.node.value FunctionHead refl)
@@ -345,6 +354,7 @@ expr_begins reads starts law (exprs.Yield n) = begins_then _ _ _ (begins_true _)
 expr_begins reads starts law (exprs.MetaProp n) = meta_prop_begins n.kind
 expr_begins reads starts law (exprs.Await n) = begins_then _ _ _ (begins_true _)
 expr_begins reads starts law (exprs.Paren n) = begins_then _ _ _ (begins_mark _ false)
+expr_begins reads starts law (exprs.PrivateName n) = begins_private _ _
 expr_begins reads starts law (exprs.OptChain n) = chain_begins reads starts law n.optional n.base
 expr_begins reads starts law n = begins_never _
 
@@ -461,6 +471,7 @@ stmt_part_begins reads starts law (stmt_parts.Function n) FunctionHead h = funct
 stmt_part_begins reads starts law (stmt_parts.Function n) MethodHead h = absurd (true≢false (sym h))
 stmt_part_begins reads starts law (stmt_parts.Function n) MethodDecorators h = absurd (true≢false (sym h))
 stmt_part_begins reads starts law (stmt_parts.Function n) MethodTail h = absurd (true≢false (sym h))
+stmt_part_begins reads starts law (stmt_parts.Function n) PrivateTail h = absurd (true≢false (sym h))
 stmt_part_begins reads starts law (stmt_parts.Class n) ClassHead h = absurd (true≢false (sym h))
 stmt_part_begins reads starts law (stmt_parts.Class n) ClassTail h = absurd (true≢false (sym h))
 stmt_part_begins reads starts law (stmt_parts.ClassMember n) Member h = absurd (true≢false (sym h))

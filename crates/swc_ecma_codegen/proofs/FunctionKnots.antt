@@ -24,12 +24,12 @@ use Rattle.swc_ecma_codegen_base.specs.Run.{Plan, Part, refuse}
 use Rattle.swc_ecma_codegen_base.specs.Lists.{ListChild, list}
 use Rattle.swc_ecma_codegen_base.specs.Words.{punct, leading_comments, start_of, end_of}
 use Rattle.swc_ecma_codegen.specs.declared.nodes.Place.{Place}
-use Rattle.swc_ecma_codegen.specs.declared.nodes.Place.TheVariants.{Plain, FunctionHead, MethodHead, DeclarationHead, StaticHead, MethodDecorators, MethodTail}
+use Rattle.swc_ecma_codegen.specs.declared.nodes.Place.TheVariants.{Plain, FunctionHead, MethodHead, DeclarationHead, StaticHead, MethodDecorators, MethodTail, PrivateTail}
 use Rattle.swc_ecma_codegen.specs.declared.patterns.PatternKind.{PatternKind}
 use Rattle.swc_ecma_codegen.specs.Answers.{Answers}
 use Rattle.swc_ecma_codegen.specs.Blocks.{block_list, block_start, block_stmt}
 use Rattle.swc_ecma_codegen.specs.Exprs.{expr, expr_parts, expr_closed, leaves_comments}
-use Rattle.swc_ecma_codegen.specs.Functions.{decorators_format, comma_list_format, decorator, decorator_place, param, function_body, fn_trailing_parts, fn_trailing, function_head, declaration_head, method_head, static_head, decorator_lines, method_tail, function, is_plain, is_name, is_only, async_arrow, star, parenthesis, arrow_parameters, arrow_body, arrow_parts, arrow_expr}
+use Rattle.swc_ecma_codegen.specs.Functions.{decorators_format, comma_list_format, decorator, decorator_place, param, function_body, fn_trailing_parts, fn_trailing, function_head, declaration_head, method_head, static_head, decorator_lines, method_body, method_tail_parts, method_tail, private_tail, function, is_plain, is_name, is_only, async_arrow, star, parenthesis, arrow_parameters, arrow_body, arrow_parts, arrow_expr}
 use Rattle.swc_ecma_codegen.specs.Lists.{child_of, in_order, unsupported}
 use Rattle.swc_ecma_codegen.specs.Parts.{stmt_part}
 use Rattle.swc_ecma_codegen.specs.Tree.{node_items}
@@ -65,13 +65,22 @@ pub decorators_mapped : {X Y : Type 0} (g : Decorator X → Decorator Y) (items 
 decorators_mapped g items put same ns rest = in_order_mapped g (decorator items) (decorator put) same ns rest
 
 tail_mapped : {X Y : Type 0} (g : X → Y) (asks : Y → Answers) (items : Y → Place → Part) (b : Box (functions.Function X) Global) (n : functions.Function X) (body : Option (BlockStmtBox X)) (type_params : Option (TsTypeParamDeclBox X)) (return_type : Option (TsTypeAnnBox X)) (rest : Plan) → node_items asks items (map-AnyNode X Y g (nodes.StmtPart (stmt_parts.Function (record b { value = with_parts n body type_params return_type })))) MethodTail rest ≡ method_tail (λ x. items (g x)) (with_parts n body type_params return_type) rest
-unfolding node_items stmt_part function method_tail fn_trailing_parts function_body param decorator unsupported refuse
+unfolding node_items stmt_part function method_tail method_tail_parts method_body param decorator unsupported refuse
 tail_mapped {X} {Y} g asks items b n None None None rest = ap (λ z. punct (codes "(") z) (children_mapped {A = Param X} _ _ _ (λ p. ap (λ ds. param_child p.span ds (items (g p.pat.node.value) Plain)) (list_mapped {A = Decorator X} _ _ (child_of decorator_place (λ d place. decorator (λ x. items (g x)) d)) (λ d. refl) p.decorators.items)) comma_list_format n.span n.params.items _)
 tail_mapped {X} {Y} g asks items b n (Some body) None None rest = ap (λ z. punct (codes "(") z) (children_mapped {A = Param X} _ _ _ (λ p. ap (λ ds. param_child p.span ds (items (g p.pat.node.value) Plain)) (list_mapped {A = Decorator X} _ _ (child_of decorator_place (λ d place. decorator (λ x. items (g x)) d)) (λ d. refl) p.decorators.items)) comma_list_format n.span n.params.items _)
 tail_mapped g asks items b n None None (Some t) rest = refl
 tail_mapped g asks items b n None (Some p) t rest = refl
 tail_mapped g asks items b n (Some body) None (Some t) rest = refl
 tail_mapped g asks items b n (Some body) (Some p) t rest = refl
+
+private_tail_mapped : {X Y : Type 0} (g : X → Y) (asks : Y → Answers) (items : Y → Place → Part) (b : Box (functions.Function X) Global) (n : functions.Function X) (body : Option (BlockStmtBox X)) (type_params : Option (TsTypeParamDeclBox X)) (return_type : Option (TsTypeAnnBox X)) (rest : Plan) → node_items asks items (map-AnyNode X Y g (nodes.StmtPart (stmt_parts.Function (record b { value = with_parts n body type_params return_type })))) PrivateTail rest ≡ private_tail (λ x. items (g x)) (with_parts n body type_params return_type) rest
+unfolding node_items stmt_part function private_tail fn_trailing_parts function_body param decorator unsupported refuse
+private_tail_mapped {X} {Y} g asks items b n None None None rest = ap (λ z. punct (codes "(") z) (children_mapped {A = Param X} _ _ _ (λ p. ap (λ ds. param_child p.span ds (items (g p.pat.node.value) Plain)) (list_mapped {A = Decorator X} _ _ (child_of decorator_place (λ d place. decorator (λ x. items (g x)) d)) (λ d. refl) p.decorators.items)) comma_list_format n.span n.params.items _)
+private_tail_mapped {X} {Y} g asks items b n (Some body) None None rest = ap (λ z. punct (codes "(") z) (children_mapped {A = Param X} _ _ _ (λ p. ap (λ ds. param_child p.span ds (items (g p.pat.node.value) Plain)) (list_mapped {A = Decorator X} _ _ (child_of decorator_place (λ d place. decorator (λ x. items (g x)) d)) (λ d. refl) p.decorators.items)) comma_list_format n.span n.params.items _)
+private_tail_mapped g asks items b n None None (Some t) rest = refl
+private_tail_mapped g asks items b n None (Some p) t rest = refl
+private_tail_mapped g asks items b n (Some body) None (Some t) rest = refl
+private_tail_mapped g asks items b n (Some body) (Some p) t rest = refl
 
 method_decorators_mapped : {X Y : Type 0} (g : X → Y) (asks : Y → Answers) (items : Y → Place → Part) (b : Box (functions.Function X) Global) (rest : Plan) → node_items asks items (map-AnyNode X Y g (nodes.StmtPart (stmt_parts.Function b))) MethodDecorators rest ≡ decorator_lines (λ x. items (g x)) b.value.decorators.items rest
 unfolding node_items stmt_part function decorator
@@ -85,6 +94,7 @@ function_mapped g asks items b DeclarationHead rest = refl
 function_mapped g asks items b (StaticHead starts) rest = refl
 function_mapped g asks items b MethodDecorators rest = method_decorators_mapped g asks items b rest
 function_mapped g asks items b MethodTail rest = tail_mapped g asks items b b.value b.value.body b.value.type_params b.value.return_type rest
+function_mapped g asks items b PrivateTail rest = private_tail_mapped g asks items b b.value b.value.body b.value.type_params b.value.return_type rest
 function_mapped g asks items b place rest = trailing_mapped g asks items b b.value b.value.body b.value.type_params b.value.return_type rest
 
 -- ---- blocks

@@ -146,7 +146,10 @@ method_body_prints l (Some n) = after (writes_formatting_space l.env) (block_at 
 
 method_trailing_prints : {X : Type 0} (l : Linked X) (n : functions.Function X) → Prints l.env (words.method_tail_parts l.items n) (mark (codes "(") > phrases.listed (codes ",") (map (lists.param l.reads) n.params.items) > mark (codes ")") > classes.method_body l.reads n.body)
 unfolding words.method_tail_parts
-METHODTRAIL
+method_trailing_prints l n =
+    then (prints_punct l.env (codes "(") marks.left_parenthesis)
+    (then (prints_list l.env comma_list_format n.span param_place (words.param l.items) (lists.param l.reads) (param_prints l) refl refl refl refl n.params.items)
+    (then (prints_punct l.env (codes ")") marks.right_parenthesis) (method_body_prints l n.body)))
 
 pub method_tail_prints : {X : Type 0} (l : Linked X) (n : functions.Function X) → Prints l.env (words.method_tail l.items n) (classes.method_tail l.reads n)
 unfolding words.method_tail classes.method_tail

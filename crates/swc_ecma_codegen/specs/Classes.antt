@@ -88,15 +88,13 @@ constructor_body items (Some n) rest = items n.node.value Plain rest
 abbrev pub constructor_params : {X : Type 0} → (X → Place → Part) → Constructor X → Part
 constructor_params items n = list comma_list_format n.span (map (child_of constructor_param_place (λ p place. constructor_param items p)) n.params.items)
 
+-- `(a){ b; }`
+unfoldable pub constructor_tail : {X : Type 0} → (X → Place → Part) → Constructor X → Part
+constructor_tail items n rest = punct (codes "(") (constructor_params items n (punct (codes ")") (constructor_body items n.body rest)))
+
 -- `constructor(a){ b; }`
 unfoldable pub constructor_parts : {X : Type 0} → (X → Place → Part) → Constructor X → Part
-constructor_parts items n rest =
-    leading_comments n.span.lo
-    (start_of n.span
-    (keyword None (codes "constructor")
-    (punct (codes "(")
-    (constructor_params items n
-    (punct (codes ")") (constructor_body items n.body rest))))))
+constructor_parts items n rest = leading_comments n.span.lo (start_of n.span (keyword None (codes "constructor") (constructor_tail items n rest)))
 
 unfoldable pub class_constructor : {X : Type 0} → (X → Place → Part) → Constructor X → Part
 class_constructor items n rest = if is_some n.accessibility then unsupported rest else constructor_parts items n rest
@@ -173,13 +171,16 @@ class_prop asks items n rest = if is_typed_prop n then unsupported rest else cla
 abbrev pub private_decorators : {X : Type 0} → (X → Place → Part) → PrivateProp X → Part
 private_decorators items n = list decorators_format n.span (map (child_of decorator_place (λ d place. decorator items d)) n.decorators.items)
 
+-- `#b = c;`
+unfoldable pub private_prop_tail : {X : Type 0} → (X → Answers) → (X → Place → Part) → PrivateProp X → Part
+private_prop_tail asks items n rest = private_name n.key (prop_value asks items n.value (semi (end_of n.span rest)))
+
 -- `@a static #b = c;`
 unfoldable pub private_prop_parts : {X : Type 0} → (X → Answers) → (X → Place → Part) → PrivateProp X → Part
 private_prop_parts asks items n rest =
     leading_comments n.span.lo
     (start_of n.span
-    (private_decorators items n
-    (static_word n.is_static (private_name n.key (prop_value asks items n.value (semi (end_of n.span rest)))))))
+    (private_decorators items n (static_word n.is_static (private_prop_tail asks items n rest))))
 
 unfoldable pub private_prop : {X : Type 0} → (X → Answers) → (X → Place → Part) → PrivateProp X → Part
 private_prop asks items n rest = if is_typed_private n then unsupported rest else private_prop_parts asks items n rest
@@ -191,11 +192,13 @@ accessor_key items (keys.Private n) rest = private_name n rest
 abbrev pub accessor_decorators : {X : Type 0} → (X → Place → Part) → AutoAccessor X → Part
 accessor_decorators items n = list decorators_format n.span (map (child_of decorator_place (λ d place. decorator items d)) n.decorators.items)
 
+-- `b = c;`
+unfoldable pub accessor_tail : {X : Type 0} → (X → Place → Part) → AutoAccessor X → Part
+accessor_tail items n rest = accessor_key items n.key (initializer items n.value (semi rest))
+
 -- `@a static accessor b = c;`
 unfoldable pub auto_accessor_parts : {X : Type 0} → (X → Place → Part) → AutoAccessor X → Part
-auto_accessor_parts items n rest =
-    accessor_decorators items n
-    (static_word n.is_static (keyword None (codes "accessor") (space (accessor_key items n.key (initializer items n.value (semi rest))))))
+auto_accessor_parts items n rest = accessor_decorators items n (static_word n.is_static (keyword None (codes "accessor") (space (accessor_tail items n rest))))
 
 unfoldable pub auto_accessor : {X : Type 0} → (X → Place → Part) → AutoAccessor X → Part
 auto_accessor items n rest = if is_typed_accessor n then unsupported rest else auto_accessor_parts items n rest

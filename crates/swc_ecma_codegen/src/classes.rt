@@ -4,7 +4,7 @@ ghost use Rattle.std.specs.Prelude.{◌≡◌, OnOk, codes};
 ghost use Rattle.swc_ecma_codegen_base.specs.Run.{Emits};
 ghost use Rattle.swc_ecma_codegen_ast.specs.ClassPhrases.{is_typed_class, is_typed_prop, is_typed_private, is_typed_accessor};
 ghost use Rattle.swc_ecma_codegen.specs.ClassExprs.{class_expr};
-ghost use Rattle.swc_ecma_codegen.specs.Classes.{class_members_format, heritage, member_list, class, class_tail, class_decl, constructor_param, constructor_param_place, constructor_params, constructor_body, class_constructor, static_word, accessor_word, method_word, method_kind, class_method, private_kind, private_method, wrapped, prop_value, class_prop, private_decorators, private_prop, accessor_key, accessor_decorators, auto_accessor, static_block, empty_member, class_member};
+ghost use Rattle.swc_ecma_codegen.specs.Classes.{class_members_format, heritage, member_list, class, class_tail, class_decl, constructor_param, constructor_param_place, constructor_params, constructor_body, constructor_tail, class_constructor, static_word, accessor_word, method_word, method_kind, class_method, private_kind, private_method, wrapped, prop_value, class_prop, private_decorators, private_prop_tail, private_prop, accessor_key, accessor_decorators, accessor_tail, auto_accessor, static_block, empty_member, class_member};
 ghost use Rattle.swc_ecma_codegen.specs.View.{state_of};
 
 use crate::blocks::is_some_listed;
@@ -195,9 +195,7 @@ impl<N: Held> EmitAt for AutoAccessor<N> {
         e.static_word(self.is_static)?;
         e.keyword(None, "accessor")?;
         e.space()?;
-        self.key.emit_at(e, Place::Plain)?;
-        e.initializer(&self.value)?;
-        e.semi()?;
+        e.accessor_tail(self)?;
         Ok(())
     }
 }
@@ -280,10 +278,7 @@ impl<N: Held> EmitAt for PrivateProp<N> {
         e.start_of(self.span)?;
         e.private_decorators(self)?;
         e.static_word(self.is_static)?;
-        self.key.emit_at(e, Place::Plain)?;
-        e.prop_value(&self.value)?;
-        e.semi()?;
-        e.end_of(self.span)?;
+        e.private_prop_tail(self)?;
         Ok(())
     }
 }
@@ -327,10 +322,7 @@ impl<N: Held> EmitAt for Constructor<N> {
         e.leading_comments(self.span.lo)?;
         e.start_of(self.span)?;
         e.keyword(None, "constructor")?;
-        e.punct(Punctuator::LeftParenthesis)?;
-        e.constructor_params(self)?;
-        e.punct(Punctuator::RightParenthesis)?;
-        e.constructor_body(&self.body)?;
+        e.constructor_tail(self)?;
         Ok(())
     }
 }
@@ -433,6 +425,19 @@ impl<W: WriteJs, S: SourceMapper, C: Comments> Emitter<'_, W, S, C> {
         self.list(comma_list_format(), node.span, &node.params)
     }
 
+    /// Writes `(a){ b; }` of a constructor.
+    #[tactic(auto, unfolding(crate::specs::Classes::constructor_tail))]
+    fn constructor_tail<N: Held>(&mut self, node: &Constructor<N>) -> Answer
+        ensures items { Emits (constructor_tail N.items node.now) (state_of S.lines W.sheet self.old) (state_of S.lines W.sheet self.new) result }
+        ensures level { OnOk result ((W.sheet self.new.wr).indentation ≡ (W.sheet self.old.wr).indentation) }
+    {
+        self.punct(Punctuator::LeftParenthesis)?;
+        self.constructor_params(node)?;
+        self.punct(Punctuator::RightParenthesis)?;
+        self.constructor_body(&node.body)?;
+        Ok(())
+    }
+
     /// Writes the decorators of a field with `accessor`.
     fn accessor_decorators<N: Held>(&mut self, node: &AutoAccessor<N>) -> Answer
         ensures items { Emits (accessor_decorators N.items node.now) (state_of S.lines W.sheet self.old) (state_of S.lines W.sheet self.new) result }
@@ -441,12 +446,37 @@ impl<W: WriteJs, S: SourceMapper, C: Comments> Emitter<'_, W, S, C> {
         self.list(decorators_format(), node.span, &node.decorators)
     }
 
+    /// Writes `b = c;` of a field with `accessor`.
+    #[tactic(auto, unfolding(crate::specs::Classes::accessor_tail))]
+    fn accessor_tail<N: Held>(&mut self, node: &AutoAccessor<N>) -> Answer
+        ensures items { Emits (accessor_tail N.items node.now) (state_of S.lines W.sheet self.old) (state_of S.lines W.sheet self.new) result }
+        ensures level { OnOk result ((W.sheet self.new.wr).indentation ≡ (W.sheet self.old.wr).indentation) }
+    {
+        node.key.emit_at(self, Place::Plain)?;
+        self.initializer(&node.value)?;
+        self.semi()?;
+        Ok(())
+    }
+
     /// Writes the decorators of a private field.
     fn private_decorators<N: Held>(&mut self, node: &PrivateProp<N>) -> Answer
         ensures items { Emits (private_decorators N.items node.now) (state_of S.lines W.sheet self.old) (state_of S.lines W.sheet self.new) result }
         ensures level { OnOk result ((W.sheet self.new.wr).indentation ≡ (W.sheet self.old.wr).indentation) }
     {
         self.list(decorators_format(), node.span, &node.decorators)
+    }
+
+    /// Writes `#b = c;`
+    #[tactic(auto, unfolding(crate::specs::Classes::private_prop_tail))]
+    fn private_prop_tail<N: Held>(&mut self, node: &PrivateProp<N>) -> Answer
+        ensures items { Emits (private_prop_tail N.answers N.items node.now) (state_of S.lines W.sheet self.old) (state_of S.lines W.sheet self.new) result }
+        ensures level { OnOk result ((W.sheet self.new.wr).indentation ≡ (W.sheet self.old.wr).indentation) }
+    {
+        node.key.emit_at(self, Place::Plain)?;
+        self.prop_value(&node.value)?;
+        self.semi()?;
+        self.end_of(node.span)?;
+        Ok(())
     }
 
     /// Writes `;` as a member.

@@ -7,7 +7,7 @@ use Rattle.swc_ecma_codegen_common.specs.declared.positions.Span.{Span}
 use Rattle.swc_ecma_codegen_spans.specs.Spans.{dummy_span}
 use Rattle.swc_ecma_codegen_ast.specs.declared.kinds.Kind.TheVariants.{PrivateName}
 use Rattle.swc_ecma_codegen_ast.specs.GapRules.{allows, last_after}
-use Rattle.swc_ecma_codegen_ast.specs.Names.{is_name, name_value, is_private_name, private_name_value}
+use Rattle.swc_ecma_codegen_ast.specs.Names.{is_name, name_rest, name_value, is_private_name, private_name_value}
 use Rattle.swc_ecma_codegen_ast.specs.Parts.{tokens_of}
 use Rattle.swc_ecma_codegen_ast.specs.Phrases.{PrivateOf, Generates, is_possible, names_in}
 use Rattle.swc_ecma_codegen_ast.specs.Reads.{is_child, is_hashbang_kind}
@@ -192,7 +192,7 @@ unfolding words.valid_private step refuse unprintable_in
 name_out env span bytes rest e o = ap unprintable_in (valid_same span bytes rest env e) ∙ ap unprintable_in (private_out span (turned bytes) rest env o)
 
 some_name : (t : List ℕ) → is_name (chars t) ≡ true → t ≡ [] → ⊥
-unfolding is_name chars lib.Utf8.encode
+unfolding is_name name_rest chars lib.Utf8.encode
 some_name [] h e = true≢false (sym h)
 some_name (c ∷ cs) h e = cc
 
