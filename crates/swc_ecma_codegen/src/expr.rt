@@ -2,7 +2,7 @@
 
 ghost use Rattle.std.specs.Prelude.{◌≡◌, Some, None, OnOk};
 ghost use Rattle.swc_ecma_codegen_base.specs.Run.{Emits};
-ghost use Rattle.swc_ecma_codegen.specs.Exprs.{ident, ident_name, this, unary_op, unary_gap, unary, update_parts, update, binary_op, before_op, after_op, bin_trailing, bin_opened, bin, computed_prop_name, choice, meta_prop_expr, assign, yield_star, yield_arg, yield_expr, spread_element, await_expr, seq, paren, expr_parts, is_left_operand, leaves_comments, expr_closed, expr};
+ghost use Rattle.swc_ecma_codegen.specs.Exprs.{ident, ident_name, private_name, this, unary_op, unary_gap, unary, update_parts, update, binary_op, before_op, after_op, bin_trailing, bin_opened, bin, computed_prop_name, choice, meta_prop_expr, assign, yield_star, yield_arg, yield_expr, spread_element, await_expr, seq, paren, expr_parts, is_left_operand, leaves_comments, expr_closed, expr};
 ghost use Rattle.swc_ecma_codegen_util.specs.Starts.{is_word_op as is_word_unary};
 ghost use Rattle.swc_ecma_codegen.specs.View.{state_of};
 
@@ -19,7 +19,7 @@ use swc_ecma_codegen_literals::Punctuator;
 use swc_ecma_codegen_text_writer::WriteJs;
 use swc_ecma_codegen_tree::{
     AssignExpr, AwaitExpr, BinExpr, ComputedPropName, CondExpr, Expr, ExprBox, Ident, IdentName,
-    MetaPropExpr, MetaPropKind, ParenExpr, SeqExpr, SpreadElement, ThisExpr, UnaryExpr, UpdateExpr,
+    MetaPropExpr, MetaPropKind, ParenExpr, PrivateName, SeqExpr, SpreadElement, ThisExpr, UnaryExpr, UpdateExpr,
     YieldExpr,
 };
 
