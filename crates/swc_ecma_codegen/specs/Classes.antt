@@ -34,7 +34,6 @@ use Rattle.swc_ecma_codegen.specs.Exprs.{blank, ident, private_name}
 use Rattle.swc_ecma_codegen.specs.Lists.{child_of, unsupported}
 use Rattle.swc_ecma_codegen.specs.Pats.{initializer}
 
-
 -- `ClassMembers`
 abbrev pub class_members_format : ℕ
 class_members_format = 65

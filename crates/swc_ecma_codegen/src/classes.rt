@@ -19,7 +19,8 @@ use swc_ecma_codegen_literals::Punctuator;
 use swc_ecma_codegen_text_writer::WriteJs;
 use swc_ecma_codegen_tree::{
     AutoAccessor, BlockStmtBox, Class, ClassDecl, ClassExpr, ClassMember, ClassMemberBox,
-    ClassMethod, ClassProp, Constructor, EmptyStmt, ExprBox, Key, MethodKind, ParamOrTsParamProp, PrivateMethod, PrivateProp, StaticBlock,
+    ClassMethod, ClassProp, Constructor, EmptyStmt, ExprBox, Key, MethodKind, ParamOrTsParamProp,
+    PrivateMethod, PrivateProp, StaticBlock,
 };
 
 /// The format of members.
@@ -225,7 +226,11 @@ impl<N: Held> EmitAt for PrivateMethod<N> {
         e: &mut Emitter<'_, W, S, C>,
         place: Place,
     ) -> Answer {
-        if self.accessibility.is_some() || self.is_abstract || self.is_optional || self.is_override {
+        if self.accessibility.is_some()
+            || self.is_abstract
+            || self.is_optional
+            || self.is_override
+        {
             return e.unsupported();
         }
         e.leading_comments(self.span.lo)?;
@@ -248,7 +253,11 @@ impl<N: Held> EmitAt for ClassMethod<N> {
         e: &mut Emitter<'_, W, S, C>,
         place: Place,
     ) -> Answer {
-        if self.accessibility.is_some() || self.is_abstract || self.is_optional || self.is_override {
+        if self.accessibility.is_some()
+            || self.is_abstract
+            || self.is_optional
+            || self.is_override
+        {
             return e.unsupported();
         }
         e.leading_comments(self.span.lo)?;
@@ -536,7 +545,9 @@ impl<W: WriteJs, S: SourceMapper, C: Comments> Emitter<'_, W, S, C> {
         }
         self.keyword(None, "static")?;
         let starts = node.key.held().starts();
-        node.function.held().emit_at(self, Place::StaticHead(starts))?;
+        node.function
+            .held()
+            .emit_at(self, Place::StaticHead(starts))?;
         Ok(())
     }
 

@@ -19,8 +19,8 @@ use swc_ecma_codegen_literals::Punctuator;
 use swc_ecma_codegen_text_writer::WriteJs;
 use swc_ecma_codegen_tree::{
     AssignExpr, AwaitExpr, BinExpr, ComputedPropName, CondExpr, Expr, ExprBox, Ident, IdentName,
-    MetaPropExpr, MetaPropKind, ParenExpr, PrivateName, SeqExpr, SpreadElement, ThisExpr, UnaryExpr, UpdateExpr,
-    YieldExpr,
+    MetaPropExpr, MetaPropKind, ParenExpr, PrivateName, SeqExpr, SpreadElement, ThisExpr,
+    UnaryExpr, UpdateExpr, YieldExpr,
 };
 
 /// Whether it is the place of a left operand.

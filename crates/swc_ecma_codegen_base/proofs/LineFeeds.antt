@@ -52,7 +52,7 @@ feed_turned cs = elim (cases_Bool (begins (10 ∷ []) cs)) [
 -- ---- how it begins
 
 by_return : (c : ℕ) (P : Type 0) → ((c == 13) ≡ false → P) → (c ≡ 13 → P) → P
-by_return c P other same = elim (cases_Bool (c == 13)) [ | inl y ↦ same (eqb-true c 13 y) | inr n ↦ other n ]
+by_return c P other same = elim (cases_Bool (c == 13)) [ inl y ↦ same (eqb-true c 13 y) | inr n ↦ other n ]
 
 brace_same : (cs : List ℕ) → begins (123 ∷ []) (with_line_feeds cs) ≡ begins (123 ∷ []) cs
 unfolding begins with_line_feeds

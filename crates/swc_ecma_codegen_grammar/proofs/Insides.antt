@@ -20,8 +20,8 @@ some_before us None = refl
 some_before us (Some vs) = refl
 
 -- a character more
-pub cooks_on : (rest more : List ℕ) (place : Place) (c : ℕ) (o : Option (List ℕ)) {start : Option (List ℕ)} → is_some start ≡ is_some (cooked_rest place rest) → rest ≡ c ∷ more → cooked_rest place (c ∷ more) ≡ o → is_some start ≡ is_some o
-cooks_on rest more place c o g e h = g ∙ ap (λ z. is_some (cooked_rest place z)) e ∙ ap is_some h
+pub cooks_on : (rest more : List ℕ) (place : Place) (c : ℕ) (o : Option (List ℕ)) (b : Bool) → b ≡ is_some (cooked_rest place rest) → rest ≡ c ∷ more → cooked_rest place (c ∷ more) ≡ o → b ≡ is_some o
+cooks_on rest more place c o b g e h = g ∙ ap (λ z. is_some (cooked_rest place z)) e ∙ ap is_some h
 
 -- ---- the end of a part
 

@@ -25,14 +25,14 @@ unfolding has_shape part_kind part_text part_begin is_template is_template_rest
 shape_is true part cs = refl
 shape_is false part cs = refl
 
-one_possible : (b : Bool) {p : Phrase} → is_possible p ≡ true → is_possible (where_ b p) ≡ b
+one_possible : (b : Bool) (p : Phrase) → is_possible p ≡ true → is_possible (where_ b p) ≡ b
 unfolding is_possible where_
-one_possible true h = h
-one_possible false h = refl
+one_possible true p h = h
+one_possible false p h = refl
 
 element_possible : (first : Bool) (part : TemplatePart) (n : TplElement) → is_possible (tpl_element first part n) ≡ is_element part.tagged n
 unfolding is_possible tpl_element part_phrase is_element
-element_possible first part n = one_possible (has_shape (part_kind first part) (part_text first part (characters n.raw))) refl ∙ shape_is first part (characters n.raw) ∙ goes_is part (characters n.raw)
+element_possible first part n = one_possible (has_shape (part_kind first part) (part_text first part (characters n.raw))) _ refl ∙ shape_is first part (characters n.raw) ∙ goes_is part (characters n.raw)
 
 -- ---- the parts, of which there is one more than expressions
 

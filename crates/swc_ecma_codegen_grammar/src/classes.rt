@@ -10,8 +10,9 @@ use crate::functions::{is_body, is_optional_name};
 use crate::pats::is_initializer;
 use swc_ecma_codegen_ast::roles::Role;
 use swc_ecma_codegen_tree::{
-    AutoAccessor, BlockStmtBox, Class, ClassDecl, ClassExpr, ClassMember, ClassMemberBox, ClassMethod, ClassProp,
-    Constructor, ExprBox, Function, FunctionBox, Key, MethodKind, ParamOrTsParamProp, PrivateMethod, PrivateProp, StaticBlock,
+    AutoAccessor, BlockStmtBox, Class, ClassDecl, ClassExpr, ClassMember, ClassMemberBox,
+    ClassMethod, ClassProp, Constructor, ExprBox, Function, FunctionBox, Key, MethodKind,
+    ParamOrTsParamProp, PrivateMethod, PrivateProp, StaticBlock,
 };
 
 /// Whether what stands before the word of a class is well-formed.
@@ -112,9 +113,7 @@ impl<N: Fits> WellFormed for Constructor<N> {
 
     #[tactic(auto, using(crate::proofs::ClassesPossible::constructor_possible))]
     fn is_well_formed(&self) -> bool {
-        self.accessibility.is_none()
-            && all_well_formed(&self.params)
-            && is_method_body(&self.body)
+        self.accessibility.is_none() && all_well_formed(&self.params) && is_method_body(&self.body)
     }
 }
 

@@ -57,10 +57,8 @@ impl<N: Fits> WellFormed for Decl<N> {
             Decl::Fn(node) => node.is_well_formed(),
             Decl::Var(node) => node.is_well_formed(),
             Decl::Using(node) => node.is_well_formed(),
-            Decl::TsInterface(_)
-            | Decl::TsTypeAlias(_)
-            | Decl::TsEnum(_)
-            | Decl::TsModule(_) => false,
+            Decl::TsInterface(_) | Decl::TsTypeAlias(_) | Decl::TsEnum(_) | Decl::TsModule(_) =>
+                false,
         }
     }
 }

@@ -16,7 +16,9 @@ use crate::strings::first;
 use crate::texts::{begins_with, split_first};
 use swc_ecma_codegen_ast::characters::is_digit;
 use swc_ecma_codegen_ast::roles::Role;
-use swc_ecma_codegen_ast::turns::{Turn, braced_turn, due_turn, escape_turn, is_digit_next, unicode_turn};
+use swc_ecma_codegen_ast::turns::{
+    Turn, braced_turn, due_turn, escape_turn, is_digit_next, unicode_turn,
+};
 use swc_ecma_codegen_ast::units::Place;
 use swc_ecma_codegen_tree::{ExprBox, TaggedTpl, Tpl, TplBox, TplElement};
 
