@@ -103,7 +103,7 @@ constructor_body_prints l None = prints_punct l.env (codes ";") marks.semicolon
 constructor_body_prints l (Some n) = block_at l n Plain
 
 constructor_prints : {X : Type 0} (l : Linked X) (n : Constructor X) → Prints l.env (words.class_constructor l.items n) (lists.class_constructor l.reads n)
-unfolding words.class_constructor words.constructor_parts words.constructor_tail lists.class_constructor
+unfolding words.class_constructor words.constructor_parts words.constructor_word words.constructor_tail lists.class_constructor
 constructor_prints l n = refused_or (is_some n.accessibility)
     (after (writes_leading l.env n.span.lo)
     (after (writes_position l.env n.span.lo)

@@ -91,9 +91,12 @@ constructor_params items n = list comma_list_format n.span (map (child_of constr
 unfoldable pub constructor_tail : {X : Type 0} → (X → Place → Part) → Constructor X → Part
 constructor_tail items n rest = punct (codes "(") (constructor_params items n (punct (codes ")") (constructor_body items n.body rest)))
 
+unfoldable pub constructor_word : Part
+constructor_word rest = keyword None (codes "constructor") rest
+
 -- `constructor(a){ b; }`
 unfoldable pub constructor_parts : {X : Type 0} → (X → Place → Part) → Constructor X → Part
-constructor_parts items n rest = leading_comments n.span.lo (start_of n.span (keyword None (codes "constructor") (constructor_tail items n rest)))
+constructor_parts items n rest = leading_comments n.span.lo (start_of n.span (constructor_word (constructor_tail items n rest)))
 
 unfoldable pub class_constructor : {X : Type 0} → (X → Place → Part) → Constructor X → Part
 class_constructor items n rest = if is_some n.accessibility then unsupported rest else constructor_parts items n rest
