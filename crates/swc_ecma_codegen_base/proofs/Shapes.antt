@@ -1,0 +1,277 @@
+-- How parts stand on lines: where each place of a line leads through them.
+use Rattle.std.proofs.Common.{◌≡◌, ℕ, Bool, true, false, ◌&&◌, not, List, [], ◌∷◌, ◌++◌, refl, sym, ap, subst, ◌∙◌}
+use Rattle.std.proofs.lemmas.Bool.{and_parts, true≢false}
+use Rattle.swc_ecma_codegen_ast.specs.Chars.{is_one_line}
+use Rattle.swc_ecma_codegen_ast.specs.Trivia.{pieces_text}
+use Rattle.swc_ecma_codegen_ast.specs.Parts as parts
+use Rattle.swc_ecma_codegen_ast.specs.Parts.{Gap, Own, Joint, OfLine, OnLine, PastLine, AtJoint, Broken, over_gap, over_own, over_joint, walk, is_broken}
+use Rattle.swc_ecma_codegen_text_writer.specs.Sheet.{Sheet}
+use Rattle.swc_ecma_codegen_base.specs.Written.{holds_one}
+
+-- ---- which place is as good as another
+
+-- On the line of the last token all may follow that may elsewhere, and nothing is asked past what is broken.
+pub data Le : OfLine → OfLine → Type 0 where
+  same : (w : OfLine) → Le w w
+  line_first : (w : OfLine) → Le OnLine w
+  broken_last : (w : OfLine) → Le w Broken
+
+unfoldable pub is_le : OfLine → OfLine → Bool
+is_le OnLine w = true
+is_le v Broken = true
+is_le PastLine PastLine = true
+is_le AtJoint AtJoint = true
+is_le v w = false
+
+le_from : (v w : OfLine) → is_le v w ≡ true → Le v w
+unfolding is_le
+le_from OnLine w h = line_first w
+le_from v Broken h = broken_last v
+le_from PastLine PastLine h = same PastLine
+le_from AtJoint AtJoint h = same AtJoint
+le_from v w h = absurd (true≢false (sym h))
+
+line_is_not_broken : OnLine ≡ Broken → ⊥
+line_is_not_broken e = cc
+
+only_broken : (v w : OfLine) → Le v w → v ≡ Broken → w ≡ Broken
+only_broken v w (same w) e = e
+only_broken v w (line_first w) e = absurd (line_is_not_broken e)
+only_broken v w (broken_last v) e = refl
+
+le_trans : (u v w : OfLine) → Le u v → Le v w → Le u w
+le_trans u v w (same u) k = k
+le_trans u v w (line_first v) k = line_first w
+le_trans u v w (broken_last u) k = subst (λ z. Le u z) (sym (only_broken Broken w k refl)) (broken_last u)
+
+pub not_broken : (v w : OfLine) → Le v w → is_broken w ≡ false → is_broken v ≡ false
+unfolding is_broken
+not_broken v w (same w) h = h
+not_broken v w (line_first w) h = refl
+not_broken v w (broken_last v) h = absurd (true≢false h)
+
+gap_broken : (o : Bool) → over_gap o Broken ≡ Broken
+unfolding over_gap
+gap_broken true = refl
+gap_broken false = refl
+
+gap_first : (o : Bool) (w : OfLine) → Le (over_gap o OnLine) (over_gap o w)
+unfolding over_gap
+gap_first true w = line_first w
+gap_first false OnLine = same PastLine
+gap_first false PastLine = same PastLine
+gap_first false AtJoint = broken_last PastLine
+gap_first false Broken = broken_last PastLine
+
+gap_le : (o : Bool) (v w : OfLine) → Le v w → Le (over_gap o v) (over_gap o w)
+gap_le o v w (same w) = same (over_gap o w)
+gap_le o v w (line_first w) = gap_first o w
+gap_le o v w (broken_last v) = subst (λ z. Le (over_gap o v) z) (sym (gap_broken o)) (broken_last (over_gap o v))
+
+own_first : (w : OfLine) → Le OnLine (over_own w)
+own_first w = line_first (over_own w)
+
+own_le : (v w : OfLine) → Le v w → Le (over_own v) (over_own w)
+unfolding over_own
+own_le v w (same w) = same (over_own w)
+own_le v w (line_first w) = own_first w
+own_le v w (broken_last v) = broken_last (over_own v)
+
+joint_first : (w : OfLine) → Le AtJoint (over_joint w)
+unfolding over_joint
+joint_first OnLine = same AtJoint
+joint_first PastLine = broken_last AtJoint
+joint_first AtJoint = same AtJoint
+joint_first Broken = broken_last AtJoint
+
+joint_le : (v w : OfLine) → Le v w → Le (over_joint v) (over_joint w)
+unfolding over_joint
+joint_le v w (same w) = same (over_joint w)
+joint_le v w (line_first w) = joint_first w
+joint_le v w (broken_last v) = broken_last (over_joint v)
+
+pub walk_le : (xs : List parts.Part) (v w : OfLine) → Le v w → Le (walk v xs) (walk w xs)
+unfolding walk
+walk_le [] v w h = h
+walk_le (Gap ps ∷ xs) v w h = walk_le xs _ _ (gap_le (is_one_line (pieces_text ps)) v w h)
+walk_le (Own x t ∷ xs) v w h = walk_le xs _ _ (own_le v w h)
+walk_le (Joint ∷ xs) v w h = walk_le xs _ _ (joint_le v w h)
+
+pub walk_append : (xs ys : List parts.Part) (w : OfLine) → walk w (xs ++ ys) ≡ walk (walk w xs) ys
+unfolding walk
+walk_append [] ys w = refl
+walk_append (Gap ps ∷ xs) ys w = walk_append xs ys _
+walk_append (Own x t ∷ xs) ys w = walk_append xs ys _
+walk_append (Joint ∷ xs) ys w = walk_append xs ys _
+
+-- ---- where parts lead
+
+-- The places that parts lead to at most, from the line of the last token, from past its end, and from right after
+-- `[no LineTerminator here]`.
+pub record Shape : Type 0 where
+  pub line : OfLine
+  pub past : OfLine
+  pub joint : OfLine
+
+-- what begins and ends with a token, as `a`
+abbrev pub whole : Shape
+whole = record { line = OnLine; past = OnLine; joint = OnLine }
+
+-- blanks, or nothing at all
+abbrev pub open_ : Shape
+open_ = record { line = OnLine; past = PastLine; joint = AtJoint }
+
+-- what begins with a token, and then a line may end, or a statement: `a;`
+abbrev pub ended : Shape
+ended = record { line = PastLine; past = PastLine; joint = PastLine }
+
+-- where lines may end anywhere
+abbrev pub loose : Shape
+loose = record { line = PastLine; past = PastLine; joint = Broken }
+
+-- what ends with a token, and a line may end before it
+abbrev pub closed : Shape
+closed = record { line = OnLine; past = OnLine; joint = Broken }
+
+-- `[no LineTerminator here]`
+abbrev pub joining : Shape
+joining = record { line = AtJoint; past = Broken; joint = AtJoint }
+
+abbrev pub leads : Shape → OfLine → OfLine
+leads i OnLine = i.line
+leads i PastLine = i.past
+leads i AtJoint = i.joint
+leads i Broken = Broken
+
+-- one after the other
+abbrev pub join : Shape → Shape → Shape
+join i j = record { line = leads j i.line; past = leads j i.past; joint = leads j i.joint }
+
+abbrev pub is_within : Shape → Shape → Bool
+is_within i j = is_le i.line j.line && (is_le i.past j.past && is_le i.joint j.joint)
+
+pub record Fits (i : Shape) (xs : List parts.Part) : Type 0 where
+  pub line : Le (walk OnLine xs) i.line
+  pub past : Le (walk PastLine xs) i.past
+  pub joint : Le (walk AtJoint xs) i.joint
+
+fits_at : {i : Shape} {xs : List parts.Part} → Fits i xs → (w : OfLine) → Le (walk w xs) (leads i w)
+fits_at h OnLine = h.line
+fits_at h PastLine = h.past
+fits_at h AtJoint = h.joint
+fits_at h Broken = broken_last _
+
+fits_step : {j : Shape} (xs ys : List parts.Part) (v w : OfLine) → Le (walk v xs) w → Fits j ys → Le (walk v (xs ++ ys)) (leads j w)
+fits_step {j} xs ys v w h k = subst (λ z. Le z (leads j w)) (sym (walk_append xs ys v)) (le_trans _ _ _ (walk_le ys (walk v xs) w h) (fits_at k w))
+
+pub fits_then : {i j : Shape} (xs ys : List parts.Part) → Fits i xs → Fits j ys → Fits (join i j) (xs ++ ys)
+fits_then xs ys h k = record { line = fits_step xs ys OnLine _ h.line k; past = fits_step xs ys PastLine _ h.past k; joint = fits_step xs ys AtJoint _ h.joint k }
+
+pub fits_wider : {i : Shape} (j : Shape) {xs : List parts.Part} → is_within i j ≡ true → Fits i xs → Fits j xs
+fits_wider {i} j e h =
+    let p = and_parts (is_le i.line j.line) _ e in
+    let q = and_parts (is_le i.past j.past) (is_le i.joint j.joint) p.1 in
+    record { line = le_trans _ _ _ h.line (le_from _ _ p.0); past = le_trans _ _ _ h.past (le_from _ _ q.0); joint = le_trans _ _ _ h.joint (le_from _ _ q.1) }
+
+pub fits_nothing : Fits open_ []
+unfolding walk
+fits_nothing = record { line = same OnLine; past = same PastLine; joint = same AtJoint }
+
+pub fits_joint : Fits joining (Joint ∷ [])
+unfolding walk over_joint
+fits_joint = record { line = same AtJoint; past = same Broken; joint = same AtJoint }
+
+-- a gap that holds no line terminator, and any gap
+pub fits_blank : {gap : List parts.Part} (u : List ℕ) → is_one_line u ≡ true → ((w : OfLine) → walk w gap ≡ over_gap (is_one_line u) w) → Fits open_ gap
+unfolding over_gap
+fits_blank u h e =
+    let f : (w : OfLine) → Le (walk w _) w = λ w. subst (λ z. Le z w) (sym (e w ∙ ap (λ o. over_gap o w) h)) (same w) in
+    record { line = f OnLine; past = f PastLine; joint = f AtJoint }
+
+gap_line : (o : Bool) → Le (over_gap o OnLine) PastLine
+unfolding over_gap
+gap_line true = line_first PastLine
+gap_line false = same PastLine
+
+gap_past : (o : Bool) → Le (over_gap o PastLine) PastLine
+unfolding over_gap
+gap_past true = same PastLine
+gap_past false = same PastLine
+
+pub fits_gap : {gap : List parts.Part} (o : Bool) → ((w : OfLine) → walk w gap ≡ over_gap o w) → Fits loose gap
+fits_gap o e = record { line = subst (λ z. Le z PastLine) (sym (e OnLine)) (gap_line o); past = subst (λ z. Le z PastLine) (sym (e PastLine)) (gap_past o); joint = broken_last _ }
+
+-- a token
+pub fits_own : (kind : _) (t : List ℕ) → Fits whole (Own kind t ∷ [])
+unfolding walk over_own
+fits_own kind t = record { line = same OnLine; past = same OnLine; joint = same OnLine }
+
+-- ---- a semicolon that is held back
+
+-- past the end of a statement a semicolon may be held back, elsewhere none is
+unfoldable pub NoneHeld : OfLine → Sheet → Type 0
+NoneHeld OnLine s = holds_one s.semicolons ≡ false
+NoneHeld AtJoint s = holds_one s.semicolons ≡ false
+NoneHeld PastLine s = Unit {0}
+NoneHeld Broken s = Unit {0}
+
+none_le : (v w : OfLine) (s : Sheet) → Le v w → NoneHeld v s → NoneHeld w s
+unfolding NoneHeld
+none_le v w s (same w) h = h
+none_le v w s (line_first w) h = one w h
+  where
+    one : (w : OfLine) → holds_one s.semicolons ≡ false → NoneHeld w s
+    one OnLine h = h
+    one AtJoint h = h
+    one PastLine h = tt
+    one Broken h = tt
+none_le v w s (broken_last v) h = tt
+
+pub record Settles (i : Shape) (a b : Sheet) : Type 0 where
+  pub line : NoneHeld OnLine a → NoneHeld i.line b
+  pub past : NoneHeld i.past b
+  pub joint : NoneHeld AtJoint a → NoneHeld i.joint b
+
+settles_at : {i : Shape} {a b : Sheet} → Settles i a b → (w : OfLine) → NoneHeld w a → NoneHeld (leads i w) b
+unfolding NoneHeld
+settles_at h OnLine n = h.line n
+settles_at h PastLine n = h.past
+settles_at h AtJoint n = h.joint n
+settles_at h Broken n = tt
+
+pub settles_then : {i j : Shape} {a b c : Sheet} → Settles i a b → Settles j b c → Settles (join i j) a c
+unfolding NoneHeld
+settles_then {i} h k = record { line = λ n. settles_at k i.line (h.line n); past = settles_at k i.past h.past; joint = λ n. settles_at k i.joint (h.joint n) }
+
+pub settles_wider : {i : Shape} (j : Shape) {a b : Sheet} → is_within i j ≡ true → Settles i a b → Settles j a b
+settles_wider {i} j {a} {b} e h =
+    let p = and_parts (is_le i.line j.line) _ e in
+    let q = and_parts (is_le i.past j.past) (is_le i.joint j.joint) p.1 in
+    record { line = λ n. none_le _ _ b (le_from _ _ p.0) (h.line n); past = none_le _ _ b (le_from _ _ q.0) h.past; joint = λ n. none_le _ _ b (le_from _ _ q.1) (h.joint n) }
+
+-- after a token of its own none is held back
+pub settles_own : (a b : Sheet) → holds_one b.semicolons ≡ false → Settles whole a b
+unfolding NoneHeld
+settles_own a b h = record { line = λ n. h; past = h; joint = λ n. h }
+
+-- where none was none is
+pub settles_same : (a b : Sheet) → (holds_one a.semicolons ≡ false → holds_one b.semicolons ≡ false) → Settles open_ a b
+unfolding NoneHeld
+settles_same a b h = record { line = h; past = tt; joint = h }
+
+pub settles_ended : (a b : Sheet) → Settles ended a b
+unfolding NoneHeld
+settles_ended a b = record { line = λ n. tt; past = tt; joint = λ n. tt }
+
+pub settles_loose : (a b : Sheet) → Settles loose a b
+unfolding NoneHeld
+settles_loose a b = record { line = λ n. tt; past = tt; joint = λ n. tt }
+
+pub settles_joint : (a : Sheet) → holds_one a.semicolons ≡ false → Settles joining a a
+unfolding NoneHeld
+settles_joint a h = record { line = λ n. h; past = tt; joint = λ n. h }
+
+-- what ends with a token
+pub none_held : {a b : Sheet} → Settles whole a b → holds_one b.semicolons ≡ false
+unfolding NoneHeld
+none_held h = h.past
