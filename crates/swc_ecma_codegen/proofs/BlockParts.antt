@@ -15,7 +15,7 @@ use Rattle.swc_ecma_codegen_base.specs.Words.{punct, position_before}
 use Rattle.swc_ecma_codegen_base.proofs.Emitting.{minified_same, pretty_same}
 use Rattle.swc_ecma_codegen_base.proofs.ListLaws.{IsUndelimited, children_of, prints_bracketed_in_order}
 use Rattle.swc_ecma_codegen_base.proofs.Phrased.{Prints, after, prints_same, prints_punct}
-use Rattle.swc_ecma_codegen_base.proofs.Printed.{Writes, writes_nothing, writes_position, writes_position_before, writes_leading}
+use Rattle.swc_ecma_codegen_base.proofs.Printed.{writes_nothing, writes_position, writes_position_before, writes_leading, Fills}
 use Rattle.swc_ecma_codegen.specs.declared.nodes.Place.{Place}
 use Rattle.swc_ecma_codegen.specs.declared.nodes.Place.TheVariants.{Plain, Body}
 use Rattle.swc_ecma_codegen.specs.Blocks as words
@@ -30,7 +30,7 @@ pub behind_bracket : (env : Env) (t : List ℕ) (p q : Part) → ((rest : Plan) 
 unfolding punct step
 behind_bracket env t p q same rest = ap (λ z. next (Guard t) (next (Token Punctuator (Punct None t)) z)) (same rest)
 
-writes_block_start : (env : Env) (place : Place) (span : Span) → Writes env (words.block_start place span) []
+writes_block_start : (env : Env) (place : Place) (span : Span) → Fills env (words.block_start place span)
 unfolding words.block_start
 writes_block_start env Body span = writes_nothing env
 writes_block_start env place span = writes_position env span.lo

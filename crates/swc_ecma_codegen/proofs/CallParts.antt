@@ -27,7 +27,7 @@ use Rattle.swc_ecma_codegen_base.specs.Run.{Env, Part}
 use Rattle.swc_ecma_codegen_base.specs.Lists.{list}
 use Rattle.swc_ecma_codegen_base.specs.Words.{punct, space, formatting_space, position, end_of}
 use Rattle.swc_ecma_codegen_base.specs.Written.{IsWord, IsMark}
-use Rattle.swc_ecma_codegen_base.proofs.Printed.{Writes, writes_if, writes_nothing, writes_space, writes_formatting_space, writes_commit, writes_position, writes_leading}
+use Rattle.swc_ecma_codegen_base.proofs.Printed.{writes_if, writes_nothing, writes_space, writes_formatting_space, writes_commit, writes_position, writes_leading, Fills}
 use Rattle.swc_ecma_codegen_base.proofs.Phrased.{Prints, then, after, before, prints_nothing, prints_never, prints_keyword, prints_punct}
 use Rattle.swc_ecma_codegen_base.proofs.Choices.{prints_empty_arguments}
 use Rattle.swc_ecma_codegen_base.proofs.ListLaws.{prints_bracketed, prints_bracketed_some, prints_forced_closing}
@@ -166,7 +166,7 @@ unfolding words.new_arguments lists.new_arguments
 new_arguments_print l parent keeps None = prints_nothing
 new_arguments_print l parent keeps (Some xs) = listed_arguments_print l parent keeps xs.items
 
-writes_new_gap : (env : Env) (starts : Bool) → Writes env (words.new_gap starts) []
+writes_new_gap : (env : Env) (starts : Bool) → Fills env (words.new_gap starts)
 unfolding words.new_gap
 writes_new_gap env starts = writes_if env starts space formatting_space [] (writes_space env) (writes_formatting_space env)
 

@@ -16,7 +16,7 @@ use Rattle.swc_ecma_codegen_ast.specs.DeclPhrases as lists
 use Rattle.swc_ecma_codegen_base.specs.Run.{Env}
 use Rattle.swc_ecma_codegen_base.proofs.ListLaws.{prints_list}
 use Rattle.swc_ecma_codegen_base.proofs.Phrased.{Prints, then, after, before, prints_nothing, prints_never, prints_keyword, prints_semi}
-use Rattle.swc_ecma_codegen_base.proofs.Printed.{Writes, writes_nothing, writes_space, writes_commit, writes_position, writes_leading}
+use Rattle.swc_ecma_codegen_base.proofs.Printed.{writes_nothing, writes_space, writes_commit, writes_position, writes_leading, Fills}
 use Rattle.swc_ecma_codegen.specs.declared.nodes.Place.{Place}
 use Rattle.swc_ecma_codegen.specs.declared.nodes.Place.TheVariants.{Plain, DeclarationHead, Statement}
 use Rattle.swc_ecma_codegen.specs.Decls as words
@@ -77,7 +77,7 @@ using_decl_prints l n =
 
 -- ---- all of them
 
-writes_decl_end : (env : Env) (place : Place) (span : Span) → Writes env (words.decl_end place span) []
+writes_decl_end : (env : Env) (place : Place) (span : Span) → Fills env (words.decl_end place span)
 unfolding words.decl_end
 writes_decl_end env Statement span = writes_nothing env
 writes_decl_end env place span = writes_position env span.hi

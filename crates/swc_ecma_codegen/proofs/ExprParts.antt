@@ -58,7 +58,7 @@ use Rattle.swc_ecma_codegen_ast.specs.declared.roles.Role.TheVariants.{MemberExp
 use Rattle.swc_ecma_codegen_ast.specs.declared.roles.Role.{Role}
 use Rattle.swc_ecma_codegen_base.specs.Run.{Env, Part}
 use Rattle.swc_ecma_codegen_base.specs.Words.{operator, space, formatting_space, position, leading_comments, trailing_comments}
-use Rattle.swc_ecma_codegen_base.proofs.Printed.{Writes, writes_then, writes_if, writes_nothing, writes_space, writes_formatting_space, writes_commit, writes_position, writes_position_before, writes_leading, writes_trailing}
+use Rattle.swc_ecma_codegen_base.proofs.Printed.{writes_then, writes_if, writes_nothing, writes_space, writes_formatting_space, writes_commit, writes_position, writes_position_before, writes_leading, writes_trailing, Fills}
 use Rattle.swc_ecma_codegen_base.specs.Written.{IsWord, IsMark}
 use Rattle.swc_ecma_codegen_base.proofs.Choices.{prints_bare}
 use Rattle.swc_ecma_codegen_base.proofs.EachLit.{prints_lit}
@@ -78,32 +78,32 @@ use Rattle.swc_ecma_codegen.proofs.ListParts.{some_listed_prints}
 
 -- ---- blanks and comments
 
-pub writes_blank : (env : Env) (needed : Bool) → Writes env (words.blank needed) []
+pub writes_blank : (env : Env) (needed : Bool) → Fills env (words.blank needed)
 unfolding words.blank
 writes_blank env needed = writes_if env needed space formatting_space [] (writes_space env) (writes_formatting_space env)
 
-pub writes_space_if : (env : Env) (needed : Bool) → Writes env (words.space_if needed) []
+pub writes_space_if : (env : Env) (needed : Bool) → Fills env (words.space_if needed)
 unfolding words.space_if
 writes_space_if env needed = writes_if env needed space (λ rest. rest) [] (writes_space env) (writes_nothing env)
 
-pub writes_opened : (env : Env) (span : Span) → Writes env (words.opened span) []
+pub writes_opened : (env : Env) (span : Span) → Fills env (words.opened span)
 unfolding words.opened
 writes_opened env span = writes_then env (leading_comments span.lo) (position span.lo) [] [] (writes_leading env span.lo) (writes_position env span.lo)
 
-writes_bin_opened : (env : Env) (place : Place) (span : Span) → Writes env (words.bin_opened place span) []
+writes_bin_opened : (env : Env) (place : Place) (span : Span) → Fills env (words.bin_opened place span)
 unfolding words.bin_opened
 writes_bin_opened env LeftOperand span = writes_nothing env
 writes_bin_opened env place span = writes_opened env span
 
-writes_unary_gap : (env : Env) (op : UnaryOp) (arg : Answers) → Writes env (words.unary_gap op arg) []
+writes_unary_gap : (env : Env) (op : UnaryOp) (arg : Answers) → Fills env (words.unary_gap op arg)
 unfolding words.unary_gap
 writes_unary_gap env op arg = writes_if env (starts.is_word_op op) (words.blank arg.starts) (words.space_if (operand_space op arg.kind)) [] (writes_blank env arg.starts) (writes_space_if env (operand_space op arg.kind))
 
-pub writes_comments_before : (env : Env) (pos : BytePos) → Writes env (words.comments_before pos) []
+pub writes_comments_before : (env : Env) (pos : BytePos) → Fills env (words.comments_before pos)
 unfolding words.comments_before
 writes_comments_before env pos = writes_if env (pos.0 == 0) (λ rest. rest) (leading_comments (record { 0 = pos.0 - 1 })) [] (writes_nothing env) (writes_leading env (record { 0 = pos.0 - 1 }))
 
-writes_closed : (env : Env) (left : Bool) (span : Span) → Writes env (words.expr_closed left span) []
+writes_closed : (env : Env) (left : Bool) (span : Span) → Fills env (words.expr_closed left span)
 unfolding words.expr_closed
 writes_closed env left span = writes_if env left (λ rest. rest) (trailing_comments true span.hi) [] (writes_nothing env) (writes_trailing env true span.hi)
 

@@ -30,7 +30,7 @@ use Rattle.swc_ecma_codegen_base.proofs.Choices.{prints_bare, prints_parentheses
 use Rattle.swc_ecma_codegen_base.proofs.Emitting.{minified_same, pretty_same}
 use Rattle.swc_ecma_codegen_base.proofs.ListLaws.{IsUndelimited, children_of, prints_list, prints_in_order}
 use Rattle.swc_ecma_codegen_base.proofs.Phrased.{Prints, then, after, before, prints_nothing, prints_same, prints_keyword, prints_punct, prints_mark, prints_semi, prints_ident, mark_spelled}
-use Rattle.swc_ecma_codegen_base.proofs.Printed.{Writes, with_room, within_then, punct_within, deeper_within, writes_then, writes_same, writes_if, writes_nothing, writes_space, writes_formatting_space, writes_line, writes_commit, writes_position, writes_leading, writes_shallower}
+use Rattle.swc_ecma_codegen_base.proofs.Printed.{with_room, within_then, punct_within, deeper_within, writes_then, writes_same, writes_if, writes_nothing, writes_space, writes_formatting_space, writes_line, writes_commit, writes_position, writes_leading, writes_shallower, Fills}
 use Rattle.swc_ecma_codegen.specs.declared.nodes.Place.{Place}
 use Rattle.swc_ecma_codegen.specs.declared.nodes.Place.TheVariants.{Plain, Body, DeclarationHead}
 use Rattle.swc_ecma_codegen.specs.Places.{before_name}
@@ -143,7 +143,7 @@ wide_parenthesis : (env : Env) (t : List ℕ) → IsMark t → env.config.minify
 unfolding words.parenthesis
 wide_parenthesis env t w wide = prints_same (words.parenthesis true t) (punct t) (λ rest. pretty_same no_part (punct t) rest env wide) (prints_punct env t w)
 
-no_parenthesis : (env : Env) (t : List ℕ) → env.config.minify ≡ true → Writes env (words.parenthesis true t) []
+no_parenthesis : (env : Env) (t : List ℕ) → env.config.minify ≡ true → Fills env (words.parenthesis true t)
 unfolding words.parenthesis no_part
 no_parenthesis env t small = writes_same env (words.parenthesis true t) (λ rest. rest) [] (λ rest. minified_same no_part (punct t) rest env small) (writes_nothing env)
 

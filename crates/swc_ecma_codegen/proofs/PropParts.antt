@@ -33,7 +33,7 @@ use Rattle.swc_ecma_codegen_base.proofs.KeyPrints.{prints_key}
 use Rattle.swc_ecma_codegen_base.proofs.ListLaws.{children_of, prints_list, prints_bracketed}
 use Rattle.swc_ecma_codegen_base.proofs.NumberPrints.{prints_number}
 use Rattle.swc_ecma_codegen_base.proofs.Phrased.{Prints, then, after, before, prints_nothing, prints_same, prints_keyword, prints_punct}
-use Rattle.swc_ecma_codegen_base.proofs.Printed.{Writes, writes_if, writes_nothing, writes_formatting_space, writes_line, writes_position, writes_position_before}
+use Rattle.swc_ecma_codegen_base.proofs.Printed.{writes_if, writes_nothing, writes_formatting_space, writes_line, writes_position, writes_position_before, Fills}
 use Rattle.swc_ecma_codegen_base.proofs.StringPrints.{prints_str}
 use Rattle.swc_ecma_codegen.specs.declared.nodes.Place.TheVariants.{Plain}
 use Rattle.swc_ecma_codegen.specs.Answers.{place_of}
@@ -55,11 +55,11 @@ prop_name_prints l (prop_names.Computed n) = computed_prints l n
 
 -- ---- properties
 
-writes_key_end : (env : Env) (key value : Span) → Writes env (words.key_end key value) []
+writes_key_end : (env : Env) (key value : Span) → Fills env (words.key_end key value)
 unfolding words.key_end
 writes_key_end env key value = writes_if env (key.lo.0 == 0) (λ rest. rest) (λ rest. cond (value.lo.0 == 0) (position key.hi rest) rest) [] (writes_nothing env) (writes_if env (value.lo.0 == 0) (position key.hi) (λ rest. rest) [] (writes_position env key.hi) (writes_nothing env))
 
-writes_value_start : (env : Env) (key value : Span) → Writes env (words.value_start key value) []
+writes_value_start : (env : Env) (key value : Span) → Fills env (words.value_start key value)
 unfolding words.value_start
 writes_value_start env key value = writes_if env (key.lo.0 == 0) (position value.lo) (λ rest. rest) [] (writes_position env value.lo) (writes_nothing env)
 

@@ -31,7 +31,7 @@ use Rattle.swc_ecma_codegen_base.specs.Run.{Env}
 use Rattle.swc_ecma_codegen_base.specs.Words.{formatting_space, formatting_line, commit_pending_semi, trailing_comments}
 use Rattle.swc_ecma_codegen_base.proofs.Choices.{prints_bare}
 use Rattle.swc_ecma_codegen_base.proofs.Phrased.{Prints, then, after, before, prints_nothing, prints_never, prints_keyword, prints_punct, prints_semi}
-use Rattle.swc_ecma_codegen_base.proofs.Printed.{Writes, writes_then, writes_same, writes_if, writes_nothing, writes_formatting_space, writes_formatting_line, writes_commit, writes_position, writes_leading, writes_trailing}
+use Rattle.swc_ecma_codegen_base.proofs.Printed.{writes_then, writes_same, writes_if, writes_nothing, writes_formatting_space, writes_formatting_line, writes_commit, writes_position, writes_leading, writes_trailing, Fills}
 use Rattle.swc_ecma_codegen.specs.declared.nodes.Place.TheVariants.{Plain, Statement}
 use Rattle.swc_ecma_codegen.specs.Answers.{place_of}
 use Rattle.swc_ecma_codegen.specs.Branches.{is_block}
@@ -95,7 +95,7 @@ continue_prints l n = after (writes_commit l.env) (after (writes_position l.env 
 
 -- ---- `if` and `try`
 
-writes_blank_if : (env : Env) (wanted : Bool) → Writes env (blank_if wanted) []
+writes_blank_if : (env : Env) (wanted : Bool) → Fills env (blank_if wanted)
 unfolding blank_if
 writes_blank_if env wanted = writes_if env wanted formatting_space (λ rest. rest) [] (writes_formatting_space env) (writes_nothing env)
 
@@ -181,7 +181,7 @@ parts_print l (stmts.Decl n) = decl_at l n Statement
 parts_print l (stmts.Expr n) = expr_stmt_prints l n
 
 -- the comments after it, and the end of its line, which a block doesn't end
-writes_closed : (env : Env) (block : Bool) (span : Span) → Writes env (words.stmt_closed block span) []
+writes_closed : (env : Env) (block : Bool) (span : Span) → Fills env (words.stmt_closed block span)
 unfolding words.stmt_closed
 writes_closed env true span = writes_nothing env
 writes_closed env false span = writes_then env (trailing_comments true span.hi) formatting_line [] [] (writes_trailing env true span.hi) (writes_formatting_line env)
@@ -192,18 +192,18 @@ stmt_prints l n = before (parts_print l n) (writes_closed l.env (is_block n) (st
 
 -- ---- programs
 
-writes_last_semi : (env : Env) → Writes env programs.last_semi []
+writes_last_semi : (env : Env) → Fills env programs.last_semi
 writes_last_semi env = elim (cases_Bool env.config.omit_last_semi) [
   | inl left ↦ writes_same env programs.last_semi (λ rest. rest) [] (λ rest. kept_same rest env left) (writes_nothing env)
   | inr wanted ↦ writes_same env programs.last_semi commit_pending_semi [] (λ rest. committed_same rest env wanted) (writes_commit env)
 ]
 
-writes_start_if_empty : {A : Type 0} (env : Env) (xs : List A) (span : Span) → Writes env (programs.start_if_empty xs span) []
+writes_start_if_empty : {A : Type 0} (env : Env) (xs : List A) (span : Span) → Fills env (programs.start_if_empty xs span)
 unfolding programs.start_if_empty
 writes_start_if_empty env [] span = writes_position env span.lo
 writes_start_if_empty env (x ∷ xs) span = writes_nothing env
 
-writes_script_end : (env : Env) (span : Span) → Writes env (λ rest. trailing_comments true span.hi (programs.last_semi rest)) []
+writes_script_end : (env : Env) (span : Span) → Fills env (λ rest. trailing_comments true span.hi (programs.last_semi rest))
 writes_script_end env span = writes_then env (trailing_comments true span.hi) programs.last_semi [] [] (writes_trailing env true span.hi) (writes_last_semi env)
 
 script_body_prints : {X : Type 0} (l : Linked X) (n : Script X) → Prints l.env (programs.script_body l.items n) (in_order (map (lists.stmt_at l.reads) n.body.items))

@@ -19,7 +19,7 @@ use Rattle.swc_ecma_codegen_base.specs.Written.{IsMark}
 use Rattle.swc_ecma_codegen_base.specs.Lists.{ListChild, by_lines, blank_if, line_or_blank, deeper, formatting_deeper, deeper_if, shallower, formatting_shallower, shallower_if, opening, delimiter, separator, child_comments, first_child_after, first_child, next_child_after, next_child, comma_if, source_comma, wanted_comma, source_has_comma, may_have_comma, trailing_comma, closing, list_end, list_closing, empty_list, more_children, last_place, list}
 use Rattle.swc_ecma_codegen_base.proofs.Emitting.{minified_same, pretty_same}
 use Rattle.swc_ecma_codegen_base.proofs.ListCommas.{written_same, left_out_same, forced_same, source_same}
-use Rattle.swc_ecma_codegen_base.proofs.Printed.{writes_remake, MakesWithin, Makes, Writes, within_then, with_room, writes_then, writes_same, writes_nothing, writes_if, writes_minified, writes_formatting_space, writes_formatting_line, writes_trailing, writes_shallower, deeper_within, punct_within, writes_punct}
+use Rattle.swc_ecma_codegen_base.proofs.Printed.{writes_remake, MakesWithin, Makes, Writes, within_then, with_room, writes_then, writes_same, writes_nothing, writes_if, writes_minified, writes_formatting_space, writes_formatting_line, writes_trailing, writes_shallower, deeper_within, punct_within, writes_punct, Fills}
 use Rattle.swc_ecma_codegen_base.specs.Escapes.{may_make_text}
 use Rattle.swc_ecma_codegen_base.specs.Targets.{is_out}
 use Rattle.swc_ecma_codegen_base.proofs.Hands.{holds_string}
@@ -38,19 +38,19 @@ asked_behind : {env : Env} {q : Part} {ts : List lexical.Token} {a : Bool} → M
 unfolding by_lines
 asked_behind {env} h ask rest = h.is_steps (by_lines ask rest) ∙ sym (h.is_steps (ask env.lines rest))
 
-writes_blank_if : (env : Env) (b : Bool) → Writes env (blank_if b) []
+writes_blank_if : (env : Env) (b : Bool) → Fills env (blank_if b)
 unfolding blank_if
 writes_blank_if env b = writes_if env b formatting_space (λ rest. rest) [] (writes_formatting_space env) (writes_nothing env)
 
-writes_line_or_blank : (env : Env) (line b : Bool) → Writes env (line_or_blank line b) []
+writes_line_or_blank : (env : Env) (line b : Bool) → Fills env (line_or_blank line b)
 unfolding line_or_blank
 writes_line_or_blank env line b = writes_if env line formatting_line (blank_if b) [] (writes_formatting_line env) (writes_blank_if env b)
 
-writes_formatting_shallower : (env : Env) → Writes env formatting_shallower []
+writes_formatting_shallower : (env : Env) → Fills env formatting_shallower
 unfolding formatting_shallower no_part
 writes_formatting_shallower env = writes_minified env no_part shallower [] (writes_nothing env) (writes_shallower env)
 
-writes_shallower_if : (env : Env) (b : Bool) → Writes env (shallower_if b) []
+writes_shallower_if : (env : Env) (b : Bool) → Fills env (shallower_if b)
 unfolding shallower_if
 writes_shallower_if env b = writes_if env b formatting_shallower (λ rest. rest) [] (writes_formatting_shallower env) (writes_nothing env)
 
@@ -71,14 +71,14 @@ deeper_if_within env false = nothing_within env
 
 -- ---- before the first child
 
-writes_opening : (env : Env) (format : ℕ) (line : Bool) → indented format ≡ false → Writes env (opening format line) []
+writes_opening : (env : Env) (format : ℕ) (line : Bool) → indented format ≡ false → Fills env (opening format line)
 unfolding opening deeper_if
 writes_opening env format line h =
     writes_then env (line_or_blank line (space_between_braces format)) (deeper_if (indented format)) [] [] (writes_line_or_blank env line (space_between_braces format))
-    (let P : Bool → Type 0 = λ b. Writes env (deeper_if b) [] in subst P (sym h) (writes_nothing env))
+    (let P : Bool → Type 0 = λ b. Fills env (deeper_if b) in subst P (sym h) (writes_nothing env))
 
 -- A level comes with the bracket before it, behind which other blanks may stand.
-bracket_within : (env : Env) (t : List ℕ) → IsMark t → (p : Part) → Writes env p [] → (format : ℕ) (line : Bool) → Writes env (λ rest. punct t (p (opening format line rest))) (token_of Punctuator (spelling Punctuator t) ∷ [])
+bracket_within : (env : Env) (t : List ℕ) → IsMark t → (p : Part) → Fills env p → (format : ℕ) (line : Bool) → Writes env (λ rest. punct t (p (opening format line rest))) (token_of Punctuator (spelling Punctuator t) ∷ [])
 unfolding opening
 bracket_within env t w p h format line =
     let x : lexical.Token = token_of Punctuator (spelling Punctuator t) in
@@ -88,7 +88,7 @@ bracket_within env t w p h format line =
     (within_then env p (λ rest. line_or_blank line b (deeper_if (indented format) rest)) [] [] h
     (within_then env (line_or_blank line b) (deeper_if (indented format)) [] [] (writes_line_or_blank env line b) (deeper_if_within env (indented format)))))
 
-prints_bracket : (env : Env) (t : List ℕ) → IsMark t → (p : Part) → Writes env p [] → (format : ℕ) (line : Bool) → Prints env (λ rest. punct t (p (opening format line rest))) (mark t)
+prints_bracket : (env : Env) (t : List ℕ) → IsMark t → (p : Part) → Fills env p → (format : ℕ) (line : Bool) → Prints env (λ rest. punct t (p (opening format line rest))) (mark t)
 prints_bracket env t w p h format line = prints_mark env (λ rest. punct t (p (opening format line rest))) t (bracket_within env t w p h format line)
 
 -- ---- between children
@@ -118,39 +118,39 @@ pub record IsUndelimited (format : ℕ) : Type 0 where
   pub no_bar : bar_delimited format ≡ false
   pub no_ampersand : ampersand_delimited format ≡ false
 
-writes_delimiter : (env : Env) (format : ℕ) → IsUndelimited format → Writes env (delimiter format) []
+writes_delimiter : (env : Env) (format : ℕ) → IsUndelimited format → Fills env (delimiter format)
 unfolding delimiter
 writes_delimiter env format u = writes_same env (delimiter format) (λ rest. rest) [] (λ rest. passed_over (comma_delimited format) _ _ env u.no_comma ∙ passed_over (bar_delimited format) _ _ env u.no_bar ∙ passed_over (ampersand_delimited format) _ rest env u.no_ampersand) (writes_nothing env)
 
-writes_separator : (env : Env) (format : ℕ) (line : Bool) → IsUndelimited format → Writes env (separator format line) []
+writes_separator : (env : Env) (format : ℕ) (line : Bool) → IsUndelimited format → Fills env (separator format line)
 unfolding separator
 writes_separator env format line u = writes_then env (delimiter format) (line_or_blank line (space_between_siblings format)) [] [] (writes_delimiter env format u) (writes_line_or_blank env line (space_between_siblings format))
 
-writes_child_comments : (env : Env) (format : ℕ) (line : Bool) (place : Span) → Writes env (child_comments format line place) []
+writes_child_comments : (env : Env) (format : ℕ) (line : Bool) (place : Span) → Fills env (child_comments format line place)
 unfolding child_comments
 writes_child_comments env format line place = writes_if env (no_intervening_comments format) (λ rest. rest) (λ rest. cond line rest (trailing_comments false place.hi rest)) [] (writes_nothing env) (writes_if env line (λ rest. rest) (trailing_comments false place.hi) [] (writes_nothing env) (writes_trailing env false place.hi))
 
 -- ---- after the last child
 
-writes_end : (env : Env) (format : ℕ) (parent last : Span) → Writes env (list_end format parent last) []
+writes_end : (env : Env) (format : ℕ) (parent last : Span) → Fills env (list_end format parent last)
 unfolding closing
 writes_end env format parent last =
     let line : Bool = closing_line env.lines format parent last in
     writes_by_lines env (λ lines. closing format (closing_line lines format parent last)) []
     (writes_then env (shallower_if (indented format)) (line_or_blank line (space_between_braces format)) [] [] (writes_shallower_if env (indented format)) (writes_line_or_blank env line (space_between_braces format)))
 
-no_comma_wanted : (env : Env) (format : ℕ) (parent : Span) → forces_trailing_comma format ≡ false → allows_trailing_comma format ≡ false → Writes env (wanted_comma format parent) []
+no_comma_wanted : (env : Env) (format : ℕ) (parent : Span) → forces_trailing_comma format ≡ false → allows_trailing_comma format ≡ false → Fills env (wanted_comma format parent)
 unfolding wanted_comma
 no_comma_wanted env format parent f a = writes_same env (wanted_comma format parent) (λ rest. rest) [] (λ rest. passed_over (forces_trailing_comma format) _ _ env f ∙ passed_over (allows_trailing_comma format) _ rest env a) (writes_nothing env)
 
-no_comma_written : (env : Env) (format : ℕ) (parent : Span) → forces_trailing_comma format ≡ false → allows_trailing_comma format ≡ false → Writes env (trailing_comma format parent) []
+no_comma_written : (env : Env) (format : ℕ) (parent : Span) → forces_trailing_comma format ≡ false → allows_trailing_comma format ≡ false → Fills env (trailing_comma format parent)
 no_comma_written env format parent f a = elim (cases_Bool (may_have_comma format env.config)) [
   | inl some ↦ writes_same env (trailing_comma format parent) (wanted_comma format parent) [] (λ rest. written_same format parent rest env some) (no_comma_wanted env format parent f a)
   | inr none ↦ writes_same env (trailing_comma format parent) (λ rest. rest) [] (λ rest. left_out_same format parent rest env none) (writes_nothing env)
 ]
 
 -- a list without a trailing comma
-pub writes_closing : (env : Env) (format : ℕ) (parent last : Span) → forces_trailing_comma format ≡ false → allows_trailing_comma format ≡ false → Writes env (list_closing format parent last) []
+pub writes_closing : (env : Env) (format : ℕ) (parent last : Span) → forces_trailing_comma format ≡ false → allows_trailing_comma format ≡ false → Fills env (list_closing format parent last)
 unfolding list_closing
 writes_closing env format parent last f a = writes_then env (trailing_comma format parent) (list_end format parent last) [] [] (no_comma_written env format parent f a) (writes_end env format parent last)
 
@@ -177,12 +177,12 @@ prints_forced_closing env format parent last c f s =
 abbrev pub children_of : {A : Type 0} → (A → Span) → (A → Part) → List A → List ListChild
 children_of place part xs = map (λ x. record { place = place x; part = part x }) xs
 
-writes_empty : (env : Env) (format : ℕ) → Writes env (empty_list format) []
+writes_empty : (env : Env) (format : ℕ) → Fills env (empty_list format)
 unfolding empty_list
 writes_empty env format = writes_if env (multi_line format) formatting_line (blank_if (space_between_braces format && not (no_space_if_empty format))) [] (writes_formatting_line env) (writes_blank_if env (space_between_braces format && not (no_space_if_empty format)))
 
 -- a list without children
-pub writes_no_list : (env : Env) (format : ℕ) (parent : Span) → Writes env (list format parent []) []
+pub writes_no_list : (env : Env) (format : ℕ) (parent : Span) → Fills env (list format parent [])
 unfolding list
 writes_no_list env format parent = writes_if env (optional_if_empty format) (λ rest. rest) (empty_list format) [] (writes_nothing env) (writes_empty env format)
 
@@ -239,7 +239,7 @@ prints_list env format parent place part e law c i f a (x ∷ xs) =
 -- ---- lists behind their bracket, indented or not
 
 -- With a trailing comma or another tail of its own: `[a, , ]`; `p` is what stands between the bracket and the list.
-pub prints_bracketed_some : {A : Type 0} (env : Env) (t : List ℕ) → IsMark t → (p : Part) → Writes env p [] → (format : ℕ) (parent : Span) (place : A → Span) (part : A → Part) (e : A → Phrase) (tail after : Phrase) (close : Part) → ((x : A) → Prints env (part x) (e x)) → comma_delimited format ≡ true → ((last : Span) → Prints env (list_closing format parent last) tail) → Prints env close after → (x : A) (xs : List A) → Prints env (λ rest. punct t (p (list format parent (children_of place part (x ∷ xs)) (close rest)))) (mark t > (phrases.listed (codes ",") (map e (x ∷ xs)) > tail) > after)
+pub prints_bracketed_some : {A : Type 0} (env : Env) (t : List ℕ) → IsMark t → (p : Part) → Fills env p → (format : ℕ) (parent : Span) (place : A → Span) (part : A → Part) (e : A → Phrase) (tail after : Phrase) (close : Part) → ((x : A) → Prints env (part x) (e x)) → comma_delimited format ≡ true → ((last : Span) → Prints env (list_closing format parent last) tail) → Prints env close after → (x : A) (xs : List A) → Prints env (λ rest. punct t (p (list format parent (children_of place part (x ∷ xs)) (close rest)))) (mark t > (phrases.listed (codes ",") (map e (x ∷ xs)) > tail) > after)
 prints_bracketed_some env t w p h format parent place part e tail after close law c ends closed x xs =
     let line : Bool = leading_line env.lines format parent (place x) in
     let last : Span = last_place (place x) (children_of place part xs) in
@@ -250,7 +250,7 @@ prints_bracketed_some env t w p h format parent place part e tail after close la
     (then (prints_bracket env t w p h format line) (then (then (prints_children env format line place part e law c x xs) (ends last)) closed))
 
 -- Without a trailing comma: `{ a, b }`.
-pub prints_bracketed : {A : Type 0} (env : Env) (t : List ℕ) → IsMark t → (p : Part) → Writes env p [] → (format : ℕ) (parent : Span) (place : A → Span) (part : A → Part) (e : A → Phrase) (after : Phrase) (close : Part) → ((x : A) → Prints env (part x) (e x)) → comma_delimited format ≡ true → forces_trailing_comma format ≡ false → allows_trailing_comma format ≡ false → Prints env close after → (xs : List A) → Prints env (λ rest. punct t (p (list format parent (children_of place part xs) (close rest)))) (mark t > phrases.listed (codes ",") (map e xs) > after)
+pub prints_bracketed : {A : Type 0} (env : Env) (t : List ℕ) → IsMark t → (p : Part) → Fills env p → (format : ℕ) (parent : Span) (place : A → Span) (part : A → Part) (e : A → Phrase) (after : Phrase) (close : Part) → ((x : A) → Prints env (part x) (e x)) → comma_delimited format ≡ true → forces_trailing_comma format ≡ false → allows_trailing_comma format ≡ false → Prints env close after → (xs : List A) → Prints env (λ rest. punct t (p (list format parent (children_of place part xs) (close rest)))) (mark t > phrases.listed (codes ",") (map e xs) > after)
 unfolding phrases.listed
 prints_bracketed env t w p h format parent place part e after close law c f a closed [] =
     then (prints_punct env t w) (then (before (behind h prints_nothing) (writes_no_list env format parent)) closed)
@@ -274,10 +274,10 @@ more_in_order env format place part e law u previous (x ∷ xs) =
     prints_same (more_children format previous (children_of place part (x ∷ xs))) (λ rest. separator format line (part x (child_comments format line (place x) (more rest)))) (λ rest. refl)
     (behind (writes_separator env format line u) (then (prints_child env format line (record { place = place x; part = part x }) (law x)) (more_in_order env format place part e law u (place x) xs)))
 
-no_comma_undelimited : (env : Env) (format : ℕ) (parent : Span) → IsUndelimited format → Writes env (trailing_comma format parent) []
+no_comma_undelimited : (env : Env) (format : ℕ) (parent : Span) → IsUndelimited format → Fills env (trailing_comma format parent)
 no_comma_undelimited env format parent u = writes_same env (trailing_comma format parent) (λ rest. rest) [] (λ rest. left_out_same format parent rest env (ap (λ b. b && not (can_skip_trailing_comma format && env.config.minify)) u.no_comma)) (writes_nothing env)
 
-closing_undelimited : (env : Env) (format : ℕ) (parent last : Span) → IsUndelimited format → Writes env (list_closing format parent last) []
+closing_undelimited : (env : Env) (format : ℕ) (parent last : Span) → IsUndelimited format → Fills env (list_closing format parent last)
 unfolding list_closing
 closing_undelimited env format parent last u = writes_then env (trailing_comma format parent) (list_end format parent last) [] [] (no_comma_undelimited env format parent u) (writes_end env format parent last)
 
@@ -294,7 +294,7 @@ prints_in_order env format parent place part e law u i (x ∷ xs) =
     (then (prints_child env format line (record { place = place x; part = part x }) (law x)) (before (more_in_order env format place part e law u (place x) xs) (closing_undelimited env format parent last u))))
 
 -- Behind its bracket, indented or not: the statements of a block, the members of a class.
-pub prints_bracketed_in_order : {A : Type 0} (env : Env) (t : List ℕ) → IsMark t → (p : Part) → Writes env p [] → (format : ℕ) (parent : Span) (place : A → Span) (part : A → Part) (e : A → Phrase) (after : Phrase) (close : Part) → ((x : A) → Prints env (part x) (e x)) → IsUndelimited format → Prints env close after → (xs : List A) → Prints env (λ rest. punct t (p (list format parent (children_of place part xs) (close rest)))) (mark t > phrases.in_order (map e xs) > after)
+pub prints_bracketed_in_order : {A : Type 0} (env : Env) (t : List ℕ) → IsMark t → (p : Part) → Fills env p → (format : ℕ) (parent : Span) (place : A → Span) (part : A → Part) (e : A → Phrase) (after : Phrase) (close : Part) → ((x : A) → Prints env (part x) (e x)) → IsUndelimited format → Prints env close after → (xs : List A) → Prints env (λ rest. punct t (p (list format parent (children_of place part xs) (close rest)))) (mark t > phrases.in_order (map e xs) > after)
 unfolding phrases.in_order
 prints_bracketed_in_order env t w p h format parent place part e after close law u closed [] =
     then (prints_punct env t w) (then (before (behind h prints_nothing) (writes_no_list env format parent)) closed)

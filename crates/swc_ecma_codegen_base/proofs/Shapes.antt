@@ -1,10 +1,12 @@
 -- How parts stand on lines: where each place of a line leads through them.
 use Rattle.std.proofs.Common.{◌≡◌, ℕ, Bool, true, false, ◌&&◌, not, List, [], ◌∷◌, ◌++◌, refl, sym, ap, subst, ◌∙◌}
 use Rattle.std.proofs.lemmas.Bool.{and_parts, true≢false}
+use Rattle.swc_ecma_codegen_ast.specs.declared.kinds.Kind.{Kind}
 use Rattle.swc_ecma_codegen_ast.specs.Chars.{is_one_line}
 use Rattle.swc_ecma_codegen_ast.specs.Trivia.{pieces_text}
 use Rattle.swc_ecma_codegen_ast.specs.Parts as parts
 use Rattle.swc_ecma_codegen_ast.specs.Parts.{Gap, Own, Joint, OfLine, OnLine, PastLine, AtJoint, Broken, over_gap, over_own, over_joint, walk, is_broken}
+use Rattle.swc_ecma_codegen_ast.proofs.Reading.{broken_stays}
 use Rattle.swc_ecma_codegen_text_writer.specs.Sheet.{Sheet}
 use Rattle.swc_ecma_codegen_base.specs.Written.{holds_one}
 
@@ -16,7 +18,7 @@ pub data Le : OfLine → OfLine → Type 0 where
   line_first : (w : OfLine) → Le OnLine w
   broken_last : (w : OfLine) → Le w Broken
 
-unfoldable pub is_le : OfLine → OfLine → Bool
+abbrev pub is_le : OfLine → OfLine → Bool
 is_le OnLine w = true
 is_le v Broken = true
 is_le PastLine PastLine = true
@@ -24,7 +26,6 @@ is_le AtJoint AtJoint = true
 is_le v w = false
 
 le_from : (v w : OfLine) → is_le v w ≡ true → Le v w
-unfolding is_le
 le_from OnLine w h = line_first w
 le_from v Broken h = broken_last v
 le_from PastLine PastLine h = same PastLine
@@ -90,6 +91,11 @@ joint_le v w (same w) = same (over_joint w)
 joint_le v w (line_first w) = joint_first w
 joint_le v w (broken_last v) = broken_last (over_joint v)
 
+pub broken_from : (xs : List parts.Part) (w : OfLine) → is_broken w ≡ true → is_broken (walk w xs) ≡ true
+unfolding is_broken
+broken_from xs Broken e = broken_stays xs
+broken_from xs w e = absurd (true≢false (sym e))
+
 pub walk_le : (xs : List parts.Part) (v w : OfLine) → Le v w → Le (walk v xs) (walk w xs)
 unfolding walk
 walk_le [] v w h = h
@@ -142,6 +148,10 @@ leads i OnLine = i.line
 leads i PastLine = i.past
 leads i AtJoint = i.joint
 leads i Broken = Broken
+
+-- behind what ends with a token, and a line may end between
+abbrev pub past_line : Shape → Shape
+past_line j = record { line = leads j PastLine; past = leads j PastLine; joint = leads j PastLine }
 
 -- one after the other
 abbrev pub join : Shape → Shape → Shape
@@ -202,7 +212,7 @@ pub fits_gap : {gap : List parts.Part} (o : Bool) → ((w : OfLine) → walk w g
 fits_gap o e = record { line = subst (λ z. Le z PastLine) (sym (e OnLine)) (gap_line o); past = subst (λ z. Le z PastLine) (sym (e PastLine)) (gap_past o); joint = broken_last _ }
 
 -- a token
-pub fits_own : (kind : _) (t : List ℕ) → Fits whole (Own kind t ∷ [])
+pub fits_own : (kind : Kind) (t : List ℕ) → Fits whole (Own kind t ∷ [])
 unfolding walk over_own
 fits_own kind t = record { line = same OnLine; past = same OnLine; joint = same OnLine }
 
@@ -215,16 +225,17 @@ NoneHeld AtJoint s = holds_one s.semicolons ≡ false
 NoneHeld PastLine s = Unit {0}
 NoneHeld Broken s = Unit {0}
 
+none_elsewhere : (w : OfLine) (s : Sheet) → holds_one s.semicolons ≡ false → NoneHeld w s
+unfolding NoneHeld
+none_elsewhere OnLine s h = h
+none_elsewhere AtJoint s h = h
+none_elsewhere PastLine s h = tt
+none_elsewhere Broken s h = tt
+
 none_le : (v w : OfLine) (s : Sheet) → Le v w → NoneHeld v s → NoneHeld w s
 unfolding NoneHeld
 none_le v w s (same w) h = h
-none_le v w s (line_first w) h = one w h
-  where
-    one : (w : OfLine) → holds_one s.semicolons ≡ false → NoneHeld w s
-    one OnLine h = h
-    one AtJoint h = h
-    one PastLine h = tt
-    one Broken h = tt
+none_le v w s (line_first w) h = none_elsewhere w s h
 none_le v w s (broken_last v) h = tt
 
 pub record Settles (i : Shape) (a b : Sheet) : Type 0 where
@@ -253,6 +264,11 @@ settles_wider {i} j {a} {b} e h =
 pub settles_own : (a b : Sheet) → holds_one b.semicolons ≡ false → Settles whole a b
 unfolding NoneHeld
 settles_own a b h = record { line = λ n. h; past = h; joint = λ n. h }
+
+-- the same from another sheet, where none is held back on this one
+pub settles_before : {i : Shape} {a b c : Sheet} → holds_one b.semicolons ≡ false → Settles i b c → Settles i a c
+unfolding NoneHeld
+settles_before o h = record { line = λ n. h.line o; past = h.past; joint = λ n. h.joint o }
 
 -- where none was none is
 pub settles_same : (a b : Sheet) → (holds_one a.semicolons ≡ false → holds_one b.semicolons ≡ false) → Settles open_ a b

@@ -22,7 +22,7 @@ use Rattle.swc_ecma_codegen_base.specs.Words.{keyword, operator, word_operator, 
 use Rattle.swc_ecma_codegen_base.specs.Written.{IsNew, IsWord, IsMark, ReadsSoFar, AddsText, name_tokens}
 use Rattle.swc_ecma_codegen_base.proofs.Emitting.{emits_nothing}
 use Rattle.swc_ecma_codegen_base.proofs.Written.{Lays, text_append, tokens_append, remarks_append}
-use Rattle.swc_ecma_codegen_base.proofs.Printed.{Makes, Writes, writes_space, writes_formatting_space, writes_line, writes_formatting_line, writes_commit, writes_position, writes_position_before, writes_leading, writes_trailing}
+use Rattle.swc_ecma_codegen_base.proofs.Printed.{Makes, writes_space, writes_formatting_space, writes_line, writes_formatting_line, writes_commit, writes_position, writes_position_before, writes_leading, writes_trailing, Fills}
 use Rattle.swc_ecma_codegen_base.proofs.Phrased.{Prints, steps_of_chain, new_at_rest, prints_keyword, prints_operator, prints_word_operator, prints_punct, prints_semi, prints_ident, made_not_out}
 
 -- what was laid since
@@ -145,7 +145,7 @@ so_far_reads config f old tokens s g h = record {
 }
 
 -- a part that writes no token
-gap_so_far : (part : Part) (old : List ℕ) (tokens : List lexical.Token) (a b : State) → Writes a.env part [] → Emits part a b (Ok tt) → ReadsSoFar old tokens a → ReadsSoFar old tokens b
+gap_so_far : (part : Part) (old : List ℕ) (tokens : List lexical.Token) (a b : State) → Fills a.env part → Emits part a b (Ok tt) → ReadsSoFar old tokens a → ReadsSoFar old tokens b
 gap_so_far part old tokens a b w e h = subst (λ z. ReadsSoFar old z b) (append-nil tokens) (emitted_so_far part old tokens [] a b w e h)
 
 pub space_so_far : (old : List ℕ) (tokens : List lexical.Token) (a b : State) → Emits space a b (Ok tt) → ReadsSoFar old tokens a → ReadsSoFar old tokens b

@@ -1,8 +1,8 @@
 -- What steps write: tokens, and blanks between them.
-use Rattle.std.proofs.Common.{◌≡◌, ℕ, Bool, true, false, cond, List, [], ◌∷◌, ◌++◌, Option, None, codes, refl, sym, ap, ◌∙◌, subst, append_assoc, append-nil, inl, inr, ◌==◌, ◌||◌}
+use Rattle.std.proofs.Common.{◌≡◌, ℕ, Bool, true, false, not, cond, List, [], ◌∷◌, ◌++◌, Option, None, codes, refl, sym, ap, ◌∙◌, subst, append_assoc, append-nil, inl, inr, ◌==◌, ◌||◌}
 use Rattle.std.specs.List.{repeat}
 use Rattle.std.specs.Str.{chars, is_utf8, IsUtf8}
-use Rattle.std.proofs.lemmas.Bool.{and_parts, eqb-true, or_cases, true≢false}
+use Rattle.std.proofs.lemmas.Bool.{and_from, and_parts, eqb-true, or_cases, true≢false}
 use Rattle.std.proofs.lemmas.Str.{chars-nil, chars-append, IsUtf8-nil, IsUtf8-append, IsUtf8-from_is_utf8}
 use Rattle.swc_ecma_codegen_ast.specs.declared.kinds.Kind.{Kind}
 use Rattle.swc_ecma_codegen_ast.specs.declared.kinds.Kind.TheVariants.{Word, Name, Punctuator, Ending}
@@ -11,12 +11,12 @@ use Rattle.swc_ecma_codegen_ast.specs.Tokens.{has_shape, token_of}
 use Rattle.swc_ecma_codegen_ast.specs.Names.{is_word, is_name, name_rest}
 use Rattle.swc_ecma_codegen_ast.specs.Punctuators.{is_punctuator, punctuators}
 use Rattle.swc_ecma_codegen_ast.specs.Texts.{begins, is_same, is_among}
-use Rattle.swc_ecma_codegen_ast.specs.Chars.{is_blank}
-use Rattle.swc_ecma_codegen_ast.specs.Trivia.{Blank, is_piece, piece_text, pieces_text, all_pieces, remarks_of}
+use Rattle.swc_ecma_codegen_ast.specs.Chars.{is_blank, is_line_end, is_one_line}
+use Rattle.swc_ecma_codegen_ast.specs.Trivia.{Piece, Blank, is_piece, piece_text, pieces_text, all_pieces, remarks_of}
 use Rattle.swc_ecma_codegen_ast.specs.Reads.{is_child, is_hashbang_kind}
 use Rattle.swc_ecma_codegen_ast.specs.GapRules.{Last, Start, Apart, Mark, LessBang, fuses, allows, mark_after, last_after, last_after_gap, holds_child}
 use Rattle.swc_ecma_codegen_ast.specs.Parts as parts
-use Rattle.swc_ecma_codegen_ast.specs.Parts.{Gap, Own, tokens_of, remarks_in, NoneFuse}
+use Rattle.swc_ecma_codegen_ast.specs.Parts.{Gap, Own, Joint, tokens_of, remarks_in, NoneFuse, walk}
 use Rattle.swc_ecma_codegen_ast.proofs.Reading.{blank_fuses}
 use Rattle.swc_ecma_codegen_common.specs.declared.positions.BytePos.{BytePos}
 use Rattle.swc_ecma_codegen_common.specs.declared.positions.Span.{Span}
@@ -27,6 +27,7 @@ use Rattle.swc_ecma_codegen_text_writer.proofs.Sheets.{written_same, pointed_ali
 use Rattle.swc_ecma_codegen_base.specs.Run.{State, Guard, put, spelling}
 use Rattle.swc_ecma_codegen_base.specs.Written.{IsLineEnd, is_indent, all_indent, is_free, holds_one, AtRest}
 use Rattle.swc_ecma_codegen_base.proofs.Held.{front_of, front, written_text, in_line, written_semicolons, pointed_keeps, settled_none}
+use Rattle.swc_ecma_codegen_base.proofs.Shapes.{Shape, whole, open_, ended, loose, joining, join, is_within, Fits, fits_then, fits_wider, fits_nothing, fits_joint, fits_blank, fits_gap, fits_own, Settles, settles_then, settles_wider, settles_before, settles_same, settles_own, settles_ended, settles_loose, settles_joint}
 use Rattle.swc_ecma_codegen_base.proofs.Indented.{indent_append, indent_repeat, indent_utf8, indent_chars, blanks, blanks_text, indent_blank, blanks_pieces, blanks_remarks}
 
 -- what is asked for and isn't out yet: a semicolon that is held back, where it would stand
@@ -36,9 +37,10 @@ held_of b s = cond b (Gap (blanks (front s)) ∷ Own Ending (codes ";") ∷ []) 
 abbrev pub held : Sheet → List parts.Part
 held s = held_of (holds_one s.semicolons) s
 
--- From one state to another these tokens were asked for, with blanks between them: parts in which no two fuse. What went
--- out are the same parts without some semicolons that aren't needed, and without one that is still held back.
-pub record Lays (ts : List lexical.Token) (a b : State) : Type 0 where
+-- From one state to another these tokens were asked for, with blanks between them: parts in which no two fuse, and which lead
+-- no further on lines than their shape says. What went out are the same parts without some semicolons that aren't needed, and
+-- without one that is still held back.
+pub record LaysAt (shape : Shape) (ts : List lexical.Token) (a b : State) : Type 0 where
   pub out : List parts.Part
   pub laid : List parts.Part
   pub bytes : List ℕ
@@ -53,27 +55,36 @@ pub record Lays (ts : List lexical.Token) (a b : State) : Type 0 where
   pub holds : holds_semicolons b.sheet.semicolons ≡ holds_semicolons a.sheet.semicolons
   pub whole : holds_semicolons a.sheet.semicolons ≡ false → laid ≡ out
   pub rest : AtRest b
+  pub fits : Fits shape out
+  pub settles : Settles shape a.sheet b.sheet
+
+-- what begins and ends with a token
+abbrev pub Lays : List lexical.Token → State → State → Type 0
+Lays ts a b = LaysAt whole ts a b
 
 pub text_append : (xs ys : List parts.Part) → parts.text_of (xs ++ ys) ≡ parts.text_of xs ++ parts.text_of ys
 unfolding parts.text_of
 text_append [] ys = refl
 text_append (Gap ps ∷ xs) ys = ap (λ z. pieces_text ps ++ z) (text_append xs ys) ∙ sym (append_assoc (pieces_text ps) (parts.text_of xs) (parts.text_of ys))
+text_append (Joint ∷ xs) ys = text_append xs ys
 text_append (Own x t ∷ xs) ys = ap (λ z. t ++ z) (text_append xs ys) ∙ sym (append_assoc t (parts.text_of xs) (parts.text_of ys))
 
 pub tokens_append : (xs ys : List parts.Part) → tokens_of (xs ++ ys) ≡ tokens_of xs ++ tokens_of ys
 unfolding tokens_of
 tokens_append [] ys = refl
 tokens_append (Gap ps ∷ xs) ys = tokens_append xs ys
+tokens_append (Joint ∷ xs) ys = ap (λ z. lexical.same_line ∷ z) (tokens_append xs ys)
 tokens_append (Own x t ∷ xs) ys = ap (λ z. token_of x t ∷ z) (tokens_append xs ys)
 
 pub remarks_append : (xs ys : List parts.Part) → remarks_in (xs ++ ys) ≡ remarks_in xs ++ remarks_in ys
 unfolding remarks_in
 remarks_append [] ys = refl
 remarks_append (Gap ps ∷ xs) ys = ap (λ z. remarks_of ps ++ z) (remarks_append xs ys) ∙ sym (append_assoc (remarks_of ps) (remarks_in xs) (remarks_in ys))
+remarks_append (Joint ∷ xs) ys = remarks_append xs ys
 remarks_append (Own x t ∷ xs) ys = remarks_append xs ys
 
 -- one after the other
-pub lays_then : (ts us : List lexical.Token) (a b c : State) → Lays ts a b → Lays us b c → Lays (ts ++ us) a c
+pub lays_then : {i j : Shape} (ts us : List lexical.Token) (a b c : State) → LaysAt i ts a b → LaysAt j us b c → LaysAt (join i j) (ts ++ us) a c
 lays_then ts us a b c h k = record {
   out = h.out ++ k.out;
   laid = h.laid ++ k.laid;
@@ -90,12 +101,23 @@ lays_then ts us a b c h k = record {
   holds = k.holds ∙ h.holds;
   whole = λ e. ap (λ z. z ++ k.laid) (h.whole e) ∙ ap (λ z. h.out ++ z) (k.whole (h.holds ∙ e));
   rest = k.rest;
+  fits = fits_then h.out k.out h.fits k.fits;
+  settles = settles_then h.settles k.settles;
 }
 
+-- what leads less far
+pub lays_wider : {i : Shape} (j : Shape) {ts : List lexical.Token} {a b : State} → is_within i j ≡ true → LaysAt i ts a b → LaysAt j ts a b
+lays_wider j e h = record { out = h.out; laid = h.laid; bytes = h.bytes; text = h.text; utf8 = h.utf8; spells = h.spells; tokens = h.tokens; remarks = h.remarks; apart = h.apart; reduces = h.reduces; holds = h.holds; whole = h.whole; rest = h.rest; fits = fits_wider j e h.fits; settles = settles_wider j e h.settles }
+
+-- the parts that are asked for go out, where no semicolon is held back
+pub laid_out : (a b : State) (out more ys : List parts.Part) → holds_one a.sheet.semicolons ≡ false → holds_one b.sheet.semicolons ≡ false → Reduced (held b.sheet ++ more) ys → Reduced (held a.sheet ++ (out ++ more)) (out ++ ys)
+laid_out a b out more ys h k r =
+    subst (λ z. Reduced (held_of z a.sheet ++ (out ++ more)) (out ++ ys)) (sym h) (reduced_after out more ys (subst (λ z. Reduced (held_of z b.sheet ++ more) ys) k r))
+
 -- nothing, where nothing that matters changes
-lays_same : (a b : State) → b.sheet.text ≡ a.sheet.text → b.last ≡ a.last → held b.sheet ≡ held a.sheet → holds_semicolons b.sheet.semicolons ≡ holds_semicolons a.sheet.semicolons → AtRest b → Lays [] a b
+lays_same : (a b : State) → b.sheet.text ≡ a.sheet.text → b.last ≡ a.last → held b.sheet ≡ held a.sheet → holds_semicolons b.sheet.semicolons ≡ holds_semicolons a.sheet.semicolons → (holds_one a.sheet.semicolons ≡ false → holds_one b.sheet.semicolons ≡ false) → AtRest b → LaysAt open_ [] a b
 unfolding parts.text_of tokens_of remarks_in
-lays_same a b t l h o r = record {
+lays_same a b t l h o n r = record {
   out = [];
   laid = [];
   bytes = [];
@@ -109,21 +131,60 @@ lays_same a b t l h o r = record {
   holds = o;
   whole = λ e. refl;
   rest = r;
+  fits = fits_nothing;
+  settles = settles_same a.sheet b.sheet n;
 }
 
-pub lays_nothing : (s : State) → AtRest s → Lays [] s s
-lays_nothing s r = lays_same s s refl refl refl refl r
+pub lays_nothing : (s : State) → AtRest s → LaysAt open_ [] s s
+lays_nothing s r = lays_same s s refl refl refl refl (λ e. e) r
 
--- the parts that are asked for go out, where no semicolon is held back
-pub laid_out : (a b : State) (out more ys : List parts.Part) → holds_one a.sheet.semicolons ≡ false → holds_one b.sheet.semicolons ≡ false → Reduced (held b.sheet ++ more) ys → Reduced (held a.sheet ++ (out ++ more)) (out ++ ys)
-laid_out a b out more ys h k r =
-    subst (λ z. Reduced (held_of z a.sheet ++ (out ++ more)) (out ++ ys)) (sym h) (reduced_after out more ys (subst (λ z. Reduced (held_of z b.sheet ++ more) ys) k r))
+-- `[no LineTerminator here]`, where no semicolon is held back
+pub lays_joint : (s : State) → holds_one s.sheet.semicolons ≡ false → AtRest s → LaysAt joining (lexical.same_line ∷ []) s s
+unfolding parts.text_of tokens_of remarks_in NoneFuse
+lays_joint s o r = record {
+  out = Joint ∷ [];
+  laid = Joint ∷ [];
+  bytes = [];
+  text = sym (append-nil s.sheet.text);
+  utf8 = IsUtf8-nil;
+  spells = chars-nil;
+  tokens = refl;
+  remarks = refl;
+  apart = λ more n. n;
+  reduces = λ more ys d. laid_out s s (Joint ∷ []) more ys o o d;
+  holds = refl;
+  whole = λ e. refl;
+  rest = r;
+  fits = fits_joint;
+  settles = settles_joint s.sheet o;
+}
 
 -- ---- texts, and the indentation at a line's start
 
 pub front_indent : (s : Sheet) → all_indent s.indent_text ≡ true → all_indent (front s) ≡ true
 unfolding all_indent
 front_indent s h = elim s.at_line_start as (λ b. all_indent (front_of b s) ≡ true) [ true ↦ indent_repeat s.indentation s.indent_text h | false ↦ refl ]
+
+-- indentation holds no line terminator
+indent_in_line : (c : ℕ) → is_indent c ≡ true → not (is_line_end c) ≡ true
+unfolding is_indent is_line_end
+indent_in_line c h =
+    elim (or_cases (c == 32) (c == 9) h) [
+      | inl e ↦ subst (λ z. not ((z == 10) || ((z == 13) || ((z == 8232) || (z == 8233)))) ≡ true) (sym (eqb-true c 32 e)) refl
+      | inr e ↦ subst (λ z. not ((z == 10) || ((z == 13) || ((z == 8232) || (z == 8233)))) ≡ true) (sym (eqb-true c 9 e)) refl
+    ]
+
+indent_one_line : (u : List ℕ) → all_indent u ≡ true → is_one_line (pieces_text (blanks u)) ≡ true
+unfolding all_indent is_one_line blanks pieces_text piece_text
+indent_one_line [] h = refl
+indent_one_line (c ∷ cs) h = let p = and_parts (is_indent c) (all_indent cs) h in and_from (not (is_line_end c)) (is_one_line (pieces_text (blanks cs))) (indent_in_line c p.0) (indent_one_line cs p.1)
+
+pub fits_indent : (u : List ℕ) → all_indent u ≡ true → Fits open_ (Gap (blanks u) ∷ [])
+unfolding walk
+fits_indent u h = fits_blank (pieces_text (blanks u)) (indent_one_line u h) (λ w. refl)
+
+fits_text : (u : List ℕ) (kind : Kind) (t : List ℕ) → all_indent u ≡ true → Fits whole (Gap (blanks u) ∷ Own kind t ∷ [])
+fits_text u kind t h = fits_then (Gap (blanks u) ∷ []) (Own kind t ∷ []) (fits_indent u h) (fits_own kind t)
 
 at_text : (span : Option Span) (c : ℕ) (cs : List ℕ) (s : State) (k : Last) → ((t : List ℕ) → allows k t ≡ true) → all_indent s.sheet.indent_text ≡ true → IsLineEnd s.sheet.line_end → AtRest (record s { sheet = written span (c ∷ cs) s.sheet; last = k })
 at_text span c cs s k h i l = record {
@@ -163,6 +224,7 @@ unfolding NoneFuse allows last_after_gap holds_child
 first_of_all [] h = refl
 first_of_all (Gap [] ∷ xs) h = (h.0, start_alone (pieces_text []), refl, first_of_all xs h.3)
 first_of_all (Gap (p ∷ ps) ∷ xs) h = (h.0, start_alone (pieces_text (p ∷ ps)), refl, h.3)
+first_of_all (Joint ∷ xs) h = first_of_all xs h
 first_of_all (Own x t ∷ xs) h = (h.0, start_alone t, record { child = λ e. absurd (true≢false (sym (h.2.child e))); first = λ e. refl }, refl, subst (λ k. NoneFuse k xs) (same_after x t) h.4)
 
 free_apart : (k : Last) → is_free k ≡ true → (xs : List parts.Part) → NoneFuse Apart xs → NoneFuse k xs
@@ -249,7 +311,7 @@ settles_reduces x {span} e u xs ys s f r =
     (subst (λ z. Reduced (semicolon_gap z ++ xs) (semicolon_gap u ++ ys)) f (reduced_after (semicolon_gap u) xs ys r))
 
 -- it stands before what is laid from there
-settles : (x : Semicolons) (s b : State) (ts : List lexical.Token) → x ≡ s.sheet.semicolons → AtRest s → Lays ts (settle_by x s) b → Lays ts s b
+settles : {i : Shape} (x : Semicolons) (s b : State) (ts : List lexical.Token) → x ≡ s.sheet.semicolons → AtRest s → LaysAt i ts (settle_by x s) b → LaysAt i ts s b
 unfolding settle_by settled_by holds_one semicolon_gap
 settles AtOnce s b ts e r l = l
 settles HoldsNone s b ts e r l = l
@@ -273,32 +335,35 @@ settles (HoldsOne span) s b ts e r l =
       holds = l.holds ∙ still_holds span (codes ";") there ∙ ap holds_semicolons e;
       whole = λ w. absurd (true≢false (ap holds_semicolons e ∙ w));
       rest = l.rest;
+      fits = l.fits;
+      settles = settles_before q l.settles;
     }
 
-pub lays_settled : (s b : State) (ts : List lexical.Token) → AtRest s → Lays ts (settle s) b → Lays ts s b
+pub lays_settled : {i : Shape} (s b : State) (ts : List lexical.Token) → AtRest s → LaysAt i ts (settle s) b → LaysAt i ts s b
 unfolding settle_by
 lays_settled s b ts r l = settles s.sheet.semicolons s b ts refl r l
 
 -- a semicolon that is held back is written
-pub lays_commit : (s : State) → AtRest s → Lays [] s (settle s)
+pub lays_commit : (s : State) → AtRest s → LaysAt open_ [] s (settle s)
 lays_commit s r = lays_settled s (settle s) [] r (lays_nothing (settle s) (settle_rest s r))
 
 -- later lines are indented otherwise
-pub lays_level : (n : ℕ) (s : State) → AtRest s → Lays [] s (record s { sheet = record (settled s.sheet) { indentation = n } })
+pub lays_level : (n : ℕ) (s : State) → AtRest s → LaysAt open_ [] s (record s { sheet = record (settled s.sheet) { indentation = n } })
 lays_level n s r =
     let there : State = settle s in
     let after : State = record there { sheet = record there.sheet { indentation = n } } in
     let none = settled_none s.sheet in
     let q = settle_rest s r in
     let same : held after.sheet ≡ held there.sheet = ap (λ z. held_of z after.sheet) none ∙ sym (ap (λ z. held_of z there.sheet) none) in
-    lays_settled s after [] r (lays_same there after refl refl same refl (record { indent_text = q.indent_text; line_end = q.line_end; free = q.free; allowed = q.allowed }))
+    lays_settled s after [] r (lays_same there after refl refl same refl (λ e. e) (record { indent_text = q.indent_text; line_end = q.line_end; free = q.free; allowed = q.allowed }))
 
 -- a position that is noted
-pub lays_position : (pos : BytePos) (s : State) → AtRest s → Lays [] s (record s { sheet = pointed pos s.sheet })
+pub lays_position : (pos : BytePos) (s : State) → AtRest s → LaysAt open_ [] s (record s { sheet = pointed pos s.sheet })
 lays_position pos s r =
     let p = alike_same s.sheet (pointed pos s.sheet) (pointed_alike pos s.sheet) in
     lays_same s (record s { sheet = pointed pos s.sheet }) (pointed_keeps (λ z. z.text) (λ z x. refl) (λ z x. refl) pos s.sheet) refl
     (pointed_keeps (λ z. held z) (λ z x. refl) (λ z x. refl) pos s.sheet) p.holds
+    (λ o. pointed_keeps (λ z. holds_one z.semicolons) (λ z x. refl) (λ z x. refl) pos s.sheet ∙ o)
     (record {
       indent_text = subst (λ z. all_indent z ≡ true) (sym p.indent_text) r.indent_text;
       line_end = subst (λ z. IsLineEnd z) (sym p.line_end) r.line_end;
@@ -309,7 +374,7 @@ lays_position pos s r =
 -- ---- blanks and line ends, where nothing is held back
 
 -- a blank
-blank_here : (s : State) → holds_one s.sheet.semicolons ≡ false → AtRest s → Lays [] s (record s { sheet = written None (codes " ") s.sheet; last = Apart })
+blank_here : (s : State) → holds_one s.sheet.semicolons ≡ false → AtRest s → LaysAt open_ [] s (record s { sheet = written None (codes " ") s.sheet; last = Apart })
 unfolding parts.text_of tokens_of remarks_in NoneFuse all_indent is_indent allows
 blank_here s o r =
     let h : all_indent (front s.sheet ++ codes " ") ≡ true = indent_append (front s.sheet) (codes " ") (front_indent s.sheet r.indent_text) refl in
@@ -328,9 +393,11 @@ blank_here s o r =
       holds = still_holds None (codes " ") s.sheet;
       whole = λ e. refl;
       rest = at_text None 32 [] s Apart (λ t. refl) r.indent_text r.line_end;
+      fits = fits_indent (front s.sheet ++ codes " ") h;
+      settles = settles_same s.sheet there.sheet (λ e. still_none None (codes " ") s.sheet e);
     }
 
-pub lays_blank : (s : State) → AtRest s → Lays [] s (record s { sheet = effect Space s.sheet; last = Apart })
+pub lays_blank : (s : State) → AtRest s → LaysAt open_ [] s (record s { sheet = effect Space s.sheet; last = Apart })
 unfolding effect
 lays_blank s r = lays_settled s _ [] r (blank_here (settle s) (settled_none s.sheet) (settle_rest s r))
 
@@ -345,8 +412,12 @@ line_rest : (s : State) → AtRest s → AtRest (line_put false s)
 unfolding line_put appended is_free
 line_rest s r = record { indent_text = r.indent_text; line_end = r.line_end; free = λ o e. refl; allowed = apart_open }
 
+fits_end : (ps : List Piece) → Fits loose (Gap ps ∷ [])
+unfolding walk
+fits_end ps = fits_gap (is_one_line (pieces_text ps)) (λ w. refl)
+
 -- a line end by its bytes
-lays_end : (s : State) → holds_one s.sheet.semicolons ≡ false → AtRest s → IsLineEnd s.sheet.line_end → Lays [] s (line_put false s)
+lays_end : (s : State) → holds_one s.sheet.semicolons ≡ false → AtRest s → IsLineEnd s.sheet.line_end → LaysAt loose [] s (line_put false s)
 unfolding line_put appended parts.text_of tokens_of remarks_in NoneFuse last_after_gap pieces_text piece_text all_pieces is_piece is_blank remarks_of chars is_utf8 lib.Utf8.encode
 lays_end s o r (inl e) = record {
   out = Gap (Blank 10 ∷ []) ∷ [];
@@ -362,6 +433,8 @@ lays_end s o r (inl e) = record {
   holds = refl;
   whole = λ e. refl;
   rest = line_rest s r;
+  fits = fits_end _;
+  settles = settles_loose s.sheet _;
 }
 lays_end s o r (inr e) = record {
   out = Gap (Blank 13 ∷ Blank 10 ∷ []) ∷ [];
@@ -377,9 +450,11 @@ lays_end s o r (inr e) = record {
   holds = refl;
   whole = λ e. refl;
   rest = line_rest s r;
+  fits = fits_end _;
+  settles = settles_loose s.sheet _;
 }
 
-line_case : (b : Bool) (s : State) → s.sheet.at_line_start ≡ b → holds_one s.sheet.semicolons ≡ false → AtRest s → Lays [] s (line_put b s)
+line_case : (b : Bool) (s : State) → s.sheet.at_line_start ≡ b → holds_one s.sheet.semicolons ≡ false → AtRest s → LaysAt loose [] s (line_put b s)
 unfolding line_put parts.text_of tokens_of remarks_in is_free
 line_case true s e o r = record {
   out = [];
@@ -395,15 +470,17 @@ line_case true s e o r = record {
   holds = refl;
   whole = λ e. refl;
   rest = record { indent_text = r.indent_text; line_end = r.line_end; free = λ o z. refl; allowed = apart_open };
+  fits = fits_wider loose refl fits_nothing;
+  settles = settles_loose s.sheet _;
 }
 line_case false s e o r = lays_end s o r r.line_end
 
-line_here : (s : State) → holds_one s.sheet.semicolons ≡ false → AtRest s → Lays [] s (record s { sheet = ended s.sheet; last = Apart })
+line_here : (s : State) → holds_one s.sheet.semicolons ≡ false → AtRest s → LaysAt loose [] s (record s { sheet = ended s.sheet; last = Apart })
 unfolding ended line_put
 line_here s o r = line_case s.sheet.at_line_start s refl o r
 
 -- the line ends, unless at a line's start
-pub lays_line : (s : State) → AtRest s → Lays [] s (record s { sheet = effect Line s.sheet; last = Apart })
+pub lays_line : (s : State) → AtRest s → LaysAt loose [] s (record s { sheet = effect Line s.sheet; last = Apart })
 unfolding effect
 lays_line s r = lays_settled s _ [] r (line_here (settle s) (settled_none s.sheet) (settle_rest s r))
 
@@ -547,6 +624,8 @@ lays_here kind span (c ∷ cs) s p f o r =
       holds = still_holds span (c ∷ cs) s.sheet;
       whole = λ e. refl;
       rest = at_text span c cs s (after kind (c ∷ cs) s) (p.allowed s.last) r.indent_text r.line_end;
+      fits = fits_text (front s.sheet) kind (spelling kind (c ∷ cs)) h;
+      settles = settles_own s.sheet _ (still_none span (c ∷ cs) s.sheet o);
     }
 
 lays_own : (kind : Kind) (span : Option Span) (t : List ℕ) (s : State) → Spelled kind t → fuses s.last (chars t) ≡ false → AtRest s → Lays (token_of kind (spelling kind t) ∷ []) s (own_put kind span t s)
@@ -600,6 +679,8 @@ lost_here held_span span (c ∷ cs) s e i p f r =
       holds = still_holds span (c ∷ cs) there ∙ ap holds_semicolons e;
       whole = λ w. absurd (true≢false (ap holds_semicolons e ∙ w));
       rest = at_text span c cs (record s { sheet = there }) (after Punctuator (c ∷ cs) s) (p.allowed s.last) r.indent_text r.line_end;
+      fits = fits_own Punctuator (c ∷ cs);
+      settles = settles_own s.sheet _ q;
     }
 
 lost : (x : Semicolons) (span : Option Span) (t : List ℕ) (s : State) → x ≡ s.sheet.semicolons → is_ending t ≡ true → Spelled Punctuator t → fuses s.last (chars t) ≡ false → AtRest s → Lays (token_of Punctuator (spelling Punctuator t) ∷ []) s (own_here Punctuator span t (record s { sheet = record s.sheet { semicolons = dropped x } }))
@@ -624,10 +705,12 @@ unfolding holds_one
 at_hold span s r = record { indent_text = r.indent_text; line_end = r.line_end; free = λ o e. absurd (true≢false o); allowed = spelled_ending.allowed s.last }
 
 -- it is held back
-holds_back : (span : Option Span) (s : State) → holds_one s.sheet.semicolons ≡ false → holds_semicolons s.sheet.semicolons ≡ true → fuses s.last (chars (codes ";")) ≡ false → AtRest s → Lays (token_of Ending (spelling Ending (codes ";")) ∷ []) s (record s { sheet = record s.sheet { semicolons = HoldsOne span }; last = after Ending (codes ";") s })
+holds_back : (span : Option Span) (s : State) → holds_one s.sheet.semicolons ≡ false → holds_semicolons s.sheet.semicolons ≡ true → fuses s.last (chars (codes ";")) ≡ false → AtRest s → LaysAt ended (token_of Ending (spelling Ending (codes ";")) ∷ []) s (record s { sheet = record s.sheet { semicolons = HoldsOne span }; last = after Ending (codes ";") s })
 unfolding parts.text_of tokens_of remarks_in holds_one spelling
 holds_back span s o h f r = record {
   out = Gap (blanks (front s.sheet)) ∷ Own Ending (codes ";") ∷ [];
+  fits = fits_wider ended refl (fits_text (front s.sheet) Ending (codes ";") (front_indent s.sheet r.indent_text));
+  settles = settles_ended s.sheet _;
   laid = [];
   bytes = [];
   text = sym (append-nil s.sheet.text);
@@ -654,10 +737,12 @@ replaces_reduces x e u more ys s f r =
     subst (λ z. Reduced (held_of (holds_one z) s ++ (Own Ending (codes ";") ∷ more)) ys) e
     (subst (λ z. Reduced (semicolon_gap z ++ (Own Ending (codes ";") ∷ more)) ys) f (replaces u more ys r))
 
-holds_another : (held_span span : Option Span) (s : State) → HoldsOne held_span ≡ s.sheet.semicolons → fuses s.last (chars (codes ";")) ≡ false → AtRest s → Lays (token_of Ending (spelling Ending (codes ";")) ∷ []) s (record s { sheet = record s.sheet { semicolons = HoldsOne span }; last = after Ending (codes ";") s })
+holds_another : (held_span span : Option Span) (s : State) → HoldsOne held_span ≡ s.sheet.semicolons → fuses s.last (chars (codes ";")) ≡ false → AtRest s → LaysAt ended (token_of Ending (spelling Ending (codes ";")) ∷ []) s (record s { sheet = record s.sheet { semicolons = HoldsOne span }; last = after Ending (codes ";") s })
 unfolding parts.text_of tokens_of remarks_in holds_one spelling semicolon_gap
 holds_another held_span span s e f r = record {
   out = Own Ending (codes ";") ∷ [];
+  fits = fits_wider ended refl (fits_own Ending (codes ";"));
+  settles = settles_ended s.sheet _;
   laid = [];
   bytes = [];
   text = sym (append-nil s.sheet.text);
@@ -672,13 +757,13 @@ holds_another held_span span s e f r = record {
   rest = at_hold span s r;
 }
 
-semi_case : (x : Semicolons) (span : Option Span) (s : State) → x ≡ s.sheet.semicolons → fuses s.last (chars (codes ";")) ≡ false → AtRest s → Lays (token_of Ending (spelling Ending (codes ";")) ∷ []) s (record s { sheet = semicolon_by x span s.sheet; last = after Ending (codes ";") s })
+semi_case : (x : Semicolons) (span : Option Span) (s : State) → x ≡ s.sheet.semicolons → fuses s.last (chars (codes ";")) ≡ false → AtRest s → LaysAt ended (token_of Ending (spelling Ending (codes ";")) ∷ []) s (record s { sheet = semicolon_by x span s.sheet; last = after Ending (codes ";") s })
 unfolding semicolon_by holds_one own_here
-semi_case AtOnce span s e f r = lays_here Ending span (codes ";") s spelled_ending f (ap holds_one (sym e)) r
+semi_case AtOnce span s e f r = lays_wider ended refl (lays_here Ending span (codes ";") s spelled_ending f (ap holds_one (sym e)) r)
 semi_case HoldsNone span s e f r = holds_back span s (ap holds_one (sym e)) (ap holds_semicolons (sym e)) f r
 semi_case (HoldsOne held_span) span s e f r = holds_another held_span span s e f r
 
-lays_semi_own : (span : Option Span) (s : State) → fuses s.last (chars (codes ";")) ≡ false → AtRest s → Lays (token_of Ending (spelling Ending (codes ";")) ∷ []) s (semi_put span s)
+lays_semi_own : (span : Option Span) (s : State) → fuses s.last (chars (codes ";")) ≡ false → AtRest s → LaysAt ended (token_of Ending (spelling Ending (codes ";")) ∷ []) s (semi_put span s)
 unfolding semi_put
 lays_semi_own span s f r = semi_case s.sheet.semicolons span s refl f r
 
@@ -686,12 +771,12 @@ lays_semi_own span s f r = semi_case s.sheet.semicolons span s refl f r
 guard_put : Bool → State → State
 guard_put b s = cond b (record s { sheet = effect Space s.sheet; last = Apart }) s
 
-guard_case : (b : Bool) (s : State) → AtRest s → Lays [] s (guard_put b s)
+guard_case : (b : Bool) (s : State) → AtRest s → LaysAt open_ [] s (guard_put b s)
 unfolding guard_put
 guard_case true s r = lays_blank s r
 guard_case false s r = lays_nothing s r
 
-pub lays_guard : (t : List ℕ) (s : State) → AtRest s → Lays [] s (put (Guard t) s)
+pub lays_guard : (t : List ℕ) (s : State) → AtRest s → LaysAt open_ [] s (put (Guard t) s)
 unfolding put guard_put
 lays_guard t s r = guard_case (fuses s.last (chars t)) s r
 
@@ -715,7 +800,7 @@ lays_punct span t s p r =
     let g = lays_guard t s r in
     lays_then [] (token_of Punctuator (spelling Punctuator t) ∷ []) s (put (Guard t) s) (punct_put span t (put (Guard t) s)) g (lays_punct_own span t (put (Guard t) s) p (after_guard t s) g.rest)
 
-pub lays_semi : (span : Option Span) (s : State) → AtRest s → Lays (token_of Ending (spelling Ending (codes ";")) ∷ []) s (semi_put span (put (Guard (codes ";")) s))
+pub lays_semi : (span : Option Span) (s : State) → AtRest s → LaysAt ended (token_of Ending (spelling Ending (codes ";")) ∷ []) s (semi_put span (put (Guard (codes ";")) s))
 lays_semi span s r =
     let g = lays_guard (codes ";") s r in
     lays_then [] (token_of Ending (spelling Ending (codes ";")) ∷ []) s (put (Guard (codes ";")) s) (semi_put span (put (Guard (codes ";")) s)) g (lays_semi_own span (put (Guard (codes ";")) s) (after_guard (codes ";") s) g.rest)
