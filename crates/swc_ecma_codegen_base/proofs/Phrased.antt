@@ -1,5 +1,5 @@
 -- What each word writes is one of the token lists of a phrase.
-use Rattle.std.proofs.Common.{◌≡◌, ◌≢◌, ℕ, Bool, true, false, cond, List, [], ◌∷◌, ◌++◌, ◌||◌, ◌==◌, codes, refl, sym, ap, ◌∙◌, subst, append-nil, inl, inr, Option, Some, None, Result, Ok, Err, OnOk, IfErr}
+use Rattle.std.proofs.Common.{◌≡◌, ◌≢◌, ℕ, Bool, true, false, cond, List, [], ◌∷◌, ◌++◌, ◌&&◌, ◌||◌, ◌==◌, codes, refl, sym, ap, ◌∙◌, subst, append_assoc, append-nil, inl, inr, Option, Some, None, Result, Ok, Err, OnOk, IfErr}
 use Rattle.std.specs.Str.{chars, is_utf8}
 use Rattle.std.proofs.lemmas.Bool.{and_parts, or_from, or_parts, false_from_ne_true, true≢false}
 use Rattle.swc_ecma_codegen_common.specs.declared.errors.Error.{Error}
@@ -22,7 +22,7 @@ use Rattle.swc_ecma_codegen_ast.proofs.Dropped.{keeps_reduced, none_fuse_reduced
 use Rattle.swc_ecma_codegen_common.specs.declared.positions.BytePos.{BytePos}
 use Rattle.swc_ecma_codegen_spans.specs.Spans.{dummy_span}
 use Rattle.swc_ecma_codegen_text_writer.specs.Recorded.{RecordsTruly}
-use Rattle.swc_ecma_codegen_text_writer.specs.Sheet.{Sheet, Symbol, Position, Commit}
+use Rattle.swc_ecma_codegen_text_writer.specs.Sheet.{Sheet, Symbol, Position, Commit, is_ending}
 use Rattle.swc_ecma_codegen_text_writer.proofs.Sheets.{effect_keeps_positions}
 use Rattle.swc_ecma_codegen_ast.specs.Phrases.{Phrase, Never, Nothing, One, NameOf, Then, PlacedName, Generates, is_possible, names_in, where_, ◌>◌, mark}
 use Rattle.swc_ecma_codegen_ast.specs.Phrases as phrases
@@ -51,9 +51,17 @@ use Rattle.swc_ecma_codegen_base.proofs.Spelled.{valid_same, spelled_same, out_s
 use Rattle.swc_ecma_codegen_base.proofs.Positions.{Named, named_none, named_then, named_records, name_named, name_steps, name_call, run_records}
 use Rattle.swc_ecma_codegen_base.proofs.ValueStrings.{none_by_value, steps_safe}
 use Rattle.swc_ecma_codegen_base.proofs.Targets.{Names, names_in_ascii, plain_not_out}
-use Rattle.swc_ecma_codegen_base.proofs.Shapes.{Shape, whole, open_, ended, loose, joining, join, is_within, not_broken, broken_from, walk_append}
+use Rattle.swc_ecma_codegen_base.proofs.Shapes.{Shape, whole, open_, loose, joining, joined, join, is_within, not_broken, broken_from, walk_append}
 use Rattle.swc_ecma_codegen_base.proofs.Written.{LaysAt, held, held_of, tokens_append, Spelled, spelled_word, spelled_name, spelled_mark}
-use Rattle.swc_ecma_codegen_base.proofs.Printed.{MakesAt, makes_wider, writes_joined, chain, or_false, Makes, Writes, writes_whatever, writes_then, writes_same, writes_nothing, writes_keyword, writes_operator, writes_word_operator, writes_punct, writes_placed_punct, writes_semi, writes_commit, writes_leading, writes_name_text, Fills}
+use Rattle.swc_ecma_codegen_base.proofs.Printed.{MakesAt, makes_wider, writes_joined_operator, writes_joined_punct, writes_keyword_joint, chain, or_false, Makes, Writes, writes_whatever, writes_then, writes_same, writes_nothing, writes_keyword, writes_operator, writes_word_operator, writes_punct, writes_placed_punct, writes_semi, writes_commit, writes_leading, writes_name_text, Fills}
+
+and_assoc : (a b c : Bool) → ((a && b) && c) ≡ (a && (b && c))
+and_assoc true b c = refl
+and_assoc false b c = refl
+
+or_assoc : (a b c : Bool) → ((a || b) || c) ≡ (a || (b || c))
+or_assoc true b c = refl
+or_assoc false b c = refl
 
 -- ---- the steps of a part
 
@@ -203,27 +211,6 @@ before {i} {j} {env} {p} {q} {f} h k = record {
   where_out = λ w o rest. h.where_out w o (q rest);
 }
 
--- one part after another that ends with a token, with `[no LineTerminator here]` between: `return a`
-pub joined : {j : Shape} {env : Env} {p q : Part} {f g : Phrase} → Prints env p f → PrintsAt j env q g → PrintsAt (join whole (join joining j)) env (λ rest. p (q rest)) (Then f (Then phrases.same_line g))
-unfolding Generates is_possible is_out may_make_text names_in is_spelled_anew lexical.same_line
-joined {j} {env} {p} {q} {f} {g} h k = record {
-  where_possible = λ w o.
-      let both = and_parts (is_possible f) (is_possible g) w in
-      let none = or_parts (is_out env.config f) (is_out env.config g) o in
-      let a = h.where_possible both.0 none.0 in
-      let b = k.where_possible both.1 none.1 in
-      record {
-        tokens = a.tokens ++ lexical.same_line ∷ b.tokens;
-        generated = (a.tokens, lexical.same_line ∷ b.tokens, a.generated, (lexical.same_line ∷ [], b.tokens, refl, b.generated, refl), refl);
-        writes = writes_joined env p q a.tokens b.tokens a.writes b.writes;
-        named = names_then q (names_in f) (names_in g) a.writes a.named b.named;
-        safe = safe_then q a.writes a.safe b.safe;
-      };
-  where_out = λ w o rest.
-      let both = and_parts (is_possible f) (is_possible g) w in
-      out_of_two (is_out env.config f) (is_out env.config g) o (λ e. h.where_out both.0 e (q rest)) (λ n e. goes_on (h.where_possible both.0 n).writes (q rest) ∙ k.where_out both.1 e rest);
-}
-
 pub prints_nothing : {env : Env} → PrintsAt open_ env (λ rest. rest) Nothing
 unfolding Generates is_out may_make_text names_in holds_string
 prints_nothing {env} = record { where_possible = λ w o. record { tokens = []; generated = refl; writes = writes_nothing env; named = no_names env (λ rest. rest); safe = no_strings (writes_nothing env) refl }; where_out = λ w o. absurd (true≢false (sym o)) }
@@ -307,9 +294,60 @@ question_is_mark : IsMark (codes "?")
 unfolding is_punctuator is_among is_same punctuators chars is_utf8 lib.Utf8.encode
 question_is_mark = record { utf8 = refl; ascii = refl; shape = refl }
 
-pub prints_semi : (env : Env) → PrintsAt ended env semi phrases.ending
+pub prints_semi : (env : Env) → Prints env semi phrases.ending
 unfolding token_of value_of spelling lexical.ending is_str
 prints_semi env = prints_one env semi _ (writes_semi env) refl
+
+-- ---- tokens behind `[no LineTerminator here]`, and before it
+
+-- the phrase of two tokens
+prints_pair : {i : Shape} (env : Env) (p : Part) (x y : lexical.Token) → MakesAt i env p (x ∷ y ∷ []) false → is_str x.kind ≡ false → is_str y.kind ≡ false → PrintsAt i env p (One x > One y)
+unfolding Generates is_out is_possible names_in holds_string
+prints_pair env p x y h a b = record {
+  where_possible = λ w o. record {
+    tokens = x ∷ y ∷ [];
+    generated = (x ∷ [], y ∷ [], refl, refl, refl);
+    writes = writes_whatever (may_make_text env.config (One x > One y)) h;
+    named = no_names env p;
+    safe = no_strings h (or_from (is_str x.kind) _ a (or_from (is_str y.kind) false b refl));
+  };
+  where_out = λ w o. absurd (true≢false (sym o));
+}
+
+-- `++` of `a++`
+pub prints_joined_operator : (env : Env) (t : List ℕ) → IsMark t → PrintsAt joined env (operator t) (phrases.same_line > mark t)
+unfolding token_of value_of spelling lexical.punctuator lexical.same_line is_str
+prints_joined_operator env t w = prints_pair env (operator t) _ _ (writes_joined_operator env t (mark_spelled t w) w.ascii) refl refl
+
+-- `=>`
+pub prints_joined_punct : (env : Env) (t : List ℕ) → is_ending t ≡ false → IsMark t → PrintsAt joined env (punct t) (phrases.same_line > mark t)
+unfolding token_of value_of spelling lexical.punctuator lexical.same_line is_str
+prints_joined_punct env t e w = prints_pair env (punct t) _ _ (writes_joined_punct env t e (mark_spelled t w) w.ascii) refl refl
+
+joint_word : (env : Env) (p : Part) (t : List ℕ) → IsWord t → MakesAt (join whole joining) env p (token_of Word (spelling Word t) ∷ lexical.same_line ∷ []) false → PrintsAt (join whole joining) env p (phrases.word t > phrases.same_line)
+unfolding token_of value_of spelling lexical.word lexical.same_line is_str
+joint_word env p t w h = subst (λ z. PrintsAt (join whole joining) env p (phrases.word z > phrases.same_line)) (ascii_same t w.ascii) (prints_pair env p _ _ h refl refl)
+
+-- the lists of three phrases, however they are taken together
+pub prints_regrouped : {i : Shape} {env : Env} {p : Part} {f g h : Phrase} → PrintsAt i env p ((f > g) > h) → PrintsAt i env p (f > g > h)
+unfolding Generates is_possible is_out may_make_text names_in
+prints_regrouped {env = env} {p = p} {f = f} {g = g} {h = h} x = record {
+  where_possible = λ w o.
+      let a = x.where_possible (and_assoc (is_possible f) (is_possible g) (is_possible h) ∙ w) (or_assoc (is_out env.config f) (is_out env.config g) (is_out env.config h) ∙ o) in
+      let k = a.generated in
+      record {
+        tokens = a.tokens;
+        generated = (k.2.0, k.2.1 ++ k.1, k.2.2, (k.2.1, k.1, k.2.3, k.3, refl), k.4 ∙ ap (λ z. z ++ k.1) k.2.4 ∙ append_assoc k.2.0 k.2.1 k.1);
+        writes = subst (λ z. MakesAt _ env p a.tokens z) (sym (or_assoc (may_make_text env.config f) (may_make_text env.config g) (may_make_text env.config h))) a.writes;
+        named = subst (λ z. NamedBy env p z) (append_assoc (names_in f) (names_in g) (names_in h)) a.named;
+        safe = a.safe;
+      };
+  where_out = λ w o rest. x.where_out (and_assoc (is_possible f) (is_possible g) (is_possible h) ∙ w) (or_assoc (is_out env.config f) (is_out env.config g) (is_out env.config h) ∙ o) rest;
+}
+
+-- a word and what belongs to it: `return a`
+pub joined_then : {j : Shape} (env : Env) (span : Option Span) (t : List ℕ) → IsWord t → {p : Part} {f : Phrase} → PrintsAt j env p f → PrintsAt (join (join whole joining) j) env (λ rest. keyword span t (p rest)) (phrases.word t > phrases.same_line > f)
+joined_then env span t w h = prints_regrouped (then (joint_word env (keyword span t) t w (writes_keyword_joint env span t (word_spelled t w) w.ascii)) h)
 
 -- ---- names
 

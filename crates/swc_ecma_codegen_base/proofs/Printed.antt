@@ -8,23 +8,23 @@ use Rattle.swc_ecma_codegen_ast.specs.declared.kinds.Kind.{Kind}
 use Rattle.swc_ecma_codegen_ast.specs.declared.kinds.Kind.TheVariants.{Word, Name, Punctuator, Ending}
 use Rattle.swc_ecma_codegen_ast.specs.Tokens as lexical
 use Rattle.swc_ecma_codegen_ast.specs.Tokens.{token_of}
-use Rattle.swc_ecma_codegen_text_writer.specs.Sheet.{Semi, Space, Keyword, Operator, Line, Symbol, Punct, Position, Commit, Deeper, Shallower, effect}
+use Rattle.swc_ecma_codegen_text_writer.specs.Sheet.{Semi, Space, Keyword, Operator, Line, Symbol, Punct, Position, Commit, Deeper, Shallower, effect, is_ending}
 use Rattle.swc_ecma_codegen_ast.specs.ValidNames.{turned}
 use Rattle.swc_ecma_codegen_base.specs.Run.{Env, Plan, Part, State, Step, Guard, Token, Plain, Ends, Remake, Steps, next, put, run, step, spelling, text_of, after_token, after_plain, when_minified, no_part, has_backslash, makes_text}
 use Rattle.swc_ecma_codegen_base.specs.Words.{keyword, operator, word_operator, punct, placed_punct, semi, space, formatting_space, line_end, formatting_line, commit_pending_semi, position, position_before, leading_comments, trailing_comments, symbol, spelled_symbol, valid_symbol, name_text}
 use Rattle.swc_ecma_codegen_base.specs.Lists.{deeper, shallower}
 use Rattle.swc_ecma_codegen_literals.specs.AsciiNames.{is_ascii_text}
-use Rattle.swc_ecma_codegen_base.specs.Ascii.{is_kept, is_other, is_other_value, keeps_other, keeps_tokens, are_ascii}
-use Rattle.swc_ecma_codegen_base.specs.Scripts.{is_string_call, is_str}
+use Rattle.swc_ecma_codegen_base.specs.Ascii.{is_kept, is_other, keeps_other, are_ascii}
+use Rattle.swc_ecma_codegen_base.specs.Scripts.{is_string_call}
 use Rattle.swc_ecma_codegen_base.specs.Targets.{wants_escapes, in_ascii, is_out_name, written_name}
 use Rattle.swc_ecma_codegen_base.specs.Written.{AtRest}
 use Rattle.swc_ecma_codegen_base.proofs.Emitting.{minified_same, pretty_same}
 use Rattle.swc_ecma_codegen_base.proofs.Fronts.{run_append}
-use Rattle.swc_ecma_codegen_base.proofs.Hands.{Hands, has_string, holds_string, hands_ascii, hands_by_settings, hands_then}
+use Rattle.swc_ecma_codegen_base.proofs.Hands.{Hands, has_string, hands_ascii, hands_by_settings, hands_then}
 use Rattle.swc_ecma_codegen_base.proofs.Levels.{levels, rise, levels_append}
 use Rattle.swc_ecma_codegen_base.proofs.Spelled.{valid_same, spelled_same}
-use Rattle.swc_ecma_codegen_base.proofs.Shapes.{Shape, whole, open_, ended, loose, joining, join, is_within, none_held}
-use Rattle.swc_ecma_codegen_base.proofs.Written.{LaysAt, lays_wider, lays_joint, lays_then, lays_nothing, lays_blank, lays_line, lays_commit, lays_level, lays_position, lays_token, lays_punct, lays_semi, lays_placed, Spelled, own_put, punct_put, semi_put}
+use Rattle.swc_ecma_codegen_base.proofs.Shapes.{Shape, whole, open_, loose, joining, joined, join, is_within}
+use Rattle.swc_ecma_codegen_base.proofs.Written.{LaysAt, lays_wider, lays_joint_token, lays_joint_punct, lays_token_joint, lays_then, lays_nothing, lays_blank, lays_line, lays_commit, lays_level, lays_position, lays_token, lays_punct, lays_semi, lays_placed, Spelled, own_put, punct_put, semi_put}
 
 -- some steps, and then more
 unfoldable pub chain : List Step → Steps → Steps
@@ -61,8 +61,8 @@ Writes env part ts = Makes env part ts false
 abbrev pub Fills : Env → Part → Type 0
 Fills env part = MakesAt open_ env part [] false
 
-abbrev pub Lines : Env → Part → Type 0
-Lines env part = MakesAt loose env part [] false
+abbrev pub EndsLines : Env → Part → Type 0
+EndsLines env part = MakesAt loose env part [] false
 
 or_assoc : (a b c : Bool) → (a || (b || c)) ≡ ((a || b) || c)
 or_assoc true b c = refl
@@ -110,23 +110,6 @@ writes_then env p q ts us h k = with_room (length ts + length us) (length (ts ++
 -- what leads less far
 pub makes_wider : {i : Shape} (j : Shape) {env : Env} {p : Part} {ts : List lexical.Token} {a : Bool} {room : ℕ} → is_within i j ≡ true → MakesWithin i room env p ts a → MakesWithin j room env p ts a
 makes_wider j e h = record { steps = h.steps; is_steps = h.is_steps; lays = λ s r. lays_wider j e (h.lays s r); remakes = h.remakes; deep = h.deep; hands = h.hands }
-
--- `[no LineTerminator here]` between what ends with a token and what comes after it
-pub writes_joined : {j : Shape} (env : Env) (p q : Part) (ts us : List lexical.Token) {a b : Bool} → Makes env p ts a → MakesAt j env q us b → MakesAt (join whole (join joining j)) env (λ rest. p (q rest)) (ts ++ lexical.same_line ∷ us) (a || b)
-unfolding holds_string keeps_tokens is_other_value is_str lexical.same_line
-writes_joined {j} env p q ts us {a} {b} h k = record {
-  steps = h.steps ++ k.steps;
-  is_steps = λ rest. h.is_steps (q rest) ∙ ap (λ z. chain h.steps z) (k.is_steps rest) ∙ sym (chain_append h.steps k.steps (rest env));
-  lays = λ s r.
-      let a = h.lays s r in
-      let there : State = run h.steps s in
-      let c = lays_joint there (none_held a.settles) a.rest in
-      let P : State → Type 0 = λ z. LaysAt (join whole (join joining j)) (ts ++ lexical.same_line ∷ us) s z in
-      subst P (sym (run_append h.steps k.steps s)) (lays_then ts (lexical.same_line ∷ us) s there (run k.steps there) a (lays_then (lexical.same_line ∷ []) us there there (run k.steps there) c (k.lays there a.rest)));
-  remakes = λ e. or_either (makes_text h.steps) (makes_text k.steps) a b (sym (remakes_append h.steps k.steps) ∙ e) h.remakes k.remakes;
-  deep = let x = h.deep in let y = k.deep in omega (arith, x, y, levels_append h.steps k.steps, length-append ts (lexical.same_line ∷ us));
-  hands = hands_then h.hands (record { ascii = k.hands.ascii; keeps = k.hands.keeps; strings = k.hands.strings });
-}
 
 -- none of its texts is made anew, so none is where some may be
 pub writes_whatever : {i : Shape} {env : Env} {p : Part} {ts : List lexical.Token} (b : Bool) → MakesAt i env p ts false → MakesAt i env p ts b
@@ -196,9 +179,23 @@ pub writes_placed_punct : (env : Env) (span : Span) (t : List ℕ) → Spelled P
 unfolding placed_punct put effect text_of after_token punct_put makes_text levels rise are_ascii has_string is_string_call
 writes_placed_punct env span t p a = writes_two env (Guard t) (Token Punctuator (Punct (Some span) t)) _ (λ s r. lays_punct (Some span) t s p r) (omega arith) (hands_ascii env _ _ (guarded_ascii t a) no_text)
 
-pub writes_semi : (env : Env) → MakesAt ended env semi (token_of Ending (spelling Ending (codes ";")) ∷ []) false
+pub writes_semi : (env : Env) → Writes env semi (token_of Ending (spelling Ending (codes ";")) ∷ [])
 unfolding semi put effect text_of after_token semi_put makes_text levels rise are_ascii has_string is_string_call
 writes_semi env = writes_two env (Guard (codes ";")) (Token Ending (Semi None)) _ (λ s r. lays_semi None s r) (omega arith) (hands_ascii env _ _ refl no_text)
+
+-- ---- tokens behind `[no LineTerminator here]`, and before it
+
+pub writes_joined_operator : (env : Env) (t : List ℕ) → Spelled Punctuator t → is_ascii_text t ≡ true → MakesAt joined env (operator t) (lexical.same_line ∷ token_of Punctuator (spelling Punctuator t) ∷ []) false
+unfolding operator put effect text_of after_token own_put makes_text levels rise are_ascii has_string is_string_call
+writes_joined_operator env t p a = writes_two env (Guard t) (Token Punctuator (Operator None t)) _ (λ s r. lays_joint_token Punctuator None t s p r) (omega arith) (hands_ascii env _ _ (guarded_ascii t a) no_text)
+
+pub writes_joined_punct : (env : Env) (t : List ℕ) → is_ending t ≡ false → Spelled Punctuator t → is_ascii_text t ≡ true → MakesAt joined env (punct t) (lexical.same_line ∷ token_of Punctuator (spelling Punctuator t) ∷ []) false
+unfolding punct put effect text_of after_token punct_put makes_text levels rise are_ascii has_string is_string_call
+writes_joined_punct env t e p a = writes_two env (Guard t) (Token Punctuator (Punct None t)) _ (λ s r. lays_joint_punct None t s e p r) (omega arith) (hands_ascii env _ _ (guarded_ascii t a) no_text)
+
+pub writes_keyword_joint : (env : Env) (span : Option Span) (t : List ℕ) → Spelled Word t → is_ascii_text t ≡ true → MakesAt (join whole joining) env (keyword span t) (token_of Word (spelling Word t) ∷ lexical.same_line ∷ []) false
+unfolding keyword put effect text_of after_token own_put makes_text levels rise are_ascii has_string is_string_call
+writes_keyword_joint env span t p a = writes_two env (Guard t) (Token Word (Keyword span t)) _ (λ s r. lays_token_joint Word span t s p r) (omega arith) (hands_ascii env _ _ (guarded_ascii t a) no_text)
 
 -- ---- what stands between
 
@@ -210,11 +207,11 @@ pub writes_formatting_space : (env : Env) → Fills env formatting_space
 unfolding formatting_space no_part
 writes_formatting_space env = writes_minified env no_part space [] (writes_nothing env) (writes_space env)
 
-pub writes_line : (env : Env) → Lines env line_end
+pub writes_line : (env : Env) → EndsLines env line_end
 unfolding line_end put text_of after_plain makes_text levels rise are_ascii has_string is_string_call
 writes_line env = writes_step env (Plain Line) [] (λ s r. lays_line s r) (omega arith) (hands_ascii env _ [] refl no_text)
 
-pub writes_formatting_line : (env : Env) → Lines env formatting_line
+pub writes_formatting_line : (env : Env) → EndsLines env formatting_line
 unfolding formatting_line no_part
 writes_formatting_line env = writes_minified env no_part line_end [] (makes_wider loose refl (writes_nothing env)) (writes_line env)
 

@@ -7,8 +7,6 @@ use Rattle.swc_ecma_codegen_ast.specs.Trivia.{pieces_text}
 use Rattle.swc_ecma_codegen_ast.specs.Parts as parts
 use Rattle.swc_ecma_codegen_ast.specs.Parts.{Gap, Own, Joint, OfLine, OnLine, PastLine, AtJoint, Broken, over_gap, over_own, over_joint, walk, is_broken}
 use Rattle.swc_ecma_codegen_ast.proofs.Reading.{broken_stays}
-use Rattle.swc_ecma_codegen_text_writer.specs.Sheet.{Sheet}
-use Rattle.swc_ecma_codegen_base.specs.Written.{holds_one}
 
 -- ---- which place is as good as another
 
@@ -127,7 +125,7 @@ whole = record { line = OnLine; past = OnLine; joint = OnLine }
 abbrev pub open_ : Shape
 open_ = record { line = OnLine; past = PastLine; joint = AtJoint }
 
--- what begins with a token, and then a line may end, or a statement: `a;`
+-- what begins with a token, and then a line may end
 abbrev pub ended : Shape
 ended = record { line = PastLine; past = PastLine; joint = PastLine }
 
@@ -142,6 +140,10 @@ closed = record { line = OnLine; past = OnLine; joint = Broken }
 -- `[no LineTerminator here]`
 abbrev pub joining : Shape
 joining = record { line = AtJoint; past = Broken; joint = AtJoint }
+
+-- a token behind that
+abbrev pub joined : Shape
+joined = record { line = OnLine; past = Broken; joint = OnLine }
 
 abbrev pub leads : Shape → OfLine → OfLine
 leads i OnLine = i.line
@@ -215,79 +217,3 @@ fits_gap o e = record { line = subst (λ z. Le z PastLine) (sym (e OnLine)) (gap
 pub fits_own : (kind : Kind) (t : List ℕ) → Fits whole (Own kind t ∷ [])
 unfolding walk over_own
 fits_own kind t = record { line = same OnLine; past = same OnLine; joint = same OnLine }
-
--- ---- a semicolon that is held back
-
--- past the end of a statement a semicolon may be held back, elsewhere none is
-unfoldable pub NoneHeld : OfLine → Sheet → Type 0
-NoneHeld OnLine s = holds_one s.semicolons ≡ false
-NoneHeld AtJoint s = holds_one s.semicolons ≡ false
-NoneHeld PastLine s = Unit {0}
-NoneHeld Broken s = Unit {0}
-
-none_elsewhere : (w : OfLine) (s : Sheet) → holds_one s.semicolons ≡ false → NoneHeld w s
-unfolding NoneHeld
-none_elsewhere OnLine s h = h
-none_elsewhere AtJoint s h = h
-none_elsewhere PastLine s h = tt
-none_elsewhere Broken s h = tt
-
-none_le : (v w : OfLine) (s : Sheet) → Le v w → NoneHeld v s → NoneHeld w s
-unfolding NoneHeld
-none_le v w s (same w) h = h
-none_le v w s (line_first w) h = none_elsewhere w s h
-none_le v w s (broken_last v) h = tt
-
-pub record Settles (i : Shape) (a b : Sheet) : Type 0 where
-  pub line : NoneHeld OnLine a → NoneHeld i.line b
-  pub past : NoneHeld i.past b
-  pub joint : NoneHeld AtJoint a → NoneHeld i.joint b
-
-settles_at : {i : Shape} {a b : Sheet} → Settles i a b → (w : OfLine) → NoneHeld w a → NoneHeld (leads i w) b
-unfolding NoneHeld
-settles_at h OnLine n = h.line n
-settles_at h PastLine n = h.past
-settles_at h AtJoint n = h.joint n
-settles_at h Broken n = tt
-
-pub settles_then : {i j : Shape} {a b c : Sheet} → Settles i a b → Settles j b c → Settles (join i j) a c
-unfolding NoneHeld
-settles_then {i} h k = record { line = λ n. settles_at k i.line (h.line n); past = settles_at k i.past h.past; joint = λ n. settles_at k i.joint (h.joint n) }
-
-pub settles_wider : {i : Shape} (j : Shape) {a b : Sheet} → is_within i j ≡ true → Settles i a b → Settles j a b
-settles_wider {i} j {a} {b} e h =
-    let p = and_parts (is_le i.line j.line) _ e in
-    let q = and_parts (is_le i.past j.past) (is_le i.joint j.joint) p.1 in
-    record { line = λ n. none_le _ _ b (le_from _ _ p.0) (h.line n); past = none_le _ _ b (le_from _ _ q.0) h.past; joint = λ n. none_le _ _ b (le_from _ _ q.1) (h.joint n) }
-
--- after a token of its own none is held back
-pub settles_own : (a b : Sheet) → holds_one b.semicolons ≡ false → Settles whole a b
-unfolding NoneHeld
-settles_own a b h = record { line = λ n. h; past = h; joint = λ n. h }
-
--- the same from another sheet, where none is held back on this one
-pub settles_before : {i : Shape} {a b c : Sheet} → holds_one b.semicolons ≡ false → Settles i b c → Settles i a c
-unfolding NoneHeld
-settles_before o h = record { line = λ n. h.line o; past = h.past; joint = λ n. h.joint o }
-
--- where none was none is
-pub settles_same : (a b : Sheet) → (holds_one a.semicolons ≡ false → holds_one b.semicolons ≡ false) → Settles open_ a b
-unfolding NoneHeld
-settles_same a b h = record { line = h; past = tt; joint = h }
-
-pub settles_ended : (a b : Sheet) → Settles ended a b
-unfolding NoneHeld
-settles_ended a b = record { line = λ n. tt; past = tt; joint = λ n. tt }
-
-pub settles_loose : (a b : Sheet) → Settles loose a b
-unfolding NoneHeld
-settles_loose a b = record { line = λ n. tt; past = tt; joint = λ n. tt }
-
-pub settles_joint : (a : Sheet) → holds_one a.semicolons ≡ false → Settles joining a a
-unfolding NoneHeld
-settles_joint a h = record { line = λ n. h; past = tt; joint = λ n. h }
-
--- what ends with a token
-pub none_held : {a b : Sheet} → Settles whole a b → holds_one b.semicolons ≡ false
-unfolding NoneHeld
-none_held h = h.past

@@ -20,7 +20,7 @@ use Rattle.swc_ecma_codegen_base.specs.Written.{IsLineEnd, all_indent, is_free, 
 use Rattle.swc_ecma_codegen_base.proofs.Held.{front, front_of, recorded_keeps, written_text, written_semicolons, in_line}
 use Rattle.swc_ecma_codegen_base.proofs.Indented.{indent_repeat, indent_utf8, indent_chars, blanks, blanks_text, blanks_remarks}
 use Rattle.swc_ecma_codegen_base.proofs.Strangers.{dash_same}
-use Rattle.swc_ecma_codegen_base.proofs.Shapes.{whole, Fits, fits_then, fits_own as fits_one_own, settles_own}
+use Rattle.swc_ecma_codegen_base.proofs.Shapes.{whole, Fits, fits_then, fits_own as fits_one_own}
 use Rattle.swc_ecma_codegen_base.proofs.Written.{Lays, Spelled, fits_indent, spelled_mark, laid_out, front_indent, apart_alone, after_indent, in_a_line, apart_open, mark_allows, free_last, own_fits}
 
 -- ---- what calls add to a sheet
@@ -182,5 +182,4 @@ lays_texts xs t s b p f o r h last =
         allowed = λ u. ap (λ k. allows k u) last ∙ p.allowed s.last u;
       };
       fits = fits_texts (front s.sheet) xs t i p;
-      settles = settles_own s.sheet b.sheet (ap holds_one h.semicolons ∙ o);
     }

@@ -27,7 +27,7 @@ use Rattle.swc_ecma_codegen_text_writer.proofs.Sheets.{written_same, pointed_ali
 use Rattle.swc_ecma_codegen_base.specs.Run.{State, Guard, put, spelling}
 use Rattle.swc_ecma_codegen_base.specs.Written.{IsLineEnd, is_indent, all_indent, is_free, holds_one, AtRest}
 use Rattle.swc_ecma_codegen_base.proofs.Held.{front_of, front, written_text, in_line, written_semicolons, pointed_keeps, settled_none}
-use Rattle.swc_ecma_codegen_base.proofs.Shapes.{Shape, whole, open_, ended, loose, joining, join, is_within, Fits, fits_then, fits_wider, fits_nothing, fits_joint, fits_blank, fits_gap, fits_own, Settles, settles_then, settles_wider, settles_before, settles_same, settles_own, settles_ended, settles_loose, settles_joint}
+use Rattle.swc_ecma_codegen_base.proofs.Shapes.{Shape, whole, open_, loose, joining, joined, join, is_within, Fits, fits_then, fits_wider, fits_nothing, fits_joint, fits_blank, fits_gap, fits_own}
 use Rattle.swc_ecma_codegen_base.proofs.Indented.{indent_append, indent_repeat, indent_utf8, indent_chars, blanks, blanks_text, indent_blank, blanks_pieces, blanks_remarks}
 
 -- what is asked for and isn't out yet: a semicolon that is held back, where it would stand
@@ -56,7 +56,6 @@ pub record LaysAt (shape : Shape) (ts : List lexical.Token) (a b : State) : Type
   pub whole : holds_semicolons a.sheet.semicolons ≡ false → laid ≡ out
   pub rest : AtRest b
   pub fits : Fits shape out
-  pub settles : Settles shape a.sheet b.sheet
 
 -- what begins and ends with a token
 abbrev pub Lays : List lexical.Token → State → State → Type 0
@@ -102,7 +101,6 @@ lays_then ts us a b c h k = record {
   whole = λ e. ap (λ z. z ++ k.laid) (h.whole e) ∙ ap (λ z. h.out ++ z) (k.whole (h.holds ∙ e));
   rest = k.rest;
   fits = fits_then h.out k.out h.fits k.fits;
-  settles = settles_then h.settles k.settles;
 }
 
 -- what leads less far
@@ -115,9 +113,9 @@ laid_out a b out more ys h k r =
     subst (λ z. Reduced (held_of z a.sheet ++ (out ++ more)) (out ++ ys)) (sym h) (reduced_after out more ys (subst (λ z. Reduced (held_of z b.sheet ++ more) ys) k r))
 
 -- nothing, where nothing that matters changes
-lays_same : (a b : State) → b.sheet.text ≡ a.sheet.text → b.last ≡ a.last → held b.sheet ≡ held a.sheet → holds_semicolons b.sheet.semicolons ≡ holds_semicolons a.sheet.semicolons → (holds_one a.sheet.semicolons ≡ false → holds_one b.sheet.semicolons ≡ false) → AtRest b → LaysAt open_ [] a b
+lays_same : (a b : State) → b.sheet.text ≡ a.sheet.text → b.last ≡ a.last → held b.sheet ≡ held a.sheet → holds_semicolons b.sheet.semicolons ≡ holds_semicolons a.sheet.semicolons → AtRest b → LaysAt open_ [] a b
 unfolding parts.text_of tokens_of remarks_in
-lays_same a b t l h o n r = record {
+lays_same a b t l h o r = record {
   out = [];
   laid = [];
   bytes = [];
@@ -132,11 +130,10 @@ lays_same a b t l h o n r = record {
   whole = λ e. refl;
   rest = r;
   fits = fits_nothing;
-  settles = settles_same a.sheet b.sheet n;
 }
 
 pub lays_nothing : (s : State) → AtRest s → LaysAt open_ [] s s
-lays_nothing s r = lays_same s s refl refl refl refl (λ e. e) r
+lays_nothing s r = lays_same s s refl refl refl refl r
 
 -- `[no LineTerminator here]`, where no semicolon is held back
 pub lays_joint : (s : State) → holds_one s.sheet.semicolons ≡ false → AtRest s → LaysAt joining (lexical.same_line ∷ []) s s
@@ -156,7 +153,6 @@ lays_joint s o r = record {
   whole = λ e. refl;
   rest = r;
   fits = fits_joint;
-  settles = settles_joint s.sheet o;
 }
 
 -- ---- texts, and the indentation at a line's start
@@ -336,7 +332,6 @@ settles (HoldsOne span) s b ts e r l =
       whole = λ w. absurd (true≢false (ap holds_semicolons e ∙ w));
       rest = l.rest;
       fits = l.fits;
-      settles = settles_before q l.settles;
     }
 
 pub lays_settled : {i : Shape} (s b : State) (ts : List lexical.Token) → AtRest s → LaysAt i ts (settle s) b → LaysAt i ts s b
@@ -355,7 +350,7 @@ lays_level n s r =
     let none = settled_none s.sheet in
     let q = settle_rest s r in
     let same : held after.sheet ≡ held there.sheet = ap (λ z. held_of z after.sheet) none ∙ sym (ap (λ z. held_of z there.sheet) none) in
-    lays_settled s after [] r (lays_same there after refl refl same refl (λ e. e) (record { indent_text = q.indent_text; line_end = q.line_end; free = q.free; allowed = q.allowed }))
+    lays_settled s after [] r (lays_same there after refl refl same refl (record { indent_text = q.indent_text; line_end = q.line_end; free = q.free; allowed = q.allowed }))
 
 -- a position that is noted
 pub lays_position : (pos : BytePos) (s : State) → AtRest s → LaysAt open_ [] s (record s { sheet = pointed pos s.sheet })
@@ -363,7 +358,6 @@ lays_position pos s r =
     let p = alike_same s.sheet (pointed pos s.sheet) (pointed_alike pos s.sheet) in
     lays_same s (record s { sheet = pointed pos s.sheet }) (pointed_keeps (λ z. z.text) (λ z x. refl) (λ z x. refl) pos s.sheet) refl
     (pointed_keeps (λ z. held z) (λ z x. refl) (λ z x. refl) pos s.sheet) p.holds
-    (λ o. pointed_keeps (λ z. holds_one z.semicolons) (λ z x. refl) (λ z x. refl) pos s.sheet ∙ o)
     (record {
       indent_text = subst (λ z. all_indent z ≡ true) (sym p.indent_text) r.indent_text;
       line_end = subst (λ z. IsLineEnd z) (sym p.line_end) r.line_end;
@@ -394,7 +388,6 @@ blank_here s o r =
       whole = λ e. refl;
       rest = at_text None 32 [] s Apart (λ t. refl) r.indent_text r.line_end;
       fits = fits_indent (front s.sheet ++ codes " ") h;
-      settles = settles_same s.sheet there.sheet (λ e. still_none None (codes " ") s.sheet e);
     }
 
 pub lays_blank : (s : State) → AtRest s → LaysAt open_ [] s (record s { sheet = effect Space s.sheet; last = Apart })
@@ -434,7 +427,6 @@ lays_end s o r (inl e) = record {
   whole = λ e. refl;
   rest = line_rest s r;
   fits = fits_end _;
-  settles = settles_loose s.sheet _;
 }
 lays_end s o r (inr e) = record {
   out = Gap (Blank 13 ∷ Blank 10 ∷ []) ∷ [];
@@ -451,7 +443,6 @@ lays_end s o r (inr e) = record {
   whole = λ e. refl;
   rest = line_rest s r;
   fits = fits_end _;
-  settles = settles_loose s.sheet _;
 }
 
 line_case : (b : Bool) (s : State) → s.sheet.at_line_start ≡ b → holds_one s.sheet.semicolons ≡ false → AtRest s → LaysAt loose [] s (line_put b s)
@@ -471,7 +462,6 @@ line_case true s e o r = record {
   whole = λ e. refl;
   rest = record { indent_text = r.indent_text; line_end = r.line_end; free = λ o z. refl; allowed = apart_open };
   fits = fits_wider loose refl fits_nothing;
-  settles = settles_loose s.sheet _;
 }
 line_case false s e o r = lays_end s o r r.line_end
 
@@ -625,12 +615,15 @@ lays_here kind span (c ∷ cs) s p f o r =
       whole = λ e. refl;
       rest = at_text span c cs s (after kind (c ∷ cs) s) (p.allowed s.last) r.indent_text r.line_end;
       fits = fits_text (front s.sheet) kind (spelling kind (c ∷ cs)) h;
-      settles = settles_own s.sheet _ (still_none span (c ∷ cs) s.sheet o);
     }
 
 lays_own : (kind : Kind) (span : Option Span) (t : List ℕ) (s : State) → Spelled kind t → fuses s.last (chars t) ≡ false → AtRest s → Lays (token_of kind (spelling kind t) ∷ []) s (own_put kind span t s)
 unfolding own_put own_here
 lays_own kind span t s p f r = lays_settled s _ _ r (lays_here kind span t (settle s) p f (settled_none s.sheet) (settle_rest s r))
+
+-- behind `[no LineTerminator here]`
+lays_joint_here : (kind : Kind) (span : Option Span) (t : List ℕ) (s : State) → Spelled kind t → fuses s.last (chars t) ≡ false → holds_one s.sheet.semicolons ≡ false → AtRest s → LaysAt joined (lexical.same_line ∷ token_of kind (spelling kind t) ∷ []) s (own_here kind span t s)
+lays_joint_here kind span t s p f o r = (lays_then (lexical.same_line ∷ []) (token_of kind (spelling kind t) ∷ []) s s (own_here kind span t s) (lays_joint s o r) (lays_here kind span t s p f o r))
 
 -- ---- a punctuator before which a semicolon that is held back isn't needed
 
@@ -680,7 +673,6 @@ lost_here held_span span (c ∷ cs) s e i p f r =
       whole = λ w. absurd (true≢false (ap holds_semicolons e ∙ w));
       rest = at_text span c cs (record s { sheet = there }) (after Punctuator (c ∷ cs) s) (p.allowed s.last) r.indent_text r.line_end;
       fits = fits_own Punctuator (c ∷ cs);
-      settles = settles_own s.sheet _ q;
     }
 
 lost : (x : Semicolons) (span : Option Span) (t : List ℕ) (s : State) → x ≡ s.sheet.semicolons → is_ending t ≡ true → Spelled Punctuator t → fuses s.last (chars t) ≡ false → AtRest s → Lays (token_of Punctuator (spelling Punctuator t) ∷ []) s (own_here Punctuator span t (record s { sheet = record s.sheet { semicolons = dropped x } }))
@@ -705,12 +697,11 @@ unfolding holds_one
 at_hold span s r = record { indent_text = r.indent_text; line_end = r.line_end; free = λ o e. absurd (true≢false o); allowed = spelled_ending.allowed s.last }
 
 -- it is held back
-holds_back : (span : Option Span) (s : State) → holds_one s.sheet.semicolons ≡ false → holds_semicolons s.sheet.semicolons ≡ true → fuses s.last (chars (codes ";")) ≡ false → AtRest s → LaysAt ended (token_of Ending (spelling Ending (codes ";")) ∷ []) s (record s { sheet = record s.sheet { semicolons = HoldsOne span }; last = after Ending (codes ";") s })
+holds_back : (span : Option Span) (s : State) → holds_one s.sheet.semicolons ≡ false → holds_semicolons s.sheet.semicolons ≡ true → fuses s.last (chars (codes ";")) ≡ false → AtRest s → Lays (token_of Ending (spelling Ending (codes ";")) ∷ []) s (record s { sheet = record s.sheet { semicolons = HoldsOne span }; last = after Ending (codes ";") s })
 unfolding parts.text_of tokens_of remarks_in holds_one spelling
 holds_back span s o h f r = record {
   out = Gap (blanks (front s.sheet)) ∷ Own Ending (codes ";") ∷ [];
-  fits = fits_wider ended refl (fits_text (front s.sheet) Ending (codes ";") (front_indent s.sheet r.indent_text));
-  settles = settles_ended s.sheet _;
+  fits = fits_text (front s.sheet) Ending (codes ";") (front_indent s.sheet r.indent_text);
   laid = [];
   bytes = [];
   text = sym (append-nil s.sheet.text);
@@ -737,12 +728,11 @@ replaces_reduces x e u more ys s f r =
     subst (λ z. Reduced (held_of (holds_one z) s ++ (Own Ending (codes ";") ∷ more)) ys) e
     (subst (λ z. Reduced (semicolon_gap z ++ (Own Ending (codes ";") ∷ more)) ys) f (replaces u more ys r))
 
-holds_another : (held_span span : Option Span) (s : State) → HoldsOne held_span ≡ s.sheet.semicolons → fuses s.last (chars (codes ";")) ≡ false → AtRest s → LaysAt ended (token_of Ending (spelling Ending (codes ";")) ∷ []) s (record s { sheet = record s.sheet { semicolons = HoldsOne span }; last = after Ending (codes ";") s })
+holds_another : (held_span span : Option Span) (s : State) → HoldsOne held_span ≡ s.sheet.semicolons → fuses s.last (chars (codes ";")) ≡ false → AtRest s → Lays (token_of Ending (spelling Ending (codes ";")) ∷ []) s (record s { sheet = record s.sheet { semicolons = HoldsOne span }; last = after Ending (codes ";") s })
 unfolding parts.text_of tokens_of remarks_in holds_one spelling semicolon_gap
 holds_another held_span span s e f r = record {
   out = Own Ending (codes ";") ∷ [];
-  fits = fits_wider ended refl (fits_own Ending (codes ";"));
-  settles = settles_ended s.sheet _;
+  fits = fits_own Ending (codes ";");
   laid = [];
   bytes = [];
   text = sym (append-nil s.sheet.text);
@@ -757,13 +747,13 @@ holds_another held_span span s e f r = record {
   rest = at_hold span s r;
 }
 
-semi_case : (x : Semicolons) (span : Option Span) (s : State) → x ≡ s.sheet.semicolons → fuses s.last (chars (codes ";")) ≡ false → AtRest s → LaysAt ended (token_of Ending (spelling Ending (codes ";")) ∷ []) s (record s { sheet = semicolon_by x span s.sheet; last = after Ending (codes ";") s })
+semi_case : (x : Semicolons) (span : Option Span) (s : State) → x ≡ s.sheet.semicolons → fuses s.last (chars (codes ";")) ≡ false → AtRest s → Lays (token_of Ending (spelling Ending (codes ";")) ∷ []) s (record s { sheet = semicolon_by x span s.sheet; last = after Ending (codes ";") s })
 unfolding semicolon_by holds_one own_here
-semi_case AtOnce span s e f r = lays_wider ended refl (lays_here Ending span (codes ";") s spelled_ending f (ap holds_one (sym e)) r)
+semi_case AtOnce span s e f r = lays_here Ending span (codes ";") s spelled_ending f (ap holds_one (sym e)) r
 semi_case HoldsNone span s e f r = holds_back span s (ap holds_one (sym e)) (ap holds_semicolons (sym e)) f r
 semi_case (HoldsOne held_span) span s e f r = holds_another held_span span s e f r
 
-lays_semi_own : (span : Option Span) (s : State) → fuses s.last (chars (codes ";")) ≡ false → AtRest s → LaysAt ended (token_of Ending (spelling Ending (codes ";")) ∷ []) s (semi_put span s)
+lays_semi_own : (span : Option Span) (s : State) → fuses s.last (chars (codes ";")) ≡ false → AtRest s → Lays (token_of Ending (spelling Ending (codes ";")) ∷ []) s (semi_put span s)
 unfolding semi_put
 lays_semi_own span s f r = semi_case s.sheet.semicolons span s refl f r
 
@@ -789,6 +779,30 @@ pub after_guard : (t : List ℕ) (s : State) → fuses (put (Guard t) s).last (c
 unfolding put guard_put
 after_guard t s = passed_case (fuses s.last (chars t)) t s refl
 
+-- the same behind `[no LineTerminator here]`
+lays_joint_own : (kind : Kind) (span : Option Span) (t : List ℕ) (s : State) → Spelled kind t → fuses s.last (chars t) ≡ false → AtRest s → LaysAt joined (lexical.same_line ∷ token_of kind (spelling kind t) ∷ []) s (own_put kind span t s)
+unfolding own_put own_here
+lays_joint_own kind span t s p f r = lays_settled s _ _ r (lays_joint_here kind span t (settle s) p f (settled_none s.sheet) (settle_rest s r))
+
+joint_case : (b : Bool) (span : Option Span) (t : List ℕ) (s : State) → b ≡ false → Spelled Punctuator t → fuses s.last (chars t) ≡ false → AtRest s → LaysAt joined (lexical.same_line ∷ token_of Punctuator (spelling Punctuator t) ∷ []) s (own_here Punctuator span t (record s { sheet = cond b (record s.sheet { semicolons = dropped s.sheet.semicolons }) (settled s.sheet) }))
+unfolding own_here
+joint_case true span t s e p f r = absurd (true≢false e)
+joint_case false span t s e p f r = lays_settled s _ _ r (lays_joint_here Punctuator span t (settle s) p f (settled_none s.sheet) (settle_rest s r))
+
+lays_joint_mark : (span : Option Span) (t : List ℕ) (s : State) → is_ending t ≡ false → Spelled Punctuator t → fuses s.last (chars t) ≡ false → AtRest s → LaysAt joined (lexical.same_line ∷ token_of Punctuator (spelling Punctuator t) ∷ []) s (punct_put span t s)
+unfolding punct_put before_punct own_here
+lays_joint_mark span t s e p f r = joint_case (is_ending t) span t s e p f r
+
+pub lays_joint_token : (kind : Kind) (span : Option Span) (t : List ℕ) (s : State) → Spelled kind t → AtRest s → LaysAt joined (lexical.same_line ∷ token_of kind (spelling kind t) ∷ []) s (own_put kind span t (put (Guard t) s))
+lays_joint_token kind span t s p r =
+    let g = lays_guard t s r in
+    lays_then [] (lexical.same_line ∷ token_of kind (spelling kind t) ∷ []) s (put (Guard t) s) (own_put kind span t (put (Guard t) s)) g (lays_joint_own kind span t (put (Guard t) s) p (after_guard t s) g.rest)
+
+pub lays_joint_punct : (span : Option Span) (t : List ℕ) (s : State) → is_ending t ≡ false → Spelled Punctuator t → AtRest s → LaysAt joined (lexical.same_line ∷ token_of Punctuator (spelling Punctuator t) ∷ []) s (punct_put span t (put (Guard t) s))
+lays_joint_punct span t s e p r =
+    let g = lays_guard t s r in
+    lays_then [] (lexical.same_line ∷ token_of Punctuator (spelling Punctuator t) ∷ []) s (put (Guard t) s) (punct_put span t (put (Guard t) s)) g (lays_joint_mark span t (put (Guard t) s) e p (after_guard t s) g.rest)
+
 -- a token by one call, with that blank
 pub lays_token : (kind : Kind) (span : Option Span) (t : List ℕ) (s : State) → Spelled kind t → AtRest s → Lays (token_of kind (spelling kind t) ∷ []) s (own_put kind span t (put (Guard t) s))
 lays_token kind span t s p r =
@@ -800,10 +814,21 @@ lays_punct span t s p r =
     let g = lays_guard t s r in
     lays_then [] (token_of Punctuator (spelling Punctuator t) ∷ []) s (put (Guard t) s) (punct_put span t (put (Guard t) s)) g (lays_punct_own span t (put (Guard t) s) p (after_guard t s) g.rest)
 
-pub lays_semi : (span : Option Span) (s : State) → AtRest s → LaysAt ended (token_of Ending (spelling Ending (codes ";")) ∷ []) s (semi_put span (put (Guard (codes ";")) s))
+pub lays_semi : (span : Option Span) (s : State) → AtRest s → Lays (token_of Ending (spelling Ending (codes ";")) ∷ []) s (semi_put span (put (Guard (codes ";")) s))
 lays_semi span s r =
     let g = lays_guard (codes ";") s r in
     lays_then [] (token_of Ending (spelling Ending (codes ";")) ∷ []) s (put (Guard (codes ";")) s) (semi_put span (put (Guard (codes ";")) s)) g (lays_semi_own span (put (Guard (codes ";")) s) (after_guard (codes ";") s) g.rest)
+
+-- a token, and `[no LineTerminator here]`
+own_none : (kind : Kind) (span : Option Span) (t : List ℕ) (s : State) → holds_one (own_put kind span t s).sheet.semicolons ≡ false
+unfolding own_put
+own_none kind span t s = still_none span t (settled s.sheet) (settled_none s.sheet)
+
+pub lays_token_joint : (kind : Kind) (span : Option Span) (t : List ℕ) (s : State) → Spelled kind t → AtRest s → LaysAt (join whole joining) (token_of kind (spelling kind t) ∷ lexical.same_line ∷ []) s (own_put kind span t (put (Guard t) s))
+lays_token_joint kind span t s p r =
+    let l = lays_token kind span t s p r in
+    let there : State = own_put kind span t (put (Guard t) s) in
+    lays_then (token_of kind (spelling kind t) ∷ []) (lexical.same_line ∷ []) s there there l (lays_joint there (own_none kind span t (put (Guard t) s)) l.rest)
 
 -- a token by one call, with that blank and a position after it
 pub lays_placed : (pos : BytePos) (kind : Kind) (span : Option Span) (t : List ℕ) (s : State) → Spelled kind t → AtRest s → Lays (token_of kind (spelling kind t) ∷ []) s (own_put kind span t (record (put (Guard t) s) { sheet = pointed pos (put (Guard t) s).sheet }))
