@@ -33,7 +33,7 @@ use Rattle.swc_ecma_codegen_tree.specs.declared.stmts.WithStmt.{WithStmt}
 use Rattle.swc_ecma_codegen_tree.specs.declared.programs.Program.{Program}
 use Rattle.swc_ecma_codegen_tree.specs.declared.programs.Program.TheVariants as programs
 use Rattle.swc_ecma_codegen_tree.specs.declared.programs.Script.{Script}
-use Rattle.swc_ecma_codegen_ast.specs.Phrases.{Phrase, Never, Nothing, OptionalParentheses, Chosen, LoopEnding, ◌>◌, word, mark, ending, in_order}
+use Rattle.swc_ecma_codegen_ast.specs.Phrases.{Phrase, Never, Nothing, OptionalParentheses, Chosen, LoopEnding, ◌>◌, word, mark, ending, in_order, same_line}
 use Rattle.swc_ecma_codegen_ast.specs.declared.roles.Role.{Role}
 use Rattle.swc_ecma_codegen_ast.specs.declared.roles.Role.TheVariants.{Statement, Block}
 use Rattle.swc_ecma_codegen_ast.specs.NamePhrases.{ident}
@@ -71,10 +71,10 @@ debugger_stmt n = word (codes "debugger") > ending
 unfoldable pub with_stmt : {X : Type 0} → (X → Role → Phrase) → WithStmt X → Phrase
 with_stmt f n = word (codes "with") > mark (codes "(") > value_at f n.obj > mark (codes ")") > stmt_at f n.body
 
--- section 14.10: `return a;`, `return;`; parentheses may stand round the argument
+-- section 14.10: `return a;`, `return;`; parentheses may stand round the argument, and no line may end before it
 unfoldable pub return_arg : {X : Type 0} → (X → Role → Phrase) → Option (ExprBox X) → Phrase
 return_arg f None = Nothing
-return_arg f (Some n) = OptionalParentheses (value_at f n)
+return_arg f (Some n) = same_line > OptionalParentheses (value_at f n)
 
 unfoldable pub return_stmt : {X : Type 0} → (X → Role → Phrase) → ReturnStmt X → Phrase
 return_stmt f n = word (codes "return") > return_arg f n.arg > ending
@@ -83,12 +83,17 @@ return_stmt f n = word (codes "return") > return_arg f n.arg > ending
 unfoldable pub labeled_stmt : {X : Type 0} → (X → Role → Phrase) → LabeledStmt X → Phrase
 labeled_stmt f n = ident n.label > mark (codes ":") > stmt_at f n.body
 
+-- a label, where there is one
+unfoldable pub optional_label : Option Ident → Phrase
+optional_label None = Nothing
+optional_label (Some n) = same_line > ident n
+
 -- sections 14.9 and 14.8
 unfoldable pub break_stmt : BreakStmt → Phrase
-break_stmt n = word (codes "break") > optional_name n.label > ending
+break_stmt n = word (codes "break") > optional_label n.label > ending
 
 unfoldable pub continue_stmt : ContinueStmt → Phrase
-continue_stmt n = word (codes "continue") > optional_name n.label > ending
+continue_stmt n = word (codes "continue") > optional_label n.label > ending
 
 -- section 14.6: `if (a) b; else c;`
 unfoldable pub else_branch : {X : Type 0} → (X → Role → Phrase) → Option (StmtBox X) → Phrase
@@ -111,7 +116,7 @@ switch_stmt f n = word (codes "switch") > mark (codes "(") > value_at f n.discri
 
 -- section 14.14: parentheses may stand round the argument
 unfoldable pub throw_stmt : {X : Type 0} → (X → Role → Phrase) → ThrowStmt X → Phrase
-throw_stmt f n = word (codes "throw") > OptionalParentheses (value_at f n.arg) > ending
+throw_stmt f n = word (codes "throw") > same_line > OptionalParentheses (value_at f n.arg) > ending
 
 -- section 14.15: `catch { b; }`, `catch (a) { b; }`
 unfoldable pub catch_param : {X : Type 0} → (X → Role → Phrase) → Option (PatBox X) → Phrase

@@ -22,7 +22,7 @@ use Rattle.swc_ecma_codegen_base.proofs.Emitting.{minified_same, pretty_same}
 use Rattle.swc_ecma_codegen_base.proofs.Hands.{holds_string}
 use Rattle.swc_ecma_codegen_base.proofs.Printed.{Makes, makes_some, MakesAt}
 use Rattle.swc_ecma_codegen_base.proofs.Phrased.{NamedBy, Prints, no_names, no_strings, then, prints_nothing, prints_punct, prints_semi, prints_same, PrintsAt, prints_wider}
-use Rattle.swc_ecma_codegen_base.proofs.Shapes.{Shape, open_, loose}
+use Rattle.swc_ecma_codegen_base.proofs.Shapes.{Shape, open_}
 
 -- ---- a phrase whose lists another has too
 
@@ -199,8 +199,8 @@ pub not_ended_same : (rest : Plan) (env : Env) → is_up_to_es5 env.config.targe
 unfolding loop_ending
 not_ended_same rest env e = ap (λ b. cond b (semi rest env) (rest env)) e
 
-pub prints_loop_ending : {env : Env} → PrintsAt loose env loop_ending (Chosen LoopEnding)
+pub prints_loop_ending : {env : Env} → PrintsAt open_ env loop_ending (Chosen LoopEnding)
 prints_loop_ending {env} = elim (cases_Bool (is_up_to_es5 env.config.target)) [
-  | inl e ↦ prints_among (ending_among env.config e) (prints_same loop_ending semi (λ rest. ended_same rest env e) (prints_wider loose refl (prints_semi env)))
-  | inr e ↦ prints_among (no_ending_among env.config e) (prints_same loop_ending (λ rest. rest) (λ rest. not_ended_same rest env e) (prints_wider loose refl prints_nothing))
+  | inl e ↦ prints_among (ending_among env.config e) (prints_same loop_ending semi (λ rest. ended_same rest env e) (prints_wider open_ refl (prints_semi env)))
+  | inr e ↦ prints_among (no_ending_among env.config e) (prints_same loop_ending (λ rest. rest) (λ rest. not_ended_same rest env e) prints_nothing)
 ]

@@ -192,20 +192,20 @@ prints_child : {i : Shape} (env : Env) (format : ℕ) (line : Bool) (x : ListChi
 prints_child env format line x h = before h (writes_child_comments env format line x.place)
 
 -- the children after one, with commas between
-prints_more : {A : Type 0} (env : Env) (format : ℕ) (place : A → Span) (part : A → Part) (e : A → Phrase) → ((x : A) → Prints env (part x) (e x)) → comma_delimited format ≡ true → (previous : Span) (xs : List A) → PrintsAt open_ env (more_children format previous (children_of place part xs)) (phrases.each_after (codes ",") (map e xs))
+prints_more : {A : Type 0} (env : Env) (format : ℕ) (place : A → Span) (part : A → Part) (e : A → Phrase) → ((x : A) → PrintsAt loose env (part x) (e x)) → comma_delimited format ≡ true → (previous : Span) (xs : List A) → PrintsAt loose env (more_children format previous (children_of place part xs)) (phrases.each_after (codes ",") (map e xs))
 unfolding more_children phrases.each_after by_lines next_child_after
-prints_more env format place part e law c previous [] = prints_nothing
+prints_more env format place part e law c previous [] = prints_wider loose refl prints_nothing
 prints_more env format place part e law c previous (x ∷ xs) =
     let line : Bool = separating_line env.lines format previous (place x) in
     let more : Part = more_children format (place x) (children_of place part xs) in
     prints_same (more_children format previous (children_of place part (x ∷ xs))) (λ rest. separator format line (part x (child_comments format line (place x) (more rest)))) (λ rest. refl)
-    (prints_wider open_ refl (then (prints_separator env format line c) (then (prints_child env format line (record { place = place x; part = part x }) (law x)) (prints_more env format place part e law c (place x) xs))))
+    (prints_wider loose refl (then (prints_separator env format line c) (then (prints_child env format line (record { place = place x; part = part x }) (law x)) (prints_more env format place part e law c (place x) xs))))
 
 -- the first child and those after it, behind what opens the list
 abbrev pub children_after : {A : Type 0} → ℕ → Bool → (A → Span) → (A → Part) → A → List A → Part
 children_after format line place part x xs rest = part x (child_comments format line (place x) (more_children format (place x) (children_of place part xs) rest))
 
-pub prints_children : {A : Type 0} (env : Env) (format : ℕ) (line : Bool) (place : A → Span) (part : A → Part) (e : A → Phrase) → ((x : A) → Prints env (part x) (e x)) → comma_delimited format ≡ true → (x : A) (xs : List A) → Prints env (children_after format line place part x xs) (phrases.listed (codes ",") (map e (x ∷ xs)))
+pub prints_children : {A : Type 0} (env : Env) (format : ℕ) (line : Bool) (place : A → Span) (part : A → Part) (e : A → Phrase) → ((x : A) → PrintsAt loose env (part x) (e x)) → comma_delimited format ≡ true → (x : A) (xs : List A) → PrintsAt loose env (children_after format line place part x xs) (phrases.listed (codes ",") (map e (x ∷ xs)))
 unfolding phrases.listed
 prints_children env format line place part e law c x xs = then (prints_child env format line (record { place = place x; part = part x }) (law x)) (prints_more env format place part e law c (place x) xs)
 
@@ -216,7 +216,7 @@ list_in_parts {env = env} h format parent place part x xs rest =
     asked_behind h (λ lines. first_child_after format (leading_line lines format parent (place x)) (record { place = place x; part = part x })) (more_children format (place x) (children_of place part xs) (list_closing format parent (last_place (place x) (children_of place part xs)) rest))
 
 -- One that isn't indented, with what its trailing comma reads as, and what comes after it: `a, b, }`.
-pub prints_some : {A : Type 0} (env : Env) (format : ℕ) (parent : Span) (place : A → Span) (part : A → Part) (e : A → Phrase) (tail after : Phrase) (close : Part) → ((x : A) → Prints env (part x) (e x)) → comma_delimited format ≡ true → indented format ≡ false → ((last : Span) → PrintsAt loose env (list_closing format parent last) tail) → Prints env close after → (x : A) (xs : List A) → PrintsAt closed env (λ rest. list format parent (children_of place part (x ∷ xs)) (close rest)) (phrases.listed (codes ",") (map e (x ∷ xs)) > tail > after)
+pub prints_some : {A : Type 0} (env : Env) (format : ℕ) (parent : Span) (place : A → Span) (part : A → Part) (e : A → Phrase) (tail after : Phrase) (close : Part) → ((x : A) → PrintsAt loose env (part x) (e x)) → comma_delimited format ≡ true → indented format ≡ false → ((last : Span) → PrintsAt loose env (list_closing format parent last) tail) → Prints env close after → (x : A) (xs : List A) → PrintsAt closed env (λ rest. list format parent (children_of place part (x ∷ xs)) (close rest)) (phrases.listed (codes ",") (map e (x ∷ xs)) > tail > after)
 prints_some env format parent place part e tail after close law c i ends closed x xs =
     let line : Bool = leading_line env.lines format parent (place x) in
     let last : Span = last_place (place x) (children_of place part xs) in
@@ -226,7 +226,7 @@ prints_some env format parent place part e tail after close law c i ends closed 
     (behind (writes_opening env format line i) (then (prints_children env format line place part e law c x xs) (then (ends last) closed)))
 
 -- One that isn't indented and has no trailing comma.
-pub prints_list : {A : Type 0} (env : Env) (format : ℕ) (parent : Span) (place : A → Span) (part : A → Part) (e : A → Phrase) → ((x : A) → Prints env (part x) (e x)) → comma_delimited format ≡ true → indented format ≡ false → forces_trailing_comma format ≡ false → allows_trailing_comma format ≡ false → (xs : List A) → PrintsAt loose env (list format parent (children_of place part xs)) (phrases.listed (codes ",") (map e xs))
+pub prints_list : {A : Type 0} (env : Env) (format : ℕ) (parent : Span) (place : A → Span) (part : A → Part) (e : A → Phrase) → ((x : A) → PrintsAt loose env (part x) (e x)) → comma_delimited format ≡ true → indented format ≡ false → forces_trailing_comma format ≡ false → allows_trailing_comma format ≡ false → (xs : List A) → PrintsAt loose env (list format parent (children_of place part xs)) (phrases.listed (codes ",") (map e xs))
 unfolding phrases.listed
 prints_list env format parent place part e law c i f a [] = before prints_nothing (writes_no_list env format parent)
 prints_list env format parent place part e law c i f a (x ∷ xs) =
@@ -237,10 +237,34 @@ prints_list env format parent place part e law c i f a (x ∷ xs) =
     prints_same (list format parent (children_of place part (x ∷ xs))) (λ rest. opening format line (children (ending rest))) (λ rest. list_in_parts (writes_nothing env) format parent place part x xs rest)
     (behind (writes_opening env format line i) (before (prints_children env format line place part e law c x xs) (writes_closing env format parent last f a)))
 
+-- One child that stands on the line of what is around it, whatever the source text says: minified `a` of `a => b`.
+blank_opening : (env : Env) (format : ℕ) → indented format ≡ false → Fills env (opening format false)
+unfolding opening deeper_if line_or_blank
+blank_opening env format h =
+    writes_then env (blank_if (space_between_braces format)) (deeper_if (indented format)) [] [] (writes_blank_if env (space_between_braces format))
+    (let P : Bool → Type 0 = λ b. Fills env (deeper_if b) in subst P (sym h) (writes_nothing env))
+
+blank_closing : (env : Env) (format : ℕ) → Fills env (closing format false)
+unfolding closing line_or_blank
+blank_closing env format = writes_then env (shallower_if (indented format)) (blank_if (space_between_braces format)) [] [] (writes_shallower_if env (indented format)) (writes_blank_if env (space_between_braces format))
+
+blank_end : (env : Env) (format : ℕ) (parent last : Span) → closing_line env.lines format parent last ≡ false → Fills env (list_end format parent last)
+blank_end env format parent last e = writes_by_lines env (λ lines. closing format (closing_line lines format parent last)) [] (let P : Bool → Type 0 = λ b. Fills env (closing format b) in subst P (sym e) (blank_closing env format))
+
+pub prints_one_child : {A : Type 0} {i : Shape} (env : Env) (format : ℕ) (parent : Span) (place : A → Span) (part : A → Part) (x : A) {f : Phrase} → PrintsAt i env (part x) f → leading_line env.lines format parent (place x) ≡ false → closing_line env.lines format parent (place x) ≡ false → indented format ≡ false → forces_trailing_comma format ≡ false → allows_trailing_comma format ≡ false
+    → PrintsAt (join open_ (join (join i open_) open_)) env (list format parent (children_of place part (x ∷ []))) f
+unfolding more_children list_closing last_place
+prints_one_child env format parent place part x law l c i f a =
+    let line : Bool = leading_line env.lines format parent (place x) in
+    prints_same (list format parent (children_of place part (x ∷ []))) (λ rest. opening format line (children_after format line place part x [] (list_closing format parent (place x) rest))) (λ rest. list_in_parts (writes_nothing env) format parent place part x [] rest)
+    (behind (let P : Bool → Type 0 = λ b. Fills env (opening format b) in subst P (sym l) (blank_opening env format i))
+    (before (prints_child env format line (record { place = place x; part = part x }) law)
+    (writes_then env (trailing_comma format parent) (list_end format parent (place x)) [] [] (no_comma_written env format parent f a) (blank_end env format parent (place x) c))))
+
 -- ---- lists behind their bracket, indented or not
 
 -- With a trailing comma or another tail of its own: `[a, , ]`; `p` is what stands between the bracket and the list.
-pub prints_bracketed_some : {A : Type 0} {j : Shape} (env : Env) (t : List ℕ) → IsMark t → (p : Part) → Fills env p → (format : ℕ) (parent : Span) (place : A → Span) (part : A → Part) (e : A → Phrase) (tail after : Phrase) (close : Part) → ((x : A) → Prints env (part x) (e x)) → comma_delimited format ≡ true → ((last : Span) → PrintsAt loose env (list_closing format parent last) tail) → PrintsAt j env close after → (x : A) (xs : List A) → PrintsAt (past_line j) env (λ rest. punct t (p (list format parent (children_of place part (x ∷ xs)) (close rest)))) (mark t > (phrases.listed (codes ",") (map e (x ∷ xs)) > tail) > after)
+pub prints_bracketed_some : {A : Type 0} {j : Shape} (env : Env) (t : List ℕ) → IsMark t → (p : Part) → Fills env p → (format : ℕ) (parent : Span) (place : A → Span) (part : A → Part) (e : A → Phrase) (tail after : Phrase) (close : Part) → ((x : A) → PrintsAt loose env (part x) (e x)) → comma_delimited format ≡ true → ((last : Span) → PrintsAt loose env (list_closing format parent last) tail) → PrintsAt j env close after → (x : A) (xs : List A) → PrintsAt (past_line j) env (λ rest. punct t (p (list format parent (children_of place part (x ∷ xs)) (close rest)))) (mark t > (phrases.listed (codes ",") (map e (x ∷ xs)) > tail) > after)
 prints_bracketed_some env t w p h format parent place part e tail after close law c ends closed x xs =
     let line : Bool = leading_line env.lines format parent (place x) in
     let last : Span = last_place (place x) (children_of place part xs) in
@@ -251,7 +275,7 @@ prints_bracketed_some env t w p h format parent place part e tail after close la
     (then (prints_bracket env t w p h format line) (then (then (prints_children env format line place part e law c x xs) (ends last)) closed))
 
 -- Without a trailing comma: `{ a, b }`.
-pub prints_bracketed : {A : Type 0} {j : Shape} (env : Env) (t : List ℕ) → IsMark t → (p : Part) → Fills env p → (format : ℕ) (parent : Span) (place : A → Span) (part : A → Part) (e : A → Phrase) (after : Phrase) (close : Part) → ((x : A) → Prints env (part x) (e x)) → comma_delimited format ≡ true → forces_trailing_comma format ≡ false → allows_trailing_comma format ≡ false → PrintsAt j env close after → (xs : List A) → PrintsAt (past_line j) env (λ rest. punct t (p (list format parent (children_of place part xs) (close rest)))) (mark t > phrases.listed (codes ",") (map e xs) > after)
+pub prints_bracketed : {A : Type 0} {j : Shape} (env : Env) (t : List ℕ) → IsMark t → (p : Part) → Fills env p → (format : ℕ) (parent : Span) (place : A → Span) (part : A → Part) (e : A → Phrase) (after : Phrase) (close : Part) → ((x : A) → PrintsAt loose env (part x) (e x)) → comma_delimited format ≡ true → forces_trailing_comma format ≡ false → allows_trailing_comma format ≡ false → PrintsAt j env close after → (xs : List A) → PrintsAt (past_line j) env (λ rest. punct t (p (list format parent (children_of place part xs) (close rest)))) (mark t > phrases.listed (codes ",") (map e xs) > after)
 unfolding phrases.listed
 prints_bracketed env t w p h format parent place part e after close law c f a closed [] =
     then (prints_punct env t w) (then (before (behind h prints_nothing) (writes_no_list env format parent)) closed)
@@ -266,7 +290,7 @@ prints_bracketed env t w p h format parent place part e after close law c f a cl
 
 -- ---- lists without delimiters, as statements of a block
 
-more_in_order : {A : Type 0} (env : Env) (format : ℕ) (place : A → Span) (part : A → Part) (e : A → Phrase) → ((x : A) → PrintsAt ended env (part x) (e x)) → IsUndelimited format → (previous : Span) (xs : List A) → PrintsAt loose env (more_children format previous (children_of place part xs)) (phrases.in_order (map e xs))
+more_in_order : {A : Type 0} (env : Env) (format : ℕ) (place : A → Span) (part : A → Part) (e : A → Phrase) → ((x : A) → PrintsAt loose env (part x) (e x)) → IsUndelimited format → (previous : Span) (xs : List A) → PrintsAt loose env (more_children format previous (children_of place part xs)) (phrases.in_order (map e xs))
 unfolding more_children phrases.in_order by_lines next_child_after
 more_in_order env format place part e law u previous [] = prints_wider loose refl prints_nothing
 more_in_order env format place part e law u previous (x ∷ xs) =
@@ -283,7 +307,7 @@ unfolding list_closing
 closing_undelimited env format parent last u = writes_then env (trailing_comma format parent) (list_end format parent last) [] [] (no_comma_undelimited env format parent u) (writes_end env format parent last)
 
 -- One that isn't indented: decorators, or the statements of a program.
-pub prints_in_order : {A : Type 0} (env : Env) (format : ℕ) (parent : Span) (place : A → Span) (part : A → Part) (e : A → Phrase) → ((x : A) → PrintsAt ended env (part x) (e x)) → IsUndelimited format → indented format ≡ false → (xs : List A) → PrintsAt loose env (list format parent (children_of place part xs)) (phrases.in_order (map e xs))
+pub prints_in_order : {A : Type 0} (env : Env) (format : ℕ) (parent : Span) (place : A → Span) (part : A → Part) (e : A → Phrase) → ((x : A) → PrintsAt loose env (part x) (e x)) → IsUndelimited format → indented format ≡ false → (xs : List A) → PrintsAt loose env (list format parent (children_of place part xs)) (phrases.in_order (map e xs))
 unfolding phrases.in_order
 prints_in_order env format parent place part e law u i [] = before prints_nothing (writes_no_list env format parent)
 prints_in_order env format parent place part e law u i (x ∷ xs) =
@@ -295,7 +319,7 @@ prints_in_order env format parent place part e law u i (x ∷ xs) =
     (then (prints_child env format line (record { place = place x; part = part x }) (law x)) (before (more_in_order env format place part e law u (place x) xs) (closing_undelimited env format parent last u))))
 
 -- Behind its bracket, indented or not: the statements of a block, the members of a class.
-pub prints_bracketed_in_order : {A : Type 0} {j : Shape} (env : Env) (t : List ℕ) → IsMark t → (p : Part) → Fills env p → (format : ℕ) (parent : Span) (place : A → Span) (part : A → Part) (e : A → Phrase) (after : Phrase) (close : Part) → ((x : A) → PrintsAt ended env (part x) (e x)) → IsUndelimited format → PrintsAt j env close after → (xs : List A) → PrintsAt (past_line j) env (λ rest. punct t (p (list format parent (children_of place part xs) (close rest)))) (mark t > phrases.in_order (map e xs) > after)
+pub prints_bracketed_in_order : {A : Type 0} {j : Shape} (env : Env) (t : List ℕ) → IsMark t → (p : Part) → Fills env p → (format : ℕ) (parent : Span) (place : A → Span) (part : A → Part) (e : A → Phrase) (after : Phrase) (close : Part) → ((x : A) → PrintsAt loose env (part x) (e x)) → IsUndelimited format → PrintsAt j env close after → (xs : List A) → PrintsAt (past_line j) env (λ rest. punct t (p (list format parent (children_of place part xs) (close rest)))) (mark t > phrases.in_order (map e xs) > after)
 unfolding phrases.in_order
 prints_bracketed_in_order env t w p h format parent place part e after close law u closed [] =
     then (prints_punct env t w) (then (before (behind h prints_nothing) (writes_no_list env format parent)) closed)

@@ -144,6 +144,10 @@ prints_wider j e h = record {
   where_out = h.where_out;
 }
 
+-- where lines may end anywhere
+pub loosened : {env : Env} {p : Part} {f : Phrase} → Prints env p f → PrintsAt loose env p f
+loosened h = prints_wider loose refl h
+
 -- a part that writes tokens goes on to what comes after it
 more_unprintable : (xs : List Step) (rest : Steps) → unprintable_in (chain xs rest) ≡ unprintable_in rest
 unfolding unprintable_in chain
@@ -331,14 +335,14 @@ joint_word env p t w h = subst (λ z. PrintsAt (join whole joining) env p (phras
 -- the lists of three phrases, however they are taken together
 pub prints_regrouped : {i : Shape} {env : Env} {p : Part} {f g h : Phrase} → PrintsAt i env p ((f > g) > h) → PrintsAt i env p (f > g > h)
 unfolding Generates is_possible is_out may_make_text names_in
-prints_regrouped {env = env} {p = p} {f = f} {g = g} {h = h} x = record {
+prints_regrouped {i} {env} {p} {f} {g} {h} x = record {
   where_possible = λ w o.
       let a = x.where_possible (and_assoc (is_possible f) (is_possible g) (is_possible h) ∙ w) (or_assoc (is_out env.config f) (is_out env.config g) (is_out env.config h) ∙ o) in
       let k = a.generated in
       record {
         tokens = a.tokens;
         generated = (k.2.0, k.2.1 ++ k.1, k.2.2, (k.2.1, k.1, k.2.3, k.3, refl), k.4 ∙ ap (λ z. z ++ k.1) k.2.4 ∙ append_assoc k.2.0 k.2.1 k.1);
-        writes = subst (λ z. MakesAt _ env p a.tokens z) (sym (or_assoc (may_make_text env.config f) (may_make_text env.config g) (may_make_text env.config h))) a.writes;
+        writes = subst (λ z. MakesAt i env p a.tokens z) (sym (or_assoc (may_make_text env.config f) (may_make_text env.config g) (may_make_text env.config h))) a.writes;
         named = subst (λ z. NamedBy env p z) (append_assoc (names_in f) (names_in g) (names_in h)) a.named;
         safe = a.safe;
       };
@@ -452,7 +456,7 @@ kept_front xs ys w h = still_whole ys (walk w xs) (ap is_broken (sym (walk_appen
     still_whole ys v h = false_from_ne_true (is_broken v) (λ b. true≢false (sym (broken_from ys v b) ∙ h))
 
 laid_reads : (config : Config) (f : Phrase) (ts : List lexical.Token) (a b : State) → Generates (settings_of config) f ts → IsNew a → LaysAt loose ts a b → AddsReading config f a.sheet b.sheet
-unfolding NoneFuse
+unfolding NoneFuse is_broken
 laid_reads config f ts a b g n l =
     let last : Bool = holds_one b.sheet.semicolons in
     let end : List parts.Part = end_of last b.sheet in

@@ -34,20 +34,20 @@ line_is_not_broken : OnLine ≡ Broken → ⊥
 line_is_not_broken e = cc
 
 only_broken : (v w : OfLine) → Le v w → v ≡ Broken → w ≡ Broken
-only_broken v w (same w) e = e
-only_broken v w (line_first w) e = absurd (line_is_not_broken e)
-only_broken v w (broken_last v) e = refl
+only_broken v w (same u) e = e
+only_broken v w (line_first u) e = absurd (line_is_not_broken e)
+only_broken v w (broken_last u) e = refl
 
 le_trans : (u v w : OfLine) → Le u v → Le v w → Le u w
-le_trans u v w (same u) k = k
-le_trans u v w (line_first v) k = line_first w
-le_trans u v w (broken_last u) k = subst (λ z. Le u z) (sym (only_broken Broken w k refl)) (broken_last u)
+le_trans u v w (same x) k = k
+le_trans u v w (line_first x) k = line_first w
+le_trans u v w (broken_last x) k = subst (λ z. Le u z) (sym (only_broken Broken w k refl)) (broken_last u)
 
 pub not_broken : (v w : OfLine) → Le v w → is_broken w ≡ false → is_broken v ≡ false
 unfolding is_broken
-not_broken v w (same w) h = h
-not_broken v w (line_first w) h = refl
-not_broken v w (broken_last v) h = absurd (true≢false h)
+not_broken v w (same u) h = h
+not_broken v w (line_first u) h = refl
+not_broken v w (broken_last u) h = absurd (true≢false h)
 
 gap_broken : (o : Bool) → over_gap o Broken ≡ Broken
 unfolding over_gap
@@ -63,18 +63,18 @@ gap_first false AtJoint = broken_last PastLine
 gap_first false Broken = broken_last PastLine
 
 gap_le : (o : Bool) (v w : OfLine) → Le v w → Le (over_gap o v) (over_gap o w)
-gap_le o v w (same w) = same (over_gap o w)
-gap_le o v w (line_first w) = gap_first o w
-gap_le o v w (broken_last v) = subst (λ z. Le (over_gap o v) z) (sym (gap_broken o)) (broken_last (over_gap o v))
+gap_le o v w (same u) = same (over_gap o u)
+gap_le o v w (line_first u) = gap_first o u
+gap_le o v w (broken_last u) = subst (λ z. Le (over_gap o u) z) (sym (gap_broken o)) (broken_last (over_gap o u))
 
 own_first : (w : OfLine) → Le OnLine (over_own w)
 own_first w = line_first (over_own w)
 
 own_le : (v w : OfLine) → Le v w → Le (over_own v) (over_own w)
 unfolding over_own
-own_le v w (same w) = same (over_own w)
-own_le v w (line_first w) = own_first w
-own_le v w (broken_last v) = broken_last (over_own v)
+own_le v w (same u) = same (over_own u)
+own_le v w (line_first u) = own_first u
+own_le v w (broken_last u) = broken_last (over_own u)
 
 joint_first : (w : OfLine) → Le AtJoint (over_joint w)
 unfolding over_joint
@@ -85,9 +85,9 @@ joint_first Broken = broken_last AtJoint
 
 joint_le : (v w : OfLine) → Le v w → Le (over_joint v) (over_joint w)
 unfolding over_joint
-joint_le v w (same w) = same (over_joint w)
-joint_le v w (line_first w) = joint_first w
-joint_le v w (broken_last v) = broken_last (over_joint v)
+joint_le v w (same u) = same (over_joint u)
+joint_le v w (line_first u) = joint_first u
+joint_le v w (broken_last u) = broken_last (over_joint u)
 
 pub broken_from : (xs : List parts.Part) (w : OfLine) → is_broken w ≡ true → is_broken (walk w xs) ≡ true
 unfolding is_broken

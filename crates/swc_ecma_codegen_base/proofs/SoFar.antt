@@ -23,8 +23,8 @@ use Rattle.swc_ecma_codegen_base.specs.Written.{IsNew, IsWord, IsMark, ReadsSoFa
 use Rattle.swc_ecma_codegen_base.proofs.Emitting.{emits_nothing}
 use Rattle.swc_ecma_codegen_base.proofs.Written.{LaysAt, text_append, tokens_append, remarks_append}
 use Rattle.swc_ecma_codegen_base.proofs.Printed.{Makes, writes_space, writes_formatting_space, writes_line, writes_formatting_line, writes_commit, writes_position, writes_position_before, writes_leading, writes_trailing, Fills, MakesAt, EndsLines, makes_wider}
-use Rattle.swc_ecma_codegen_base.proofs.Phrased.{Prints, steps_of_chain, new_at_rest, prints_keyword, prints_operator, prints_word_operator, prints_punct, prints_semi, prints_ident, made_not_out, PrintsAt, prints_wider}
-use Rattle.swc_ecma_codegen_base.proofs.Shapes.{Le, line_first, ended, loose, walk_append, walk_le, not_broken}
+use Rattle.swc_ecma_codegen_base.proofs.Phrased.{Prints, steps_of_chain, new_at_rest, prints_keyword, prints_operator, prints_word_operator, prints_punct, prints_semi, prints_ident, made_not_out}
+use Rattle.swc_ecma_codegen_base.proofs.Shapes.{Le, line_first, loose, walk_append, walk_le, not_broken}
 
 -- where no line ends within what follows the end of a line, none does where some parts stand before
 kept_on : (xs more : List parts.Part) → Le (walk PastLine xs) PastLine → is_broken (walk PastLine more) ≡ false → is_broken (walk PastLine (xs ++ more)) ≡ false
@@ -67,7 +67,7 @@ emitted_so_far part old tokens ts a b w e h =
     subst P (sym end) (lays_so_far old tokens ts a (run w.steps a) (w.lays a h.rest) h)
 
 -- a part that writes one token
-one_so_far : (part : Part) (x : lexical.Token) (old : List ℕ) (tokens : List lexical.Token) (a b : State) → PrintsAt ended a.env part (One x) → Emits part a b (Ok tt) → ReadsSoFar old tokens a → ReadsSoFar old (tokens ++ x ∷ []) b
+one_so_far : (part : Part) (x : lexical.Token) (old : List ℕ) (tokens : List lexical.Token) (a b : State) → Prints a.env part (One x) → Emits part a b (Ok tt) → ReadsSoFar old tokens a → ReadsSoFar old (tokens ++ x ∷ []) b
 unfolding Generates is_possible is_out
 one_so_far part x old tokens a b prints e h =
     let p = prints.where_possible refl refl in
@@ -85,16 +85,16 @@ phrase_so_far part f old tokens a b prints w e h =
     (p.tokens, p.generated, emitted_so_far part old tokens p.tokens a b (makes_wider loose refl p.writes) e h)
 
 pub keyword_so_far : (span : Option Span) (t old : List ℕ) (tokens : List lexical.Token) (a b : State) → IsWord t → Emits (keyword span t) a b (Ok tt) → ReadsSoFar old tokens a → ReadsSoFar old (tokens ++ lexical.word t ∷ []) b
-keyword_so_far span t old tokens a b w e h = one_so_far (keyword span t) (lexical.word t) old tokens a b (prints_wider ended refl (prints_keyword a.env span t w)) e h
+keyword_so_far span t old tokens a b w e h = one_so_far (keyword span t) (lexical.word t) old tokens a b (prints_keyword a.env span t w) e h
 
 pub word_operator_so_far : (t old : List ℕ) (tokens : List lexical.Token) (a b : State) → IsWord t → Emits (word_operator t) a b (Ok tt) → ReadsSoFar old tokens a → ReadsSoFar old (tokens ++ lexical.word t ∷ []) b
-word_operator_so_far t old tokens a b w e h = one_so_far (word_operator t) (lexical.word t) old tokens a b (prints_wider ended refl (prints_word_operator a.env t w)) e h
+word_operator_so_far t old tokens a b w e h = one_so_far (word_operator t) (lexical.word t) old tokens a b (prints_word_operator a.env t w) e h
 
 pub operator_so_far : (t old : List ℕ) (tokens : List lexical.Token) (a b : State) → IsMark t → Emits (operator t) a b (Ok tt) → ReadsSoFar old tokens a → ReadsSoFar old (tokens ++ lexical.punctuator t ∷ []) b
-operator_so_far t old tokens a b w e h = one_so_far (operator t) (lexical.punctuator t) old tokens a b (prints_wider ended refl (prints_operator a.env t w)) e h
+operator_so_far t old tokens a b w e h = one_so_far (operator t) (lexical.punctuator t) old tokens a b (prints_operator a.env t w) e h
 
 pub punct_so_far : (t old : List ℕ) (tokens : List lexical.Token) (a b : State) → IsMark t → Emits (punct t) a b (Ok tt) → ReadsSoFar old tokens a → ReadsSoFar old (tokens ++ lexical.punctuator t ∷ []) b
-punct_so_far t old tokens a b w e h = one_so_far (punct t) (lexical.punctuator t) old tokens a b (prints_wider ended refl (prints_punct a.env t w)) e h
+punct_so_far t old tokens a b w e h = one_so_far (punct t) (lexical.punctuator t) old tokens a b (prints_punct a.env t w) e h
 
 pub semi_so_far : (old : List ℕ) (tokens : List lexical.Token) (a b : State) → Emits semi a b (Ok tt) → ReadsSoFar old tokens a → ReadsSoFar old (tokens ++ lexical.ending ∷ []) b
 semi_so_far old tokens a b e h = one_so_far semi lexical.ending old tokens a b (prints_semi a.env) e h

@@ -105,7 +105,7 @@ lays_then ts us a b c h k = record {
 
 -- what leads less far
 pub lays_wider : {i : Shape} (j : Shape) {ts : List lexical.Token} {a b : State} → is_within i j ≡ true → LaysAt i ts a b → LaysAt j ts a b
-lays_wider j e h = record { out = h.out; laid = h.laid; bytes = h.bytes; text = h.text; utf8 = h.utf8; spells = h.spells; tokens = h.tokens; remarks = h.remarks; apart = h.apart; reduces = h.reduces; holds = h.holds; whole = h.whole; rest = h.rest; fits = fits_wider j e h.fits; settles = settles_wider j e h.settles }
+lays_wider j e h = record { out = h.out; laid = h.laid; bytes = h.bytes; text = h.text; utf8 = h.utf8; spells = h.spells; tokens = h.tokens; remarks = h.remarks; apart = h.apart; reduces = h.reduces; holds = h.holds; whole = h.whole; rest = h.rest; fits = fits_wider j e h.fits }
 
 -- the parts that are asked for go out, where no semicolon is held back
 pub laid_out : (a b : State) (out more ys : List parts.Part) → holds_one a.sheet.semicolons ≡ false → holds_one b.sheet.semicolons ≡ false → Reduced (held b.sheet ++ more) ys → Reduced (held a.sheet ++ (out ++ more)) (out ++ ys)
