@@ -1,5 +1,6 @@
 -- Statements and programs: one production a node. `f` says what is read of what a link holds, in its role.
 use Rattle.std.specs.Prelude.{if◌then◌else◌, is_some, map, codes, Option, Some, None}
+use Rattle.swc_ecma_codegen_tree.specs.declared.idents.Ident.{Ident}
 use Rattle.swc_ecma_codegen_tree.specs.declared.expr_links.ExprBox.{ExprBox}
 use Rattle.swc_ecma_codegen_tree.specs.declared.expr_links.PatBox.{PatBox}
 use Rattle.swc_ecma_codegen_tree.specs.declared.stmt_links.BlockStmtBox.{BlockStmtBox}
@@ -38,7 +39,7 @@ use Rattle.swc_ecma_codegen_ast.specs.declared.roles.Role.{Role}
 use Rattle.swc_ecma_codegen_ast.specs.declared.roles.Role.TheVariants.{Statement, Block}
 use Rattle.swc_ecma_codegen_ast.specs.NamePhrases.{ident}
 use Rattle.swc_ecma_codegen_ast.specs.PatPhrases.{value_at, pat_at}
-use Rattle.swc_ecma_codegen_ast.specs.FunctionPhrases.{word_if, block_at, optional_name}
+use Rattle.swc_ecma_codegen_ast.specs.FunctionPhrases.{word_if, block_at}
 use Rattle.swc_ecma_codegen_ast.specs.DeclPhrases.{decl_at, var_decl_at, using_decl}
 use Rattle.swc_ecma_codegen_ast.specs.ExprPhrases.{expr_at}
 
@@ -72,28 +73,28 @@ unfoldable pub with_stmt : {X : Type 0} → (X → Role → Phrase) → WithStmt
 with_stmt f n = word (codes "with") > mark (codes "(") > value_at f n.obj > mark (codes ")") > stmt_at f n.body
 
 -- section 14.10: `return a;`, `return;`; parentheses may stand round the argument, and no line may end before it
-unfoldable pub return_arg : {X : Type 0} → (X → Role → Phrase) → Option (ExprBox X) → Phrase
-return_arg f None = Nothing
-return_arg f (Some n) = same_line > OptionalParentheses (value_at f n)
+unfoldable pub return_rest : {X : Type 0} → (X → Role → Phrase) → Option (ExprBox X) → Phrase
+return_rest f None = ending
+return_rest f (Some n) = same_line > OptionalParentheses (value_at f n) > ending
 
 unfoldable pub return_stmt : {X : Type 0} → (X → Role → Phrase) → ReturnStmt X → Phrase
-return_stmt f n = word (codes "return") > return_arg f n.arg > ending
+return_stmt f n = word (codes "return") > return_rest f n.arg
 
 -- section 14.13: `a: b;`
 unfoldable pub labeled_stmt : {X : Type 0} → (X → Role → Phrase) → LabeledStmt X → Phrase
 labeled_stmt f n = ident n.label > mark (codes ":") > stmt_at f n.body
 
--- a label, where there is one
-unfoldable pub optional_label : Option Ident → Phrase
-optional_label None = Nothing
-optional_label (Some n) = same_line > ident n
+-- a label, where there is one, on the line of the word before it
+unfoldable pub jump_rest : Option Ident → Phrase
+jump_rest None = ending
+jump_rest (Some n) = same_line > ident n > ending
 
 -- sections 14.9 and 14.8
 unfoldable pub break_stmt : BreakStmt → Phrase
-break_stmt n = word (codes "break") > optional_label n.label > ending
+break_stmt n = word (codes "break") > jump_rest n.label
 
 unfoldable pub continue_stmt : ContinueStmt → Phrase
-continue_stmt n = word (codes "continue") > optional_label n.label > ending
+continue_stmt n = word (codes "continue") > jump_rest n.label
 
 -- section 14.6: `if (a) b; else c;`
 unfoldable pub else_branch : {X : Type 0} → (X → Role → Phrase) → Option (StmtBox X) → Phrase

@@ -79,7 +79,7 @@ writes_opening env format line h =
     (let P : Bool → Type 0 = λ b. Fills env (deeper_if b) in subst P (sym h) (writes_nothing env))
 
 -- A level comes with the bracket before it, behind which other blanks may stand.
-bracket_within : (env : Env) (t : List ℕ) → IsMark t → (p : Part) → Fills env p → (format : ℕ) (line : Bool) → MakesAt ended env (λ rest. punct t (p (opening format line rest))) (token_of Punctuator (spelling Punctuator t) ∷ []) false
+bracket_within : (env : Env) (t : List ℕ) → IsMark t → (p : Part) → EndsLines env p → (format : ℕ) (line : Bool) → MakesAt ended env (λ rest. punct t (p (opening format line rest))) (token_of Punctuator (spelling Punctuator t) ∷ []) false
 unfolding opening
 bracket_within env t w p h format line =
     let x : lexical.Token = token_of Punctuator (spelling Punctuator t) in
@@ -89,7 +89,7 @@ bracket_within env t w p h format line =
     (within_then env p (λ rest. line_or_blank line b (deeper_if (indented format) rest)) [] [] h
     (within_then env (line_or_blank line b) (deeper_if (indented format)) [] [] (writes_line_or_blank env line b) (deeper_if_within env (indented format)))))
 
-prints_bracket : (env : Env) (t : List ℕ) → IsMark t → (p : Part) → Fills env p → (format : ℕ) (line : Bool) → PrintsAt ended env (λ rest. punct t (p (opening format line rest))) (mark t)
+prints_bracket : (env : Env) (t : List ℕ) → IsMark t → (p : Part) → EndsLines env p → (format : ℕ) (line : Bool) → PrintsAt ended env (λ rest. punct t (p (opening format line rest))) (mark t)
 prints_bracket env t w p h format line = prints_mark env (λ rest. punct t (p (opening format line rest))) t (bracket_within env t w p h format line)
 
 -- ---- between children
@@ -264,7 +264,7 @@ prints_one_child env format parent place part x law l c i f a =
 -- ---- lists behind their bracket, indented or not
 
 -- With a trailing comma or another tail of its own: `[a, , ]`; `p` is what stands between the bracket and the list.
-pub prints_bracketed_some : {A : Type 0} {j : Shape} (env : Env) (t : List ℕ) → IsMark t → (p : Part) → Fills env p → (format : ℕ) (parent : Span) (place : A → Span) (part : A → Part) (e : A → Phrase) (tail after : Phrase) (close : Part) → ((x : A) → PrintsAt loose env (part x) (e x)) → comma_delimited format ≡ true → ((last : Span) → PrintsAt loose env (list_closing format parent last) tail) → PrintsAt j env close after → (x : A) (xs : List A) → PrintsAt (past_line j) env (λ rest. punct t (p (list format parent (children_of place part (x ∷ xs)) (close rest)))) (mark t > (phrases.listed (codes ",") (map e (x ∷ xs)) > tail) > after)
+pub prints_bracketed_some : {A : Type 0} {j : Shape} (env : Env) (t : List ℕ) → IsMark t → (p : Part) → EndsLines env p → (format : ℕ) (parent : Span) (place : A → Span) (part : A → Part) (e : A → Phrase) (tail after : Phrase) (close : Part) → ((x : A) → PrintsAt loose env (part x) (e x)) → comma_delimited format ≡ true → ((last : Span) → PrintsAt loose env (list_closing format parent last) tail) → PrintsAt j env close after → (x : A) (xs : List A) → PrintsAt (past_line j) env (λ rest. punct t (p (list format parent (children_of place part (x ∷ xs)) (close rest)))) (mark t > (phrases.listed (codes ",") (map e (x ∷ xs)) > tail) > after)
 prints_bracketed_some env t w p h format parent place part e tail after close law c ends closed x xs =
     let line : Bool = leading_line env.lines format parent (place x) in
     let last : Span = last_place (place x) (children_of place part xs) in
@@ -275,7 +275,7 @@ prints_bracketed_some env t w p h format parent place part e tail after close la
     (then (prints_bracket env t w p h format line) (then (then (prints_children env format line place part e law c x xs) (ends last)) closed))
 
 -- Without a trailing comma: `{ a, b }`.
-pub prints_bracketed : {A : Type 0} {j : Shape} (env : Env) (t : List ℕ) → IsMark t → (p : Part) → Fills env p → (format : ℕ) (parent : Span) (place : A → Span) (part : A → Part) (e : A → Phrase) (after : Phrase) (close : Part) → ((x : A) → PrintsAt loose env (part x) (e x)) → comma_delimited format ≡ true → forces_trailing_comma format ≡ false → allows_trailing_comma format ≡ false → PrintsAt j env close after → (xs : List A) → PrintsAt (past_line j) env (λ rest. punct t (p (list format parent (children_of place part xs) (close rest)))) (mark t > phrases.listed (codes ",") (map e xs) > after)
+pub prints_bracketed : {A : Type 0} {j : Shape} (env : Env) (t : List ℕ) → IsMark t → (p : Part) → EndsLines env p → (format : ℕ) (parent : Span) (place : A → Span) (part : A → Part) (e : A → Phrase) (after : Phrase) (close : Part) → ((x : A) → PrintsAt loose env (part x) (e x)) → comma_delimited format ≡ true → forces_trailing_comma format ≡ false → allows_trailing_comma format ≡ false → PrintsAt j env close after → (xs : List A) → PrintsAt (past_line j) env (λ rest. punct t (p (list format parent (children_of place part xs) (close rest)))) (mark t > phrases.listed (codes ",") (map e xs) > after)
 unfolding phrases.listed
 prints_bracketed env t w p h format parent place part e after close law c f a closed [] =
     then (prints_punct env t w) (then (before (behind h prints_nothing) (writes_no_list env format parent)) closed)
@@ -319,7 +319,7 @@ prints_in_order env format parent place part e law u i (x ∷ xs) =
     (then (prints_child env format line (record { place = place x; part = part x }) (law x)) (before (more_in_order env format place part e law u (place x) xs) (closing_undelimited env format parent last u))))
 
 -- Behind its bracket, indented or not: the statements of a block, the members of a class.
-pub prints_bracketed_in_order : {A : Type 0} {j : Shape} (env : Env) (t : List ℕ) → IsMark t → (p : Part) → Fills env p → (format : ℕ) (parent : Span) (place : A → Span) (part : A → Part) (e : A → Phrase) (after : Phrase) (close : Part) → ((x : A) → PrintsAt loose env (part x) (e x)) → IsUndelimited format → PrintsAt j env close after → (xs : List A) → PrintsAt (past_line j) env (λ rest. punct t (p (list format parent (children_of place part xs) (close rest)))) (mark t > phrases.in_order (map e xs) > after)
+pub prints_bracketed_in_order : {A : Type 0} {j : Shape} (env : Env) (t : List ℕ) → IsMark t → (p : Part) → EndsLines env p → (format : ℕ) (parent : Span) (place : A → Span) (part : A → Part) (e : A → Phrase) (after : Phrase) (close : Part) → ((x : A) → PrintsAt loose env (part x) (e x)) → IsUndelimited format → PrintsAt j env close after → (xs : List A) → PrintsAt (past_line j) env (λ rest. punct t (p (list format parent (children_of place part xs) (close rest)))) (mark t > phrases.in_order (map e xs) > after)
 unfolding phrases.in_order
 prints_bracketed_in_order env t w p h format parent place part e after close law u closed [] =
     then (prints_punct env t w) (then (before (behind h prints_nothing) (writes_no_list env format parent)) closed)

@@ -51,7 +51,7 @@ use Rattle.swc_ecma_codegen_base.proofs.Spelled.{valid_same, spelled_same, out_s
 use Rattle.swc_ecma_codegen_base.proofs.Positions.{Named, named_none, named_then, named_records, name_named, name_steps, name_call, run_records}
 use Rattle.swc_ecma_codegen_base.proofs.ValueStrings.{none_by_value, steps_safe}
 use Rattle.swc_ecma_codegen_base.proofs.Targets.{Names, names_in_ascii, plain_not_out}
-use Rattle.swc_ecma_codegen_base.proofs.Shapes.{Shape, whole, open_, loose, joining, joined, join, is_within, not_broken, broken_from, walk_append}
+use Rattle.swc_ecma_codegen_base.proofs.Shapes.{Shape, whole, open_, loose, joining, joined, at_joint, join, is_within, not_broken, broken_from, walk_append}
 use Rattle.swc_ecma_codegen_base.proofs.Written.{LaysAt, held, held_of, tokens_append, Spelled, spelled_word, spelled_name, spelled_mark}
 use Rattle.swc_ecma_codegen_base.proofs.Printed.{MakesAt, makes_wider, writes_joined_operator, writes_joined_punct, writes_keyword_joint, chain, or_false, Makes, Writes, writes_whatever, writes_then, writes_same, writes_nothing, writes_keyword, writes_operator, writes_word_operator, writes_punct, writes_placed_punct, writes_semi, writes_commit, writes_leading, writes_name_text, Fills}
 
@@ -324,9 +324,12 @@ unfolding token_of value_of spelling lexical.punctuator lexical.same_line is_str
 prints_joined_operator env t w = prints_pair env (operator t) _ _ (writes_joined_operator env t (mark_spelled t w) w.ascii) refl refl
 
 -- `=>`
-pub prints_joined_punct : (env : Env) (t : List ℕ) → is_ending t ≡ false → IsMark t → PrintsAt joined env (punct t) (phrases.same_line > mark t)
+pub joined_mark : {i : Shape} (env : Env) (p : Part) (t : List ℕ) → MakesAt i env p (lexical.same_line ∷ token_of Punctuator (spelling Punctuator t) ∷ []) false → PrintsAt i env p (phrases.same_line > mark t)
 unfolding token_of value_of spelling lexical.punctuator lexical.same_line is_str
-prints_joined_punct env t e w = prints_pair env (punct t) _ _ (writes_joined_punct env t e (mark_spelled t w) w.ascii) refl refl
+joined_mark env p t h = prints_pair env p _ _ h refl refl
+
+pub prints_joined_punct : (env : Env) (t : List ℕ) → is_ending t ≡ false → IsMark t → PrintsAt joined env (punct t) (phrases.same_line > mark t)
+prints_joined_punct env t e w = joined_mark env (punct t) t (writes_joined_punct env t e (mark_spelled t w) w.ascii)
 
 joint_word : (env : Env) (p : Part) (t : List ℕ) → IsWord t → MakesAt (join whole joining) env p (token_of Word (spelling Word t) ∷ lexical.same_line ∷ []) false → PrintsAt (join whole joining) env p (phrases.word t > phrases.same_line)
 unfolding token_of value_of spelling lexical.word lexical.same_line is_str
@@ -350,7 +353,7 @@ prints_regrouped {i} {env} {p} {f} {g} {h} x = record {
 }
 
 -- a word and what belongs to it: `return a`
-pub joined_then : {j : Shape} (env : Env) (span : Option Span) (t : List ℕ) → IsWord t → {p : Part} {f : Phrase} → PrintsAt j env p f → PrintsAt (join (join whole joining) j) env (λ rest. keyword span t (p rest)) (phrases.word t > phrases.same_line > f)
+pub joined_then : {j : Shape} (env : Env) (span : Option Span) (t : List ℕ) → IsWord t → {p : Part} {f : Phrase} → PrintsAt j env p f → PrintsAt (at_joint j) env (λ rest. keyword span t (p rest)) (phrases.word t > phrases.same_line > f)
 joined_then env span t w h = prints_regrouped (then (joint_word env (keyword span t) t w (writes_keyword_joint env span t (word_spelled t w) w.ascii)) h)
 
 -- ---- names

@@ -189,9 +189,19 @@ pub writes_joined_operator : (env : Env) (t : List ℕ) → Spelled Punctuator t
 unfolding operator put effect text_of after_token own_put makes_text levels rise are_ascii has_string is_string_call
 writes_joined_operator env t p a = writes_two env (Guard t) (Token Punctuator (Operator None t)) _ (λ s r. lays_joint_token Punctuator None t s p r) (omega arith) (hands_ascii env _ _ (guarded_ascii t a) no_text)
 
+pub joined_punct_within : (env : Env) (t : List ℕ) → is_ending t ≡ false → Spelled Punctuator t → is_ascii_text t ≡ true → MakesWithin joined 0 env (punct t) (lexical.same_line ∷ token_of Punctuator (spelling Punctuator t) ∷ []) false
+unfolding punct step chain run put effect text_of after_token punct_put makes_text levels rise are_ascii has_string is_string_call
+joined_punct_within env t e p a = record {
+  steps = Guard t ∷ Token Punctuator (Punct None t) ∷ [];
+  is_steps = λ rest. refl;
+  lays = λ s r. lays_joint_punct None t s e p r;
+  remakes = no_text;
+  deep = omega arith;
+  hands = hands_ascii env _ _ (guarded_ascii t a) no_text;
+}
+
 pub writes_joined_punct : (env : Env) (t : List ℕ) → is_ending t ≡ false → Spelled Punctuator t → is_ascii_text t ≡ true → MakesAt joined env (punct t) (lexical.same_line ∷ token_of Punctuator (spelling Punctuator t) ∷ []) false
-unfolding punct put effect text_of after_token punct_put makes_text levels rise are_ascii has_string is_string_call
-writes_joined_punct env t e p a = writes_two env (Guard t) (Token Punctuator (Punct None t)) _ (λ s r. lays_joint_punct None t s e p r) (omega arith) (hands_ascii env _ _ (guarded_ascii t a) no_text)
+writes_joined_punct env t e p a = with_room 0 2 (omega arith) (joined_punct_within env t e p a)
 
 pub writes_keyword_joint : (env : Env) (span : Option Span) (t : List ℕ) → Spelled Word t → is_ascii_text t ≡ true → MakesAt (join whole joining) env (keyword span t) (token_of Word (spelling Word t) ∷ lexical.same_line ∷ []) false
 unfolding keyword put effect text_of after_token own_put makes_text levels rise are_ascii has_string is_string_call

@@ -155,6 +155,14 @@ leads i Broken = Broken
 abbrev pub past_line : Shape → Shape
 past_line j = record { line = leads j PastLine; past = leads j PastLine; joint = leads j PastLine }
 
+-- behind what ends with a token
+abbrev pub on_line : Shape → Shape
+on_line j = record { line = j.line; past = j.line; joint = j.line }
+
+-- behind a word and `[no LineTerminator here]`
+abbrev pub at_joint : Shape → Shape
+at_joint j = record { line = j.joint; past = j.joint; joint = j.joint }
+
 -- one after the other
 abbrev pub join : Shape → Shape → Shape
 join i j = record { line = leads j i.line; past = leads j i.past; joint = leads j i.joint }
