@@ -10,7 +10,7 @@ use Rattle.swc_ecma_codegen_ast.proofs.Reading.{no_trivia}
 use Rattle.swc_ecma_codegen_ast.proofs.Skips.{skipped, solid_no_piece}
 use Rattle.swc_ecma_codegen_ast.proofs.Tables.{eq_of_same, same_refl}
 use Rattle.swc_ecma_codegen_ast.proofs.Unique.{block_opener, line_opener, not_child, solid}
-use Rattle.swc_ecma_codegen_ast.specs.Chars.{begins_digit}
+use Rattle.swc_ecma_codegen_ast.specs.Chars.{begins_digit, is_one_line}
 use Rattle.swc_ecma_codegen_ast.specs.LongestMatch.{IsLongest, Stands, goes_on, is_numeric_kind, openers}
 use Rattle.swc_ecma_codegen_ast.specs.Reading.{ReadsOne, Starts, fits, is_jsx_text_kind, opens_comment, some_part, some_shape, stands_at}
 use Rattle.swc_ecma_codegen_ast.specs.Reads.{is_close_by, is_hashbang_kind}
@@ -258,9 +258,16 @@ longest_here kind start n w most other (c ∷ m) left g e s =
     let within : length front ≤ length start = omega (arith, all) in
     absurd (true≢false (sym t ∙ most (length front) above within))
 
-pub read_one_sound : (first : Bool) (kind : Kind) (text start : List ℕ) (n : ℕ) → Starts kind text start → n ≤ length start → (0 < n → stands_at kind start n ≡ true) → IsMost kind start n → fits first kind start n ≡ true → ReadsOne first kind text (take n start) (drop n start)
+-- the trivia before a start
+pub gap_of : (text gap start : List ℕ) → text ≡ gap ++ start → take (length text - length start) text ≡ gap
+gap_of text gap start e =
+    let all : length text ≡ length gap + length start = ap length e ∙ length-append gap start in
+    let n : length text - length start ≡ length gap = omega (arith, all) in
+    ap₂ take n e ∙ take-append_seam gap start
+
+pub read_one_sound : (first joined : Bool) (kind : Kind) (text start : List ℕ) (n : ℕ) → Starts kind text start → n ≤ length start → (0 < n → stands_at kind start n ≡ true) → IsMost kind start n → fits first kind start n ≡ true → (joined ≡ true → is_one_line (take (length text - length start) text) ≡ true) → ReadsOne first joined kind text (take n start) (drop n start)
 unfolding stands_at token_of
-read_one_sound first kind text start n s w here most f =
+read_one_sound first joined kind text start n s w here most f o =
     let t = fitting first kind start n f in
     let at = and_parts (some_shape (goal kind) (take n start)) _ (here t.some) in
     let whole = take-append-drop n start in
@@ -271,6 +278,7 @@ read_one_sound first kind text start n s w here most f =
       trivia = s.trivia;
       close_by = s.close_by;
       at_start = t.at_start;
+      in_line = λ e. ap is_one_line (sym (gap_of text s.gap start s.is_text)) ∙ o e;
       is_longest = record {
         stands = record { spells = record { shape = t.shape; value = refl }; no_digit = choice_from (take n start) (drop n start) at.1 };
         longest = longest_here kind start n w most;
@@ -306,9 +314,9 @@ longer_there kind start own rest n e l w t h =
 text_of_child : (kind : Kind) → is_close_by kind ≡ false → goal kind ≡ Child → ⊥
 text_of_child kind c g = not_child kind c g
 
-pub read_one_complete : (first : Bool) (kind : Kind) (text start : List ℕ) (n : ℕ) → Starts kind text start → n ≤ length start → (0 < n → stands_at kind start n ≡ true) → IsMost kind start n → (own rest : List ℕ) → ReadsOne first kind text own rest → (own ≡ take n start) × (rest ≡ drop n start) × (fits first kind start n ≡ true)
+pub read_one_complete : (first joined : Bool) (kind : Kind) (text start : List ℕ) (n : ℕ) → Starts kind text start → n ≤ length start → (0 < n → stands_at kind start n ≡ true) → IsMost kind start n → (own rest : List ℕ) → ReadsOne first joined kind text own rest → (own ≡ take n start) × (rest ≡ drop n start) × (fits first kind start n ≡ true) × (joined ≡ true → is_one_line (take (length text - length start) text) ≡ true)
 unfolding token_of
-read_one_complete first kind text start n s w here most own rest h =
+read_one_complete first joined kind text start n s w here most own rest h =
     let e : start ≡ own ++ rest = s.only h.gap (own ++ rest) h.before h.trivia h.close_by (λ c. solid_no_piece (own ++ rest) (solid (token_of kind own) own rest (text_of_child kind c) h.is_longest)) h.is_text in
     let at : stands_at kind start (length own) ≡ true = stands_here kind start own rest (token_of kind own) e refl h.is_longest.stands in
     let all : length start ≡ length own + length rest = ap length e ∙ length-append own rest in
@@ -327,6 +335,7 @@ read_one_complete first kind text start n s w here most own rest h =
         no_comment = λ g. none_opens start (λ o k. subst (λ z. begins o z ≡ false) (sym e) (h.is_longest.no_comment (no_text_goal kind g) o k));
         ends = λ k. subst (λ z. goes_on z ≡ false) (sym b) (h.is_longest.number_ends k);
       }),
+      (λ o. ap is_one_line (gap_of text h.gap start (h.is_text ∙ ap (λ z. h.gap ++ z) (sym e))) ∙ h.in_line o),
     )
   where
     some_own : (t : List ℕ) → has_shape kind t ≡ true → 0 < length t

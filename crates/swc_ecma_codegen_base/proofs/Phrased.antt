@@ -345,7 +345,7 @@ prints_regrouped {i} {env} {p} {f} {g} {h} x = record {
       record {
         tokens = a.tokens;
         generated = (k.2.0, k.2.1 ++ k.1, k.2.2, (k.2.1, k.1, k.2.3, k.3, refl), k.4 ∙ ap (λ z. z ++ k.1) k.2.4 ∙ append_assoc k.2.0 k.2.1 k.1);
-        writes = subst (λ z. MakesAt i env p a.tokens z) (sym (or_assoc (may_make_text env.config f) (may_make_text env.config g) (may_make_text env.config h))) a.writes;
+        writes = subst (λ z. MakesAt i env p a.tokens z) (or_assoc (may_make_text env.config f) (may_make_text env.config g) (may_make_text env.config h)) a.writes;
         named = subst (λ z. NamedBy env p z) (append_assoc (names_in f) (names_in g) (names_in h)) a.named;
         safe = a.safe;
       };
