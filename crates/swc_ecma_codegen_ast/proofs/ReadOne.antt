@@ -366,3 +366,14 @@ starts_apart kind text start c s = record {
 -- all that is left
 pub rest_all : (n : ℕ) (t : List ℕ) → take (length t - n) (drop n t) ≡ drop n t
 rest_all n t = ap (λ k. take k (drop n t)) (sym (length-drop n t)) ∙ take-length (drop n t)
+
+pub starts_within : (kind : Kind) (text start : List ℕ) → Starts kind text start → length start ≤ length text
+starts_within kind text start s = let all : length text ≡ length s.gap + length start = ap length s.is_text ∙ length-append s.gap start in omega (arith, all)
+
+pub in_line_from : (joined : Bool) (gap : List ℕ) → (not joined || is_one_line gap) ≡ true → joined ≡ true → is_one_line gap ≡ true
+in_line_from true gap h e = h
+in_line_from false gap h e = absurd (true≢false (sym e))
+
+pub in_line_to : (joined : Bool) (gap : List ℕ) → (joined ≡ true → is_one_line gap ≡ true) → (not joined || is_one_line gap) ≡ true
+in_line_to true gap h = h refl
+in_line_to false gap h = refl
