@@ -39,11 +39,12 @@ use Rattle.swc_ecma_codegen.specs.Functions.{decorators_format, comma_list_forma
 use Rattle.swc_ecma_codegen.proofs.Impossible.{refused_or, prints_impossible, never_impossible, prints_alone}
 use Rattle.swc_ecma_codegen.proofs.Linked.{Linked, expr_at, pat_at, block_at}
 use Rattle.swc_ecma_codegen.proofs.MarkWords as marks
-use Rattle.swc_ecma_codegen_base.proofs.Shapes.{open_, loose, closed, joined}
+use Rattle.swc_ecma_codegen_base.proofs.Shapes.{open_, loose, ended, closed, joined}
+use Rattle.swc_ecma_codegen_text_writer.specs.Sheet.{is_ending}
 
 -- ---- parameters
 
-decorator_prints : {X : Type 0} (l : Linked X) (n : Decorator X) → Prints l.env (words.decorator l.items n) (lists.decorator l.reads n)
+decorator_prints : {X : Type 0} (l : Linked X) (n : Decorator X) → PrintsAt ended l.env (words.decorator l.items n) (lists.decorator l.reads n)
 unfolding words.decorator lists.decorator
 decorator_prints l n =
     after (writes_leading l.env n.span.lo)
@@ -60,7 +61,7 @@ unfolding words.param lists.param
 param_prints l n =
     after (writes_leading l.env n.span.lo)
     (after (writes_position l.env n.span.lo)
-    (then (prints_in_order l.env decorators_format n.span decorator_place (words.decorator l.items) (lists.decorator l.reads) (λ d. loosened (decorator_prints l d)) undelimited refl n.decorators.items)
+    (then (prints_in_order l.env decorators_format n.span decorator_place (words.decorator l.items) (lists.decorator l.reads) (λ d. prints_wider loose refl (decorator_prints l d)) undelimited refl n.decorators.items)
     (before (pat_at l n.pat) (writes_position l.env n.span.hi))))
 
 -- ---- functions
@@ -199,17 +200,21 @@ arrow_params_prints l span [] = params_prints l span []
 arrow_params_prints l span (n ∷ []) = only_prints l span n (words.is_plain (l.asks n.node.value).pattern) (l.plain n.node.value)
 arrow_params_prints l span (n ∷ m ∷ ns) = params_prints l span (n ∷ m ∷ ns)
 
+arrow_ends_nothing : is_ending (codes "=>") ≡ false
+unfolding is_ending
+arrow_ends_nothing = refl
+
 -- a level comes with the mark before it
 arrow_deeper : (env : Env) → PrintsAt joined env (λ rest. punct (codes "=>") (deeper rest)) (phrases.same_line > mark (codes "=>"))
 arrow_deeper env =
     let t : List ℕ = codes "=>" in
     let x : lexical.Token = token_of Punctuator (spelling Punctuator t) in
     joined_mark env (λ rest. punct t (deeper rest)) t
-    (with_room (0 + 1) 2 (omega arith) (within_then env (punct t) deeper (lexical.same_line ∷ x ∷ []) [] (joined_punct_within env t refl (mark_spelled t marks.arrow) marks.arrow.ascii) (deeper_within env)))
+    (with_room (0 + 1) 2 (omega arith) (within_then env (punct t) deeper (lexical.same_line ∷ x ∷ []) [] (joined_punct_within env t arrow_ends_nothing (mark_spelled t marks.arrow) marks.arrow.ascii) (deeper_within env)))
 
 arrow_body_prints : {X : Type 0} (l : Linked X) (n : BlockStmtOrExpr X) → PrintsAt joined l.env (λ rest. punct (codes "=>") (words.arrow_body l.items n rest)) (phrases.same_line > mark (codes "=>") > lists.arrow_body l.reads n)
 unfolding words.arrow_body lists.arrow_body
-arrow_body_prints l (bodies.BlockStmt n) = prints_regrouped (then (prints_joined_punct l.env (codes "=>") refl marks.arrow) (block_at l n Body))
+arrow_body_prints l (bodies.BlockStmt n) = prints_regrouped (then (prints_joined_punct l.env (codes "=>") arrow_ends_nothing marks.arrow) (block_at l n Body))
 arrow_body_prints l (bodies.Expr n) = prints_regrouped (then (arrow_deeper l.env) (before (expr_at l n Plain) (writes_shallower l.env)))
 
 arrow_parts_prints : {X : Type 0} (l : Linked X) (n : ArrowExpr X) → Prints l.env (words.arrow_parts l.asks l.items n) (lists.after_async n.is_async (lists.word_if n.is_generator (mark (codes "*")) > lists.arrow_parameters l.reads n.params.items > phrases.same_line > mark (codes "=>") > lists.arrow_body l.reads n.body))
