@@ -1,5 +1,5 @@
 -- What the plain reader finds, token by token.
-use Rattle.std.proofs.Common.{Bool, List, [], ap, append-nil, append_assoc, arith, false, inl, inr, length, refl, subst, suc, sym, take, true, ℕ, ◌++◌, ◌+◌, ◌<◌, ◌==◌, ◌∙◌, ◌∷◌, ◌≡◌, ◌≤◌}
+use Rattle.std.proofs.Common.{Bool, List, [], ap, append-nil, append_assoc, arith, false, inl, inr, length, refl, subst, suc, sym, take, true, ℕ, ◌&&◌, ◌++◌, ◌+◌, ◌<◌, ◌==◌, ◌∙◌, ◌∷◌, ◌≡◌, ◌≤◌}
 use Rattle.std.proofs.Math.ListN.{get_or}
 use Rattle.std.proofs.Math.Seq.{take-suc}
 use Rattle.std.proofs.lemmas.Bool.{eqb-true, true≢false}
@@ -9,7 +9,7 @@ use Rattle.swc_ecma_codegen_ast.proofs.Skips.{skipped}
 use Rattle.swc_ecma_codegen_ast.proofs.Unique.{gap_case, head_kind, piece_is_some, same_longest, solid, token_at}
 use Rattle.swc_ecma_codegen_ast.specs.LongestMatch.{IsLongest}
 use Rattle.swc_ecma_codegen_ast.specs.Parts.{before}
-use Rattle.swc_ecma_codegen_ast.specs.Reading.{ReadsOne, tokens_as}
+use Rattle.swc_ecma_codegen_ast.specs.Reading.{ReadsNext, ReadsNone, ReadsOne, tokens_as}
 use Rattle.swc_ecma_codegen_ast.specs.Reads.{Reads, ReadsOn, is_close_by, is_hashbang_kind, is_same_line, kinds_of}
 use Rattle.swc_ecma_codegen_ast.specs.Skipping.{NoPiece, Skips}
 use Rattle.swc_ecma_codegen_ast.specs.Tokens.{Spells, Token, has_shape, same_line, token_of, value_of}
@@ -131,13 +131,43 @@ progress_more text done owns first joined rest kind own after n p h = record {
       (f.ys, f.later, f.kinds, subst (λ z. ReadsOn false false z f.ys f.later) same.1 f.reads);
 }
 
+only_same : (kind : Kind) → is_same_line kind ≡ true → kind ≡ SameLine
+unfolding is_same_line
+only_same SameLine e = refl
+only_same kind e = absurd (true≢false (sym e))
+
+and_true : (b : Bool) → b ≡ (b && true)
+and_true true = refl
+and_true false = refl
+
+and_false : (b : Bool) → false ≡ (b && false)
+and_false true = refl
+and_false false = refl
+
+next_by : (text : List ℕ) (done : List Kind) (owns : List (List ℕ)) (first joined : Bool) (rest : List ℕ) (kind : Kind) (own after : List ℕ) (same : Bool) → same ≡ is_same_line kind → Progress text done owns first joined rest → ReadsNext first joined kind rest own after → Progress text (done ++ kind ∷ []) (owns ++ own ∷ []) (first && same) same after
+unfolding ReadsNext
+next_by text done owns first joined rest kind own after true e p (inl h) =
+    let k : SameLine ≡ kind = sym (only_same kind h.0) in
+    subst (λ z. Progress text (done ++ z ∷ []) (owns ++ own ∷ []) (first && true) true after) k
+    (subst (λ z. Progress text (done ++ SameLine ∷ []) (owns ++ z ∷ []) (first && true) true after) (sym h.1)
+    (subst (λ z. Progress text (done ++ SameLine ∷ []) (owns ++ [] ∷ []) (first && true) true z) (sym h.2)
+    (subst (λ z. Progress text (done ++ SameLine ∷ []) (owns ++ [] ∷ []) z true rest) (and_true first) (progress_joined text done owns first joined rest p))))
+next_by text done owns first joined rest kind own after false e p (inl h) = absurd (true≢false (sym h.0 ∙ sym e))
+next_by text done owns first joined rest kind own after true e p (inr h) = absurd (true≢false (e ∙ h.0))
+next_by text done owns first joined rest kind own after false e p (inr h) =
+    subst (λ z. Progress text (done ++ kind ∷ []) (owns ++ own ∷ []) z false after) (and_false first) (progress_more text done owns first joined rest kind own after h.0 p h.1)
+
+-- one more kind
+pub progress_next : (text : List ℕ) (done : List Kind) (owns : List (List ℕ)) (first joined : Bool) (rest : List ℕ) (kind : Kind) (own after : List ℕ) (more same : Bool) → same ≡ is_same_line kind → more ≡ (first && same) → Progress text done owns first joined rest → ReadsNext first joined kind rest own after → Progress text (done ++ kind ∷ []) (owns ++ own ∷ []) more same after
+progress_next text done owns first joined rest kind own after more same e m p h = subst (λ z. Progress text (done ++ kind ∷ []) (owns ++ own ∷ []) z same after) (sym m) (next_by text done owns first joined rest kind own after same e p h)
+
 -- where no token of the next kind is, there is no reading
-pub no_next : (text : List ℕ) (done : List Kind) (owns : List (List ℕ)) (first joined : Bool) (rest : List ℕ) (kind : Kind) (ks : List Kind) → is_same_line kind ≡ false → Progress text done owns first joined rest → ((own after : List ℕ) → ReadsOne first joined kind rest own after → ⊥) → (xs : List Token) (remarks : List Remark) → kinds_of xs ≡ done ++ kind ∷ ks → Reads text xs remarks → ⊥
-unfolding Reads
-no_next text done owns first joined rest kind ks n p none xs remarks e r =
+pub no_next : (text : List ℕ) (done : List Kind) (owns : List (List ℕ)) (first joined : Bool) (rest : List ℕ) (kind : Kind) (ks : List Kind) → Progress text done owns first joined rest → ReadsNone first joined kind rest → (xs : List Token) (remarks : List Remark) → kinds_of xs ≡ done ++ kind ∷ ks → Reads text xs remarks → ⊥
+unfolding Reads ReadsNone
+no_next text done owns first joined rest kind ks p none xs remarks e r =
     let got = p.complete (kind ∷ ks) xs remarks r e in
-    let f = first_read first joined kind rest ks got.0 got.1 n got.3 got.2 in
-    none f.own f.rest f.one
+    let f = first_read first joined kind rest ks got.0 got.1 none.0 got.3 got.2 in
+    none.1 f.own f.rest f.one
 
 -- at the end
 pub no_piece_in_nothing : NoPiece []

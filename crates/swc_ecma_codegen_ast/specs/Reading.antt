@@ -1,5 +1,5 @@
 -- One step of reading.
-use Rattle.std.specs.Prelude.{◌≡◌, ℕ, Bool, true, false, not, List, [], ◌∷◌, ◌++◌, ◌&&◌, ◌||◌, codes, take, drop, nat_lt, length}
+use Rattle.std.specs.Prelude.{◌≡◌, ◌⊎◌, ℕ, Bool, true, false, not, List, [], ◌∷◌, ◌++◌, ◌&&◌, ◌||◌, codes, take, drop, nat_lt, length}
 use Rattle.swc_ecma_codegen_ast.specs.declared.kinds.Kind.{Kind}
 use Rattle.swc_ecma_codegen_ast.specs.declared.kinds.TemplatePart.{TemplatePart}
 use Rattle.swc_ecma_codegen_ast.specs.Chars.{begins_digit, is_one_line}
@@ -8,7 +8,7 @@ use Rattle.swc_ecma_codegen_ast.specs.Tokens.{Token, Goal, Ordinary, RegularExpr
 use Rattle.swc_ecma_codegen_ast.specs.declared.kinds.Kind.TheVariants.{Word, Name, PrivateName, Punctuator, Number, BigInt, Str, Regex, Template, TemplateRest, Close, JsxName, JsxString, JsxText, JsxOpen, Hashbang}
 use Rattle.swc_ecma_codegen_ast.specs.LongestMatch.{IsLongest, is_numeric_kind, goes_on}
 use Rattle.swc_ecma_codegen_ast.specs.Trivia.{Remark, Trivia}
-use Rattle.swc_ecma_codegen_ast.specs.Reads.{Reads, kinds_of, is_close_by, is_hashbang_kind}
+use Rattle.swc_ecma_codegen_ast.specs.Reads.{Reads, kinds_of, is_close_by, is_hashbang_kind, is_same_line}
 use Rattle.swc_ecma_codegen_ast.specs.Skipping.{NoPiece}
 
 unfoldable pub some_part : (TemplatePart → Bool) → Bool
@@ -44,6 +44,16 @@ pub record ReadsOne (first joined : Bool) (kind : Kind) (text own rest : List �
   pub at_start : is_hashbang_kind kind ≡ true → first ≡ true
   pub in_line : joined ≡ true → is_one_line gap ≡ true
   pub is_longest : IsLongest (token_of kind own) own rest
+
+-- The same of `[no LineTerminator here]`, which is no text.
+unfoldable pub ReadsNext : Bool → Bool → Kind → List ℕ → List ℕ → List ℕ → Type 0
+ReadsNext first joined kind text own rest =
+    ((is_same_line kind ≡ true) × (own ≡ []) × (rest ≡ text))
+    ⊎ ((is_same_line kind ≡ false) × ReadsOne first joined kind text own rest)
+
+-- a text goes on with no token of a kind
+unfoldable pub ReadsNone : Bool → Bool → Kind → List ℕ → Type 0
+ReadsNone first joined kind text = (is_same_line kind ≡ false) × ((own rest : List ℕ) → ReadsOne first joined kind text own rest → ⊥)
 
 -- tokens of given kinds, as they are spelled
 unfoldable pub tokens_as : List Kind → List (List ℕ) → List Token

@@ -1,6 +1,6 @@
 //! A plain, slow reader of texts: for given kinds of tokens it finds the tokens, or that there are none.
 
-ghost use Rattle.std.specs.Prelude.{◌≡◌, ◌<◌, ◌≤◌, ◌-◌, ◌||◌, ℕ, List, map, not, take, true, false, length, IfOk, IfSome, IfNone};
+ghost use Rattle.std.specs.Prelude.{◌≡◌, ◌<◌, ◌≤◌, ◌-◌, ◌||◌, ◌&&◌, ℕ, List, map, not, take, true, false, length, IfOk, IfSome, IfNone};
 ghost use Rattle.std.specs.Str.{chars as chars_of};
 ghost use Rattle.swc_ecma_codegen_ast.specs.Chars as chars;
 ghost use Rattle.swc_ecma_codegen_ast.specs.Tokens as tokens;
@@ -275,6 +275,22 @@ fn keeps_line(joined: bool, text: &[char], start: &[char]) -> bool
     !joined || is_one_line(&text[..text.len() - start.len()])
 }
 
+/// Whether the next token is of this kind, where its `n` characters begin after the trivia.
+fn takes(
+    first: bool,
+    joined: bool,
+    kind: Kind,
+    text: &[char],
+    start: &[char],
+    n: usize,
+) -> bool
+    requires { n ≤ length start.now }
+    requires { length start.now ≤ length text.now }
+    ensures { result ≡ ((not joined || chars.is_one_line (take (length text.now - length start.now) text.now)) && reading.fits first kind start.now n) }
+{
+    keeps_line(joined, text, start) && fits(first, kind, start, n)
+}
+
 /// The next token, where it is of this kind, and what is left. `joined`: no line terminator may stand before it.
 #[tactic(auto, using(crate::proofs::ReadOne::starts_within))]
 fn read_one(first: bool, joined: bool, kind: Kind, text: &[char]) -> Option<(&[char], &[char])>
@@ -283,12 +299,29 @@ fn read_one(first: bool, joined: bool, kind: Kind, text: &[char]) -> Option<(&[c
 {
     let begin = start(kind, text);
     let n = longest(kind, begin);
-    let in_line = keeps_line(joined, text, begin);
-    if in_line && fits(first, kind, begin, n) {
+    if takes(first, joined, kind, text, begin, n) {
         Some((&begin[..n], &begin[n..]))
     } else {
         None
     }
+}
+
+/// The same of `[no LineTerminator here]` too, which is no text.
+fn read_next(first: bool, joined: bool, kind: Kind, text: &[char]) -> Option<(&[char], &[char])>
+    ensures found { IfSome result (λ pair. reading.ReadsNext first joined kind text.now pair.0.now pair.1.now) }
+    ensures none { IfNone result (reading.ReadsNone first joined kind text.now) }
+{
+    if is_same_line(kind) {
+        return Some((&text[..0], text));
+    }
+    read_one(first, joined, kind, text)
+}
+
+/// Whether nothing was read yet, after one more kind.
+fn still_first(first: bool, joint: bool) -> bool
+    ensures { result ≡ (first && joint) }
+{
+    first && joint
 }
 
 /// The tokens of a text, one of each of these kinds in turn, as they are spelled. `None`: the text reads as no list of
@@ -306,18 +339,13 @@ pub fn read_tokens<'a>(
     let mut first = true;
     let mut joined = false;
     for kind in kinds {
-        if is_same_line(*kind) {
-            found.push(&rest[..0])?;
-            joined = true;
-        } else {
-            match read_one(first, joined, *kind, rest) {
-                None => return Ok(None),
-                Some((own, after)) => {
-                    found.push(own)?;
-                    rest = after;
-                    first = false;
-                    joined = false;
-                }
+        match read_next(first, joined, *kind, rest) {
+            None => return Ok(None),
+            Some((own, after)) => {
+                found.push(own)?;
+                rest = after;
+                joined = is_same_line(*kind);
+                first = still_first(first, joined);
             }
         }
     }
