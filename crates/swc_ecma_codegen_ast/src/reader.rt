@@ -15,8 +15,8 @@ use crate::names::{is_name, is_private_name, is_word};
 use crate::numerals::{is_big_integer, is_number};
 use crate::punctuation::is_punctuator;
 use crate::shapes::{
-    begins, is_hashbang, is_jsx_name, is_jsx_open, is_jsx_string, is_jsx_text, is_one_line, is_regex,
-    is_same, is_string, is_template, is_template_rest,
+    begins, is_hashbang, is_jsx_name, is_jsx_open, is_jsx_string, is_jsx_text, is_one_line,
+    is_regex, is_same, is_string, is_template, is_template_rest,
 };
 use std::alloc::{AllocError, Global};
 
@@ -276,16 +276,9 @@ fn keeps_line(joined: bool, text: &[char], start: &[char]) -> bool
 }
 
 /// Whether the next token is of this kind, where its `n` characters begin after the trivia.
-fn takes(
-    first: bool,
-    joined: bool,
-    kind: Kind,
-    text: &[char],
-    start: &[char],
-    n: usize,
-) -> bool
-    requires { n ≤ length start.now }
-    requires { length start.now ≤ length text.now }
+fn takes(first: bool, joined: bool, kind: Kind, text: &[char], start: &[char], n: usize) -> bool
+    requires taken { n ≤ length start.now }
+    requires within { length start.now ≤ length text.now }
     ensures { result ≡ ((not joined || chars.is_one_line (take (length text.now - length start.now) text.now)) && reading.fits first kind start.now n) }
 {
     keeps_line(joined, text, start) && fits(first, kind, start, n)
