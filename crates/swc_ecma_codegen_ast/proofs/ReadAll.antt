@@ -157,6 +157,18 @@ next_by text done owns first joined rest kind own after true e p (inr h) = absur
 next_by text done owns first joined rest kind own after false e p (inr h) =
     subst (λ z. Progress text (done ++ kind ∷ []) (owns ++ own ∷ []) z false after) (and_false first) (progress_more text done owns first joined rest kind own after h.0 p h.1)
 
+pub same_next : (first joined : Bool) (kind : Kind) (text : List ℕ) → is_same_line kind ≡ true → ReadsNext first joined kind text [] text
+unfolding ReadsNext
+same_next first joined kind text e = inl (e, refl, refl)
+
+pub other_next : (first joined : Bool) (kind : Kind) (text own rest : List ℕ) → is_same_line kind ≡ false → ReadsOne first joined kind text own rest → ReadsNext first joined kind text own rest
+unfolding ReadsNext
+other_next first joined kind text own rest e h = inr (e, h)
+
+pub none_next : (first joined : Bool) (kind : Kind) (text : List ℕ) → is_same_line kind ≡ false → ((own rest : List ℕ) → ReadsOne first joined kind text own rest → ⊥) → ReadsNone first joined kind text
+unfolding ReadsNone
+none_next first joined kind text e h = (e, h)
+
 -- one more kind
 pub progress_next : (text : List ℕ) (done : List Kind) (owns : List (List ℕ)) (first joined : Bool) (rest : List ℕ) (kind : Kind) (own after : List ℕ) (more same : Bool) → same ≡ is_same_line kind → more ≡ (first && same) → Progress text done owns first joined rest → ReadsNext first joined kind rest own after → Progress text (done ++ kind ∷ []) (owns ++ own ∷ []) more same after
 progress_next text done owns first joined rest kind own after more same e m p h = subst (λ z. Progress text (done ++ kind ∷ []) (owns ++ own ∷ []) z same after) (sym m) (next_by text done owns first joined rest kind own after same e p h)

@@ -307,7 +307,10 @@ fn read_next(first: bool, joined: bool, kind: Kind, text: &[char]) -> Option<(&[
     if is_same_line(kind) {
         return Some((&text[..0], text));
     }
-    read_one(first, joined, kind, text)
+    match read_one(first, joined, kind, text) {
+        None => None,
+        Some((own, after)) => Some((own, after)),
+    }
 }
 
 /// Whether nothing was read yet, after one more kind.

@@ -20,11 +20,11 @@ loop-kind-preserved c =
     let kinds = c.args.kinds.now in
     let owns : List (List ℕ) = map (λ p. p.now) c.loop-kind.found.items in
     let more : map (λ p. p.now) c.push.new.self.items ≡ owns ++ c.in-Some.own.now ∷ [] = ap (map (λ p. p.now)) c.in_ok-push-in-Some.ensures.items ∙ map-append (λ p. p.now) c.loop-kind.found.items (c.in-Some.own ∷ []) in
-    let more_first = c.still_first-in-Some.result in
-    let joint = c.is_same_line-in-Some.result in
+    let more_first = c.still_first-first.result in
+    let joint = c.is_same_line-joined.result in
     subst (λ z. Progress c.args.text.now (take (i + 1) kinds) z more_first joint c.in-Some.after.now) (sym more)
     (subst (λ z. Progress c.args.text.now z (owns ++ c.in-Some.own.now ∷ []) more_first joint c.in-Some.after.now) (sym (take_one_more kinds i _ c.loop-kind-test.true))
-    (progress_next c.args.text.now (take i kinds) owns c.loop-kind.first c.loop-kind.joined c.loop-kind.rest.now _ c.in-Some.own.now c.in-Some.after.now more_first joint c.is_same_line-in-Some.ensures c.still_first-in-Some.ensures c.loop-kind.invariant c.in-Some.ensures.found))
+    (progress_next c.args.text.now (take i kinds) owns c.loop-kind.first c.loop-kind.joined c.loop-kind.rest.now _ c.in-Some.own.now c.in-Some.after.now more_first joint c.is_same_line-joined.ensures c.still_first-first.ensures c.loop-kind.invariant c.in-Some.ensures.found))
 
 pub returns-then-is_empty-clause-found : goal.returns-then-is_empty-clause-found
 returns-then-is_empty-clause-found c =
