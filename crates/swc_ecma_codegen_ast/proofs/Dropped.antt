@@ -2,7 +2,6 @@
 -- tokens.
 use Rattle.std.proofs.Common.{Bool, List, [], ap, ap₂, codes, cond, false, inl, inr, not, refl, subst, sym, true, ℕ, ◌&&◌, ◌++◌, ◌==◌, ◌||◌, ◌∙◌, ◌∷◌, ◌≡◌}
 use Rattle.std.proofs.lemmas.Bool.{and_left, and_parts, and_right, cond-false, eqb-true, false_from_ne_true, not-true, or_cases, or_from, true≢false}
-use Rattle.swc_ecma_codegen_ast.proofs.Conditions.{same_line_unspelled}
 use Rattle.swc_ecma_codegen_ast.proofs.HashbangShapes.{hashbang_head}
 use Rattle.swc_ecma_codegen_ast.proofs.Heads.{some_text}
 use Rattle.swc_ecma_codegen_ast.proofs.JsxShapes.{jsx_name_head, jsx_string_head}

@@ -16,7 +16,7 @@ use Rattle.swc_ecma_codegen_tree.specs.declared.exprs.BlockStmtOrExpr.{BlockStmt
 use Rattle.swc_ecma_codegen_tree.specs.declared.exprs.BlockStmtOrExpr.TheVariants as bodies
 use Rattle.swc_ecma_codegen_tree.specs.declared.exprs.Expr.TheVariants as exprs
 use Rattle.swc_ecma_codegen_tree.specs.declared.stmts.BlockStmt.{BlockStmt}
-use Rattle.swc_ecma_codegen_ast.specs.Phrases.{Phrase, Never, ◌>◌, mark, word, listed, in_order, same_line}
+use Rattle.swc_ecma_codegen_ast.specs.Phrases.{Phrase, Never, ◌>◌, mark, listed, in_order, same_line}
 use Rattle.swc_ecma_codegen_ast.specs.declared.roles.Role.{Role}
 use Rattle.swc_ecma_codegen_ast.specs.declared.roles.Role.TheVariants.{Expression, Function, Block}
 use Rattle.swc_ecma_codegen_ast.specs.PatPhrases.{pat_at}

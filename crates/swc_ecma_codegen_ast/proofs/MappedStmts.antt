@@ -1,5 +1,5 @@
 -- The productions of statements and declarations see what links hold through f alone.
-use Rattle.std.proofs.Common.{◌≡◌, refl, ◌∙◌, ap, List, map, codes, Bool, true, false, Option, Some, None, Box, Vec, Global}
+use Rattle.std.proofs.Common.{◌≡◌, refl, ap, List, map, codes, Bool, true, false, Option, Some, None, Box, Vec, Global}
 use Rattle.swc_ecma_codegen_common.specs.declared.positions.Span.{Span}
 use Rattle.swc_ecma_codegen_tree.specs.declared.links.AnyNode.{map-AnyNode}
 use Rattle.swc_ecma_codegen_tree.specs.declared.links.AnyNode.TheOpen as nodes
