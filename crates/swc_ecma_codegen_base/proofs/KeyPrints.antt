@@ -15,7 +15,7 @@ use Rattle.swc_ecma_codegen_ast.specs.Tokens.{token_of}
 use Rattle.swc_ecma_codegen_ast.specs.ValidNames.{turned}
 use Rattle.swc_ecma_codegen_text_writer.specs.Sheet.{Symbol, Position, Commit}
 use Rattle.swc_ecma_codegen_util.specs.declared.config.Config.{Config}
-use Rattle.swc_ecma_codegen_literals.specs.AsciiNames.{is_ascii_text, ascii_name, wants_quotes}
+use Rattle.swc_ecma_codegen_literals.specs.AsciiNames.{ascii_name, wants_quotes}
 use Rattle.swc_ecma_codegen_base.specs.Escapes.{may_make_text}
 use Rattle.swc_ecma_codegen_base.specs.Keys.{quoted_key, ascii_key, bare_key, plain_key, valid_key, key_text, key}
 use Rattle.swc_ecma_codegen_base.specs.Run.{Env, Plan, Part, State, Step, next, Guard, Token, Plain, Remake, step, steps_of, nothing, put, run, spelling, has_backslash}
@@ -31,7 +31,6 @@ use Rattle.swc_ecma_codegen_base.proofs.Phrased.{IsSafe, NamedBy, Prints, after,
 use Rattle.swc_ecma_codegen_base.proofs.Positions.{Named, name_named, name_call, name_steps}
 use Rattle.swc_ecma_codegen_base.proofs.Shapes.{open_}
 use Rattle.swc_ecma_codegen_base.proofs.Printed.{MakesAt, Makes, Writes, or_false, writes_then, writes_remake, writes_commit, writes_leading, writes_position, writes_placed}
-use Rattle.swc_ecma_codegen_base.proofs.Written.{Spelled}
 
 -- ---- the text of a key, by the settings
 

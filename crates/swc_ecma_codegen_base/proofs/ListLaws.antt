@@ -1,5 +1,5 @@
 -- What lists write: what stands before, between and after their children, and the tokens of the whole.
-use Rattle.std.proofs.Common.{◌≡◌, ℕ, ◌+◌, ◌≤◌, arith, Bool, true, false, cond, not, ◌&&◌, ◌==◌, List, [], ◌∷◌, ◌++◌, length, map, codes, refl, sym, ap, ◌∙◌, subst, inl, inr}
+use Rattle.std.proofs.Common.{◌≡◌, ℕ, arith, Bool, true, false, cond, not, ◌&&◌, ◌==◌, List, [], ◌∷◌, map, codes, refl, sym, ap, ◌∙◌, subst, inl, inr}
 use Rattle.std.specs.Str.{chars, is_utf8}
 use Rattle.std.proofs.lemmas.Bool.{cases_Bool, true≢false}
 use Rattle.swc_ecma_codegen_common.specs.declared.positions.Span.{Span}
@@ -12,14 +12,13 @@ use Rattle.swc_ecma_codegen_ast.specs.Punctuators.{is_punctuator, punctuators}
 use Rattle.swc_ecma_codegen_ast.specs.Texts.{is_same, is_among}
 use Rattle.swc_ecma_codegen_ast.specs.Phrases as phrases
 use Rattle.swc_ecma_codegen_ast.specs.Phrases.{Phrase, Nothing, Then, OptionalComma, is_possible, names_in, mark, ◌>◌}
-use Rattle.swc_ecma_codegen_text_writer.specs.Sheet.{Punct}
-use Rattle.swc_ecma_codegen_base.specs.Run.{Env, Plan, Part, Remake, Guard, Token, next, step, spelling, when_minified, no_part}
+use Rattle.swc_ecma_codegen_base.specs.Run.{Env, Plan, Part, Remake, step, spelling, when_minified, no_part}
 use Rattle.swc_ecma_codegen_base.specs.Words.{punct, formatting_space, formatting_line, trailing_comments}
 use Rattle.swc_ecma_codegen_base.specs.Written.{IsMark}
-use Rattle.swc_ecma_codegen_base.specs.Lists.{ListChild, by_lines, blank_if, line_or_blank, deeper, formatting_deeper, deeper_if, shallower, formatting_shallower, shallower_if, opening, delimiter, separator, child_comments, first_child_after, first_child, next_child_after, next_child, comma_if, source_comma, wanted_comma, source_has_comma, may_have_comma, trailing_comma, closing, list_end, list_closing, empty_list, more_children, last_place, list}
+use Rattle.swc_ecma_codegen_base.specs.Lists.{ListChild, by_lines, blank_if, line_or_blank, deeper, formatting_deeper, deeper_if, shallower, formatting_shallower, shallower_if, opening, delimiter, separator, child_comments, first_child_after, next_child_after, comma_if, source_comma, wanted_comma, source_has_comma, may_have_comma, trailing_comma, closing, list_end, list_closing, empty_list, more_children, last_place, list}
 use Rattle.swc_ecma_codegen_base.proofs.Emitting.{minified_same, pretty_same}
 use Rattle.swc_ecma_codegen_base.proofs.ListCommas.{written_same, left_out_same, forced_same, source_same}
-use Rattle.swc_ecma_codegen_base.proofs.Printed.{writes_remake, MakesWithin, Makes, Writes, within_then, with_room, writes_then, writes_same, writes_nothing, writes_if, writes_minified, writes_formatting_space, writes_formatting_line, writes_trailing, writes_shallower, deeper_within, punct_within, writes_punct, Fills, MakesAt, EndsLines, makes_wider}
+use Rattle.swc_ecma_codegen_base.proofs.Printed.{writes_remake, MakesWithin, within_then, with_room, writes_then, writes_same, writes_nothing, writes_if, writes_minified, writes_formatting_space, writes_formatting_line, writes_trailing, writes_shallower, deeper_within, punct_within, writes_punct, Fills, MakesAt, EndsLines, makes_wider}
 use Rattle.swc_ecma_codegen_base.specs.Escapes.{may_make_text}
 use Rattle.swc_ecma_codegen_base.specs.Targets.{is_out}
 use Rattle.swc_ecma_codegen_base.proofs.Hands.{holds_string}
