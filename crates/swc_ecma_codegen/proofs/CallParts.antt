@@ -18,14 +18,14 @@ use Rattle.swc_ecma_codegen_ast.specs.Chars.{is_start, is_part, is_letter, is_di
 use Rattle.swc_ecma_codegen_ast.specs.Names.{is_word, all_part}
 use Rattle.swc_ecma_codegen_ast.specs.Punctuators.{is_punctuator, punctuators}
 use Rattle.swc_ecma_codegen_ast.specs.Texts.{is_same, is_among}
-use Rattle.swc_ecma_codegen_ast.specs.Phrases.{Phrase, Never, Nothing, ◌>◌, word, mark}
+use Rattle.swc_ecma_codegen_ast.specs.Phrases.{Phrase, Never, ◌>◌, word, mark}
 use Rattle.swc_ecma_codegen_ast.specs.ElementPhrases.{element, last_is_hole}
 use Rattle.swc_ecma_codegen_ast.specs.CallPhrases as lists
 use Rattle.swc_ecma_codegen_ast.specs.ListFormats.{comma_delimited, allows_trailing_comma, forces_trailing_comma}
 use Rattle.swc_ecma_codegen_ast.specs.declared.roles.Role.TheVariants.{Callee as IsCallee}
 use Rattle.swc_ecma_codegen_base.specs.Run.{Env, Part}
 use Rattle.swc_ecma_codegen_base.specs.Lists.{list}
-use Rattle.swc_ecma_codegen_base.specs.Words.{punct, space, formatting_space, position, end_of}
+use Rattle.swc_ecma_codegen_base.specs.Words.{punct, space, formatting_space, position}
 use Rattle.swc_ecma_codegen_base.specs.Written.{IsWord, IsMark}
 use Rattle.swc_ecma_codegen_base.proofs.Printed.{writes_if, writes_nothing, writes_space, writes_formatting_space, writes_commit, writes_position, writes_leading, Fills, makes_wider}
 use Rattle.swc_ecma_codegen_base.proofs.Phrased.{Prints, then, after, before, prints_nothing, prints_never, prints_keyword, prints_punct, PrintsAt, prints_wider, loosened}

@@ -29,14 +29,14 @@ use Rattle.swc_ecma_codegen_base.specs.Written.{IsMark}
 use Rattle.swc_ecma_codegen_base.proofs.Choices.{prints_bare, prints_parentheses}
 use Rattle.swc_ecma_codegen_base.proofs.Emitting.{minified_same, pretty_same}
 use Rattle.swc_ecma_codegen_base.proofs.ListLaws.{IsUndelimited, children_of, prints_list, prints_in_order, prints_one_child}
-use Rattle.swc_ecma_codegen_base.proofs.Phrased.{Prints, then, after, before, prints_nothing, prints_same, prints_keyword, prints_punct, prints_mark, prints_semi, prints_ident, mark_spelled, PrintsAt, prints_wider, loosened, joined_then, joined_mark, prints_joined_punct, prints_regrouped}
-use Rattle.swc_ecma_codegen_base.proofs.Printed.{with_room, within_then, punct_within, deeper_within, writes_then, writes_same, writes_if, writes_nothing, writes_space, writes_formatting_space, writes_line, writes_commit, writes_position, writes_leading, writes_shallower, Fills, joined_punct_within}
+use Rattle.swc_ecma_codegen_base.proofs.Phrased.{Prints, then, after, before, prints_nothing, prints_same, prints_keyword, prints_punct, prints_semi, prints_ident, mark_spelled, PrintsAt, prints_wider, loosened, joined_then, joined_mark, prints_joined_punct, prints_regrouped}
+use Rattle.swc_ecma_codegen_base.proofs.Printed.{with_room, within_then, deeper_within, writes_then, writes_same, writes_if, writes_nothing, writes_space, writes_formatting_space, writes_line, writes_commit, writes_position, writes_leading, writes_shallower, Fills, joined_punct_within}
 use Rattle.swc_ecma_codegen.specs.declared.nodes.Place.{Place}
 use Rattle.swc_ecma_codegen.specs.declared.nodes.Place.TheVariants.{Plain, Body, DeclarationHead}
 use Rattle.swc_ecma_codegen.specs.Places.{before_name}
 use Rattle.swc_ecma_codegen.specs.Functions as words
 use Rattle.swc_ecma_codegen.specs.Functions.{decorators_format, comma_list_format, decorator_place, param_place}
-use Rattle.swc_ecma_codegen.proofs.Impossible.{refused_or, prints_impossible, never_impossible, prints_alone}
+use Rattle.swc_ecma_codegen.proofs.Impossible.{refused_or, prints_impossible, never_impossible}
 use Rattle.swc_ecma_codegen.proofs.Linked.{Linked, expr_at, pat_at, block_at}
 use Rattle.swc_ecma_codegen.proofs.MarkWords as marks
 use Rattle.swc_ecma_codegen_base.proofs.Shapes.{open_, loose, ended, closed, joined}

@@ -1,5 +1,5 @@
 -- Phrases that no tree has, and what is said where a phrase is possible.
-use Rattle.std.proofs.Common.{◌≡◌, ◌∙◌, sym, refl, ap, ℕ, Bool, true, false, cond, ◌&&◌, ◌||◌, List, [], ◌++◌, append-nil, subst}
+use Rattle.std.proofs.Common.{◌≡◌, ◌∙◌, sym, refl, ap, ℕ, Bool, true, false, cond, ◌&&◌, ◌||◌, List, ◌++◌, append-nil, subst}
 use Rattle.std.proofs.lemmas.Bool.{true≢false}
 use Rattle.swc_ecma_codegen_ast.specs.Tokens as lexical
 use Rattle.swc_ecma_codegen_util.specs.declared.config.Config.{Config}
@@ -9,7 +9,7 @@ use Rattle.swc_ecma_codegen_base.specs.Escapes.{is_spelled_anew, may_make_text}
 use Rattle.swc_ecma_codegen_base.specs.Run.{Env, Part}
 use Rattle.swc_ecma_codegen_base.specs.Targets.{is_out}
 use Rattle.swc_ecma_codegen_base.proofs.Choices.{IsAmong, prints_among}
-use Rattle.swc_ecma_codegen_base.proofs.Phrased.{Prints, prints_never, PrintsAt}
+use Rattle.swc_ecma_codegen_base.proofs.Phrased.{prints_never, PrintsAt}
 use Rattle.swc_ecma_codegen.specs.Lists.{unsupported}
 use Rattle.swc_ecma_codegen_base.proofs.Shapes.{Shape}
 

@@ -6,7 +6,7 @@ use Rattle.swc_ecma_codegen_tree.specs.declared.parts.StmtPart.TheVariants as st
 use Rattle.swc_ecma_codegen_ast.specs.declared.roles.Role.{Role}
 use Rattle.swc_ecma_codegen_ast.specs.declared.roles.Role.TheVariants.{AssignmentTarget, Pattern, PlainParameter, PropertyName, PropertyDefinition, ObjectLiteral, Function, FunctionHead, MethodHead, Block, Declaration, VariableDeclaration, ChainCall}
 use Rattle.swc_ecma_codegen_ast.specs.PartPhrases as lists
-use Rattle.swc_ecma_codegen_base.proofs.Phrased.{Prints, prints_never, PrintsAt}
+use Rattle.swc_ecma_codegen_base.proofs.Phrased.{prints_never, PrintsAt}
 use Rattle.swc_ecma_codegen.specs.declared.nodes.Place.{Place}
 use Rattle.swc_ecma_codegen.specs.Parts as words
 use Rattle.swc_ecma_codegen.specs.Places.{placed}

@@ -1,5 +1,5 @@
 -- What is written of objects and their properties is what it reads as.
-use Rattle.std.proofs.Common.{◌≡◌, refl, ℕ, Bool, true, false, cond, ◌==◌, is_some, List, [], ◌∷◌, map, codes, string_bytes, Option, Some, None, inl, inr}
+use Rattle.std.proofs.Common.{refl, ℕ, Bool, true, false, cond, ◌==◌, is_some, List, [], map, codes, string_bytes, Option, Some, None, inl, inr}
 use Rattle.std.proofs.lemmas.Bool.{cases_Bool}
 use Rattle.swc_ecma_codegen_common.specs.declared.positions.Span.{Span}
 use Rattle.swc_ecma_codegen_tree.specs.declared.expr_links.PropNameBox.{PropNameBox}

@@ -11,7 +11,7 @@ use Rattle.swc_ecma_codegen_ast.specs.declared.roles.Role.TheVariants.{Expressio
 use Rattle.swc_ecma_codegen_ast.specs.TreePhrases.{node_phrase, phrase}
 use Rattle.swc_ecma_codegen_ast.proofs.TreeLaws.{phrase_of}
 use Rattle.swc_ecma_codegen_base.specs.Run.{Env, Part}
-use Rattle.swc_ecma_codegen_base.proofs.Phrased.{Prints, prints_never, PrintsAt}
+use Rattle.swc_ecma_codegen_base.proofs.Phrased.{prints_never, PrintsAt}
 use Rattle.swc_ecma_codegen.specs.declared.nodes.Place.{Place}
 use Rattle.swc_ecma_codegen.specs.declared.nodes.Place.TheVariants.{Object, DottedObject, Callee}
 use Rattle.swc_ecma_codegen.specs.Answers.{any_answers}
