@@ -27,7 +27,7 @@ use Rattle.swc_ecma_codegen_ast.specs.Phrases.{names_in}
 use Rattle.swc_ecma_codegen_text_writer.specs.Sheet.{HoldsNone}
 use Rattle.swc_ecma_codegen_base.specs.Written.{IsLineEnd, IsNew, AddsReading, all_indent, is_indent, holds_one}
 use Rattle.swc_ecma_codegen_base.proofs.Short.{on_ok_in_short}
-use Rattle.swc_ecma_codegen_base.proofs.Phrased.{Prints, printed_reads, printed_remakes, printed_names, follows_records, PrintsAt, prints_wider, loosened}
+use Rattle.swc_ecma_codegen_base.proofs.Phrased.{printed_reads, printed_remakes, printed_names, follows_records, PrintsAt, prints_wider, loosened}
 use Rattle.swc_ecma_codegen_base.proofs.Made.{ends_where_out, follows_in_target, follows_out_of_target}
 use Rattle.swc_ecma_codegen.specs.declared.nodes.Place.TheVariants.{Plain}
 use Rattle.swc_ecma_codegen.specs.Programs as programs
