@@ -52,7 +52,8 @@ use Rattle.swc_ecma_codegen_base.proofs.Positions.{Named, named_none, named_then
 use Rattle.swc_ecma_codegen_base.proofs.ValueStrings.{none_by_value, steps_safe}
 use Rattle.swc_ecma_codegen_base.proofs.Targets.{Names, names_in_ascii, plain_not_out}
 use Rattle.swc_ecma_codegen_base.proofs.Shapes.{Shape, whole, open_, loose, joining, joined, at_joint, join, is_within, not_broken, broken_from, walk_append}
-use Rattle.swc_ecma_codegen_base.proofs.Written.{LaysAt, held, held_of, tokens_append, Spelled, spelled_word, spelled_name, spelled_mark}
+use Rattle.swc_ecma_codegen_base.proofs.Appended.{tokens_append}
+use Rattle.swc_ecma_codegen_base.proofs.Written.{LaysAt, held, held_of, Spelled, spelled_word, spelled_name, spelled_mark}
 use Rattle.swc_ecma_codegen_base.proofs.Printed.{MakesAt, makes_wider, writes_joined_operator, writes_joined_punct, writes_keyword_joint, chain, or_false, Writes, writes_whatever, writes_then, writes_same, writes_nothing, writes_keyword, writes_operator, writes_word_operator, writes_punct, writes_placed_punct, writes_semi, writes_commit, writes_leading, writes_name_text}
 
 and_assoc : (a b c : Bool) → ((a && b) && c) ≡ (a && (b && c))

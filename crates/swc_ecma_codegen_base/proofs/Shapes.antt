@@ -3,10 +3,12 @@ use Rattle.std.proofs.Common.{◌≡◌, ℕ, Bool, true, false, ◌&&◌, List,
 use Rattle.std.proofs.lemmas.Bool.{and_parts, true≢false}
 use Rattle.swc_ecma_codegen_ast.specs.declared.kinds.Kind.{Kind}
 use Rattle.swc_ecma_codegen_ast.specs.Chars.{is_one_line}
-use Rattle.swc_ecma_codegen_ast.specs.Trivia.{pieces_text}
+use Rattle.swc_ecma_codegen_ast.specs.Trivia.{Piece, pieces_text}
 use Rattle.swc_ecma_codegen_ast.specs.Parts as parts
 use Rattle.swc_ecma_codegen_ast.specs.Parts.{Gap, Own, Joint, OfLine, OnLine, PastLine, AtJoint, Broken, over_gap, over_own, over_joint, walk, is_broken}
 use Rattle.swc_ecma_codegen_ast.proofs.Reading.{broken_stays}
+use Rattle.swc_ecma_codegen_base.specs.Written.{all_indent}
+use Rattle.swc_ecma_codegen_base.proofs.Indented.{blanks, indent_one_line}
 
 -- ---- which place is as good as another
 
@@ -225,3 +227,16 @@ fits_gap o e = record { line = subst (λ z. Le z PastLine) (sym (e OnLine)) (gap
 pub fits_own : (kind : Kind) (t : List ℕ) → Fits whole (Own kind t ∷ [])
 unfolding walk over_own
 fits_own kind t = record { line = same OnLine; past = same OnLine; joint = same OnLine }
+
+-- indentation, and a token behind it
+pub fits_indent : (u : List ℕ) → all_indent u ≡ true → Fits open_ (Gap (blanks u) ∷ [])
+unfolding walk
+fits_indent u h = fits_blank (pieces_text (blanks u)) (indent_one_line u h) (λ w. refl)
+
+pub fits_text : (u : List ℕ) (kind : Kind) (t : List ℕ) → all_indent u ≡ true → Fits whole (Gap (blanks u) ∷ Own kind t ∷ [])
+fits_text u kind t h = fits_then (Gap (blanks u) ∷ []) (Own kind t ∷ []) (fits_indent u h) (fits_own kind t)
+
+-- any gap
+pub fits_end : (ps : List Piece) → Fits loose (Gap ps ∷ [])
+unfolding walk
+fits_end ps = fits_gap (is_one_line (pieces_text ps)) (λ w. refl)

@@ -21,7 +21,8 @@ use Rattle.swc_ecma_codegen_base.specs.Targets.{is_out}
 use Rattle.swc_ecma_codegen_base.specs.Words.{keyword, operator, word_operator, punct, semi, name, space, formatting_space, line_end, formatting_line, commit_pending_semi, position, position_before, leading_comments, trailing_comments}
 use Rattle.swc_ecma_codegen_base.specs.Written.{IsNew, IsWord, IsMark, ReadsSoFar, AddsText, name_tokens}
 use Rattle.swc_ecma_codegen_base.proofs.Emitting.{emits_nothing}
-use Rattle.swc_ecma_codegen_base.proofs.Written.{LaysAt, text_append, tokens_append, remarks_append}
+use Rattle.swc_ecma_codegen_base.proofs.Appended.{text_append, tokens_append, remarks_append}
+use Rattle.swc_ecma_codegen_base.proofs.Written.{LaysAt}
 use Rattle.swc_ecma_codegen_base.proofs.Printed.{writes_space, writes_formatting_space, writes_line, writes_formatting_line, writes_commit, writes_position, writes_position_before, writes_leading, writes_trailing, MakesAt, EndsLines, makes_wider}
 use Rattle.swc_ecma_codegen_base.proofs.Phrased.{Prints, steps_of_chain, new_at_rest, prints_keyword, prints_operator, prints_word_operator, prints_punct, prints_semi, prints_ident, made_not_out}
 use Rattle.swc_ecma_codegen_base.proofs.Shapes.{Le, line_first, loose, walk_append, walk_le, not_broken}

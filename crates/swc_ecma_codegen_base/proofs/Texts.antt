@@ -20,8 +20,8 @@ use Rattle.swc_ecma_codegen_base.specs.Written.{IsLineEnd, all_indent, is_free, 
 use Rattle.swc_ecma_codegen_base.proofs.Held.{front, front_of, recorded_keeps, written_text, written_semicolons, in_line}
 use Rattle.swc_ecma_codegen_base.proofs.Indented.{indent_repeat, indent_utf8, indent_chars, blanks, blanks_text, blanks_remarks}
 use Rattle.swc_ecma_codegen_base.proofs.Strangers.{dash_same}
-use Rattle.swc_ecma_codegen_base.proofs.Shapes.{whole, Fits, fits_then, fits_own as fits_one_own}
-use Rattle.swc_ecma_codegen_base.proofs.Written.{Lays, Spelled, fits_indent, spelled_mark, laid_out, front_indent, apart_alone, after_indent, in_a_line, apart_open, mark_allows, free_last, own_fits}
+use Rattle.swc_ecma_codegen_base.proofs.Shapes.{whole, Fits, fits_indent, fits_then, fits_own as fits_one_own}
+use Rattle.swc_ecma_codegen_base.proofs.Written.{Lays, Spelled, spelled_mark, laid_out, front_indent, apart_alone, after_indent, in_a_line, apart_open, mark_allows, free_last, own_fits}
 
 -- ---- what calls add to a sheet
 

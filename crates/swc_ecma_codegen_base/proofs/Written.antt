@@ -1,8 +1,8 @@
 -- What steps write: tokens, and blanks between them.
-use Rattle.std.proofs.Common.{◌≡◌, ℕ, Bool, true, false, not, cond, List, [], ◌∷◌, ◌++◌, Option, None, codes, refl, sym, ap, ◌∙◌, subst, append_assoc, append-nil, inl, inr, ◌==◌, ◌||◌}
+use Rattle.std.proofs.Common.{◌≡◌, ℕ, Bool, true, false, cond, List, [], ◌∷◌, ◌++◌, Option, None, codes, refl, sym, ap, ◌∙◌, subst, append_assoc, append-nil, inl, inr, ◌==◌, ◌||◌}
 use Rattle.std.specs.List.{repeat}
 use Rattle.std.specs.Str.{chars, is_utf8, IsUtf8}
-use Rattle.std.proofs.lemmas.Bool.{and_from, and_parts, eqb-true, or_cases, true≢false}
+use Rattle.std.proofs.lemmas.Bool.{and_parts, eqb-true, or_cases, true≢false}
 use Rattle.std.proofs.lemmas.Str.{chars-nil, chars-append, IsUtf8-nil, IsUtf8-append, IsUtf8-from_is_utf8}
 use Rattle.swc_ecma_codegen_ast.specs.declared.kinds.Kind.{Kind}
 use Rattle.swc_ecma_codegen_ast.specs.declared.kinds.Kind.TheVariants.{Word, Name, Punctuator, Ending}
@@ -11,12 +11,12 @@ use Rattle.swc_ecma_codegen_ast.specs.Tokens.{has_shape, token_of}
 use Rattle.swc_ecma_codegen_ast.specs.Names.{is_word, is_name, name_rest}
 use Rattle.swc_ecma_codegen_ast.specs.Punctuators.{is_punctuator, punctuators}
 use Rattle.swc_ecma_codegen_ast.specs.Texts.{begins, is_same, is_among}
-use Rattle.swc_ecma_codegen_ast.specs.Chars.{is_blank, is_line_end, is_one_line}
-use Rattle.swc_ecma_codegen_ast.specs.Trivia.{Piece, Blank, is_piece, piece_text, pieces_text, all_pieces, remarks_of}
+use Rattle.swc_ecma_codegen_ast.specs.Chars.{is_blank}
+use Rattle.swc_ecma_codegen_ast.specs.Trivia.{Blank, is_piece, piece_text, pieces_text, all_pieces, remarks_of}
 use Rattle.swc_ecma_codegen_ast.specs.Reads.{is_child, is_hashbang_kind}
 use Rattle.swc_ecma_codegen_ast.specs.GapRules.{Last, Start, Apart, Mark, LessBang, fuses, allows, mark_after, last_after, last_after_gap, holds_child}
 use Rattle.swc_ecma_codegen_ast.specs.Parts as parts
-use Rattle.swc_ecma_codegen_ast.specs.Parts.{Gap, Own, Joint, tokens_of, remarks_in, NoneFuse, walk}
+use Rattle.swc_ecma_codegen_ast.specs.Parts.{Gap, Own, Joint, tokens_of, remarks_in, NoneFuse}
 use Rattle.swc_ecma_codegen_ast.proofs.Reading.{blank_fuses}
 use Rattle.swc_ecma_codegen_common.specs.declared.positions.BytePos.{BytePos}
 use Rattle.swc_ecma_codegen_common.specs.declared.positions.Span.{Span}
@@ -27,7 +27,8 @@ use Rattle.swc_ecma_codegen_text_writer.proofs.Sheets.{written_same, pointed_ali
 use Rattle.swc_ecma_codegen_base.specs.Run.{State, Guard, put, spelling}
 use Rattle.swc_ecma_codegen_base.specs.Written.{IsLineEnd, is_indent, all_indent, is_free, holds_one, AtRest}
 use Rattle.swc_ecma_codegen_base.proofs.Held.{front_of, front, written_text, in_line, written_semicolons, pointed_keeps, settled_none}
-use Rattle.swc_ecma_codegen_base.proofs.Shapes.{Shape, whole, open_, loose, joining, joined, join, is_within, Fits, fits_then, fits_wider, fits_nothing, fits_joint, fits_blank, fits_gap, fits_own}
+use Rattle.swc_ecma_codegen_base.proofs.Appended.{text_append, tokens_append, remarks_append}
+use Rattle.swc_ecma_codegen_base.proofs.Shapes.{Shape, whole, open_, loose, joining, joined, join, is_within, Fits, fits_then, fits_wider, fits_nothing, fits_joint, fits_own, fits_indent, fits_text, fits_end}
 use Rattle.swc_ecma_codegen_base.proofs.Indented.{indent_append, indent_repeat, indent_utf8, indent_chars, blanks, blanks_text, indent_blank, blanks_pieces, blanks_remarks}
 
 -- what is asked for and isn't out yet: a semicolon that is held back, where it would stand
@@ -60,27 +61,6 @@ pub record LaysAt (shape : Shape) (ts : List lexical.Token) (a b : State) : Type
 -- what begins and ends with a token
 abbrev pub Lays : List lexical.Token → State → State → Type 0
 Lays ts a b = LaysAt whole ts a b
-
-pub text_append : (xs ys : List parts.Part) → parts.text_of (xs ++ ys) ≡ parts.text_of xs ++ parts.text_of ys
-unfolding parts.text_of
-text_append [] ys = refl
-text_append (Gap ps ∷ xs) ys = ap (λ z. pieces_text ps ++ z) (text_append xs ys) ∙ sym (append_assoc (pieces_text ps) (parts.text_of xs) (parts.text_of ys))
-text_append (Joint ∷ xs) ys = text_append xs ys
-text_append (Own x t ∷ xs) ys = ap (λ z. t ++ z) (text_append xs ys) ∙ sym (append_assoc t (parts.text_of xs) (parts.text_of ys))
-
-pub tokens_append : (xs ys : List parts.Part) → tokens_of (xs ++ ys) ≡ tokens_of xs ++ tokens_of ys
-unfolding tokens_of
-tokens_append [] ys = refl
-tokens_append (Gap ps ∷ xs) ys = tokens_append xs ys
-tokens_append (Joint ∷ xs) ys = ap (λ z. lexical.same_line ∷ z) (tokens_append xs ys)
-tokens_append (Own x t ∷ xs) ys = ap (λ z. token_of x t ∷ z) (tokens_append xs ys)
-
-pub remarks_append : (xs ys : List parts.Part) → remarks_in (xs ++ ys) ≡ remarks_in xs ++ remarks_in ys
-unfolding remarks_in
-remarks_append [] ys = refl
-remarks_append (Gap ps ∷ xs) ys = ap (λ z. remarks_of ps ++ z) (remarks_append xs ys) ∙ sym (append_assoc (remarks_of ps) (remarks_in xs) (remarks_in ys))
-remarks_append (Joint ∷ xs) ys = remarks_append xs ys
-remarks_append (Own x t ∷ xs) ys = remarks_append xs ys
 
 -- one after the other
 pub lays_then : {i j : Shape} (ts us : List lexical.Token) (a b c : State) → LaysAt i ts a b → LaysAt j us b c → LaysAt (join i j) (ts ++ us) a c
@@ -160,27 +140,6 @@ lays_joint s o r = record {
 pub front_indent : (s : Sheet) → all_indent s.indent_text ≡ true → all_indent (front s) ≡ true
 unfolding all_indent
 front_indent s h = elim s.at_line_start as (λ b. all_indent (front_of b s) ≡ true) [ true ↦ indent_repeat s.indentation s.indent_text h | false ↦ refl ]
-
--- indentation holds no line terminator
-indent_in_line : (c : ℕ) → is_indent c ≡ true → not (is_line_end c) ≡ true
-unfolding is_indent is_line_end
-indent_in_line c h =
-    elim (or_cases (c == 32) (c == 9) h) [
-      | inl e ↦ subst (λ z. not ((z == 10) || ((z == 13) || ((z == 8232) || (z == 8233)))) ≡ true) (sym (eqb-true c 32 e)) refl
-      | inr e ↦ subst (λ z. not ((z == 10) || ((z == 13) || ((z == 8232) || (z == 8233)))) ≡ true) (sym (eqb-true c 9 e)) refl
-    ]
-
-indent_one_line : (u : List ℕ) → all_indent u ≡ true → is_one_line (pieces_text (blanks u)) ≡ true
-unfolding all_indent is_one_line blanks pieces_text piece_text
-indent_one_line [] h = refl
-indent_one_line (c ∷ cs) h = let p = and_parts (is_indent c) (all_indent cs) h in and_from (not (is_line_end c)) (is_one_line (pieces_text (blanks cs))) (indent_in_line c p.0) (indent_one_line cs p.1)
-
-pub fits_indent : (u : List ℕ) → all_indent u ≡ true → Fits open_ (Gap (blanks u) ∷ [])
-unfolding walk
-fits_indent u h = fits_blank (pieces_text (blanks u)) (indent_one_line u h) (λ w. refl)
-
-fits_text : (u : List ℕ) (kind : Kind) (t : List ℕ) → all_indent u ≡ true → Fits whole (Gap (blanks u) ∷ Own kind t ∷ [])
-fits_text u kind t h = fits_then (Gap (blanks u) ∷ []) (Own kind t ∷ []) (fits_indent u h) (fits_own kind t)
 
 at_text : (span : Option Span) (c : ℕ) (cs : List ℕ) (s : State) (k : Last) → ((t : List ℕ) → allows k t ≡ true) → all_indent s.sheet.indent_text ≡ true → IsLineEnd s.sheet.line_end → AtRest (record s { sheet = written span (c ∷ cs) s.sheet; last = k })
 at_text span c cs s k h i l = record {
@@ -404,10 +363,6 @@ apart_open t = refl
 line_rest : (s : State) → AtRest s → AtRest (line_put false s)
 unfolding line_put appended is_free
 line_rest s r = record { indent_text = r.indent_text; line_end = r.line_end; free = λ o e. refl; allowed = apart_open }
-
-fits_end : (ps : List Piece) → Fits loose (Gap ps ∷ [])
-unfolding walk
-fits_end ps = fits_gap (is_one_line (pieces_text ps)) (λ w. refl)
 
 -- a line end by its bytes
 lays_end : (s : State) → holds_one s.sheet.semicolons ≡ false → AtRest s → IsLineEnd s.sheet.line_end → LaysAt loose [] s (line_put false s)
