@@ -14,6 +14,7 @@ pub mod MappedProps
 pub mod MappedStmts
 pub mod MappedTemplates
 pub mod MappedClasses
+pub mod MappedModules
 pub mod MappedCalls
 pub mod MarkMatch
 pub mod Marks

@@ -32,7 +32,7 @@ use Rattle.swc_ecma_codegen_tree.specs.declared.parts.StmtPart.TheVariants as st
 use Rattle.swc_ecma_codegen_tree.specs.declared.stmts.Stmt.{Stmt}
 use Rattle.swc_ecma_codegen_ast.specs.Phrases.{Phrase, some_listed}
 use Rattle.swc_ecma_codegen_ast.specs.declared.roles.Role.{Role}
-use Rattle.swc_ecma_codegen_ast.specs.declared.roles.Role.TheVariants.{Expression, Statement, MemberExpression, ChainMember, AssignmentTarget, Pattern, PlainParameter, PropertyName, PropertyDefinition, ObjectLiteral, Function, Block, Declaration, VariableDeclaration, Callee, ChainCall, Template, TaggedTemplate, ClassHead, ClassTail, Member, MethodDecorators, MethodTail, PrivateTail}
+use Rattle.swc_ecma_codegen_ast.specs.declared.roles.Role.TheVariants.{Expression, Statement, MemberExpression, ChainMember, AssignmentTarget, Pattern, PlainParameter, PropertyName, PropertyDefinition, ObjectLiteral, Function, Block, Declaration, VariableDeclaration, Callee, ChainCall, Template, TaggedTemplate, ClassHead, ClassTail, Member, MethodDecorators, MethodTail, PrivateTail, Item, ModuleDeclaration, ExportedHead, ExportedTail}
 use Rattle.swc_ecma_codegen_ast.specs.ExprPhrases.{expr, expr_at, this_expr, unary_expr, update_expr, bin_expr, computed_prop_name, member_prop, member_expr, super_prop, super_prop_expr, chain_mark, chain_prop, chain_member, chain_base, opt_chain_expr, meta_prop_expr, assign_expr, yield_arg, yield_expr, await_expr, cond_expr, seq_expr, paren_expr, expr_in}
 use Rattle.swc_ecma_codegen_ast.specs.NamePhrases.{binding_ident}
 use Rattle.swc_ecma_codegen_ast.specs.AssignPhrases.{assign_target, simple_assign_target}
@@ -46,6 +46,7 @@ use Rattle.swc_ecma_codegen_ast.proofs.MappedStmts.{stmt_mapped, decl_mapped, va
 use Rattle.swc_ecma_codegen_ast.proofs.MappedPats.{pat_mapped, plain_mapped, target_pat_mapped}
 use Rattle.swc_ecma_codegen_ast.proofs.MappedProps.{prop_name_mapped, prop_mapped, object_lit_mapped}
 use Rattle.swc_ecma_codegen_ast.proofs.MappedClasses.{method_decorators_mapped, method_tail_mapped, private_tail_mapped, class_head_mapped, class_tail_mapped, class_member_mapped}
+use Rattle.swc_ecma_codegen_ast.proofs.MappedModules.{module_decl_mapped, module_item_mapped, exported_head_mapped, exported_tail_mapped}
 use Rattle.swc_ecma_codegen_ast.proofs.MappedTemplates.{tpl_mapped, tagged_mapped, tagged_tpl_mapped}
 use Rattle.swc_ecma_codegen_ast.proofs.MappedCalls.{array_lit_mapped, call_mapped, new_mapped, chain_call_mapped}
 
@@ -155,6 +156,10 @@ stmt_part_mapped g f (stmt_parts.Class n) ClassTail = class_tail_mapped g f n
 stmt_part_mapped g f (stmt_parts.ClassMember n) Member = class_member_mapped g f n
 stmt_part_mapped g f (stmt_parts.BlockStmt n) Block = block_mapped g f n
 stmt_part_mapped g f (stmt_parts.Decl n) Declaration = decl_mapped g f n
+stmt_part_mapped g f (stmt_parts.Decl n) ExportedHead = exported_head_mapped g f n
+stmt_part_mapped g f (stmt_parts.Decl n) ExportedTail = exported_tail_mapped g f n
+stmt_part_mapped g f (stmt_parts.ModuleItem n) Item = module_item_mapped g f n
+stmt_part_mapped g f (stmt_parts.ModuleDecl n) ModuleDeclaration = module_decl_mapped g f n
 stmt_part_mapped g f (stmt_parts.VarDecl n) VariableDeclaration = var_decl_mapped g f n
 stmt_part_mapped g f n role = refl
 

@@ -11,6 +11,7 @@ pub mod ExprPhrases
 pub mod FunctionPhrases
 pub mod TemplatePhrases
 pub mod ClassPhrases
+pub mod ModulePhrases
 pub mod GapRules
 pub mod Hashbangs
 pub mod HeldNumbers

@@ -6,9 +6,10 @@ use Rattle.swc_ecma_codegen_tree.specs.declared.parts.StmtPart.{StmtPart}
 use Rattle.swc_ecma_codegen_tree.specs.declared.parts.StmtPart.TheVariants as stmt_parts
 use Rattle.swc_ecma_codegen_ast.specs.Phrases.{Phrase, Never}
 use Rattle.swc_ecma_codegen_ast.specs.declared.roles.Role.{Role}
-use Rattle.swc_ecma_codegen_ast.specs.declared.roles.Role.TheVariants.{AssignmentTarget, Pattern, PlainParameter, PropertyName, PropertyDefinition, ObjectLiteral, Function, FunctionHead, MethodHead, Block, Declaration, VariableDeclaration, ChainCall, Template, TaggedTemplate, ClassHead, ClassTail, Member, MethodDecorators, MethodTail, PrivateTail}
+use Rattle.swc_ecma_codegen_ast.specs.declared.roles.Role.TheVariants.{AssignmentTarget, Pattern, PlainParameter, PropertyName, PropertyDefinition, ObjectLiteral, Function, FunctionHead, MethodHead, Block, Declaration, VariableDeclaration, ChainCall, Template, TaggedTemplate, ClassHead, ClassTail, Member, MethodDecorators, MethodTail, PrivateTail, Item, ModuleDeclaration, ExportedHead, ExportedTail}
 use Rattle.swc_ecma_codegen_ast.specs.AssignPhrases.{assign_target}
 use Rattle.swc_ecma_codegen_ast.specs.CallPhrases.{chain_call}
+use Rattle.swc_ecma_codegen_ast.specs.ModulePhrases.{exported_head, exported_tail, module_item, module_decl}
 use Rattle.swc_ecma_codegen_ast.specs.PatPhrases.{pat, plain_parameter}
 use Rattle.swc_ecma_codegen_ast.specs.PropPhrases.{object_lit, prop_name, prop}
 use Rattle.swc_ecma_codegen_ast.specs.FunctionPhrases.{function, function_head, method_head}
@@ -41,5 +42,9 @@ stmt_part f (stmt_parts.Class n) ClassTail = class_tail f n.value
 stmt_part f (stmt_parts.ClassMember n) Member = class_member f n.value
 stmt_part f (stmt_parts.BlockStmt n) Block = block_stmt f n
 stmt_part f (stmt_parts.Decl n) Declaration = decl f n.value
+stmt_part f (stmt_parts.Decl n) ExportedHead = exported_head f n.value
+stmt_part f (stmt_parts.Decl n) ExportedTail = exported_tail f n.value
+stmt_part f (stmt_parts.ModuleItem n) Item = module_item f n
+stmt_part f (stmt_parts.ModuleDecl n) ModuleDeclaration = module_decl f n.value
 stmt_part f (stmt_parts.VarDecl n) VariableDeclaration = var_decl f n
 stmt_part f n role = Never

@@ -53,4 +53,12 @@ pub enum Role {
     MethodTail,
     /// `() {}` of `class B { @a #c() {} }`: the same of a private method.
     PrivateTail,
+    /// `import a from "b";` or `a();` at the top of a module.
+    Item,
+    /// `import a from "b";` or `export { a };`.
+    ModuleDeclaration,
+    /// `@a` of `@a export class B {}`: what of a declaration stands before the word.
+    ExportedHead,
+    /// `class B {}` of `@a export class B {}`, `let a;` of `export let a;`.
+    ExportedTail,
 }
