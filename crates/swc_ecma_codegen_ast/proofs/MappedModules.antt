@@ -1,23 +1,5 @@
 -- Productions of modules see what links hold through f alone.
-use Rattle.std.proofs.Common.{◌≡◌, refl, Option, Some, None}
-use Rattle.std.proofs.Common.{◌≡◌, refl, ◌∙◌, ap, ◌||◌, is_some, List, map, codes, Bool, cond, Option, Some, None, Box, Global}
-pub method_decorators_mapped : {X Y : Type 0} (g : X → Y) (f : Y → Role → Phrase) (b : Box (functions.Function X) Global) → node_phrase f (map-AnyNode X Y g (nodes.StmtPart (stmt_parts.Function b))) MethodDecorators ≡ method_decorators (λ x. f (g x)) b.value
-tail_by : {X Y : Type 0} (g : X → Y) (f : Y → Role → Phrase) (b : Box (functions.Function X) Global) (n : functions.Function X) (body : Option (BlockStmtBox X)) (type_params : Option (TsTypeParamDeclBox X)) (return_type : Option (TsTypeAnnBox X)) → node_phrase f (map-AnyNode X Y g (nodes.StmtPart (stmt_parts.Function (record b { value = with_parts n body type_params return_type })))) MethodTail ≡ method_tail (λ x. f (g x)) (with_parts n body type_params return_type)
-pub method_tail_mapped : {X Y : Type 0} (g : X → Y) (f : Y → Role → Phrase) (b : Box (functions.Function X) Global) → node_phrase f (map-AnyNode X Y g (nodes.StmtPart (stmt_parts.Function b))) MethodTail ≡ method_tail (λ x. f (g x)) b.value
-private_tail_by : {X Y : Type 0} (g : X → Y) (f : Y → Role → Phrase) (b : Box (functions.Function X) Global) (n : functions.Function X) (body : Option (BlockStmtBox X)) (type_params : Option (TsTypeParamDeclBox X)) (return_type : Option (TsTypeAnnBox X)) → node_phrase f (map-AnyNode X Y g (nodes.StmtPart (stmt_parts.Function (record b { value = with_parts n body type_params return_type })))) PrivateTail ≡ private_tail (λ x. f (g x)) (with_parts n body type_params return_type)
-pub private_tail_mapped : {X Y : Type 0} (g : X → Y) (f : Y → Role → Phrase) (b : Box (functions.Function X) Global) → node_phrase f (map-AnyNode X Y g (nodes.StmtPart (stmt_parts.Function b))) PrivateTail ≡ private_tail (λ x. f (g x)) b.value
-pub class_head_mapped : {X Y : Type 0} (g : X → Y) (f : Y → Role → Phrase) (b : Box (classes.Class X) Global) → node_phrase f (map-AnyNode X Y g (nodes.StmtPart (stmt_parts.Class b))) ClassHead ≡ class_head (λ x. f (g x)) b.value
-class_by : {X Y : Type 0} (g : X → Y) (f : Y → Role → Phrase) (b : Box (classes.Class X) Global) (n : classes.Class X) (super_class : Option (ExprBox X)) (type_params : Option (TsTypeParamDeclBox X)) (super_type_params : Option (TsTypeParamInstantiationBox X)) → node_phrase f (map-AnyNode X Y g (nodes.StmtPart (stmt_parts.Class (record b { value = with_class_parts n super_class type_params super_type_params })))) ClassTail ≡ class_tail (λ x. f (g x)) (with_class_parts n super_class type_params super_type_params)
-pub class_tail_mapped : {X Y : Type 0} (g : X → Y) (f : Y → Role → Phrase) (b : Box (classes.Class X) Global) → node_phrase f (map-AnyNode X Y g (nodes.StmtPart (stmt_parts.Class b))) ClassTail ≡ class_tail (λ x. f (g x)) b.value
-abbrev as_member : {X : Type 0} → Box (class_members.ClassMember X) Global → class_members.ClassMember X → AnyNode-F X
-constructor_by : {X Y : Type 0} (g : X → Y) (f : Y → Role → Phrase) (b : Box (class_members.ClassMember X) Global) (n : Constructor X) (body : Option (BlockStmtBox X)) → node_phrase f (map-AnyNode X Y g (as_member b (members.Constructor (record n { body = body })))) Member ≡ class_constructor (λ x. f (g x)) (record n { body = body })
-method_by : {X Y : Type 0} (g : X → Y) (f : Y → Role → Phrase) (b : Box (class_members.ClassMember X) Global) (n : ClassMethod X) (kind : MethodKind) → node_phrase f (map-AnyNode X Y g (as_member b (members.Method (record n { kind = kind })))) Member ≡ class_method (λ x. f (g x)) (record n { kind = kind })
-private_method_by : {X Y : Type 0} (g : X → Y) (f : Y → Role → Phrase) (b : Box (class_members.ClassMember X) Global) (n : PrivateMethod X) (kind : MethodKind) → node_phrase f (map-AnyNode X Y g (as_member b (members.PrivateMethod (record n { kind = kind })))) Member ≡ private_method (λ x. f (g x)) (record n { kind = kind })
-prop_by : {X Y : Type 0} (g : X → Y) (f : Y → Role → Phrase) (b : Box (class_members.ClassMember X) Global) (n : ClassProp X) (type_ann : Option (TsTypeAnnBox X)) (value : Option (ExprBox X)) → node_phrase f (map-AnyNode X Y g (as_member b (members.ClassProp (record n { type_ann = type_ann; value = value })))) Member ≡ class_prop (λ x. f (g x)) (record n { type_ann = type_ann; value = value })
-private_prop_by : {X Y : Type 0} (g : X → Y) (f : Y → Role → Phrase) (b : Box (class_members.ClassMember X) Global) (n : PrivateProp X) (type_ann : Option (TsTypeAnnBox X)) (value : Option (ExprBox X)) → node_phrase f (map-AnyNode X Y g (as_member b (members.PrivateProp (record n { type_ann = type_ann; value = value })))) Member ≡ private_prop (λ x. f (g x)) (record n { type_ann = type_ann; value = value })
-accessor_by : {X Y : Type 0} (g : X → Y) (f : Y → Role → Phrase) (b : Box (class_members.ClassMember X) Global) (n : AutoAccessor X) (key : Key X) (type_ann : Option (TsTypeAnnBox X)) (value : Option (ExprBox X)) → node_phrase f (map-AnyNode X Y g (as_member b (members.AutoAccessor (record n { key = key; type_ann = type_ann; value = value })))) Member ≡ auto_accessor (λ x. f (g x)) (record n { key = key; type_ann = type_ann; value = value })
-member_by : {X Y : Type 0} (g : X → Y) (f : Y → Role → Phrase) (b : Box (class_members.ClassMember X) Global) (n : class_members.ClassMember X) → node_phrase f (map-AnyNode X Y g (as_member b n)) Member ≡ class_member (λ x. f (g x)) n
-pub class_member_mapped : {X Y : Type 0} (g : X → Y) (f : Y → Role → Phrase) (b : Box (class_members.ClassMember X) Global) → node_phrase f (map-AnyNode X Y g (nodes.StmtPart (stmt_parts.ClassMember b))) Member ≡ class_member (λ x. f (g x)) b.value
+use Rattle.std.proofs.Common.{◌≡◌, refl, Option, Some, None, Box, Global}
 use Rattle.swc_ecma_codegen_tree.specs.declared.expr_links.ObjectLitBox.{ObjectLitBox}
 use Rattle.swc_ecma_codegen_tree.specs.declared.links.AnyNode.{AnyNode-F, map-AnyNode}
 use Rattle.swc_ecma_codegen_tree.specs.declared.links.AnyNode.TheOpen as nodes
