@@ -1,9 +1,9 @@
 -- A template's text with CR LF and CR as LF.
-use Rattle.std.proofs.Common.{◌≡◌, ℕ, zero, suc, ◌+◌, ◌*◌, ◌<◌, Bool, true, false, cond, not, ◌&&◌, ◌||◌, ◌==◌, List, [], ◌∷◌, ◌++◌, nat_lt, refl, sym, ap, ◌∙◌, subst, arith, inl, inr, codes, Option, Some, None, if◌then◌else◌}
+use Rattle.std.proofs.Common.{◌≡◌, ℕ, zero, suc, ◌+◌, ◌*◌, ◌<◌, Bool, true, false, cond, not, ◌&&◌, ◌||◌, ◌==◌, List, [], ◌∷◌, ◌++◌, append_assoc, append-nil, nat_lt, refl, sym, ap, ◌∙◌, subst, arith, inl, inr, codes, Option, Some, None, if◌then◌else◌}
 use Rattle.std.specs.Char.{digit_value, encode_utf8}
 use Rattle.std.specs.List.{list_all}
 use Rattle.std.specs.Str.{chars, encode_utf8_all, IsAscii, IsUtf8}
-use Rattle.std.proofs.lemmas.Bool.{and_from, and_parts, cases_Bool, eqb-true, or_parts, or_cases, true≢false}
+use Rattle.std.proofs.lemmas.Bool.{and_from, and_parts, cases_Bool, eqb-true, ne_eqb, or_parts, or_cases, true≢false}
 use Rattle.std.proofs.lemmas.Str.{encode_ascii, encodes-chars}
 use lib.Utf8.{encodes, scalar, scalars}
 use Rattle.swc_ecma_codegen_ast.specs.Chars.{is_digit, begins_digit}
@@ -35,6 +35,26 @@ unfolding with_line_feeds
 turned c cs h e =
     ap (λ b. cond b (cond (begins (10 ∷ []) cs) (with_line_feeds cs) (10 ∷ with_line_feeds cs)) (c ∷ with_line_feeds cs)) h
     ∙ ap (λ b. cond b (with_line_feeds cs) (10 ∷ with_line_feeds cs)) e
+
+-- ---- a text so far, and what is left of it
+
+pub fed_more : (old new e total rest more : List ℕ) → old ++ encodes (with_line_feeds rest) ≡ total → new ≡ old ++ e → encodes (with_line_feeds rest) ≡ e ++ encodes (with_line_feeds more) → new ++ encodes (with_line_feeds more) ≡ total
+fed_more old new e total rest more h k f = ap (λ z. z ++ encodes (with_line_feeds more)) k ∙ append_assoc old e (encodes (with_line_feeds more)) ∙ ap (λ z. old ++ z) (sym f) ∙ h
+
+pub fed_kept : (rest more : List ℕ) (c : ℕ) → rest ≡ c ∷ more → (c ≡ 13 → ⊥) → encodes (with_line_feeds rest) ≡ encode_utf8 c ++ encodes (with_line_feeds more)
+fed_kept rest more c e n = ap (λ z. encodes (with_line_feeds z)) e ∙ ap encodes (kept c more (ne_eqb c 13 n))
+
+pub fed_turned : (rest more : List ℕ) (c : ℕ) → rest ≡ c ∷ more → c ≡ 13 → begins (10 ∷ []) more ≡ false → encodes (with_line_feeds rest) ≡ encode_utf8 10 ++ encodes (with_line_feeds more)
+fed_turned rest more c e h b = ap (λ z. encodes (with_line_feeds z)) e ∙ ap encodes (turned c more (ap (λ z. z == 13) h) b)
+
+pub fed_dropped : (old total rest more : List ℕ) (c : ℕ) → rest ≡ c ∷ more → c ≡ 13 → begins (10 ∷ []) more ≡ true → old ++ encodes (with_line_feeds rest) ≡ total → old ++ encodes (with_line_feeds more) ≡ total
+fed_dropped old total rest more c e h b k = ap (λ z. old ++ encodes z) (sym (ap with_line_feeds e ∙ dropped c more (ap (λ z. z == 13) h) b)) ∙ k
+
+pub fed_whole : (text total rest : List ℕ) → rest ≡ [] → text ++ encodes (with_line_feeds rest) ≡ total → text ≡ total
+unfolding with_line_feeds
+fed_whole text total rest e k = sym (append-nil text) ∙ ap (λ z. text ++ encodes (with_line_feeds z)) (sym e) ∙ k
+
+-- ---- what the text stands for
 
 -- a text that LF begins
 feed_first : (cs : List ℕ) → begins (10 ∷ []) cs ≡ true → (ds : List ℕ) × (cs ≡ 10 ∷ ds)
