@@ -201,9 +201,9 @@ abbrev pub item_at : {X : Type 0} → (X → Role → Phrase) → ModuleItemBox 
 item_at f n = f n.node.value Item
 
 -- section 16.2
-unfoldable pub module : {X : Type 0} → (X → Role → Phrase) → Module X → Phrase
-module f n = if is_some n.shebang then Never else in_order (map (item_at f) n.body.items)
+unfoldable pub whole_module : {X : Type 0} → (X → Role → Phrase) → Module X → Phrase
+whole_module f n = if is_some n.shebang then Never else in_order (map (item_at f) n.body.items)
 
 unfoldable pub program : {X : Type 0} → (X → Role → Phrase) → Program X → Phrase
-program f (programs.Module n) = module f n
+program f (programs.Module n) = whole_module f n
 program f (programs.Script n) = script f n
