@@ -57,7 +57,7 @@ use Rattle.swc_ecma_codegen_ast.specs.Phrases.{Phrase, Never, Nothing, One, Name
 use Rattle.swc_ecma_codegen_ast.specs.Phrases as phrases
 use Rattle.swc_ecma_codegen_ast.specs.Settings.{Settings}
 use Rattle.swc_ecma_codegen_ast.specs.declared.roles.Role.{Role}
-use Rattle.swc_ecma_codegen_ast.specs.declared.roles.Role.TheVariants.{Expression, Statement, MemberExpression, ChainMember, AssignmentTarget, Pattern, PlainParameter, PropertyName, PropertyDefinition, ObjectLiteral, Function, FunctionHead, MethodHead, Block, Declaration, VariableDeclaration, Callee as IsCallee, ChainCall, Template, TaggedTemplate, ClassHead, ClassTail, Member, MethodDecorators, MethodTail, PrivateTail}
+use Rattle.swc_ecma_codegen_ast.specs.declared.roles.Role.TheVariants.{Expression, Statement, MemberExpression, ChainMember, AssignmentTarget, Pattern, PlainParameter, PropertyName, PropertyDefinition, ObjectLiteral, Function, FunctionHead, MethodHead, Block, Declaration, VariableDeclaration, Callee as IsCallee, ChainCall, Template, TaggedTemplate, ClassHead, ClassTail, Member, MethodDecorators, MethodTail, PrivateTail, Item, ModuleDeclaration, ExportedHead, ExportedTail}
 use Rattle.swc_ecma_codegen_ast.specs.NamePhrases as names
 use Rattle.swc_ecma_codegen_ast.specs.ExprPhrases as lists
 use Rattle.swc_ecma_codegen_ast.specs.LitPhrases as lit_lists
@@ -212,6 +212,10 @@ leads Member = false
 leads MethodDecorators = false
 leads MethodTail = false
 leads PrivateTail = false
+leads Item = false
+leads ModuleDeclaration = false
+leads ExportedHead = false
+leads ExportedTail = false
 leads role = true
 
 -- `function` is a word, and so is `let`; a block and an object begin with a brace, and a template with a back quote
@@ -472,6 +476,10 @@ stmt_part_begins reads starts law (stmt_parts.Function n) MethodHead h = absurd 
 stmt_part_begins reads starts law (stmt_parts.Function n) MethodDecorators h = absurd (true≢false (sym h))
 stmt_part_begins reads starts law (stmt_parts.Function n) MethodTail h = absurd (true≢false (sym h))
 stmt_part_begins reads starts law (stmt_parts.Function n) PrivateTail h = absurd (true≢false (sym h))
+stmt_part_begins reads starts law (stmt_parts.Decl n) ExportedHead h = absurd (true≢false (sym h))
+stmt_part_begins reads starts law (stmt_parts.Decl n) ExportedTail h = absurd (true≢false (sym h))
+stmt_part_begins reads starts law (stmt_parts.ModuleItem n) Item h = absurd (true≢false (sym h))
+stmt_part_begins reads starts law (stmt_parts.ModuleDecl n) ModuleDeclaration h = absurd (true≢false (sym h))
 stmt_part_begins reads starts law (stmt_parts.Class n) ClassHead h = absurd (true≢false (sym h))
 stmt_part_begins reads starts law (stmt_parts.Class n) ClassTail h = absurd (true≢false (sym h))
 stmt_part_begins reads starts law (stmt_parts.ClassMember n) Member h = absurd (true≢false (sym h))

@@ -46,6 +46,7 @@ use Rattle.swc_ecma_codegen.specs.Parts.{expr_part, stmt_part}
 use Rattle.swc_ecma_codegen.specs.Stmts.{stmt}
 use Rattle.swc_ecma_codegen.specs.Tree.{node_items, any_items}
 use Rattle.swc_ecma_codegen.proofs.DeclKnots.{decl_mapped, var_decl_mapped}
+use Rattle.swc_ecma_codegen.proofs.ModuleKnots.{module_item_mapped, module_decl_mapped}
 use Rattle.swc_ecma_codegen.proofs.ClassKnots.{class_mapped, class_member_mapped}
 use Rattle.swc_ecma_codegen.proofs.StmtKnots.{stmt_mapped}
 use Rattle.swc_ecma_codegen.proofs.FunctionKnots.{function_mapped, block_mapped, arrow_expr_mapped}
@@ -150,7 +151,8 @@ stmt_part_mapped g asks items (stmt_parts.ClassMember n) place rest = class_memb
 stmt_part_mapped g asks items (stmt_parts.BlockStmt n) place rest = block_mapped g asks items n place rest
 stmt_part_mapped g asks items (stmt_parts.Decl n) place rest = decl_mapped g asks items n place rest
 stmt_part_mapped g asks items (stmt_parts.VarDecl n) place rest = var_decl_mapped g asks items n place rest
-stmt_part_mapped g asks items n place rest = refl
+stmt_part_mapped g asks items (stmt_parts.ModuleItem n) place rest = module_item_mapped g asks items n place rest
+stmt_part_mapped g asks items (stmt_parts.ModuleDecl n) place rest = module_decl_mapped g asks items n place rest
 
 node_mapped : {X Y : Type 0} (g : X → Y) (asks : Y → Answers) (items : Y → Place → Part) (n : AnyNode-F X) (place : Place) (rest : Plan) → node_items asks items (map-AnyNode X Y g n) place rest ≡ node_items (λ x. asks (g x)) (λ x. items (g x)) n place rest
 unfolding node_items

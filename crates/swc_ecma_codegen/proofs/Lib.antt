@@ -5,6 +5,7 @@ pub mod BranchLaws
 pub mod PatKnots
 pub mod FunctionKnots
 pub mod ClassKnots
+pub mod ModuleKnots
 pub mod DeclKnots
 pub mod StmtKnots
 pub mod PropKnots
@@ -28,6 +29,7 @@ pub mod PropParts
 pub mod TargetParts
 pub mod PartLaws
 pub mod ClassParts
+pub mod ModuleParts
 pub mod DeclParts
 pub mod LoopParts
 pub mod StmtParts

@@ -5,7 +5,7 @@ use Rattle.swc_ecma_codegen_tree.specs.declared.parts.ExprPart.TheVariants as ex
 use Rattle.swc_ecma_codegen_tree.specs.declared.parts.StmtPart.{StmtPart}
 use Rattle.swc_ecma_codegen_tree.specs.declared.parts.StmtPart.TheVariants as stmt_parts
 use Rattle.swc_ecma_codegen_ast.specs.declared.roles.Role.{Role}
-use Rattle.swc_ecma_codegen_ast.specs.declared.roles.Role.TheVariants.{AssignmentTarget, Pattern, PlainParameter, PropertyName, PropertyDefinition, ObjectLiteral, Function, FunctionHead, MethodHead, Block, Declaration, VariableDeclaration, ChainCall, Template, TaggedTemplate, ClassHead, ClassTail, Member, MethodDecorators, MethodTail, PrivateTail}
+use Rattle.swc_ecma_codegen_ast.specs.declared.roles.Role.TheVariants.{AssignmentTarget, Pattern, PlainParameter, PropertyName, PropertyDefinition, ObjectLiteral, Function, FunctionHead, MethodHead, Block, Declaration, VariableDeclaration, ChainCall, Template, TaggedTemplate, ClassHead, ClassTail, Member, MethodDecorators, MethodTail, PrivateTail, Item, ModuleDeclaration, ExportedHead, ExportedTail}
 use Rattle.swc_ecma_codegen_ast.specs.PartPhrases as lists
 use Rattle.swc_ecma_codegen_base.proofs.Phrased.{Prints, prints_never}
 use Rattle.swc_ecma_codegen.specs.declared.nodes.Place.{Place}
@@ -14,10 +14,11 @@ use Rattle.swc_ecma_codegen.specs.Places.{placed}
 use Rattle.swc_ecma_codegen.specs.Classes.{class}
 use Rattle.swc_ecma_codegen.specs.Functions.{function}
 use Rattle.swc_ecma_codegen.proofs.BlockParts.{block_stmt_prints}
-use Rattle.swc_ecma_codegen.proofs.DeclParts.{decl_prints, var_decl_prints}
+use Rattle.swc_ecma_codegen.proofs.DeclParts.{decl_prints, exported_head_prints, exported_tail_prints, var_decl_prints}
 use Rattle.swc_ecma_codegen.proofs.ClassParts.{class_head_prints, class_tail_prints, class_member_prints}
 use Rattle.swc_ecma_codegen.proofs.FunctionParts.{fn_trailing_prints, head_prints, before_method_prints, method_decorators_print, method_tail_prints, private_tail_prints}
 use Rattle.swc_ecma_codegen.proofs.Linked.{Linked}
+use Rattle.swc_ecma_codegen.proofs.ModuleParts.{module_item_prints, module_decl_prints}
 use Rattle.swc_ecma_codegen.proofs.PatParts.{pat_prints, plain_prints}
 use Rattle.swc_ecma_codegen.proofs.PropParts.{object_lit_prints, prop_name_prints, prop_prints}
 use Rattle.swc_ecma_codegen.proofs.CallParts.{chain_call_prints}
@@ -50,5 +51,9 @@ stmt_part_prints l (stmt_parts.Class n) place ClassTail = class_tail_prints l n.
 stmt_part_prints l (stmt_parts.ClassMember n) place Member = class_member_prints l n.value
 stmt_part_prints l (stmt_parts.BlockStmt n) place Block = block_stmt_prints l n place
 stmt_part_prints l (stmt_parts.Decl n) place Declaration = decl_prints l n.value place
+stmt_part_prints l (stmt_parts.Decl n) place ExportedHead = exported_head_prints l n.value
+stmt_part_prints l (stmt_parts.Decl n) place ExportedTail = exported_tail_prints l n.value
+stmt_part_prints l (stmt_parts.ModuleItem n) place Item = module_item_prints l n
+stmt_part_prints l (stmt_parts.ModuleDecl n) place ModuleDeclaration = module_decl_prints l n.value
 stmt_part_prints l (stmt_parts.VarDecl n) place VariableDeclaration = var_decl_prints l n
 stmt_part_prints l n place role = prints_never

@@ -10,6 +10,7 @@ pub mod Functions
 pub mod Templates
 pub mod ClassExprs
 pub mod Classes
+pub mod Modules
 pub mod Calls
 pub mod Exprs
 pub mod Names

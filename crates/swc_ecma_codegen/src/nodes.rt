@@ -53,6 +53,10 @@ pub enum Place {
     MethodTail,
     /// The same of a private method: `() {}` of `@a #b() {}`
     PrivateTail,
+    /// What of a declaration stands before `export`: `@a` of `@a export class B {}`
+    ExportedHead,
+    /// And what stands after it: `class B {}`
+    ExportedTail,
 }
 
 /// What a node tells those above it.
