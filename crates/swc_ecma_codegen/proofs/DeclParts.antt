@@ -17,7 +17,7 @@ use Rattle.swc_ecma_codegen_ast.specs.NamePhrases.{ident as ident_list}
 use Rattle.swc_ecma_codegen_ast.specs.ModulePhrases as module_lists
 use Rattle.swc_ecma_codegen_ast.specs.FunctionPhrases.{word_if}
 use Rattle.swc_ecma_codegen_ast.specs.DeclPhrases as lists
-use Rattle.swc_ecma_codegen_base.specs.Run.{Env}
+use Rattle.swc_ecma_codegen_base.specs.Run.{Env, Part}
 use Rattle.swc_ecma_codegen_base.proofs.ListLaws.{prints_list}
 use Rattle.swc_ecma_codegen_base.proofs.Phrased.{Prints, then, after, before, prints_nothing, prints_never, prints_keyword, prints_semi}
 use Rattle.swc_ecma_codegen_base.proofs.Printed.{Writes, writes_nothing, writes_space, writes_commit, writes_position, writes_leading}
@@ -88,19 +88,19 @@ unfolding words.decl_end
 writes_decl_end env Statement span = writes_nothing env
 writes_decl_end env place span = writes_position env span.hi
 
-by_prints : (env : Env) (place : Place) {head tail whole : Part} {f : phrases.Phrase} → Prints env whole f → Prints env (words.by_export (declared place) head tail whole) f
+by_prints : (env : Env) (place : Place) (head tail : Part) {whole : Part} {f : phrases.Phrase} → Prints env whole f → Prints env (words.by_export (declared place) head tail whole) f
 unfolding words.by_export
-by_prints env ExportedHead h = h
-by_prints env ExportedTail h = h
-by_prints env place h = h
+by_prints env ExportedHead head tail h = h
+by_prints env ExportedTail head tail h = h
+by_prints env place head tail h = h
 
 -- one that isn't exported
 pub decl_prints : {X : Type 0} (l : Linked X) (n : Decl X) (place : Place) → Prints l.env (words.decl l.asks l.items n (declared place)) (lists.decl l.reads n)
 unfolding words.decl words.without_head lists.decl
-decl_prints l (decls.Class n) place = by_prints l.env place (class_decl_prints l n)
-decl_prints l (decls.Fn n) place = by_prints l.env place (fn_decl_prints l n)
-decl_prints l (decls.Var n) place = by_prints l.env place (then (var_decl_at l n) (before (prints_semi l.env) (writes_decl_end l.env (declared place) (l.asks n.node.value).place)))
-decl_prints l (decls.Using n) place = by_prints l.env place (then (using_decl_prints l n) (prints_semi l.env))
+decl_prints l (decls.Class n) place = by_prints l.env place _ _ (class_decl_prints l n)
+decl_prints l (decls.Fn n) place = by_prints l.env place _ _ (fn_decl_prints l n)
+decl_prints l (decls.Var n) place = by_prints l.env place _ _ (then (var_decl_at l n) (before (prints_semi l.env) (writes_decl_end l.env (declared place) (l.asks n.node.value).place)))
+decl_prints l (decls.Using n) place = by_prints l.env place _ _ (then (using_decl_prints l n) (prints_semi l.env))
 decl_prints l n place = prints_never
 
 -- ---- one that is exported

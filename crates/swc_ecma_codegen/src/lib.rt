@@ -19,6 +19,7 @@ mod lists;
 mod lits;
 mod loops;
 mod marks;
+mod modules;
 mod node;
 pub mod nodes;
 pub mod operands;

@@ -46,8 +46,9 @@ impl<N: Held> EmitAt for StmtPart<N> {
             StmtPart::ClassMember(node) => (**node).emit_at(e, place),
             StmtPart::BlockStmt(node) => node.emit_at(e, place),
             StmtPart::Decl(node) => (**node).emit_at(e, place),
+            StmtPart::ModuleItem(node) => node.emit_at(e, place),
+            StmtPart::ModuleDecl(node) => (**node).emit_at(e, place),
             StmtPart::VarDecl(node) => node.emit_at(e, place),
-            _ => e.unsupported(),
         }
     }
 }

@@ -25,16 +25,16 @@ use Rattle.swc_ecma_codegen_grammar.proofs.Lists.{in_order_possible, listed_poss
 
 -- ---- what TypeScript adds
 
-typed : (b : Bool) (p : Phrase) (c : Bool) → is_possible p ≡ c → is_possible (cond b Never p) ≡ (not b && c)
+pub typed : (b : Bool) (p : Phrase) (c : Bool) → is_possible p ≡ c → is_possible (cond b Never p) ≡ (not b && c)
 unfolding is_possible
 typed true p c e = refl
 typed false p c e = e
 
-not_some : {A : Type 0} (o : Option A) → not (is_some o) ≡ is_none o
+pub not_some : {A : Type 0} (o : Option A) → not (is_some o) ≡ is_none o
 not_some None = refl
 not_some (Some x) = refl
 
-not_either : (a b c : Bool) → (not (a || b) && c) ≡ (not a && (not b && c))
+pub not_either : (a b c : Bool) → (not (a || b) && c) ≡ (not a && (not b && c))
 not_either true b c = refl
 not_either false b c = refl
 

@@ -11,6 +11,7 @@ pub mod StmtsPossible
 pub mod LastSuffix
 pub mod Lists
 pub mod MantissaLaws
+pub mod ModulesPossible
 pub mod NormalDecimals
 pub mod PatsPossible
 pub mod Possible

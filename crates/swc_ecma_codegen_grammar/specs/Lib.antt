@@ -1,5 +1,6 @@
 pub mod BigDigits
 pub mod Mantissas
+pub mod ModuleForms
 pub mod NameStates
 pub mod Possible
 pub mod RegexStates

@@ -11,6 +11,7 @@ pub mod forms;
 mod functions;
 mod knot;
 mod lits;
+mod modules;
 mod names;
 mod numbers;
 mod numerals;

@@ -6,6 +6,7 @@ ghost use Rattle.swc_ecma_codegen_ast.specs.PartPhrases.{expr_part, stmt_part};
 
 use crate::classes::{are_method_decorators, is_class_head, is_method_tail, is_private_tail};
 use crate::forms::{Fits, WellFormed};
+use crate::modules::{is_exported_head, is_exported_tail};
 use crate::pats::is_plain_parameter;
 use crate::templates::is_template;
 use swc_ecma_codegen_ast::roles::Role;
@@ -47,6 +48,10 @@ pub(crate) fn stmt_part_fits<N: Fits>(part: &StmtPart<N>, role: Role) -> bool
         (StmtPart::ClassMember(node), Role::Member) => node.is_well_formed(),
         (StmtPart::BlockStmt(node), Role::Block) => node.is_well_formed(),
         (StmtPart::Decl(node), Role::Declaration) => (**node).is_well_formed(),
+        (StmtPart::Decl(node), Role::ExportedHead) => is_exported_head(node),
+        (StmtPart::Decl(node), Role::ExportedTail) => is_exported_tail(node),
+        (StmtPart::ModuleItem(node), Role::Item) => node.is_well_formed(),
+        (StmtPart::ModuleDecl(node), Role::ModuleDeclaration) => (**node).is_well_formed(),
         (StmtPart::VarDecl(node), Role::VariableDeclaration) => node.is_well_formed(),
         _ => false,
     }
