@@ -96,7 +96,7 @@ by_prints env place head tail h = h
 
 -- one that isn't exported
 pub decl_prints : {X : Type 0} (l : Linked X) (n : Decl X) (place : Place) → Prints l.env (words.decl l.asks l.items n (declared place)) (lists.decl l.reads n)
-unfolding words.decl words.without_head lists.decl
+unfolding words.decl words.without_head words.variables words.resources lists.decl
 decl_prints l (decls.Class n) place = by_prints l.env place _ _ (class_decl_prints l n)
 decl_prints l (decls.Fn n) place = by_prints l.env place _ _ (fn_decl_prints l n)
 decl_prints l (decls.Var n) place = by_prints l.env place _ _ (then (var_decl_at l n) (before (prints_semi l.env) (writes_decl_end l.env (declared place) (l.asks n.node.value).place)))
@@ -119,7 +119,7 @@ exported_class_prints l n = refused_or n.declare
     (after (writes_space l.env) (then (ident_prints l n.ident) (l.law n.class.node.value Plain ClassTail))))))
 
 pub exported_tail_prints : {X : Type 0} (l : Linked X) (n : Decl X) → Prints l.env (words.decl l.asks l.items n ExportedTail) (module_lists.exported_tail l.reads n)
-unfolding words.decl words.without_head words.by_export words.decl_end lists.decl module_lists.exported_tail
+unfolding words.decl words.without_head words.by_export words.variables words.resources words.decl_end lists.decl module_lists.exported_tail
 exported_tail_prints l (decls.Class n) = exported_class_prints l n
 exported_tail_prints l (decls.Fn n) = fn_decl_prints l n
 exported_tail_prints l (decls.Var n) = then (var_decl_at l n) (before (prints_semi l.env) (writes_position l.env (l.asks n.node.value).place.hi))

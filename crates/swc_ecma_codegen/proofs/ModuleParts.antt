@@ -96,7 +96,7 @@ import_braces_print : {X : Type 0} (l : Linked X) (parent : Span) (ns : List Imp
 import_braces_print l parent ns = then (prints_punct l.env (codes "{") marks.left_brace) (import_list_prints l parent (punct (codes "}")) (mark (codes "}")) (prints_punct l.env (codes "}") marks.right_brace) ns)
 
 bindings_print : {X : Type 0} (l : Linked X) (parent : Span) (ns : List ImportSpecifier) → Prints l.env (words.import_bindings parent ns) (lists.import_bindings ns)
-unfolding words.import_bindings lists.import_bindings
+unfolding words.import_bindings words.imported_star words.import_braces lists.import_bindings
 bindings_print l parent (imported.Namespace n ∷ []) = star_prints l.env (before (ident_prints l n.local) (writes_space l.env))
 bindings_print l parent ns = before (import_braces_print l parent ns) (writes_formatting_space l.env)
 
@@ -106,7 +106,7 @@ after_default_prints l parent [] = after (writes_space l.env) prints_nothing
 after_default_prints l parent (n ∷ ns) = then (prints_punct l.env (codes ",") marks.comma) (after (writes_formatting_space l.env) (bindings_print l parent (n ∷ ns)))
 
 import_clause_prints : {X : Type 0} (l : Linked X) (parent : Span) (ns : List ImportSpecifier) → Prints l.env (words.import_clause parent ns) (lists.import_clause ns)
-unfolding words.import_clause lists.import_clause
+unfolding words.import_clause words.default_clause lists.import_clause
 import_clause_prints l parent [] = prints_nothing
 import_clause_prints l parent (imported.Default n ∷ ns) = then (ident_prints l n.local) (then (after_default_prints l parent ns) (from_prints l.env))
 import_clause_prints l parent ns = then (bindings_print l parent ns) (from_prints l.env)
@@ -162,7 +162,7 @@ unfolding words.export_namespace lists.export_namespace
 namespace_prints l n = after (writes_leading l.env n.span.lo) (after (writes_position l.env n.span.lo) (star_prints l.env (before (name_prints l n.name) (writes_position l.env n.span.hi))))
 
 export_clause_prints : {X : Type 0} (l : Linked X) (parent : Span) (ns : List ExportSpecifier) → Prints l.env (words.export_clause parent ns) (lists.export_clause ns)
-unfolding words.export_clause lists.export_clause
+unfolding words.export_clause words.namespace_clause words.more_exports lists.export_clause
 export_clause_prints l parent (exported.Namespace n ∷ []) = namespace_prints l n
 export_clause_prints l parent (exported.Namespace n ∷ m ∷ ns) =
     then (namespace_prints l n) (then (prints_punct l.env (codes ",") marks.comma) (after (writes_formatting_space l.env) (export_braces_print l parent (m ∷ ns))))

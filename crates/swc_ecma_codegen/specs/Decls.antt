@@ -10,6 +10,7 @@ use Rattle.swc_ecma_codegen_tree.specs.declared.decls.VarDecl.{VarDecl}
 use Rattle.swc_ecma_codegen_tree.specs.declared.decls.VarDeclKind.{VarDeclKind}
 use Rattle.swc_ecma_codegen_tree.specs.declared.decls.VarDeclKind.TheVariants.{Var, Let, Const}
 use Rattle.swc_ecma_codegen_tree.specs.declared.decls.VarDeclarator.{VarDeclarator}
+use Rattle.swc_ecma_codegen_tree.specs.declared.stmt_links.VarDeclBox.{VarDeclBox}
 use Rattle.swc_ecma_codegen_base.specs.Run.{Part}
 use Rattle.swc_ecma_codegen_base.specs.Lists.{list}
 use Rattle.swc_ecma_codegen_base.specs.Words.{keyword, semi, space, commit_pending_semi, start_of, end_of, leading_comments}
@@ -110,10 +111,18 @@ exported_class asks items n rest = if n.declare then unsupported rest else expor
 unfoldable pub without_head : Place → Part → Part
 without_head place part rest = by_export place (λ after. after) part part rest
 
+-- `let a = b;`
+unfoldable pub variables : {X : Type 0} → (X → Answers) → (X → Place → Part) → VarDeclBox X → Place → Part
+variables asks items n place rest = items n.node.value Plain (semi (decl_end place (asks n.node.value).place rest))
+
+-- `using a = b;`
+unfoldable pub resources : {X : Type 0} → (X → Place → Part) → UsingDecl X → Part
+resources items n rest = using_decl items n (semi rest)
+
 -- a declaration by its variant
 unfoldable pub decl : {X : Type 0} → (X → Answers) → (X → Place → Part) → Decl X → Place → Part
 decl asks items (decls.Class n) place rest = by_export place (items n.class.node.value ClassHead) (exported_class asks items n) (class_decl asks items n) rest
 decl asks items (decls.Fn n) place rest = without_head place (fn_decl asks items n) rest
-decl asks items (decls.Var n) place rest = without_head place (λ after. items n.node.value Plain (semi (decl_end place (asks n.node.value).place after))) rest
-decl asks items (decls.Using n) place rest = without_head place (λ after. using_decl items n (semi after)) rest
+decl asks items (decls.Var n) place rest = without_head place (variables asks items n place) rest
+decl asks items (decls.Using n) place rest = without_head place (resources items n) rest
 decl asks items n place rest = without_head place unsupported rest

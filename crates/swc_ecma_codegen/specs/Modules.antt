@@ -16,11 +16,13 @@ use Rattle.swc_ecma_codegen_tree.specs.declared.modules.ExportNamespaceSpecifier
 use Rattle.swc_ecma_codegen_tree.specs.declared.modules.ExportSpecifier.{ExportSpecifier}
 use Rattle.swc_ecma_codegen_tree.specs.declared.modules.ExportSpecifier.TheVariants as exported
 use Rattle.swc_ecma_codegen_tree.specs.declared.modules.ImportDecl.{ImportDecl}
+use Rattle.swc_ecma_codegen_tree.specs.declared.modules.ImportDefaultSpecifier.{ImportDefaultSpecifier}
 use Rattle.swc_ecma_codegen_tree.specs.declared.modules.ImportNamedSpecifier.{ImportNamedSpecifier}
 use Rattle.swc_ecma_codegen_tree.specs.declared.modules.ImportPhase.{ImportPhase}
 use Rattle.swc_ecma_codegen_tree.specs.declared.modules.ImportPhase.TheVariants.{Evaluation, Source, Defer}
 use Rattle.swc_ecma_codegen_tree.specs.declared.modules.ImportSpecifier.{ImportSpecifier}
 use Rattle.swc_ecma_codegen_tree.specs.declared.modules.ImportSpecifier.TheVariants as imported
+use Rattle.swc_ecma_codegen_tree.specs.declared.modules.ImportStarAsSpecifier.{ImportStarAsSpecifier}
 use Rattle.swc_ecma_codegen_tree.specs.declared.modules.ModuleExportName.{ModuleExportName}
 use Rattle.swc_ecma_codegen_tree.specs.declared.modules.ModuleExportName.TheVariants as export_names
 use Rattle.swc_ecma_codegen_tree.specs.declared.modules.NamedExport.{NamedExport}
@@ -85,10 +87,17 @@ import_specifier n rest = bad_shape rest
 abbrev pub import_list : Span → List ImportSpecifier → Part
 import_list parent ns = list named_format parent (map (child_of import_specifier_span (λ n place. import_specifier n)) ns)
 
--- `{ a, b as c } ` or `* as a `
+-- `* as a `
+unfoldable pub imported_star : ImportStarAsSpecifier → Part
+imported_star n rest = star_as (ident n.local (space rest))
+
+-- `{ a, b as c } `
+unfoldable pub import_braces : Span → List ImportSpecifier → Part
+import_braces parent ns rest = punct (codes "{") (import_list parent ns (punct (codes "}") (formatting_space rest)))
+
 unfoldable pub import_bindings : Span → List ImportSpecifier → Part
-import_bindings parent (imported.Namespace n ∷ []) rest = star_as (ident n.local (space rest))
-import_bindings parent ns rest = punct (codes "{") (import_list parent ns (punct (codes "}") (formatting_space rest)))
+import_bindings parent (imported.Namespace n ∷ []) rest = imported_star n rest
+import_bindings parent ns rest = import_braces parent ns rest
 
 -- what stands after the default one: `, { b } `
 unfoldable pub after_default : Span → List ImportSpecifier → Part
@@ -96,9 +105,12 @@ after_default parent [] rest = space rest
 after_default parent (n ∷ ns) rest = punct (codes ",") (formatting_space (import_bindings parent (n ∷ ns) rest))
 
 -- `a, { b } from `
+unfoldable pub default_clause : Span → ImportDefaultSpecifier → List ImportSpecifier → Part
+default_clause parent n ns rest = ident n.local (after_default parent ns (from_word rest))
+
 unfoldable pub import_clause : Span → List ImportSpecifier → Part
 import_clause parent [] rest = rest
-import_clause parent (imported.Default n ∷ ns) rest = ident n.local (after_default parent ns (from_word rest))
+import_clause parent (imported.Default n ∷ ns) rest = default_clause parent n ns rest
 import_clause parent ns rest = import_bindings parent ns (from_word rest)
 
 -- a blank before the default one is needed: `import a`, minified `import{a}`
@@ -156,9 +168,16 @@ export_braces parent ns rest = punct (codes "{") (export_list parent ns (punct (
 unfoldable pub export_namespace : ExportNamespaceSpecifier → Part
 export_namespace n rest = leading_comments n.span.lo (start_of n.span (star_as (module_export_name n.name (end_of n.span rest))))
 
+-- what stands after it: `, { b }`
+unfoldable pub more_exports : Span → List ExportSpecifier → Part
+more_exports parent [] rest = rest
+more_exports parent (n ∷ ns) rest = punct (codes ",") (formatting_space (export_braces parent (n ∷ ns) rest))
+
+unfoldable pub namespace_clause : Span → ExportNamespaceSpecifier → List ExportSpecifier → Part
+namespace_clause parent n ns rest = export_namespace n (more_exports parent ns rest)
+
 unfoldable pub export_clause : Span → List ExportSpecifier → Part
-export_clause parent (exported.Namespace n ∷ []) rest = export_namespace n rest
-export_clause parent (exported.Namespace n ∷ m ∷ ns) rest = export_namespace n (punct (codes ",") (formatting_space (export_braces parent (m ∷ ns) rest)))
+export_clause parent (exported.Namespace n ∷ ns) rest = namespace_clause parent n ns rest
 export_clause parent ns rest = export_braces parent ns rest
 
 -- it ends with a name: `export * as a from 'b'`, minified `export*as a from"b"`

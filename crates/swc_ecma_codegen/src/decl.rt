@@ -2,9 +2,8 @@
 
 ghost use Rattle.std.specs.Prelude.{◌≡◌, OnOk};
 ghost use Rattle.swc_ecma_codegen_base.specs.Run.{Emits};
-ghost use Rattle.swc_ecma_codegen.specs.Decls.{declarators_format, fn_decl, var_declarator, declarators, var_kind, is_unmarked, first_is_unmarked, var_decl, await_word, using_decl, decl_end, by_export, without_head, exported_class, decl};
-ghost use Rattle.swc_ecma_codegen_base.specs.Words.{semi};
-ghost use Rattle.swc_ecma_codegen.specs.declared.nodes.Place.TheVariants.{Plain, ClassHead};
+ghost use Rattle.swc_ecma_codegen.specs.Decls.{declarators_format, fn_decl, var_declarator, declarators, var_kind, is_unmarked, first_is_unmarked, var_decl, await_word, using_decl, decl_end, by_export, without_head, exported_class, variables, resources, decl};
+ghost use Rattle.swc_ecma_codegen.specs.declared.nodes.Place.TheVariants.{ClassHead};
 ghost use Rattle.swc_ecma_codegen.specs.Classes.{class_decl};
 ghost use Rattle.swc_ecma_codegen.specs.Lists.{unsupported};
 ghost use Rattle.swc_ecma_codegen.specs.View.{state_of};
@@ -239,9 +238,9 @@ impl<W: WriteJs, S: SourceMapper, C: Comments> Emitter<'_, W, S, C> {
     }
 
     /// Writes variables, before `export` nothing.
-    #[tactic(auto, unfolding(crate::specs::Decls::without_head, crate::specs::Decls::by_export))]
+    #[tactic(auto, unfolding(crate::specs::Decls::without_head, crate::specs::Decls::by_export, crate::specs::Decls::variables))]
     fn var_by_place<N: Held>(&mut self, node: &VarDeclBox<N>, place: Place) -> Answer
-        ensures items { Emits (without_head place (λ after. N.items node.now.node.value Plain (semi (decl_end place (N.answers node.now.node.value).place after)))) (state_of S.lines W.sheet self.old) (state_of S.lines W.sheet self.new) result }
+        ensures items { Emits (without_head place (variables N.answers N.items node.now place)) (state_of S.lines W.sheet self.old) (state_of S.lines W.sheet self.new) result }
         ensures level { OnOk result ((W.sheet self.new.wr).indentation ≡ (W.sheet self.old.wr).indentation) }
     {
         match place {
@@ -255,9 +254,9 @@ impl<W: WriteJs, S: SourceMapper, C: Comments> Emitter<'_, W, S, C> {
     }
 
     /// Writes resources, before `export` nothing.
-    #[tactic(auto, unfolding(crate::specs::Decls::without_head, crate::specs::Decls::by_export))]
+    #[tactic(auto, unfolding(crate::specs::Decls::without_head, crate::specs::Decls::by_export, crate::specs::Decls::resources))]
     fn using_by_place<N: Held>(&mut self, node: &UsingDecl<N>, place: Place) -> Answer
-        ensures items { Emits (without_head place (λ after. using_decl N.items node.now (semi after))) (state_of S.lines W.sheet self.old) (state_of S.lines W.sheet self.new) result }
+        ensures items { Emits (without_head place (resources N.items node.now)) (state_of S.lines W.sheet self.old) (state_of S.lines W.sheet self.new) result }
         ensures level { OnOk result ((W.sheet self.new.wr).indentation ≡ (W.sheet self.old.wr).indentation) }
     {
         match place {

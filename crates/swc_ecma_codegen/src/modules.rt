@@ -3,7 +3,7 @@
 ghost use Rattle.std.specs.Prelude.{◌≡◌, OnOk};
 ghost use Rattle.swc_ecma_codegen_base.specs.Run.{Emits};
 ghost use Rattle.swc_ecma_codegen_spans.specs.Spans.{import_specifier_span, export_specifier_span};
-ghost use Rattle.swc_ecma_codegen.specs.Modules.{named_format, module_export_name, from_word, as_word, star_as, imported_as, import_named, import_specifier, import_list, import_bindings, after_default, import_clause, begins_default, import_phase, import_tail, import_decl, exported_as, export_named_specifier, export_specifier, export_list, export_braces, export_namespace, export_clause, ends_with_name, from_clause, export_tail, export_named, all_tail, export_all, export_decl, default_decl, export_default, export_default_decl, export_default_expr, module_decl_by, module_decl, module_item_by, module_item};
+ghost use Rattle.swc_ecma_codegen.specs.Modules.{named_format, module_export_name, from_word, as_word, star_as, imported_as, import_named, import_specifier, import_list, imported_star, import_braces, import_bindings, after_default, default_clause, import_clause, begins_default, import_phase, import_tail, import_decl, exported_as, export_named_specifier, export_specifier, export_list, export_braces, export_namespace, more_exports, namespace_clause, export_clause, ends_with_name, from_clause, export_tail, export_named, all_tail, export_all, export_decl, default_decl, export_default, export_default_decl, export_default_expr, module_decl_by, module_decl, module_item_by, module_item};
 ghost use Rattle.swc_ecma_codegen.specs.Lists.{in_order};
 ghost use Rattle.swc_ecma_codegen.specs.Programs.{held_item, whole_module};
 ghost use Rattle.swc_ecma_codegen.specs.View.{state_of};
@@ -20,9 +20,9 @@ use swc_ecma_codegen_spans::Spanned;
 use swc_ecma_codegen_text_writer::WriteJs;
 use swc_ecma_codegen_tree::{
     DefaultDecl, ExportAll, ExportDecl, ExportDefaultDecl, ExportDefaultExpr, ExportNamedSpecifier,
-    ExportNamespaceSpecifier, ExportSpecifier, ImportDecl, ImportNamedSpecifier, ImportPhase,
-    ImportSpecifier, Module, ModuleDecl, ModuleExportName, ModuleItem, ModuleItemBox, NamedExport,
-    Str,
+    ExportNamespaceSpecifier, ExportSpecifier, ImportDecl, ImportDefaultSpecifier,
+    ImportNamedSpecifier, ImportPhase, ImportSpecifier, ImportStarAsSpecifier, Module, ModuleDecl,
+    ModuleExportName, ModuleItem, ModuleItemBox, NamedExport, Str,
 };
 
 /// The format of the names of imports and exports.
@@ -446,24 +446,40 @@ impl<W: WriteJs, S: SourceMapper, C: Comments> Emitter<'_, W, S, C> {
         self.list(named_format(), parent, specifiers)
     }
 
-    /// Writes `{ a, b as c }` or `* as a`, and a blank.
+    /// Writes `* as a` and a blank.
+    #[tactic(auto, unfolding(crate::specs::Modules::imported_star))]
+    fn imported_star(&mut self, node: &ImportStarAsSpecifier) -> Answer
+        ensures items { Emits (imported_star node.now) (state_of S.lines W.sheet self.old) (state_of S.lines W.sheet self.new) result }
+        ensures level { OnOk result ((W.sheet self.new.wr).indentation ≡ (W.sheet self.old.wr).indentation) }
+    {
+        self.star_as()?;
+        node.local.emit_at(self, Place::Plain)?;
+        self.space()?;
+        Ok(())
+    }
+
+    /// Writes `{ a, b as c }` and a blank.
+    #[tactic(auto, unfolding(crate::specs::Modules::import_braces))]
+    fn import_braces(&mut self, parent: Span, specifiers: &[ImportSpecifier]) -> Answer
+        ensures items { Emits (import_braces parent specifiers.now) (state_of S.lines W.sheet self.old) (state_of S.lines W.sheet self.new) result }
+        ensures level { OnOk result ((W.sheet self.new.wr).indentation ≡ (W.sheet self.old.wr).indentation) }
+    {
+        self.punct(Punctuator::LeftBrace)?;
+        self.import_list(parent, specifiers)?;
+        self.punct(Punctuator::RightBrace)?;
+        self.formatting_space()?;
+        Ok(())
+    }
+
+    /// Writes either of them.
     #[tactic(auto, unfolding(crate::specs::Modules::import_bindings))]
     fn import_bindings(&mut self, parent: Span, specifiers: &[ImportSpecifier]) -> Answer
         ensures items { Emits (import_bindings parent specifiers.now) (state_of S.lines W.sheet self.old) (state_of S.lines W.sheet self.new) result }
         ensures level { OnOk result ((W.sheet self.new.wr).indentation ≡ (W.sheet self.old.wr).indentation) }
     {
         match specifiers {
-            [ImportSpecifier::Namespace(node)] => {
-                self.star_as()?;
-                node.local.emit_at(self, Place::Plain)?;
-                self.space()
-            }
-            _ => {
-                self.punct(Punctuator::LeftBrace)?;
-                self.import_list(parent, specifiers)?;
-                self.punct(Punctuator::RightBrace)?;
-                self.formatting_space()
-            }
+            [ImportSpecifier::Namespace(node)] => self.imported_star(node),
+            _ => self.import_braces(parent, specifiers),
         }
     }
 
@@ -482,6 +498,23 @@ impl<W: WriteJs, S: SourceMapper, C: Comments> Emitter<'_, W, S, C> {
     }
 
     /// Writes `a, { b } from` and a blank.
+    #[tactic(auto, unfolding(crate::specs::Modules::default_clause))]
+    fn default_clause(
+        &mut self,
+        parent: Span,
+        node: &ImportDefaultSpecifier,
+        others: &[ImportSpecifier],
+    ) -> Answer
+        ensures items { Emits (default_clause parent node.now others.now) (state_of S.lines W.sheet self.old) (state_of S.lines W.sheet self.new) result }
+        ensures level { OnOk result ((W.sheet self.new.wr).indentation ≡ (W.sheet self.old.wr).indentation) }
+    {
+        node.local.emit_at(self, Place::Plain)?;
+        self.after_default(parent, others)?;
+        self.from_word()?;
+        Ok(())
+    }
+
+    /// Writes what is imported, then `from` and a blank.
     #[tactic(auto, unfolding(crate::specs::Modules::import_clause))]
     fn import_clause(&mut self, parent: Span, specifiers: &[ImportSpecifier]) -> Answer
         ensures items { Emits (import_clause parent specifiers.now) (state_of S.lines W.sheet self.old) (state_of S.lines W.sheet self.new) result }
@@ -490,9 +523,7 @@ impl<W: WriteJs, S: SourceMapper, C: Comments> Emitter<'_, W, S, C> {
         match specifiers {
             [] => Ok(()),
             [ImportSpecifier::Default(node), others @ ..] => {
-                node.local.emit_at(self, Place::Plain)?;
-                self.after_default(parent, others)?;
-                self.from_word()
+                self.default_clause(parent, node, others)
             }
             _ => {
                 self.import_bindings(parent, specifiers)?;
@@ -568,6 +599,35 @@ impl<W: WriteJs, S: SourceMapper, C: Comments> Emitter<'_, W, S, C> {
         Ok(())
     }
 
+    /// Writes what stands after `* as a`.
+    #[tactic(auto, unfolding(crate::specs::Modules::more_exports))]
+    fn more_exports(&mut self, parent: Span, specifiers: &[ExportSpecifier]) -> Answer
+        ensures items { Emits (more_exports parent specifiers.now) (state_of S.lines W.sheet self.old) (state_of S.lines W.sheet self.new) result }
+        ensures level { OnOk result ((W.sheet self.new.wr).indentation ≡ (W.sheet self.old.wr).indentation) }
+    {
+        if specifiers.is_empty() {
+            return Ok(());
+        }
+        self.punct(Punctuator::Comma)?;
+        self.formatting_space()?;
+        self.export_braces(parent, specifiers)
+    }
+
+    /// Writes `* as a, { b }`.
+    #[tactic(auto, unfolding(crate::specs::Modules::namespace_clause))]
+    fn namespace_clause(
+        &mut self,
+        parent: Span,
+        node: &ExportNamespaceSpecifier,
+        others: &[ExportSpecifier],
+    ) -> Answer
+        ensures items { Emits (namespace_clause parent node.now others.now) (state_of S.lines W.sheet self.old) (state_of S.lines W.sheet self.new) result }
+        ensures level { OnOk result ((W.sheet self.new.wr).indentation ≡ (W.sheet self.old.wr).indentation) }
+    {
+        node.emit_at(self, Place::Plain)?;
+        self.more_exports(parent, others)
+    }
+
     /// Writes `{ a }` or `* as a`, or both.
     #[tactic(auto, unfolding(crate::specs::Modules::export_clause))]
     fn export_clause(&mut self, parent: Span, specifiers: &[ExportSpecifier]) -> Answer
@@ -575,12 +635,8 @@ impl<W: WriteJs, S: SourceMapper, C: Comments> Emitter<'_, W, S, C> {
         ensures level { OnOk result ((W.sheet self.new.wr).indentation ≡ (W.sheet self.old.wr).indentation) }
     {
         match specifiers {
-            [ExportSpecifier::Namespace(node)] => node.emit_at(self, Place::Plain),
             [ExportSpecifier::Namespace(node), others @ ..] => {
-                node.emit_at(self, Place::Plain)?;
-                self.punct(Punctuator::Comma)?;
-                self.formatting_space()?;
-                self.export_braces(parent, others)
+                self.namespace_clause(parent, node, others)
             }
             _ => self.export_braces(parent, specifiers),
         }
