@@ -96,9 +96,12 @@ import_braces_print : {X : Type 0} (l : Linked X) (parent : Span) (ns : List Imp
 import_braces_print l parent ns = then (prints_punct l.env (codes "{") marks.left_brace) (import_list_prints l parent (punct (codes "}")) (mark (codes "}")) (prints_punct l.env (codes "}") marks.right_brace) ns)
 
 bindings_print : {X : Type 0} (l : Linked X) (parent : Span) (ns : List ImportSpecifier) → Prints l.env (words.import_bindings parent ns) (lists.import_bindings ns)
-unfolding words.import_bindings words.imported_star words.import_braces lists.import_bindings
+unfolding words.import_bindings words.is_star words.star_import words.imported_star words.import_braces lists.import_bindings
+bindings_print l parent [] = before (import_braces_print l parent []) (writes_formatting_space l.env)
 bindings_print l parent (imported.Namespace n ∷ []) = star_prints l.env (before (ident_prints l n.local) (writes_space l.env))
-bindings_print l parent ns = before (import_braces_print l parent ns) (writes_formatting_space l.env)
+bindings_print l parent (imported.Namespace n ∷ m ∷ ns) = before (import_braces_print l parent (imported.Namespace n ∷ m ∷ ns)) (writes_formatting_space l.env)
+bindings_print l parent (imported.Named n ∷ ns) = before (import_braces_print l parent (imported.Named n ∷ ns)) (writes_formatting_space l.env)
+bindings_print l parent (imported.Default n ∷ ns) = before (import_braces_print l parent (imported.Default n ∷ ns)) (writes_formatting_space l.env)
 
 after_default_prints : {X : Type 0} (l : Linked X) (parent : Span) (ns : List ImportSpecifier) → Prints l.env (words.after_default parent ns) (lists.after_default ns)
 unfolding words.after_default lists.after_default
@@ -106,13 +109,14 @@ after_default_prints l parent [] = after (writes_space l.env) prints_nothing
 after_default_prints l parent (n ∷ ns) = then (prints_punct l.env (codes ",") marks.comma) (after (writes_formatting_space l.env) (bindings_print l parent (n ∷ ns)))
 
 import_clause_prints : {X : Type 0} (l : Linked X) (parent : Span) (ns : List ImportSpecifier) → Prints l.env (words.import_clause parent ns) (lists.import_clause ns)
-unfolding words.import_clause words.default_clause lists.import_clause
+unfolding words.import_clause words.some_imports words.begins_default words.default_clause words.default_name words.bindings_clause lists.import_clause
 import_clause_prints l parent [] = prints_nothing
 import_clause_prints l parent (imported.Default n ∷ ns) = then (ident_prints l n.local) (then (after_default_prints l parent ns) (from_prints l.env))
-import_clause_prints l parent ns = then (bindings_print l parent ns) (from_prints l.env)
+import_clause_prints l parent (imported.Named n ∷ ns) = then (bindings_print l parent (imported.Named n ∷ ns)) (from_prints l.env)
+import_clause_prints l parent (imported.Namespace n ∷ ns) = then (bindings_print l parent (imported.Namespace n ∷ ns)) (from_prints l.env)
 
-phase_prints : (env : Env) (phase : ImportPhase) → Prints env (words.import_phase phase) (lists.import_phase phase)
-unfolding words.import_phase lists.import_phase
+phase_prints : (env : Env) (phase : ImportPhase) → Prints env (words.phase_word phase) (lists.import_phase phase)
+unfolding words.phase_word lists.import_phase
 phase_prints env Evaluation = prints_nothing
 phase_prints env Source = after (writes_space env) (prints_keyword env None (codes "source") marks.source_word)
 phase_prints env Defer = after (writes_space env) (prints_keyword env None (codes "defer") marks.defer_word)
@@ -162,11 +166,13 @@ unfolding words.export_namespace lists.export_namespace
 namespace_prints l n = after (writes_leading l.env n.span.lo) (after (writes_position l.env n.span.lo) (star_prints l.env (before (name_prints l n.name) (writes_position l.env n.span.hi))))
 
 export_clause_prints : {X : Type 0} (l : Linked X) (parent : Span) (ns : List ExportSpecifier) → Prints l.env (words.export_clause parent ns) (lists.export_clause ns)
-unfolding words.export_clause words.namespace_clause words.more_exports lists.export_clause
+unfolding words.export_clause words.begins_star words.star_exports words.exported_star words.more_exports lists.export_clause
+export_clause_prints l parent [] = export_braces_print l parent []
 export_clause_prints l parent (exported.Namespace n ∷ []) = namespace_prints l n
 export_clause_prints l parent (exported.Namespace n ∷ m ∷ ns) =
     then (namespace_prints l n) (then (prints_punct l.env (codes ",") marks.comma) (after (writes_formatting_space l.env) (export_braces_print l parent (m ∷ ns))))
-export_clause_prints l parent ns = export_braces_print l parent ns
+export_clause_prints l parent (exported.Named n ∷ ns) = export_braces_print l parent (exported.Named n ∷ ns)
+export_clause_prints l parent (exported.Default n ∷ ns) = export_braces_print l parent (exported.Default n ∷ ns)
 
 from_clause_prints : (env : Env) (needed : Bool) (n : Option Str) → Prints env (words.from_clause needed n) (lists.from_clause n)
 unfolding words.from_clause lists.from_clause

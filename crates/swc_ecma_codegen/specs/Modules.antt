@@ -16,13 +16,11 @@ use Rattle.swc_ecma_codegen_tree.specs.declared.modules.ExportNamespaceSpecifier
 use Rattle.swc_ecma_codegen_tree.specs.declared.modules.ExportSpecifier.{ExportSpecifier}
 use Rattle.swc_ecma_codegen_tree.specs.declared.modules.ExportSpecifier.TheVariants as exported
 use Rattle.swc_ecma_codegen_tree.specs.declared.modules.ImportDecl.{ImportDecl}
-use Rattle.swc_ecma_codegen_tree.specs.declared.modules.ImportDefaultSpecifier.{ImportDefaultSpecifier}
 use Rattle.swc_ecma_codegen_tree.specs.declared.modules.ImportNamedSpecifier.{ImportNamedSpecifier}
 use Rattle.swc_ecma_codegen_tree.specs.declared.modules.ImportPhase.{ImportPhase}
 use Rattle.swc_ecma_codegen_tree.specs.declared.modules.ImportPhase.TheVariants.{Evaluation, Source, Defer}
 use Rattle.swc_ecma_codegen_tree.specs.declared.modules.ImportSpecifier.{ImportSpecifier}
 use Rattle.swc_ecma_codegen_tree.specs.declared.modules.ImportSpecifier.TheVariants as imported
-use Rattle.swc_ecma_codegen_tree.specs.declared.modules.ImportStarAsSpecifier.{ImportStarAsSpecifier}
 use Rattle.swc_ecma_codegen_tree.specs.declared.modules.ModuleExportName.{ModuleExportName}
 use Rattle.swc_ecma_codegen_tree.specs.declared.modules.ModuleExportName.TheVariants as export_names
 use Rattle.swc_ecma_codegen_tree.specs.declared.modules.NamedExport.{NamedExport}
@@ -88,40 +86,61 @@ abbrev pub import_list : Span → List ImportSpecifier → Part
 import_list parent ns = list named_format parent (map (child_of import_specifier_span (λ n place. import_specifier n)) ns)
 
 -- `* as a `
-unfoldable pub imported_star : ImportStarAsSpecifier → Part
-imported_star n rest = star_as (ident n.local (space rest))
+unfoldable pub imported_star : ImportSpecifier → Part
+imported_star (imported.Namespace n) rest = star_as (ident n.local (space rest))
+imported_star n rest = bad_shape rest
+
+-- it is the only one
+unfoldable pub is_star : List ImportSpecifier → Bool
+is_star (imported.Namespace n ∷ []) = true
+is_star ns = false
+
+unfoldable pub star_import : List ImportSpecifier → Part
+star_import [] rest = rest
+star_import (n ∷ ns) rest = imported_star n rest
 
 -- `{ a, b as c } `
 unfoldable pub import_braces : Span → List ImportSpecifier → Part
 import_braces parent ns rest = punct (codes "{") (import_list parent ns (punct (codes "}") (formatting_space rest)))
 
 unfoldable pub import_bindings : Span → List ImportSpecifier → Part
-import_bindings parent (imported.Namespace n ∷ []) rest = imported_star n rest
-import_bindings parent ns rest = import_braces parent ns rest
+import_bindings parent ns rest = if is_star ns then star_import ns rest else import_braces parent ns rest
 
 -- what stands after the default one: `, { b } `
 unfoldable pub after_default : Span → List ImportSpecifier → Part
 after_default parent [] rest = space rest
 after_default parent (n ∷ ns) rest = punct (codes ",") (formatting_space (import_bindings parent (n ∷ ns) rest))
 
--- `a, { b } from `
-unfoldable pub default_clause : Span → ImportDefaultSpecifier → List ImportSpecifier → Part
-default_clause parent n ns rest = ident n.local (after_default parent ns (from_word rest))
-
-unfoldable pub import_clause : Span → List ImportSpecifier → Part
-import_clause parent [] rest = rest
-import_clause parent (imported.Default n ∷ ns) rest = default_clause parent n ns rest
-import_clause parent ns rest = import_bindings parent ns (from_word rest)
-
 -- a blank before the default one is needed: `import a`, minified `import{a}`
 unfoldable pub begins_default : List ImportSpecifier → Bool
 begins_default (imported.Default n ∷ ns) = true
 begins_default ns = false
 
-unfoldable pub import_phase : ImportPhase → Part
-import_phase Evaluation rest = rest
-import_phase Source rest = space (keyword None (codes "source") rest)
-import_phase Defer rest = space (keyword None (codes "defer") rest)
+-- `a` of `import a from 'b'`
+unfoldable pub default_name : ImportSpecifier → Part
+default_name (imported.Default n) rest = ident n.local rest
+default_name n rest = bad_shape rest
+
+-- `a, { b } from `
+unfoldable pub default_clause : Span → List ImportSpecifier → Part
+default_clause parent [] rest = rest
+default_clause parent (n ∷ ns) rest = default_name n (after_default parent ns (from_word rest))
+
+-- `{ b } from `
+unfoldable pub bindings_clause : Span → List ImportSpecifier → Part
+bindings_clause parent ns rest = import_bindings parent ns (from_word rest)
+
+unfoldable pub some_imports : Span → List ImportSpecifier → Part
+some_imports parent ns rest = if begins_default ns then default_clause parent ns rest else bindings_clause parent ns rest
+
+unfoldable pub import_clause : Span → List ImportSpecifier → Part
+import_clause parent [] rest = rest
+import_clause parent (n ∷ ns) rest = some_imports parent (n ∷ ns) rest
+
+unfoldable pub phase_word : ImportPhase → Part
+phase_word Evaluation rest = rest
+phase_word Source rest = space (keyword None (codes "source") rest)
+phase_word Defer rest = space (keyword None (codes "defer") rest)
 
 -- `{ a } from 'b';`
 unfoldable pub import_tail : {X : Type 0} → ImportDecl X → Part
@@ -132,7 +151,7 @@ unfoldable pub import_parts : {X : Type 0} → ImportDecl X → Part
 import_parts n rest =
     leading_comments n.span.lo
     (start_of n.span
-    (keyword None (codes "import") (import_phase n.phase (blank (begins_default n.specifiers.items) (import_tail n rest)))))
+    (keyword None (codes "import") (phase_word n.phase (blank (begins_default n.specifiers.items) (import_tail n rest)))))
 
 unfoldable pub import_decl : {X : Type 0} → ImportDecl X → Part
 import_decl n rest = if n.type_only || is_some n.with_ then unsupported rest else import_parts n rest
@@ -173,12 +192,21 @@ unfoldable pub more_exports : Span → List ExportSpecifier → Part
 more_exports parent [] rest = rest
 more_exports parent (n ∷ ns) rest = punct (codes ",") (formatting_space (export_braces parent (n ∷ ns) rest))
 
-unfoldable pub namespace_clause : Span → ExportNamespaceSpecifier → List ExportSpecifier → Part
-namespace_clause parent n ns rest = export_namespace n (more_exports parent ns rest)
+unfoldable pub exported_star : ExportSpecifier → Part
+exported_star (exported.Namespace n) rest = export_namespace n rest
+exported_star n rest = bad_shape rest
+
+-- it is first
+unfoldable pub begins_star : List ExportSpecifier → Bool
+begins_star (exported.Namespace n ∷ ns) = true
+begins_star ns = false
+
+unfoldable pub star_exports : Span → List ExportSpecifier → Part
+star_exports parent [] rest = rest
+star_exports parent (n ∷ ns) rest = exported_star n (more_exports parent ns rest)
 
 unfoldable pub export_clause : Span → List ExportSpecifier → Part
-export_clause parent (exported.Namespace n ∷ ns) rest = namespace_clause parent n ns rest
-export_clause parent ns rest = export_braces parent ns rest
+export_clause parent ns rest = if begins_star ns then star_exports parent ns rest else export_braces parent ns rest
 
 -- it ends with a name: `export * as a from 'b'`, minified `export*as a from"b"`
 unfoldable pub ends_with_name : List ExportSpecifier → Bool

@@ -3,7 +3,7 @@
 ghost use Rattle.std.specs.Prelude.{◌≡◌, OnOk};
 ghost use Rattle.swc_ecma_codegen_base.specs.Run.{Emits};
 ghost use Rattle.swc_ecma_codegen_spans.specs.Spans.{import_specifier_span, export_specifier_span};
-ghost use Rattle.swc_ecma_codegen.specs.Modules.{named_format, module_export_name, from_word, as_word, star_as, imported_as, import_named, import_specifier, import_list, imported_star, import_braces, import_bindings, after_default, default_clause, import_clause, begins_default, import_phase, import_tail, import_decl, exported_as, export_named_specifier, export_specifier, export_list, export_braces, export_namespace, more_exports, namespace_clause, export_clause, ends_with_name, from_clause, export_tail, export_named, all_tail, export_all, export_decl, default_decl, export_default, export_default_decl, export_default_expr, module_decl_by, module_decl, module_item_by, module_item};
+ghost use Rattle.swc_ecma_codegen.specs.Modules.{named_format, module_export_name, from_word, as_word, star_as, imported_as, import_named, import_specifier, import_list, imported_star, import_braces, import_bindings, after_default, default_clause, import_clause, begins_default, phase_word, import_tail, import_decl, exported_as, export_named_specifier, export_specifier, export_list, export_braces, export_namespace, more_exports, export_clause, ends_with_name, from_clause, export_tail, export_named, all_tail, export_all, export_decl, default_decl, export_default, export_default_decl, export_default_expr, module_decl_by, module_decl, module_item_by, module_item, is_star, star_import, default_name, bindings_clause, some_imports, exported_star, begins_star, star_exports};
 ghost use Rattle.swc_ecma_codegen.specs.Lists.{in_order};
 ghost use Rattle.swc_ecma_codegen.specs.Programs.{held_item, whole_module};
 ghost use Rattle.swc_ecma_codegen.specs.View.{state_of};
@@ -20,9 +20,9 @@ use swc_ecma_codegen_spans::Spanned;
 use swc_ecma_codegen_text_writer::WriteJs;
 use swc_ecma_codegen_tree::{
     DefaultDecl, ExportAll, ExportDecl, ExportDefaultDecl, ExportDefaultExpr, ExportNamedSpecifier,
-    ExportNamespaceSpecifier, ExportSpecifier, ImportDecl, ImportDefaultSpecifier,
-    ImportNamedSpecifier, ImportPhase, ImportSpecifier, ImportStarAsSpecifier, Module, ModuleDecl,
-    ModuleExportName, ModuleItem, ModuleItemBox, NamedExport, Str,
+    ExportNamespaceSpecifier, ExportSpecifier, ImportDecl, ImportNamedSpecifier, ImportPhase,
+    ImportSpecifier, Module, ModuleDecl, ModuleExportName, ModuleItem, ModuleItemBox, NamedExport,
+    Str,
 };
 
 /// The format of the names of imports and exports.
@@ -38,6 +38,22 @@ fn begins_default(specifiers: &[ImportSpecifier]) -> bool
     ensures { result ≡ begins_default specifiers.now }
 {
     matches!(specifiers, [ImportSpecifier::Default(_), ..])
+}
+
+/// Whether the only specifier is one of a namespace.
+#[tactic(auto, unfolding(crate::specs::Modules::is_star))]
+fn is_star(specifiers: &[ImportSpecifier]) -> bool
+    ensures { result ≡ is_star specifiers.now }
+{
+    matches!(specifiers, [ImportSpecifier::Namespace(_)])
+}
+
+/// Whether the first specifier is one of a namespace.
+#[tactic(auto, unfolding(crate::specs::Modules::begins_star))]
+fn begins_star(specifiers: &[ExportSpecifier]) -> bool
+    ensures { result ≡ begins_star specifiers.now }
+{
+    matches!(specifiers, [ExportSpecifier::Namespace(_), ..])
 }
 
 /// Whether there is one specifier, of a namespace.
@@ -128,7 +144,7 @@ impl<N: Held> EmitAt for ImportDecl<N> {
         e.leading_comments(self.span.lo)?;
         e.start_of(self.span)?;
         e.keyword(None, "import")?;
-        e.import_phase(self.phase)?;
+        e.phase_word(self.phase)?;
         e.blank(begins_default(&self.specifiers))?;
         e.import_tail(self)?;
         Ok(())
@@ -448,14 +464,30 @@ impl<W: WriteJs, S: SourceMapper, C: Comments> Emitter<'_, W, S, C> {
 
     /// Writes `* as a` and a blank.
     #[tactic(auto, unfolding(crate::specs::Modules::imported_star))]
-    fn imported_star(&mut self, node: &ImportStarAsSpecifier) -> Answer
+    fn imported_star(&mut self, node: &ImportSpecifier) -> Answer
         ensures items { Emits (imported_star node.now) (state_of S.lines W.sheet self.old) (state_of S.lines W.sheet self.new) result }
         ensures level { OnOk result ((W.sheet self.new.wr).indentation ≡ (W.sheet self.old.wr).indentation) }
     {
-        self.star_as()?;
-        node.local.emit_at(self, Place::Plain)?;
-        self.space()?;
-        Ok(())
+        match node {
+            ImportSpecifier::Namespace(node) => {
+                self.star_as()?;
+                node.local.emit_at(self, Place::Plain)?;
+                self.space()
+            }
+            _ => self.bad_shape(),
+        }
+    }
+
+    /// Writes the only one.
+    #[tactic(auto, unfolding(crate::specs::Modules::star_import))]
+    fn star_import(&mut self, specifiers: &[ImportSpecifier]) -> Answer
+        ensures items { Emits (star_import specifiers.now) (state_of S.lines W.sheet self.old) (state_of S.lines W.sheet self.new) result }
+        ensures level { OnOk result ((W.sheet self.new.wr).indentation ≡ (W.sheet self.old.wr).indentation) }
+    {
+        match specifiers.split_first() {
+            Some((first, _)) => self.imported_star(first),
+            None => Ok(()),
+        }
     }
 
     /// Writes `{ a, b as c }` and a blank.
@@ -477,10 +509,10 @@ impl<W: WriteJs, S: SourceMapper, C: Comments> Emitter<'_, W, S, C> {
         ensures items { Emits (import_bindings parent specifiers.now) (state_of S.lines W.sheet self.old) (state_of S.lines W.sheet self.new) result }
         ensures level { OnOk result ((W.sheet self.new.wr).indentation ≡ (W.sheet self.old.wr).indentation) }
     {
-        match specifiers {
-            [ImportSpecifier::Namespace(node)] => self.imported_star(node),
-            _ => self.import_braces(parent, specifiers),
+        if is_star(specifiers) {
+            return self.star_import(specifiers);
         }
+        self.import_braces(parent, specifiers)
     }
 
     /// Writes what stands after the default name.
@@ -497,21 +529,55 @@ impl<W: WriteJs, S: SourceMapper, C: Comments> Emitter<'_, W, S, C> {
         self.import_bindings(parent, specifiers)
     }
 
-    /// Writes `a, { b } from` and a blank.
-    #[tactic(auto, unfolding(crate::specs::Modules::default_clause))]
-    fn default_clause(
-        &mut self,
-        parent: Span,
-        node: &ImportDefaultSpecifier,
-        others: &[ImportSpecifier],
-    ) -> Answer
-        ensures items { Emits (default_clause parent node.now others.now) (state_of S.lines W.sheet self.old) (state_of S.lines W.sheet self.new) result }
+    /// Writes the default name.
+    #[tactic(auto, unfolding(crate::specs::Modules::default_name))]
+    fn default_name(&mut self, node: &ImportSpecifier) -> Answer
+        ensures items { Emits (default_name node.now) (state_of S.lines W.sheet self.old) (state_of S.lines W.sheet self.new) result }
         ensures level { OnOk result ((W.sheet self.new.wr).indentation ≡ (W.sheet self.old.wr).indentation) }
     {
-        node.local.emit_at(self, Place::Plain)?;
-        self.after_default(parent, others)?;
+        match node {
+            ImportSpecifier::Default(node) => node.local.emit_at(self, Place::Plain),
+            _ => self.bad_shape(),
+        }
+    }
+
+    /// Writes `a, { b } from` and a blank.
+    #[tactic(auto, unfolding(crate::specs::Modules::default_clause))]
+    fn default_clause(&mut self, parent: Span, specifiers: &[ImportSpecifier]) -> Answer
+        ensures items { Emits (default_clause parent specifiers.now) (state_of S.lines W.sheet self.old) (state_of S.lines W.sheet self.new) result }
+        ensures level { OnOk result ((W.sheet self.new.wr).indentation ≡ (W.sheet self.old.wr).indentation) }
+    {
+        match specifiers.split_first() {
+            Some((first, others)) => {
+                self.default_name(first)?;
+                self.after_default(parent, others)?;
+                self.from_word()
+            }
+            None => Ok(()),
+        }
+    }
+
+    /// Writes `{ b } from` and a blank.
+    #[tactic(auto, unfolding(crate::specs::Modules::bindings_clause))]
+    fn bindings_clause(&mut self, parent: Span, specifiers: &[ImportSpecifier]) -> Answer
+        ensures items { Emits (bindings_clause parent specifiers.now) (state_of S.lines W.sheet self.old) (state_of S.lines W.sheet self.new) result }
+        ensures level { OnOk result ((W.sheet self.new.wr).indentation ≡ (W.sheet self.old.wr).indentation) }
+    {
+        self.import_bindings(parent, specifiers)?;
         self.from_word()?;
         Ok(())
+    }
+
+    /// Writes either of them.
+    #[tactic(auto, unfolding(crate::specs::Modules::some_imports))]
+    fn some_imports(&mut self, parent: Span, specifiers: &[ImportSpecifier]) -> Answer
+        ensures items { Emits (some_imports parent specifiers.now) (state_of S.lines W.sheet self.old) (state_of S.lines W.sheet self.new) result }
+        ensures level { OnOk result ((W.sheet self.new.wr).indentation ≡ (W.sheet self.old.wr).indentation) }
+    {
+        if begins_default(specifiers) {
+            return self.default_clause(parent, specifiers);
+        }
+        self.bindings_clause(parent, specifiers)
     }
 
     /// Writes what is imported, then `from` and a blank.
@@ -520,22 +586,16 @@ impl<W: WriteJs, S: SourceMapper, C: Comments> Emitter<'_, W, S, C> {
         ensures items { Emits (import_clause parent specifiers.now) (state_of S.lines W.sheet self.old) (state_of S.lines W.sheet self.new) result }
         ensures level { OnOk result ((W.sheet self.new.wr).indentation ≡ (W.sheet self.old.wr).indentation) }
     {
-        match specifiers {
-            [] => Ok(()),
-            [ImportSpecifier::Default(node), others @ ..] => {
-                self.default_clause(parent, node, others)
-            }
-            _ => {
-                self.import_bindings(parent, specifiers)?;
-                self.from_word()
-            }
+        if specifiers.is_empty() {
+            return Ok(());
         }
+        self.some_imports(parent, specifiers)
     }
 
     /// Writes `source` or `defer` behind a blank, where it is so.
-    #[tactic(auto, unfolding(crate::specs::Modules::import_phase))]
-    fn import_phase(&mut self, phase: ImportPhase) -> Answer
-        ensures items { Emits (import_phase phase) (state_of S.lines W.sheet self.old) (state_of S.lines W.sheet self.new) result }
+    #[tactic(auto, unfolding(crate::specs::Modules::phase_word))]
+    fn phase_word(&mut self, phase: ImportPhase) -> Answer
+        ensures items { Emits (phase_word phase) (state_of S.lines W.sheet self.old) (state_of S.lines W.sheet self.new) result }
         ensures level { OnOk result ((W.sheet self.new.wr).indentation ≡ (W.sheet self.old.wr).indentation) }
     {
         match phase {
@@ -613,19 +673,31 @@ impl<W: WriteJs, S: SourceMapper, C: Comments> Emitter<'_, W, S, C> {
         self.export_braces(parent, specifiers)
     }
 
-    /// Writes `* as a, { b }`.
-    #[tactic(auto, unfolding(crate::specs::Modules::namespace_clause))]
-    fn namespace_clause(
-        &mut self,
-        parent: Span,
-        node: &ExportNamespaceSpecifier,
-        others: &[ExportSpecifier],
-    ) -> Answer
-        ensures items { Emits (namespace_clause parent node.now others.now) (state_of S.lines W.sheet self.old) (state_of S.lines W.sheet self.new) result }
+    /// Writes `* as a`.
+    #[tactic(auto, unfolding(crate::specs::Modules::exported_star))]
+    fn exported_star(&mut self, node: &ExportSpecifier) -> Answer
+        ensures items { Emits (exported_star node.now) (state_of S.lines W.sheet self.old) (state_of S.lines W.sheet self.new) result }
         ensures level { OnOk result ((W.sheet self.new.wr).indentation ≡ (W.sheet self.old.wr).indentation) }
     {
-        node.emit_at(self, Place::Plain)?;
-        self.more_exports(parent, others)
+        match node {
+            ExportSpecifier::Namespace(node) => node.emit_at(self, Place::Plain),
+            _ => self.bad_shape(),
+        }
+    }
+
+    /// Writes `* as a, { b }`.
+    #[tactic(auto, unfolding(crate::specs::Modules::star_exports))]
+    fn star_exports(&mut self, parent: Span, specifiers: &[ExportSpecifier]) -> Answer
+        ensures items { Emits (star_exports parent specifiers.now) (state_of S.lines W.sheet self.old) (state_of S.lines W.sheet self.new) result }
+        ensures level { OnOk result ((W.sheet self.new.wr).indentation ≡ (W.sheet self.old.wr).indentation) }
+    {
+        match specifiers.split_first() {
+            Some((first, others)) => {
+                self.exported_star(first)?;
+                self.more_exports(parent, others)
+            }
+            None => Ok(()),
+        }
     }
 
     /// Writes `{ a }` or `* as a`, or both.
@@ -634,12 +706,10 @@ impl<W: WriteJs, S: SourceMapper, C: Comments> Emitter<'_, W, S, C> {
         ensures items { Emits (export_clause parent specifiers.now) (state_of S.lines W.sheet self.old) (state_of S.lines W.sheet self.new) result }
         ensures level { OnOk result ((W.sheet self.new.wr).indentation ≡ (W.sheet self.old.wr).indentation) }
     {
-        match specifiers {
-            [ExportSpecifier::Namespace(node), others @ ..] => {
-                self.namespace_clause(parent, node, others)
-            }
-            _ => self.export_braces(parent, specifiers),
+        if begins_star(specifiers) {
+            return self.star_exports(parent, specifiers);
         }
+        self.export_braces(parent, specifiers)
     }
 
     /// Writes `from 'a'` behind a blank, where it is so.
