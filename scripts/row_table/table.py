@@ -67,11 +67,13 @@ def written(tokens, words, comma=False):
     The commas at the ends of lists stand with `comma`, where the source text has them.
     """
     is_minified = "--minify" in words
-    omits = is_minified and "--omit-last-semi" in words
+    # (a writer that holds semicolons back loses those before a closing brace and before others)
+    left = {"p:}", "p:;", "e:;"} if is_minified and "--bare" not in words else set()
+    if is_minified and "--omit-last-semi" in words:
+        left.add(None)
     absent = "PC" * is_minified + "cC" * (not comma)
     found = ["p" + token[1:] if token[0] in "PcC" else token for token in tokens.split() if token[0] not in absent]
-    left = {"p:}", "p:;", "e:;", None}
-    return [token for token, after in zip(found, found[1:] + [None]) if not (omits and token == "e:;" and after in left)]
+    return [token for token, after in zip(found, found[1:] + [None]) if token != "e:;" or after not in left]
 
 
 class Table:
@@ -117,23 +119,26 @@ class Table:
 
     def over(self, row, words, made_of, texts, comma=False):
         """The two texts over a source text, where each node has a place of its own."""
-        program, tokens = script(self.made(made_of, 0)[-1], in_places), self.made(made_of, 1)[-1] + " e:;"
+        parts, tokens = self.made(made_of, 0), self.made(made_of, 1)
+        is_script = row.startswith("script")
+        program = script_of(",".join(parts), in_places) if is_script else script(parts[-1], in_places)
+        tokens = " ".join(tokens) if is_script else tokens[-1] + " e:;"
         both = [(words, texts[0]), ([*words, "--minify", "--bare"], texts[1])]
         return [Case(row, words, program, text, "", written(tokens, words, comma)) for words, text in both]
 
     def of_row(self, row, fields):
         word, rest = fields[0], fields[1:]
-        if word in ("tree", "malformed", "script"):
-            return self.both(row, *rest, word == "script")
+        if word in ("tree", "malformed", "script", "script_malformed"):
+            return self.both(row, *rest, word.startswith("script"))
         if word == "node":
             return [self.case(row, [], *rest)]
         if word in ("prints", "script_prints"):
             return [self.case(row, rest[0].split(), *rest[1:], word == "script_prints")]
         if word == "run" and rest[2] == "0":
             return [Case(row, rest[0].split(), tree(rest[1]), rest[3], rest[4], None)]
-        if word == "over":
+        if word in ("over", "script_over"):
             return self.over(row, ["--mapper", MAPPERS[rest[0]]], rest[1], rest[2:])
-        if word == "commas":
+        if word in ("commas", "script_commas"):
             marked = [(["--mapper", "same", "--snippet", text], mark == "1") for text, mark in zip(snippets(), rest[5])]
             return [case for words, comma in marked for case in self.over(row, words, rest[0], rest[3:5] if comma else rest[1:3], comma)]
         if word in ("nestings", "placed"):

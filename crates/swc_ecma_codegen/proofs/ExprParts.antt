@@ -54,8 +54,8 @@ use Rattle.swc_ecma_codegen_ast.specs.NamePhrases as names
 use Rattle.swc_ecma_codegen_ast.specs.ExprPhrases as lists
 use Rattle.swc_ecma_codegen_ast.specs.CallPhrases.{callee_at}
 use Rattle.swc_ecma_codegen_ast.specs.LitPhrases as lit_lists
+use Rattle.swc_ecma_codegen_ast.specs.declared.roles.Role.TheVariants.{MemberExpression, ChainMember, AssignmentTarget, ObjectLiteral, Callee as IsCallee, ChainCall}
 use Rattle.swc_ecma_codegen_ast.specs.declared.roles.Role.{Role}
-use Rattle.swc_ecma_codegen_ast.specs.declared.roles.Role.TheVariants.{Callee as IsCallee, MemberExpression, ChainMember, ChainCall, AssignmentTarget}
 use Rattle.swc_ecma_codegen_base.specs.Run.{Env, Part}
 use Rattle.swc_ecma_codegen_base.specs.Words.{operator, space, formatting_space, position, leading_comments, trailing_comments}
 use Rattle.swc_ecma_codegen_base.proofs.Printed.{Writes, writes_then, writes_if, writes_nothing, writes_space, writes_formatting_space, writes_commit, writes_position, writes_position_before, writes_leading, writes_trailing}
@@ -71,21 +71,22 @@ use Rattle.swc_ecma_codegen.specs.Operands.{is_word_op, operand_space}
 use Rattle.swc_ecma_codegen.specs.Exprs as words
 use Rattle.swc_ecma_codegen.specs.Calls as calls
 use Rattle.swc_ecma_codegen.specs.Lits.{lit_at}
+use Rattle.swc_ecma_codegen.proofs.FunctionParts.{fn_expr_prints, arrow_expr_prints}
 use Rattle.swc_ecma_codegen.proofs.CallParts.{super_is_word, array_lit_prints, call_prints, new_prints}
 use Rattle.swc_ecma_codegen.proofs.Linked.{Linked, expr_at}
 use Rattle.swc_ecma_codegen.proofs.ListParts.{some_listed_prints}
 
 -- ---- blanks and comments
 
-writes_blank : (env : Env) (needed : Bool) → Writes env (words.blank needed) []
+pub writes_blank : (env : Env) (needed : Bool) → Writes env (words.blank needed) []
 unfolding words.blank
 writes_blank env needed = writes_if env needed space formatting_space [] (writes_space env) (writes_formatting_space env)
 
-writes_space_if : (env : Env) (needed : Bool) → Writes env (words.space_if needed) []
+pub writes_space_if : (env : Env) (needed : Bool) → Writes env (words.space_if needed) []
 unfolding words.space_if
 writes_space_if env needed = writes_if env needed space (λ rest. rest) [] (writes_space env) (writes_nothing env)
 
-writes_opened : (env : Env) (span : Span) → Writes env (words.opened span) []
+pub writes_opened : (env : Env) (span : Span) → Writes env (words.opened span) []
 unfolding words.opened
 writes_opened env span = writes_then env (leading_comments span.lo) (position span.lo) [] [] (writes_leading env span.lo) (writes_position env span.lo)
 
@@ -98,7 +99,7 @@ writes_unary_gap : (env : Env) (op : UnaryOp) (arg : Answers) → Writes env (wo
 unfolding words.unary_gap
 writes_unary_gap env op arg = writes_if env (starts.is_word_op op) (words.blank arg.starts) (words.space_if (operand_space op arg.kind)) [] (writes_blank env arg.starts) (writes_space_if env (operand_space op arg.kind))
 
-writes_comments_before : (env : Env) (pos : BytePos) → Writes env (words.comments_before pos) []
+pub writes_comments_before : (env : Env) (pos : BytePos) → Writes env (words.comments_before pos) []
 unfolding words.comments_before
 writes_comments_before env pos = writes_if env (pos.0 == 0) (λ rest. rest) (leading_comments (record { 0 = pos.0 - 1 })) [] (writes_nothing env) (writes_leading env (record { 0 = pos.0 - 1 }))
 
@@ -186,27 +187,27 @@ ellipsis_is_mark : IsMark (codes "...")
 unfolding is_punctuator is_among is_same punctuators chars is_utf8 lib.Utf8.encode
 ellipsis_is_mark = record { utf8 = refl; ascii = refl; shape = refl }
 
-opens_is_mark : IsMark (codes "[")
+pub opens_is_mark : IsMark (codes "[")
 unfolding is_punctuator is_among is_same punctuators chars is_utf8 lib.Utf8.encode
 opens_is_mark = record { utf8 = refl; ascii = refl; shape = refl }
 
-closes_is_mark : IsMark (codes "]")
+pub closes_is_mark : IsMark (codes "]")
 unfolding is_punctuator is_among is_same punctuators chars is_utf8 lib.Utf8.encode
 closes_is_mark = record { utf8 = refl; ascii = refl; shape = refl }
 
-question_is_mark : IsMark (codes "?")
+pub question_is_mark : IsMark (codes "?")
 unfolding is_punctuator is_among is_same punctuators chars is_utf8 lib.Utf8.encode
 question_is_mark = record { utf8 = refl; ascii = refl; shape = refl }
 
-colon_is_mark : IsMark (codes ":")
+pub colon_is_mark : IsMark (codes ":")
 unfolding is_punctuator is_among is_same punctuators chars is_utf8 lib.Utf8.encode
 colon_is_mark = record { utf8 = refl; ascii = refl; shape = refl }
 
-paren_opens_is_mark : IsMark (codes "(")
+pub paren_opens_is_mark : IsMark (codes "(")
 unfolding is_punctuator is_among is_same punctuators chars is_utf8 lib.Utf8.encode
 paren_opens_is_mark = record { utf8 = refl; ascii = refl; shape = refl }
 
-paren_closes_is_mark : IsMark (codes ")")
+pub paren_closes_is_mark : IsMark (codes ")")
 unfolding is_punctuator is_among is_same punctuators chars is_utf8 lib.Utf8.encode
 paren_closes_is_mark = record { utf8 = refl; ascii = refl; shape = refl }
 
@@ -239,7 +240,7 @@ unfolding is_word is_start is_part is_letter is_digit all_part chars is_utf8 lib
 await_is_word = record { utf8 = refl; ascii = refl; shape = refl }
 
 -- a mark between two blanks
-spaced_prints : (env : Env) (t : List ℕ) → IsMark t → Prints env (words.spaced_punct t) (mark t)
+pub spaced_prints : (env : Env) (t : List ℕ) → IsMark t → Prints env (words.spaced_punct t) (mark t)
 unfolding words.spaced_punct
 spaced_prints env t w = after (writes_formatting_space env) (before (prints_punct env t w) (writes_formatting_space env))
 
@@ -278,7 +279,7 @@ bin_prints l n place =
     (then (binary_op_prints l.env n.op)
     (after (writes_blank l.env (words.after_op n.op (l.asks n.right.node.value))) (expr_at l n.right Plain)))))
 
-computed_prints : {X : Type 0} (l : Linked X) (n : ComputedPropName X) → Prints l.env (words.computed_prop_name l.items n) (lists.computed_prop_name l.reads n)
+pub computed_prints : {X : Type 0} (l : Linked X) (n : ComputedPropName X) → Prints l.env (words.computed_prop_name l.items n) (lists.computed_prop_name l.reads n)
 unfolding words.computed_prop_name lists.computed_prop_name
 computed_prints l n =
     after (writes_position l.env n.span.lo)
@@ -415,6 +416,8 @@ lit_prints env n place = prints_lit env n
 parts_print : {X : Type 0} (l : Linked X) (n : Expr X) (place : Place) → Prints l.env (words.expr_parts l.asks l.items n place) (lists.expr_in l.reads (calls.keeps_arguments place) n)
 unfolding words.expr_parts lists.expr lists.expr_in
 parts_print l (exprs.This n) place = this_prints l.env n
+parts_print l (exprs.Object n) place = l.law n.node.value Plain ObjectLiteral
+parts_print l (exprs.Fn n) place = fn_expr_prints l n
 parts_print l (exprs.Array n) place = array_lit_prints l n
 parts_print l (exprs.Unary n) place = unary_prints l n
 parts_print l (exprs.Update n) place = update_prints l n
@@ -428,6 +431,7 @@ parts_print l (exprs.New n) place = new_prints l (calls.keeps_arguments place) n
 parts_print l (exprs.Seq n) place = seq_prints l n
 parts_print l (exprs.Ident n) place = ident_prints l n
 parts_print l (exprs.Lit n) place = lit_prints l.env n place
+parts_print l (exprs.Arrow n) place = arrow_expr_prints l n
 parts_print l (exprs.Yield n) place = yield_prints l n
 parts_print l (exprs.MetaProp n) place = meta_prop_expr_prints l.env n
 parts_print l (exprs.Await n) place = await_prints l n

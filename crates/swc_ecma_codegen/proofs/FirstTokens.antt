@@ -1,5 +1,5 @@
 -- How the text of a node begins, by the first token of its lists.
-use Rattle.std.proofs.Common.{◌≡◌, ℕ, Bool, true, false, cond, List, [], ◌∷◌, ◌++◌, map, codes, refl, sym, ap, ◌∙◌, subst, is_some, Option, Some, None}
+use Rattle.std.proofs.Common.{◌≡◌, ℕ, Bool, true, false, cond, List, [], ◌∷◌, ◌++◌, map, codes, refl, sym, ap, ◌∙◌, subst, is_some, ◌||◌, inl, inr, Option, Some, None}
 use Rattle.std.specs.declared.string.String.{String}
 use Rattle.std.proofs.lemmas.Bool.{true≢false}
 use denote.Hole.Holds.{Such}
@@ -20,9 +20,19 @@ use Rattle.swc_ecma_codegen_tree.specs.declared.exprs.OptChainBase.{OptChainBase
 use Rattle.swc_ecma_codegen_tree.specs.declared.exprs.OptChainBase.TheVariants as chain_bases
 use Rattle.swc_ecma_codegen_tree.specs.declared.exprs.MetaPropKind.{MetaPropKind}
 use Rattle.swc_ecma_codegen_tree.specs.declared.exprs.MetaPropKind.TheVariants as meta_props
+use Rattle.swc_ecma_codegen_tree.specs.declared.exprs.PropName.{PropName}
+use Rattle.swc_ecma_codegen_tree.specs.declared.exprs.PropName.TheVariants as prop_names
+use Rattle.swc_ecma_codegen_tree.specs.declared.expr_links.PatBox.{PatBox}
+use Rattle.swc_ecma_codegen_tree.specs.declared.decls.Function as functions
 use Rattle.swc_ecma_codegen_tree.specs.declared.idents.Ident.{Ident}
 use Rattle.swc_ecma_codegen_tree.specs.declared.parts.ExprPart.{ExprPart}
 use Rattle.swc_ecma_codegen_tree.specs.declared.parts.ExprPart.TheVariants as expr_parts
+use Rattle.swc_ecma_codegen_tree.specs.declared.parts.StmtPart.{StmtPart}
+use Rattle.swc_ecma_codegen_tree.specs.declared.parts.StmtPart.TheVariants as stmt_parts
+use Rattle.swc_ecma_codegen_tree.specs.declared.pats.Pat.{Pat}
+use Rattle.swc_ecma_codegen_tree.specs.declared.pats.Pat.TheVariants as pats
+use Rattle.swc_ecma_codegen_tree.specs.declared.pats.AssignTargetPat.{AssignTargetPat}
+use Rattle.swc_ecma_codegen_tree.specs.declared.pats.AssignTargetPat.TheVariants as target_pats
 use Rattle.swc_ecma_codegen_tree.specs.declared.pats.AssignTarget.{AssignTarget}
 use Rattle.swc_ecma_codegen_tree.specs.declared.pats.AssignTarget.TheVariants as targets
 use Rattle.swc_ecma_codegen_tree.specs.declared.pats.SimpleAssignTarget.{SimpleAssignTarget}
@@ -32,26 +42,35 @@ use Rattle.swc_ecma_codegen_tree.specs.declared.lits.Lit.{Lit}
 use Rattle.swc_ecma_codegen_tree.specs.declared.lits.Lit.TheVariants as lits
 use Rattle.swc_ecma_codegen_tree.specs.declared.lits.NumberValue.{NumberValue}
 use Rattle.swc_ecma_codegen_tree.specs.declared.lits.NumberValue.TheVariants.{Finite, Infinity, NegInfinity, NaN}
+use Rattle.swc_ecma_codegen_tree.specs.declared.decls.Decl.{Decl}
+use Rattle.swc_ecma_codegen_tree.specs.declared.decls.Decl.TheVariants as decls
+use Rattle.swc_ecma_codegen_tree.specs.declared.decls.VarDecl.{VarDecl}
+use Rattle.swc_ecma_codegen_tree.specs.declared.decls.VarDeclKind.{VarDeclKind}
+use Rattle.swc_ecma_codegen_tree.specs.declared.decls.VarDeclKind.TheVariants.{Var, Let, Const}
 use Rattle.swc_ecma_codegen_tree.specs.declared.stmts.Stmt.{Stmt}
 use Rattle.swc_ecma_codegen_tree.specs.declared.stmts.Stmt.TheVariants as stmts
 use Rattle.swc_ecma_codegen_ast.specs.Tokens.{Token}
 use Rattle.swc_ecma_codegen_ast.specs.Tokens as tokens
 use Rattle.swc_ecma_codegen_common.specs.declared.positions.BytePos.{BytePos}
-use Rattle.swc_ecma_codegen_ast.specs.Phrases.{Phrase, Never, One, NameOf, Then, Generates, ◌>◌, mark}
+use Rattle.swc_ecma_codegen_ast.specs.Phrases.{Phrase, Never, Nothing, One, NameOf, KeyOf, Then, OptionalParentheses, Generates, ◌>◌, mark, open_parenthesis}
 use Rattle.swc_ecma_codegen_ast.specs.Phrases as phrases
 use Rattle.swc_ecma_codegen_ast.specs.Settings.{Settings}
 use Rattle.swc_ecma_codegen_ast.specs.declared.roles.Role.{Role}
-use Rattle.swc_ecma_codegen_ast.specs.declared.roles.Role.TheVariants.{Expression, Callee as IsCallee, Statement, MemberExpression, ChainMember, ChainCall, AssignmentTarget}
+use Rattle.swc_ecma_codegen_ast.specs.declared.roles.Role.TheVariants.{Expression, Statement, MemberExpression, ChainMember, AssignmentTarget, Pattern, PlainParameter, PropertyName, PropertyDefinition, ObjectLiteral, Function, FunctionHead, MethodHead, Block, Declaration, VariableDeclaration, Callee as IsCallee, ChainCall}
 use Rattle.swc_ecma_codegen_ast.specs.NamePhrases as names
 use Rattle.swc_ecma_codegen_ast.specs.ExprPhrases as lists
 use Rattle.swc_ecma_codegen_ast.specs.LitPhrases as lit_lists
 use Rattle.swc_ecma_codegen_ast.specs.AssignPhrases as target_lists
 use Rattle.swc_ecma_codegen_ast.specs.CallPhrases as call_lists
 use Rattle.swc_ecma_codegen_ast.specs.PartPhrases as part_lists
+use Rattle.swc_ecma_codegen_ast.specs.DeclPhrases as decl_lists
+use Rattle.swc_ecma_codegen_ast.specs.FunctionPhrases as function_lists
+use Rattle.swc_ecma_codegen_ast.specs.PatPhrases as pat_lists
+use Rattle.swc_ecma_codegen_ast.specs.PropPhrases as prop_lists
 use Rattle.swc_ecma_codegen_ast.specs.StmtPhrases as stmt_lists
 use Rattle.swc_ecma_codegen_ast.specs.TreePhrases.{node_phrase, phrase, expr_phrase}
 use Rattle.swc_ecma_codegen_ast.proofs.TreeLaws.{phrase_of}
-use Rattle.swc_ecma_codegen_util.specs.Starts.{is_word_op, lit_starts, update_starts, first_starts, callee_starts, chain_starts, expr_starts, simple_target_starts, target_starts, expr_part_starts, stmt_starts, node_starts, any_starts}
+use Rattle.swc_ecma_codegen_util.specs.Starts.{is_word_op, lit_starts, update_starts, first_starts, only_starts, arrow_starts, chain_starts, expr_starts, prop_name_starts, pat_starts, stmt_part_starts, simple_target_starts, target_starts, expr_part_starts, stmt_starts, node_starts, any_starts, callee_starts}
 use Rattle.swc_ecma_codegen_util.proofs.Begins.{starts_of}
 use Rattle.swc_ecma_codegen.specs.FirstTokens.{joins_a_word}
 
@@ -171,14 +190,29 @@ begins_update : (prefix : Bool) (op : List ℕ) (f : Phrase) (b : Bool) → Begi
 begins_update true op f b h = begins_then (mark op) f false (begins_mark op false)
 begins_update false op f b h = begins_then f (mark op) b h
 
+-- In these roles something begins that is asked how it begins. A property is never asked, and what stands before the name of a method
+-- may be nothing.
+leads : Role → Bool
+leads PropertyDefinition = false
+leads MethodHead = false
+leads role = true
+
+-- `function` is a word, and so is `let`; a block and an object begin with a brace
+begins_as : Role → Bool → Bool
+begins_as FunctionHead b = true
+begins_as VariableDeclaration b = true
+begins_as Block b = false
+begins_as ObjectLiteral b = false
+begins_as role b = b
+
 -- what a node begins with, where what its links hold begins as f says
 abbrev Begin : {X : Type 0} → (X → Role → Phrase) → (X → Bool) → Type 0
-Begin {X} reads starts = (x : X) (role : Role) → Begins (reads x role) (starts x)
+Begin {X} reads starts = (x : X) (role : Role) → leads role ≡ true → Begins (reads x role) (begins_as role (starts x))
 
 seq_begins : {X : Type 0} (reads : X → Role → Phrase) (starts : X → Bool) → Begin reads starts → (xs : List (ExprBox X)) → Begins (phrases.some_listed (codes ",") (map (lists.expr_at reads) xs)) (first_starts starts xs)
-unfolding phrases.some_listed first_starts
+unfolding phrases.some_listed first_starts leads begins_as
 seq_begins reads starts law [] = begins_never false
-seq_begins reads starts law (x ∷ xs) = begins_then _ _ _ (law x.node.value Expression)
+seq_begins reads starts law (x ∷ xs) = begins_then _ _ _ (law x.node.value Expression refl)
 
 meta_prop_begins : (kind : MetaPropKind) → Begins (lists.meta_prop kind) true
 unfolding lists.meta_prop
@@ -186,40 +220,92 @@ meta_prop_begins meta_props.NewTarget = begins_then _ _ _ (begins_true _)
 meta_prop_begins meta_props.ImportMeta = begins_then _ _ _ (begins_true _)
 
 chain_begins : {X : Type 0} (reads : X → Role → Phrase) (starts : X → Bool) → Begin reads starts → (optional : Bool) (n : OptChainBase X) → Begins (lists.chain_base reads optional n) (chain_starts starts n)
-unfolding lists.chain_base chain_starts
-chain_begins reads starts law optional (chain_bases.Member n) = law n.node.value (ChainMember optional)
-chain_begins reads starts law optional (chain_bases.Call n) = law n.node.value (ChainCall optional)
+unfolding lists.chain_base chain_starts leads begins_as
+chain_begins reads starts law optional (chain_bases.Member n) = law n.node.value (ChainMember optional) refl
+chain_begins reads starts law optional (chain_bases.Call n) = law n.node.value (ChainCall optional) refl
 
 unless_begins : (typed : Bool) (f : Phrase) (b : Bool) → Begins f b → Begins (cond typed Never f) b
 unless_begins true f b h = begins_never b
 unless_begins false f b h = h
 
 callee_begins : {X : Type 0} (reads : X → Role → Phrase) (starts : X → Bool) → Begin reads starts → (n : Callee X) → Begins (call_lists.callee reads n) (callee_starts starts n)
-unfolding call_lists.callee call_lists.import_callee callee_starts
+unfolding call_lists.callee call_lists.import_callee callee_starts leads begins_as
 callee_begins reads starts law (callees.Super n) = begins_true _
 callee_begins reads starts law (callees.Import n) = begins_then _ _ _ (begins_true _)
-callee_begins reads starts law (callees.Expr n) = law n.node.value IsCallee
+callee_begins reads starts law (callees.Expr n) = law n.node.value IsCallee refl
 
 new_begins : {X : Type 0} (reads : X → Role → Phrase) (keeps : Bool) (n : NewExpr X) → Begins (call_lists.new_expr reads keeps n) true
 unfolding call_lists.new_expr
 new_begins reads keeps n = unless_begins (is_some n.type_args) _ true (begins_then _ _ _ (begins_true _))
 
+-- ---- functions
+
+begins_behind : (f : Phrase) (b : Bool) → Begins f b → Begins (Nothing > f) b
+unfolding Generates
+begins_behind f b h = record {
+  some = λ s k. h.some s (subst (λ z. Generates s f z) (sym (k.4 ∙ ap (λ z. z ++ k.1) k.2)) k.3);
+  told = λ s x xs k j. h.told s x xs (subst (λ z. Generates s f z) (sym (k.4 ∙ ap (λ z. z ++ k.1) k.2)) k.3) j;
+}
+
+begins_parentheses : (f : Phrase) (b : Bool) → Begins f b → Begins (OptionalParentheses f) b
+unfolding Generates tokens.punctuator joins_a_word
+begins_parentheses f b h = record {
+  some = λ s k. elim k [ inl g ↦ h.some s g | inr g ↦ nothing_first _ _ g.2 ];
+  told = λ s x xs k j. elim k [
+    | inl g ↦ h.told s x xs g j
+    | inr g ↦ absurd (true≢false (sym j ∙ ap (λ (z : Token). joins_a_word z.kind) (same_first x open_parenthesis xs _ g.2)))
+  ];
+}
+
+function_head_begins : {X : Type 0} (n : functions.Function X) (is_async : Bool) (rest : Phrase) → Begins (function_lists.word_if is_async (phrases.word (codes "async")) > phrases.word (codes "function") > rest) true
+unfolding function_lists.word_if
+function_head_begins n true rest = begins_then _ _ _ (begins_true _)
+function_head_begins n false rest = begins_behind _ _ (begins_then _ _ _ (begins_true _))
+
+function_begins : (typed : Bool) (rest : Phrase) → Begins (cond typed Never (mark (codes "(") > rest)) false
+function_begins true rest = begins_never false
+function_begins false rest = begins_then _ _ _ (begins_mark _ false)
+
+only_begins : {X : Type 0} (reads : X → Role → Phrase) (starts : X → Bool) → Begin reads starts → (n : PatBox X) → Begins (function_lists.only_parameter reads n) (starts n.node.value)
+unfolding function_lists.only_parameter leads begins_as
+only_begins reads starts law n = either (function_lists.is_never (reads n.node.value PlainParameter))
+  where
+    either : (never : Bool) → Begins (cond never (mark (codes "(") > reads n.node.value Pattern > mark (codes ")")) (OptionalParentheses (reads n.node.value Pattern))) (starts n.node.value)
+    either true = begins_then _ _ _ (begins_mark _ _)
+    either false = begins_parentheses _ _ (law n.node.value Pattern refl)
+
+params_begin : {X : Type 0} (reads : X → Role → Phrase) (starts : X → Bool) → Begin reads starts → (ns : List (PatBox X)) (rest : Phrase) → Begins (function_lists.arrow_parameters reads ns > rest) (only_starts starts ns)
+unfolding function_lists.arrow_parameters only_starts
+params_begin reads starts law [] rest = begins_then _ _ _ (begins_then _ _ _ (begins_mark _ _))
+params_begin reads starts law (n ∷ []) rest = begins_then _ _ _ (only_begins reads starts law n)
+params_begin reads starts law (n ∷ m ∷ ns) rest = begins_then _ _ _ (begins_then _ _ _ (begins_mark _ _))
+
+arrow_begins : {X : Type 0} (reads : X → Role → Phrase) (starts : X → Bool) → Begin reads starts → (typed is_async is_generator : Bool) (ns : List (PatBox X)) (rest : Phrase) → Begins (cond typed Never (function_lists.word_if is_async (phrases.word (codes "async")) > function_lists.word_if is_generator (mark (codes "*")) > function_lists.arrow_parameters reads ns > rest)) (cond is_async true (only_starts starts ns))
+unfolding function_lists.word_if
+arrow_begins reads starts law true is_async is_generator ns rest = begins_never _
+arrow_begins reads starts law false true is_generator ns rest = begins_then _ _ _ (begins_true _)
+arrow_begins reads starts law false false true ns rest = begins_behind _ _ (begins_then _ _ _ (begins_mark _ _))
+arrow_begins reads starts law false false false ns rest = begins_behind _ _ (begins_behind _ _ (params_begin reads starts law ns rest))
+
 expr_begins : {X : Type 0} (reads : X → Role → Phrase) (starts : X → Bool) → Begin reads starts → (n : Expr X) → Begins (lists.expr reads n) (expr_starts starts n)
-unfolding expr_starts update_starts lists.expr lists.this_expr lists.unary_expr lists.update_expr lists.update_op lists.bin_expr lists.assign_expr lists.super_prop_expr lists.yield_expr lists.meta_prop_expr lists.await_expr lists.opt_chain_expr call_lists.array_lit call_lists.call_expr lists.cond_expr lists.seq_expr lists.paren_expr names.ident
+unfolding expr_starts update_starts arrow_starts function_lists.fn_expr function_lists.arrow_expr lists.expr lists.this_expr lists.unary_expr lists.update_expr lists.update_op lists.bin_expr lists.assign_expr lists.super_prop_expr lists.yield_expr lists.meta_prop_expr lists.await_expr lists.opt_chain_expr lists.cond_expr lists.seq_expr lists.paren_expr names.ident call_lists.array_lit call_lists.call_expr leads begins_as
 expr_begins reads starts law (exprs.This n) = begins_true _
+expr_begins reads starts law (exprs.Object n) = law n.node.value ObjectLiteral refl
+expr_begins reads starts law (exprs.Fn n) = begins_then _ _ _ (law n.function.node.value FunctionHead refl)
 expr_begins reads starts law (exprs.Array n) = begins_then _ _ _ (begins_mark _ false)
 expr_begins reads starts law (exprs.Unary n) = begins_then _ _ _ (begins_unary n.op)
-expr_begins reads starts law (exprs.Update n) = begins_update n.prefix (update_text n.op) _ _ (law n.arg.node.value Expression)
-expr_begins reads starts law (exprs.Bin n) = begins_then _ _ _ (law n.left.node.value Expression)
-expr_begins reads starts law (exprs.Assign n) = begins_then _ _ _ (law n.left.node.value AssignmentTarget)
-expr_begins reads starts law (exprs.Member n) = law n.node.value MemberExpression
+expr_begins reads starts law (exprs.Update n) = begins_update n.prefix (update_text n.op) _ _ (law n.arg.node.value Expression refl)
+expr_begins reads starts law (exprs.Bin n) = begins_then _ _ _ (law n.left.node.value Expression refl)
+expr_begins reads starts law (exprs.Assign n) = begins_then _ _ _ (law n.left.node.value AssignmentTarget refl)
+expr_begins reads starts law (exprs.Member n) = law n.node.value MemberExpression refl
 expr_begins reads starts law (exprs.SuperProp n) = begins_then _ _ _ (begins_true _)
-expr_begins reads starts law (exprs.Cond n) = begins_then _ _ _ (law n.test.node.value Expression)
+expr_begins reads starts law (exprs.Cond n) = begins_then _ _ _ (law n.test.node.value Expression refl)
 expr_begins reads starts law (exprs.Call n) = unless_begins (is_some n.type_args) _ _ (begins_then _ _ _ (callee_begins reads starts law n.callee))
 expr_begins reads starts law (exprs.New n) = new_begins reads false n
 expr_begins reads starts law (exprs.Seq n) = seq_begins reads starts law n.exprs.items
 expr_begins reads starts law (exprs.Ident n) = begins_then _ _ _ (begins_name _ _)
 expr_begins reads starts law (exprs.Lit n) = begins_lit n
+expr_begins reads starts law (exprs.Arrow n) = arrow_begins reads starts law (is_some n.type_params || is_some n.return_type) n.is_async n.is_generator n.params.items _
 expr_begins reads starts law (exprs.Yield n) = begins_then _ _ _ (begins_true _)
 expr_begins reads starts law (exprs.MetaProp n) = meta_prop_begins n.kind
 expr_begins reads starts law (exprs.Await n) = begins_then _ _ _ (begins_true _)
@@ -233,10 +319,13 @@ callee_expr_begins reads starts law (exprs.New n) = new_begins reads true n
 callee_expr_begins reads starts law n = expr_begins reads starts law n
 
 stmt_begins : {X : Type 0} (reads : X → Role → Phrase) (starts : X → Bool) → Begin reads starts → (n : Stmt X) → Begins (stmt_lists.stmt reads n) (stmt_starts starts n)
-unfolding stmt_starts stmt_lists.stmt stmt_lists.empty_stmt stmt_lists.expr_stmt
+unfolding leads begins_as stmt_starts names.ident stmt_lists.stmt stmt_lists.empty_stmt stmt_lists.expr_stmt stmt_lists.debugger_stmt stmt_lists.with_stmt stmt_lists.return_stmt stmt_lists.labeled_stmt stmt_lists.break_stmt stmt_lists.continue_stmt stmt_lists.if_stmt stmt_lists.switch_stmt stmt_lists.throw_stmt stmt_lists.try_stmt stmt_lists.while_stmt stmt_lists.do_while_stmt stmt_lists.for_stmt stmt_lists.for_in_stmt stmt_lists.for_of_stmt
+stmt_begins reads starts law (stmts.Block n) = law n.node.value Block refl
 stmt_begins reads starts law (stmts.Empty n) = begins_mark _ false
-stmt_begins reads starts law (stmts.Expr n) = begins_then _ _ _ (law n.expr.node.value Expression)
-stmt_begins reads starts law n = begins_never _
+stmt_begins reads starts law (stmts.Expr n) = begins_then _ _ _ (law n.expr.node.value Expression refl)
+stmt_begins reads starts law (stmts.Decl n) = law n.node.value Declaration refl
+stmt_begins reads starts law (stmts.Labeled n) = begins_then _ _ _ (begins_then _ _ _ (begins_name _ _))
+stmt_begins reads starts law n = begins_then _ _ _ (begins_true _)
 
 binding_begins : (typed : Bool) (id : Ident) → Begins (cond typed Never (names.ident id)) true
 unfolding names.ident
@@ -244,34 +333,109 @@ binding_begins true id = begins_never true
 binding_begins false id = begins_then _ _ _ (begins_name _ _)
 
 simple_target_begins : {X : Type 0} (reads : X → Role → Phrase) (starts : X → Bool) → Begin reads starts → (n : SimpleAssignTarget X) → Begins (target_lists.simple_assign_target reads n) (simple_target_starts starts n)
-unfolding simple_target_starts target_lists.simple_assign_target names.binding_ident lists.super_prop_expr lists.paren_expr lists.opt_chain_expr
+unfolding simple_target_starts target_lists.simple_assign_target names.binding_ident lists.super_prop_expr lists.paren_expr lists.opt_chain_expr leads begins_as
 simple_target_begins reads starts law (simple_targets.Ident n) = binding_begins (is_some n.type_ann) n.id
-simple_target_begins reads starts law (simple_targets.Member n) = law n.node.value MemberExpression
+simple_target_begins reads starts law (simple_targets.Member n) = law n.node.value MemberExpression refl
 simple_target_begins reads starts law (simple_targets.SuperProp n) = begins_then _ _ _ (begins_true _)
 simple_target_begins reads starts law (simple_targets.Paren n) = begins_then _ _ _ (begins_mark _ false)
 simple_target_begins reads starts law (simple_targets.OptChain n) = chain_begins reads starts law n.optional n.base
 simple_target_begins reads starts law n = begins_never _
 
+bracket_begins : (typed : Bool) (t : List ℕ) (rest : Phrase) (b : Bool) → Begins (cond typed Never (mark t > rest)) b
+bracket_begins true t rest b = begins_never b
+bracket_begins false t rest b = begins_then _ _ _ (begins_mark t b)
+
+target_pat_begins : {X : Type 0} (reads : X → Role → Phrase) (n : AssignTargetPat X) → Begins (pat_lists.assign_target_pat reads n) false
+unfolding pat_lists.assign_target_pat pat_lists.array_pat pat_lists.object_pat
+target_pat_begins reads (target_pats.Array n) = bracket_begins (n.optional || is_some n.type_ann) (codes "[") _ false
+target_pat_begins reads (target_pats.Object n) = bracket_begins (n.optional || is_some n.type_ann) (codes "{") _ false
+target_pat_begins reads (target_pats.Invalid n) = begins_never false
+
 target_begins : {X : Type 0} (reads : X → Role → Phrase) (starts : X → Bool) → Begin reads starts → (n : AssignTarget X) → Begins (target_lists.assign_target reads n) (target_starts starts n)
 unfolding target_starts target_lists.assign_target
 target_begins reads starts law (targets.Simple n) = simple_target_begins reads starts law n
-target_begins reads starts law n = begins_never _
+target_begins reads starts law (targets.Pat n) = target_pat_begins reads n
 
-part_begins : {X : Type 0} (reads : X → Role → Phrase) (starts : X → Bool) → Begin reads starts → (n : ExprPart X) (role : Role) → Begins (part_lists.expr_part reads n role) (expr_part_starts starts n)
-unfolding part_lists.expr_part expr_part_starts call_lists.chain_call
-part_begins reads starts law (expr_parts.OptCall n) (ChainCall optional) = unless_begins (is_some n.type_args) _ _ (begins_then _ _ _ (law n.callee.node.value IsCallee))
-part_begins reads starts law (expr_parts.AssignTarget n) AssignmentTarget = target_begins reads starts law n
-part_begins reads starts law n role = begins_never _
+pat_begins : {X : Type 0} (reads : X → Role → Phrase) (starts : X → Bool) → Begin reads starts → (n : Pat X) → Begins (pat_lists.pat reads n) (pat_starts starts n)
+unfolding pat_starts pat_lists.pat names.binding_ident pat_lists.array_pat pat_lists.rest_pat pat_lists.object_pat pat_lists.assign_pat leads begins_as
+pat_begins reads starts law (pats.Ident n) = binding_begins (is_some n.type_ann) n.id
+pat_begins reads starts law (pats.Array n) = bracket_begins (n.optional || is_some n.type_ann) (codes "[") _ false
+pat_begins reads starts law (pats.Rest n) = bracket_begins (is_some n.type_ann) (codes "...") _ false
+pat_begins reads starts law (pats.Object n) = bracket_begins (n.optional || is_some n.type_ann) (codes "{") _ false
+pat_begins reads starts law (pats.Assign n) = begins_then _ _ _ (law n.left.node.value Pattern refl)
+pat_begins reads starts law (pats.Invalid n) = begins_never _
+pat_begins reads starts law (pats.Expr n) = law n.node.value Expression refl
 
-node_begins : {X : Type 0} (reads : X → Role → Phrase) (starts : X → Bool) → Begin reads starts → (n : AnyNode-F X) (role : Role) → Begins (node_phrase reads n role) (node_starts starts n)
-unfolding node_phrase node_starts lists.member_expr lists.chain_member
-node_begins reads starts law (nodes.Expr n) Expression = expr_begins reads starts law n
-node_begins reads starts law (nodes.Expr n) IsCallee = callee_expr_begins reads starts law n
-node_begins reads starts law (nodes.Stmt n) Statement = stmt_begins reads starts law n
-node_begins reads starts law (nodes.MemberExpr n) MemberExpression = begins_then _ _ _ (law n.obj.node.value IsCallee)
-node_begins reads starts law (nodes.MemberExpr n) (ChainMember optional) = begins_then _ _ _ (law n.obj.node.value IsCallee)
-node_begins reads starts law (nodes.ExprPart n) role = part_begins reads starts law n role
-node_begins reads starts law n role = begins_never _
+plain_parameter_begins : {X : Type 0} (starts : X → Bool) (n : Pat X) → Begins (pat_lists.plain_parameter n) (pat_starts starts n)
+unfolding pat_starts pat_lists.plain_parameter pat_lists.plain_name names.binding_ident
+plain_parameter_begins starts (pats.Ident n) = unless_begins n.id.optional _ _ (binding_begins (is_some n.type_ann) n.id)
+plain_parameter_begins starts n = begins_never _
+
+begins_key : (at : BytePos) (bytes : List ℕ) → Begins (KeyOf at bytes) true
+unfolding Generates
+begins_key at bytes = record { some = λ s k. nothing_first _ [] k; told = λ s y ys k j. refl }
+
+prop_name_begins : {X : Type 0} (reads : X → Role → Phrase) (n : PropName X) → Begins (prop_lists.prop_name reads n) (prop_name_starts n)
+unfolding prop_name_starts prop_lists.prop_name lit_lists.str_lit lit_lists.string_token lit_lists.number lit_lists.big_int lists.computed_prop_name joins_a_word
+prop_name_begins reads (prop_names.Ident n) = begins_key _ _
+prop_name_begins reads (prop_names.Str n) = begins_where _ _ _ (begins_other _ false refl)
+prop_name_begins reads (prop_names.Num n) = begins_number n.value n.raw
+prop_name_begins reads (prop_names.BigInt n) = begins_where _ _ _ (begins_signed n.negative _)
+prop_name_begins reads (prop_names.Computed n) = begins_then _ _ _ (begins_mark _ false)
+
+part_begins : {X : Type 0} (reads : X → Role → Phrase) (starts : X → Bool) → Begin reads starts → (n : ExprPart X) (role : Role) → leads role ≡ true → Begins (part_lists.expr_part reads n role) (begins_as role (expr_part_starts starts n))
+unfolding leads begins_as part_lists.expr_part expr_part_starts prop_lists.object_lit call_lists.chain_call
+part_begins reads starts law (expr_parts.Pat n) Pattern h = pat_begins reads starts law n
+part_begins reads starts law (expr_parts.Pat n) PlainParameter h = plain_parameter_begins starts n
+part_begins reads starts law (expr_parts.ObjectLit n) ObjectLiteral h = begins_then _ _ _ (begins_mark _ false)
+part_begins reads starts law (expr_parts.PropName n) PropertyName h = prop_name_begins reads n
+part_begins reads starts law (expr_parts.Prop n) PropertyDefinition h = absurd (true≢false (sym h))
+part_begins reads starts law (expr_parts.OptCall n) (ChainCall optional) h = unless_begins (is_some n.type_args) _ _ (begins_then _ _ _ (law n.callee.node.value IsCallee refl))
+part_begins reads starts law (expr_parts.AssignTarget n) AssignmentTarget h = target_begins reads starts law n
+part_begins reads starts law n role h = begins_never _
+
+kind_begins : (kind : VarDeclKind) → Begins (decl_lists.var_kind kind) true
+unfolding decl_lists.var_kind
+kind_begins Var = begins_true _
+kind_begins Let = begins_true _
+kind_begins Const = begins_true _
+
+var_decl_begins : {X : Type 0} (reads : X → Role → Phrase) (n : VarDecl X) → Begins (decl_lists.var_decl reads n) true
+unfolding decl_lists.var_decl
+var_decl_begins reads n = unless_begins n.declare _ true (begins_then _ _ _ (kind_begins n.kind))
+
+using_begins : (is_await : Bool) (rest : Phrase) → Begins (function_lists.word_if is_await (phrases.word (codes "await")) > phrases.word (codes "using") > rest) true
+unfolding function_lists.word_if
+using_begins true rest = begins_then _ _ _ (begins_true _)
+using_begins false rest = begins_behind _ _ (begins_then _ _ _ (begins_true _))
+
+decl_begins : {X : Type 0} (reads : X → Role → Phrase) (starts : X → Bool) → Begin reads starts → (n : Decl X) → Begins (decl_lists.decl reads n) true
+unfolding leads begins_as decl_lists.decl decl_lists.fn_decl decl_lists.using_decl
+decl_begins reads starts law (decls.Fn n) = unless_begins n.declare _ true (begins_then _ _ _ (law n.function.node.value FunctionHead refl))
+decl_begins reads starts law (decls.Var n) = begins_then _ _ _ (law n.node.value VariableDeclaration refl)
+decl_begins reads starts law (decls.Using n) = begins_then _ _ _ (using_begins n.is_await _)
+decl_begins reads starts law n = begins_never true
+
+stmt_part_begins : {X : Type 0} (reads : X → Role → Phrase) (starts : X → Bool) → Begin reads starts → (n : StmtPart X) (role : Role) → leads role ≡ true → Begins (part_lists.stmt_part reads n role) (begins_as role (stmt_part_starts n))
+unfolding leads begins_as part_lists.stmt_part stmt_part_starts function_lists.function function_lists.function_head stmt_lists.block_stmt
+stmt_part_begins reads starts law (stmt_parts.Function n) Function h = function_begins (is_some n.value.type_params || (is_some n.value.return_type || function_lists.is_some_listed n.value.decorators.items)) _
+stmt_part_begins reads starts law (stmt_parts.Function n) FunctionHead h = function_head_begins n.value n.value.is_async _
+stmt_part_begins reads starts law (stmt_parts.Function n) MethodHead h = absurd (true≢false (sym h))
+stmt_part_begins reads starts law (stmt_parts.BlockStmt n) Block h = begins_then _ _ _ (begins_mark _ false)
+stmt_part_begins reads starts law (stmt_parts.Decl n) Declaration h = decl_begins reads starts law n.value
+stmt_part_begins reads starts law (stmt_parts.VarDecl n) VariableDeclaration h = var_decl_begins reads n
+stmt_part_begins reads starts law n role h = begins_never _
+
+node_begins : {X : Type 0} (reads : X → Role → Phrase) (starts : X → Bool) → Begin reads starts → (n : AnyNode-F X) (role : Role) → leads role ≡ true → Begins (node_phrase reads n role) (begins_as role (node_starts starts n))
+unfolding begins_as node_phrase node_starts lists.member_expr lists.chain_member leads
+node_begins reads starts law (nodes.Expr n) Expression h = expr_begins reads starts law n
+node_begins reads starts law (nodes.Expr n) IsCallee h = callee_expr_begins reads starts law n
+node_begins reads starts law (nodes.Stmt n) Statement h = stmt_begins reads starts law n
+node_begins reads starts law (nodes.MemberExpr n) MemberExpression h = begins_then _ _ _ (law n.obj.node.value IsCallee refl)
+node_begins reads starts law (nodes.MemberExpr n) (ChainMember optional) h = begins_then _ _ _ (law n.obj.node.value IsCallee refl)
+node_begins reads starts law (nodes.ExprPart n) role h = part_begins reads starts law n role h
+node_begins reads starts law (nodes.StmtPart n) role h = stmt_part_begins reads starts law n role h
+node_begins reads starts law n role h = begins_never _
 
 -- ---- whole nodes
 
@@ -279,15 +443,15 @@ both : (f g : Phrase) (b c : Bool) → f ≡ g → b ≡ c → Begins g c → Be
 both f g b c e d h = subst (λ z. Begins z b) (sym e) (subst (λ z. Begins g z) (sym d) h)
 
 abbrev Law : AnyNode → Type 0
-Law n = (role : Role) → Begins (phrase n role) (any_starts n)
+Law n = (role : Role) → leads role ≡ true → Begins (phrase n role) (begins_as role (any_starts n))
 
 abbrev Child : Type 0
 Child = Such the_family (claims Law) member-AnyNode
 
 begins : Begin phrase any_starts
-begins = ind-AnyNode Law (λ x y q. subst (λ z. Law (roll-AnyNode z)) q (λ role.
-    both _ _ _ _ (phrase_of {X = Child} (λ z. z.0) y role) (starts_of {X = Child} (λ z. z.0) y)
-    (node_begins {X = Child} (λ z. phrase z.0) (λ z. any_starts z.0) (λ z. z.1) y role)))
+begins = ind-AnyNode Law (λ x y q. subst (λ z. Law (roll-AnyNode z)) q (λ role h.
+    both _ _ _ _ (phrase_of {X = Child} (λ z. z.0) y role) (ap (begins_as role) (starts_of {X = Child} (λ z. z.0) y))
+    (node_begins {X = Child} (λ z. phrase z.0) (λ z. any_starts z.0) (λ z. z.1) y role h)))
 
 -- Where an expression begins with a word, a name or a number, it is said to begin with a character of a name.
 pub first_told : (n : Expr AnyNode) (s : Settings) (x : Token) (xs : List Token) → Generates s (expr_phrase n) (x ∷ xs) → joins_a_word x.kind ≡ true → expr_starts any_starts n ≡ true

@@ -51,7 +51,7 @@ member_written n m h = ap (λ z. any_items z Plain) h ∙ any_items_member_expr 
 part_written : (n : AnyNode) (m : ExprPart AnyNode) → n ≡ whole.ExprPart m → any_items n Plain ≡ expr_part any_answers any_items m Plain
 part_written n m h = ap (λ z. any_items z Plain) h ∙ any_items_expr_part m Plain
 
-pub assign_target_written : (n : AnyNode) (m : AssignTarget AnyNode) → n ≡ whole.ExprPart (expr_parts.AssignTarget m) → any_items n Plain ≡ assign_target any_items m
+pub assign_target_written : (n : AnyNode) (m : AssignTarget AnyNode) → n ≡ whole.ExprPart (expr_parts.AssignTarget m) → any_items n Plain ≡ assign_target any_answers any_items m
 unfolding expr_part
 assign_target_written n m h = part_written n (expr_parts.AssignTarget m) h
 

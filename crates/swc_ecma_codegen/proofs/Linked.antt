@@ -1,24 +1,32 @@
 -- What a law of one node takes: what is known of whatever its links hold.
-use Rattle.std.proofs.Common.{◌≡◌, false}
-use Rattle.swc_ecma_codegen_ast.specs.Phrases.{Phrase}
+use Rattle.std.proofs.Common.{◌≡◌, false, cond}
+use Rattle.swc_ecma_codegen_ast.specs.Phrases.{Phrase, Never}
 use Rattle.swc_ecma_codegen_ast.specs.declared.roles.Role.{Role}
-use Rattle.swc_ecma_codegen_ast.specs.declared.roles.Role.TheVariants.{Expression, Statement}
+use Rattle.swc_ecma_codegen_ast.specs.declared.roles.Role.TheVariants.{Expression, Statement, Pattern, PlainParameter, PropertyName, Block, Declaration, VariableDeclaration}
 use Rattle.swc_ecma_codegen_tree.specs.declared.expr_links.ExprBox.{ExprBox}
+use Rattle.swc_ecma_codegen_tree.specs.declared.expr_links.PatBox.{PatBox}
+use Rattle.swc_ecma_codegen_tree.specs.declared.expr_links.PropNameBox.{PropNameBox}
+use Rattle.swc_ecma_codegen_tree.specs.declared.stmt_links.BlockStmtBox.{BlockStmtBox}
+use Rattle.swc_ecma_codegen_tree.specs.declared.stmt_links.DeclBox.{DeclBox}
 use Rattle.swc_ecma_codegen_tree.specs.declared.stmt_links.StmtBox.{StmtBox}
+use Rattle.swc_ecma_codegen_tree.specs.declared.stmt_links.VarDeclBox.{VarDeclBox}
 use Rattle.swc_ecma_codegen_base.specs.Run.{Env, Part}
 use Rattle.swc_ecma_codegen_base.proofs.Phrased.{Prints}
 use Rattle.swc_ecma_codegen.specs.declared.nodes.Place.{Place}
 use Rattle.swc_ecma_codegen.specs.declared.nodes.Place.TheVariants.{Plain}
 use Rattle.swc_ecma_codegen.specs.Answers.{Answers}
+use Rattle.swc_ecma_codegen.specs.Functions.{is_plain}
 use Rattle.swc_ecma_codegen.specs.Places.{placed}
 
--- what it answers, what is written of it, and what it reads as, in each role; and that the one is the other
+-- What it answers, what is written of it, and what it reads as, in each role; that it is said to be a name alone where it may stand
+-- without parentheses; and that what is written is what it reads as.
 pub record Linked (X : Type 0) : Type 0 where
   pub env : Env
   pub leaves_out : env.keeps_invalid ≡ false
   pub asks : X → Answers
   pub items : X → Place → Part
   pub reads : X → Role → Phrase
+  pub plain : (x : X) → reads x PlainParameter ≡ cond (is_plain (asks x).pattern) (reads x Pattern) Never
   pub law : (x : X) (place : Place) (role : Role) → Prints env (items x (placed role place)) (reads x role)
 
 pub expr_at : {X : Type 0} (l : Linked X) (n : ExprBox X) (place : Place) → Prints l.env (l.items n.node.value (placed Expression place)) (l.reads n.node.value Expression)
@@ -26,3 +34,18 @@ expr_at l n place = l.law n.node.value place Expression
 
 pub stmt_at : {X : Type 0} (l : Linked X) (n : StmtBox X) → Prints l.env (l.items n.node.value Plain) (l.reads n.node.value Statement)
 stmt_at l n = l.law n.node.value Plain Statement
+
+pub pat_at : {X : Type 0} (l : Linked X) (n : PatBox X) → Prints l.env (l.items n.node.value Plain) (l.reads n.node.value Pattern)
+pat_at l n = l.law n.node.value Plain Pattern
+
+pub prop_name_at : {X : Type 0} (l : Linked X) (n : PropNameBox X) → Prints l.env (l.items n.node.value Plain) (l.reads n.node.value PropertyName)
+prop_name_at l n = l.law n.node.value Plain PropertyName
+
+pub block_at : {X : Type 0} (l : Linked X) (n : BlockStmtBox X) (place : Place) → Prints l.env (l.items n.node.value place) (l.reads n.node.value Block)
+block_at l n place = l.law n.node.value place Block
+
+pub decl_at : {X : Type 0} (l : Linked X) (n : DeclBox X) (place : Place) → Prints l.env (l.items n.node.value place) (l.reads n.node.value Declaration)
+decl_at l n place = l.law n.node.value place Declaration
+
+pub var_decl_at : {X : Type 0} (l : Linked X) (n : VarDeclBox X) → Prints l.env (l.items n.node.value Plain) (l.reads n.node.value VariableDeclaration)
+var_decl_at l n = l.law n.node.value Plain VariableDeclaration

@@ -1,61 +1,194 @@
 -- What is written of each statement and program is what it reads as.
-use Rattle.std.proofs.Common.{Bool, true, false, cond, is_some, List, [], ◌∷◌, map, codes, refl, inl, inr}
-use Rattle.std.specs.Str.{chars, is_utf8}
+use Rattle.std.proofs.Common.{ℕ, Bool, true, false, cond, is_some, List, [], ◌∷◌, map, codes, refl, inl, inr, Option, Some, None}
 use Rattle.std.proofs.lemmas.Bool.{cases_Bool}
 use Rattle.swc_ecma_codegen_common.specs.declared.positions.Span.{Span}
+use Rattle.swc_ecma_codegen_tree.specs.declared.expr_links.ExprBox.{ExprBox}
+use Rattle.swc_ecma_codegen_tree.specs.declared.expr_links.PatBox.{PatBox}
+use Rattle.swc_ecma_codegen_tree.specs.declared.stmt_links.BlockStmtBox.{BlockStmtBox}
+use Rattle.swc_ecma_codegen_tree.specs.declared.stmt_links.StmtBox.{StmtBox}
+use Rattle.swc_ecma_codegen_tree.specs.declared.stmts.BreakStmt.{BreakStmt}
+use Rattle.swc_ecma_codegen_tree.specs.declared.stmts.CatchClause.{CatchClause}
+use Rattle.swc_ecma_codegen_tree.specs.declared.stmts.ContinueStmt.{ContinueStmt}
+use Rattle.swc_ecma_codegen_tree.specs.declared.stmts.DebuggerStmt.{DebuggerStmt}
 use Rattle.swc_ecma_codegen_tree.specs.declared.stmts.EmptyStmt.{EmptyStmt}
 use Rattle.swc_ecma_codegen_tree.specs.declared.stmts.ExprStmt.{ExprStmt}
+use Rattle.swc_ecma_codegen_tree.specs.declared.stmts.IfStmt.{IfStmt}
+use Rattle.swc_ecma_codegen_tree.specs.declared.stmts.LabeledStmt.{LabeledStmt}
+use Rattle.swc_ecma_codegen_tree.specs.declared.stmts.ReturnStmt.{ReturnStmt}
 use Rattle.swc_ecma_codegen_tree.specs.declared.stmts.Stmt.{Stmt}
 use Rattle.swc_ecma_codegen_tree.specs.declared.stmts.Stmt.TheVariants as stmts
+use Rattle.swc_ecma_codegen_tree.specs.declared.stmts.ThrowStmt.{ThrowStmt}
+use Rattle.swc_ecma_codegen_tree.specs.declared.stmts.TryStmt.{TryStmt}
+use Rattle.swc_ecma_codegen_tree.specs.declared.stmts.WithStmt.{WithStmt}
 use Rattle.swc_ecma_codegen_tree.specs.declared.programs.Program.{Program}
 use Rattle.swc_ecma_codegen_tree.specs.declared.programs.Program.TheVariants as program_variants
 use Rattle.swc_ecma_codegen_tree.specs.declared.programs.Script.{Script}
 use Rattle.swc_ecma_codegen_spans.specs.Spans.{stmt_span}
-use Rattle.swc_ecma_codegen_ast.specs.Punctuators.{is_punctuator, punctuators}
-use Rattle.swc_ecma_codegen_ast.specs.Texts.{is_same, is_among}
 use Rattle.swc_ecma_codegen_ast.specs.Phrases.{Never, in_order}
 use Rattle.swc_ecma_codegen_ast.specs.StmtPhrases as lists
+use Rattle.swc_ecma_codegen_base.specs.Lists.{blank_if}
 use Rattle.swc_ecma_codegen_base.specs.Run.{Env}
-use Rattle.swc_ecma_codegen_base.specs.Words.{formatting_line, commit_pending_semi, trailing_comments}
-use Rattle.swc_ecma_codegen_base.specs.Written.{IsMark}
-use Rattle.swc_ecma_codegen_base.proofs.Printed.{Writes, writes_then, writes_same, writes_nothing, writes_formatting_line, writes_commit, writes_position, writes_leading, writes_trailing}
-use Rattle.swc_ecma_codegen_base.proofs.Phrased.{Prints, then, after, before, prints_never, prints_punct, prints_semi}
-use Rattle.swc_ecma_codegen.specs.declared.nodes.Place.TheVariants.{Plain}
+use Rattle.swc_ecma_codegen_base.specs.Words.{formatting_space, formatting_line, commit_pending_semi, trailing_comments}
+use Rattle.swc_ecma_codegen_base.proofs.Choices.{prints_bare}
+use Rattle.swc_ecma_codegen_base.proofs.Phrased.{Prints, then, after, before, prints_nothing, prints_never, prints_keyword, prints_punct, prints_semi}
+use Rattle.swc_ecma_codegen_base.proofs.Printed.{Writes, writes_then, writes_same, writes_if, writes_nothing, writes_formatting_space, writes_formatting_line, writes_commit, writes_position, writes_leading, writes_trailing}
+use Rattle.swc_ecma_codegen.specs.declared.nodes.Place.TheVariants.{Plain, Statement}
 use Rattle.swc_ecma_codegen.specs.Answers.{place_of}
+use Rattle.swc_ecma_codegen.specs.Branches.{is_block}
 use Rattle.swc_ecma_codegen.specs.Lists.{unsupported}
 use Rattle.swc_ecma_codegen.specs.Stmts as words
 use Rattle.swc_ecma_codegen.specs.Programs as programs
 use Rattle.swc_ecma_codegen.proofs.Asked.{kept_same, committed_same}
-use Rattle.swc_ecma_codegen.proofs.Linked.{Linked, expr_at, stmt_at}
+use Rattle.swc_ecma_codegen.proofs.ExprParts.{writes_opened, ident_prints}
+use Rattle.swc_ecma_codegen.proofs.FunctionParts.{name_prints}
+use Rattle.swc_ecma_codegen.proofs.Linked.{Linked, expr_at, stmt_at, pat_at, block_at, decl_at}
 use Rattle.swc_ecma_codegen.proofs.ListParts.{in_order_prints}
-
-semi_is_mark : IsMark (codes ";")
-unfolding is_punctuator is_among is_same punctuators chars is_utf8 lib.Utf8.encode
-semi_is_mark = record { utf8 = refl; ascii = refl; shape = refl }
+use Rattle.swc_ecma_codegen.proofs.LoopParts.{begun, enclosed_then, spaced_expr, spaced_stmt, switch_prints, while_prints, do_while_prints, for_prints, for_in_prints, for_of_prints}
+use Rattle.swc_ecma_codegen.proofs.MarkWords as marks
 
 -- ---- statements
 
 empty_prints : (env : Env) (n : EmptyStmt) → Prints env (words.empty_stmt n) (lists.empty_stmt n)
 unfolding words.empty_stmt lists.empty_stmt
-empty_prints env n = after (writes_leading env n.span.lo) (prints_punct env (codes ";") semi_is_mark)
+empty_prints env n = after (writes_leading env n.span.lo) (prints_punct env (codes ";") marks.semicolon)
 
 expr_stmt_prints : {X : Type 0} (l : Linked X) (n : ExprStmt X) → Prints l.env (words.expr_stmt l.items n) (lists.expr_stmt l.reads n)
 unfolding words.expr_stmt lists.expr_stmt
 expr_stmt_prints l n = after (writes_leading l.env n.span.lo) (then (expr_at l n.expr Plain) (prints_semi l.env))
 
-parts_print : {X : Type 0} (l : Linked X) (n : Stmt X) → Prints l.env (words.stmt_parts l.items n) (lists.stmt l.reads n)
+debugger_prints : (env : Env) (n : DebuggerStmt) → Prints env (words.debugger_stmt n) (lists.debugger_stmt n)
+unfolding words.debugger_stmt lists.debugger_stmt
+debugger_prints env n = after (writes_commit env) (after (writes_leading env n.span.lo) (then (prints_keyword env (Some n.span) (codes "debugger") marks.debugger_word) (prints_semi env)))
+
+with_prints : {X : Type 0} (l : Linked X) (n : WithStmt X) → Prints l.env (words.with_stmt l.items n) (lists.with_stmt l.reads n)
+unfolding words.with_stmt lists.with_stmt
+with_prints l n =
+    after (writes_commit l.env)
+    (after (writes_position l.env n.span.lo)
+    (then (prints_keyword l.env None (codes "with") marks.with_word)
+    (after (writes_formatting_space l.env) (enclosed_then l n.obj (stmt_at l n.body)))))
+
+return_arg_prints : {X : Type 0} (l : Linked X) (n : Option (ExprBox X)) → Prints l.env (words.return_arg l.asks l.items n) (lists.return_arg l.reads n)
+unfolding words.return_arg lists.return_arg
+return_arg_prints l None = prints_nothing
+return_arg_prints l (Some n) = prints_bare (spaced_expr l n)
+
+return_prints : {X : Type 0} (l : Linked X) (n : ReturnStmt X) → Prints l.env (words.return_stmt l.asks l.items n) (lists.return_stmt l.reads n)
+unfolding words.return_stmt lists.return_stmt
+return_prints l n = begun l.env n.span (codes "return") marks.return_word (then (return_arg_prints l n.arg) (prints_semi l.env))
+
+labeled_prints : {X : Type 0} (l : Linked X) (n : LabeledStmt X) → Prints l.env (words.labeled_stmt l.items n) (lists.labeled_stmt l.reads n)
+unfolding words.labeled_stmt lists.labeled_stmt
+labeled_prints l n =
+    after (writes_commit l.env)
+    (then (ident_prints l n.label)
+    (then (prints_punct l.env (codes ":") marks.colon)
+    (after (writes_formatting_space l.env) (stmt_at l n.body))))
+
+break_prints : {X : Type 0} (l : Linked X) (n : BreakStmt) → Prints l.env (words.break_stmt n) (lists.break_stmt n)
+unfolding words.break_stmt words.jump lists.break_stmt
+break_prints l n = after (writes_commit l.env) (after (writes_position l.env n.span.lo) (then (prints_keyword l.env None (codes "break") marks.break_word) (then (name_prints l n.label) (prints_semi l.env))))
+
+continue_prints : {X : Type 0} (l : Linked X) (n : ContinueStmt) → Prints l.env (words.continue_stmt n) (lists.continue_stmt n)
+unfolding words.continue_stmt words.jump lists.continue_stmt
+continue_prints l n = after (writes_commit l.env) (after (writes_position l.env n.span.lo) (then (prints_keyword l.env None (codes "continue") marks.continue_word) (then (name_prints l n.label) (prints_semi l.env))))
+
+-- ---- `if` and `try`
+
+writes_blank_if : (env : Env) (wanted : Bool) → Writes env (blank_if wanted) []
+unfolding blank_if
+writes_blank_if env wanted = writes_if env wanted formatting_space (λ rest. rest) [] (writes_formatting_space env) (writes_nothing env)
+
+else_prints : {X : Type 0} (l : Linked X) (block : Bool) (n : Option (StmtBox X)) → Prints l.env (words.else_branch l.asks l.items block n) (lists.else_branch l.reads n)
+unfolding words.else_branch lists.else_branch
+else_prints l block None = prints_nothing
+else_prints l block (Some n) = after (writes_blank_if l.env block) (then (prints_keyword l.env None (codes "else") marks.else_word) (spaced_stmt l n))
+
+if_prints : {X : Type 0} (l : Linked X) (n : IfStmt X) → Prints l.env (words.if_stmt l.asks l.items n) (lists.if_stmt l.reads n)
+unfolding words.if_stmt words.spaced_word lists.if_stmt
+if_prints l n =
+    after (writes_leading l.env n.span.lo)
+    (after (writes_commit l.env)
+    (after (writes_position l.env n.span.lo)
+    (then (prints_keyword l.env None (codes "if") marks.if_word)
+    (after (writes_formatting_space l.env)
+    (enclosed_then l n.test
+    (after (writes_formatting_space l.env) (then (stmt_at l n.cons) (else_prints l (l.asks n.cons.node.value).block n.alt))))))))
+
+catch_param_prints : {X : Type 0} (l : Linked X) (n : Option (PatBox X)) → Prints l.env (words.catch_param l.items n) (lists.catch_param l.reads n)
+unfolding words.catch_param lists.catch_param
+catch_param_prints l None = prints_nothing
+catch_param_prints l (Some n) = then (prints_punct l.env (codes "(") marks.left_parenthesis) (then (pat_at l n) (prints_punct l.env (codes ")") marks.right_parenthesis))
+
+catch_prints : {X : Type 0} (l : Linked X) (n : CatchClause X) → Prints l.env (words.catch_clause l.items n) (lists.catch_clause l.reads n)
+unfolding words.catch_clause lists.catch_clause
+catch_prints l n =
+    after (writes_opened l.env n.span)
+    (then (prints_keyword l.env None (codes "catch") marks.catch_word)
+    (after (writes_formatting_space l.env)
+    (then (catch_param_prints l n.param)
+    (after (writes_formatting_space l.env) (block_at l n.body Plain)))))
+
+handler_prints : {X : Type 0} (l : Linked X) (n : Option (CatchClause X)) → Prints l.env (words.handler l.items n) (lists.handler l.reads n)
+unfolding words.handler lists.handler
+handler_prints l None = prints_nothing
+handler_prints l (Some n) = after (writes_formatting_space l.env) (catch_prints l n)
+
+finalizer_prints : {X : Type 0} (l : Linked X) (n : Option (BlockStmtBox X)) → Prints l.env (words.finalizer l.items n) (lists.finalizer l.reads n)
+unfolding words.finalizer lists.finalizer
+finalizer_prints l None = prints_nothing
+finalizer_prints l (Some n) = after (writes_formatting_space l.env) (then (prints_keyword l.env None (codes "finally") marks.finally_word) (block_at l n Plain))
+
+try_prints : {X : Type 0} (l : Linked X) (n : TryStmt X) → Prints l.env (words.try_stmt l.items n) (lists.try_stmt l.reads n)
+unfolding words.try_stmt words.spaced_word lists.try_stmt
+try_prints l n =
+    after (writes_leading l.env n.span.lo)
+    (after (writes_commit l.env)
+    (after (writes_position l.env n.span.lo)
+    (then (prints_keyword l.env None (codes "try") marks.try_word)
+    (after (writes_formatting_space l.env)
+    (then (block_at l n.block Plain) (then (handler_prints l n.handler) (finalizer_prints l n.finalizer)))))))
+
+throw_prints : {X : Type 0} (l : Linked X) (n : ThrowStmt X) → Prints l.env (words.throw_stmt l.asks l.items n) (lists.throw_stmt l.reads n)
+unfolding words.throw_stmt lists.throw_stmt
+throw_prints l n =
+    after (writes_opened l.env n.span)
+    (then (prints_keyword l.env None (codes "throw") marks.throw_word)
+    (then (prints_bare (spaced_expr l n.arg)) (prints_semi l.env)))
+
+-- ---- all of them
+
+parts_print : {X : Type 0} (l : Linked X) (n : Stmt X) → Prints l.env (words.stmt_parts l.asks l.items n) (lists.stmt l.reads n)
 unfolding words.stmt_parts lists.stmt
+parts_print l (stmts.Block n) = block_at l n Plain
 parts_print l (stmts.Empty n) = empty_prints l.env n
+parts_print l (stmts.Debugger n) = debugger_prints l.env n
+parts_print l (stmts.With n) = with_prints l n
+parts_print l (stmts.Return n) = return_prints l n
+parts_print l (stmts.Labeled n) = labeled_prints l n
+parts_print l (stmts.Break n) = break_prints l n
+parts_print l (stmts.Continue n) = continue_prints l n
+parts_print l (stmts.If n) = if_prints l n
+parts_print l (stmts.Switch n) = switch_prints l n
+parts_print l (stmts.Throw n) = throw_prints l n
+parts_print l (stmts.Try n) = try_prints l n
+parts_print l (stmts.While n) = while_prints l n
+parts_print l (stmts.DoWhile n) = do_while_prints l n
+parts_print l (stmts.For n) = for_prints l n
+parts_print l (stmts.ForIn n) = for_in_prints l n
+parts_print l (stmts.ForOf n) = for_of_prints l n
+parts_print l (stmts.Decl n) = decl_at l n Statement
 parts_print l (stmts.Expr n) = expr_stmt_prints l n
-parts_print l n = prints_never
 
-writes_stmt_end : (env : Env) (span : Span) → Writes env (λ rest. trailing_comments true span.hi (formatting_line rest)) []
-writes_stmt_end env span = writes_then env (trailing_comments true span.hi) formatting_line [] [] (writes_trailing env true span.hi) (writes_formatting_line env)
+-- the comments after it, and the end of its line, which a block doesn't end
+writes_closed : (env : Env) (block : Bool) (span : Span) → Writes env (words.stmt_closed block span) []
+unfolding words.stmt_closed
+writes_closed env true span = writes_nothing env
+writes_closed env false span = writes_then env (trailing_comments true span.hi) formatting_line [] [] (writes_trailing env true span.hi) (writes_formatting_line env)
 
--- the comments after it, and the end of its line
 pub stmt_prints : {X : Type 0} (l : Linked X) (n : Stmt X) → Prints l.env (words.stmt l.asks l.items n) (lists.stmt l.reads n)
 unfolding words.stmt
-stmt_prints l n = before (parts_print l n) (writes_stmt_end l.env (stmt_span (place_of l.asks) n))
+stmt_prints l n = before (parts_print l n) (writes_closed l.env (is_block n) (stmt_span (place_of l.asks) n))
 
 -- ---- programs
 

@@ -21,8 +21,9 @@ use Rattle.swc_ecma_codegen.specs.Places.{placed, outside, inside}
 use Rattle.swc_ecma_codegen.specs.Tree.{node_items, any_items}
 use Rattle.swc_ecma_codegen.proofs.Knots.{items_of}
 use Rattle.swc_ecma_codegen.proofs.Linked.{Linked}
-use Rattle.swc_ecma_codegen.proofs.ExprParts.{plain_expr_prints, callee_expr_prints, member_prints, chain_member_prints}
-use Rattle.swc_ecma_codegen.proofs.PartLaws.{part_prints}
+use Rattle.swc_ecma_codegen.proofs.ExprParts.{member_prints, chain_member_prints, plain_expr_prints, callee_expr_prints}
+use Rattle.swc_ecma_codegen.proofs.PartLaws.{part_prints, stmt_part_prints}
+use Rattle.swc_ecma_codegen.proofs.PatternLaws.{plain_reads}
 use Rattle.swc_ecma_codegen.proofs.StmtParts.{stmt_prints}
 
 -- `new A()` keeps its parentheses inside of a callee alone
@@ -46,6 +47,7 @@ node_prints l (nodes.Stmt n) place Statement = stmt_prints l n
 node_prints l (nodes.MemberExpr n) place MemberExpression = member_prints l n
 node_prints l (nodes.MemberExpr n) place (ChainMember optional) = chain_member_prints l optional n
 node_prints l (nodes.ExprPart n) place role = part_prints l n place role
+node_prints l (nodes.StmtPart n) place role = stmt_part_prints l n place role
 node_prints l n place role = prints_never
 
 abbrev Law : Env → AnyNode → Type 0
@@ -53,7 +55,7 @@ Law env n = (place : Place) (role : Role) → Prints env (any_items n (placed ro
 
 -- nodes that a link of the tree holds, with the law of each
 abbrev children : (env : Env) → env.keeps_invalid ≡ false → Linked (Such the_family (claims (Law env)) member-AnyNode)
-children env e = record { env = env; leaves_out = e; asks = λ y. any_answers y.0; items = λ y. any_items y.0; reads = λ y. phrase y.0; law = λ y. y.1 }
+children env e = record { env = env; leaves_out = e; asks = λ y. any_answers y.0; items = λ y. any_items y.0; reads = λ y. phrase y.0; plain = λ y. plain_reads y.0; law = λ y. y.1 }
 
 pub prints : (env : Env) → env.keeps_invalid ≡ false → (n : AnyNode) → Law env n
 prints env e = ind-AnyNode (Law env) (λ x y q. subst (λ z. Law env (roll-AnyNode z)) q (λ place role.
@@ -64,4 +66,4 @@ prints env e = ind-AnyNode (Law env) (λ x y q. subst (λ z. Law env (roll-AnyNo
 
 -- the nodes of a whole tree
 abbrev pub known : (env : Env) → env.keeps_invalid ≡ false → Linked AnyNode
-known env e = record { env = env; leaves_out = e; asks = any_answers; items = any_items; reads = phrase; law = prints env e }
+known env e = record { env = env; leaves_out = e; asks = any_answers; items = any_items; reads = phrase; plain = plain_reads; law = prints env e }

@@ -7,7 +7,10 @@ use Rattle.swc_ecma_codegen_common.specs.declared.operators.BinaryOp.{BinaryOp}
 use Rattle.swc_ecma_codegen_util.specs.Starts.{any_starts}
 use Rattle.swc_ecma_codegen_util.specs.Ends.{any_ends}
 use Rattle.swc_ecma_codegen.specs.declared.operands.OperandKind.{OperandKind}
+use Rattle.swc_ecma_codegen.specs.declared.patterns.PatternKind.{PatternKind}
 use Rattle.swc_ecma_codegen.specs.Operands.{any_kind, any_space}
+use Rattle.swc_ecma_codegen.specs.Branches.{any_block}
+use Rattle.swc_ecma_codegen.specs.Patterns.{any_pattern}
 
 pub record Answers : Type 0 where
   -- where it stands
@@ -20,10 +23,14 @@ pub record Answers : Type 0 where
   pub kind : OperandKind
   -- a blank is due before it, after an operator
   pub space : BinaryOp → Bool
+  -- what it begins with, where it is a pattern
+  pub pattern : PatternKind
+  -- it is a block, where it is a statement
+  pub block : Bool
 
 -- where what a link holds stands
 abbrev pub place_of : {X : Type 0} → (X → Answers) → X → Span
 place_of asks x = (asks x).place
 
 unfoldable pub any_answers : AnyNode → Answers
-any_answers n = record { place = any_span n; starts = any_starts n; ends = any_ends n; kind = any_kind n; space = any_space n }
+any_answers n = record { place = any_span n; starts = any_starts n; ends = any_ends n; kind = any_kind n; space = any_space n; pattern = any_pattern n; block = any_block n }

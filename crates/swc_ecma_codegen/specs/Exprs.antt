@@ -43,6 +43,7 @@ use Rattle.swc_ecma_codegen.specs.declared.nodes.Place.{Place}
 use Rattle.swc_ecma_codegen.specs.declared.nodes.Place.TheVariants.{Plain, LeftOperand, Object, DottedObject, Callee, Chain}
 use Rattle.swc_ecma_codegen.specs.Answers.{Answers, place_of}
 use Rattle.swc_ecma_codegen.specs.Operands.{is_word_op, space_after, operand_space}
+use Rattle.swc_ecma_codegen.specs.Functions.{fn_expr, arrow_expr}
 use Rattle.swc_ecma_codegen.specs.Calls.{super_keyword, array_lit, call_expr, keeps_arguments, new_expr}
 use Rattle.swc_ecma_codegen.specs.Lists.{listed, unsupported}
 use Rattle.swc_ecma_codegen.specs.Lits.{lit_at, is_number_object}
@@ -229,6 +230,8 @@ paren items n rest = commit_pending_semi (opened n.span (punct (codes "(") (item
 -- an expression by its variant
 unfoldable pub expr_parts : {X : Type 0} → (X → Answers) → (X → Place → Part) → Expr X → Place → Part
 expr_parts asks items (exprs.This n) place rest = this n rest
+expr_parts asks items (exprs.Object n) place rest = items n.node.value Plain rest
+expr_parts asks items (exprs.Fn n) place rest = fn_expr asks items n rest
 expr_parts asks items (exprs.Array n) place rest = array_lit asks items n rest
 expr_parts asks items (exprs.Unary n) place rest = unary asks items n rest
 expr_parts asks items (exprs.Update n) place rest = update items n rest
@@ -242,6 +245,7 @@ expr_parts asks items (exprs.New n) place rest = new_expr asks items (keeps_argu
 expr_parts asks items (exprs.Seq n) place rest = seq items n rest
 expr_parts asks items (exprs.Ident n) place rest = ident n rest
 expr_parts asks items (exprs.Lit n) place rest = lit_at n place rest
+expr_parts asks items (exprs.Arrow n) place rest = arrow_expr asks items n rest
 expr_parts asks items (exprs.Yield n) place rest = yield_expr asks items n rest
 expr_parts asks items (exprs.MetaProp n) place rest = meta_prop_expr n rest
 expr_parts asks items (exprs.Await n) place rest = await_expr items n rest

@@ -1,14 +1,32 @@
--- What is written of the parts of expressions that links hold, by their sorts.
+-- What is written of the parts of expressions and statements that links hold, by their sorts.
 use Rattle.swc_ecma_codegen_tree.specs.declared.parts.ExprPart.{ExprPart}
 use Rattle.swc_ecma_codegen_tree.specs.declared.parts.ExprPart.TheVariants as expr_parts
+use Rattle.swc_ecma_codegen_tree.specs.declared.parts.StmtPart.{StmtPart}
+use Rattle.swc_ecma_codegen_tree.specs.declared.parts.StmtPart.TheVariants as stmt_parts
 use Rattle.swc_ecma_codegen_base.specs.Run.{Part}
 use Rattle.swc_ecma_codegen.specs.declared.nodes.Place.{Place}
 use Rattle.swc_ecma_codegen.specs.Answers.{Answers}
+use Rattle.swc_ecma_codegen.specs.Blocks.{block_stmt}
+use Rattle.swc_ecma_codegen.specs.Decls.{decl, var_decl}
+use Rattle.swc_ecma_codegen.specs.Functions.{function}
 use Rattle.swc_ecma_codegen.specs.Calls.{chain_call, is_optional}
 use Rattle.swc_ecma_codegen.specs.Lists.{unsupported}
+use Rattle.swc_ecma_codegen.specs.Pats.{pat}
+use Rattle.swc_ecma_codegen.specs.Props.{object_lit, prop, prop_name}
 use Rattle.swc_ecma_codegen.specs.Targets.{assign_target}
 
 unfoldable pub expr_part : {X : Type 0} → (X → Answers) → (X → Place → Part) → ExprPart X → Place → Part
+expr_part asks items (expr_parts.Pat n) place rest = pat asks items n rest
+expr_part asks items (expr_parts.ObjectLit n) place rest = object_lit asks items n rest
+expr_part asks items (expr_parts.PropName n) place rest = prop_name items n rest
+expr_part asks items (expr_parts.Prop n) place rest = prop asks items n rest
+expr_part asks items (expr_parts.AssignTarget n) place rest = assign_target asks items n rest
 expr_part asks items (expr_parts.OptCall n) place rest = chain_call asks items (is_optional place) n rest
-expr_part asks items (expr_parts.AssignTarget n) place rest = assign_target items n rest
 expr_part asks items n place rest = unsupported rest
+
+unfoldable pub stmt_part : {X : Type 0} → (X → Answers) → (X → Place → Part) → StmtPart X → Place → Part
+stmt_part asks items (stmt_parts.Function n) place rest = function items n.value place rest
+stmt_part asks items (stmt_parts.BlockStmt n) place rest = block_stmt asks items n place rest
+stmt_part asks items (stmt_parts.Decl n) place rest = decl asks items n.value place rest
+stmt_part asks items (stmt_parts.VarDecl n) place rest = var_decl asks items n rest
+stmt_part asks items n place rest = unsupported rest

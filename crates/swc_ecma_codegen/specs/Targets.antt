@@ -6,9 +6,11 @@ use Rattle.swc_ecma_codegen_tree.specs.declared.pats.SimpleAssignTarget.TheVaria
 use Rattle.swc_ecma_codegen_base.specs.Run.{Part}
 use Rattle.swc_ecma_codegen.specs.declared.nodes.Place.{Place}
 use Rattle.swc_ecma_codegen.specs.declared.nodes.Place.TheVariants.{Plain}
+use Rattle.swc_ecma_codegen.specs.Answers.{Answers}
 use Rattle.swc_ecma_codegen.specs.Exprs.{super_prop_expr, paren, opt_chain}
 use Rattle.swc_ecma_codegen.specs.Lists.{unsupported}
 use Rattle.swc_ecma_codegen.specs.Names.{binding_ident}
+use Rattle.swc_ecma_codegen.specs.Pats.{assign_target_pat}
 
 -- `a`, `a.b`, `super.a`, `(a)`
 unfoldable pub simple_assign_target : {X : Type 0} → (X → Place → Part) → SimpleAssignTarget X → Part
@@ -19,7 +21,6 @@ simple_assign_target items (simple_targets.Paren n) rest = paren items n rest
 simple_assign_target items (simple_targets.OptChain n) rest = opt_chain items n rest
 simple_assign_target items n rest = unsupported rest
 
--- patterns aren't printed yet
-unfoldable pub assign_target : {X : Type 0} → (X → Place → Part) → AssignTarget X → Part
-assign_target items (targets.Simple n) rest = simple_assign_target items n rest
-assign_target items n rest = unsupported rest
+unfoldable pub assign_target : {X : Type 0} → (X → Answers) → (X → Place → Part) → AssignTarget X → Part
+assign_target asks items (targets.Simple n) rest = simple_assign_target items n rest
+assign_target asks items (targets.Pat n) rest = assign_target_pat asks items n rest

@@ -23,7 +23,7 @@ use swc_ecma_codegen_tree::{
 
 /// Whether the last element is a hole, `[a, ,]`.
 #[tactic(auto, unfolding(swc_ecma_codegen_ast::specs::ElementPhrases::last_is_hole))]
-fn ends_with_hole<T>(elems: &[Option<T>]) -> bool
+pub(crate) fn ends_with_hole<T>(elems: &[Option<T>]) -> bool
     ensures { result ≡ last_is_hole elems.now }
 {
     match elems {

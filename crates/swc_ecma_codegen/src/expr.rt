@@ -57,6 +57,8 @@ fn expr_parts<N: Held, W: WriteJs, S: SourceMapper, C: Comments>(
 {
     match node {
         Expr::This(node) => node.emit_at(e, place),
+        Expr::Object(node) => node.held().emit_at(e, Place::Plain),
+        Expr::Fn(node) => node.emit_at(e, place),
         Expr::Array(node) => node.emit_at(e, place),
         Expr::Unary(node) => node.emit_at(e, place),
         Expr::Update(node) => node.emit_at(e, place),
@@ -70,16 +72,14 @@ fn expr_parts<N: Held, W: WriteJs, S: SourceMapper, C: Comments>(
         Expr::Seq(node) => node.emit_at(e, place),
         Expr::Ident(node) => node.emit_at(e, place),
         Expr::Lit(node) => node.emit_at(e, place),
+        Expr::Arrow(node) => node.emit_at(e, place),
         Expr::Yield(node) => node.emit_at(e, place),
         Expr::MetaProp(node) => node.emit_at(e, place),
         Expr::Await(node) => node.emit_at(e, place),
         Expr::Paren(node) => node.emit_at(e, place),
         Expr::OptChain(node) => node.emit_at(e, place),
-        Expr::Object(_)
-        | Expr::Fn(_)
-        | Expr::Tpl(_)
+        Expr::Tpl(_)
         | Expr::TaggedTpl(_)
-        | Expr::Arrow(_)
         | Expr::Class(_)
         | Expr::JSXMember(_)
         | Expr::JSXNamespacedName(_)

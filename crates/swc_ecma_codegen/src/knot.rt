@@ -5,11 +5,14 @@ ghost use Rattle.std.specs.Prelude.{◌≡◌};
 ghost use Rattle.swc_ecma_codegen.specs.Answers.{any_answers};
 ghost use Rattle.swc_ecma_codegen.specs.Tree.{any_items};
 
+use crate::branches::is_block_node;
 use crate::emitter::Emitter;
 use crate::nodes::{
-    AskEnds, AskKind, AskPlace, AskSpace, AskStarts, Asked, EmitAt, Held, Known, Place,
+    AskBlock, AskEnds, AskKind, AskPattern, AskPlace, AskSpace, AskStarts, Asked, EmitAt, Held,
+    Known, Place,
 };
 use crate::operands::{Operand, OperandKind, SpaceBefore};
+use crate::patterns::{PatternKind, pattern_kind};
 use swc_ecma_codegen_ast::comments::Comments;
 use swc_ecma_codegen_ast::mapper::SourceMapper;
 use swc_ecma_codegen_common::{Answer, BinaryOp, Span};
@@ -57,12 +60,26 @@ impl AskSpace for AnyNode {
     }
 }
 
+impl AskPattern for AnyNode {
+    #[tactic(auto, unfolding(crate::specs::Answers::any_answers))]
+    fn pattern(&self) -> PatternKind {
+        pattern_kind(self)
+    }
+}
+
+impl AskBlock for AnyNode {
+    #[tactic(auto, unfolding(crate::specs::Answers::any_answers))]
+    fn block(&self) -> bool {
+        is_block_node(self)
+    }
+}
+
 impl Asked for AnyNode {}
 
 impl EmitAt for AnyNode {
     ghost items = { any_items };
 
-    #[tactic(auto, using(crate::proofs::Knots::any_items_of, crate::proofs::Knots::any_items_expr, crate::proofs::Knots::any_items_stmt, crate::proofs::Knots::any_items_member_expr, crate::proofs::Knots::any_items_expr_part), unfolding(crate::specs::Tree::node_items))]
+    #[tactic(auto, using(crate::proofs::Knots::any_items_of, crate::proofs::Knots::any_items_expr, crate::proofs::Knots::any_items_stmt, crate::proofs::Knots::any_items_member_expr, crate::proofs::Knots::any_items_expr_part, crate::proofs::Knots::any_items_stmt_part), unfolding(crate::specs::Tree::node_items))]
     fn emit_at<W: WriteJs, S: SourceMapper, C: Comments>(
         &self,
         e: &mut Emitter<'_, W, S, C>,
@@ -73,6 +90,7 @@ impl EmitAt for AnyNode {
             AnyNode::Stmt(node) => node.emit_at(e, place),
             AnyNode::MemberExpr(node) => node.emit_at(e, place),
             AnyNode::ExprPart(node) => node.emit_at(e, place),
+            AnyNode::StmtPart(node) => node.emit_at(e, place),
             _ => e.unsupported(),
         }
     }

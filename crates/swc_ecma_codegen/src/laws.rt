@@ -39,9 +39,12 @@ ghost use Rattle.swc_ecma_codegen.specs.View.{state_of};
 
 use crate::emitter::Emitter;
 pub use crate::link_laws::{
-    emitted_assign_target_box_reads, emitted_boxed_stmt_reads, emitted_expr_box_reads,
-    emitted_member_expr_box_reads, emitted_optional_stmt_reads, emitted_program_reads,
-    emitted_script_reads, emitted_stmt_box_reads, emitted_stmt_ref_reads, links_write_their_roots,
+    emitted_assign_target_box_reads, emitted_block_stmt_box_reads, emitted_boxed_stmt_reads,
+    emitted_decl_box_reads, emitted_expr_box_reads, emitted_function_box_reads,
+    emitted_member_expr_box_reads, emitted_object_lit_box_reads, emitted_optional_stmt_reads,
+    emitted_pat_box_reads, emitted_program_reads, emitted_prop_box_reads,
+    emitted_prop_name_box_reads, emitted_script_reads, emitted_stmt_box_reads,
+    emitted_stmt_ref_reads, emitted_var_decl_box_reads, links_write_their_roots,
 };
 use crate::node::Node;
 use swc_ecma_codegen_ast::comments::Comments;

@@ -2,22 +2,30 @@
 #![tactic(auto)]
 
 pub mod ast;
+mod blocks;
+mod branches;
 mod calls;
 mod chains;
 mod code;
+mod decl;
 mod emitter;
 mod expr;
+mod functions;
 mod knot;
 pub mod laws;
 mod link_laws;
 mod lists;
 mod lits;
+mod loops;
 mod marks;
 mod node;
 pub mod nodes;
 pub mod operands;
 mod parts;
+mod pats;
+pub mod patterns;
 mod places;
+mod props;
 mod stmt;
 mod targets;
 mod tokens;

@@ -13,6 +13,7 @@ ghost use Rattle.swc_ecma_codegen_ast.specs.TreePhrases.{phrase};
 ghost use Rattle.swc_ecma_codegen_base.specs.Run.{Follows, nothing};
 ghost use Rattle.swc_ecma_codegen_base.specs.Written.{IsNew, AddsReading};
 ghost use Rattle.swc_ecma_codegen.specs.declared.nodes.Place.TheVariants.{Plain};
+ghost use Rattle.swc_ecma_codegen.specs.Answers.{any_answers};
 ghost use Rattle.swc_ecma_codegen.specs.Exprs.{member as member_items};
 ghost use Rattle.swc_ecma_codegen.specs.Targets.{assign_target as target_items};
 ghost use Rattle.swc_ecma_codegen.specs.Tree.{any_items};
@@ -27,7 +28,8 @@ use swc_ecma_codegen_ast::mapper::SourceMapper;
 use swc_ecma_codegen_common::Result;
 use swc_ecma_codegen_text_writer::WriteJs;
 use swc_ecma_codegen_tree::{
-    AnyNode, AssignTargetBox, ExprBox, ExprPart, MemberExprBox, Program, Script, Stmt, StmtBox,
+    AnyNode, AssignTargetBox, BlockStmtBox, DeclBox, ExprBox, ExprPart, FunctionBox, MemberExprBox,
+    ObjectLitBox, PatBox, Program, PropBox, PropNameBox, Script, Stmt, StmtBox, VarDeclBox,
 };
 
 /// What a link writes is what is written of the root that it holds. So the clauses of `emit_with` and `to_code` that speak
@@ -79,8 +81,96 @@ pub fn emitted_assign_target_box_reads<W: WriteJs, S: SourceMapper, C: Comments>
 ) -> Result
     ensures items { (root : Root) → IsHeld link.now.node.value root → Follows (root_items root nothing) (state_of S.lines W.sheet e.old) (state_of S.lines W.sheet e.new) (in_short result) }
     ensures reads { (root : Root) → IsHeld link.now.node.value root → is_well_formed_root root ≡ true → IsNew (state_of S.lines W.sheet e.old) → OnOk result (AddsReading e.old.cfg (root_phrase root) (W.sheet e.old.wr) (W.sheet e.new.wr)) }
-    ensures target_items { (target : AssignTarget AnyNode) → link.now.node.value ≡ AnyNode.ExprPart (ExprPart.AssignTarget target) → Follows (target_items any_items target nothing) (state_of S.lines W.sheet e.old) (state_of S.lines W.sheet e.new) (in_short result) }
+    ensures target_items { (target : AssignTarget AnyNode) → link.now.node.value ≡ AnyNode.ExprPart (ExprPart.AssignTarget target) → Follows (target_items any_answers any_items target nothing) (state_of S.lines W.sheet e.old) (state_of S.lines W.sheet e.new) (in_short result) }
     ensures target_reads { (target : AssignTarget AnyNode) → link.now.node.value ≡ AnyNode.ExprPart (ExprPart.AssignTarget target) → is_possible (assign_target phrase target) ≡ true → IsNew (state_of S.lines W.sheet e.old) → OnOk result (AddsReading e.old.cfg (assign_target phrase target) (W.sheet e.old.wr) (W.sheet e.new.wr)) }
+{
+    link.emit_with(e)
+}
+
+/// A link to a pattern.
+pub fn emitted_pat_box_reads<W: WriteJs, S: SourceMapper, C: Comments>(
+    link: &PatBox,
+    e: &mut Emitter<'_, W, S, C>,
+) -> Result
+    ensures items { (root : Root) → IsHeld link.now.node.value root → Follows (root_items root nothing) (state_of S.lines W.sheet e.old) (state_of S.lines W.sheet e.new) (in_short result) }
+    ensures reads { (root : Root) → IsHeld link.now.node.value root → is_well_formed_root root ≡ true → IsNew (state_of S.lines W.sheet e.old) → OnOk result (AddsReading e.old.cfg (root_phrase root) (W.sheet e.old.wr) (W.sheet e.new.wr)) }
+{
+    link.emit_with(e)
+}
+
+/// A link to an object.
+pub fn emitted_object_lit_box_reads<W: WriteJs, S: SourceMapper, C: Comments>(
+    link: &ObjectLitBox,
+    e: &mut Emitter<'_, W, S, C>,
+) -> Result
+    ensures items { (root : Root) → IsHeld link.now.node.value root → Follows (root_items root nothing) (state_of S.lines W.sheet e.old) (state_of S.lines W.sheet e.new) (in_short result) }
+    ensures reads { (root : Root) → IsHeld link.now.node.value root → is_well_formed_root root ≡ true → IsNew (state_of S.lines W.sheet e.old) → OnOk result (AddsReading e.old.cfg (root_phrase root) (W.sheet e.old.wr) (W.sheet e.new.wr)) }
+{
+    link.emit_with(e)
+}
+
+/// A link to the name of a property.
+pub fn emitted_prop_name_box_reads<W: WriteJs, S: SourceMapper, C: Comments>(
+    link: &PropNameBox,
+    e: &mut Emitter<'_, W, S, C>,
+) -> Result
+    ensures items { (root : Root) → IsHeld link.now.node.value root → Follows (root_items root nothing) (state_of S.lines W.sheet e.old) (state_of S.lines W.sheet e.new) (in_short result) }
+    ensures reads { (root : Root) → IsHeld link.now.node.value root → is_well_formed_root root ≡ true → IsNew (state_of S.lines W.sheet e.old) → OnOk result (AddsReading e.old.cfg (root_phrase root) (W.sheet e.old.wr) (W.sheet e.new.wr)) }
+{
+    link.emit_with(e)
+}
+
+/// A link to a property.
+pub fn emitted_prop_box_reads<W: WriteJs, S: SourceMapper, C: Comments>(
+    link: &PropBox,
+    e: &mut Emitter<'_, W, S, C>,
+) -> Result
+    ensures items { (root : Root) → IsHeld link.now.node.value root → Follows (root_items root nothing) (state_of S.lines W.sheet e.old) (state_of S.lines W.sheet e.new) (in_short result) }
+    ensures reads { (root : Root) → IsHeld link.now.node.value root → is_well_formed_root root ≡ true → IsNew (state_of S.lines W.sheet e.old) → OnOk result (AddsReading e.old.cfg (root_phrase root) (W.sheet e.old.wr) (W.sheet e.new.wr)) }
+{
+    link.emit_with(e)
+}
+
+/// A link to a function, without what stands before its name.
+pub fn emitted_function_box_reads<W: WriteJs, S: SourceMapper, C: Comments>(
+    link: &FunctionBox,
+    e: &mut Emitter<'_, W, S, C>,
+) -> Result
+    ensures items { (root : Root) → IsHeld link.now.node.value root → Follows (root_items root nothing) (state_of S.lines W.sheet e.old) (state_of S.lines W.sheet e.new) (in_short result) }
+    ensures reads { (root : Root) → IsHeld link.now.node.value root → is_well_formed_root root ≡ true → IsNew (state_of S.lines W.sheet e.old) → OnOk result (AddsReading e.old.cfg (root_phrase root) (W.sheet e.old.wr) (W.sheet e.new.wr)) }
+{
+    link.emit_with(e)
+}
+
+/// A link to a block.
+pub fn emitted_block_stmt_box_reads<W: WriteJs, S: SourceMapper, C: Comments>(
+    link: &BlockStmtBox,
+    e: &mut Emitter<'_, W, S, C>,
+) -> Result
+    ensures items { (root : Root) → IsHeld link.now.node.value root → Follows (root_items root nothing) (state_of S.lines W.sheet e.old) (state_of S.lines W.sheet e.new) (in_short result) }
+    ensures reads { (root : Root) → IsHeld link.now.node.value root → is_well_formed_root root ≡ true → IsNew (state_of S.lines W.sheet e.old) → OnOk result (AddsReading e.old.cfg (root_phrase root) (W.sheet e.old.wr) (W.sheet e.new.wr)) }
+{
+    link.emit_with(e)
+}
+
+/// A link to a declaration.
+pub fn emitted_decl_box_reads<W: WriteJs, S: SourceMapper, C: Comments>(
+    link: &DeclBox,
+    e: &mut Emitter<'_, W, S, C>,
+) -> Result
+    ensures items { (root : Root) → IsHeld link.now.node.value root → Follows (root_items root nothing) (state_of S.lines W.sheet e.old) (state_of S.lines W.sheet e.new) (in_short result) }
+    ensures reads { (root : Root) → IsHeld link.now.node.value root → is_well_formed_root root ≡ true → IsNew (state_of S.lines W.sheet e.old) → OnOk result (AddsReading e.old.cfg (root_phrase root) (W.sheet e.old.wr) (W.sheet e.new.wr)) }
+{
+    link.emit_with(e)
+}
+
+/// A link to a declaration of variables, which has no semicolon.
+pub fn emitted_var_decl_box_reads<W: WriteJs, S: SourceMapper, C: Comments>(
+    link: &VarDeclBox,
+    e: &mut Emitter<'_, W, S, C>,
+) -> Result
+    ensures items { (root : Root) → IsHeld link.now.node.value root → Follows (root_items root nothing) (state_of S.lines W.sheet e.old) (state_of S.lines W.sheet e.new) (in_short result) }
+    ensures reads { (root : Root) → IsHeld link.now.node.value root → is_well_formed_root root ≡ true → IsNew (state_of S.lines W.sheet e.old) → OnOk result (AddsReading e.old.cfg (root_phrase root) (W.sheet e.old.wr) (W.sheet e.new.wr)) }
 {
     link.emit_with(e)
 }

@@ -23,7 +23,10 @@ use swc_ecma_codegen_ast::mapper::SourceMapper;
 use swc_ecma_codegen_common::{Answer, Error, Result};
 use swc_ecma_codegen_spans::Spanned;
 use swc_ecma_codegen_text_writer::WriteJs;
-use swc_ecma_codegen_tree::{AssignTargetBox, ExprBox, MemberExprBox, StmtBox};
+use swc_ecma_codegen_tree::{
+    AssignTargetBox, BlockStmtBox, DeclBox, ExprBox, FunctionBox, MemberExprBox, ObjectLitBox,
+    PatBox, PropBox, PropNameBox, StmtBox, VarDeclBox,
+};
 
 /// A node that can be printed: each type of node, a link, and a reference, a box or an option of these. swc's `Node`.
 pub trait Node: Spanned {
@@ -155,6 +158,102 @@ impl<N: EmitAt> EmitAt for MemberExprBox<N> {
 }
 
 impl<N: EmitAt> EmitAt for AssignTargetBox<N> {
+    ghost items = { λ n place. N.items n.node.value place };
+
+    fn emit_at<W: WriteJs, S: SourceMapper, C: Comments>(
+        &self,
+        e: &mut Emitter<'_, W, S, C>,
+        place: Place,
+    ) -> Answer {
+        self.held().emit_at(e, place)
+    }
+}
+
+impl<N: EmitAt> EmitAt for PatBox<N> {
+    ghost items = { λ n place. N.items n.node.value place };
+
+    fn emit_at<W: WriteJs, S: SourceMapper, C: Comments>(
+        &self,
+        e: &mut Emitter<'_, W, S, C>,
+        place: Place,
+    ) -> Answer {
+        self.held().emit_at(e, place)
+    }
+}
+
+impl<N: EmitAt> EmitAt for ObjectLitBox<N> {
+    ghost items = { λ n place. N.items n.node.value place };
+
+    fn emit_at<W: WriteJs, S: SourceMapper, C: Comments>(
+        &self,
+        e: &mut Emitter<'_, W, S, C>,
+        place: Place,
+    ) -> Answer {
+        self.held().emit_at(e, place)
+    }
+}
+
+impl<N: EmitAt> EmitAt for PropNameBox<N> {
+    ghost items = { λ n place. N.items n.node.value place };
+
+    fn emit_at<W: WriteJs, S: SourceMapper, C: Comments>(
+        &self,
+        e: &mut Emitter<'_, W, S, C>,
+        place: Place,
+    ) -> Answer {
+        self.held().emit_at(e, place)
+    }
+}
+
+impl<N: EmitAt> EmitAt for PropBox<N> {
+    ghost items = { λ n place. N.items n.node.value place };
+
+    fn emit_at<W: WriteJs, S: SourceMapper, C: Comments>(
+        &self,
+        e: &mut Emitter<'_, W, S, C>,
+        place: Place,
+    ) -> Answer {
+        self.held().emit_at(e, place)
+    }
+}
+
+impl<N: EmitAt> EmitAt for FunctionBox<N> {
+    ghost items = { λ n place. N.items n.node.value place };
+
+    fn emit_at<W: WriteJs, S: SourceMapper, C: Comments>(
+        &self,
+        e: &mut Emitter<'_, W, S, C>,
+        place: Place,
+    ) -> Answer {
+        self.held().emit_at(e, place)
+    }
+}
+
+impl<N: EmitAt> EmitAt for BlockStmtBox<N> {
+    ghost items = { λ n place. N.items n.node.value place };
+
+    fn emit_at<W: WriteJs, S: SourceMapper, C: Comments>(
+        &self,
+        e: &mut Emitter<'_, W, S, C>,
+        place: Place,
+    ) -> Answer {
+        self.held().emit_at(e, place)
+    }
+}
+
+impl<N: EmitAt> EmitAt for DeclBox<N> {
+    ghost items = { λ n place. N.items n.node.value place };
+
+    fn emit_at<W: WriteJs, S: SourceMapper, C: Comments>(
+        &self,
+        e: &mut Emitter<'_, W, S, C>,
+        place: Place,
+    ) -> Answer {
+        self.held().emit_at(e, place)
+    }
+}
+
+impl<N: EmitAt> EmitAt for VarDeclBox<N> {
     ghost items = { λ n place. N.items n.node.value place };
 
     fn emit_at<W: WriteJs, S: SourceMapper, C: Comments>(

@@ -10,6 +10,7 @@ ghost use Rattle.swc_ecma_codegen.specs.View.{state_of};
 
 use crate::emitter::Emitter;
 use crate::operands::OperandKind;
+use crate::patterns::PatternKind;
 use swc_ecma_codegen_ast::comments::Comments;
 use swc_ecma_codegen_ast::mapper::SourceMapper;
 use swc_ecma_codegen_common::{Answer, BinaryOp, BytePos, DUMMY_SP, Span};
@@ -30,6 +31,16 @@ pub enum Place {
     Callee,
     /// A member or a call in an optional chain, and whether `?.` stands before its property or its arguments: `a?.b`
     Chain(bool),
+    /// A block as the body of a function: `{ a; }` of `function f() { a; }`
+    Body,
+    /// What of a function stands before its name: `async function*`
+    FunctionHead,
+    /// What of a method stands before its name: `async *`
+    MethodHead,
+    /// What of a function that is declared stands before its name: `async function*` and a blank
+    DeclarationHead,
+    /// A declaration as a statement: where one of variables ends isn't recorded there.
+    Statement,
 }
 
 /// What a node tells those above it.
@@ -67,8 +78,20 @@ pub trait AskSpace: Known {
         ensures { result ≡ (Self.answers self.now).space op };
 }
 
+/// What it begins with, where it is a pattern.
+pub trait AskPattern: Known {
+    fn pattern(&self) -> PatternKind
+        ensures { result ≡ (Self.answers self.now).pattern };
+}
+
+/// Whether it is a block, where it is a statement.
+pub trait AskBlock: Known {
+    fn block(&self) -> bool
+        ensures { result ≡ (Self.answers self.now).block };
+}
+
 /// The questions that those above it ask.
-pub trait Asked: AskPlace + AskStarts + AskEnds + AskKind + AskSpace {}
+pub trait Asked: AskPlace + AskStarts + AskEnds + AskKind + AskSpace + AskPattern + AskBlock {}
 
 /// What can be printed, where the one above puts it.
 pub trait EmitAt {

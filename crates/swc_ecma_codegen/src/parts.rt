@@ -1,6 +1,6 @@
-//! Parts of expressions that links hold.
+//! Parts of expressions and statements that links hold.
 
-ghost use Rattle.swc_ecma_codegen.specs.Parts.{expr_part};
+ghost use Rattle.swc_ecma_codegen.specs.Parts.{expr_part, stmt_part};
 
 use crate::emitter::Emitter;
 use crate::nodes::{EmitAt, Held, Place};
@@ -8,7 +8,7 @@ use swc_ecma_codegen_ast::comments::Comments;
 use swc_ecma_codegen_ast::mapper::SourceMapper;
 use swc_ecma_codegen_common::Answer;
 use swc_ecma_codegen_text_writer::WriteJs;
-use swc_ecma_codegen_tree::ExprPart;
+use swc_ecma_codegen_tree::{ExprPart, StmtPart};
 
 impl<N: Held> EmitAt for ExprPart<N> {
     ghost items = { expr_part N.answers N.items };
@@ -20,8 +20,31 @@ impl<N: Held> EmitAt for ExprPart<N> {
         place: Place,
     ) -> Answer {
         match self {
+            ExprPart::Pat(node) => node.emit_at(e, place),
+            ExprPart::ObjectLit(node) => node.emit_at(e, place),
+            ExprPart::PropName(node) => node.emit_at(e, place),
+            ExprPart::Prop(node) => node.emit_at(e, place),
             ExprPart::OptCall(node) => node.emit_at(e, place),
             ExprPart::AssignTarget(node) => node.emit_at(e, place),
+            _ => e.unsupported(),
+        }
+    }
+}
+
+impl<N: Held> EmitAt for StmtPart<N> {
+    ghost items = { stmt_part N.answers N.items };
+
+    #[tactic(auto, unfolding(crate::specs::Parts::stmt_part))]
+    fn emit_at<W: WriteJs, S: SourceMapper, C: Comments>(
+        &self,
+        e: &mut Emitter<'_, W, S, C>,
+        place: Place,
+    ) -> Answer {
+        match self {
+            StmtPart::Function(node) => (**node).emit_at(e, place),
+            StmtPart::BlockStmt(node) => node.emit_at(e, place),
+            StmtPart::Decl(node) => (**node).emit_at(e, place),
+            StmtPart::VarDecl(node) => node.emit_at(e, place),
             _ => e.unsupported(),
         }
     }

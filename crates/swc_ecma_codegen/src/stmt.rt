@@ -1,11 +1,14 @@
 //! Statements and programs.
 
-ghost use Rattle.std.specs.Prelude.{◌≡◌, OnOk};
+ghost use Rattle.std.specs.Prelude.{◌≡◌, OnOk, true};
+ghost use Rattle.swc_ecma_codegen_base.specs.Lists.{blank_if};
 ghost use Rattle.swc_ecma_codegen_base.specs.Run.{Emits};
-ghost use Rattle.swc_ecma_codegen.specs.Stmts.{empty_stmt, expr_stmt, stmt_parts, stmt};
+ghost use Rattle.swc_ecma_codegen_base.specs.Starts.{begins_letter};
+ghost use Rattle.swc_ecma_codegen.specs.Stmts.{enclosed, spaced, stmt_word, spaced_word, jump, empty_stmt, expr_stmt, debugger_stmt, with_stmt, return_arg, return_stmt, labeled_stmt, break_stmt, continue_stmt, else_branch, if_stmt, catch_param, catch_clause, handler, finalizer, try_stmt, throw_stmt, stmt_parts, stmt_closed, stmt};
 ghost use Rattle.swc_ecma_codegen.specs.Programs.{start_if_empty, script, program};
 ghost use Rattle.swc_ecma_codegen.specs.View.{state_of};
 
+use crate::branches::is_block;
 use crate::emitter::Emitter;
 use crate::nodes::{EmitAt, Held, Place};
 use crate::places::stmt_place;
@@ -13,26 +16,57 @@ use swc_ecma_codegen_ast::comments::Comments;
 use swc_ecma_codegen_ast::mapper::SourceMapper;
 use swc_ecma_codegen_common::{Answer, Span};
 use swc_ecma_codegen_literals::Punctuator;
-use swc_ecma_codegen_spans::Spanned;
 use swc_ecma_codegen_text_writer::WriteJs;
-use swc_ecma_codegen_tree::{EmptyStmt, ExprStmt, Program, Script, Stmt, StmtBox};
+use swc_ecma_codegen_tree::{
+    BlockStmtBox, BreakStmt, CatchClause, ContinueStmt, DebuggerStmt, EmptyStmt, ExprBox, ExprStmt,
+    Ident, IfStmt, LabeledStmt, PatBox, Program, ReturnStmt, Script, Stmt, StmtBox, ThrowStmt,
+    TryStmt, WithStmt,
+};
+
+/// Writes a statement by its variant, without the comments after it and the end of its line.
+#[inline(always)]
+#[tactic(auto, unfolding(crate::specs::Stmts::stmt_parts))]
+fn stmt_parts<N: Held, W: WriteJs, S: SourceMapper, C: Comments>(
+    node: &Stmt<N>,
+    e: &mut Emitter<'_, W, S, C>,
+) -> Answer
+    ensures items { Emits (stmt_parts N.answers N.items node.now) (state_of S.lines W.sheet e.old) (state_of S.lines W.sheet e.new) result }
+    ensures level { OnOk result ((W.sheet e.new.wr).indentation ≡ (W.sheet e.old.wr).indentation) }
+{
+    match node {
+        Stmt::Expr(node) => node.emit_at(e, Place::Plain),
+        Stmt::Block(node) => node.held().emit_at(e, Place::Plain),
+        Stmt::Empty(node) => node.emit_at(e, Place::Plain),
+        Stmt::Debugger(node) => node.emit_at(e, Place::Plain),
+        Stmt::With(node) => node.emit_at(e, Place::Plain),
+        Stmt::Return(node) => node.emit_at(e, Place::Plain),
+        Stmt::Labeled(node) => node.emit_at(e, Place::Plain),
+        Stmt::Break(node) => node.emit_at(e, Place::Plain),
+        Stmt::Continue(node) => node.emit_at(e, Place::Plain),
+        Stmt::If(node) => node.emit_at(e, Place::Plain),
+        Stmt::Switch(node) => node.emit_at(e, Place::Plain),
+        Stmt::Throw(node) => node.emit_at(e, Place::Plain),
+        Stmt::Try(node) => node.emit_at(e, Place::Plain),
+        Stmt::While(node) => node.emit_at(e, Place::Plain),
+        Stmt::DoWhile(node) => node.emit_at(e, Place::Plain),
+        Stmt::For(node) => node.emit_at(e, Place::Plain),
+        Stmt::ForIn(node) => node.emit_at(e, Place::Plain),
+        Stmt::ForOf(node) => node.emit_at(e, Place::Plain),
+        Stmt::Decl(node) => node.held().emit_at(e, Place::Statement),
+    }
+}
 
 impl<N: Held> EmitAt for Stmt<N> {
     ghost items = { λ n _. stmt N.answers N.items n };
 
-    #[tactic(auto, unfolding(crate::specs::Stmts::stmt, crate::specs::Stmts::stmt_parts))]
+    #[tactic(auto, unfolding(crate::specs::Stmts::stmt))]
     fn emit_at<W: WriteJs, S: SourceMapper, C: Comments>(
         &self,
         e: &mut Emitter<'_, W, S, C>,
         place: Place,
     ) -> Answer {
-        match self {
-            Stmt::Empty(node) => node.emit_at(e, Place::Plain)?,
-            Stmt::Expr(node) => node.emit_at(e, Place::Plain)?,
-            _ => e.unsupported()?,
-        }
-        e.trailing_comments(stmt_place(self).hi, true)?;
-        e.formatting_line()?;
+        stmt_parts(self, e)?;
+        e.stmt_closed(is_block(self), stmt_place(self))?;
         Ok(())
     }
 }
@@ -64,6 +98,175 @@ impl EmitAt for EmptyStmt {
     ) -> Answer {
         e.leading_comments(self.span.lo)?;
         e.punct(Punctuator::Semicolon)?;
+        Ok(())
+    }
+}
+
+impl EmitAt for DebuggerStmt {
+    ghost items = { λ n _. debugger_stmt n };
+
+    #[tactic(auto, unfolding(crate::specs::Stmts::debugger_stmt))]
+    fn emit_at<W: WriteJs, S: SourceMapper, C: Comments>(
+        &self,
+        e: &mut Emitter<'_, W, S, C>,
+        place: Place,
+    ) -> Answer {
+        e.commit_pending_semi()?;
+        e.leading_comments(self.span.lo)?;
+        e.keyword(Some(self.span), "debugger")?;
+        e.semi()?;
+        Ok(())
+    }
+}
+
+impl<N: Held> EmitAt for WithStmt<N> {
+    ghost items = { λ n _. with_stmt N.items n };
+
+    #[tactic(auto, unfolding(crate::specs::Stmts::with_stmt))]
+    fn emit_at<W: WriteJs, S: SourceMapper, C: Comments>(
+        &self,
+        e: &mut Emitter<'_, W, S, C>,
+        place: Place,
+    ) -> Answer {
+        e.commit_pending_semi()?;
+        e.start_of(self.span)?;
+        e.keyword(None, "with")?;
+        e.formatting_space()?;
+        e.enclosed(&self.obj)?;
+        self.body.held().emit_at(e, Place::Plain)?;
+        Ok(())
+    }
+}
+
+impl<N: Held> EmitAt for ReturnStmt<N> {
+    ghost items = { λ n _. return_stmt N.answers N.items n };
+
+    #[tactic(auto, unfolding(crate::specs::Stmts::return_stmt))]
+    fn emit_at<W: WriteJs, S: SourceMapper, C: Comments>(
+        &self,
+        e: &mut Emitter<'_, W, S, C>,
+        place: Place,
+    ) -> Answer {
+        e.stmt_word(self.span, "return")?;
+        e.return_arg(&self.arg)?;
+        e.semi()?;
+        Ok(())
+    }
+}
+
+impl<N: Held> EmitAt for LabeledStmt<N> {
+    ghost items = { λ n _. labeled_stmt N.items n };
+
+    #[tactic(auto, unfolding(crate::specs::Stmts::labeled_stmt))]
+    fn emit_at<W: WriteJs, S: SourceMapper, C: Comments>(
+        &self,
+        e: &mut Emitter<'_, W, S, C>,
+        place: Place,
+    ) -> Answer {
+        e.commit_pending_semi()?;
+        self.label.emit_at(e, Place::Plain)?;
+        e.punct(Punctuator::Colon)?;
+        e.formatting_space()?;
+        self.body.held().emit_at(e, Place::Plain)?;
+        Ok(())
+    }
+}
+
+impl EmitAt for BreakStmt {
+    ghost items = { λ n _. break_stmt n };
+
+    #[tactic(auto, unfolding(crate::specs::Stmts::break_stmt))]
+    fn emit_at<W: WriteJs, S: SourceMapper, C: Comments>(
+        &self,
+        e: &mut Emitter<'_, W, S, C>,
+        place: Place,
+    ) -> Answer {
+        e.jump(self.span, "break", &self.label)?;
+        Ok(())
+    }
+}
+
+impl EmitAt for ContinueStmt {
+    ghost items = { λ n _. continue_stmt n };
+
+    #[tactic(auto, unfolding(crate::specs::Stmts::continue_stmt))]
+    fn emit_at<W: WriteJs, S: SourceMapper, C: Comments>(
+        &self,
+        e: &mut Emitter<'_, W, S, C>,
+        place: Place,
+    ) -> Answer {
+        e.jump(self.span, "continue", &self.label)?;
+        Ok(())
+    }
+}
+
+impl<N: Held> EmitAt for IfStmt<N> {
+    ghost items = { λ n _. if_stmt N.answers N.items n };
+
+    #[tactic(auto, unfolding(crate::specs::Stmts::if_stmt))]
+    fn emit_at<W: WriteJs, S: SourceMapper, C: Comments>(
+        &self,
+        e: &mut Emitter<'_, W, S, C>,
+        place: Place,
+    ) -> Answer {
+        e.spaced_word(self.span, "if")?;
+        e.enclosed(&self.test)?;
+        e.formatting_space()?;
+        self.cons.held().emit_at(e, Place::Plain)?;
+        e.else_branch(self.cons.held().block(), &self.alt)?;
+        Ok(())
+    }
+}
+
+impl<N: Held> EmitAt for CatchClause<N> {
+    ghost items = { λ n _. catch_clause N.items n };
+
+    #[tactic(auto, unfolding(crate::specs::Stmts::catch_clause))]
+    fn emit_at<W: WriteJs, S: SourceMapper, C: Comments>(
+        &self,
+        e: &mut Emitter<'_, W, S, C>,
+        place: Place,
+    ) -> Answer {
+        e.opened(self.span)?;
+        e.keyword(None, "catch")?;
+        e.formatting_space()?;
+        e.catch_param(&self.param)?;
+        e.formatting_space()?;
+        self.body.held().emit_at(e, Place::Plain)?;
+        Ok(())
+    }
+}
+
+impl<N: Held> EmitAt for ThrowStmt<N> {
+    ghost items = { λ n _. throw_stmt N.answers N.items n };
+
+    #[tactic(auto, unfolding(crate::specs::Stmts::throw_stmt))]
+    fn emit_at<W: WriteJs, S: SourceMapper, C: Comments>(
+        &self,
+        e: &mut Emitter<'_, W, S, C>,
+        place: Place,
+    ) -> Answer {
+        e.opened(self.span)?;
+        e.keyword(None, "throw")?;
+        e.spaced(self.arg.held())?;
+        e.semi()?;
+        Ok(())
+    }
+}
+
+impl<N: Held> EmitAt for TryStmt<N> {
+    ghost items = { λ n _. try_stmt N.items n };
+
+    #[tactic(auto, unfolding(crate::specs::Stmts::try_stmt))]
+    fn emit_at<W: WriteJs, S: SourceMapper, C: Comments>(
+        &self,
+        e: &mut Emitter<'_, W, S, C>,
+        place: Place,
+    ) -> Answer {
+        e.spaced_word(self.span, "try")?;
+        self.block.held().emit_at(e, Place::Plain)?;
+        e.handler(&self.handler)?;
+        e.finalizer(&self.finalizer)?;
         Ok(())
     }
 }
@@ -106,6 +309,172 @@ impl<N: Held> EmitAt for Program<N> {
 }
 
 impl<W: WriteJs, S: SourceMapper, C: Comments> Emitter<'_, W, S, C> {
+    /// Writes the comments after a statement and the end of its line, but for a block.
+    #[tactic(auto, unfolding(crate::specs::Stmts::stmt_closed))]
+    fn stmt_closed(&mut self, block: bool, span: Span) -> Answer
+        ensures items { Emits (stmt_closed block span) (state_of S.lines W.sheet self.old) (state_of S.lines W.sheet self.new) result }
+        ensures level { OnOk result ((W.sheet self.new.wr).indentation ≡ (W.sheet self.old.wr).indentation) }
+    {
+        if block {
+            return Ok(());
+        }
+        self.trailing_comments(span.hi, true)?;
+        self.formatting_line()
+    }
+
+    /// Writes an expression in parentheses.
+    #[tactic(auto, unfolding(crate::specs::Stmts::enclosed))]
+    pub(crate) fn enclosed<N: Held>(&mut self, node: &ExprBox<N>) -> Answer
+        ensures items { Emits (enclosed N.items node.now) (state_of S.lines W.sheet self.old) (state_of S.lines W.sheet self.new) result }
+        ensures level { OnOk result ((W.sheet self.new.wr).indentation ≡ (W.sheet self.old.wr).indentation) }
+    {
+        self.punct(Punctuator::LeftParenthesis)?;
+        node.held().emit_at(self, Place::Plain)?;
+        self.punct(Punctuator::RightParenthesis)?;
+        Ok(())
+    }
+
+    /// Writes a node behind a word, and the blank between the two.
+    #[tactic(auto, unfolding(crate::specs::Stmts::spaced))]
+    pub(crate) fn spaced<N: Held>(&mut self, node: &N) -> Answer
+        ensures items { Emits (spaced N.answers N.items node.now) (state_of S.lines W.sheet self.old) (state_of S.lines W.sheet self.new) result }
+        ensures level { OnOk result ((W.sheet self.new.wr).indentation ≡ (W.sheet self.old.wr).indentation) }
+    {
+        self.blank(node.starts())?;
+        node.emit_at(self, Place::Plain)?;
+        Ok(())
+    }
+
+    /// Writes the word that a statement begins with.
+    #[tactic(auto, unfolding(crate::specs::Stmts::stmt_word))]
+    pub(crate) fn stmt_word(&mut self, span: Span, text: &'static str) -> Answer
+        requires { begins_letter text.now ≡ true }
+        ensures items { Emits (stmt_word span text.now) (state_of S.lines W.sheet self.old) (state_of S.lines W.sheet self.new) result }
+        ensures level { OnOk result ((W.sheet self.new.wr).indentation ≡ (W.sheet self.old.wr).indentation) }
+    {
+        self.commit_pending_semi()?;
+        self.opened(span)?;
+        self.keyword(None, text)?;
+        Ok(())
+    }
+
+    /// Writes such a word and a blank, after the comments before it.
+    #[tactic(auto, unfolding(crate::specs::Stmts::spaced_word))]
+    fn spaced_word(&mut self, span: Span, text: &'static str) -> Answer
+        requires { begins_letter text.now ≡ true }
+        ensures items { Emits (spaced_word span text.now) (state_of S.lines W.sheet self.old) (state_of S.lines W.sheet self.new) result }
+        ensures level { OnOk result ((W.sheet self.new.wr).indentation ≡ (W.sheet self.old.wr).indentation) }
+    {
+        self.leading_comments(span.lo)?;
+        self.commit_pending_semi()?;
+        self.start_of(span)?;
+        self.keyword(None, text)?;
+        self.formatting_space()?;
+        Ok(())
+    }
+
+    /// Writes `break a;` or `continue a;`.
+    #[tactic(auto, unfolding(crate::specs::Stmts::jump))]
+    fn jump(&mut self, span: Span, text: &'static str, label: &Option<Ident>) -> Answer
+        requires { begins_letter text.now ≡ true }
+        ensures items { Emits (jump span text.now label.now) (state_of S.lines W.sheet self.old) (state_of S.lines W.sheet self.new) result }
+        ensures level { OnOk result ((W.sheet self.new.wr).indentation ≡ (W.sheet self.old.wr).indentation) }
+    {
+        self.commit_pending_semi()?;
+        self.start_of(span)?;
+        self.keyword(None, text)?;
+        self.optional_name(label)?;
+        self.semi()?;
+        Ok(())
+    }
+
+    /// Writes the argument of `return`, where there is one.
+    #[tactic(auto, unfolding(crate::specs::Stmts::return_arg))]
+    fn return_arg<N: Held>(&mut self, arg: &Option<ExprBox<N>>) -> Answer
+        ensures items { Emits (return_arg N.answers N.items arg.now) (state_of S.lines W.sheet self.old) (state_of S.lines W.sheet self.new) result }
+        ensures level { OnOk result ((W.sheet self.new.wr).indentation ≡ (W.sheet self.old.wr).indentation) }
+    {
+        match arg {
+            Some(node) => self.spaced(node.held()),
+            None => Ok(()),
+        }
+    }
+
+    /// Writes `else` and a statement, where there is one.
+    #[tactic(auto, unfolding(crate::specs::Stmts::else_branch))]
+    fn else_branch<N: Held>(&mut self, block: bool, alt: &Option<StmtBox<N>>) -> Answer
+        ensures items { Emits (else_branch N.answers N.items block alt.now) (state_of S.lines W.sheet self.old) (state_of S.lines W.sheet self.new) result }
+        ensures level { OnOk result ((W.sheet self.new.wr).indentation ≡ (W.sheet self.old.wr).indentation) }
+    {
+        match alt {
+            Some(node) => {
+                self.blank_if(block)?;
+                self.keyword(None, "else")?;
+                self.spaced(node.held())
+            }
+            None => Ok(()),
+        }
+    }
+
+    /// Writes a blank where one is wanted, unless the settings are to minify.
+    #[tactic(auto, unfolding(swc_ecma_codegen_base::specs::Lists::blank_if))]
+    fn blank_if(&mut self, wanted: bool) -> Answer
+        ensures items { Emits (blank_if wanted) (state_of S.lines W.sheet self.old) (state_of S.lines W.sheet self.new) result }
+        ensures level { OnOk result ((W.sheet self.new.wr).indentation ≡ (W.sheet self.old.wr).indentation) }
+    {
+        if wanted {
+            self.formatting_space()?;
+        }
+        Ok(())
+    }
+
+    /// Writes what is caught in parentheses, where there is such.
+    #[tactic(auto, unfolding(crate::specs::Stmts::catch_param))]
+    fn catch_param<N: Held>(&mut self, param: &Option<PatBox<N>>) -> Answer
+        ensures items { Emits (catch_param N.items param.now) (state_of S.lines W.sheet self.old) (state_of S.lines W.sheet self.new) result }
+        ensures level { OnOk result ((W.sheet self.new.wr).indentation ≡ (W.sheet self.old.wr).indentation) }
+    {
+        match param {
+            Some(node) => {
+                self.punct(Punctuator::LeftParenthesis)?;
+                node.held().emit_at(self, Place::Plain)?;
+                self.punct(Punctuator::RightParenthesis)
+            }
+            None => Ok(()),
+        }
+    }
+
+    /// Writes a blank and `catch { a; }`, where there is such.
+    #[tactic(auto, unfolding(crate::specs::Stmts::handler))]
+    fn handler<N: Held>(&mut self, node: &Option<CatchClause<N>>) -> Answer
+        ensures items { Emits (handler N.items node.now) (state_of S.lines W.sheet self.old) (state_of S.lines W.sheet self.new) result }
+        ensures level { OnOk result ((W.sheet self.new.wr).indentation ≡ (W.sheet self.old.wr).indentation) }
+    {
+        match node {
+            Some(node) => {
+                self.formatting_space()?;
+                node.emit_at(self, Place::Plain)
+            }
+            None => Ok(()),
+        }
+    }
+
+    /// Writes a blank and `finally{ a; }`, where there is such.
+    #[tactic(auto, unfolding(crate::specs::Stmts::finalizer))]
+    fn finalizer<N: Held>(&mut self, node: &Option<BlockStmtBox<N>>) -> Answer
+        ensures items { Emits (finalizer N.items node.now) (state_of S.lines W.sheet self.old) (state_of S.lines W.sheet self.new) result }
+        ensures level { OnOk result ((W.sheet self.new.wr).indentation ≡ (W.sheet self.old.wr).indentation) }
+    {
+        match node {
+            Some(node) => {
+                self.formatting_space()?;
+                self.keyword(None, "finally")?;
+                node.held().emit_at(self, Place::Plain)
+            }
+            None => Ok(()),
+        }
+    }
+
     /// Records the start of a program without statements.
     #[tactic(auto, unfolding(crate::specs::Programs::start_if_empty))]
     fn start_if_empty<N>(&mut self, body: &[StmtBox<N>], span: Span) -> Answer

@@ -29,7 +29,7 @@ impl<N> EmitAt for BindingIdent<N> {
 }
 
 impl<N: Held> EmitAt for AssignTarget<N> {
-    ghost items = { λ n _. assign_target N.items n };
+    ghost items = { λ n _. assign_target N.answers N.items n };
 
     #[tactic(auto, unfolding(crate::specs::Targets::assign_target))]
     fn emit_at<W: WriteJs, S: SourceMapper, C: Comments>(
@@ -39,7 +39,7 @@ impl<N: Held> EmitAt for AssignTarget<N> {
     ) -> Answer {
         match self {
             AssignTarget::Simple(node) => node.emit_at(e, place),
-            AssignTarget::Pat(_) => e.unsupported(),
+            AssignTarget::Pat(node) => node.emit_at(e, place),
         }
     }
 }

@@ -3,11 +3,13 @@
 //! Three of them are never inlined: each needs more of the stack than others, which would be part of the frames that are there
 //! once for each level of a tree.
 
-ghost use Rattle.std.specs.Prelude.{◌≡◌, Option, OnOk, true};
+ghost use Rattle.std.specs.Prelude.{◌≡◌, ◌+◌, ◌<◌, Option, OnOk, true};
 ghost use Rattle.swc_ecma_codegen_literals.specs.Punctuators.{spelling};
 ghost use Rattle.swc_ecma_codegen_base.specs.Starts.{begins_letter};
 ghost use Rattle.swc_ecma_codegen_base.specs.Run.{Emits};
-ghost use Rattle.swc_ecma_codegen_base.specs.Words.{keyword, operator, word_operator, punct, semi, space, formatting_space, formatting_line, commit_pending_semi, position, position_before, start_of, end_of, last_of, leading_comments, trailing_comments, name};
+ghost use Rattle.swc_ecma_codegen_base.specs.Words.{keyword, operator, word_operator, punct, placed_punct, semi, space, formatting_space, formatting_line, line_end, commit_pending_semi, position, position_before, start_of, end_of, last_of, leading_comments, trailing_comments, name};
+ghost use Rattle.swc_ecma_codegen_base.specs.Keys.{key};
+ghost use Rattle.swc_ecma_codegen_base.specs.Lists.{deeper, shallower};
 ghost use Rattle.swc_ecma_codegen.specs.Exprs.{blank, space_if, spaced_punct, opened, comments_before};
 ghost use Rattle.swc_ecma_codegen.specs.Lists.{unsupported};
 ghost use Rattle.swc_ecma_codegen.specs.Programs.{last_semi};
@@ -65,6 +67,49 @@ impl<W: WriteJs, S: SourceMapper, C: Comments> Emitter<'_, W, S, C> {
         ensures level { OnOk result ((W.sheet self.new.wr).indentation ≡ (W.sheet self.old.wr).indentation) }
     {
         self.lower.punct(&self.cfg, &mut self.wr, mark)
+    }
+
+    /// Writes a punctuator, and records where it stands.
+    pub(crate) fn placed_punct(&mut self, span: Span, mark: Punctuator) -> Answer
+        ensures items { Emits (placed_punct span (spelling mark)) (state_of S.lines W.sheet self.old) (state_of S.lines W.sheet self.new) result }
+        ensures level { OnOk result ((W.sheet self.new.wr).indentation ≡ (W.sheet self.old.wr).indentation) }
+    {
+        self.lower.placed_punct(&self.cfg, &mut self.wr, span, mark)
+    }
+
+    /// Writes a name that is the key of a property, with its comments.
+    #[inline(never)]
+    pub(crate) fn key(&mut self, span: Span, sym: &str) -> Answer
+        ensures items { Emits (key span sym.now) (state_of S.lines W.sheet self.old) (state_of S.lines W.sheet self.new) result }
+        ensures level { OnOk result ((W.sheet self.new.wr).indentation ≡ (W.sheet self.old.wr).indentation) }
+    {
+        self.lower
+            .key(&self.cfg, &self.comments, &mut self.wr, span, sym)
+    }
+
+    /// Ends the line.
+    pub(crate) fn line(&mut self) -> Answer
+        ensures items { Emits line_end (state_of S.lines W.sheet self.old) (state_of S.lines W.sheet self.new) result }
+        ensures level { OnOk result ((W.sheet self.new.wr).indentation ≡ (W.sheet self.old.wr).indentation) }
+    {
+        self.lower.line(&self.cfg, &mut self.wr)
+    }
+
+    /// One level of indentation more.
+    pub(crate) fn deeper(&mut self) -> Answer
+        ensures items { Emits deeper (state_of S.lines W.sheet self.old) (state_of S.lines W.sheet self.new) result }
+        ensures level { OnOk result ((W.sheet self.new.wr).indentation ≡ (W.sheet self.old.wr).indentation + 1) }
+    {
+        self.lower.deeper(&self.cfg, &mut self.wr)
+    }
+
+    /// One level of indentation less.
+    pub(crate) fn shallower(&mut self) -> Answer
+        requires { 0 < (W.sheet self.old.wr).indentation }
+        ensures items { Emits shallower (state_of S.lines W.sheet self.old) (state_of S.lines W.sheet self.new) result }
+        ensures level { OnOk result ((W.sheet self.new.wr).indentation + 1 ≡ (W.sheet self.old.wr).indentation) }
+    {
+        self.lower.shallower(&self.cfg, &mut self.wr)
     }
 
     /// Writes a semicolon that may be left out where it isn't needed.

@@ -10,8 +10,8 @@ use Rattle.swc_ecma_codegen_ast.specs.Endings.{IsReduced}
 use Rattle.swc_ecma_codegen_ast.specs.Keys.{wants_quotes, is_quoted, key_token}
 use Rattle.swc_ecma_codegen_ast.specs.Layouts.{AreAlike, PutsIn, no_more, token, with_semicolon, with_comma, with_parentheses, AreSameBut, IsWritten}
 use Rattle.swc_ecma_codegen_ast.specs.Names.{name_value}
-use Rattle.swc_ecma_codegen_ast.specs.Phrases.{Phrase, Never, Nothing, One, NameOf, KeyOf, Then, OptionalComma, OptionalParentheses, Chosen, EmptyArguments, Generates, chosen, comma, open_parenthesis, close_parenthesis, in_parentheses}
-use Rattle.swc_ecma_codegen_ast.specs.Settings.{Settings}
+use Rattle.swc_ecma_codegen_ast.specs.Phrases.{Phrase, Never, Nothing, One, NameOf, KeyOf, Then, OptionalComma, OptionalParentheses, Chosen, EmptyArguments, LoopEnding, Generates, chosen, comma, open_parenthesis, close_parenthesis, in_parentheses}
+use Rattle.swc_ecma_codegen_ast.specs.Settings.{Settings, is_up_to_es5}
 use Rattle.swc_ecma_codegen_ast.specs.SpelledNames.{spelled_name}
 use Rattle.swc_ecma_codegen_ast.specs.Tokens.{Token, Units, ending}
 use Rattle.swc_ecma_codegen_ast.specs.Tokens as tokens
@@ -153,6 +153,10 @@ arguments : (s : Settings) → PutsIn [] (chosen s EmptyArguments)
 unfolding chosen
 arguments s = elim s.minify as (λ b. PutsIn [] (cond b [] (in_parentheses []))) [ true ↦ no_more | false ↦ within [] [] no_more ]
 
+loop_ending : (s : Settings) → PutsIn [] (chosen s LoopEnding)
+unfolding chosen
+loop_ending s = elim (is_up_to_es5 s.target) as (λ b. PutsIn [] (cond b (ending ∷ []) [])) [ true ↦ with_semicolon [] [] no_more | false ↦ no_more ]
+
 listed : (s : Settings) (f : Phrase) (ts : List Token) → Generates s f ts → PutsIn (core s f) ts
 unfolding Generates core
 listed s Never ts g = absurd g
@@ -166,6 +170,7 @@ listed s OptionalComma ts (inr g) = subst (λ z. PutsIn [] z) (sym g) (with_comm
 listed s (OptionalParentheses a) ts (inl g) = listed s a ts g
 listed s (OptionalParentheses a) ts (inr g) = subst (λ z. PutsIn (core s a) z) (sym g.2) (within (core s a) g.0 (listed s a g.0 g.1))
 listed s (Chosen EmptyArguments) ts g = subst (λ z. PutsIn [] z) (sym g) (arguments s)
+listed s (Chosen LoopEnding) ts g = subst (λ z. PutsIn [] z) (sym g) (loop_ending s)
 
 -- a key is the same under settings that are alike
 same_key : (s t : Settings) (bytes : List ℕ) → AreAlike s t → key_token s bytes ≡ key_token t bytes

@@ -8,6 +8,10 @@ pub mod LayoutLaws
 pub mod Lists
 pub mod Longest
 pub mod Mapped
+pub mod MappedFunctions
+pub mod MappedPats
+pub mod MappedProps
+pub mod MappedStmts
 pub mod MappedCalls
 pub mod MarkMatch
 pub mod Marks

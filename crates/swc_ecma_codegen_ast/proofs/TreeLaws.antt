@@ -1,5 +1,5 @@
 -- What a whole node is read as, by its sort.
-use Rattle.std.proofs.Common.{◌≡◌, Bool, true, false, refl, sym, ◌∙◌, ap, List, [], ◌∷◌, map, codes, Option, Some, None}
+use Rattle.std.proofs.Common.{◌≡◌, Bool, true, false, refl, sym, ◌∙◌, ap, codes, Option, Some, None}
 use Rattle.swc_ecma_codegen_tree.specs.declared.links.AnyNode.{AnyNode, AnyNode-F, map-AnyNode, roll-AnyNode, out-AnyNode}
 use Rattle.swc_ecma_codegen_tree.specs.declared.links.AnyNode.TheOpen as nodes
 use Rattle.swc_ecma_codegen_tree.specs.declared.links.AnyNode.TheViews.{roll-out-AnyNode}
@@ -25,21 +25,25 @@ use Rattle.swc_ecma_codegen_tree.specs.declared.pats.AssignTarget.{AssignTarget}
 use Rattle.swc_ecma_codegen_tree.specs.declared.pats.AssignTarget.TheVariants as targets
 use Rattle.swc_ecma_codegen_tree.specs.declared.pats.SimpleAssignTarget.{SimpleAssignTarget}
 use Rattle.swc_ecma_codegen_tree.specs.declared.pats.SimpleAssignTarget.TheVariants as simple_targets
-use Rattle.swc_ecma_codegen_tree.specs.declared.idents.BindingIdent.{BindingIdent}
 use Rattle.swc_ecma_codegen_tree.specs.declared.ts_links.TsTypeAnnBox.{TsTypeAnnBox}
 use Rattle.swc_ecma_codegen_tree.specs.declared.idents.Ident.{Ident}
+use Rattle.swc_ecma_codegen_tree.specs.declared.parts.StmtPart.{StmtPart}
+use Rattle.swc_ecma_codegen_tree.specs.declared.parts.StmtPart.TheVariants as stmt_parts
 use Rattle.swc_ecma_codegen_tree.specs.declared.stmts.Stmt.{Stmt}
-use Rattle.swc_ecma_codegen_tree.specs.declared.stmts.Stmt.TheVariants as stmts
 use Rattle.swc_ecma_codegen_ast.specs.Phrases.{Phrase, some_listed}
 use Rattle.swc_ecma_codegen_ast.specs.declared.roles.Role.{Role}
-use Rattle.swc_ecma_codegen_ast.specs.declared.roles.Role.TheVariants.{Expression, Callee, Statement, MemberExpression, ChainMember, ChainCall, AssignmentTarget}
-use Rattle.swc_ecma_codegen_ast.specs.ExprPhrases.{expr, expr_in, expr_at, this_expr, unary_expr, update_expr, bin_expr, computed_prop_name, member_prop, member_expr, super_prop, super_prop_expr, chain_mark, chain_prop, chain_member, chain_base, opt_chain_expr, meta_prop_expr, assign_expr, yield_arg, yield_expr, await_expr, cond_expr, seq_expr, paren_expr}
+use Rattle.swc_ecma_codegen_ast.specs.declared.roles.Role.TheVariants.{Expression, Statement, MemberExpression, ChainMember, AssignmentTarget, Pattern, PlainParameter, PropertyName, PropertyDefinition, ObjectLiteral, Function, Block, Declaration, VariableDeclaration, Callee, ChainCall}
+use Rattle.swc_ecma_codegen_ast.specs.ExprPhrases.{expr, expr_at, this_expr, unary_expr, update_expr, bin_expr, computed_prop_name, member_prop, member_expr, super_prop, super_prop_expr, chain_mark, chain_prop, chain_member, chain_base, opt_chain_expr, meta_prop_expr, assign_expr, yield_arg, yield_expr, await_expr, cond_expr, seq_expr, paren_expr, expr_in}
 use Rattle.swc_ecma_codegen_ast.specs.NamePhrases.{binding_ident}
 use Rattle.swc_ecma_codegen_ast.specs.AssignPhrases.{assign_target, simple_assign_target}
-use Rattle.swc_ecma_codegen_ast.specs.PartPhrases.{expr_part}
-use Rattle.swc_ecma_codegen_ast.specs.StmtPhrases.{stmt, empty_stmt, expr_stmt}
+use Rattle.swc_ecma_codegen_ast.specs.PartPhrases.{expr_part, stmt_part}
+use Rattle.swc_ecma_codegen_ast.specs.FunctionPhrases.{function_head, method_head, fn_expr}
 use Rattle.swc_ecma_codegen_ast.specs.TreePhrases.{node_phrase, phrase}
 use Rattle.swc_ecma_codegen_ast.proofs.Mapped.{list_mapped}
+use Rattle.swc_ecma_codegen_ast.proofs.MappedFunctions.{function_part_mapped, block_mapped, arrow_expr_mapped}
+use Rattle.swc_ecma_codegen_ast.proofs.MappedStmts.{stmt_mapped, decl_mapped, var_decl_mapped}
+use Rattle.swc_ecma_codegen_ast.proofs.MappedPats.{pat_mapped, plain_mapped, target_pat_mapped}
+use Rattle.swc_ecma_codegen_ast.proofs.MappedProps.{prop_name_mapped, prop_mapped, object_lit_mapped}
 use Rattle.swc_ecma_codegen_ast.proofs.MappedCalls.{array_lit_mapped, call_mapped, new_mapped, chain_call_mapped}
 
 -- ---- a production sees what links hold through f alone
@@ -60,11 +64,12 @@ yield_mapped g f n None = refl
 yield_mapped g f n (Some x) = refl
 
 expr_mapped : {X Y : Type 0} (g : X → Y) (f : Y → Role → Phrase) (n : Expr X) → node_phrase f (map-AnyNode X Y g (nodes.Expr n)) Expression ≡ expr (λ x. f (g x)) n
-unfolding node_phrase expr expr_in this_expr unary_expr update_expr bin_expr assign_expr meta_prop_expr await_expr cond_expr seq_expr paren_expr
+unfolding node_phrase expr this_expr unary_expr update_expr bin_expr assign_expr meta_prop_expr await_expr cond_expr seq_expr paren_expr fn_expr expr_in
 expr_mapped {X} g f (exprs.Seq n) = ap (some_listed (codes ",")) (list_mapped {A = ExprBox X} _ (expr_at f) (expr_at (λ x. f (g x))) (λ x. refl) n.exprs.items)
 expr_mapped g f (exprs.SuperProp n) = super_mapped g f n n.prop
 expr_mapped g f (exprs.OptChain n) = chain_mapped g f n n.base
 expr_mapped g f (exprs.Yield n) = yield_mapped g f n n.arg
+expr_mapped g f (exprs.Arrow n) = arrow_expr_mapped g f n
 expr_mapped g f (exprs.Array n) = array_lit_mapped g f n
 expr_mapped g f (exprs.Call n) = call_mapped g f n
 expr_mapped g f (exprs.New n) = new_mapped g f false n
@@ -75,11 +80,6 @@ callee_mapped : {X Y : Type 0} (g : X → Y) (f : Y → Role → Phrase) (n : Ex
 unfolding node_phrase expr_in
 callee_mapped g f (exprs.New n) = new_mapped g f true n
 callee_mapped g f n = expr_mapped g f n
-
-stmt_mapped : {X Y : Type 0} (g : X → Y) (f : Y → Role → Phrase) (n : Stmt X) → node_phrase f (map-AnyNode X Y g (nodes.Stmt n)) Statement ≡ stmt (λ x. f (g x)) n
-unfolding node_phrase stmt empty_stmt expr_stmt
-stmt_mapped g f (stmts.Empty n) = refl
-stmt_mapped g f n = refl
 
 member_mapped : {X Y : Type 0} (g : X → Y) (f : Y → Role → Phrase) (span : Span) (obj : ExprBox X) (prop : MemberProp X) → node_phrase f (map-AnyNode X Y g (nodes.MemberExpr (record { span = span; obj = obj; prop = prop }))) MemberExpression ≡ member_expr (λ x. f (g x)) (record { span = span; obj = obj; prop = prop })
 unfolding node_phrase member_expr member_prop computed_prop_name
@@ -125,13 +125,26 @@ simple_target_mapped g f n = refl
 target_mapped : {X Y : Type 0} (g : X → Y) (f : Y → Role → Phrase) (n : AssignTarget X) → node_phrase f (map-AnyNode X Y g (nodes.ExprPart (expr_parts.AssignTarget n))) AssignmentTarget ≡ assign_target (λ x. f (g x)) n
 unfolding node_phrase expr_part assign_target
 target_mapped g f (targets.Simple n) = simple_target_mapped g f n
-target_mapped g f n = refl
+target_mapped g f (targets.Pat n) = target_pat_mapped g f n
 
 part_mapped : {X Y : Type 0} (g : X → Y) (f : Y → Role → Phrase) (n : ExprPart X) (role : Role) → node_phrase f (map-AnyNode X Y g (nodes.ExprPart n)) role ≡ expr_part (λ x. f (g x)) n role
 unfolding node_phrase expr_part
+part_mapped g f (expr_parts.Pat n) Pattern = pat_mapped g f n
+part_mapped g f (expr_parts.Pat n) PlainParameter = plain_mapped g f n
+part_mapped g f (expr_parts.ObjectLit n) ObjectLiteral = object_lit_mapped g f n
+part_mapped g f (expr_parts.PropName n) PropertyName = prop_name_mapped g f n
+part_mapped g f (expr_parts.Prop n) PropertyDefinition = prop_mapped g f n
 part_mapped g f (expr_parts.OptCall n) (ChainCall optional) = chain_call_mapped g f optional n
 part_mapped g f (expr_parts.AssignTarget n) AssignmentTarget = target_mapped g f n
 part_mapped g f n role = refl
+
+stmt_part_mapped : {X Y : Type 0} (g : X → Y) (f : Y → Role → Phrase) (n : StmtPart X) (role : Role) → node_phrase f (map-AnyNode X Y g (nodes.StmtPart n)) role ≡ stmt_part (λ x. f (g x)) n role
+unfolding node_phrase stmt_part function_head method_head
+stmt_part_mapped g f (stmt_parts.Function n) Function = function_part_mapped g f n
+stmt_part_mapped g f (stmt_parts.BlockStmt n) Block = block_mapped g f n
+stmt_part_mapped g f (stmt_parts.Decl n) Declaration = decl_mapped g f n
+stmt_part_mapped g f (stmt_parts.VarDecl n) VariableDeclaration = var_decl_mapped g f n
+stmt_part_mapped g f n role = refl
 
 node_mapped : {X Y : Type 0} (g : X → Y) (f : Y → Role → Phrase) (n : AnyNode-F X) (role : Role) → node_phrase f (map-AnyNode X Y g n) role ≡ node_phrase (λ x. f (g x)) n role
 unfolding node_phrase
@@ -141,6 +154,7 @@ node_mapped g f (nodes.Stmt n) Statement = stmt_mapped g f n
 node_mapped g f (nodes.MemberExpr n) MemberExpression = member_mapped g f n.span n.obj n.prop
 node_mapped g f (nodes.MemberExpr n) (ChainMember optional) = chain_member_mapped g f n.span n.obj n.prop optional
 node_mapped g f (nodes.ExprPart n) role = part_mapped g f n role
+node_mapped g f (nodes.StmtPart n) role = stmt_part_mapped g f n role
 node_mapped g f n role = refl
 
 -- ---- whole nodes
@@ -168,3 +182,6 @@ phrase_member_expr n role = ap (λ x. phrase x role) (sym (whole.rolls-MemberExp
 
 pub phrase_expr_part : (n : ExprPart AnyNode) (role : Role) → phrase (whole.ExprPart n) role ≡ node_phrase phrase (nodes.ExprPart n) role
 phrase_expr_part n role = ap (λ x. phrase x role) (sym (whole.rolls-ExprPart n)) ∙ phrase_of_layer (nodes.ExprPart n) role
+
+pub phrase_stmt_part : (n : StmtPart AnyNode) (role : Role) → phrase (whole.StmtPart n) role ≡ node_phrase phrase (nodes.StmtPart n) role
+phrase_stmt_part n role = ap (λ x. phrase x role) (sym (whole.rolls-StmtPart n)) ∙ phrase_of_layer (nodes.StmtPart n) role

@@ -7,6 +7,7 @@ use Rattle.swc_ecma_codegen_ast.specs.Phrases.{Phrase, Never}
 use Rattle.swc_ecma_codegen_ast.specs.declared.roles.Role.{Role}
 use Rattle.swc_ecma_codegen_ast.specs.declared.roles.Role.TheVariants.{MemberExpression}
 use Rattle.swc_ecma_codegen_ast.specs.NamePhrases.{binding_ident}
+use Rattle.swc_ecma_codegen_ast.specs.PatPhrases.{assign_target_pat}
 use Rattle.swc_ecma_codegen_ast.specs.ExprPhrases.{super_prop_expr, paren_expr, opt_chain_expr}
 
 -- `a`, `a.b`, `super.a`, `(a)`; what TypeScript adds isn't printed yet
@@ -18,7 +19,6 @@ simple_assign_target f (simple_targets.Paren n) = paren_expr f n
 simple_assign_target f (simple_targets.OptChain n) = opt_chain_expr f n
 simple_assign_target f n = Never
 
--- patterns aren't printed yet
 unfoldable pub assign_target : {X : Type 0} → (X → Role → Phrase) → AssignTarget X → Phrase
 assign_target f (targets.Simple n) = simple_assign_target f n
-assign_target f n = Never
+assign_target f (targets.Pat n) = assign_target_pat f n

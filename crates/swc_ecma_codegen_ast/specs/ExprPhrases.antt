@@ -39,7 +39,8 @@ use Rattle.swc_ecma_codegen_ast.specs.Phrases.{Phrase, Never, Nothing, One, Opti
 use Rattle.swc_ecma_codegen_ast.specs.Tokens.{Token}
 use Rattle.swc_ecma_codegen_ast.specs.Tokens as tokens
 use Rattle.swc_ecma_codegen_ast.specs.declared.roles.Role.{Role}
-use Rattle.swc_ecma_codegen_ast.specs.declared.roles.Role.TheVariants.{Expression, MemberExpression, ChainMember, ChainCall, AssignmentTarget}
+use Rattle.swc_ecma_codegen_ast.specs.declared.roles.Role.TheVariants.{Expression, MemberExpression, ChainMember, AssignmentTarget, ObjectLiteral, ChainCall}
+use Rattle.swc_ecma_codegen_ast.specs.FunctionPhrases.{fn_expr, arrow_expr}
 use Rattle.swc_ecma_codegen_ast.specs.CallPhrases.{callee_at, array_lit, call_expr, new_expr}
 use Rattle.swc_ecma_codegen_ast.specs.LitPhrases.{lit}
 use Rattle.swc_ecma_codegen_ast.specs.NamePhrases.{ident, ident_name}
@@ -165,6 +166,8 @@ paren_expr f n = mark (codes "(") > expr_at f n.expr > mark (codes ")")
 
 unfoldable pub expr : {X : Type 0} → (X → Role → Phrase) → Expr X → Phrase
 expr f (exprs.This n) = this_expr n
+expr f (exprs.Object n) = f n.node.value ObjectLiteral
+expr f (exprs.Fn n) = fn_expr f n
 expr f (exprs.Array n) = array_lit f n
 expr f (exprs.Unary n) = unary_expr f n
 expr f (exprs.Update n) = update_expr f n
@@ -178,6 +181,7 @@ expr f (exprs.New n) = new_expr f false n
 expr f (exprs.Seq n) = seq_expr f n
 expr f (exprs.Ident n) = ident n
 expr f (exprs.Lit n) = lit n
+expr f (exprs.Arrow n) = arrow_expr f n
 expr f (exprs.Yield n) = yield_expr f n
 expr f (exprs.MetaProp n) = meta_prop_expr n
 expr f (exprs.Await n) = await_expr f n

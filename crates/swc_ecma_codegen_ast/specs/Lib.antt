@@ -4,9 +4,11 @@ pub mod Chars
 pub mod CodeUnits
 pub mod CommentMaps
 pub mod DecimalValues
+pub mod DeclPhrases
 pub mod ElementPhrases
 pub mod Endings
 pub mod ExprPhrases
+pub mod FunctionPhrases
 pub mod GapRules
 pub mod Hashbangs
 pub mod HeldNumbers
@@ -25,7 +27,9 @@ pub mod NumberValues
 pub mod Numbers
 pub mod PartPhrases
 pub mod Parts
+pub mod PatPhrases
 pub mod Phrases
+pub mod PropPhrases
 pub mod Punctuators
 pub mod Reading
 pub mod Reads

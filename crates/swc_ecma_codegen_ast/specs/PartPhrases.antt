@@ -1,13 +1,34 @@
--- Parts of expressions that links hold: a production for each sort, in its role.
+-- Parts of expressions and statements that links hold: a production for each sort, in its role.
 use Rattle.swc_ecma_codegen_tree.specs.declared.parts.ExprPart.{ExprPart}
 use Rattle.swc_ecma_codegen_tree.specs.declared.parts.ExprPart.TheVariants as expr_parts
+use Rattle.swc_ecma_codegen_tree.specs.declared.parts.StmtPart.{StmtPart}
+use Rattle.swc_ecma_codegen_tree.specs.declared.parts.StmtPart.TheVariants as stmt_parts
 use Rattle.swc_ecma_codegen_ast.specs.Phrases.{Phrase, Never}
 use Rattle.swc_ecma_codegen_ast.specs.declared.roles.Role.{Role}
-use Rattle.swc_ecma_codegen_ast.specs.declared.roles.Role.TheVariants.{AssignmentTarget, ChainCall}
+use Rattle.swc_ecma_codegen_ast.specs.declared.roles.Role.TheVariants.{AssignmentTarget, Pattern, PlainParameter, PropertyName, PropertyDefinition, ObjectLiteral, Function, FunctionHead, MethodHead, Block, Declaration, VariableDeclaration, ChainCall}
 use Rattle.swc_ecma_codegen_ast.specs.AssignPhrases.{assign_target}
 use Rattle.swc_ecma_codegen_ast.specs.CallPhrases.{chain_call}
+use Rattle.swc_ecma_codegen_ast.specs.PatPhrases.{pat, plain_parameter}
+use Rattle.swc_ecma_codegen_ast.specs.PropPhrases.{object_lit, prop_name, prop}
+use Rattle.swc_ecma_codegen_ast.specs.FunctionPhrases.{function, function_head, method_head}
+use Rattle.swc_ecma_codegen_ast.specs.DeclPhrases.{decl, var_decl}
+use Rattle.swc_ecma_codegen_ast.specs.StmtPhrases.{block_stmt}
 
 unfoldable pub expr_part : {X : Type 0} → (X → Role → Phrase) → ExprPart X → Role → Phrase
+expr_part f (expr_parts.Pat n) Pattern = pat f n
+expr_part f (expr_parts.Pat n) PlainParameter = plain_parameter n
+expr_part f (expr_parts.ObjectLit n) ObjectLiteral = object_lit f n
+expr_part f (expr_parts.PropName n) PropertyName = prop_name f n
+expr_part f (expr_parts.Prop n) PropertyDefinition = prop f n
 expr_part f (expr_parts.OptCall n) (ChainCall optional) = chain_call f optional n
 expr_part f (expr_parts.AssignTarget n) AssignmentTarget = assign_target f n
 expr_part f n role = Never
+
+unfoldable pub stmt_part : {X : Type 0} → (X → Role → Phrase) → StmtPart X → Role → Phrase
+stmt_part f (stmt_parts.Function n) Function = function f n.value
+stmt_part f (stmt_parts.Function n) FunctionHead = function_head n.value
+stmt_part f (stmt_parts.Function n) MethodHead = method_head n.value
+stmt_part f (stmt_parts.BlockStmt n) Block = block_stmt f n
+stmt_part f (stmt_parts.Decl n) Declaration = decl f n.value
+stmt_part f (stmt_parts.VarDecl n) VariableDeclaration = var_decl f n
+stmt_part f n role = Never

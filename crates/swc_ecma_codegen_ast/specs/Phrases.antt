@@ -3,14 +3,16 @@ use Rattle.std.specs.Prelude.{◌≡◌, ◌⊎◌, ℕ, Bool, true, false, ◌&
 use Rattle.swc_ecma_codegen_common.specs.declared.positions.BytePos.{BytePos}
 use Rattle.swc_ecma_codegen_ast.specs.Keys.{key_token}
 use Rattle.swc_ecma_codegen_ast.specs.Names.{name_value}
-use Rattle.swc_ecma_codegen_ast.specs.Settings.{Settings}
+use Rattle.swc_ecma_codegen_ast.specs.Settings.{Settings, is_up_to_es5}
 use Rattle.swc_ecma_codegen_ast.specs.SpelledNames.{spelled_name, is_well_formed_name}
 use Rattle.swc_ecma_codegen_ast.specs.Tokens.{Token}
 use Rattle.swc_ecma_codegen_ast.specs.Tokens as tokens
 
--- What is chosen by the settings: `()` after `new A`, which isn't there where they are to minify.
+-- What is chosen by the settings: `()` after `new A`, which isn't there where they are to minify, and the semicolon that ends
+-- `do a; while (b);`, which is there for a version before 2015.
 pub data Choice : Type 0 where
   EmptyArguments : Choice
+  LoopEnding : Choice
 
 -- No list at all, no token, one token, a name by its bytes in the tree and where it stands in its source, the same of a key of
 -- a property, or one list and then another. What syntax leaves open: a comma or none, `[a,] = b` or `[a] = b`; a list, bare or
@@ -45,6 +47,7 @@ in_parentheses ts = open_parenthesis ∷ (ts ++ (close_parenthesis ∷ []))
 -- the tokens of a choice
 unfoldable pub chosen : Settings → Choice → List Token
 chosen s EmptyArguments = if s.minify then [] else in_parentheses []
+chosen s LoopEnding = if is_up_to_es5 s.target then tokens.ending ∷ [] else []
 
 -- A list is one of the set, under these settings.
 unfoldable pub Generates : Settings → Phrase → List Token → Type 0

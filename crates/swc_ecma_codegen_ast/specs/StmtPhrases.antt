@@ -1,23 +1,61 @@
 -- Statements and programs: one production a node. `f` says what is read of what a link holds, in its role.
-use Rattle.std.specs.Prelude.{if◌then◌else◌, is_some, map, codes}
+use Rattle.std.specs.Prelude.{if◌then◌else◌, is_some, map, codes, Option, Some, None}
+use Rattle.swc_ecma_codegen_tree.specs.declared.expr_links.ExprBox.{ExprBox}
+use Rattle.swc_ecma_codegen_tree.specs.declared.expr_links.PatBox.{PatBox}
+use Rattle.swc_ecma_codegen_tree.specs.declared.stmt_links.BlockStmtBox.{BlockStmtBox}
 use Rattle.swc_ecma_codegen_tree.specs.declared.stmt_links.StmtBox.{StmtBox}
 use Rattle.swc_ecma_codegen_tree.specs.declared.stmts.Stmt.{Stmt}
 use Rattle.swc_ecma_codegen_tree.specs.declared.stmts.Stmt.TheVariants as stmts
+use Rattle.swc_ecma_codegen_tree.specs.declared.stmts.BlockStmt.{BlockStmt}
+use Rattle.swc_ecma_codegen_tree.specs.declared.stmts.BreakStmt.{BreakStmt}
+use Rattle.swc_ecma_codegen_tree.specs.declared.stmts.CatchClause.{CatchClause}
+use Rattle.swc_ecma_codegen_tree.specs.declared.stmts.ContinueStmt.{ContinueStmt}
+use Rattle.swc_ecma_codegen_tree.specs.declared.stmts.DebuggerStmt.{DebuggerStmt}
+use Rattle.swc_ecma_codegen_tree.specs.declared.stmts.DoWhileStmt.{DoWhileStmt}
 use Rattle.swc_ecma_codegen_tree.specs.declared.stmts.EmptyStmt.{EmptyStmt}
 use Rattle.swc_ecma_codegen_tree.specs.declared.stmts.ExprStmt.{ExprStmt}
+use Rattle.swc_ecma_codegen_tree.specs.declared.stmts.ForHead.{ForHead}
+use Rattle.swc_ecma_codegen_tree.specs.declared.stmts.ForHead.TheVariants as heads
+use Rattle.swc_ecma_codegen_tree.specs.declared.stmts.ForInStmt.{ForInStmt}
+use Rattle.swc_ecma_codegen_tree.specs.declared.stmts.ForOfStmt.{ForOfStmt}
+use Rattle.swc_ecma_codegen_tree.specs.declared.stmts.ForStmt.{ForStmt}
+use Rattle.swc_ecma_codegen_tree.specs.declared.stmts.IfStmt.{IfStmt}
+use Rattle.swc_ecma_codegen_tree.specs.declared.stmts.LabeledStmt.{LabeledStmt}
+use Rattle.swc_ecma_codegen_tree.specs.declared.stmts.ReturnStmt.{ReturnStmt}
+use Rattle.swc_ecma_codegen_tree.specs.declared.stmts.SwitchCase.{SwitchCase}
+use Rattle.swc_ecma_codegen_tree.specs.declared.stmts.SwitchStmt.{SwitchStmt}
+use Rattle.swc_ecma_codegen_tree.specs.declared.stmts.ThrowStmt.{ThrowStmt}
+use Rattle.swc_ecma_codegen_tree.specs.declared.stmts.TryStmt.{TryStmt}
+use Rattle.swc_ecma_codegen_tree.specs.declared.stmts.VarDeclOrExpr.{VarDeclOrExpr}
+use Rattle.swc_ecma_codegen_tree.specs.declared.stmts.VarDeclOrExpr.TheVariants as inits
+use Rattle.swc_ecma_codegen_tree.specs.declared.stmts.WhileStmt.{WhileStmt}
+use Rattle.swc_ecma_codegen_tree.specs.declared.stmts.WithStmt.{WithStmt}
 use Rattle.swc_ecma_codegen_tree.specs.declared.programs.Program.{Program}
 use Rattle.swc_ecma_codegen_tree.specs.declared.programs.Program.TheVariants as programs
 use Rattle.swc_ecma_codegen_tree.specs.declared.programs.Script.{Script}
-use Rattle.swc_ecma_codegen_ast.specs.Phrases.{Phrase, Never, ◌>◌, mark, ending, in_order}
+use Rattle.swc_ecma_codegen_ast.specs.Phrases.{Phrase, Never, Nothing, OptionalParentheses, Chosen, LoopEnding, ◌>◌, word, mark, ending, in_order}
 use Rattle.swc_ecma_codegen_ast.specs.declared.roles.Role.{Role}
-use Rattle.swc_ecma_codegen_ast.specs.declared.roles.Role.TheVariants.{Statement}
+use Rattle.swc_ecma_codegen_ast.specs.declared.roles.Role.TheVariants.{Statement, Block}
+use Rattle.swc_ecma_codegen_ast.specs.NamePhrases.{ident}
+use Rattle.swc_ecma_codegen_ast.specs.PatPhrases.{value_at, pat_at}
+use Rattle.swc_ecma_codegen_ast.specs.FunctionPhrases.{word_if, block_at, optional_name}
+use Rattle.swc_ecma_codegen_ast.specs.DeclPhrases.{decl_at, var_decl_at, using_decl}
 use Rattle.swc_ecma_codegen_ast.specs.ExprPhrases.{expr_at}
 
 -- a statement that a link holds
 abbrev pub stmt_at : {X : Type 0} → (X → Role → Phrase) → StmtBox X → Phrase
 stmt_at f n = f n.node.value Statement
 
--- ECMA-262, section 14.4
+-- an expression, where there is one
+unfoldable pub optional_value : {X : Type 0} → (X → Role → Phrase) → Option (ExprBox X) → Phrase
+optional_value f None = Nothing
+optional_value f (Some n) = value_at f n
+
+-- ECMA-262, section 14.2
+unfoldable pub block_stmt : {X : Type 0} → (X → Role → Phrase) → BlockStmt X → Phrase
+block_stmt f n = mark (codes "{") > in_order (map (stmt_at f) n.stmts.items) > mark (codes "}")
+
+-- section 14.4
 unfoldable pub empty_stmt : EmptyStmt → Phrase
 empty_stmt n = mark (codes ";")
 
@@ -25,11 +63,132 @@ empty_stmt n = mark (codes ";")
 unfoldable pub expr_stmt : {X : Type 0} → (X → Role → Phrase) → ExprStmt X → Phrase
 expr_stmt f n = expr_at f n.expr > ending
 
+-- section 14.16
+unfoldable pub debugger_stmt : DebuggerStmt → Phrase
+debugger_stmt n = word (codes "debugger") > ending
+
+-- section 14.11: `with (a) b;`
+unfoldable pub with_stmt : {X : Type 0} → (X → Role → Phrase) → WithStmt X → Phrase
+with_stmt f n = word (codes "with") > mark (codes "(") > value_at f n.obj > mark (codes ")") > stmt_at f n.body
+
+-- section 14.10: `return a;`, `return;`; parentheses may stand round the argument
+unfoldable pub return_arg : {X : Type 0} → (X → Role → Phrase) → Option (ExprBox X) → Phrase
+return_arg f None = Nothing
+return_arg f (Some n) = OptionalParentheses (value_at f n)
+
+unfoldable pub return_stmt : {X : Type 0} → (X → Role → Phrase) → ReturnStmt X → Phrase
+return_stmt f n = word (codes "return") > return_arg f n.arg > ending
+
+-- section 14.13: `a: b;`
+unfoldable pub labeled_stmt : {X : Type 0} → (X → Role → Phrase) → LabeledStmt X → Phrase
+labeled_stmt f n = ident n.label > mark (codes ":") > stmt_at f n.body
+
+-- sections 14.9 and 14.8
+unfoldable pub break_stmt : BreakStmt → Phrase
+break_stmt n = word (codes "break") > optional_name n.label > ending
+
+unfoldable pub continue_stmt : ContinueStmt → Phrase
+continue_stmt n = word (codes "continue") > optional_name n.label > ending
+
+-- section 14.6: `if (a) b; else c;`
+unfoldable pub else_branch : {X : Type 0} → (X → Role → Phrase) → Option (StmtBox X) → Phrase
+else_branch f None = Nothing
+else_branch f (Some n) = word (codes "else") > stmt_at f n
+
+unfoldable pub if_stmt : {X : Type 0} → (X → Role → Phrase) → IfStmt X → Phrase
+if_stmt f n = word (codes "if") > mark (codes "(") > value_at f n.test > mark (codes ")") > stmt_at f n.cons > else_branch f n.alt
+
+-- section 14.12: `case a: b;`, `default: b;`
+unfoldable pub case_test : {X : Type 0} → (X → Role → Phrase) → Option (ExprBox X) → Phrase
+case_test f None = word (codes "default")
+case_test f (Some n) = word (codes "case") > value_at f n
+
+unfoldable pub switch_case : {X : Type 0} → (X → Role → Phrase) → SwitchCase X → Phrase
+switch_case f n = case_test f n.test > mark (codes ":") > in_order (map (stmt_at f) n.cons.items)
+
+unfoldable pub switch_stmt : {X : Type 0} → (X → Role → Phrase) → SwitchStmt X → Phrase
+switch_stmt f n = word (codes "switch") > mark (codes "(") > value_at f n.discriminant > mark (codes ")") > mark (codes "{") > in_order (map (switch_case f) n.cases.items) > mark (codes "}")
+
+-- section 14.14: parentheses may stand round the argument
+unfoldable pub throw_stmt : {X : Type 0} → (X → Role → Phrase) → ThrowStmt X → Phrase
+throw_stmt f n = word (codes "throw") > OptionalParentheses (value_at f n.arg) > ending
+
+-- section 14.15: `catch { b; }`, `catch (a) { b; }`
+unfoldable pub catch_param : {X : Type 0} → (X → Role → Phrase) → Option (PatBox X) → Phrase
+catch_param f None = Nothing
+catch_param f (Some n) = mark (codes "(") > pat_at f n > mark (codes ")")
+
+unfoldable pub catch_clause : {X : Type 0} → (X → Role → Phrase) → CatchClause X → Phrase
+catch_clause f n = word (codes "catch") > catch_param f n.param > block_at f n.body
+
+unfoldable pub handler : {X : Type 0} → (X → Role → Phrase) → Option (CatchClause X) → Phrase
+handler f None = Nothing
+handler f (Some n) = catch_clause f n
+
+unfoldable pub finalizer : {X : Type 0} → (X → Role → Phrase) → Option (BlockStmtBox X) → Phrase
+finalizer f None = Nothing
+finalizer f (Some n) = word (codes "finally") > block_at f n
+
+unfoldable pub try_stmt : {X : Type 0} → (X → Role → Phrase) → TryStmt X → Phrase
+try_stmt f n = word (codes "try") > block_at f n.block > handler f n.handler > finalizer f n.finalizer
+
+-- section 14.7.3: `while (a) b;`
+unfoldable pub while_stmt : {X : Type 0} → (X → Role → Phrase) → WhileStmt X → Phrase
+while_stmt f n = word (codes "while") > mark (codes "(") > value_at f n.test > mark (codes ")") > stmt_at f n.body
+
+-- section 14.7.2: `do a; while (b)`, and before 2015 `do a; while (b);`
+unfoldable pub do_while_stmt : {X : Type 0} → (X → Role → Phrase) → DoWhileStmt X → Phrase
+do_while_stmt f n = word (codes "do") > stmt_at f n.body > word (codes "while") > mark (codes "(") > value_at f n.test > mark (codes ")") > Chosen LoopEnding
+
+-- section 14.7.4: `for (a; b; c) d;`, whose head may be `;;`
+unfoldable pub var_decl_or_expr : {X : Type 0} → (X → Role → Phrase) → VarDeclOrExpr X → Phrase
+var_decl_or_expr f (inits.VarDecl n) = var_decl_at f n
+var_decl_or_expr f (inits.Expr n) = value_at f n
+
+unfoldable pub for_init : {X : Type 0} → (X → Role → Phrase) → Option (VarDeclOrExpr X) → Phrase
+for_init f None = Nothing
+for_init f (Some n) = var_decl_or_expr f n
+
+unfoldable pub for_stmt : {X : Type 0} → (X → Role → Phrase) → ForStmt X → Phrase
+for_stmt f n =
+    word (codes "for") > mark (codes "(") > for_init f n.init > mark (codes ";") > optional_value f n.test > mark (codes ";") > optional_value f n.update
+    > mark (codes ")") > stmt_at f n.body
+
+-- section 14.7.5: `let a` of `for (let a in b) c;`
+unfoldable pub for_head : {X : Type 0} → (X → Role → Phrase) → ForHead X → Phrase
+for_head f (heads.VarDecl n) = var_decl_at f n
+for_head f (heads.UsingDecl n) = using_decl f n
+for_head f (heads.Pat n) = pat_at f n
+
+unfoldable pub for_in_stmt : {X : Type 0} → (X → Role → Phrase) → ForInStmt X → Phrase
+for_in_stmt f n = word (codes "for") > mark (codes "(") > for_head f n.left > word (codes "in") > value_at f n.right > mark (codes ")") > stmt_at f n.body
+
+-- `for await (a of b) c;`
+unfoldable pub for_of_stmt : {X : Type 0} → (X → Role → Phrase) → ForOfStmt X → Phrase
+for_of_stmt f n =
+    word (codes "for") > word_if n.is_await (word (codes "await")) > mark (codes "(") > for_head f n.left > word (codes "of") > value_at f n.right
+    > mark (codes ")") > stmt_at f n.body
+
 unfoldable pub stmt : {X : Type 0} → (X → Role → Phrase) → Stmt X → Phrase
+stmt f (stmts.Block n) = f n.node.value Block
 stmt f (stmts.Empty n) = empty_stmt n
+stmt f (stmts.Debugger n) = debugger_stmt n
+stmt f (stmts.With n) = with_stmt f n
+stmt f (stmts.Return n) = return_stmt f n
+stmt f (stmts.Labeled n) = labeled_stmt f n
+stmt f (stmts.Break n) = break_stmt n
+stmt f (stmts.Continue n) = continue_stmt n
+stmt f (stmts.If n) = if_stmt f n
+stmt f (stmts.Switch n) = switch_stmt f n
+stmt f (stmts.Throw n) = throw_stmt f n
+stmt f (stmts.Try n) = try_stmt f n
+stmt f (stmts.While n) = while_stmt f n
+stmt f (stmts.DoWhile n) = do_while_stmt f n
+stmt f (stmts.For n) = for_stmt f n
+stmt f (stmts.ForIn n) = for_in_stmt f n
+stmt f (stmts.ForOf n) = for_of_stmt f n
+stmt f (stmts.Decl n) = decl_at f n
 stmt f (stmts.Expr n) = expr_stmt f n
--- what isn't printed yet
-stmt f n = Never
 
 -- section 16.1: without a hashbang, which isn't printed yet
 unfoldable pub script : {X : Type 0} → (X → Role → Phrase) → Script X → Phrase

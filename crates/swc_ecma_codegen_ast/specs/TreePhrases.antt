@@ -9,9 +9,9 @@ use Rattle.swc_ecma_codegen_ast.specs.Settings.{Settings}
 use Rattle.swc_ecma_codegen_ast.specs.Tokens.{Token}
 use Rattle.swc_ecma_codegen_ast.specs.Phrases.{Phrase, Never, Generates, is_possible}
 use Rattle.swc_ecma_codegen_ast.specs.declared.roles.Role.{Role}
-use Rattle.swc_ecma_codegen_ast.specs.declared.roles.Role.TheVariants.{Expression, Callee, Statement, MemberExpression, ChainMember}
-use Rattle.swc_ecma_codegen_ast.specs.ExprPhrases.{expr, expr_in, member_expr, chain_member}
-use Rattle.swc_ecma_codegen_ast.specs.PartPhrases.{expr_part}
+use Rattle.swc_ecma_codegen_ast.specs.declared.roles.Role.TheVariants.{Expression, Statement, MemberExpression, ChainMember, Callee}
+use Rattle.swc_ecma_codegen_ast.specs.ExprPhrases.{expr, member_expr, chain_member, expr_in}
+use Rattle.swc_ecma_codegen_ast.specs.PartPhrases.{expr_part, stmt_part}
 use Rattle.swc_ecma_codegen_ast.specs.StmtPhrases.{stmt, program}
 
 -- one node, where f says what is read of what its links hold: a node of another sort has no place there
@@ -22,6 +22,7 @@ node_phrase f (nodes.Stmt n) Statement = stmt f n
 node_phrase f (nodes.MemberExpr n) MemberExpression = member_expr f n
 node_phrase f (nodes.MemberExpr n) (ChainMember optional) = chain_member f optional n
 node_phrase f (nodes.ExprPart n) role = expr_part f n role
+node_phrase f (nodes.StmtPart n) role = stmt_part f n role
 node_phrase f n role = Never
 
 -- a whole node

@@ -15,4 +15,26 @@ pub enum Role {
     /// `(c)` of `a?.b(c)`.
     ChainCall(bool),
     AssignmentTarget,
+    /// `[a]` of `[a] = b`, and each parameter of a function.
+    Pattern,
+    /// A pattern that is a name alone: round it as the only parameter of an arrow function parentheses may be left out.
+    PlainParameter,
+    /// `a` of `{ a: b }`.
+    PropertyName,
+    /// `a: b` of `{ a: b }`.
+    PropertyDefinition,
+    /// `{ a }`.
+    ObjectLiteral,
+    /// `() {}` of `function f() {}`, all but the words before it and the name.
+    Function,
+    /// `async function*` of `async function* f() {}`.
+    FunctionHead,
+    /// `async *` of `{ async *f() {} }`.
+    MethodHead,
+    /// `{ a; }`.
+    Block,
+    /// `let a = b;` or `function f() {}`.
+    Declaration,
+    /// `let a = b`, without its semicolon.
+    VariableDeclaration,
 }

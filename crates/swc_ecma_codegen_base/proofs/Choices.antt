@@ -1,26 +1,27 @@
 -- Parts that write what syntax leaves open: one of the lists that their phrase has.
 use Rattle.std.proofs.Common.{◌≡◌, ◌⊎◌, Bool, true, false, cond, ◌||◌, List, [], ◌∷◌, ◌++◌, ◌&&◌, append-nil, codes, refl, sym, ap, ◌∙◌, subst, inl, inr}
 use Rattle.std.proofs.lemmas.Bool.{cases_Bool, true≢false}
-use Rattle.swc_ecma_codegen_ast.specs.Phrases.{Phrase, Nothing, One, Then, OptionalComma, OptionalParentheses, Chosen, EmptyArguments, Generates, chosen, in_parentheses, comma, open_parenthesis, is_possible, names_in, ◌>◌, mark}
+use Rattle.swc_ecma_codegen_ast.specs.Phrases.{Phrase, Nothing, One, Then, OptionalComma, OptionalParentheses, Chosen, EmptyArguments, LoopEnding, Generates, chosen, in_parentheses, comma, open_parenthesis, is_possible, names_in, ◌>◌, mark, ending}
 use Rattle.swc_ecma_codegen_ast.specs.Punctuators.{is_punctuator, punctuators}
+use Rattle.swc_ecma_codegen_ast.specs.Settings.{is_up_to_es5}
 use Rattle.swc_ecma_codegen_ast.specs.Texts.{is_same, is_among}
 use Rattle.swc_ecma_codegen_ast.specs.Tokens.{Token}
 use Rattle.swc_ecma_codegen_ast.specs.Tokens as lexical
 use Rattle.swc_ecma_codegen_ast.specs.declared.kinds.Kind.TheVariants.{Punctuator}
 use Rattle.swc_ecma_codegen_util.specs.declared.config.Config.{Config}
 use Rattle.std.specs.Str.{chars, is_utf8}
-use Rattle.swc_ecma_codegen_base.specs.Choices.{optional_comma, optional_parentheses, empty_arguments}
+use Rattle.swc_ecma_codegen_base.specs.Choices.{optional_comma, optional_parentheses, empty_arguments, loop_ending}
 use Rattle.swc_ecma_codegen_base.specs.Escapes.{is_spelled_anew, may_make_text}
-use Rattle.swc_ecma_codegen_base.specs.Run.{Env, Part, no_part, when_minified}
+use Rattle.swc_ecma_codegen_base.specs.Run.{Env, Plan, Part, no_part, when_minified}
 use Rattle.swc_ecma_codegen_base.specs.Scripts.{is_str}
 use Rattle.swc_ecma_codegen_base.specs.Settings.{settings_of}
 use Rattle.swc_ecma_codegen_base.specs.Targets.{is_out}
-use Rattle.swc_ecma_codegen_base.specs.Words.{punct}
+use Rattle.swc_ecma_codegen_base.specs.Words.{punct, semi}
 use Rattle.swc_ecma_codegen_base.specs.Written.{IsMark}
 use Rattle.swc_ecma_codegen_base.proofs.Emitting.{minified_same, pretty_same}
 use Rattle.swc_ecma_codegen_base.proofs.Hands.{holds_string}
 use Rattle.swc_ecma_codegen_base.proofs.Printed.{Makes, makes_some}
-use Rattle.swc_ecma_codegen_base.proofs.Phrased.{NamedBy, Prints, no_names, no_strings, then, prints_nothing, prints_punct, prints_same}
+use Rattle.swc_ecma_codegen_base.proofs.Phrased.{NamedBy, Prints, no_names, no_strings, then, prints_nothing, prints_punct, prints_semi, prints_same}
 
 -- ---- a phrase whose lists another has too
 
@@ -171,3 +172,34 @@ prints_empty_arguments {env} =
     prints_chosen
     (λ m. prints_same empty_arguments (λ rest. rest) (λ rest. minified_same no_part other rest env m) prints_nothing)
     (λ m. prints_same empty_arguments other (λ rest. pretty_same no_part other rest env m) (then (prints_punct env (codes "(") open_is_mark) (prints_punct env (codes ")") close_is_mark)))
+
+-- the semicolon after `do a; while (b)`, by the version
+ending_chosen : (config : Config) → is_up_to_es5 config.target ≡ true → chosen (settings_of config) LoopEnding ≡ lexical.ending ∷ []
+unfolding chosen
+ending_chosen config e = ap (λ b. cond b (lexical.ending ∷ []) []) e
+
+no_ending_chosen : (config : Config) → is_up_to_es5 config.target ≡ false → chosen (settings_of config) LoopEnding ≡ []
+unfolding chosen
+no_ending_chosen config e = ap (λ b. cond b (lexical.ending ∷ []) []) e
+
+ending_among : (config : Config) → is_up_to_es5 config.target ≡ true → IsAmong config ending (Chosen LoopEnding)
+unfolding Generates is_possible is_out may_make_text names_in is_spelled_anew lexical.ending
+ending_among config e = record { generates = λ ts g. g ∙ sym (ending_chosen config e); possible = refl; out = refl; makes = λ m. m; names = refl }
+
+no_ending_among : (config : Config) → is_up_to_es5 config.target ≡ false → IsAmong config Nothing (Chosen LoopEnding)
+unfolding Generates is_possible is_out may_make_text names_in
+no_ending_among config e = record { generates = λ ts g. g ∙ sym (no_ending_chosen config e); possible = refl; out = refl; makes = λ m. m; names = refl }
+
+pub ended_same : (rest : Plan) (env : Env) → is_up_to_es5 env.config.target ≡ true → loop_ending rest env ≡ semi rest env
+unfolding loop_ending
+ended_same rest env e = ap (λ b. cond b (semi rest env) (rest env)) e
+
+pub not_ended_same : (rest : Plan) (env : Env) → is_up_to_es5 env.config.target ≡ false → loop_ending rest env ≡ rest env
+unfolding loop_ending
+not_ended_same rest env e = ap (λ b. cond b (semi rest env) (rest env)) e
+
+pub prints_loop_ending : {env : Env} → Prints env loop_ending (Chosen LoopEnding)
+prints_loop_ending {env} = elim (cases_Bool (is_up_to_es5 env.config.target)) [
+  | inl e ↦ prints_among (ending_among env.config e) (prints_same loop_ending semi (λ rest. ended_same rest env e) (prints_semi env))
+  | inr e ↦ prints_among (no_ending_among env.config e) (prints_same loop_ending (λ rest. rest) (λ rest. not_ended_same rest env e) prints_nothing)
+]

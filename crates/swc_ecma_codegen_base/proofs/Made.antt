@@ -7,9 +7,9 @@ use Rattle.swc_ecma_codegen_common.specs.declared.errors.Refusal.TheVariants as 
 use Rattle.swc_ecma_codegen_common.specs.Refusals.{in_short}
 use Rattle.swc_ecma_codegen_base.specs.declared.refusals.Unprintable.{Unprintable}
 use Rattle.swc_ecma_codegen_text_writer.proofs.Sheets.{effect_refused, effect_faults, effect_takes_memory, effect_keeps_positions}
-use Rattle.swc_ecma_codegen_ast.specs.Tokens.{Token as LexicalToken}
-use Rattle.swc_ecma_codegen_ast.specs.Settings.{Settings}
-use Rattle.swc_ecma_codegen_ast.specs.Phrases.{Phrase, Never, Nothing, One, NameOf, KeyOf, Then, OptionalComma, OptionalParentheses, Chosen, EmptyArguments, in_parentheses, close_parenthesis, Generates, chosen, is_possible}
+use Rattle.swc_ecma_codegen_ast.specs.Tokens.{Token as LexicalToken, ending}
+use Rattle.swc_ecma_codegen_ast.specs.Settings.{Settings, is_up_to_es5}
+use Rattle.swc_ecma_codegen_ast.specs.Phrases.{Phrase, Never, Nothing, One, NameOf, KeyOf, Then, OptionalComma, OptionalParentheses, Chosen, EmptyArguments, LoopEnding, in_parentheses, close_parenthesis, Generates, chosen, is_possible}
 use Rattle.swc_ecma_codegen_base.specs.declared.refusals.Unprintable.TheVariants.{NameOutOfTarget}
 use Rattle.swc_ecma_codegen_base.specs.Targets.{is_out}
 use Rattle.swc_ecma_codegen_base.specs.Run.{Env, Plan, Part, Step, State, run, steps_of, unprintable_in, nothing, Follows, HasCause, PassesLimit, IsUnhindered, earlier, stopped, reached}
@@ -24,6 +24,10 @@ use Rattle.swc_ecma_codegen_base.proofs.Targets.{plain_not_out}
 argument_count : (s : Settings) → length (chosen s EmptyArguments) ≤ 2
 unfolding chosen
 argument_count s = elim s.minify as (λ b. length (cond b [] (in_parentheses [])) ≤ 2) [ true ↦ omega arith | false ↦ omega arith ]
+
+ending_count : (s : Settings) → length (chosen s LoopEnding) ≤ 1
+unfolding chosen
+ending_count s = elim (is_up_to_es5 s.target) as (λ b. length (cond b (ending ∷ []) []) ≤ 1) [ true ↦ omega arith | false ↦ omega arith ]
 
 -- each list of a phrase has no more tokens
 counted : (s : Settings) (f : Phrase) (ts : List LexicalToken) → Generates s f ts → length ts ≤ token_count f
@@ -46,6 +50,7 @@ counted s (OptionalParentheses a) ts (inr g) =
     let e = ap length g.2 in
     omega (arith, h, e, length-append g.0 (close_parenthesis ∷ []))
 counted s (Chosen EmptyArguments) ts g = let h = argument_count s in let e = ap length g in omega (arith, h, e)
+counted s (Chosen LoopEnding) ts g = let h = ending_count s in let e = ap length g in omega (arith, h, e)
 
 -- each node of a well-formed tree can be printed, whose names can
 pub printable : (p : Part) (f : Phrase) (env : Env) → Prints env p f → is_possible f ≡ true → is_out env.config f ≡ false → unprintable_in (p nothing env) ≡ None

@@ -11,7 +11,7 @@ use Rattle.swc_ecma_codegen_ast.specs.Tokens.{token_of}
 use Rattle.swc_ecma_codegen_text_writer.specs.Sheet.{Semi, Space, Keyword, Operator, Line, Symbol, Punct, Position, Commit, Deeper, Shallower, effect}
 use Rattle.swc_ecma_codegen_ast.specs.ValidNames.{turned}
 use Rattle.swc_ecma_codegen_base.specs.Run.{Env, Plan, Part, State, Step, Guard, Token, Plain, Ends, Remake, Steps, next, put, run, step, spelling, text_of, after_token, after_plain, when_minified, no_part, has_backslash, makes_text}
-use Rattle.swc_ecma_codegen_base.specs.Words.{keyword, operator, word_operator, punct, semi, space, formatting_space, line_end, formatting_line, commit_pending_semi, position, position_before, leading_comments, trailing_comments, symbol, spelled_symbol, valid_symbol, name_text}
+use Rattle.swc_ecma_codegen_base.specs.Words.{keyword, operator, word_operator, punct, placed_punct, semi, space, formatting_space, line_end, formatting_line, commit_pending_semi, position, position_before, leading_comments, trailing_comments, symbol, spelled_symbol, valid_symbol, name_text}
 use Rattle.swc_ecma_codegen_base.specs.Lists.{deeper, shallower}
 use Rattle.swc_ecma_codegen_literals.specs.AsciiNames.{is_ascii_text}
 use Rattle.swc_ecma_codegen_base.specs.Ascii.{is_kept, is_other, keeps_other, are_ascii}
@@ -158,6 +158,10 @@ writes_word_operator env t p a = writes_two env (Guard t) (Token Word (Operator 
 pub writes_punct : (env : Env) (t : List ℕ) → Spelled Punctuator t → is_ascii_text t ≡ true → Writes env (punct t) (token_of Punctuator (spelling Punctuator t) ∷ [])
 unfolding punct put effect text_of after_token punct_put makes_text levels rise are_ascii has_string is_string_call
 writes_punct env t p a = writes_two env (Guard t) (Token Punctuator (Punct None t)) _ (λ s r. lays_punct None t s p r) (omega arith) (hands_ascii env _ _ (guarded_ascii t a) no_text)
+
+pub writes_placed_punct : (env : Env) (span : Span) (t : List ℕ) → Spelled Punctuator t → is_ascii_text t ≡ true → Writes env (placed_punct span t) (token_of Punctuator (spelling Punctuator t) ∷ [])
+unfolding placed_punct put effect text_of after_token punct_put makes_text levels rise are_ascii has_string is_string_call
+writes_placed_punct env span t p a = writes_two env (Guard t) (Token Punctuator (Punct (Some span) t)) _ (λ s r. lays_punct (Some span) t s p r) (omega arith) (hands_ascii env _ _ (guarded_ascii t a) no_text)
 
 pub writes_semi : (env : Env) → Writes env semi (token_of Ending (spelling Ending (codes ";")) ∷ [])
 unfolding semi put effect text_of after_token semi_put makes_text levels rise are_ascii has_string is_string_call

@@ -1,7 +1,8 @@
 -- The parts that write what syntax leaves open.
 use Rattle.std.specs.Prelude.{Bool, if◌then◌else◌, codes}
+use Rattle.swc_ecma_codegen_ast.specs.Settings.{is_up_to_es5}
 use Rattle.swc_ecma_codegen_base.specs.Run.{Part, when_minified, no_part}
-use Rattle.swc_ecma_codegen_base.specs.Words.{punct}
+use Rattle.swc_ecma_codegen_base.specs.Words.{punct, semi}
 
 -- a comma or none: `[a,] = b`, `[a] = b`
 unfoldable pub optional_comma : Bool → Part
@@ -14,3 +15,7 @@ optional_parentheses there part rest = if there then punct (codes "(") (part (pu
 -- no arguments: `new A()`, and minified `new A`
 unfoldable pub empty_arguments : Part
 empty_arguments = when_minified no_part (λ rest. punct (codes "(") (punct (codes ")") rest))
+
+-- the semicolon that ends `do a; while (b);`, which is there for a version before 2015
+unfoldable pub loop_ending : Part
+loop_ending rest env = if is_up_to_es5 env.config.target then semi rest env else rest env

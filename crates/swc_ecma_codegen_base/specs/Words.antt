@@ -1,5 +1,5 @@
 -- The parts that plans are made of.
-use Rattle.std.specs.Prelude.{ℕ, ◌-◌, ◌==◌, Bool, if◌then◌else◌, List, codes, Option, None}
+use Rattle.std.specs.Prelude.{ℕ, ◌-◌, ◌==◌, Bool, if◌then◌else◌, List, codes, Option, Some, None}
 use Rattle.swc_ecma_codegen_common.specs.declared.positions.BytePos.{BytePos}
 use Rattle.swc_ecma_codegen_common.specs.declared.positions.Span.{Span}
 use Rattle.swc_ecma_codegen_spans.specs.Spans.{dummy_span}
@@ -25,6 +25,10 @@ word_operator t rest = step (Guard t) (step (Token Word (Operator None t)) rest)
 -- a punctuator
 unfoldable pub punct : List ℕ → Part
 punct t rest = step (Guard t) (step (Token Punctuator (Punct None t)) rest)
+
+-- one whose place is recorded, `...` of `...a`
+unfoldable pub placed_punct : Span → List ℕ → Part
+placed_punct span t rest = step (Guard t) (step (Token Punctuator (Punct (Some span) t)) rest)
 
 -- a semicolon that may be left out where it isn't needed
 unfoldable pub semi : Part

@@ -10,7 +10,7 @@ ghost use Rattle.swc_ecma_codegen_text_writer.specs.Sheet.{Semi, Keyword, Operat
 ghost use Rattle.swc_ecma_codegen_ast.specs.declared.kinds.Kind.TheVariants as kind;
 ghost use Rattle.swc_ecma_codegen_ast.specs.Tokens as lexical;
 ghost use Rattle.swc_ecma_codegen_base.specs.Run.{Does, step, Guard, Token, Plain};
-ghost use Rattle.swc_ecma_codegen_base.specs.Words.{keyword, operator, word_operator, punct, semi, space, formatting_space, formatting_line, line_end, commit_pending_semi, position, position_before};
+ghost use Rattle.swc_ecma_codegen_base.specs.Words.{keyword, operator, word_operator, punct, placed_punct, semi, space, formatting_space, formatting_line, line_end, commit_pending_semi, position, position_before};
 ghost use Rattle.swc_ecma_codegen_base.specs.Written.{IsWord, ReadsSoFar};
 ghost use Rattle.swc_ecma_codegen_base.specs.View.{state_of};
 
@@ -152,14 +152,20 @@ impl LowerEmitter {
     }
 
     /// The call of a punctuator.
-    fn put_punct<W: WriteJs>(&mut self, cfg: &Config, wr: &mut W, mark: Punctuator) -> Answer
+    fn put_punct<W: WriteJs>(
+        &mut self,
+        cfg: &Config,
+        wr: &mut W,
+        span: Option<Span>,
+        mark: Punctuator,
+    ) -> Answer
         requires { self.old.failed ≡ false }
-        ensures items { Does (step (Token kind.Punctuator (Punct None (spelling mark)))) (state_of cfg.now (W.sheet wr.old) self.old) (state_of cfg.now (W.sheet wr.new) self.new) result }
+        ensures items { Does (step (Token kind.Punctuator (Punct span (spelling mark)))) (state_of cfg.now (W.sheet wr.old) self.old) (state_of cfg.now (W.sheet wr.new) self.new) result }
         ensures level { OnOk result ((W.sheet wr.new).indentation ≡ (W.sheet wr.old).indentation) }
     {
         let _ = cfg;
         let last = Last::after(self.last, mark);
-        let answer = wr.write_punct(None, mark.as_str());
+        let answer = wr.write_punct(span, mark.as_str());
         self.settle(answer, last)
     }
 
@@ -247,7 +253,24 @@ impl LowerEmitter {
         ensures level { OnOk result ((W.sheet wr.new).indentation ≡ (W.sheet wr.old).indentation) }
     {
         self.guard_mark(cfg, wr, mark)?;
-        self.put_punct(cfg, wr, mark)?;
+        self.put_punct(cfg, wr, None, mark)?;
+        Ok(())
+    }
+
+    /// Writes a punctuator, and records where it begins and ends.
+    #[tactic(auto, unfolding(crate::specs::Words::placed_punct))]
+    pub fn placed_punct<W: WriteJs>(
+        &mut self,
+        cfg: &Config,
+        wr: &mut W,
+        span: Span,
+        mark: Punctuator,
+    ) -> Answer
+        ensures items { Does (placed_punct span (spelling mark)) (state_of cfg.now (W.sheet wr.old) self.old) (state_of cfg.now (W.sheet wr.new) self.new) result }
+        ensures level { OnOk result ((W.sheet wr.new).indentation ≡ (W.sheet wr.old).indentation) }
+    {
+        self.guard_mark(cfg, wr, mark)?;
+        self.put_punct(cfg, wr, Some(span), mark)?;
         Ok(())
     }
 

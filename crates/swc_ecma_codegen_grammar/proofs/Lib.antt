@@ -2,11 +2,16 @@ pub mod BigSpellings
 pub mod CallsPossible
 pub mod DigitCounts
 pub mod DigitForms
+pub mod FunctionsPossible
+pub mod DeclsPossible
+pub mod StmtsPossible
 pub mod LastSuffix
 pub mod Lists
 pub mod MantissaLaws
 pub mod NormalDecimals
+pub mod PatsPossible
 pub mod Possible
+pub mod PropsPossible
 pub mod Slashes
 pub mod SpelledUnits
 pub mod Turned

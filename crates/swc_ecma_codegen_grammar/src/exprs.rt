@@ -193,6 +193,8 @@ impl<N: Fits> WellFormed for Expr<N> {
     fn is_well_formed(&self) -> bool {
         match self {
             Expr::This(node) => node.is_well_formed(),
+            Expr::Object(node) => node.is_well_formed(),
+            Expr::Fn(node) => node.is_well_formed(),
             Expr::Array(node) => node.is_well_formed(),
             Expr::Unary(node) => node.is_well_formed(),
             Expr::Update(node) => node.is_well_formed(),
@@ -206,16 +208,14 @@ impl<N: Fits> WellFormed for Expr<N> {
             Expr::Seq(node) => node.is_well_formed(),
             Expr::Ident(node) => node.is_well_formed(),
             Expr::Lit(node) => node.is_well_formed(),
+            Expr::Arrow(node) => node.is_well_formed(),
             Expr::Yield(node) => node.is_well_formed(),
             Expr::MetaProp(node) => node.is_well_formed(),
             Expr::Await(node) => node.is_well_formed(),
             Expr::Paren(node) => node.is_well_formed(),
             Expr::OptChain(node) => node.is_well_formed(),
-            Expr::Object(_)
-            | Expr::Fn(_)
-            | Expr::Tpl(_)
+            Expr::Tpl(_)
             | Expr::TaggedTpl(_)
-            | Expr::Arrow(_)
             | Expr::Class(_)
             | Expr::JSXMember(_)
             | Expr::JSXNamespacedName(_)

@@ -2,13 +2,16 @@
 
 ghost use Rattle.std.specs.Prelude.{◌≡◌, Bool, List, true};
 ghost use Rattle.swc_ecma_codegen_ast.specs.declared.roles.Role.{Role as InRole};
-ghost use Rattle.swc_ecma_codegen_ast.specs.declared.roles.Role.TheVariants.{Expression, Statement, MemberExpression, AssignmentTarget};
+ghost use Rattle.swc_ecma_codegen_ast.specs.declared.roles.Role.TheVariants.{Expression, Statement, MemberExpression, AssignmentTarget, Pattern, PropertyName, PropertyDefinition, ObjectLiteral, Function, Block, Declaration, VariableDeclaration};
 ghost use Rattle.swc_ecma_codegen_ast.specs.ElementPhrases.{element};
 ghost use Rattle.swc_ecma_codegen_ast.specs.Phrases.{Phrase, is_possible};
 ghost use Rattle.swc_ecma_codegen_grammar.specs.Possible.{all_possible};
 
 use swc_ecma_codegen_ast::roles::Role;
-use swc_ecma_codegen_tree::{AssignTargetBox, ExprBox, MemberExprBox, StmtBox};
+use swc_ecma_codegen_tree::{
+    AssignTargetBox, BlockStmtBox, DeclBox, ExprBox, FunctionBox, MemberExprBox, ObjectLitBox,
+    PatBox, PropBox, PropNameBox, StmtBox, VarDeclBox,
+};
 
 /// A node, or a link to one.
 pub trait WellFormed {
@@ -57,6 +60,70 @@ impl<N: Fits> WellFormed for AssignTargetBox<N> {
 
     fn is_well_formed(&self) -> bool {
         self.held().fits(Role::AssignmentTarget)
+    }
+}
+
+impl<N: Fits> WellFormed for PatBox<N> {
+    ghost phrase = { λ n. N.reads n.node.value Pattern };
+
+    fn is_well_formed(&self) -> bool {
+        self.held().fits(Role::Pattern)
+    }
+}
+
+impl<N: Fits> WellFormed for PropNameBox<N> {
+    ghost phrase = { λ n. N.reads n.node.value PropertyName };
+
+    fn is_well_formed(&self) -> bool {
+        self.held().fits(Role::PropertyName)
+    }
+}
+
+impl<N: Fits> WellFormed for PropBox<N> {
+    ghost phrase = { λ n. N.reads n.node.value PropertyDefinition };
+
+    fn is_well_formed(&self) -> bool {
+        self.held().fits(Role::PropertyDefinition)
+    }
+}
+
+impl<N: Fits> WellFormed for ObjectLitBox<N> {
+    ghost phrase = { λ n. N.reads n.node.value ObjectLiteral };
+
+    fn is_well_formed(&self) -> bool {
+        self.held().fits(Role::ObjectLiteral)
+    }
+}
+
+impl<N: Fits> WellFormed for FunctionBox<N> {
+    ghost phrase = { λ n. N.reads n.node.value Function };
+
+    fn is_well_formed(&self) -> bool {
+        self.held().fits(Role::Function)
+    }
+}
+
+impl<N: Fits> WellFormed for BlockStmtBox<N> {
+    ghost phrase = { λ n. N.reads n.node.value Block };
+
+    fn is_well_formed(&self) -> bool {
+        self.held().fits(Role::Block)
+    }
+}
+
+impl<N: Fits> WellFormed for DeclBox<N> {
+    ghost phrase = { λ n. N.reads n.node.value Declaration };
+
+    fn is_well_formed(&self) -> bool {
+        self.held().fits(Role::Declaration)
+    }
+}
+
+impl<N: Fits> WellFormed for VarDeclBox<N> {
+    ghost phrase = { λ n. N.reads n.node.value VariableDeclaration };
+
+    fn is_well_formed(&self) -> bool {
+        self.held().fits(Role::VariableDeclaration)
     }
 }
 

@@ -5,14 +5,14 @@ ghost use Rattle.swc_ecma_codegen_ast.specs.TreePhrases.{phrase, expr_phrase, st
 ghost use Rattle.swc_ecma_codegen_ast.specs.Phrases.{is_possible};
 
 use crate::forms::{Fits, WellFormed};
-use crate::parts::expr_part_fits;
+use crate::parts::{expr_part_fits, stmt_part_fits};
 use swc_ecma_codegen_ast::roles::Role;
 use swc_ecma_codegen_tree::{AnyNode, Expr, Program, Stmt};
 
 impl Fits for AnyNode {
     ghost reads = { phrase };
 
-    #[tactic(auto, using(swc_ecma_codegen_ast::proofs::TreeLaws::phrase_at, swc_ecma_codegen_ast::proofs::TreeLaws::phrase_expr, swc_ecma_codegen_ast::proofs::TreeLaws::phrase_stmt, swc_ecma_codegen_ast::proofs::TreeLaws::phrase_member_expr, swc_ecma_codegen_ast::proofs::TreeLaws::phrase_expr_part, crate::proofs::Possible::chain_member_possible, crate::proofs::CallsPossible::callee_possible), unfolding(swc_ecma_codegen_ast::specs::TreePhrases::node_phrase, swc_ecma_codegen_ast::specs::Phrases::is_possible))]
+    #[tactic(auto, using(swc_ecma_codegen_ast::proofs::TreeLaws::phrase_at, swc_ecma_codegen_ast::proofs::TreeLaws::phrase_expr, swc_ecma_codegen_ast::proofs::TreeLaws::phrase_stmt, swc_ecma_codegen_ast::proofs::TreeLaws::phrase_member_expr, swc_ecma_codegen_ast::proofs::TreeLaws::phrase_expr_part, swc_ecma_codegen_ast::proofs::TreeLaws::phrase_stmt_part, crate::proofs::Possible::chain_member_possible, crate::proofs::CallsPossible::callee_possible), unfolding(swc_ecma_codegen_ast::specs::TreePhrases::node_phrase, swc_ecma_codegen_ast::specs::Phrases::is_possible))]
     fn fits(&self, role: Role) -> bool {
         match (self, role) {
             (AnyNode::Expr(node), Role::Expression | Role::Callee) => node.is_well_formed(),
@@ -21,6 +21,7 @@ impl Fits for AnyNode {
             // `a?.b` is where `a.b` is.
             (AnyNode::MemberExpr(node), Role::ChainMember(_)) => node.is_well_formed(),
             (AnyNode::ExprPart(node), role) => expr_part_fits(node, role),
+            (AnyNode::StmtPart(node), role) => stmt_part_fits(node, role),
             _ => false,
         }
     }

@@ -4,14 +4,18 @@
 mod big_integers;
 mod calls;
 mod code_units;
+mod decls;
 pub mod exprs;
 pub mod forms;
+mod functions;
 mod knot;
 mod lits;
 mod names;
 mod numbers;
 mod numerals;
 mod parts;
+mod pats;
+mod props;
 mod regexes;
 mod stmts;
 mod strings;

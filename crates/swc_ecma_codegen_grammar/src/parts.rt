@@ -1,12 +1,13 @@
-//! Parts of expressions that links hold.
+//! Parts of expressions and statements that links hold.
 
 ghost use Rattle.std.specs.Prelude.{◌≡◌};
 ghost use Rattle.swc_ecma_codegen_ast.specs.Phrases.{is_possible};
-ghost use Rattle.swc_ecma_codegen_ast.specs.PartPhrases.{expr_part};
+ghost use Rattle.swc_ecma_codegen_ast.specs.PartPhrases.{expr_part, stmt_part};
 
 use crate::forms::{Fits, WellFormed};
+use crate::pats::is_plain_parameter;
 use swc_ecma_codegen_ast::roles::Role;
-use swc_ecma_codegen_tree::ExprPart;
+use swc_ecma_codegen_tree::{ExprPart, StmtPart};
 
 /// Whether a part may stand in this role, and is well-formed.
 #[tactic(auto, using(crate::proofs::CallsPossible::optional_call_possible), unfolding(swc_ecma_codegen_ast::specs::PartPhrases::expr_part, swc_ecma_codegen_ast::specs::Phrases::is_possible))]
@@ -14,9 +15,29 @@ pub(crate) fn expr_part_fits<N: Fits>(part: &ExprPart<N>, role: Role) -> bool
     ensures { result ≡ is_possible (expr_part N.reads part.now role) }
 {
     match (part, role) {
+        (ExprPart::Pat(node), Role::Pattern) => node.is_well_formed(),
+        (ExprPart::Pat(node), Role::PlainParameter) => is_plain_parameter(node),
+        (ExprPart::ObjectLit(node), Role::ObjectLiteral) => node.is_well_formed(),
+        (ExprPart::PropName(node), Role::PropertyName) => node.is_well_formed(),
+        (ExprPart::Prop(node), Role::PropertyDefinition) => node.is_well_formed(),
         // `a?.(b)` is where `a(b)` is.
         (ExprPart::OptCall(node), Role::ChainCall(_)) => node.is_well_formed(),
         (ExprPart::AssignTarget(node), Role::AssignmentTarget) => node.is_well_formed(),
+        _ => false,
+    }
+}
+
+/// Whether a part of a statement may stand in this role, and is well-formed.
+#[tactic(auto, using(crate::proofs::FunctionsPossible::function_head_possible, crate::proofs::FunctionsPossible::method_head_possible), unfolding(swc_ecma_codegen_ast::specs::PartPhrases::stmt_part, swc_ecma_codegen_ast::specs::Phrases::is_possible))]
+pub(crate) fn stmt_part_fits<N: Fits>(part: &StmtPart<N>, role: Role) -> bool
+    ensures { result ≡ is_possible (stmt_part N.reads part.now role) }
+{
+    match (part, role) {
+        (StmtPart::Function(node), Role::Function) => node.is_well_formed(),
+        (StmtPart::Function(_), Role::FunctionHead | Role::MethodHead) => true,
+        (StmtPart::BlockStmt(node), Role::Block) => node.is_well_formed(),
+        (StmtPart::Decl(node), Role::Declaration) => (**node).is_well_formed(),
+        (StmtPart::VarDecl(node), Role::VariableDeclaration) => node.is_well_formed(),
         _ => false,
     }
 }

@@ -29,7 +29,7 @@ impl<N: Fits> WellFormed for AssignTarget<N> {
     fn is_well_formed(&self) -> bool {
         match self {
             AssignTarget::Simple(node) => node.is_well_formed(),
-            AssignTarget::Pat(_) => false,
+            AssignTarget::Pat(node) => node.is_well_formed(),
         }
     }
 }

@@ -61,6 +61,22 @@ pub fn json(alloc: Global, short: &str) -> Result<String, AllocError> {
     Ok(json)
 }
 
+/// JSON of its short form, where each span is another: from 1 to 2, from 4 to 5, from 7 to 8 and so on.
+pub fn json_in_places(alloc: Global, short: &str) -> Result<String, AllocError> {
+    let mut json = String::new(alloc);
+    let mut lo: u32 = 1;
+    for letter in short.chars() {
+        if letter == '~' {
+            let hi = lo.saturating_add(1);
+            json.push_str(&format!(in alloc; "{{\"lo\":{lo},\"hi\":{hi}}}")?)?;
+            lo = lo.saturating_add(3);
+        } else {
+            json.push(letter)?;
+        }
+    }
+    Ok(json)
+}
+
 /// A script of statements, in its short form.
 pub fn script_of(alloc: Global, body: &str) -> Result<String, AllocError> {
     let mut short = String::new(alloc);

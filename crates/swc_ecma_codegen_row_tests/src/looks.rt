@@ -1,5 +1,6 @@
 //! What the library answers of a program's JSON.
 
+use crate::sources::Source;
 use std::alloc::Global;
 use swc_ecma_codegen::nodes::Held;
 use swc_ecma_codegen::{Config, Emitter, Node, to_code};
@@ -43,12 +44,12 @@ pub struct Answers {
     pub texts: Result<Texts, Error>,
 }
 
-/// The settings without blanks.
-fn settings() -> Config {
+/// The settings with blanks or without.
+fn settings(minify: bool) -> Config {
     Config {
         target: EsVersion::latest(),
         ascii_only: false,
-        minify: true,
+        minify,
         omit_last_semi: false,
         emit_assert_for_import_attributes: false,
         inline_script: false,
@@ -94,7 +95,7 @@ fn node_text<N: Printed>(alloc: Global, expr: &Expr<N>) -> Result<String, Error>
 fn texts_of<N: Printed>(alloc: Global, tree: &Program<N>) -> Result<Texts, Error> {
     let pretty = to_code(alloc, tree)?;
     let wr = JsWriter::new(alloc, &NoSource, "\n", Vec::new(alloc), None);
-    let mut emitter = Emitter::new(alloc, settings(), &NoSource, None::<CommentMaps>, wr);
+    let mut emitter = Emitter::new(alloc, settings(true), &NoSource, None::<CommentMaps>, wr);
     tree.emit_with(&mut emitter)?;
     let minified = emitter.wr.into_inner();
     let node = match expression(tree) {
@@ -134,5 +135,33 @@ pub fn look(alloc: Global, json: &[u8]) -> Result<Answers, ReadError> {
     match program_from_slice(alloc, json) {
         Ok(tree) => Ok(asked::<AnyNode>(alloc, tree)),
         Err(error) => Err(error),
+    }
+}
+
+/// The text of a program over a source text.
+fn text_over<N: Printed>(
+    alloc: Global,
+    source: &Source,
+    tree: &Program<N>,
+    minified: bool,
+) -> Option<Vec<u8>> {
+    let wr = JsWriter::new(alloc, source, "\n", Vec::new(alloc), None);
+    let mut emitter = Emitter::new(alloc, settings(minified), source, None::<CommentMaps>, wr);
+    match tree.emit_with(&mut emitter) {
+        Ok(()) => Some(emitter.wr.into_inner()),
+        Err(_) => None,
+    }
+}
+
+/// Reads a program, and prints it over a source text; `None` where either is refused.
+pub fn printed_over(
+    alloc: Global,
+    source: &Source,
+    json: &[u8],
+    minified: bool,
+) -> Option<Vec<u8>> {
+    match program_from_slice(alloc, json) {
+        Ok(tree) => text_over::<AnyNode>(alloc, source, &tree, minified),
+        Err(_) => None,
     }
 }

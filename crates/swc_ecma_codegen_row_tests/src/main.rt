@@ -18,9 +18,11 @@ mod fields;
 mod literals;
 mod looks;
 mod nestings;
+mod over;
 mod reading;
 mod rows;
 mod runs;
+mod sources;
 mod steps;
 mod trees;
 

@@ -12,8 +12,10 @@ use swc_ecma_codegen_ast::string_values::string_value;
 pub struct Manner {
     /// Without blanks, and so without what stands with them alone: the parentheses of `(x)=>x`, those of `new a()`.
     pub minified: bool,
-    /// Without the semicolons at the ends of statements before a closing brace and at the end of the text.
-    pub omits: bool,
+    /// Without the semicolons at the ends of statements before a closing brace and before another semicolon.
+    pub holds: bool,
+    /// Without the last one too.
+    pub omits_last: bool,
     /// With a comma at the end of each list whose source text may have one.
     pub comma: bool,
 }
@@ -21,14 +23,16 @@ pub struct Manner {
 /// With blanks.
 pub const PRETTY: Manner = Manner {
     minified: false,
-    omits: false,
+    holds: false,
+    omits_last: false,
     comma: false,
 };
 
 /// Without blanks.
 pub const MINIFIED: Manner = Manner {
     minified: true,
-    omits: false,
+    holds: false,
+    omits_last: false,
     comma: false,
 };
 
@@ -55,10 +59,10 @@ fn is_written(manner: Manner, token: &str, next: Option<&&str>) -> bool {
         manner.comma
     } else if token.starts_with("C:") {
         manner.comma && !manner.minified
-    } else if manner.omits && token == "e:;" {
+    } else if token == "e:;" {
         match next {
-            Some(next) => !matches!(*next, "p:}" | "p:;" | "e:;"),
-            None => false,
+            Some(next) => !manner.holds || !matches!(*next, "p:}" | "p:;" | "e:;"),
+            None => !manner.omits_last,
         }
     } else {
         true

@@ -5,8 +5,12 @@ use crate::fields::{bytes, fields, json, script};
 use crate::literals;
 use crate::looks::look;
 use crate::nestings::are_printed;
+use crate::over::{has_commas, has_texts_over};
 use crate::runs::{answers, given, prints, refuses};
-use crate::steps::{Sort, Step, Tree, all_named, expression, is_step, statements};
+use crate::steps::{
+    Sort, Step, Tree, all_named, expression, expression_in_places, is_step, statements,
+    statements_in_places,
+};
 use crate::trees::{has_texts, is_formed, is_printed_with, prints_expr};
 use std::alloc::{AllocError, Global};
 use swc_ecma_codegen_common::Error;
@@ -53,6 +57,22 @@ fn answer(alloc: Global, steps: &[Step], line: &str) -> Result<bool, AllocError>
                 [outer, place],
                 [pretty, minified],
             )
+        }
+        [word, lines, words, pretty, minified] if matches!(word.as_str(), "over" | "script_over") =>
+            {
+                match in_places(alloc, steps, word, words)? {
+                    Some(tree) => has_texts_over(alloc, lines, &tree, [pretty, minified]),
+                    None => Ok(false),
+                }
+            }
+        [word, words, pretty, minified, longer, short, marks]
+            if matches!(word.as_str(), "commas" | "script_commas") => {
+            match in_places(alloc, steps, word, words)? {
+                Some(tree) => {
+                    has_commas(alloc, &tree, [[pretty, minified], [longer, short]], marks)
+                }
+                None => Ok(false),
+            }
         }
         [word, literal, tokens, texts, of_member] if word.as_str() == "literal" => {
             literals::has_texts(alloc, literal, tokens, [texts, of_member])
@@ -118,6 +138,22 @@ fn tree_of(
     }
 }
 
+/// The tree that steps make, where each node has a place of its own.
+fn in_places(
+    alloc: Global,
+    steps: &[Step],
+    word: &str,
+    words: &str,
+) -> Result<Option<Tree>, AllocError> {
+    match all_named(alloc, steps, words)? {
+        Some(found) if word.starts_with("script") => {
+            Ok(Some(statements_in_places(alloc, &found)?))
+        }
+        Some(found) => Ok(Some(expression_in_places(alloc, &found)?)),
+        None => Ok(None),
+    }
+}
+
 /// What is printed with words of a tree in steps.
 fn with_words(
     alloc: Global,
@@ -144,7 +180,7 @@ fn of_steps(
     };
     match word {
         "tree" | "script" => has_texts(alloc, &tree, true, answers),
-        "malformed" => has_texts(alloc, &tree, false, answers),
+        "malformed" | "script_malformed" => has_texts(alloc, &tree, false, answers),
         "well_formed" => Ok(is_formed(alloc, &tree, answers[0] == "yes")),
         "node" => Ok(prints_expr(alloc, &tree.json, answers[0])),
         _ => Ok(false),

@@ -1,6 +1,6 @@
 //! Trees in steps: their JSON, and their tokens in the order of the text, by the grammar alone.
 
-use crate::fields::{fields, json, script, script_of};
+use crate::fields::{fields, json, json_in_places, script, script_of};
 use std::alloc::{AllocError, Global};
 
 /// Stands for an operand.
@@ -189,6 +189,18 @@ pub fn expression(alloc: Global, steps: &[&Step]) -> Result<Tree, AllocError> {
     })
 }
 
+/// The same, where each node has a place of its own.
+pub fn expression_in_places(alloc: Global, steps: &[&Step]) -> Result<Tree, AllocError> {
+    let expr = made(alloc, steps, Part::Json)?
+        .pop()
+        .unwrap_or(String::new(alloc));
+    let tree = expression(alloc, steps)?;
+    Ok(Tree {
+        json: json_in_places(alloc, script(alloc, &expr)?.as_str())?,
+        ..tree
+    })
+}
+
 /// The script of the statements that steps make.
 pub fn statements(alloc: Global, steps: &[&Step]) -> Result<Tree, AllocError> {
     let made_json = made(alloc, steps, Part::Json)?;
@@ -198,5 +210,15 @@ pub fn statements(alloc: Global, steps: &[&Step]) -> Result<Tree, AllocError> {
         json: json(alloc, script_of(alloc, &body)?.as_str())?,
         tokens: joined(alloc, &made_tokens, " ")?,
         is_expression: false,
+    })
+}
+
+/// The same, where each node has a place of its own.
+pub fn statements_in_places(alloc: Global, steps: &[&Step]) -> Result<Tree, AllocError> {
+    let body = joined(alloc, &made(alloc, steps, Part::Json)?, ",")?;
+    let tree = statements(alloc, steps)?;
+    Ok(Tree {
+        json: json_in_places(alloc, script_of(alloc, &body)?.as_str())?,
+        ..tree
     })
 }

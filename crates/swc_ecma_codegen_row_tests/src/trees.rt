@@ -93,7 +93,8 @@ pub fn is_printed_with(
     let minified = words.contains("--minify");
     let manner = Manner {
         minified,
-        omits: minified && words.contains("--omit-last-semi"),
+        holds: minified,
+        omits_last: minified && words.contains("--omit-last-semi"),
         comma: false,
     };
     Ok(

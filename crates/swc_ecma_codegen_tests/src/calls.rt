@@ -13,8 +13,8 @@ use swc_ecma_codegen_grammar::WellFormed;
 use swc_ecma_codegen_spans::{SpanEnds, Spanned};
 use swc_ecma_codegen_text_writer::JsWriter;
 use swc_ecma_codegen_tree::{
-    DebuggerStmt, EmptyStmt, Expr, Ident, MemberExpr, MemberProp, Module, Program, Script, Stmt,
-    StmtBox,
+    EmptyStmt, Expr, ExprBox, ExprStmt, Ident, Invalid, MemberExpr, MemberProp, Module, Program,
+    Script, Stmt, StmtBox,
 };
 
 /// Whether a node has this text by `to_code`.
@@ -179,12 +179,14 @@ pub(crate) fn are_unsupported<N: Tree>(alloc: Global) -> Result<bool, Fail> {
     )
 }
 
-/// The text of `a` and then a statement that isn't printed yet, as far as it goes.
-fn text_before_debugger<N: Tree>(alloc: Global) -> Result<(bool, Vec<u8>), Fail> {
+/// The text of `a` and then an expression that can't be printed, as far as it goes.
+fn text_before_invalid<N: Tree>(alloc: Global) -> Result<(bool, Vec<u8>), Fail> {
     let mut tree = N::read(alloc, NAME)?;
     if let Program::Script(script) = &mut tree {
-        let debugger = Stmt::Debugger(DebuggerStmt { span: DUMMY_SP });
-        script.body.push(StmtBox::new(alloc, debugger)?)?;
+        let span = DUMMY_SP;
+        let expr = ExprBox::new(alloc, Expr::Invalid(Invalid { span }))?;
+        let stmt = Stmt::Expr(ExprStmt { span, expr });
+        script.body.push(StmtBox::new(alloc, stmt)?)?;
     }
     let wr = JsWriter::new(alloc, &NoSource, "\n", Vec::new(alloc), None);
     let mut emitter = Emitter::new(alloc, settings(true), &NoSource, None::<CommentMaps>, wr);
@@ -192,8 +194,8 @@ fn text_before_debugger<N: Tree>(alloc: Global) -> Result<(bool, Vec<u8>), Fail>
     Ok((refused && !tree.is_well_formed(), emitter.wr.into_inner()))
 }
 
-/// Whether what isn't printed yet is refused before its first token.
-pub(crate) fn stops_before_debugger<N: Tree>(alloc: Global) -> Result<bool, Fail> {
-    let (refused, text) = text_before_debugger::<N>(alloc)?;
+/// Whether what can't be printed is refused before its first token.
+pub(crate) fn stops_before_invalid<N: Tree>(alloc: Global) -> Result<bool, Fail> {
+    let (refused, text) = text_before_invalid::<N>(alloc)?;
     Ok(refused && text.as_slice() == b"a;".as_slice())
 }

@@ -2,7 +2,7 @@
 //! that, so one test makes all of them.
 
 use crate::calls::{
-    are_unsupported, has_its_text_each_way, prints_each_way, stops_before_debugger, tells_of_itself,
+    are_unsupported, has_its_text_each_way, prints_each_way, stops_before_invalid, tells_of_itself,
 };
 use crate::faults::{
     fails_after_each_byte, gives_the_writers_error, goes_out_in_single_bytes,
@@ -35,8 +35,8 @@ fn failing<N: Tree>(alloc: Global) -> Result<Vec<&'static str>, Fail> {
             are_unsupported::<N>(alloc)?,
         ),
         (
-            "what is not printed yet is refused before its first token",
-            stops_before_debugger::<N>(alloc)?,
+            "what can't be printed is refused before its first token",
+            stops_before_invalid::<N>(alloc)?,
         ),
         (
             "an emission fails after each byte",

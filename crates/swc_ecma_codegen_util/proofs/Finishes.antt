@@ -39,7 +39,7 @@ unfolding last_ends
 last_mapped g e d same (Some x) = same x
 last_mapped g e d same None = refl
 
-declarators_mapped : {A B : Type 0} (g : VarDeclarator A → VarDeclarator B) (e : B → Bool) (d : A → Bool) → ((x : VarDeclarator A) (y : ExprBox A) → declarator_ends e (g (record x { init = Some y })) ≡ d y.node.value) → ((x : VarDeclarator A) → declarator_ends e (g (record x { init = None })) ≡ d x.name.node.value)
+pub declarators_mapped : {A B : Type 0} (g : VarDeclarator A → VarDeclarator B) (e : B → Bool) (d : A → Bool) → ((x : VarDeclarator A) (y : ExprBox A) → declarator_ends e (g (record x { init = Some y })) ≡ d y.node.value) → ((x : VarDeclarator A) → declarator_ends e (g (record x { init = None })) ≡ d x.name.node.value)
     → (xs : List (VarDeclarator A)) → declarators_end e (map g xs) ≡ declarators_end d xs
 unfolding declarators_end
 declarators_mapped g e d with_init without xs = ap (λ i. last_ends e (slice_get (map g xs) (i - 1))) (length-map xs g) ∙ ap (last_ends e) (slice_get-map g xs (length xs - 1))

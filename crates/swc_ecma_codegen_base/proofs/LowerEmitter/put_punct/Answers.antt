@@ -1,4 +1,4 @@
-use Rattle.std.proofs.Common.{◌≡◌, List, ℕ, refl, sym, ◌∙◌, ap, subst, None}
+use Rattle.std.proofs.Common.{◌≡◌, List, ℕ, refl, sym, ◌∙◌, ap, subst}
 use Rattle.swc_ecma_codegen_ast.specs.declared.kinds.Kind.TheVariants.{Punctuator}
 use Rattle.swc_ecma_codegen_ast.specs.GapRules.{last_after, mark_after}
 use Rattle.swc_ecma_codegen_text_writer.specs.Sheet.{Punct}
@@ -13,10 +13,11 @@ pub returns-clause-items : goal.returns-clause-items
 unfolding after_token last_after text_of characters
 returns-clause-items g c =
     let mark = c.args.mark in
-    let P : List ℕ → Type 0 = λ t. Does (step (Token Punctuator (Punct None t))) (state_of c.args.cfg.now (g.W.WriteJs.sheet c.args.wr.now) c.args.self.now) (state_of c.args.cfg.now (g.W.WriteJs.sheet c.write_punct-answer.new.self) c.settle.new.self) c.settle.result in
+    let span = c.args.span in
+    let P : List ℕ → Type 0 = λ t. Does (step (Token Punctuator (Punct span t))) (state_of c.args.cfg.now (g.W.WriteJs.sheet c.args.wr.now) c.args.self.now) (state_of c.args.cfg.now (g.W.WriteJs.sheet c.write_punct-answer.new.self) c.settle.new.self) c.settle.result in
     let last : last_at c.after-last.result ≡ mark_after (last_at c.args.self.now.token.value) c.as_str.result.now =
     ap last_at (c.after-last.ensures ∙ ap (λ k. after_mark k mark) (sym c.args.self.now.class)) ∙ after_is c.args.self.now.token.value mark ∙ ap (mark_after (last_at c.args.self.now.token.value)) (sym c.as_str.ensures) in
-    subst P c.as_str.ensures (called Punctuator (Punct None c.as_str.result.now) _ c.args.self.now c.settle.new.self _ _ _ _ _ c.requires c.write_punct-answer.ensures c.settle.ensures.ok c.settle.ensures.err c.settle.ensures.same last)
+    subst P c.as_str.ensures (called Punctuator (Punct span c.as_str.result.now) _ c.args.self.now c.settle.new.self _ _ _ _ _ c.requires c.write_punct-answer.ensures c.settle.ensures.ok c.settle.ensures.err c.settle.ensures.same last)
 
 pub returns-clause-level : goal.returns-clause-level
 unfolding is_level

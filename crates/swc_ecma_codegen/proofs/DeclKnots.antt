@@ -1,0 +1,58 @@
+-- What is written of declarations sees what links hold through `asks` and `items` alone.
+use Rattle.std.proofs.Common.{◌≡◌, refl, ◌∙◌, ap, List, [], ◌∷◌, map, codes, Bool, true, false, None, Box, Global}
+use Rattle.swc_ecma_codegen_common.specs.declared.positions.Span.{Span}
+use Rattle.swc_ecma_codegen_tree.specs.declared.links.AnyNode.{map-AnyNode}
+use Rattle.swc_ecma_codegen_tree.specs.declared.links.AnyNode.TheOpen as nodes
+use Rattle.swc_ecma_codegen_tree.specs.declared.parts.StmtPart.TheVariants as stmt_parts
+use Rattle.swc_ecma_codegen_tree.specs.declared.decls.Decl.{Decl}
+use Rattle.swc_ecma_codegen_tree.specs.declared.decls.Decl.TheVariants as decls
+use Rattle.swc_ecma_codegen_tree.specs.declared.decls.VarDecl.{VarDecl}
+use Rattle.swc_ecma_codegen_tree.specs.declared.decls.VarDeclarator.{VarDeclarator}
+use Rattle.swc_ecma_codegen_ast.proofs.MappedStmts.{by_init}
+use Rattle.swc_ecma_codegen_base.specs.Lists.{ListChild, list}
+use Rattle.swc_ecma_codegen_base.specs.Run.{Plan, Part, refuse}
+use Rattle.swc_ecma_codegen_base.specs.Words.{keyword, semi, space, commit_pending_semi, start_of, leading_comments}
+use Rattle.swc_ecma_codegen.specs.declared.nodes.Place.{Place}
+use Rattle.swc_ecma_codegen.specs.Answers.{Answers}
+use Rattle.swc_ecma_codegen.specs.Decls.{declarators_format, fn_decl_parts, fn_decl, var_declarator_parts, var_declarator, declarator_place, var_kind, is_unmarked, first_is_unmarked, var_decl_parts, var_decl, await_word, using_decl, decl}
+use Rattle.swc_ecma_codegen.specs.Exprs.{blank}
+use Rattle.swc_ecma_codegen.specs.Lists.{child_of, unsupported}
+use Rattle.swc_ecma_codegen.specs.Parts.{stmt_part}
+use Rattle.swc_ecma_codegen.specs.Pats.{initializer}
+use Rattle.swc_ecma_codegen.specs.Tree.{node_items}
+use Rattle.swc_ecma_codegen.proofs.PatKnots.{children_mapped}
+
+-- a declarator, as a child of a list
+abbrev pub declarator_child : {X : Type 0} → (X → Place → Part) → VarDeclarator X → ListChild
+declarator_child items = child_of declarator_place (λ n place. var_declarator items n)
+
+first_mapped : {X Y : Type 0} (g : VarDeclarator X → VarDeclarator Y) (asks : Y → Answers) (known : X → Answers) → ((n : VarDeclarator X) → (asks (g n).name.node.value).pattern ≡ (known n.name.node.value).pattern) → (ns : List (VarDeclarator X)) → first_is_unmarked asks (map g ns) ≡ first_is_unmarked known ns
+unfolding first_is_unmarked
+first_mapped g asks known same [] = refl
+first_mapped g asks known same (n ∷ ns) = ap is_unmarked (same n)
+
+-- the declarators behind a word: where the first begins with no mark a blank is due
+declared_mapped : {X Y : Type 0} (g : VarDeclarator X → VarDeclarator Y) (asks : Y → Answers) (known : X → Answers) (e : VarDeclarator Y → ListChild) (d : VarDeclarator X → ListChild) → ((n : VarDeclarator X) → (asks (g n).name.node.value).pattern ≡ (known n.name.node.value).pattern) → ((n : VarDeclarator X) → e (g n) ≡ d n) → (span : Span) (ns : List (VarDeclarator X)) (after : Plan) → blank (first_is_unmarked asks (map g ns)) (list declarators_format span (map e (map g ns)) after) ≡ blank (first_is_unmarked known ns) (list declarators_format span (map d ns) after)
+declared_mapped g asks known e d same child span ns after =
+    ap (λ b. blank b (list declarators_format span (map e (map g ns)) after)) (first_mapped g asks known same ns)
+    ∙ ap (blank (first_is_unmarked known ns)) (children_mapped g e d child declarators_format span ns after)
+
+var_by : {X Y : Type 0} (g : X → Y) (asks : Y → Answers) (items : Y → Place → Part) (n : VarDecl X) (declare : Bool) (place : Place) (rest : Plan) → node_items asks items (map-AnyNode X Y g (nodes.StmtPart (stmt_parts.VarDecl (record n { declare = declare })))) place rest ≡ var_decl (λ x. asks (g x)) (λ x. items (g x)) (record n { declare = declare }) rest
+unfolding node_items stmt_part var_decl var_decl_parts var_declarator var_declarator_parts initializer unsupported refuse
+var_by g asks items n true place rest = refl
+var_by {X} {Y} g asks items n false place rest = ap (λ z. leading_comments n.span.lo (commit_pending_semi (start_of n.span (var_kind n.kind z))))
+    (declared_mapped {X = X} {Y = Y} _ asks (λ x. asks (g x)) _ _ (λ d. refl) (by_init {X = X} _ (λ span name definite. refl) (λ span name init definite. refl)) n.span n.decls.items rest)
+
+pub var_decl_mapped : {X Y : Type 0} (g : X → Y) (asks : Y → Answers) (items : Y → Place → Part) (n : VarDecl X) (place : Place) (rest : Plan) → node_items asks items (map-AnyNode X Y g (nodes.StmtPart (stmt_parts.VarDecl n))) place rest ≡ var_decl (λ x. asks (g x)) (λ x. items (g x)) n rest
+var_decl_mapped g asks items n place rest = var_by g asks items n n.declare place rest
+
+decl_by : {X Y : Type 0} (g : X → Y) (asks : Y → Answers) (items : Y → Place → Part) (b : Box (Decl X) Global) (n : Decl X) (place : Place) (rest : Plan) → node_items asks items (map-AnyNode X Y g (nodes.StmtPart (stmt_parts.Decl (record b { value = n })))) place rest ≡ decl (λ x. asks (g x)) (λ x. items (g x)) n place rest
+unfolding node_items stmt_part decl fn_decl fn_decl_parts using_decl var_declarator var_declarator_parts initializer unsupported refuse
+decl_by g asks items b (decls.Fn n) place rest = refl
+decl_by g asks items b (decls.Var n) place rest = refl
+decl_by {X} g asks items b (decls.Using n) place rest = ap (λ z. leading_comments n.span.lo (await_word n.is_await (keyword None (codes "using") (space z))))
+    (children_mapped {A = VarDeclarator X} _ _ _ (by_init {X = X} _ (λ span name definite. refl) (λ span name init definite. refl)) declarators_format n.span n.decls.items (semi rest))
+decl_by g asks items b n place rest = refl
+
+pub decl_mapped : {X Y : Type 0} (g : X → Y) (asks : Y → Answers) (items : Y → Place → Part) (b : Box (Decl X) Global) (place : Place) (rest : Plan) → node_items asks items (map-AnyNode X Y g (nodes.StmtPart (stmt_parts.Decl b))) place rest ≡ decl (λ x. asks (g x)) (λ x. items (g x)) b.value place rest
+decl_mapped g asks items b place rest = decl_by g asks items b b.value place rest

@@ -1,0 +1,103 @@
+-- What is written of functions and blocks sees what links hold through `asks` and `items` alone.
+use Rattle.std.proofs.Common.{◌≡◌, refl, sym, ◌∙◌, ap, ℕ, List, [], ◌∷◌, map, codes, Bool, true, false, cond, ◌||◌, is_some, Option, Some, None, Box, Global}
+use Rattle.swc_ecma_codegen_common.specs.declared.positions.Span.{Span}
+use Rattle.swc_ecma_codegen_tree.specs.declared.links.AnyNode.{AnyNode, map-AnyNode}
+use Rattle.swc_ecma_codegen_tree.specs.declared.links.AnyNode.TheOpen as nodes
+use Rattle.swc_ecma_codegen_tree.specs.declared.expr_links.PatBox.{PatBox}
+use Rattle.swc_ecma_codegen_tree.specs.declared.stmt_links.BlockStmtBox.{BlockStmtBox}
+use Rattle.swc_ecma_codegen_tree.specs.declared.stmt_links.StmtBox.{StmtBox}
+use Rattle.swc_ecma_codegen_tree.specs.declared.ts_links.TsTypeAnnBox.{TsTypeAnnBox}
+use Rattle.swc_ecma_codegen_tree.specs.declared.ts_links.TsTypeParamDeclBox.{TsTypeParamDeclBox}
+use Rattle.swc_ecma_codegen_tree.specs.declared.parts.StmtPart.TheVariants as stmt_parts
+use Rattle.swc_ecma_codegen_tree.specs.declared.decls.Decorator.{Decorator}
+use Rattle.swc_ecma_codegen_tree.specs.declared.decls.Param.{Param}
+use Rattle.swc_ecma_codegen_tree.specs.declared.decls.Function as functions
+use Rattle.swc_ecma_codegen_tree.specs.declared.exprs.ArrowExpr.{ArrowExpr}
+use Rattle.swc_ecma_codegen_tree.specs.declared.exprs.BlockStmtOrExpr.{BlockStmtOrExpr}
+use Rattle.swc_ecma_codegen_tree.specs.declared.exprs.BlockStmtOrExpr.TheVariants as bodies
+use Rattle.swc_ecma_codegen_tree.specs.declared.exprs.Expr.TheVariants as exprs
+use Rattle.swc_ecma_codegen_tree.specs.declared.stmts.BlockStmt.{BlockStmt}
+use Rattle.swc_ecma_codegen_spans.specs.Spans.{expr_span}
+use Rattle.swc_ecma_codegen_ast.proofs.Mapped.{list_mapped}
+use Rattle.swc_ecma_codegen_ast.proofs.MappedFunctions.{some_mapped}
+use Rattle.swc_ecma_codegen_base.specs.Run.{Plan, Part, refuse}
+use Rattle.swc_ecma_codegen_base.specs.Lists.{ListChild, list}
+use Rattle.swc_ecma_codegen_base.specs.Words.{punct, leading_comments, start_of, end_of}
+use Rattle.swc_ecma_codegen.specs.declared.nodes.Place.{Place}
+use Rattle.swc_ecma_codegen.specs.declared.nodes.Place.TheVariants.{Plain, FunctionHead, MethodHead, DeclarationHead}
+use Rattle.swc_ecma_codegen.specs.declared.patterns.PatternKind.{PatternKind}
+use Rattle.swc_ecma_codegen.specs.Answers.{Answers}
+use Rattle.swc_ecma_codegen.specs.Blocks.{block_list, block_start, block_stmt}
+use Rattle.swc_ecma_codegen.specs.Exprs.{expr, expr_parts, expr_closed, leaves_comments}
+use Rattle.swc_ecma_codegen.specs.Functions.{decorators_format, comma_list_format, decorator, decorator_place, param, function_body, fn_trailing_parts, fn_trailing, function_head, declaration_head, method_head, function, is_plain, is_name, is_only, async_arrow, star, parenthesis, arrow_parameters, arrow_body, arrow_parts, arrow_expr}
+use Rattle.swc_ecma_codegen.specs.Lists.{child_of, unsupported}
+use Rattle.swc_ecma_codegen.specs.Parts.{stmt_part}
+use Rattle.swc_ecma_codegen.specs.Tree.{node_items}
+use Rattle.swc_ecma_codegen.proofs.PatKnots.{children_mapped}
+
+-- ---- functions
+
+-- a parameter, by its parts
+abbrev param_child : Span → List ListChild → Part → ListChild
+param_child span ds pat = record { place = span; part = λ rest. leading_comments span.lo (start_of span (list decorators_format span ds (pat (end_of span rest)))) }
+
+either_same : {A : Type 0} (b c : Bool) (r p q : A) → b ≡ c → p ≡ q → cond b r p ≡ cond c r q
+either_same b c r p q e h = ap (λ z. cond z r p) e ∙ ap (λ z. cond c r z) h
+
+abbrev with_parts : {X : Type 0} → functions.Function X → Option (BlockStmtBox X) → Option (TsTypeParamDeclBox X) → Option (TsTypeAnnBox X) → functions.Function X
+with_parts n body type_params return_type = record n { body = body; type_params = type_params; return_type = return_type }
+
+trailing_mapped : {X Y : Type 0} (g : X → Y) (asks : Y → Answers) (items : Y → Place → Part) (b : Box (functions.Function X) Global) (n : functions.Function X) (body : Option (BlockStmtBox X)) (type_params : Option (TsTypeParamDeclBox X)) (return_type : Option (TsTypeAnnBox X)) (rest : Plan) → node_items asks items (map-AnyNode X Y g (nodes.StmtPart (stmt_parts.Function (record b { value = with_parts n body type_params return_type })))) Plain rest ≡ fn_trailing (λ x. items (g x)) (with_parts n body type_params return_type) rest
+unfolding node_items stmt_part function fn_trailing fn_trailing_parts function_body param decorator unsupported refuse
+trailing_mapped {X} {Y} g asks items b n None None None rest = either_same _ _ _ _ _ (some_mapped _ n.decorators.items) (ap (λ z. punct (codes "(") z) (children_mapped {A = Param X} _ _ _ (λ p. ap (λ ds. param_child p.span ds (items (g p.pat.node.value) Plain)) (list_mapped {A = Decorator X} _ _ (child_of decorator_place (λ d place. decorator (λ x. items (g x)) d)) (λ d. refl) p.decorators.items)) comma_list_format n.span n.params.items _))
+trailing_mapped {X} {Y} g asks items b n (Some body) None None rest = either_same _ _ _ _ _ (some_mapped _ n.decorators.items) (ap (λ z. punct (codes "(") z) (children_mapped {A = Param X} _ _ _ (λ p. ap (λ ds. param_child p.span ds (items (g p.pat.node.value) Plain)) (list_mapped {A = Decorator X} _ _ (child_of decorator_place (λ d place. decorator (λ x. items (g x)) d)) (λ d. refl) p.decorators.items)) comma_list_format n.span n.params.items _))
+trailing_mapped g asks items b n None None (Some t) rest = refl
+trailing_mapped g asks items b n None (Some p) t rest = refl
+trailing_mapped g asks items b n (Some body) None (Some t) rest = refl
+trailing_mapped g asks items b n (Some body) (Some p) t rest = refl
+
+pub function_mapped : {X Y : Type 0} (g : X → Y) (asks : Y → Answers) (items : Y → Place → Part) (b : Box (functions.Function X) Global) (place : Place) (rest : Plan) → node_items asks items (map-AnyNode X Y g (nodes.StmtPart (stmt_parts.Function b))) place rest ≡ function (λ x. items (g x)) b.value place rest
+unfolding node_items stmt_part function function_head declaration_head method_head
+function_mapped g asks items b FunctionHead rest = refl
+function_mapped g asks items b MethodHead rest = refl
+function_mapped g asks items b DeclarationHead rest = refl
+function_mapped g asks items b place rest = trailing_mapped g asks items b b.value b.value.body b.value.type_params b.value.return_type rest
+
+-- ---- blocks
+
+statements_same : {X : Type 0} (place : Place) (n : BlockStmt X) (some other : Bool) (cs ds : List ListChild) (after : Plan) → some ≡ other → cs ≡ ds → leading_comments n.span.lo (block_start place n.span (punct (codes "{") (block_list some n.span cs after))) ≡ leading_comments n.span.lo (block_start place n.span (punct (codes "{") (block_list other n.span ds after)))
+statements_same place n some other cs ds after e h =
+    ap (λ z. leading_comments n.span.lo (block_start place n.span (punct (codes "{") (block_list z n.span cs after)))) e
+    ∙ ap (λ z. leading_comments n.span.lo (block_start place n.span (punct (codes "{") (block_list other n.span z after)))) h
+
+pub block_mapped : {X Y : Type 0} (g : X → Y) (asks : Y → Answers) (items : Y → Place → Part) (n : BlockStmt X) (place : Place) (rest : Plan) → node_items asks items (map-AnyNode X Y g (nodes.StmtPart (stmt_parts.BlockStmt n))) place rest ≡ block_stmt (λ x. asks (g x)) (λ x. items (g x)) n place rest
+unfolding node_items stmt_part block_stmt
+block_mapped {X} g asks items n place rest = statements_same place n _ _ _ _ _ (some_mapped _ n.stmts.items) (list_mapped {A = StmtBox X} _ _ (child_of (λ s. (asks (g s.node.value)).place) (λ s place. items (g s.node.value) place)) (λ s. refl) n.stmts.items)
+
+-- ---- arrow functions
+
+only_mapped : {X Y : Type 0} (g : PatBox X → PatBox Y) (test : PatternKind → Bool) (asks : Y → Answers) (known : X → Answers) → ((n : PatBox X) → (asks (g n).node.value).pattern ≡ (known n.node.value).pattern) → (ns : List (PatBox X)) → is_only test asks (map g ns) ≡ is_only test known ns
+unfolding is_only
+only_mapped g test asks known same [] = refl
+only_mapped g test asks known same (n ∷ []) = ap test (same n)
+only_mapped g test asks known same (n ∷ m ∷ ns) = refl
+
+abbrev head_of : {X : Type 0} → ArrowExpr X → Bool → Plan → Plan
+head_of n named z = leading_comments n.span.lo (start_of n.span (async_arrow n.is_async named (star n.is_generator z)))
+
+abbrev params_of : {X : Type 0} → ArrowExpr X → Bool → List ListChild → Plan → Plan
+params_of n plain cs after = parenthesis plain (codes "(") (list comma_list_format n.span cs (parenthesis plain (codes ")") after))
+
+arrow_same : {X : Type 0} (n : ArrowExpr X) (named other : Bool) (plain bare : Bool) (cs ds : List ListChild) (after : Plan) → named ≡ other → plain ≡ bare → cs ≡ ds → head_of n named (params_of n plain cs after) ≡ head_of n other (params_of n bare ds after)
+arrow_same n named other plain bare cs ds after e k h = ap (λ z. head_of n z (params_of n plain cs after)) e ∙ ap (λ z. head_of n other (params_of n z cs after)) k ∙ ap (λ z. head_of n other (params_of n bare z after)) h
+
+arrow_mapped : {X Y : Type 0} (g : X → Y) (asks : Y → Answers) (items : Y → Place → Part) (n : ArrowExpr X) (body : BlockStmtOrExpr X) (type_params : Option (TsTypeParamDeclBox X)) (return_type : Option (TsTypeAnnBox X)) (place : Place) (rest : Plan) → node_items asks items (map-AnyNode X Y g (nodes.Expr (exprs.Arrow (record n { body = body; type_params = type_params; return_type = return_type })))) place rest ≡ expr (λ x. asks (g x)) (λ x. items (g x)) (exprs.Arrow (record n { body = body; type_params = type_params; return_type = return_type })) place rest
+unfolding node_items expr expr_parts expr_closed expr_span leaves_comments arrow_expr arrow_parts arrow_parameters arrow_body unsupported refuse
+arrow_mapped {X} g asks items n (bodies.BlockStmt b) None None place rest = arrow_same n _ _ _ _ _ _ _ (only_mapped _ is_name asks (λ x. asks (g x)) (λ p. refl) n.params.items) (only_mapped _ is_plain asks (λ x. asks (g x)) (λ p. refl) n.params.items) (list_mapped {A = PatBox X} _ _ (child_of (λ p. (asks (g p.node.value)).place) (λ p place. items (g p.node.value) place)) (λ p. refl) n.params.items)
+arrow_mapped {X} g asks items n (bodies.Expr b) None None place rest = arrow_same n _ _ _ _ _ _ _ (only_mapped _ is_name asks (λ x. asks (g x)) (λ p. refl) n.params.items) (only_mapped _ is_plain asks (λ x. asks (g x)) (λ p. refl) n.params.items) (list_mapped {A = PatBox X} _ _ (child_of (λ p. (asks (g p.node.value)).place) (λ p place. items (g p.node.value) place)) (λ p. refl) n.params.items)
+arrow_mapped g asks items n body None (Some t) place rest = refl
+arrow_mapped g asks items n body (Some p) None place rest = refl
+arrow_mapped g asks items n body (Some p) (Some t) place rest = refl
+
+pub arrow_expr_mapped : {X Y : Type 0} (g : X → Y) (asks : Y → Answers) (items : Y → Place → Part) (n : ArrowExpr X) (place : Place) (rest : Plan) → node_items asks items (map-AnyNode X Y g (nodes.Expr (exprs.Arrow n))) place rest ≡ expr (λ x. asks (g x)) (λ x. items (g x)) (exprs.Arrow n) place rest
+arrow_expr_mapped g asks items n place rest = arrow_mapped g asks items n n.body n.type_params n.return_type place rest

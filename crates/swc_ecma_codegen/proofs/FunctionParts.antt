@@ -1,0 +1,220 @@
+-- What is written of functions and blocks is what it reads as.
+use Rattle.std.proofs.Common.{◌≡◌, ℕ, ◌+◌, ◌≤◌, arith, refl, sym, subst, Bool, true, false, cond, ◌||◌, ◌&&◌, is_some, List, [], ◌∷◌, length, map, codes, string_bytes, Option, Some, None, inl, inr}
+use Rattle.std.proofs.lemmas.Bool.{cases_Bool}
+use Rattle.swc_ecma_codegen_common.specs.declared.positions.Span.{Span}
+use Rattle.swc_ecma_codegen_tree.specs.declared.expr_links.PatBox.{PatBox}
+use Rattle.swc_ecma_codegen_tree.specs.declared.stmt_links.BlockStmtBox.{BlockStmtBox}
+use Rattle.swc_ecma_codegen_tree.specs.declared.decls.Decorator.{Decorator}
+use Rattle.swc_ecma_codegen_tree.specs.declared.decls.Param.{Param}
+use Rattle.swc_ecma_codegen_tree.specs.declared.decls.Function as functions
+use Rattle.swc_ecma_codegen_tree.specs.declared.exprs.FnExpr.{FnExpr}
+use Rattle.swc_ecma_codegen_tree.specs.declared.exprs.ArrowExpr.{ArrowExpr}
+use Rattle.swc_ecma_codegen_tree.specs.declared.exprs.BlockStmtOrExpr.{BlockStmtOrExpr}
+use Rattle.swc_ecma_codegen_tree.specs.declared.exprs.BlockStmtOrExpr.TheVariants as bodies
+use Rattle.swc_ecma_codegen_tree.specs.declared.idents.Ident.{Ident}
+use Rattle.swc_ecma_codegen_ast.specs.declared.kinds.Kind.TheVariants.{Punctuator}
+use Rattle.swc_ecma_codegen_ast.specs.declared.roles.Role.TheVariants.{Pattern, PlainParameter, Function, FunctionHead}
+use Rattle.swc_ecma_codegen_ast.specs.Tokens as lexical
+use Rattle.swc_ecma_codegen_ast.specs.Tokens.{token_of}
+use Rattle.swc_ecma_codegen_ast.specs.Phrases.{Phrase, Never, OptionalParentheses, ◌>◌, mark, word, is_possible}
+use Rattle.swc_ecma_codegen_ast.specs.Phrases as phrases
+use Rattle.swc_ecma_codegen_ast.specs.NamePhrases as names
+use Rattle.swc_ecma_codegen_ast.specs.PatPhrases as pats
+use Rattle.swc_ecma_codegen_ast.specs.FunctionPhrases as lists
+use Rattle.swc_ecma_codegen_ast.specs.FunctionPhrases.{is_never, is_some_listed}
+use Rattle.swc_ecma_codegen_base.specs.Run.{Env, Part, spelling, no_part}
+use Rattle.swc_ecma_codegen_base.specs.Lists.{list, deeper}
+use Rattle.swc_ecma_codegen_base.specs.Words.{punct, space, formatting_space, line_end, position}
+use Rattle.swc_ecma_codegen_base.specs.Written.{IsMark}
+use Rattle.swc_ecma_codegen_base.proofs.Choices.{prints_bare, prints_parentheses}
+use Rattle.swc_ecma_codegen_base.proofs.Emitting.{minified_same, pretty_same}
+use Rattle.swc_ecma_codegen_base.proofs.ListLaws.{IsUndelimited, children_of, prints_list, prints_in_order}
+use Rattle.swc_ecma_codegen_base.proofs.Phrased.{Prints, then, after, before, prints_nothing, prints_same, prints_keyword, prints_punct, prints_mark, prints_semi, prints_ident, mark_spelled}
+use Rattle.swc_ecma_codegen_base.proofs.Printed.{Writes, with_room, within_then, punct_within, deeper_within, writes_then, writes_same, writes_if, writes_nothing, writes_space, writes_formatting_space, writes_line, writes_commit, writes_position, writes_leading, writes_shallower}
+use Rattle.swc_ecma_codegen.specs.declared.nodes.Place.{Place}
+use Rattle.swc_ecma_codegen.specs.declared.nodes.Place.TheVariants.{Plain, Body, DeclarationHead}
+use Rattle.swc_ecma_codegen.specs.Places.{before_name}
+use Rattle.swc_ecma_codegen.specs.Functions as words
+use Rattle.swc_ecma_codegen.specs.Functions.{decorators_format, comma_list_format, decorator_place, param_place}
+use Rattle.swc_ecma_codegen.proofs.Impossible.{refused_or, prints_impossible, never_impossible, prints_alone}
+use Rattle.swc_ecma_codegen.proofs.Linked.{Linked, expr_at, pat_at, block_at}
+use Rattle.swc_ecma_codegen.proofs.MarkWords as marks
+
+-- ---- parameters
+
+decorator_prints : {X : Type 0} (l : Linked X) (n : Decorator X) → Prints l.env (words.decorator l.items n) (lists.decorator l.reads n)
+unfolding words.decorator lists.decorator
+decorator_prints l n =
+    after (writes_leading l.env n.span.lo)
+    (after (writes_position l.env n.span.lo)
+    (then (prints_punct l.env (codes "@") marks.at)
+    (before (expr_at l n.expr Plain) (writes_then l.env line_end (position n.span.hi) [] [] (writes_line l.env) (writes_position l.env n.span.hi)))))
+
+-- the format of decorators
+undelimited : IsUndelimited decorators_format
+undelimited = record { no_comma = refl; no_bar = refl; no_ampersand = refl }
+
+param_prints : {X : Type 0} (l : Linked X) (n : Param X) → Prints l.env (words.param l.items n) (lists.param l.reads n)
+unfolding words.param lists.param
+param_prints l n =
+    after (writes_leading l.env n.span.lo)
+    (after (writes_position l.env n.span.lo)
+    (then (prints_in_order l.env decorators_format n.span decorator_place (words.decorator l.items) (lists.decorator l.reads) (decorator_prints l) undelimited refl n.decorators.items)
+    (before (pat_at l n.pat) (writes_position l.env n.span.hi))))
+
+-- ---- functions
+
+body_prints : {X : Type 0} (l : Linked X) (body : Option (BlockStmtBox X)) → Prints l.env (words.function_body l.items body) (lists.function_body l.reads body)
+unfolding words.function_body lists.function_body
+body_prints l None = prints_semi l.env
+body_prints l (Some n) = after (writes_formatting_space l.env) (block_at l n Body)
+
+trailing_prints : {X : Type 0} (l : Linked X) (n : functions.Function X) → Prints l.env (words.fn_trailing_parts l.items n) (mark (codes "(") > phrases.listed (codes ",") (map (lists.param l.reads) n.params.items) > mark (codes ")") > lists.function_body l.reads n.body)
+unfolding words.fn_trailing_parts
+trailing_prints l n =
+    then (prints_punct l.env (codes "(") marks.left_parenthesis)
+    (then (prints_list l.env comma_list_format n.span param_place (words.param l.items) (lists.param l.reads) (param_prints l) refl refl refl refl n.params.items)
+    (then (prints_punct l.env (codes ")") marks.right_parenthesis) (body_prints l n.body)))
+
+pub fn_trailing_prints : {X : Type 0} (l : Linked X) (n : functions.Function X) → Prints l.env (words.fn_trailing l.items n) (lists.function l.reads n)
+unfolding words.fn_trailing lists.function
+fn_trailing_prints l n = refused_or (is_some n.type_params || (is_some n.return_type || is_some_listed n.decorators.items)) (trailing_prints l n)
+
+async_prints : (env : Env) (wanted : Bool) → Prints env (words.async_word wanted) (lists.word_if wanted (word (codes "async")))
+unfolding words.async_word lists.word_if
+async_prints env true = before (prints_keyword env None (codes "async") marks.async_word) (writes_space env)
+async_prints env false = prints_nothing
+
+star_prints : (env : Env) (wanted : Bool) → Prints env (words.star wanted) (lists.word_if wanted (mark (codes "*")))
+unfolding words.star lists.word_if
+star_prints env true = prints_punct env (codes "*") marks.star
+star_prints env false = prints_nothing
+
+function_head_prints : {X : Type 0} (env : Env) (n : functions.Function X) → Prints env (words.function_head n) (lists.function_head n)
+unfolding words.function_head lists.function_head
+function_head_prints env n = then (async_prints env n.is_async) (then (prints_keyword env None (codes "function") marks.function_word) (star_prints env n.is_generator))
+
+space_prints : (env : Env) (wanted : Bool) → Prints env (words.star_or_space wanted) (lists.word_if wanted (mark (codes "*")))
+unfolding words.star_or_space lists.word_if
+space_prints env true = before (prints_punct env (codes "*") marks.star) (writes_formatting_space env)
+space_prints env false = before prints_nothing (writes_space env)
+
+declaration_head_prints : {X : Type 0} (env : Env) (n : functions.Function X) → Prints env (words.declaration_head n) (lists.function_head n)
+unfolding words.declaration_head lists.function_head
+declaration_head_prints env n = then (async_prints env n.is_async) (then (prints_keyword env None (codes "function") marks.function_word) (space_prints env n.is_generator))
+
+-- what stands before its name, with a blank where the function is declared
+pub head_prints : {X : Type 0} (l : Linked X) (n : functions.Function X) (place : Place) → Prints l.env (words.function l.items n (before_name place)) (lists.function_head n)
+unfolding words.function
+head_prints l n DeclarationHead = declaration_head_prints l.env n
+head_prints l n place = function_head_prints l.env n
+
+pub method_head_prints : {X : Type 0} (env : Env) (n : functions.Function X) → Prints env (words.method_head n) (lists.method_head n)
+unfolding words.method_head lists.method_head
+method_head_prints env n = then (async_prints env n.is_async) (star_prints env n.is_generator)
+
+pub name_prints : {X : Type 0} (l : Linked X) (n : Option Ident) → Prints l.env (words.optional_name n) (lists.optional_name n)
+unfolding words.optional_name lists.optional_name names.ident
+name_prints l None = prints_nothing
+name_prints l (Some n) = after (writes_space l.env) (prints_ident l.env n.span (string_bytes n.sym) n.optional l.leaves_out)
+
+pub fn_expr_prints : {X : Type 0} (l : Linked X) (n : FnExpr X) → Prints l.env (words.fn_expr l.asks l.items n) (lists.fn_expr l.reads n)
+unfolding words.fn_expr lists.fn_expr
+fn_expr_prints l n =
+    after (writes_leading l.env (l.asks n.function.node.value).place.lo)
+    (after (writes_commit l.env)
+    (after (writes_position l.env (l.asks n.function.node.value).place.lo)
+    (then (l.law n.function.node.value Plain FunctionHead)
+    (then (name_prints l n.ident) (l.law n.function.node.value Plain Function)))))
+
+-- ---- arrow functions
+
+async_arrow_prints : (env : Env) (wanted named : Bool) → Prints env (words.async_arrow wanted named) (lists.word_if wanted (word (codes "async")))
+unfolding words.async_arrow lists.word_if
+async_arrow_prints env true named = before (prints_keyword env None (codes "async") marks.async_word) (writes_if env named space formatting_space [] (writes_space env) (writes_formatting_space env))
+async_arrow_prints env false named = prints_nothing
+
+-- a parenthesis beside what isn't a name alone, and in a text that isn't minified
+pub other_parenthesis : (env : Env) (t : List ℕ) → IsMark t → Prints env (words.parenthesis false t) (mark t)
+unfolding words.parenthesis
+other_parenthesis env t w = prints_punct env t w
+
+wide_parenthesis : (env : Env) (t : List ℕ) → IsMark t → env.config.minify ≡ false → Prints env (words.parenthesis true t) (mark t)
+unfolding words.parenthesis
+wide_parenthesis env t w wide = prints_same (words.parenthesis true t) (punct t) (λ rest. pretty_same no_part (punct t) rest env wide) (prints_punct env t w)
+
+no_parenthesis : (env : Env) (t : List ℕ) → env.config.minify ≡ true → Writes env (words.parenthesis true t) []
+unfolding words.parenthesis no_part
+no_parenthesis env t small = writes_same env (words.parenthesis true t) (λ rest. rest) [] (λ rest. minified_same no_part (punct t) rest env small) (writes_nothing env)
+
+abbrev params_list : {X : Type 0} → Linked X → Span → List (PatBox X) → Part
+params_list l span ns = list comma_list_format span (children_of (λ p. (l.asks p.node.value).place) (λ p. l.items p.node.value Plain) ns)
+
+params_list_prints : {X : Type 0} (l : Linked X) (span : Span) (ns : List (PatBox X)) → Prints l.env (params_list l span ns) (phrases.listed (codes ",") (map (pats.pat_at l.reads) ns))
+params_list_prints l span ns = prints_list l.env comma_list_format span (λ p. (l.asks p.node.value).place) (λ p. l.items p.node.value Plain) (pats.pat_at l.reads) (pat_at l) refl refl refl refl ns
+
+params_prints : {X : Type 0} (l : Linked X) (span : Span) (ns : List (PatBox X)) → Prints l.env (λ rest. words.parenthesis false (codes "(") (params_list l span ns (words.parenthesis false (codes ")") rest))) (mark (codes "(") > phrases.listed (codes ",") (map (pats.pat_at l.reads) ns) > mark (codes ")"))
+params_prints l span ns =
+    then (other_parenthesis l.env (codes "(") marks.left_parenthesis)
+    (then (params_list_prints l span ns) (other_parenthesis l.env (codes ")") marks.right_parenthesis))
+
+only_list_prints : {X : Type 0} (l : Linked X) (span : Span) (n : PatBox X) → Prints l.env (params_list l span (n ∷ [])) (pats.pat_at l.reads n)
+unfolding phrases.listed phrases.each_after
+only_list_prints l span n = prints_alone (params_list_prints l span (n ∷ []))
+
+abbrev only_part : {X : Type 0} → Linked X → Bool → Span → PatBox X → Part
+only_part l plain span n rest = words.parenthesis plain (codes "(") (params_list l span (n ∷ []) (words.parenthesis plain (codes ")") rest))
+
+-- `(a)`, and minified `a`
+plain_prints : {X : Type 0} (l : Linked X) (span : Span) (n : PatBox X) → Prints l.env (only_part l true span n) (OptionalParentheses (pats.pat_at l.reads n))
+plain_prints l span n = elim (cases_Bool l.env.config.minify) [
+  | inl small ↦ prints_bare (after (no_parenthesis l.env (codes "(") small) (before (only_list_prints l span n) (no_parenthesis l.env (codes ")") small)))
+  | inr wide ↦ prints_parentheses (then (wide_parenthesis l.env (codes "(") marks.left_parenthesis wide) (then (only_list_prints l span n) (wide_parenthesis l.env (codes ")") marks.right_parenthesis wide)))
+]
+
+-- where the pattern is none, no tree is written so
+plain_or_never : {X : Type 0} (l : Linked X) (span : Span) (n : PatBox X) (never : Bool) → is_never (pats.pat_at l.reads n) ≡ never → Prints l.env (only_part l true span n) (cond never (mark (codes "(") > pats.pat_at l.reads n > mark (codes ")")) (OptionalParentheses (pats.pat_at l.reads n)))
+unfolding is_possible
+plain_or_never l span n true h = prints_impossible (Rattle.std.proofs.Common.ap (λ b. true && (b && true)) (never_impossible (pats.pat_at l.reads n) h))
+plain_or_never l span n false h = plain_prints l span n
+
+only_prints : {X : Type 0} (l : Linked X) (span : Span) (n : PatBox X) (plain : Bool) → l.reads n.node.value PlainParameter ≡ cond plain (l.reads n.node.value Pattern) Never → Prints l.env (only_part l plain span n) (lists.only_parameter l.reads n)
+unfolding lists.only_parameter is_never
+only_prints l span n true e =
+    let P : Phrase → Type 0 = λ z. Prints l.env (only_part l true span n) (cond (is_never z) (mark (codes "(") > pats.pat_at l.reads n > mark (codes ")")) (OptionalParentheses (pats.pat_at l.reads n))) in
+    subst P (sym e) (plain_or_never l span n (is_never (pats.pat_at l.reads n)) refl)
+only_prints l span n false e =
+    let P : Phrase → Type 0 = λ z. Prints l.env (only_part l false span n) (cond (is_never z) (mark (codes "(") > pats.pat_at l.reads n > mark (codes ")")) (OptionalParentheses (pats.pat_at l.reads n))) in
+    subst P (sym e) (then (other_parenthesis l.env (codes "(") marks.left_parenthesis) (then (only_list_prints l span n) (other_parenthesis l.env (codes ")") marks.right_parenthesis)))
+
+arrow_params_prints : {X : Type 0} (l : Linked X) (span : Span) (ns : List (PatBox X)) → Prints l.env (λ rest. words.parenthesis (words.is_only words.is_plain l.asks ns) (codes "(") (params_list l span ns (words.parenthesis (words.is_only words.is_plain l.asks ns) (codes ")") rest))) (lists.arrow_parameters l.reads ns)
+unfolding words.is_only lists.arrow_parameters
+arrow_params_prints l span [] = params_prints l span []
+arrow_params_prints l span (n ∷ []) = only_prints l span n (words.is_plain (l.asks n.node.value).pattern) (l.plain n.node.value)
+arrow_params_prints l span (n ∷ m ∷ ns) = params_prints l span (n ∷ m ∷ ns)
+
+-- a level comes with the mark before it
+arrow_deeper : (env : Env) → Prints env (λ rest. punct (codes "=>") (deeper rest)) (mark (codes "=>"))
+arrow_deeper env =
+    let t : List ℕ = codes "=>" in
+    let x : lexical.Token = token_of Punctuator (spelling Punctuator t) in
+    prints_mark env (λ rest. punct t (deeper rest)) t
+    (with_room (0 + 1) (length (x ∷ [])) (omega arith) (within_then env (punct t) deeper (x ∷ []) [] (punct_within env t (mark_spelled t marks.arrow) marks.arrow.ascii) (deeper_within env)))
+
+arrow_body_prints : {X : Type 0} (l : Linked X) (n : BlockStmtOrExpr X) → Prints l.env (λ rest. punct (codes "=>") (words.arrow_body l.items n rest)) (mark (codes "=>") > lists.arrow_body l.reads n)
+unfolding words.arrow_body lists.arrow_body
+arrow_body_prints l (bodies.BlockStmt n) = then (prints_punct l.env (codes "=>") marks.arrow) (block_at l n Body)
+arrow_body_prints l (bodies.Expr n) = then (arrow_deeper l.env) (before (expr_at l n Plain) (writes_shallower l.env))
+
+arrow_parts_prints : {X : Type 0} (l : Linked X) (n : ArrowExpr X) → Prints l.env (words.arrow_parts l.asks l.items n) (lists.word_if n.is_async (word (codes "async")) > lists.word_if n.is_generator (mark (codes "*")) > lists.arrow_parameters l.reads n.params.items > mark (codes "=>") > lists.arrow_body l.reads n.body)
+unfolding words.arrow_parts words.arrow_parameters
+arrow_parts_prints l n =
+    after (writes_leading l.env n.span.lo)
+    (after (writes_position l.env n.span.lo)
+    (then (async_arrow_prints l.env n.is_async (words.is_only words.is_name l.asks n.params.items))
+    (then (star_prints l.env n.is_generator)
+    (then (arrow_params_prints l n.span n.params.items) (arrow_body_prints l n.body)))))
+
+pub arrow_expr_prints : {X : Type 0} (l : Linked X) (n : ArrowExpr X) → Prints l.env (words.arrow_expr l.asks l.items n) (lists.arrow_expr l.reads n)
+unfolding words.arrow_expr lists.arrow_expr
+arrow_expr_prints l n = refused_or (is_some n.type_params || is_some n.return_type) (arrow_parts_prints l n)

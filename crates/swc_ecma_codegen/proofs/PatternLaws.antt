@@ -1,0 +1,68 @@
+-- What a whole node begins with, where it is a pattern.
+use Rattle.std.proofs.Common.{◌≡◌, refl, sym, ◌∙◌, ap, cond, Bool, true, false, ◌||◌, is_some, Option, Some, None}
+use Rattle.swc_ecma_codegen_tree.specs.declared.links.AnyNode.{AnyNode, AnyNode-F, roll-AnyNode, out-AnyNode}
+use Rattle.swc_ecma_codegen_tree.specs.declared.links.AnyNode.TheOpen as nodes
+use Rattle.swc_ecma_codegen_tree.specs.declared.links.AnyNode.TheVariants as whole
+use Rattle.swc_ecma_codegen_tree.specs.declared.links.AnyNode.TheViews.{out-roll-AnyNode}
+use Rattle.swc_ecma_codegen_tree.specs.declared.idents.BindingIdent.{BindingIdent}
+use Rattle.swc_ecma_codegen_tree.specs.declared.parts.ExprPart.{ExprPart}
+use Rattle.swc_ecma_codegen_tree.specs.declared.parts.ExprPart.TheVariants as expr_parts
+use Rattle.swc_ecma_codegen_tree.specs.declared.parts.StmtPart.{StmtPart}
+use Rattle.swc_ecma_codegen_tree.specs.declared.parts.StmtPart.TheVariants as stmt_parts
+use Rattle.swc_ecma_codegen_tree.specs.declared.pats.Pat.{Pat}
+use Rattle.swc_ecma_codegen_tree.specs.declared.pats.Pat.TheVariants as pats
+use Rattle.swc_ecma_codegen_ast.specs.Phrases.{Phrase, Never}
+use Rattle.swc_ecma_codegen_ast.specs.NamePhrases.{ident, binding_ident}
+use Rattle.swc_ecma_codegen_ast.specs.PartPhrases.{expr_part, stmt_part}
+use Rattle.swc_ecma_codegen_ast.specs.PatPhrases.{pat, plain_name, plain_parameter}
+use Rattle.swc_ecma_codegen_ast.specs.TreePhrases.{node_phrase, phrase}
+use Rattle.swc_ecma_codegen_ast.specs.declared.roles.Role.{Role}
+use Rattle.swc_ecma_codegen_ast.specs.declared.roles.Role.TheVariants.{Pattern, PlainParameter}
+use Rattle.swc_ecma_codegen_ast.proofs.TreeLaws.{phrase_at}
+use Rattle.swc_ecma_codegen.specs.declared.patterns.PatternKind.TheVariants.{PlainName, Name}
+use Rattle.swc_ecma_codegen.specs.Answers.{any_answers}
+use Rattle.swc_ecma_codegen.specs.Functions.{is_plain}
+use Rattle.swc_ecma_codegen.specs.Patterns.{name_kind, pat_kind, part_pattern, node_pattern, any_pattern}
+
+pub any_pattern_of : (n : AnyNode) → any_pattern n ≡ node_pattern (out-AnyNode n)
+unfolding any_pattern
+any_pattern_of n = refl
+
+pub any_pattern_part : (n : ExprPart AnyNode) → any_pattern (whole.ExprPart n) ≡ part_pattern n
+unfolding any_pattern node_pattern
+any_pattern_part n = ap (λ z. node_pattern (out-AnyNode z)) (sym (whole.rolls-ExprPart n)) ∙ ap node_pattern (out-roll-AnyNode (nodes.ExprPart n))
+
+-- ---- the role of a name alone
+
+-- A pattern has the role of a plain parameter where it is a name alone, and reads there as it does elsewhere.
+name_plain : {X : Type 0} (n : BindingIdent X) (optional : Bool) (typed : Bool) (p : Phrase) → cond optional Never (cond typed Never p) ≡ cond (is_plain (cond (optional || typed) Name PlainName)) (cond typed Never p) Never
+unfolding is_plain
+name_plain n true typed p = refl
+name_plain n false true p = refl
+name_plain n false false p = refl
+
+pat_plain : {X : Type 0} (f : X → Role → Phrase) (n : Pat X) → plain_parameter n ≡ cond (is_plain (pat_kind n)) (pat f n) Never
+unfolding plain_parameter plain_name binding_ident pat pat_kind name_kind is_plain
+pat_plain f (pats.Ident n) = name_plain n n.id.optional (is_some n.type_ann) (ident n.id)
+pat_plain f n = refl
+
+part_plain : {X : Type 0} (f : X → Role → Phrase) (n : ExprPart X) → expr_part f n PlainParameter ≡ cond (is_plain (part_pattern n)) (expr_part f n Pattern) Never
+unfolding expr_part part_pattern is_plain
+part_plain f (expr_parts.Pat n) = pat_plain f n
+part_plain f n = refl
+
+stmt_part_plain : {X : Type 0} (f : X → Role → Phrase) (n : StmtPart X) → stmt_part f n PlainParameter ≡ Never
+unfolding stmt_part
+stmt_part_plain f (stmt_parts.Function n) = refl
+stmt_part_plain f (stmt_parts.BlockStmt n) = refl
+stmt_part_plain f n = refl
+
+node_plain : {X : Type 0} (f : X → Role → Phrase) (n : AnyNode-F X) → node_phrase f n PlainParameter ≡ cond (is_plain (node_pattern n)) (node_phrase f n Pattern) Never
+unfolding node_phrase node_pattern is_plain
+node_plain f (nodes.ExprPart n) = part_plain f n
+node_plain f (nodes.StmtPart n) = stmt_part_plain f n
+node_plain f n = refl
+
+pub plain_reads : (n : AnyNode) → phrase n PlainParameter ≡ cond (is_plain (any_answers n).pattern) (phrase n Pattern) Never
+unfolding any_answers any_pattern
+plain_reads n = phrase_at n PlainParameter ∙ node_plain phrase (out-AnyNode n) ∙ ap (λ z. cond (is_plain (node_pattern (out-AnyNode n))) z Never) (sym (phrase_at n Pattern))

@@ -1,0 +1,96 @@
+-- What is written of declarations. Classes, and what TypeScript adds, `declare` and `!` after a name, aren't printed yet.
+use Rattle.std.specs.Prelude.{ℕ, Bool, true, false, if◌then◌else◌, List, [], ◌∷◌, map, codes, Option, Some, None}
+use Rattle.swc_ecma_codegen_common.specs.declared.positions.Span.{Span}
+use Rattle.swc_ecma_codegen_tree.specs.declared.decls.Decl.{Decl}
+use Rattle.swc_ecma_codegen_tree.specs.declared.decls.Decl.TheVariants as decls
+use Rattle.swc_ecma_codegen_tree.specs.declared.decls.FnDecl.{FnDecl}
+use Rattle.swc_ecma_codegen_tree.specs.declared.decls.UsingDecl.{UsingDecl}
+use Rattle.swc_ecma_codegen_tree.specs.declared.decls.VarDecl.{VarDecl}
+use Rattle.swc_ecma_codegen_tree.specs.declared.decls.VarDeclKind.{VarDeclKind}
+use Rattle.swc_ecma_codegen_tree.specs.declared.decls.VarDeclKind.TheVariants.{Var, Let, Const}
+use Rattle.swc_ecma_codegen_tree.specs.declared.decls.VarDeclarator.{VarDeclarator}
+use Rattle.swc_ecma_codegen_base.specs.Run.{Part}
+use Rattle.swc_ecma_codegen_base.specs.Lists.{list}
+use Rattle.swc_ecma_codegen_base.specs.Words.{keyword, semi, space, commit_pending_semi, start_of, end_of, leading_comments}
+use Rattle.swc_ecma_codegen.specs.declared.nodes.Place.{Place}
+use Rattle.swc_ecma_codegen.specs.declared.nodes.Place.TheVariants.{Plain, DeclarationHead, Statement}
+use Rattle.swc_ecma_codegen.specs.declared.patterns.PatternKind.{PatternKind}
+use Rattle.swc_ecma_codegen.specs.declared.patterns.PatternKind.TheVariants.{Marked}
+use Rattle.swc_ecma_codegen.specs.Answers.{Answers}
+use Rattle.swc_ecma_codegen.specs.Exprs.{blank, opened, ident}
+use Rattle.swc_ecma_codegen.specs.Lists.{child_of, unsupported}
+use Rattle.swc_ecma_codegen.specs.Pats.{initializer}
+
+-- `VariableDeclarationList`
+abbrev pub declarators_format : ℕ
+declarators_format = 272
+
+-- `function f(a) { b; }`
+unfoldable pub fn_decl_parts : {X : Type 0} → (X → Answers) → (X → Place → Part) → FnDecl X → Part
+fn_decl_parts asks items n rest =
+    let function = n.function.node.value in
+    leading_comments (asks function).place.lo
+    (commit_pending_semi
+    (start_of (asks function).place (items function DeclarationHead (ident n.ident (items function Plain rest)))))
+
+unfoldable pub fn_decl : {X : Type 0} → (X → Answers) → (X → Place → Part) → FnDecl X → Part
+fn_decl asks items n rest = if n.declare then unsupported rest else fn_decl_parts asks items n rest
+
+-- `a`, `a = b`
+unfoldable pub var_declarator_parts : {X : Type 0} → (X → Place → Part) → VarDeclarator X → Part
+var_declarator_parts items n rest = opened n.span (items n.name.node.value Plain (initializer items n.init rest))
+
+unfoldable pub var_declarator : {X : Type 0} → (X → Place → Part) → VarDeclarator X → Part
+var_declarator items n rest = if n.definite then unsupported rest else var_declarator_parts items n rest
+
+abbrev pub declarator_place : {X : Type 0} → VarDeclarator X → Span
+declarator_place n = n.span
+
+-- `a = b, c`
+abbrev pub declarators : {X : Type 0} → (X → Place → Part) → Span → List (VarDeclarator X) → Part
+declarators items span ns = list declarators_format span (map (child_of declarator_place (λ n place. var_declarator items n)) ns)
+
+unfoldable pub var_kind : VarDeclKind → Part
+var_kind Var rest = keyword None (codes "var") rest
+var_kind Let rest = keyword None (codes "let") rest
+var_kind Const rest = keyword None (codes "const") rest
+
+-- a pattern begins with no mark
+unfoldable pub is_unmarked : PatternKind → Bool
+is_unmarked Marked = false
+is_unmarked kind = true
+
+-- so does the first that is declared
+unfoldable pub first_is_unmarked : {X : Type 0} → (X → Answers) → List (VarDeclarator X) → Bool
+first_is_unmarked asks [] = true
+first_is_unmarked asks (n ∷ ns) = is_unmarked (asks n.name.node.value).pattern
+
+-- `let a = b, c`, minified `let[a]=b`
+unfoldable pub var_decl_parts : {X : Type 0} → (X → Answers) → (X → Place → Part) → VarDecl X → Part
+var_decl_parts asks items n rest =
+    leading_comments n.span.lo
+    (commit_pending_semi
+    (start_of n.span (var_kind n.kind (blank (first_is_unmarked asks n.decls.items) (declarators items n.span n.decls.items rest)))))
+
+unfoldable pub var_decl : {X : Type 0} → (X → Answers) → (X → Place → Part) → VarDecl X → Part
+var_decl asks items n rest = if n.declare then unsupported rest else var_decl_parts asks items n rest
+
+-- `await` and a blank, where it is so
+unfoldable pub await_word : Bool → Part
+await_word wanted rest = if wanted then keyword None (codes "await") (space rest) else rest
+
+-- `await using a = b`
+unfoldable pub using_decl : {X : Type 0} → (X → Place → Part) → UsingDecl X → Part
+using_decl items n rest = leading_comments n.span.lo (await_word n.is_await (keyword None (codes "using") (space (declarators items n.span n.decls.items rest))))
+
+-- the end of one of variables is recorded, unless it is a statement
+unfoldable pub decl_end : Place → Span → Part
+decl_end Statement span rest = rest
+decl_end place span rest = end_of span rest
+
+-- a declaration by its variant
+unfoldable pub decl : {X : Type 0} → (X → Answers) → (X → Place → Part) → Decl X → Place → Part
+decl asks items (decls.Fn n) place rest = fn_decl asks items n rest
+decl asks items (decls.Var n) place rest = items n.node.value Plain (semi (decl_end place (asks n.node.value).place rest))
+decl asks items (decls.Using n) place rest = using_decl items n (semi rest)
+decl asks items n place rest = unsupported rest

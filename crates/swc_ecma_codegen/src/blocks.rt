@@ -1,0 +1,128 @@
+//! Blocks.
+
+ghost use Rattle.std.specs.Prelude.{◌≡◌, if◌then◌else◌, OnOk};
+ghost use Rattle.swc_ecma_codegen_ast.specs.FunctionPhrases.{is_some_listed};
+ghost use Rattle.swc_ecma_codegen_base.specs.Lists.{list};
+ghost use Rattle.swc_ecma_codegen_base.specs.Run.{Emits};
+ghost use Rattle.swc_ecma_codegen.specs.Blocks.{block_format, flat_block_format, block_children, block_list, block_start, block_stmt};
+ghost use Rattle.swc_ecma_codegen.specs.View.{state_of};
+
+use crate::emitter::Emitter;
+use crate::nodes::{Child, EmitAt, Held, Place};
+use bitflags::Flags;
+use swc_ecma_codegen_ast::ListFormat;
+use swc_ecma_codegen_ast::comments::Comments;
+use swc_ecma_codegen_ast::mapper::SourceMapper;
+use swc_ecma_codegen_common::{Answer, Span};
+use swc_ecma_codegen_literals::Punctuator;
+use swc_ecma_codegen_text_writer::WriteJs;
+use swc_ecma_codegen_tree::{BlockStmt, StmtBox};
+
+/// The format of a block over several lines.
+fn block_format() -> ListFormat
+    ensures { result.0 ≡ block_format }
+{
+    ListFormat::MultiLineBlockStatements
+}
+
+/// The format of a block on one line.
+fn flat_block_format() -> ListFormat
+    ensures { result.0 ≡ flat_block_format }
+{
+    block_format()
+        .difference(ListFormat::MultiLine)
+        .difference(ListFormat::Indented)
+}
+
+/// The format of a block, by whether it holds statements.
+fn block_lines(some: bool) -> ListFormat
+    ensures { result.0 ≡ if some then block_format else flat_block_format }
+{
+    if some {
+        block_format()
+    } else {
+        flat_block_format()
+    }
+}
+
+/// Whether there is something in a list.
+#[tactic(auto, unfolding(swc_ecma_codegen_ast::specs::FunctionPhrases::is_some_listed))]
+pub(crate) fn is_some_listed<T>(nodes: &[T]) -> bool
+    ensures { result ≡ is_some_listed nodes.now }
+{
+    match nodes {
+        [] => false,
+        [_, ..] => true,
+    }
+}
+
+impl<N: Held> Child for StmtBox<N> {
+    ghost stands = { λ n. (N.answers n.node.value).place };
+
+    fn place(&self) -> Span {
+        self.held().place()
+    }
+}
+
+impl<N: Held> EmitAt for BlockStmt<N> {
+    ghost items = { block_stmt N.answers N.items };
+
+    #[tactic(auto, unfolding(crate::specs::Blocks::block_stmt))]
+    fn emit_at<W: WriteJs, S: SourceMapper, C: Comments>(
+        &self,
+        e: &mut Emitter<'_, W, S, C>,
+        place: Place,
+    ) -> Answer {
+        e.leading_comments(self.span.lo)?;
+        e.block_start(place, self.span)?;
+        e.punct(Punctuator::LeftBrace)?;
+        e.block_list(self)?;
+        e.comments_before(self.span.hi)?;
+        e.last_of(self.span)?;
+        e.punct(Punctuator::RightBrace)?;
+        Ok(())
+    }
+}
+
+impl<W: WriteJs, S: SourceMapper, C: Comments> Emitter<'_, W, S, C> {
+    /// Records the start of a block, unless it is a body.
+    #[tactic(auto, unfolding(crate::specs::Blocks::block_start))]
+    fn block_start(&mut self, place: Place, span: Span) -> Answer
+        ensures items { Emits (block_start place span) (state_of S.lines W.sheet self.old) (state_of S.lines W.sheet self.new) result }
+        ensures level { OnOk result ((W.sheet self.new.wr).indentation ≡ (W.sheet self.old.wr).indentation) }
+    {
+        match place {
+            Place::Body => Ok(()),
+            _ => self.start_of(span),
+        }
+    }
+
+    /// Writes the statements on one line.
+    fn flat_block_list<N: Held>(&mut self, node: &BlockStmt<N>) -> Answer
+        ensures items { Emits (list flat_block_format node.now.span (block_children N.answers N.items node.now)) (state_of S.lines W.sheet self.old) (state_of S.lines W.sheet self.new) result }
+        ensures level { OnOk result ((W.sheet self.new.wr).indentation ≡ (W.sheet self.old.wr).indentation) }
+    {
+        self.list(flat_block_format(), node.span, &node.stmts)
+    }
+
+    /// Writes the statements, each on a line of its own where there are some.
+    fn lined_block_list<N: Held>(&mut self, node: &BlockStmt<N>) -> Answer
+        ensures items { Emits (list (if is_some_listed node.now.stmts.items then block_format else flat_block_format) node.now.span (block_children N.answers N.items node.now)) (state_of S.lines W.sheet self.old) (state_of S.lines W.sheet self.new) result }
+        ensures level { OnOk result ((W.sheet self.new.wr).indentation ≡ (W.sheet self.old.wr).indentation) }
+    {
+        let format = block_lines(is_some_listed(&node.stmts));
+        self.list(format, node.span, &node.stmts)
+    }
+
+    /// Writes the statements, by lines unless the settings are to minify.
+    #[tactic(auto, using(crate::proofs::Asked::minified_part, crate::proofs::Asked::pretty_part), unfolding(crate::specs::Blocks::block_list))]
+    fn block_list<N: Held>(&mut self, node: &BlockStmt<N>) -> Answer
+        ensures items { Emits (block_list (is_some_listed node.now.stmts.items) node.now.span (block_children N.answers N.items node.now)) (state_of S.lines W.sheet self.old) (state_of S.lines W.sheet self.new) result }
+        ensures level { OnOk result ((W.sheet self.new.wr).indentation ≡ (W.sheet self.old.wr).indentation) }
+    {
+        if self.cfg.minify {
+            return self.flat_block_list(node);
+        }
+        self.lined_block_list(node)
+    }
+}

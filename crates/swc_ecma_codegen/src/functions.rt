@@ -1,0 +1,393 @@
+//! Functions.
+
+ghost use Rattle.std.specs.Prelude.{◌≡◌, Bool, OnOk};
+ghost use Rattle.swc_ecma_codegen_literals.specs.Punctuators.{spelling};
+ghost use Rattle.swc_ecma_codegen_base.specs.Run.{Emits};
+ghost use Rattle.swc_ecma_codegen.specs.Functions.{comma_list_format, decorators_format, decorator, decorators, param, function_body, parameters, fn_trailing_parts, fn_trailing, async_word, star, function_head, star_or_space, declaration_head, method_head, function, optional_name, fn_expr, is_plain, is_name, is_only, async_arrow, parenthesis, arrow_list, arrow_parameters, arrow_body, arrow_expr};
+ghost use Rattle.swc_ecma_codegen.specs.View.{state_of};
+
+use crate::blocks::is_some_listed;
+use crate::emitter::Emitter;
+use crate::nodes::{AskPattern, Child, EmitAt, Held, Place};
+use crate::patterns::PatternKind;
+use swc_ecma_codegen_ast::ListFormat;
+use swc_ecma_codegen_ast::comments::Comments;
+use swc_ecma_codegen_ast::mapper::SourceMapper;
+use swc_ecma_codegen_common::{Answer, Span};
+use swc_ecma_codegen_literals::Punctuator;
+use swc_ecma_codegen_text_writer::WriteJs;
+use swc_ecma_codegen_tree::{
+    ArrowExpr, BlockStmtBox, BlockStmtOrExpr, Decorator, FnExpr, Function, Ident, Param, PatBox,
+};
+
+/// The format of parameters.
+fn comma_list_format() -> ListFormat
+    ensures { result.0 ≡ comma_list_format }
+{
+    ListFormat::CommaListElements
+}
+
+/// The format of a parameter's decorators.
+fn decorators_format() -> ListFormat
+    ensures { result.0 ≡ decorators_format }
+{
+    ListFormat::Decorators
+}
+
+/// Whether the only parameter is a name alone.
+#[tactic(auto, unfolding(crate::specs::Functions::is_only, crate::specs::Functions::is_plain))]
+fn is_only_plain<N: AskPattern>(params: &[PatBox<N>]) -> bool
+    ensures { result ≡ is_only is_plain N.answers params.now }
+{
+    match params {
+        [param] => matches!(param.held().pattern(), PatternKind::PlainName),
+        _ => false,
+    }
+}
+
+/// Whether the only parameter is a name, with or without a type.
+#[tactic(auto, unfolding(crate::specs::Functions::is_only, crate::specs::Functions::is_name))]
+fn is_only_name<N: AskPattern>(params: &[PatBox<N>]) -> bool
+    ensures { result ≡ is_only is_name N.answers params.now }
+{
+    match params {
+        [param] => matches!(
+            param.held().pattern(),
+            PatternKind::PlainName | PatternKind::Name
+        ),
+        _ => false,
+    }
+}
+
+impl<N: Held> EmitAt for ArrowExpr<N> {
+    ghost items = { λ n _. arrow_expr N.answers N.items n };
+
+    #[tactic(auto, unfolding(crate::specs::Functions::arrow_expr, crate::specs::Functions::arrow_parts))]
+    fn emit_at<W: WriteJs, S: SourceMapper, C: Comments>(
+        &self,
+        e: &mut Emitter<'_, W, S, C>,
+        place: Place,
+    ) -> Answer {
+        if self.type_params.is_some() || self.return_type.is_some() {
+            return e.unsupported();
+        }
+        e.leading_comments(self.span.lo)?;
+        e.start_of(self.span)?;
+        e.async_arrow(self.is_async, is_only_name(&self.params))?;
+        e.star(self.is_generator)?;
+        e.arrow_parameters(self)?;
+        e.punct(Punctuator::Arrow)?;
+        self.body.emit_at(e, Place::Plain)?;
+        Ok(())
+    }
+}
+
+impl<N: Held> EmitAt for Decorator<N> {
+    ghost items = { λ n _. decorator N.items n };
+
+    #[tactic(auto, unfolding(crate::specs::Functions::decorator))]
+    fn emit_at<W: WriteJs, S: SourceMapper, C: Comments>(
+        &self,
+        e: &mut Emitter<'_, W, S, C>,
+        place: Place,
+    ) -> Answer {
+        e.leading_comments(self.span.lo)?;
+        e.start_of(self.span)?;
+        e.punct(Punctuator::At)?;
+        self.expr.held().emit_at(e, Place::Plain)?;
+        e.line()?;
+        e.end_of(self.span)?;
+        Ok(())
+    }
+}
+
+impl<N: Held> Child for Decorator<N> {
+    ghost stands = { λ n. n.span };
+
+    fn place(&self) -> Span {
+        self.span
+    }
+}
+
+impl<N: Held> EmitAt for FnExpr<N> {
+    ghost items = { λ n _. fn_expr N.answers N.items n };
+
+    #[tactic(auto, unfolding(crate::specs::Functions::fn_expr))]
+    fn emit_at<W: WriteJs, S: SourceMapper, C: Comments>(
+        &self,
+        e: &mut Emitter<'_, W, S, C>,
+        place: Place,
+    ) -> Answer {
+        let span = self.function.held().place();
+        e.leading_comments(span.lo)?;
+        e.commit_pending_semi()?;
+        e.start_of(span)?;
+        self.function.held().emit_at(e, Place::FunctionHead)?;
+        e.optional_name(&self.ident)?;
+        self.function.held().emit_at(e, Place::Plain)?;
+        Ok(())
+    }
+}
+
+impl<N: Held> EmitAt for Function<N> {
+    ghost items = { function N.items };
+
+    #[tactic(auto, unfolding(crate::specs::Functions::function))]
+    fn emit_at<W: WriteJs, S: SourceMapper, C: Comments>(
+        &self,
+        e: &mut Emitter<'_, W, S, C>,
+        place: Place,
+    ) -> Answer {
+        match place {
+            Place::FunctionHead => e.function_head(self),
+            Place::MethodHead => e.method_head(self),
+            Place::DeclarationHead => e.declaration_head(self),
+            _ => e.fn_trailing(self),
+        }
+    }
+}
+
+impl<N: Held> EmitAt for BlockStmtOrExpr<N> {
+    ghost items = { λ n _. arrow_body N.items n };
+
+    #[tactic(auto, unfolding(crate::specs::Functions::arrow_body))]
+    fn emit_at<W: WriteJs, S: SourceMapper, C: Comments>(
+        &self,
+        e: &mut Emitter<'_, W, S, C>,
+        place: Place,
+    ) -> Answer {
+        match self {
+            BlockStmtOrExpr::BlockStmt(node) => node.held().emit_at(e, Place::Body),
+            BlockStmtOrExpr::Expr(node) => {
+                e.deeper()?;
+                node.held().emit_at(e, Place::Plain)?;
+                e.shallower()
+            }
+        }
+    }
+}
+
+impl<N: Held> EmitAt for Param<N> {
+    ghost items = { λ n _. param N.items n };
+
+    #[tactic(auto, unfolding(crate::specs::Functions::param))]
+    fn emit_at<W: WriteJs, S: SourceMapper, C: Comments>(
+        &self,
+        e: &mut Emitter<'_, W, S, C>,
+        place: Place,
+    ) -> Answer {
+        e.leading_comments(self.span.lo)?;
+        e.start_of(self.span)?;
+        e.decorators(self)?;
+        self.pat.held().emit_at(e, Place::Plain)?;
+        e.end_of(self.span)?;
+        Ok(())
+    }
+}
+
+impl<N: Held> Child for Param<N> {
+    ghost stands = { λ n. n.span };
+
+    fn place(&self) -> Span {
+        self.span
+    }
+}
+
+impl<W: WriteJs, S: SourceMapper, C: Comments> Emitter<'_, W, S, C> {
+    /// Writes `async` and a blank, where it is so.
+    #[tactic(auto, unfolding(crate::specs::Functions::async_word))]
+    fn async_word(&mut self, wanted: bool) -> Answer
+        ensures items { Emits (async_word wanted) (state_of S.lines W.sheet self.old) (state_of S.lines W.sheet self.new) result }
+        ensures level { OnOk result ((W.sheet self.new.wr).indentation ≡ (W.sheet self.old.wr).indentation) }
+    {
+        if wanted {
+            self.keyword(None, "async")?;
+            self.space()?;
+        }
+        Ok(())
+    }
+
+    /// Writes `*`, where it is so.
+    #[tactic(auto, unfolding(crate::specs::Functions::star))]
+    fn star(&mut self, wanted: bool) -> Answer
+        ensures items { Emits (star wanted) (state_of S.lines W.sheet self.old) (state_of S.lines W.sheet self.new) result }
+        ensures level { OnOk result ((W.sheet self.new.wr).indentation ≡ (W.sheet self.old.wr).indentation) }
+    {
+        if wanted {
+            self.punct(Punctuator::Star)?;
+        }
+        Ok(())
+    }
+
+    /// Writes `async function*` or a part of it.
+    #[tactic(auto, unfolding(crate::specs::Functions::function_head))]
+    fn function_head<N>(&mut self, node: &Function<N>) -> Answer
+        ensures items { Emits (function_head node.now) (state_of S.lines W.sheet self.old) (state_of S.lines W.sheet self.new) result }
+        ensures level { OnOk result ((W.sheet self.new.wr).indentation ≡ (W.sheet self.old.wr).indentation) }
+    {
+        self.async_word(node.is_async)?;
+        self.keyword(None, "function")?;
+        self.star(node.is_generator)?;
+        Ok(())
+    }
+
+    /// Writes a blank, or `*` and one unless the settings are to minify.
+    #[tactic(auto, unfolding(crate::specs::Functions::star_or_space))]
+    fn star_or_space(&mut self, wanted: bool) -> Answer
+        ensures items { Emits (star_or_space wanted) (state_of S.lines W.sheet self.old) (state_of S.lines W.sheet self.new) result }
+        ensures level { OnOk result ((W.sheet self.new.wr).indentation ≡ (W.sheet self.old.wr).indentation) }
+    {
+        if !wanted {
+            return self.space();
+        }
+        self.punct(Punctuator::Star)?;
+        self.formatting_space()
+    }
+
+    /// Writes `async function*` or a part of it, and a blank.
+    #[tactic(auto, unfolding(crate::specs::Functions::declaration_head))]
+    fn declaration_head<N>(&mut self, node: &Function<N>) -> Answer
+        ensures items { Emits (declaration_head node.now) (state_of S.lines W.sheet self.old) (state_of S.lines W.sheet self.new) result }
+        ensures level { OnOk result ((W.sheet self.new.wr).indentation ≡ (W.sheet self.old.wr).indentation) }
+    {
+        self.async_word(node.is_async)?;
+        self.keyword(None, "function")?;
+        self.star_or_space(node.is_generator)?;
+        Ok(())
+    }
+
+    /// Writes `async *` or a part of it.
+    #[tactic(auto, unfolding(crate::specs::Functions::method_head))]
+    fn method_head<N>(&mut self, node: &Function<N>) -> Answer
+        ensures items { Emits (method_head node.now) (state_of S.lines W.sheet self.old) (state_of S.lines W.sheet self.new) result }
+        ensures level { OnOk result ((W.sheet self.new.wr).indentation ≡ (W.sheet self.old.wr).indentation) }
+    {
+        self.async_word(node.is_async)?;
+        self.star(node.is_generator)?;
+        Ok(())
+    }
+
+    /// Writes `(a) { b; }` of `function f(a) { b; }`. swc's `emit_fn_trailing`.
+    #[tactic(auto, unfolding(crate::specs::Functions::fn_trailing))]
+    fn fn_trailing<N: Held>(&mut self, node: &Function<N>) -> Answer
+        ensures items { Emits (fn_trailing N.items node.now) (state_of S.lines W.sheet self.old) (state_of S.lines W.sheet self.new) result }
+        ensures level { OnOk result ((W.sheet self.new.wr).indentation ≡ (W.sheet self.old.wr).indentation) }
+    {
+        if node.type_params.is_some()
+            || node.return_type.is_some()
+            || is_some_listed(&node.decorators)
+        {
+            return self.unsupported();
+        }
+        self.fn_trailing_parts(node)
+    }
+
+    /// Writes `(a) { b; }`.
+    #[tactic(auto, unfolding(crate::specs::Functions::fn_trailing_parts))]
+    fn fn_trailing_parts<N: Held>(&mut self, node: &Function<N>) -> Answer
+        ensures items { Emits (fn_trailing_parts N.items node.now) (state_of S.lines W.sheet self.old) (state_of S.lines W.sheet self.new) result }
+        ensures level { OnOk result ((W.sheet self.new.wr).indentation ≡ (W.sheet self.old.wr).indentation) }
+    {
+        self.punct(Punctuator::LeftParenthesis)?;
+        self.parameters(node)?;
+        self.punct(Punctuator::RightParenthesis)?;
+        self.function_body(&node.body)?;
+        Ok(())
+    }
+
+    /// Writes the parameters of a function, with commas between.
+    fn parameters<N: Held>(&mut self, node: &Function<N>) -> Answer
+        ensures items { Emits (parameters N.items node.now) (state_of S.lines W.sheet self.old) (state_of S.lines W.sheet self.new) result }
+        ensures level { OnOk result ((W.sheet self.new.wr).indentation ≡ (W.sheet self.old.wr).indentation) }
+    {
+        self.list(comma_list_format(), node.span, &node.params)
+    }
+
+    /// Writes the decorators of a parameter.
+    fn decorators<N: Held>(&mut self, node: &Param<N>) -> Answer
+        ensures items { Emits (decorators N.items node.now) (state_of S.lines W.sheet self.old) (state_of S.lines W.sheet self.new) result }
+        ensures level { OnOk result ((W.sheet self.new.wr).indentation ≡ (W.sheet self.old.wr).indentation) }
+    {
+        self.list(decorators_format(), node.span, &node.decorators)
+    }
+
+    /// Writes a blank and a body, or a semicolon.
+    #[tactic(auto, unfolding(crate::specs::Functions::function_body))]
+    fn function_body<N: Held>(&mut self, body: &Option<BlockStmtBox<N>>) -> Answer
+        ensures items { Emits (function_body N.items body.now) (state_of S.lines W.sheet self.old) (state_of S.lines W.sheet self.new) result }
+        ensures level { OnOk result ((W.sheet self.new.wr).indentation ≡ (W.sheet self.old.wr).indentation) }
+    {
+        match body {
+            Some(body) => {
+                self.formatting_space()?;
+                body.held().emit_at(self, Place::Body)
+            }
+            None => self.semi(),
+        }
+    }
+
+    /// Writes a blank and a name, where there is one.
+    #[tactic(auto, unfolding(crate::specs::Functions::optional_name))]
+    pub(crate) fn optional_name(&mut self, name: &Option<Ident>) -> Answer
+        ensures items { Emits (optional_name name.now) (state_of S.lines W.sheet self.old) (state_of S.lines W.sheet self.new) result }
+        ensures level { OnOk result ((W.sheet self.new.wr).indentation ≡ (W.sheet self.old.wr).indentation) }
+    {
+        match name {
+            Some(name) => {
+                self.space()?;
+                self.name(name.span, &name.sym, name.optional)
+            }
+            None => Ok(()),
+        }
+    }
+
+    /// Writes `async`, and a blank before a name.
+    #[tactic(auto, unfolding(crate::specs::Functions::async_arrow))]
+    fn async_arrow(&mut self, wanted: bool, named: bool) -> Answer
+        ensures items { Emits (async_arrow wanted named) (state_of S.lines W.sheet self.old) (state_of S.lines W.sheet self.new) result }
+        ensures level { OnOk result ((W.sheet self.new.wr).indentation ≡ (W.sheet self.old.wr).indentation) }
+    {
+        if wanted {
+            self.keyword(None, "async")?;
+            if named {
+                self.space()?;
+            } else {
+                self.formatting_space()?;
+            }
+        }
+        Ok(())
+    }
+
+    /// Writes a parenthesis, unless it stands beside a name alone and the settings are to minify.
+    #[tactic(auto, using(crate::proofs::Asked::bare, crate::proofs::Asked::parenthesized))]
+    fn parenthesis(&mut self, plain: bool, mark: Punctuator) -> Answer
+        ensures items { Emits (parenthesis plain (spelling mark)) (state_of S.lines W.sheet self.old) (state_of S.lines W.sheet self.new) result }
+        ensures level { OnOk result ((W.sheet self.new.wr).indentation ≡ (W.sheet self.old.wr).indentation) }
+    {
+        if plain && self.cfg.minify {
+            return Ok(());
+        }
+        self.punct(mark)
+    }
+
+    /// Writes the parameters of an arrow function, with commas between.
+    fn arrow_list<N: Held>(&mut self, node: &ArrowExpr<N>) -> Answer
+        ensures items { Emits (arrow_list N.answers N.items node.now) (state_of S.lines W.sheet self.old) (state_of S.lines W.sheet self.new) result }
+        ensures level { OnOk result ((W.sheet self.new.wr).indentation ≡ (W.sheet self.old.wr).indentation) }
+    {
+        self.list(comma_list_format(), node.span, &node.params)
+    }
+
+    /// Writes the parameters of an arrow function, in parentheses.
+    #[tactic(auto, unfolding(crate::specs::Functions::arrow_parameters))]
+    fn arrow_parameters<N: Held>(&mut self, node: &ArrowExpr<N>) -> Answer
+        ensures items { Emits (arrow_parameters N.answers N.items node.now) (state_of S.lines W.sheet self.old) (state_of S.lines W.sheet self.new) result }
+        ensures level { OnOk result ((W.sheet self.new.wr).indentation ≡ (W.sheet self.old.wr).indentation) }
+    {
+        let plain = is_only_plain(&node.params);
+        self.parenthesis(plain, Punctuator::LeftParenthesis)?;
+        self.arrow_list(node)?;
+        self.parenthesis(plain, Punctuator::RightParenthesis)?;
+        Ok(())
+    }
+}

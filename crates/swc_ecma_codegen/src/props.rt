@@ -1,0 +1,346 @@
+//! Objects and their properties.
+
+ghost use Rattle.std.specs.Prelude.{◌≡◌, OnOk, true};
+ghost use Rattle.swc_ecma_codegen_ast.specs.FunctionPhrases.{is_some_listed};
+ghost use Rattle.swc_ecma_codegen_spans.specs.Spans.{prop_or_spread_span};
+ghost use Rattle.swc_ecma_codegen_base.specs.Lists.{list};
+ghost use Rattle.swc_ecma_codegen_base.specs.Run.{Emits};
+ghost use Rattle.swc_ecma_codegen_base.specs.Starts.{begins_letter};
+ghost use Rattle.swc_ecma_codegen.specs.Answers.{place_of};
+ghost use Rattle.swc_ecma_codegen.specs.Props.{prop_name, key_end, value_start, key_value_prop, assign_prop, accessor, optional_body, getter_prop, setter_prop, method_prop, prop, prop_or_spread, object_format, flat_object_format, object_children, lined_object_list, object_lines, object_list, object_lit};
+ghost use Rattle.swc_ecma_codegen.specs.View.{state_of};
+
+use crate::blocks::is_some_listed;
+use crate::emitter::Emitter;
+use crate::nodes::{Child, EmitAt, Held, Place};
+use bitflags::Flags;
+use swc_ecma_codegen_ast::ListFormat;
+use swc_ecma_codegen_ast::comments::Comments;
+use swc_ecma_codegen_ast::mapper::SourceMapper;
+use swc_ecma_codegen_common::{Answer, Span};
+use swc_ecma_codegen_literals::Punctuator;
+use swc_ecma_codegen_text_writer::WriteJs;
+use swc_ecma_codegen_tree::{
+    AssignProp, BlockStmtBox, GetterProp, KeyValueProp, MethodProp, ObjectLit, Prop, PropName,
+    PropNameBox, PropOrSpread, SetterProp,
+};
+
+/// The format of an object over several lines.
+fn object_format() -> ListFormat
+    ensures { result.0 ≡ object_format }
+{
+    ListFormat::ObjectLiteralExpressionProperties.union(ListFormat::CanSkipTrailingComma)
+}
+
+/// The format of an object on one line.
+fn flat_object_format() -> ListFormat
+    ensures { result.0 ≡ flat_object_format }
+{
+    object_format()
+        .difference(ListFormat::MultiLine)
+        .difference(ListFormat::Indented)
+}
+
+impl<N: Held> EmitAt for PropName<N> {
+    ghost items = { λ n _. prop_name N.items n };
+
+    #[tactic(auto, unfolding(crate::specs::Props::prop_name))]
+    fn emit_at<W: WriteJs, S: SourceMapper, C: Comments>(
+        &self,
+        e: &mut Emitter<'_, W, S, C>,
+        place: Place,
+    ) -> Answer {
+        match self {
+            PropName::Ident(name) => e.key(name.span, &name.sym),
+            PropName::Str(node) => node.emit_at(e, Place::Plain),
+            PropName::Num(node) => node.emit_at(e, Place::Plain),
+            PropName::BigInt(node) => node.emit_at(e, Place::Plain),
+            PropName::Computed(node) => node.emit_at(e, Place::Plain),
+        }
+    }
+}
+
+impl<N: Held> EmitAt for ObjectLit<N> {
+    ghost items = { λ n _. object_lit N.answers N.items n };
+
+    #[tactic(auto, unfolding(crate::specs::Props::object_lit))]
+    fn emit_at<W: WriteJs, S: SourceMapper, C: Comments>(
+        &self,
+        e: &mut Emitter<'_, W, S, C>,
+        place: Place,
+    ) -> Answer {
+        e.opened(self.span)?;
+        e.punct(Punctuator::LeftBrace)?;
+        e.object_list(self)?;
+        e.last_of(self.span)?;
+        e.punct(Punctuator::RightBrace)?;
+        Ok(())
+    }
+}
+
+impl<N: Held> EmitAt for Prop<N> {
+    ghost items = { λ n _. prop N.answers N.items n };
+
+    #[tactic(auto, unfolding(crate::specs::Props::prop))]
+    fn emit_at<W: WriteJs, S: SourceMapper, C: Comments>(
+        &self,
+        e: &mut Emitter<'_, W, S, C>,
+        place: Place,
+    ) -> Answer {
+        match self {
+            Prop::Shorthand(node) => node.emit_at(e, Place::Plain),
+            Prop::KeyValue(node) => node.emit_at(e, Place::Plain),
+            Prop::Assign(node) => node.emit_at(e, Place::Plain),
+            Prop::Getter(node) => node.emit_at(e, Place::Plain),
+            Prop::Setter(node) => node.emit_at(e, Place::Plain),
+            Prop::Method(node) => node.emit_at(e, Place::Plain),
+        }
+    }
+}
+
+impl<N: Held> EmitAt for KeyValueProp<N> {
+    ghost items = { λ n _. key_value_prop N.answers N.items n };
+
+    #[tactic(auto, unfolding(crate::specs::Props::key_value_prop))]
+    fn emit_at<W: WriteJs, S: SourceMapper, C: Comments>(
+        &self,
+        e: &mut Emitter<'_, W, S, C>,
+        place: Place,
+    ) -> Answer {
+        let name = self.key.held().place();
+        let value = self.value.held().place();
+        e.opened(name)?;
+        self.key.held().emit_at(e, Place::Plain)?;
+        e.key_end(name, value)?;
+        e.punct(Punctuator::Colon)?;
+        e.formatting_space()?;
+        e.value_start(name, value)?;
+        self.value.held().emit_at(e, Place::Plain)?;
+        Ok(())
+    }
+}
+
+impl<N: Held> EmitAt for AssignProp<N> {
+    ghost items = { λ n _. assign_prop N.items n };
+
+    #[tactic(auto, unfolding(crate::specs::Props::assign_prop))]
+    fn emit_at<W: WriteJs, S: SourceMapper, C: Comments>(
+        &self,
+        e: &mut Emitter<'_, W, S, C>,
+        place: Place,
+    ) -> Answer {
+        e.opened(self.key.span)?;
+        self.key.emit_at(e, Place::Plain)?;
+        e.punct(Punctuator::Equal)?;
+        self.value.held().emit_at(e, Place::Plain)?;
+        Ok(())
+    }
+}
+
+impl<N: Held> EmitAt for GetterProp<N> {
+    ghost items = { λ n _. getter_prop N.answers N.items n };
+
+    #[tactic(auto, unfolding(crate::specs::Props::getter_prop, crate::specs::Props::getter_parts))]
+    fn emit_at<W: WriteJs, S: SourceMapper, C: Comments>(
+        &self,
+        e: &mut Emitter<'_, W, S, C>,
+        place: Place,
+    ) -> Answer {
+        if self.type_ann.is_some() {
+            return e.unsupported();
+        }
+        e.opened(self.span)?;
+        e.accessor("get", &self.key)?;
+        e.punct(Punctuator::LeftParenthesis)?;
+        e.punct(Punctuator::RightParenthesis)?;
+        e.formatting_space()?;
+        e.optional_body(&self.body)?;
+        Ok(())
+    }
+}
+
+impl<N: Held> EmitAt for SetterProp<N> {
+    ghost items = { λ n _. setter_prop N.answers N.items n };
+
+    #[tactic(auto, unfolding(crate::specs::Props::setter_prop, crate::specs::Props::setter_parts))]
+    fn emit_at<W: WriteJs, S: SourceMapper, C: Comments>(
+        &self,
+        e: &mut Emitter<'_, W, S, C>,
+        place: Place,
+    ) -> Answer {
+        if self.this_param.is_some() {
+            return e.unsupported();
+        }
+        e.opened(self.span)?;
+        e.accessor("set", &self.key)?;
+        e.punct(Punctuator::LeftParenthesis)?;
+        self.param.held().emit_at(e, Place::Plain)?;
+        e.punct(Punctuator::RightParenthesis)?;
+        e.optional_body(&self.body)?;
+        Ok(())
+    }
+}
+
+impl<N: Held> EmitAt for MethodProp<N> {
+    ghost items = { λ n _. method_prop N.answers N.items n };
+
+    #[tactic(auto, unfolding(crate::specs::Props::method_prop))]
+    fn emit_at<W: WriteJs, S: SourceMapper, C: Comments>(
+        &self,
+        e: &mut Emitter<'_, W, S, C>,
+        place: Place,
+    ) -> Answer {
+        e.opened(self.key.held().place())?;
+        self.function.held().emit_at(e, Place::MethodHead)?;
+        self.key.held().emit_at(e, Place::Plain)?;
+        e.formatting_space()?;
+        self.function.held().emit_at(e, Place::Plain)?;
+        Ok(())
+    }
+}
+
+impl<N: Held> EmitAt for PropOrSpread<N> {
+    ghost items = { λ n _. prop_or_spread N.answers N.items n };
+
+    #[tactic(auto, unfolding(crate::specs::Props::prop_or_spread))]
+    fn emit_at<W: WriteJs, S: SourceMapper, C: Comments>(
+        &self,
+        e: &mut Emitter<'_, W, S, C>,
+        place: Place,
+    ) -> Answer {
+        match self {
+            PropOrSpread::Spread(node) => node.emit_at(e, Place::Plain),
+            PropOrSpread::Prop(node) => node.held().emit_at(e, Place::Plain),
+        }
+    }
+}
+
+impl<N: Held> Child for PropOrSpread<N> {
+    ghost stands = { prop_or_spread_span (place_of N.answers) };
+
+    #[tactic(auto, unfolding(swc_ecma_codegen_spans::specs::Spans::prop_or_spread_span, swc_ecma_codegen_spans::specs::Spans::spread_element_span))]
+    fn place(&self) -> Span {
+        match self {
+            PropOrSpread::Spread(node) => Span {
+                lo: node.dot3_token.lo,
+                hi: node.expr.held().place().hi,
+            },
+            PropOrSpread::Prop(node) => node.held().place(),
+        }
+    }
+}
+
+impl<W: WriteJs, S: SourceMapper, C: Comments> Emitter<'_, W, S, C> {
+    /// Records where a name ends, before a value that stands nowhere.
+    #[tactic(auto, unfolding(crate::specs::Props::key_end))]
+    fn key_end(&mut self, name: Span, value: Span) -> Answer
+        ensures items { Emits (key_end name value) (state_of S.lines W.sheet self.old) (state_of S.lines W.sheet self.new) result }
+        ensures level { OnOk result ((W.sheet self.new.wr).indentation ≡ (W.sheet self.old.wr).indentation) }
+    {
+        if name.lo.0 != 0 && value.lo.0 == 0 {
+            self.position(name.hi)?;
+        }
+        Ok(())
+    }
+
+    /// Records where a value begins, after a name that stands nowhere.
+    #[tactic(auto, unfolding(crate::specs::Props::value_start))]
+    fn value_start(&mut self, name: Span, value: Span) -> Answer
+        ensures items { Emits (value_start name value) (state_of S.lines W.sheet self.old) (state_of S.lines W.sheet self.new) result }
+        ensures level { OnOk result ((W.sheet self.new.wr).indentation ≡ (W.sheet self.old.wr).indentation) }
+    {
+        if name.lo.0 == 0 {
+            self.position(value.lo)?;
+        }
+        Ok(())
+    }
+
+    /// Writes `get` or `set` and a name.
+    #[tactic(auto, unfolding(crate::specs::Props::accessor))]
+    fn accessor<N: Held>(&mut self, word: &'static str, name: &PropNameBox<N>) -> Answer
+        requires { begins_letter word.now ≡ true }
+        ensures items { Emits (accessor N.answers N.items word.now name.now.node.value) (state_of S.lines W.sheet self.old) (state_of S.lines W.sheet self.new) result }
+        ensures level { OnOk result ((W.sheet self.new.wr).indentation ≡ (W.sheet self.old.wr).indentation) }
+    {
+        self.keyword(None, word)?;
+        self.blank(name.held().starts())?;
+        name.held().emit_at(self, Place::Plain)?;
+        self.formatting_space()?;
+        Ok(())
+    }
+
+    /// Writes a body, where there is one.
+    #[tactic(auto, unfolding(crate::specs::Props::optional_body))]
+    fn optional_body<N: Held>(&mut self, body: &Option<BlockStmtBox<N>>) -> Answer
+        ensures items { Emits (optional_body N.items body.now) (state_of S.lines W.sheet self.old) (state_of S.lines W.sheet self.new) result }
+        ensures level { OnOk result ((W.sheet self.new.wr).indentation ≡ (W.sheet self.old.wr).indentation) }
+    {
+        match body {
+            Some(body) => body.held().emit_at(self, Place::Plain),
+            None => Ok(()),
+        }
+    }
+
+    /// Writes the properties on one line.
+    fn flat_object_props<N: Held>(&mut self, node: &ObjectLit<N>) -> Answer
+        ensures items { Emits (list flat_object_format node.now.span (object_children N.answers N.items node.now)) (state_of S.lines W.sheet self.old) (state_of S.lines W.sheet self.new) result }
+        ensures level { OnOk result ((W.sheet self.new.wr).indentation ≡ (W.sheet self.old.wr).indentation) }
+    {
+        self.list(flat_object_format(), node.span, &node.props)
+    }
+
+    /// Writes the properties, each on a line of its own.
+    fn object_props<N: Held>(&mut self, node: &ObjectLit<N>) -> Answer
+        ensures items { Emits (list object_format node.now.span (object_children N.answers N.items node.now)) (state_of S.lines W.sheet self.old) (state_of S.lines W.sheet self.new) result }
+        ensures level { OnOk result ((W.sheet self.new.wr).indentation ≡ (W.sheet self.old.wr).indentation) }
+    {
+        self.list(object_format(), node.span, &node.props)
+    }
+
+    /// Writes the properties and the ends of their lines.
+    #[tactic(auto, unfolding(crate::specs::Props::lined_object_list))]
+    fn lined_object_list<N: Held>(&mut self, node: &ObjectLit<N>) -> Answer
+        ensures items { Emits (lined_object_list node.now.span (object_children N.answers N.items node.now)) (state_of S.lines W.sheet self.old) (state_of S.lines W.sheet self.new) result }
+        ensures level { OnOk result ((W.sheet self.new.wr).indentation ≡ (W.sheet self.old.wr).indentation) }
+    {
+        self.line()?;
+        self.object_props(node)?;
+        self.line()?;
+        Ok(())
+    }
+
+    /// Writes the properties, each on a line of its own where there are some.
+    #[tactic(auto, unfolding(crate::specs::Props::object_lines))]
+    fn object_lines<N: Held>(&mut self, some: bool, node: &ObjectLit<N>) -> Answer
+        ensures items { Emits (object_lines some node.now.span (object_children N.answers N.items node.now)) (state_of S.lines W.sheet self.old) (state_of S.lines W.sheet self.new) result }
+        ensures level { OnOk result ((W.sheet self.new.wr).indentation ≡ (W.sheet self.old.wr).indentation) }
+    {
+        if some {
+            self.lined_object_list(node)?;
+        } else {
+            self.flat_object_props(node)?;
+        }
+        Ok(())
+    }
+
+    /// Writes the properties, where the settings aren't to minify.
+    fn pretty_object_list<N: Held>(&mut self, node: &ObjectLit<N>) -> Answer
+        ensures items { Emits (object_lines (is_some_listed node.now.props.items) node.now.span (object_children N.answers N.items node.now)) (state_of S.lines W.sheet self.old) (state_of S.lines W.sheet self.new) result }
+        ensures level { OnOk result ((W.sheet self.new.wr).indentation ≡ (W.sheet self.old.wr).indentation) }
+    {
+        let some = is_some_listed(&node.props);
+        self.object_lines(some, node)
+    }
+
+    /// Writes the properties; on one line where the settings are to minify.
+    #[tactic(auto, using(crate::proofs::Asked::minified_part, crate::proofs::Asked::pretty_part), unfolding(crate::specs::Props::object_list))]
+    fn object_list<N: Held>(&mut self, node: &ObjectLit<N>) -> Answer
+        ensures items { Emits (object_list (is_some_listed node.now.props.items) node.now.span (object_children N.answers N.items node.now)) (state_of S.lines W.sheet self.old) (state_of S.lines W.sheet self.new) result }
+        ensures level { OnOk result ((W.sheet self.new.wr).indentation ≡ (W.sheet self.old.wr).indentation) }
+    {
+        if self.cfg.minify {
+            return self.flat_object_props(node);
+        }
+        self.pretty_object_list(node)
+    }
+}

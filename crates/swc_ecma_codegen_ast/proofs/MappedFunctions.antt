@@ -1,0 +1,86 @@
+-- The productions of functions and blocks see what links hold through f alone.
+use Rattle.std.proofs.Common.{◌≡◌, refl, ◌∙◌, ap, List, [], ◌∷◌, map, codes, Bool, cond, Option, Some, None, Box, Global}
+use Rattle.swc_ecma_codegen_tree.specs.declared.links.AnyNode.{map-AnyNode}
+use Rattle.swc_ecma_codegen_tree.specs.declared.links.AnyNode.TheOpen as nodes
+use Rattle.swc_ecma_codegen_tree.specs.declared.expr_links.PatBox.{PatBox}
+use Rattle.swc_ecma_codegen_tree.specs.declared.stmt_links.BlockStmtBox.{BlockStmtBox}
+use Rattle.swc_ecma_codegen_tree.specs.declared.stmt_links.StmtBox.{StmtBox}
+use Rattle.swc_ecma_codegen_tree.specs.declared.ts_links.TsTypeAnnBox.{TsTypeAnnBox}
+use Rattle.swc_ecma_codegen_tree.specs.declared.ts_links.TsTypeParamDeclBox.{TsTypeParamDeclBox}
+use Rattle.swc_ecma_codegen_tree.specs.declared.parts.StmtPart.TheVariants as stmt_parts
+use Rattle.swc_ecma_codegen_tree.specs.declared.decls.Decorator.{Decorator}
+use Rattle.swc_ecma_codegen_tree.specs.declared.decls.Param.{Param}
+use Rattle.swc_ecma_codegen_tree.specs.declared.decls.Function as functions
+use Rattle.swc_ecma_codegen_tree.specs.declared.exprs.ArrowExpr.{ArrowExpr}
+use Rattle.swc_ecma_codegen_tree.specs.declared.exprs.BlockStmtOrExpr.{BlockStmtOrExpr}
+use Rattle.swc_ecma_codegen_tree.specs.declared.exprs.BlockStmtOrExpr.TheVariants as bodies
+use Rattle.swc_ecma_codegen_tree.specs.declared.exprs.Expr.TheVariants as exprs
+use Rattle.swc_ecma_codegen_tree.specs.declared.stmts.BlockStmt.{BlockStmt}
+use Rattle.swc_ecma_codegen_ast.specs.Phrases.{Phrase, Never, ◌>◌, mark, word, listed, in_order}
+use Rattle.swc_ecma_codegen_ast.specs.declared.roles.Role.{Role}
+use Rattle.swc_ecma_codegen_ast.specs.declared.roles.Role.TheVariants.{Expression, Function, Block}
+use Rattle.swc_ecma_codegen_ast.specs.PatPhrases.{pat_at}
+use Rattle.swc_ecma_codegen_ast.specs.FunctionPhrases.{word_if, is_some_listed, decorator, param, function_body, function, only_parameter, arrow_parameters, arrow_body, arrow_expr}
+use Rattle.swc_ecma_codegen_ast.specs.ExprPhrases.{expr}
+use Rattle.swc_ecma_codegen_ast.specs.StmtPhrases.{stmt_at, block_stmt}
+use Rattle.swc_ecma_codegen_ast.specs.PartPhrases.{stmt_part}
+use Rattle.swc_ecma_codegen_ast.specs.TreePhrases.{node_phrase}
+use Rattle.swc_ecma_codegen_ast.proofs.Mapped.{list_mapped}
+
+-- ---- functions
+
+pub some_mapped : {A B : Type 0} (g : A → B) (xs : List A) → is_some_listed (map g xs) ≡ is_some_listed xs
+unfolding is_some_listed
+some_mapped g [] = refl
+some_mapped g (x ∷ xs) = refl
+
+param_mapped : {X Y : Type 0} (g : Param X → Param Y) (h : Decorator X → Decorator Y) (f : Y → Role → Phrase) (d : X → Role → Phrase) → ((n : Param X) → (g n).decorators.items ≡ map h n.decorators.items) → ((n : Param X) → pat_at f (g n).pat ≡ pat_at d n.pat) → ((n : Decorator X) → decorator f (h n) ≡ decorator d n) → (n : Param X) → param f (g n) ≡ param d n
+unfolding param
+param_mapped g h f d items pat same n =
+    ap (λ ds. in_order (map (decorator f) ds) > pat_at f (g n).pat) (items n)
+    ∙ ap (λ ps. in_order ps > pat_at f (g n).pat) (list_mapped h (decorator f) (decorator d) same n.decorators.items)
+    ∙ ap (λ p. in_order (map (decorator d) n.decorators.items) > p) (pat n)
+
+abbrev undecorated : Bool → List Phrase → Phrase → Phrase
+undecorated decorated ps body = cond decorated Never (mark (codes "(") > listed (codes ",") ps > mark (codes ")") > body)
+
+undecorated_same : (b c : Bool) (ps qs : List Phrase) (body : Phrase) → b ≡ c → ps ≡ qs → undecorated b ps body ≡ undecorated c qs body
+undecorated_same b c ps qs body e k = ap (λ z. undecorated z ps body) e ∙ ap (λ z. undecorated c z body) k
+
+abbrev with_parts : {X : Type 0} → functions.Function X → Option (BlockStmtBox X) → Option (TsTypeParamDeclBox X) → Option (TsTypeAnnBox X) → functions.Function X
+with_parts n body type_params return_type = record n { body = body; type_params = type_params; return_type = return_type }
+
+function_mapped : {X Y : Type 0} (g : X → Y) (f : Y → Role → Phrase) (b : Box (functions.Function X) Global) (n : functions.Function X) (body : Option (BlockStmtBox X)) (type_params : Option (TsTypeParamDeclBox X)) (return_type : Option (TsTypeAnnBox X)) → node_phrase f (map-AnyNode X Y g (nodes.StmtPart (stmt_parts.Function (record b { value = with_parts n body type_params return_type })))) Function ≡ function (λ x. f (g x)) (with_parts n body type_params return_type)
+unfolding node_phrase stmt_part function function_body decorator
+function_mapped {X} {Y} g f b n None None None = undecorated_same _ _ _ _ _ (some_mapped _ n.decorators.items) (list_mapped _ (param f) (param (λ x. f (g x))) (param_mapped {X = X} {Y = Y} _ _ f (λ x. f (g x)) (λ x. refl) (λ x. refl) (λ x. refl)) n.params.items)
+function_mapped {X} {Y} g f b n (Some body) None None = undecorated_same _ _ _ _ _ (some_mapped _ n.decorators.items) (list_mapped _ (param f) (param (λ x. f (g x))) (param_mapped {X = X} {Y = Y} _ _ f (λ x. f (g x)) (λ x. refl) (λ x. refl) (λ x. refl)) n.params.items)
+function_mapped g f b n None None (Some t) = refl
+function_mapped g f b n (Some body) None (Some t) = refl
+function_mapped g f b n None (Some p) t = refl
+function_mapped g f b n (Some body) (Some p) t = refl
+
+pub function_part_mapped : {X Y : Type 0} (g : X → Y) (f : Y → Role → Phrase) (b : Box (functions.Function X) Global) → node_phrase f (map-AnyNode X Y g (nodes.StmtPart (stmt_parts.Function b))) Function ≡ function (λ x. f (g x)) b.value
+function_part_mapped g f b = function_mapped g f b b.value b.value.body b.value.type_params b.value.return_type
+
+pub block_mapped : {X Y : Type 0} (g : X → Y) (f : Y → Role → Phrase) (n : BlockStmt X) → node_phrase f (map-AnyNode X Y g (nodes.StmtPart (stmt_parts.BlockStmt n))) Block ≡ block_stmt (λ x. f (g x)) n
+unfolding node_phrase stmt_part block_stmt
+block_mapped {X} g f n = ap (λ ps. mark (codes "{") > in_order ps > mark (codes "}")) (list_mapped {A = StmtBox X} _ (stmt_at f) (stmt_at (λ x. f (g x))) (λ x. refl) n.stmts.items)
+
+-- ---- arrow functions
+
+parameters_mapped : {X Y : Type 0} (g : PatBox X → PatBox Y) (f : Y → Role → Phrase) (d : X → Role → Phrase) → ((n : PatBox X) → pat_at f (g n) ≡ pat_at d n) → ((n : PatBox X) → only_parameter f (g n) ≡ only_parameter d n) → (ns : List (PatBox X)) → arrow_parameters f (map g ns) ≡ arrow_parameters d ns
+unfolding arrow_parameters
+parameters_mapped g f d same only [] = refl
+parameters_mapped g f d same only (n ∷ []) = only n
+parameters_mapped g f d same only (n ∷ m ∷ ns) = ap (λ ps. mark (codes "(") > listed (codes ",") ps > mark (codes ")")) (list_mapped g (pat_at f) (pat_at d) same (n ∷ m ∷ ns))
+
+arrow_mapped : {X Y : Type 0} (g : X → Y) (f : Y → Role → Phrase) (n : ArrowExpr X) (body : BlockStmtOrExpr X) (type_params : Option (TsTypeParamDeclBox X)) (return_type : Option (TsTypeAnnBox X)) → node_phrase f (map-AnyNode X Y g (nodes.Expr (exprs.Arrow (record n { body = body; type_params = type_params; return_type = return_type })))) Expression ≡ arrow_expr (λ x. f (g x)) (record n { body = body; type_params = type_params; return_type = return_type })
+unfolding node_phrase expr arrow_expr arrow_body only_parameter
+arrow_mapped {X} {Y} g f n (bodies.BlockStmt b) None None = ap (λ p. word_if n.is_async (word (codes "async")) > word_if n.is_generator (mark (codes "*")) > p > mark (codes "=>") > f (g b.node.value) Block) (parameters_mapped {X = X} {Y = Y} _ f (λ x. f (g x)) (λ x. refl) (λ x. refl) n.params.items)
+arrow_mapped {X} {Y} g f n (bodies.Expr b) None None = ap (λ p. word_if n.is_async (word (codes "async")) > word_if n.is_generator (mark (codes "*")) > p > mark (codes "=>") > f (g b.node.value) Expression) (parameters_mapped {X = X} {Y = Y} _ f (λ x. f (g x)) (λ x. refl) (λ x. refl) n.params.items)
+arrow_mapped g f n body None (Some t) = refl
+arrow_mapped g f n body (Some p) None = refl
+arrow_mapped g f n body (Some p) (Some t) = refl
+
+pub arrow_expr_mapped : {X Y : Type 0} (g : X → Y) (f : Y → Role → Phrase) (n : ArrowExpr X) → node_phrase f (map-AnyNode X Y g (nodes.Expr (exprs.Arrow n))) Expression ≡ arrow_expr (λ x. f (g x)) n
+arrow_expr_mapped g f n = arrow_mapped g f n n.body n.type_params n.return_type

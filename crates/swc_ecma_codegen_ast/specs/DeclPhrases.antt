@@ -1,0 +1,55 @@
+-- Declarations: one production a node. `f` says what is read of what a link holds, in its role. Classes, and what TypeScript adds,
+-- `declare` and `!` after a name, aren't printed yet.
+use Rattle.std.specs.Prelude.{if◌then◌else◌, map, codes}
+use Rattle.swc_ecma_codegen_tree.specs.declared.stmt_links.DeclBox.{DeclBox}
+use Rattle.swc_ecma_codegen_tree.specs.declared.stmt_links.VarDeclBox.{VarDeclBox}
+use Rattle.swc_ecma_codegen_tree.specs.declared.decls.Decl.{Decl}
+use Rattle.swc_ecma_codegen_tree.specs.declared.decls.Decl.TheVariants as decls
+use Rattle.swc_ecma_codegen_tree.specs.declared.decls.FnDecl.{FnDecl}
+use Rattle.swc_ecma_codegen_tree.specs.declared.decls.UsingDecl.{UsingDecl}
+use Rattle.swc_ecma_codegen_tree.specs.declared.decls.VarDecl.{VarDecl}
+use Rattle.swc_ecma_codegen_tree.specs.declared.decls.VarDeclKind.{VarDeclKind}
+use Rattle.swc_ecma_codegen_tree.specs.declared.decls.VarDeclKind.TheVariants.{Var, Let, Const}
+use Rattle.swc_ecma_codegen_tree.specs.declared.decls.VarDeclarator.{VarDeclarator}
+use Rattle.swc_ecma_codegen_ast.specs.Phrases.{Phrase, Never, ◌>◌, word, ending, some_listed}
+use Rattle.swc_ecma_codegen_ast.specs.NamePhrases.{ident}
+use Rattle.swc_ecma_codegen_ast.specs.PatPhrases.{pat_at, initializer}
+use Rattle.swc_ecma_codegen_ast.specs.FunctionPhrases.{word_if, function_at}
+use Rattle.swc_ecma_codegen_ast.specs.declared.roles.Role.{Role}
+use Rattle.swc_ecma_codegen_ast.specs.declared.roles.Role.TheVariants.{FunctionHead, Declaration, VariableDeclaration}
+
+-- a declaration, and one of variables, that a link holds
+abbrev pub decl_at : {X : Type 0} → (X → Role → Phrase) → DeclBox X → Phrase
+decl_at f n = f n.node.value Declaration
+
+abbrev pub var_decl_at : {X : Type 0} → (X → Role → Phrase) → VarDeclBox X → Phrase
+var_decl_at f n = f n.node.value VariableDeclaration
+
+-- ECMA-262, section 15.2: `function f(a) { b; }`
+unfoldable pub fn_decl : {X : Type 0} → (X → Role → Phrase) → FnDecl X → Phrase
+fn_decl f n = if n.declare then Never else (f n.function.node.value FunctionHead > ident n.ident > function_at f n.function)
+
+-- section 14.3: `a`, `a = b`
+unfoldable pub var_declarator : {X : Type 0} → (X → Role → Phrase) → VarDeclarator X → Phrase
+var_declarator f n = if n.definite then Never else (pat_at f n.name > initializer f n.init)
+
+unfoldable pub var_kind : VarDeclKind → Phrase
+var_kind Var = word (codes "var")
+var_kind Let = word (codes "let")
+var_kind Const = word (codes "const")
+
+-- `let a = b, c`: of one declarator at least
+unfoldable pub var_decl : {X : Type 0} → (X → Role → Phrase) → VarDecl X → Phrase
+var_decl f n = if n.declare then Never else (var_kind n.kind > some_listed (codes ",") (map (var_declarator f) n.decls.items))
+
+-- a proposal: `await using a = b, c = d`, of one declarator at least
+unfoldable pub using_decl : {X : Type 0} → (X → Role → Phrase) → UsingDecl X → Phrase
+using_decl f n = word_if n.is_await (word (codes "await")) > word (codes "using") > some_listed (codes ",") (map (var_declarator f) n.decls.items)
+
+-- one of variables ends with a semicolon here, and has none in the head of a `for`
+unfoldable pub decl : {X : Type 0} → (X → Role → Phrase) → Decl X → Phrase
+decl f (decls.Fn n) = fn_decl f n
+decl f (decls.Var n) = var_decl_at f n > ending
+decl f (decls.Using n) = using_decl f n > ending
+-- what isn't printed yet
+decl f n = Never
