@@ -15,8 +15,8 @@ use Rattle.swc_ecma_codegen_ast.specs.FunctionPhrases.{word_if}
 use Rattle.swc_ecma_codegen_ast.specs.DeclPhrases as lists
 use Rattle.swc_ecma_codegen_base.specs.Run.{Env}
 use Rattle.swc_ecma_codegen_base.proofs.ListLaws.{prints_list}
-use Rattle.swc_ecma_codegen_base.proofs.Phrased.{Prints, then, after, before, prints_nothing, prints_never, prints_keyword, prints_semi}
-use Rattle.swc_ecma_codegen_base.proofs.Printed.{Writes, writes_nothing, writes_space, writes_commit, writes_position, writes_leading}
+use Rattle.swc_ecma_codegen_base.proofs.Phrased.{Prints, then, after, before, prints_nothing, prints_never, prints_keyword, prints_semi, PrintsAt, prints_wider, loosened}
+use Rattle.swc_ecma_codegen_base.proofs.Printed.{writes_nothing, writes_space, writes_commit, writes_position, writes_leading, Fills}
 use Rattle.swc_ecma_codegen.specs.declared.nodes.Place.{Place}
 use Rattle.swc_ecma_codegen.specs.declared.nodes.Place.TheVariants.{Plain, DeclarationHead, Statement}
 use Rattle.swc_ecma_codegen.specs.Decls as words
@@ -26,6 +26,7 @@ use Rattle.swc_ecma_codegen.proofs.Impossible.{refused_or}
 use Rattle.swc_ecma_codegen.proofs.Linked.{Linked, pat_at, var_decl_at}
 use Rattle.swc_ecma_codegen.proofs.MarkWords as marks
 use Rattle.swc_ecma_codegen.proofs.PatParts.{initializer_prints}
+use Rattle.swc_ecma_codegen_base.proofs.Shapes.{open_, loose, ended}
 
 fn_decl_prints : {X : Type 0} (l : Linked X) (n : FnDecl X) → Prints l.env (words.fn_decl l.asks l.items n) (lists.fn_decl l.reads n)
 unfolding words.fn_decl words.fn_decl_parts lists.fn_decl
@@ -42,10 +43,10 @@ declarator_prints : {X : Type 0} (l : Linked X) (n : VarDeclarator X) → Prints
 unfolding words.var_declarator words.var_declarator_parts lists.var_declarator
 declarator_prints l n = refused_or n.definite (after (writes_opened l.env n.span) (then (pat_at l n.name) (initializer_prints l n.init)))
 
-declarators_print : {X : Type 0} (l : Linked X) (span : Span) (ns : List (VarDeclarator X)) → Prints l.env (words.declarators l.items span ns) (phrases.some_listed (codes ",") (map (lists.var_declarator l.reads) ns))
+declarators_print : {X : Type 0} (l : Linked X) (span : Span) (ns : List (VarDeclarator X)) → PrintsAt loose l.env (words.declarators l.items span ns) (phrases.some_listed (codes ",") (map (lists.var_declarator l.reads) ns))
 unfolding phrases.listed phrases.some_listed
 declarators_print l span [] = prints_never
-declarators_print l span (n ∷ ns) = prints_list l.env declarators_format span declarator_place (words.var_declarator l.items) (lists.var_declarator l.reads) (declarator_prints l) refl refl refl refl (n ∷ ns)
+declarators_print l span (n ∷ ns) = prints_list l.env declarators_format span declarator_place (words.var_declarator l.items) (lists.var_declarator l.reads) (λ n. loosened (declarator_prints l n)) refl refl refl refl (n ∷ ns)
 
 kind_prints : (env : Env) (kind : VarDeclKind) → Prints env (words.var_kind kind) (lists.var_kind kind)
 unfolding words.var_kind lists.var_kind
@@ -53,7 +54,7 @@ kind_prints env Var = prints_keyword env None (codes "var") marks.var_word
 kind_prints env Let = prints_keyword env None (codes "let") marks.let_word
 kind_prints env Const = prints_keyword env None (codes "const") marks.const_word
 
-pub var_decl_prints : {X : Type 0} (l : Linked X) (n : VarDecl X) → Prints l.env (words.var_decl l.asks l.items n) (lists.var_decl l.reads n)
+pub var_decl_prints : {X : Type 0} (l : Linked X) (n : VarDecl X) → PrintsAt ended l.env (words.var_decl l.asks l.items n) (lists.var_decl l.reads n)
 unfolding words.var_decl words.var_decl_parts lists.var_decl
 var_decl_prints l n = refused_or n.declare
     (after (writes_leading l.env n.span.lo)
@@ -62,12 +63,12 @@ var_decl_prints l n = refused_or n.declare
     (then (kind_prints l.env n.kind)
     (after (writes_blank l.env (words.first_is_unmarked l.asks n.decls.items)) (declarators_print l n.span n.decls.items))))))
 
-await_prints : (env : Env) (wanted : Bool) → Prints env (words.await_word wanted) (word_if wanted (phrases.word (codes "await")))
+await_prints : (env : Env) (wanted : Bool) → PrintsAt open_ env (words.await_word wanted) (word_if wanted (phrases.word (codes "await")))
 unfolding words.await_word word_if
-await_prints env true = before (prints_keyword env None (codes "await") marks.await_word) (writes_space env)
+await_prints env true = prints_wider open_ refl (before (prints_keyword env None (codes "await") marks.await_word) (writes_space env))
 await_prints env false = prints_nothing
 
-pub using_decl_prints : {X : Type 0} (l : Linked X) (n : UsingDecl X) → Prints l.env (words.using_decl l.items n) (lists.using_decl l.reads n)
+pub using_decl_prints : {X : Type 0} (l : Linked X) (n : UsingDecl X) → PrintsAt ended l.env (words.using_decl l.items n) (lists.using_decl l.reads n)
 unfolding words.using_decl lists.using_decl
 using_decl_prints l n =
     after (writes_leading l.env n.span.lo)
@@ -77,7 +78,7 @@ using_decl_prints l n =
 
 -- ---- all of them
 
-writes_decl_end : (env : Env) (place : Place) (span : Span) → Writes env (words.decl_end place span) []
+writes_decl_end : (env : Env) (place : Place) (span : Span) → Fills env (words.decl_end place span)
 unfolding words.decl_end
 writes_decl_end env Statement span = writes_nothing env
 writes_decl_end env place span = writes_position env span.hi

@@ -186,9 +186,9 @@ begins_unary unary.TypeOf = begins_true _
 begins_unary unary.Void = begins_true _
 begins_unary unary.Delete = begins_true _
 
-begins_update : (prefix : Bool) (op : List ℕ) (f : Phrase) (b : Bool) → Begins f b → Begins (cond prefix (mark op > f) (f > mark op)) (cond prefix false b)
+begins_update : (prefix : Bool) (op : List ℕ) (f : Phrase) (b : Bool) → Begins f b → Begins (cond prefix (mark op > f) (f > phrases.same_line > mark op)) (cond prefix false b)
 begins_update true op f b h = begins_then (mark op) f false (begins_mark op false)
-begins_update false op f b h = begins_then f (mark op) b h
+begins_update false op f b h = begins_then f (phrases.same_line > mark op) b h
 
 -- In these roles something begins that is asked how it begins. A property is never asked, and what stands before the name of a method
 -- may be nothing.
@@ -257,10 +257,10 @@ begins_parentheses f b h = record {
   ];
 }
 
-function_head_begins : {X : Type 0} (n : functions.Function X) (is_async : Bool) (rest : Phrase) → Begins (function_lists.word_if is_async (phrases.word (codes "async")) > phrases.word (codes "function") > rest) true
-unfolding function_lists.word_if
+function_head_begins : {X : Type 0} (n : functions.Function X) (is_async : Bool) (rest : Phrase) → Begins (function_lists.after_async is_async (phrases.word (codes "function") > rest)) true
+unfolding function_lists.after_async
 function_head_begins n true rest = begins_then _ _ _ (begins_true _)
-function_head_begins n false rest = begins_behind _ _ (begins_then _ _ _ (begins_true _))
+function_head_begins n false rest = begins_then _ _ _ (begins_true _)
 
 function_begins : (typed : Bool) (rest : Phrase) → Begins (cond typed Never (mark (codes "(") > rest)) false
 function_begins true rest = begins_never false
@@ -280,12 +280,12 @@ params_begin reads starts law [] rest = begins_then _ _ _ (begins_then _ _ _ (be
 params_begin reads starts law (n ∷ []) rest = begins_then _ _ _ (only_begins reads starts law n)
 params_begin reads starts law (n ∷ m ∷ ns) rest = begins_then _ _ _ (begins_then _ _ _ (begins_mark _ _))
 
-arrow_begins : {X : Type 0} (reads : X → Role → Phrase) (starts : X → Bool) → Begin reads starts → (typed is_async is_generator : Bool) (ns : List (PatBox X)) (rest : Phrase) → Begins (cond typed Never (function_lists.word_if is_async (phrases.word (codes "async")) > function_lists.word_if is_generator (mark (codes "*")) > function_lists.arrow_parameters reads ns > rest)) (cond is_async true (only_starts starts ns))
-unfolding function_lists.word_if
+arrow_begins : {X : Type 0} (reads : X → Role → Phrase) (starts : X → Bool) → Begin reads starts → (typed is_async is_generator : Bool) (ns : List (PatBox X)) (rest : Phrase) → Begins (cond typed Never (function_lists.after_async is_async (function_lists.word_if is_generator (mark (codes "*")) > function_lists.arrow_parameters reads ns > rest))) (cond is_async true (only_starts starts ns))
+unfolding function_lists.word_if function_lists.after_async
 arrow_begins reads starts law true is_async is_generator ns rest = begins_never _
 arrow_begins reads starts law false true is_generator ns rest = begins_then _ _ _ (begins_true _)
-arrow_begins reads starts law false false true ns rest = begins_behind _ _ (begins_then _ _ _ (begins_mark _ _))
-arrow_begins reads starts law false false false ns rest = begins_behind _ _ (begins_behind _ _ (params_begin reads starts law ns rest))
+arrow_begins reads starts law false false true ns rest = begins_then _ _ _ (begins_mark _ _)
+arrow_begins reads starts law false false false ns rest = begins_behind _ _ (params_begin reads starts law ns rest)
 
 expr_begins : {X : Type 0} (reads : X → Role → Phrase) (starts : X → Bool) → Begin reads starts → (n : Expr X) → Begins (lists.expr reads n) (expr_starts starts n)
 unfolding expr_starts update_starts arrow_starts function_lists.fn_expr function_lists.arrow_expr lists.expr lists.this_expr lists.unary_expr lists.update_expr lists.update_op lists.bin_expr lists.assign_expr lists.super_prop_expr lists.yield_expr lists.meta_prop_expr lists.await_expr lists.opt_chain_expr lists.cond_expr lists.seq_expr lists.paren_expr names.ident call_lists.array_lit call_lists.call_expr leads begins_as

@@ -3,14 +3,13 @@ use Rattle.std.proofs.Common.{◌≡◌, ◌⊎◌, Bool, true, false, ◌&&◌,
 use Rattle.std.specs.List.{list_all, list_any}
 use Rattle.std.specs.Prelude.{ℕ, not, nat_lt, Some, codes}
 use Rattle.swc_ecma_codegen_common.specs.declared.versions.EsVersion.{EsVersion}
-use Rattle.swc_ecma_codegen_ast.specs.declared.kinds.Kind.{Kind}
 use Rattle.swc_ecma_codegen_ast.specs.declared.kinds.Kind.TheVariants.{Str, Punctuator, Ending}
 use Rattle.swc_ecma_codegen_ast.specs.CodeUnits.{all_utf16}
 use Rattle.swc_ecma_codegen_ast.specs.Endings.{IsReduced}
 use Rattle.swc_ecma_codegen_ast.specs.Keys.{wants_quotes, is_quoted, key_token}
 use Rattle.swc_ecma_codegen_ast.specs.Layouts.{AreAlike, PutsIn, no_more, token, with_semicolon, with_comma, with_parentheses, AreSameBut, IsWritten}
 use Rattle.swc_ecma_codegen_ast.specs.Names.{name_value}
-use Rattle.swc_ecma_codegen_ast.specs.Phrases.{Phrase, Never, Nothing, One, NameOf, KeyOf, Then, OptionalComma, OptionalParentheses, Chosen, EmptyArguments, LoopEnding, Generates, chosen, comma, open_parenthesis, close_parenthesis, in_parentheses}
+use Rattle.swc_ecma_codegen_ast.specs.Phrases.{Phrase, Never, Nothing, One, NameOf, KeyOf, Then, OptionalComma, OptionalParentheses, Chosen, EmptyArguments, LoopEnding, Generates, chosen, open_parenthesis, close_parenthesis, in_parentheses}
 use Rattle.swc_ecma_codegen_ast.specs.Settings.{Settings, is_up_to_es5}
 use Rattle.swc_ecma_codegen_ast.specs.SpelledNames.{spelled_name}
 use Rattle.swc_ecma_codegen_ast.specs.Tokens.{Token, Units, ending}

@@ -16,11 +16,11 @@ use Rattle.swc_ecma_codegen_tree.specs.declared.exprs.BlockStmtOrExpr.{BlockStmt
 use Rattle.swc_ecma_codegen_tree.specs.declared.exprs.BlockStmtOrExpr.TheVariants as bodies
 use Rattle.swc_ecma_codegen_tree.specs.declared.exprs.Expr.TheVariants as exprs
 use Rattle.swc_ecma_codegen_tree.specs.declared.stmts.BlockStmt.{BlockStmt}
-use Rattle.swc_ecma_codegen_ast.specs.Phrases.{Phrase, Never, ◌>◌, mark, word, listed, in_order}
+use Rattle.swc_ecma_codegen_ast.specs.Phrases.{Phrase, Never, ◌>◌, mark, listed, in_order, same_line}
 use Rattle.swc_ecma_codegen_ast.specs.declared.roles.Role.{Role}
 use Rattle.swc_ecma_codegen_ast.specs.declared.roles.Role.TheVariants.{Expression, Function, Block}
 use Rattle.swc_ecma_codegen_ast.specs.PatPhrases.{pat_at}
-use Rattle.swc_ecma_codegen_ast.specs.FunctionPhrases.{word_if, is_some_listed, decorator, param, function_body, function, only_parameter, arrow_parameters, arrow_body, arrow_expr}
+use Rattle.swc_ecma_codegen_ast.specs.FunctionPhrases.{word_if, is_some_listed, decorator, param, function_body, function, only_parameter, arrow_parameters, arrow_body, arrow_expr, after_async}
 use Rattle.swc_ecma_codegen_ast.specs.ExprPhrases.{expr}
 use Rattle.swc_ecma_codegen_ast.specs.StmtPhrases.{stmt_at, block_stmt}
 use Rattle.swc_ecma_codegen_ast.specs.PartPhrases.{stmt_part}
@@ -76,8 +76,8 @@ parameters_mapped g f d same only (n ∷ m ∷ ns) = ap (λ ps. mark (codes "(")
 
 arrow_mapped : {X Y : Type 0} (g : X → Y) (f : Y → Role → Phrase) (n : ArrowExpr X) (body : BlockStmtOrExpr X) (type_params : Option (TsTypeParamDeclBox X)) (return_type : Option (TsTypeAnnBox X)) → node_phrase f (map-AnyNode X Y g (nodes.Expr (exprs.Arrow (record n { body = body; type_params = type_params; return_type = return_type })))) Expression ≡ arrow_expr (λ x. f (g x)) (record n { body = body; type_params = type_params; return_type = return_type })
 unfolding node_phrase expr arrow_expr arrow_body only_parameter
-arrow_mapped {X} {Y} g f n (bodies.BlockStmt b) None None = ap (λ p. word_if n.is_async (word (codes "async")) > word_if n.is_generator (mark (codes "*")) > p > mark (codes "=>") > f (g b.node.value) Block) (parameters_mapped {X = X} {Y = Y} _ f (λ x. f (g x)) (λ x. refl) (λ x. refl) n.params.items)
-arrow_mapped {X} {Y} g f n (bodies.Expr b) None None = ap (λ p. word_if n.is_async (word (codes "async")) > word_if n.is_generator (mark (codes "*")) > p > mark (codes "=>") > f (g b.node.value) Expression) (parameters_mapped {X = X} {Y = Y} _ f (λ x. f (g x)) (λ x. refl) (λ x. refl) n.params.items)
+arrow_mapped {X} {Y} g f n (bodies.BlockStmt b) None None = ap (λ p. after_async n.is_async (word_if n.is_generator (mark (codes "*")) > p > same_line > mark (codes "=>") > f (g b.node.value) Block)) (parameters_mapped {X = X} {Y = Y} _ f (λ x. f (g x)) (λ x. refl) (λ x. refl) n.params.items)
+arrow_mapped {X} {Y} g f n (bodies.Expr b) None None = ap (λ p. after_async n.is_async (word_if n.is_generator (mark (codes "*")) > p > same_line > mark (codes "=>") > f (g b.node.value) Expression)) (parameters_mapped {X = X} {Y = Y} _ f (λ x. f (g x)) (λ x. refl) (λ x. refl) n.params.items)
 arrow_mapped g f n body None (Some t) = refl
 arrow_mapped g f n body (Some p) None = refl
 arrow_mapped g f n body (Some p) (Some t) = refl

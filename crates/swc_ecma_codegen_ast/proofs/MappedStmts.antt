@@ -1,5 +1,5 @@
 -- The productions of statements and declarations see what links hold through f alone.
-use Rattle.std.proofs.Common.{◌≡◌, refl, ◌∙◌, ap, List, map, codes, Bool, true, false, Option, Some, None, Box, Vec, Global}
+use Rattle.std.proofs.Common.{◌≡◌, refl, ap, List, map, codes, Bool, true, false, Option, Some, None, Box, Vec, Global}
 use Rattle.swc_ecma_codegen_common.specs.declared.positions.Span.{Span}
 use Rattle.swc_ecma_codegen_tree.specs.declared.links.AnyNode.{map-AnyNode}
 use Rattle.swc_ecma_codegen_tree.specs.declared.links.AnyNode.TheOpen as nodes
@@ -33,7 +33,7 @@ use Rattle.swc_ecma_codegen_ast.specs.declared.roles.Role.TheVariants.{Statement
 use Rattle.swc_ecma_codegen_ast.specs.PatPhrases.{value_at, initializer}
 use Rattle.swc_ecma_codegen_ast.specs.FunctionPhrases.{word_if}
 use Rattle.swc_ecma_codegen_ast.specs.DeclPhrases.{fn_decl, var_declarator, var_kind, var_decl, using_decl, decl}
-use Rattle.swc_ecma_codegen_ast.specs.StmtPhrases.{stmt_at, optional_value, empty_stmt, expr_stmt, debugger_stmt, with_stmt, return_arg, return_stmt, labeled_stmt, break_stmt, continue_stmt, else_branch, if_stmt, case_test, switch_case, switch_stmt, throw_stmt, catch_param, catch_clause, handler, finalizer, try_stmt, while_stmt, do_while_stmt, var_decl_or_expr, for_init, for_stmt, for_head, for_in_stmt, for_of_stmt, stmt}
+use Rattle.swc_ecma_codegen_ast.specs.StmtPhrases.{stmt_at, optional_value, empty_stmt, expr_stmt, debugger_stmt, with_stmt, return_rest, return_stmt, labeled_stmt, break_stmt, continue_stmt, else_branch, if_stmt, case_test, switch_case, switch_stmt, throw_stmt, catch_param, catch_clause, handler, finalizer, try_stmt, while_stmt, do_while_stmt, var_decl_or_expr, for_init, for_stmt, for_head, for_in_stmt, for_of_stmt, stmt}
 use Rattle.swc_ecma_codegen_ast.specs.PartPhrases.{stmt_part}
 use Rattle.swc_ecma_codegen_ast.specs.TreePhrases.{node_phrase}
 use Rattle.swc_ecma_codegen_ast.proofs.Mapped.{list_mapped, each_option}
@@ -71,7 +71,7 @@ decl_mapped g f b = decl_by g f b b.value
 -- ---- statements
 
 return_by : {X Y : Type 0} (g : X → Y) (f : Y → Role → Phrase) (n : ReturnStmt X) (arg : Option (ExprBox X)) → node_phrase f (map-AnyNode X Y g (nodes.Stmt (stmts.Return (record n { arg = arg })))) Statement ≡ return_stmt (λ x. f (g x)) (record n { arg = arg })
-unfolding node_phrase stmt return_stmt return_arg
+unfolding node_phrase stmt return_stmt return_rest
 return_by g f n None = refl
 return_by g f n (Some x) = refl
 

@@ -33,7 +33,7 @@ use Rattle.swc_ecma_codegen_tree.specs.declared.stmts.Stmt.{Stmt}
 use Rattle.swc_ecma_codegen_ast.specs.Phrases.{Phrase, some_listed}
 use Rattle.swc_ecma_codegen_ast.specs.declared.roles.Role.{Role}
 use Rattle.swc_ecma_codegen_ast.specs.declared.roles.Role.TheVariants.{Expression, Statement, MemberExpression, ChainMember, AssignmentTarget, Pattern, PlainParameter, PropertyName, PropertyDefinition, ObjectLiteral, Function, Block, Declaration, VariableDeclaration, Callee, ChainCall}
-use Rattle.swc_ecma_codegen_ast.specs.ExprPhrases.{expr, expr_at, this_expr, unary_expr, update_expr, bin_expr, computed_prop_name, member_prop, member_expr, super_prop, super_prop_expr, chain_mark, chain_prop, chain_member, chain_base, opt_chain_expr, meta_prop_expr, assign_expr, yield_arg, yield_expr, await_expr, cond_expr, seq_expr, paren_expr, expr_in}
+use Rattle.swc_ecma_codegen_ast.specs.ExprPhrases.{expr, expr_at, this_expr, unary_expr, update_expr, bin_expr, computed_prop_name, member_prop, member_expr, super_prop, super_prop_expr, chain_mark, chain_prop, chain_member, chain_base, opt_chain_expr, meta_prop_expr, assign_expr, yield_arg, yield_expr, await_expr, cond_expr, seq_expr, paren_expr, expr_in, yield_rest}
 use Rattle.swc_ecma_codegen_ast.specs.NamePhrases.{binding_ident}
 use Rattle.swc_ecma_codegen_ast.specs.AssignPhrases.{assign_target, simple_assign_target}
 use Rattle.swc_ecma_codegen_ast.specs.PartPhrases.{expr_part, stmt_part}
@@ -58,17 +58,19 @@ unfolding node_phrase expr opt_chain_expr chain_base
 chain_mapped g f n (chain_bases.Member b) = refl
 chain_mapped g f n (chain_bases.Call b) = refl
 
-yield_mapped : {X Y : Type 0} (g : X → Y) (f : Y → Role → Phrase) (n : YieldExpr X) (arg : Option (ExprBox X)) → node_phrase f (map-AnyNode X Y g (nodes.Expr (exprs.Yield (record n { arg = arg })))) Expression ≡ yield_expr (λ x. f (g x)) (record n { arg = arg })
-unfolding node_phrase expr yield_expr yield_arg
-yield_mapped g f n None = refl
-yield_mapped g f n (Some x) = refl
+yield_mapped : {X Y : Type 0} (g : X → Y) (f : Y → Role → Phrase) (n : YieldExpr X) (delegate : Bool) (arg : Option (ExprBox X)) → node_phrase f (map-AnyNode X Y g (nodes.Expr (exprs.Yield (record n { delegate = delegate; arg = arg })))) Expression ≡ yield_expr (λ x. f (g x)) (record n { delegate = delegate; arg = arg })
+unfolding node_phrase expr yield_expr yield_rest yield_arg
+yield_mapped g f n true None = refl
+yield_mapped g f n true (Some x) = refl
+yield_mapped g f n false None = refl
+yield_mapped g f n false (Some x) = refl
 
 expr_mapped : {X Y : Type 0} (g : X → Y) (f : Y → Role → Phrase) (n : Expr X) → node_phrase f (map-AnyNode X Y g (nodes.Expr n)) Expression ≡ expr (λ x. f (g x)) n
 unfolding node_phrase expr this_expr unary_expr update_expr bin_expr assign_expr meta_prop_expr await_expr cond_expr seq_expr paren_expr fn_expr expr_in
 expr_mapped {X} g f (exprs.Seq n) = ap (some_listed (codes ",")) (list_mapped {A = ExprBox X} _ (expr_at f) (expr_at (λ x. f (g x))) (λ x. refl) n.exprs.items)
 expr_mapped g f (exprs.SuperProp n) = super_mapped g f n n.prop
 expr_mapped g f (exprs.OptChain n) = chain_mapped g f n n.base
-expr_mapped g f (exprs.Yield n) = yield_mapped g f n n.arg
+expr_mapped g f (exprs.Yield n) = yield_mapped g f n n.delegate n.arg
 expr_mapped g f (exprs.Arrow n) = arrow_expr_mapped g f n
 expr_mapped g f (exprs.Array n) = array_lit_mapped g f n
 expr_mapped g f (exprs.Call n) = call_mapped g f n

@@ -35,7 +35,7 @@ use Rattle.swc_ecma_codegen_tree.specs.declared.exprs.SpreadElement.{SpreadEleme
 use Rattle.swc_ecma_codegen_tree.specs.declared.exprs.CondExpr.{CondExpr}
 use Rattle.swc_ecma_codegen_tree.specs.declared.exprs.SeqExpr.{SeqExpr}
 use Rattle.swc_ecma_codegen_tree.specs.declared.exprs.ParenExpr.{ParenExpr}
-use Rattle.swc_ecma_codegen_ast.specs.Phrases.{Phrase, Never, Nothing, One, OptionalParentheses, ◌>◌, word, mark, some_listed}
+use Rattle.swc_ecma_codegen_ast.specs.Phrases.{Phrase, Never, Nothing, One, OptionalParentheses, ◌>◌, word, mark, some_listed, same_line}
 use Rattle.swc_ecma_codegen_ast.specs.Tokens.{Token}
 use Rattle.swc_ecma_codegen_ast.specs.Tokens as tokens
 use Rattle.swc_ecma_codegen_ast.specs.declared.roles.Role.{Role}
@@ -74,7 +74,7 @@ unary_expr f n = One (unary_op n.op) > expr_at f n.arg
 
 -- section 13.4
 unfoldable pub update_expr : {X : Type 0} → (X → Role → Phrase) → UpdateExpr X → Phrase
-update_expr f n = if n.prefix then One (update_op n.op) > expr_at f n.arg else (expr_at f n.arg > One (update_op n.op))
+update_expr f n = if n.prefix then One (update_op n.op) > expr_at f n.arg else (expr_at f n.arg > same_line > One (update_op n.op))
 
 -- sections 13.6 to 13.13
 unfoldable pub bin_expr : {X : Type 0} → (X → Role → Phrase) → BinExpr X → Phrase
@@ -145,8 +145,14 @@ unfoldable pub yield_arg : {X : Type 0} → (X → Role → Phrase) → Option (
 yield_arg f None = Nothing
 yield_arg f (Some arg) = OptionalParentheses (expr_at f arg)
 
+-- no line may end between `yield` and what belongs to it
+unfoldable pub yield_rest : {X : Type 0} → (X → Role → Phrase) → Bool → Option (ExprBox X) → Phrase
+yield_rest f true arg = same_line > mark (codes "*") > yield_arg f arg
+yield_rest f false None = Nothing
+yield_rest f false (Some arg) = same_line > OptionalParentheses (expr_at f arg)
+
 unfoldable pub yield_expr : {X : Type 0} → (X → Role → Phrase) → YieldExpr X → Phrase
-yield_expr f n = word (codes "yield") > (if n.delegate then mark (codes "*") else Nothing) > yield_arg f n.arg
+yield_expr f n = word (codes "yield") > yield_rest f n.delegate n.arg
 
 -- section 15.8
 unfoldable pub await_expr : {X : Type 0} → (X → Role → Phrase) → AwaitExpr X → Phrase

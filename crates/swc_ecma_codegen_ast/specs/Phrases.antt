@@ -106,6 +106,10 @@ mark spelling = One (tokens.punctuator spelling)
 abbrev pub ending : Phrase
 ending = One tokens.ending
 
+-- `[no LineTerminator here]`
+abbrev pub same_line : Phrase
+same_line = One tokens.same_line
+
 -- what is there
 unfoldable pub if_some : Option Phrase → Phrase
 if_some None = Nothing

@@ -1,7 +1,7 @@
 -- Tokens: a kind and a value, the goal under which a kind is read, and how each is spelled.
-use Rattle.std.specs.Prelude.{◌≡◌, ℕ, Bool, true, List, Option, if◌then◌else◌}
+use Rattle.std.specs.Prelude.{◌≡◌, ℕ, Bool, true, false, List, [], Option, if◌then◌else◌}
 use Rattle.swc_ecma_codegen_ast.specs.declared.kinds.Kind.{Kind}
-use Rattle.swc_ecma_codegen_ast.specs.declared.kinds.Kind.TheVariants.{Word, Name, PrivateName, Punctuator, Ending, Number, BigInt, Str, Regex, Template, TemplateRest, Close, JsxName, JsxString, JsxText, JsxOpen, Hashbang}
+use Rattle.swc_ecma_codegen_ast.specs.declared.kinds.Kind.TheVariants.{Word, Name, PrivateName, Punctuator, Ending, Number, BigInt, Str, Regex, Template, TemplateRest, Close, JsxName, JsxString, JsxText, JsxOpen, Hashbang, SameLine}
 use Rattle.swc_ecma_codegen_ast.specs.Names.{is_word, is_name, name_value, is_private_name, private_name_value}
 use Rattle.swc_ecma_codegen_ast.specs.Punctuators.{is_punctuator}
 use Rattle.swc_ecma_codegen_ast.specs.Numbers.{is_number, is_big_integer, radix_of, big_digits}
@@ -32,6 +32,8 @@ pub data Goal : Type 0 where
   InTag : Goal
   Attribute : Goal
   Child : Goal
+  -- what no text is
+  NoToken : Goal
 
 -- the goal under which a kind of token is read
 unfoldable pub goal : Kind → Goal
@@ -52,6 +54,7 @@ goal JsxString = Attribute
 goal JsxText = Child
 goal JsxOpen = Ordinary
 goal Hashbang = FirstLine
+goal SameLine = NoToken
 
 -- a text has the shape of the tokens of a kind
 unfoldable pub has_shape : Kind → List ℕ → Bool
@@ -72,6 +75,7 @@ has_shape JsxString text = is_jsx_string text
 has_shape JsxText text = is_jsx_text text
 has_shape JsxOpen text = is_jsx_open text
 has_shape Hashbang text = is_hashbang text
+has_shape SameLine text = false
 
 -- What a token stands for: characters, the code units of a string or of a template's text (none where an escape is
 -- malformed), a number in its one form, or the radix and the digits of a big integer.
@@ -104,6 +108,7 @@ value_of JsxString text = Characters text
 value_of JsxText text = Characters text
 value_of JsxOpen text = Characters text
 value_of Hashbang text = Characters text
+value_of SameLine text = Characters text
 
 -- a kind and a value
 pub record Token : Type 0 where
@@ -123,6 +128,10 @@ punctuator spelling = record { kind = Punctuator; value = Characters spelling }
 -- the semicolon that ends a statement
 unfoldable pub ending : Token
 ending = record { kind = Ending; value = Characters (codes ";") }
+
+-- `[no LineTerminator here]`, which the productions of ECMA-262 write among tokens: `return [no LineTerminator here] Expression ;`
+unfoldable pub same_line : Token
+same_line = record { kind = SameLine; value = Characters [] }
 
 -- the token of a kind that a text stands for
 unfoldable pub token_of : Kind → List ℕ → Token

@@ -20,8 +20,9 @@ use Rattle.swc_ecma_codegen_base.specs.Targets.{is_out}
 use Rattle.swc_ecma_codegen_base.proofs.Hands.{tokens_keep}
 use Rattle.swc_ecma_codegen_base.proofs.KeyTexts.{key_kept}
 use Rattle.swc_ecma_codegen_base.proofs.Held.{front, front_of, written_text, pointed_keeps}
-use Rattle.swc_ecma_codegen_base.proofs.Phrased.{Prints, steps_of_chain, made_not_out}
+use Rattle.swc_ecma_codegen_base.proofs.Phrased.{steps_of_chain, made_not_out, PrintsAt}
 use Rattle.swc_ecma_codegen_base.proofs.Texts.{adds_literal}
+use Rattle.swc_ecma_codegen_base.proofs.Shapes.{Shape}
 
 -- ---- ASCII texts
 
@@ -144,15 +145,15 @@ run_goes old (Remake due ∷ xs) a h g = run_goes old xs (put (Remake due) a) h 
 
 -- ---- what an emission adds
 
-part_steps : {p : Part} {f : Phrase} {env : Env} → Prints env p f → is_possible f ≡ true → is_out env.config f ≡ false → env.config.ascii_only ≡ true → keeps_other (steps_of (p nothing env)) ≡ false → are_ascii (steps_of (p nothing env)) ≡ true
+part_steps : {i : Shape} {p : Part} {f : Phrase} {env : Env} → PrintsAt i env p f → is_possible f ≡ true → is_out env.config f ≡ false → env.config.ascii_only ≡ true → keeps_other (steps_of (p nothing env)) ≡ false → are_ascii (steps_of (p nothing env)) ≡ true
 unfolding nothing
-part_steps {p} {f} {env} prints w o e n =
+part_steps {p = p} {f = f} {env = env} prints w o e n =
     let h = (prints.where_possible w o).writes in
     let same : steps_of (p nothing env) ≡ h.steps = ap steps_of (h.is_steps nothing) ∙ steps_of_chain h.steps in
     ap are_ascii same ∙ h.hands.ascii e (sym (ap keeps_other same) ∙ n)
 
 -- under ASCII only what is added is ASCII, save what stands as it is
-pub printed_ascii : (p : Part) (f : Phrase) (a b : State) (r : Result (Unit {0}) Refusal) → Prints a.env p f → is_possible f ≡ true → WantsAscii a → keeps_other (steps_of (p nothing a.env)) ≡ false → Follows (p nothing) a b r → OnOk r (AddsAscii a.sheet.text b.sheet.text)
+pub printed_ascii : {i : Shape} (p : Part) (f : Phrase) (a b : State) (r : Result (Unit {0}) Refusal) → PrintsAt i a.env p f → is_possible f ≡ true → WantsAscii a → keeps_other (steps_of (p nothing a.env)) ≡ false → Follows (p nothing) a b r → OnOk r (AddsAscii a.sheet.text b.sheet.text)
 unfolding Follows
 printed_ascii p f a b (Ok u) prints w s n k =
     let begin : Goes a.sheet.text a.sheet = record { lines = record { indent_text = s.indent_text; line_end = s.line_end }; adds = adds_none a.sheet.text } in
@@ -193,7 +194,7 @@ kept_listed s (Chosen EmptyArguments) ts w g = ap keeps_tokens g ∙ choice_kept
 kept_listed s (Chosen LoopEnding) ts w g = ap keeps_tokens g ∙ ending_kept s
 
 -- where no such token is in the tree, no such text is among the steps
-pub printed_keeps : (p : Part) (f : Phrase) (env : Env) → Prints env p f → is_possible f ≡ true → is_out env.config f ≡ false → may_keep_other f ≡ false → keeps_other (steps_of (p nothing env)) ≡ false
+pub printed_keeps : {i : Shape} (p : Part) (f : Phrase) (env : Env) → PrintsAt i env p f → is_possible f ≡ true → is_out env.config f ≡ false → may_keep_other f ≡ false → keeps_other (steps_of (p nothing env)) ≡ false
 unfolding nothing
 printed_keeps p f env prints w o none =
     let h = prints.where_possible w o in

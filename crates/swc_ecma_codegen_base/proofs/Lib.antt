@@ -32,6 +32,8 @@ pub mod SoFar
 pub mod KeyTexts
 pub mod AsciiTexts
 pub mod ScriptTexts
+pub mod Appended
+pub mod Shapes
 pub mod Made
 pub mod OwnDots
 pub mod LitTexts

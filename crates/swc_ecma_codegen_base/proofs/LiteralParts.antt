@@ -31,19 +31,19 @@ use Rattle.swc_ecma_codegen_base.proofs.NumeralTexts.{numeric_ascii, ascii_by_ch
 use Rattle.swc_ecma_codegen_base.proofs.Starting.{same_beginning, sample}
 use Rattle.swc_ecma_codegen_base.proofs.Written.{Lays, lays_then, lays_settled, lays_guard, settle, settle_rest, after_guard, Spelled}
 use Rattle.swc_ecma_codegen_base.proofs.Texts.{Adds, adds_written, adds_literal, adds_more, owns, SpelledAs, spelled_one, lays_texts}
-use Rattle.swc_ecma_codegen_base.proofs.Printed.{chain, no_text, Makes, Writes, writes_then, writes_step, writes_two, writes_position, writes_commit, writes_leading}
+use Rattle.swc_ecma_codegen_base.proofs.Printed.{chain, no_text, Makes, Writes, writes_then, writes_step, writes_two, writes_position, writes_commit, writes_leading, Fills}
 
 -- ---- what stands before a literal
 
-pub writes_guard : (env : Env) (t : List ℕ) → Writes env (step (Guard t)) []
+pub writes_guard : (env : Env) (t : List ℕ) → Fills env (step (Guard t))
 unfolding makes_text levels are_ascii has_string is_string_call
 writes_guard env t = writes_step env (Guard t) [] (λ s r. lays_guard t s r) (omega arith) (hands_ascii env _ [] refl no_text)
 
-pub writes_begun : (env : Env) (span : Span) (t : List ℕ) → Writes env (words.begun span t) []
+pub writes_begun : (env : Env) (span : Span) (t : List ℕ) → Fills env (words.begun span t)
 unfolding words.begun
 writes_begun env span t = writes_then env (leading_comments span.lo) _ [] [] (writes_leading env span.lo) (writes_then env (step (Guard t)) (start_of span) [] [] (writes_guard env t) (writes_position env span.lo))
 
-pub writes_settled_begun : (env : Env) (span : Span) (t : List ℕ) → Writes env (words.settled_begun span t) []
+pub writes_settled_begun : (env : Env) (span : Span) (t : List ℕ) → Fills env (words.settled_begun span t)
 unfolding words.settled_begun
 writes_settled_begun env span t = writes_then env commit_pending_semi (words.begun span t) [] [] (writes_commit env) (writes_begun env span t)
 

@@ -141,7 +141,7 @@ impl<N: Fits> WellFormed for AssignExpr<N> {
 impl<N: Fits> WellFormed for YieldExpr<N> {
     ghost phrase = { yield_expr N.reads };
 
-    #[tactic(auto, using(crate::proofs::Possible::star_possible), unfolding(swc_ecma_codegen_ast::specs::ExprPhrases::yield_expr, swc_ecma_codegen_ast::specs::ExprPhrases::yield_arg, swc_ecma_codegen_ast::specs::Phrases::is_possible))]
+    #[tactic(auto, using(crate::proofs::Possible::yield_possible), unfolding(swc_ecma_codegen_ast::specs::ExprPhrases::yield_expr, swc_ecma_codegen_ast::specs::ExprPhrases::yield_arg, swc_ecma_codegen_ast::specs::Phrases::is_possible))]
     fn is_well_formed(&self) -> bool {
         match &self.arg {
             Some(arg) => arg.is_well_formed(),
