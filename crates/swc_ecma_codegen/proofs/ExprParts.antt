@@ -5,6 +5,7 @@ use Rattle.swc_ecma_codegen_common.specs.declared.positions.BytePos.{BytePos}
 use Rattle.swc_ecma_codegen_common.specs.declared.positions.Span.{Span}
 use Rattle.swc_ecma_codegen_tree.specs.declared.idents.Ident.{Ident}
 use Rattle.swc_ecma_codegen_tree.specs.declared.idents.IdentName.{IdentName}
+use Rattle.swc_ecma_codegen_tree.specs.declared.idents.PrivateName.{PrivateName}
 use Rattle.swc_ecma_codegen_common.specs.declared.operators.AssignOp.{AssignOp}
 use Rattle.swc_ecma_codegen_common.specs.declared.operators.AssignOp.TheVariants as assign
 use Rattle.swc_ecma_codegen_common.specs.declared.operators.UnaryOp.{UnaryOp}
@@ -54,11 +55,12 @@ use Rattle.swc_ecma_codegen_ast.specs.NamePhrases as names
 use Rattle.swc_ecma_codegen_ast.specs.ExprPhrases as lists
 use Rattle.swc_ecma_codegen_ast.specs.CallPhrases.{callee_at}
 use Rattle.swc_ecma_codegen_ast.specs.LitPhrases as lit_lists
-use Rattle.swc_ecma_codegen_ast.specs.declared.roles.Role.TheVariants.{MemberExpression, ChainMember, AssignmentTarget, ObjectLiteral, Callee as IsCallee, ChainCall}
+use Rattle.swc_ecma_codegen_ast.specs.declared.roles.Role.TheVariants.{MemberExpression, ChainMember, AssignmentTarget, ObjectLiteral, Callee as IsCallee, ChainCall, Template}
 use Rattle.swc_ecma_codegen_ast.specs.declared.roles.Role.{Role}
 use Rattle.swc_ecma_codegen_base.specs.Run.{Env, Part}
 use Rattle.swc_ecma_codegen_base.specs.Words.{operator, space, formatting_space, position, leading_comments, trailing_comments, keyword}
-use Rattle.swc_ecma_codegen_base.proofs.Printed.{writes_then, writes_if, writes_nothing, writes_space, writes_formatting_space, writes_commit, writes_position, writes_position_before, writes_leading, writes_trailing, Fills}
+use Rattle.swc_ecma_codegen_base.proofs.PrivatePrints.{prints_private}
+use Rattle.swc_ecma_codegen_base.proofs.Printed.{Writes, writes_then, writes_if, writes_nothing, writes_space, writes_formatting_space, writes_commit, writes_position, writes_position_before, writes_leading, writes_trailing, Fills}
 use Rattle.swc_ecma_codegen_base.specs.Written.{IsWord, IsMark}
 use Rattle.swc_ecma_codegen_base.proofs.Choices.{prints_bare}
 use Rattle.swc_ecma_codegen_base.proofs.EachLit.{prints_lit}
@@ -71,8 +73,9 @@ use Rattle.swc_ecma_codegen.specs.Operands.{is_word_op, operand_space}
 use Rattle.swc_ecma_codegen.specs.Exprs as words
 use Rattle.swc_ecma_codegen.specs.Calls as calls
 use Rattle.swc_ecma_codegen.specs.Lits.{lit_at}
-use Rattle.swc_ecma_codegen.proofs.FunctionParts.{fn_expr_prints, arrow_expr_prints}
+use Rattle.swc_ecma_codegen.proofs.FunctionParts.{fn_expr_prints, arrow_expr_prints, class_expr_prints}
 use Rattle.swc_ecma_codegen.proofs.CallParts.{super_is_word, array_lit_prints, call_prints, new_prints}
+use Rattle.swc_ecma_codegen.proofs.TemplateParts.{tagged_tpl_prints}
 use Rattle.swc_ecma_codegen.proofs.Linked.{Linked, expr_at}
 use Rattle.swc_ecma_codegen.proofs.ListParts.{some_listed_prints}
 use Rattle.swc_ecma_codegen_base.proofs.Shapes.{open_, joined}
@@ -260,6 +263,10 @@ ident_name_prints : {X : Type 0} (l : Linked X) (n : IdentName) → Prints l.env
 unfolding words.ident_name names.ident_name
 ident_name_prints l n = prints_name l.env n.span (string_bytes n.sym) l.leaves_out
 
+pub private_name_prints : {X : Type 0} (l : Linked X) (n : PrivateName) → Prints l.env (words.private_name n) (names.private_name n)
+unfolding words.private_name names.private_name
+private_name_prints l n = prints_private l.env n.span (string_bytes n.name) l.leaves_out
+
 unary_prints : {X : Type 0} (l : Linked X) (n : UnaryExpr X) → Prints l.env (words.unary l.asks l.items n) (lists.unary_expr l.reads n)
 unfolding words.unary lists.unary_expr
 unary_prints l n = after (writes_opened l.env n.span) (then (unary_op_prints l.env n.op) (after (writes_unary_gap l.env n.op (l.asks n.arg.node.value)) (expr_at l n.arg Plain)))
@@ -299,7 +306,7 @@ member_prop_prints : {X : Type 0} (l : Linked X) (n : MemberProp X) → Prints l
 unfolding words.member_prop lists.member_prop
 member_prop_prints l (member_props.Ident n) = after (writes_comments_before l.env n.span.lo) (then (prints_punct l.env (codes ".") dot_is_mark) (ident_name_prints l n))
 member_prop_prints l (member_props.Computed n) = computed_prints l n
-member_prop_prints l n = prints_never
+member_prop_prints l (member_props.PrivateName n) = after (writes_comments_before l.env n.span.lo) (then (prints_punct l.env (codes ".") dot_is_mark) (private_name_prints l n))
 
 -- the object before a property
 object_prints : {X : Type 0} (l : Linked X) (n : ExprBox X) (prop : MemberProp X) → Prints l.env (l.items n.node.value (words.object_place prop)) (callee_at l.reads n)
@@ -333,7 +340,7 @@ chain_prop_prints : {X : Type 0} (l : Linked X) (n : MemberProp X) → Prints l.
 unfolding words.chain_prop lists.chain_prop
 chain_prop_prints l (member_props.Ident n) = ident_name_prints l n
 chain_prop_prints l (member_props.Computed n) = computed_prints l n
-chain_prop_prints l n = prints_never
+chain_prop_prints l (member_props.PrivateName n) = private_name_prints l n
 
 pub chain_member_prints : {X : Type 0} (l : Linked X) (optional : Bool) (n : MemberExpr X) → Prints l.env (words.chain_member l.items optional n) (lists.chain_member l.reads optional n)
 unfolding words.chain_member lists.chain_member
@@ -438,11 +445,15 @@ parts_print l (exprs.New n) place = new_prints l (calls.keeps_arguments place) n
 parts_print l (exprs.Seq n) place = seq_prints l n
 parts_print l (exprs.Ident n) place = ident_prints l n
 parts_print l (exprs.Lit n) place = lit_prints l.env n place
+parts_print l (exprs.Tpl n) place = l.law n.node.value Plain Template
+parts_print l (exprs.TaggedTpl n) place = tagged_tpl_prints l n
 parts_print l (exprs.Arrow n) place = arrow_expr_prints l n
+parts_print l (exprs.Class n) place = class_expr_prints l n
 parts_print l (exprs.Yield n) place = yield_prints l n
 parts_print l (exprs.MetaProp n) place = meta_prop_expr_prints l.env n
 parts_print l (exprs.Await n) place = await_prints l n
 parts_print l (exprs.Paren n) place = paren_prints l n
+parts_print l (exprs.PrivateName n) place = private_name_prints l n
 parts_print l (exprs.OptChain n) place = opt_chain_prints l n
 parts_print l n place = prints_never
 

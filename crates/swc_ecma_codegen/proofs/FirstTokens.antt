@@ -20,6 +20,7 @@ use Rattle.swc_ecma_codegen_tree.specs.declared.exprs.OptChainBase.{OptChainBase
 use Rattle.swc_ecma_codegen_tree.specs.declared.exprs.OptChainBase.TheVariants as chain_bases
 use Rattle.swc_ecma_codegen_tree.specs.declared.exprs.MetaPropKind.{MetaPropKind}
 use Rattle.swc_ecma_codegen_tree.specs.declared.exprs.MetaPropKind.TheVariants as meta_props
+use Rattle.swc_ecma_codegen_tree.specs.declared.exprs.TplElement.{TplElement}
 use Rattle.swc_ecma_codegen_tree.specs.declared.exprs.PropName.{PropName}
 use Rattle.swc_ecma_codegen_tree.specs.declared.exprs.PropName.TheVariants as prop_names
 use Rattle.swc_ecma_codegen_tree.specs.declared.expr_links.PatBox.{PatBox}
@@ -52,11 +53,11 @@ use Rattle.swc_ecma_codegen_tree.specs.declared.stmts.Stmt.TheVariants as stmts
 use Rattle.swc_ecma_codegen_ast.specs.Tokens.{Token}
 use Rattle.swc_ecma_codegen_ast.specs.Tokens as tokens
 use Rattle.swc_ecma_codegen_common.specs.declared.positions.BytePos.{BytePos}
-use Rattle.swc_ecma_codegen_ast.specs.Phrases.{Phrase, Never, Nothing, One, NameOf, KeyOf, Then, OptionalParentheses, Generates, ◌>◌, mark, open_parenthesis}
+use Rattle.swc_ecma_codegen_ast.specs.Phrases.{Phrase, Never, Nothing, One, NameOf, KeyOf, PrivateOf, Then, OptionalParentheses, Generates, ◌>◌, mark, open_parenthesis}
 use Rattle.swc_ecma_codegen_ast.specs.Phrases as phrases
 use Rattle.swc_ecma_codegen_ast.specs.Settings.{Settings}
 use Rattle.swc_ecma_codegen_ast.specs.declared.roles.Role.{Role}
-use Rattle.swc_ecma_codegen_ast.specs.declared.roles.Role.TheVariants.{Expression, Statement, MemberExpression, ChainMember, AssignmentTarget, Pattern, PlainParameter, PropertyName, PropertyDefinition, ObjectLiteral, Function, FunctionHead, MethodHead, Block, Declaration, VariableDeclaration, Callee as IsCallee, ChainCall}
+use Rattle.swc_ecma_codegen_ast.specs.declared.roles.Role.TheVariants.{Expression, Statement, MemberExpression, ChainMember, AssignmentTarget, Pattern, PlainParameter, PropertyName, PropertyDefinition, ObjectLiteral, Function, FunctionHead, MethodHead, Block, Declaration, VariableDeclaration, Callee as IsCallee, ChainCall, Template, TaggedTemplate, ClassHead, ClassTail, Member, MethodDecorators, MethodTail, PrivateTail, Item, ModuleDeclaration, ExportedHead, ExportedTail}
 use Rattle.swc_ecma_codegen_ast.specs.NamePhrases as names
 use Rattle.swc_ecma_codegen_ast.specs.ExprPhrases as lists
 use Rattle.swc_ecma_codegen_ast.specs.LitPhrases as lit_lists
@@ -67,6 +68,8 @@ use Rattle.swc_ecma_codegen_ast.specs.DeclPhrases as decl_lists
 use Rattle.swc_ecma_codegen_ast.specs.FunctionPhrases as function_lists
 use Rattle.swc_ecma_codegen_ast.specs.PatPhrases as pat_lists
 use Rattle.swc_ecma_codegen_ast.specs.PropPhrases as prop_lists
+use Rattle.swc_ecma_codegen_ast.specs.ClassPhrases as class_lists
+use Rattle.swc_ecma_codegen_ast.specs.TemplatePhrases as template_lists
 use Rattle.swc_ecma_codegen_ast.specs.StmtPhrases as stmt_lists
 use Rattle.swc_ecma_codegen_ast.specs.TreePhrases.{node_phrase, phrase, expr_phrase}
 use Rattle.swc_ecma_codegen_ast.proofs.TreeLaws.{phrase_of}
@@ -121,6 +124,14 @@ begins_true x = record { some = λ s k. nothing_first x [] k; told = λ s y ys k
 begins_name : (at : BytePos) (bytes : List ℕ) → Begins (NameOf at bytes) true
 unfolding Generates
 begins_name at bytes = record { some = λ s k. nothing_first _ [] k; told = λ s y ys k j. refl }
+
+-- `#a` is no word
+begins_private : (bytes : List ℕ) (b : Bool) → Begins (PrivateOf bytes) b
+unfolding Generates tokens.private_name joins_a_word
+begins_private bytes b = record {
+  some = λ s k. nothing_first _ [] k;
+  told = λ s x xs k j. absurd (true≢false (sym j ∙ ap (λ (z : Token). joins_a_word z.kind) (same_first x _ xs [] k)));
+}
 
 begins_never : (b : Bool) → Begins Never b
 unfolding Generates
@@ -190,19 +201,31 @@ begins_update : (prefix : Bool) (op : List ℕ) (f : Phrase) (b : Bool) → Begi
 begins_update true op f b h = begins_then (mark op) f false (begins_mark op false)
 begins_update false op f b h = begins_then f (phrases.same_line > mark op) b h
 
--- In these roles something begins that is asked how it begins. A property is never asked, and what stands before the name of a method
--- may be nothing.
+-- In these roles something begins that is asked how it begins. A property and a member are never asked, and what stands before the
+-- name of a method or before a class may be nothing.
 leads : Role → Bool
 leads PropertyDefinition = false
 leads MethodHead = false
+leads ClassHead = false
+leads ClassTail = false
+leads Member = false
+leads MethodDecorators = false
+leads MethodTail = false
+leads PrivateTail = false
+leads Item = false
+leads ModuleDeclaration = false
+leads ExportedHead = false
+leads ExportedTail = false
 leads role = true
 
--- `function` is a word, and so is `let`; a block and an object begin with a brace
+-- `function` is a word, and so is `let`; a block and an object begin with a brace, and a template with a back quote
 begins_as : Role → Bool → Bool
 begins_as FunctionHead b = true
 begins_as VariableDeclaration b = true
 begins_as Block b = false
 begins_as ObjectLiteral b = false
+begins_as Template b = false
+begins_as TaggedTemplate b = false
 begins_as role b = b
 
 -- what a node begins with, where what its links hold begins as f says
@@ -287,8 +310,30 @@ arrow_begins reads starts law false true is_generator ns rest = begins_then _ _ 
 arrow_begins reads starts law false false true ns rest = begins_then _ _ _ (begins_mark _ _)
 arrow_begins reads starts law false false false ns rest = begins_behind _ _ (params_begin reads starts law ns rest)
 
+-- ---- classes
+
+-- whatever stands before it, even nothing
+begins_before : (f g : Phrase) → Begins g true → Begins (f > g) true
+unfolding Generates
+begins_before f g h = record {
+  some = λ s k. either_some s k.0 k.1 k.3 k.4;
+  told = λ s x xs k j. refl;
+}
+  where
+    either_some : (s : Settings) (us vs : List Token) → Generates s g vs → [] ≡ us ++ vs → ⊥
+    either_some s [] vs k e = h.some s (subst (λ z. Generates s g z) (sym e) k)
+    either_some s (u ∷ us) vs k e = nothing_first u (us ++ vs) e
+
+-- ---- templates
+
+tpl_begins : {X : Type 0} (reads : X → Role → Phrase) (counted tagged : Bool) (es : List (ExprBox X)) (qs : List TplElement) → Begins (cond counted (template_lists.tpl_parts reads tagged es qs) Never) false
+unfolding template_lists.tpl_parts template_lists.tpl_element template_lists.part_phrase template_lists.part_kind tokens.token_of joins_a_word
+tpl_begins reads true tagged es [] = begins_never false
+tpl_begins reads true tagged es (q ∷ qs) = begins_then _ _ _ (begins_where _ _ _ (begins_other _ false refl))
+tpl_begins reads false tagged es qs = begins_never false
+
 expr_begins : {X : Type 0} (reads : X → Role → Phrase) (starts : X → Bool) → Begin reads starts → (n : Expr X) → Begins (lists.expr reads n) (expr_starts starts n)
-unfolding expr_starts update_starts arrow_starts function_lists.fn_expr function_lists.arrow_expr lists.expr lists.this_expr lists.unary_expr lists.update_expr lists.update_op lists.bin_expr lists.assign_expr lists.super_prop_expr lists.yield_expr lists.meta_prop_expr lists.await_expr lists.opt_chain_expr lists.cond_expr lists.seq_expr lists.paren_expr names.ident call_lists.array_lit call_lists.call_expr leads begins_as
+unfolding expr_starts update_starts arrow_starts template_lists.tagged_tpl class_lists.class_expr function_lists.fn_expr function_lists.arrow_expr lists.expr lists.this_expr lists.unary_expr lists.update_expr lists.update_op lists.bin_expr lists.assign_expr lists.super_prop_expr lists.yield_expr lists.meta_prop_expr lists.await_expr lists.opt_chain_expr lists.cond_expr lists.seq_expr lists.paren_expr names.ident names.private_name call_lists.array_lit call_lists.call_expr leads begins_as
 expr_begins reads starts law (exprs.This n) = begins_true _
 expr_begins reads starts law (exprs.Object n) = law n.node.value ObjectLiteral refl
 expr_begins reads starts law (exprs.Fn n) = begins_then _ _ _ (law n.function.node.value FunctionHead refl)
@@ -305,11 +350,15 @@ expr_begins reads starts law (exprs.New n) = new_begins reads false n
 expr_begins reads starts law (exprs.Seq n) = seq_begins reads starts law n.exprs.items
 expr_begins reads starts law (exprs.Ident n) = begins_then _ _ _ (begins_name _ _)
 expr_begins reads starts law (exprs.Lit n) = begins_lit n
+expr_begins reads starts law (exprs.Tpl n) = law n.node.value Template refl
+expr_begins reads starts law (exprs.TaggedTpl n) = unless_begins (is_some n.type_params) _ _ (begins_then _ _ _ (law n.tag.node.value IsCallee refl))
 expr_begins reads starts law (exprs.Arrow n) = arrow_begins reads starts law (is_some n.type_params || is_some n.return_type) n.is_async n.is_generator n.params.items _
+expr_begins reads starts law (exprs.Class n) = begins_before _ _ (begins_then _ _ _ (begins_true _))
 expr_begins reads starts law (exprs.Yield n) = begins_then _ _ _ (begins_true _)
 expr_begins reads starts law (exprs.MetaProp n) = meta_prop_begins n.kind
 expr_begins reads starts law (exprs.Await n) = begins_then _ _ _ (begins_true _)
 expr_begins reads starts law (exprs.Paren n) = begins_then _ _ _ (begins_mark _ false)
+expr_begins reads starts law (exprs.PrivateName n) = begins_private _ _
 expr_begins reads starts law (exprs.OptChain n) = chain_begins reads starts law n.optional n.base
 expr_begins reads starts law n = begins_never _
 
@@ -384,7 +433,7 @@ prop_name_begins reads (prop_names.BigInt n) = begins_where _ _ _ (begins_signed
 prop_name_begins reads (prop_names.Computed n) = begins_then _ _ _ (begins_mark _ false)
 
 part_begins : {X : Type 0} (reads : X → Role → Phrase) (starts : X → Bool) → Begin reads starts → (n : ExprPart X) (role : Role) → leads role ≡ true → Begins (part_lists.expr_part reads n role) (begins_as role (expr_part_starts starts n))
-unfolding leads begins_as part_lists.expr_part expr_part_starts prop_lists.object_lit call_lists.chain_call
+unfolding leads begins_as part_lists.expr_part expr_part_starts prop_lists.object_lit call_lists.chain_call template_lists.tpl
 part_begins reads starts law (expr_parts.Pat n) Pattern h = pat_begins reads starts law n
 part_begins reads starts law (expr_parts.Pat n) PlainParameter h = plain_parameter_begins starts n
 part_begins reads starts law (expr_parts.ObjectLit n) ObjectLiteral h = begins_then _ _ _ (begins_mark _ false)
@@ -392,6 +441,8 @@ part_begins reads starts law (expr_parts.PropName n) PropertyName h = prop_name_
 part_begins reads starts law (expr_parts.Prop n) PropertyDefinition h = absurd (true≢false (sym h))
 part_begins reads starts law (expr_parts.OptCall n) (ChainCall optional) h = unless_begins (is_some n.type_args) _ _ (begins_then _ _ _ (law n.callee.node.value IsCallee refl))
 part_begins reads starts law (expr_parts.AssignTarget n) AssignmentTarget h = target_begins reads starts law n
+part_begins reads starts law (expr_parts.Tpl n) Template h = tpl_begins reads (template_lists.is_counted n.exprs.items n.quasis.items) false n.exprs.items n.quasis.items
+part_begins reads starts law (expr_parts.Tpl n) TaggedTemplate h = tpl_begins reads (template_lists.is_counted n.exprs.items n.quasis.items) true n.exprs.items n.quasis.items
 part_begins reads starts law n role h = begins_never _
 
 kind_begins : (kind : VarDeclKind) → Begins (decl_lists.var_kind kind) true
@@ -410,7 +461,8 @@ using_begins true rest = begins_then _ _ _ (begins_true _)
 using_begins false rest = begins_behind _ _ (begins_then _ _ _ (begins_true _))
 
 decl_begins : {X : Type 0} (reads : X → Role → Phrase) (starts : X → Bool) → Begin reads starts → (n : Decl X) → Begins (decl_lists.decl reads n) true
-unfolding leads begins_as decl_lists.decl decl_lists.fn_decl decl_lists.using_decl
+unfolding leads begins_as decl_lists.decl class_lists.class_decl decl_lists.fn_decl decl_lists.using_decl
+decl_begins reads starts law (decls.Class n) = unless_begins n.declare _ true (begins_before _ _ (begins_then _ _ _ (begins_true _)))
 decl_begins reads starts law (decls.Fn n) = unless_begins n.declare _ true (begins_then _ _ _ (law n.function.node.value FunctionHead refl))
 decl_begins reads starts law (decls.Var n) = begins_then _ _ _ (law n.node.value VariableDeclaration refl)
 decl_begins reads starts law (decls.Using n) = begins_then _ _ _ (using_begins n.is_await _)
@@ -421,6 +473,16 @@ unfolding leads begins_as part_lists.stmt_part stmt_part_starts function_lists.f
 stmt_part_begins reads starts law (stmt_parts.Function n) Function h = function_begins (is_some n.value.type_params || (is_some n.value.return_type || function_lists.is_some_listed n.value.decorators.items)) _
 stmt_part_begins reads starts law (stmt_parts.Function n) FunctionHead h = function_head_begins n.value n.value.is_async _
 stmt_part_begins reads starts law (stmt_parts.Function n) MethodHead h = absurd (true≢false (sym h))
+stmt_part_begins reads starts law (stmt_parts.Function n) MethodDecorators h = absurd (true≢false (sym h))
+stmt_part_begins reads starts law (stmt_parts.Function n) MethodTail h = absurd (true≢false (sym h))
+stmt_part_begins reads starts law (stmt_parts.Function n) PrivateTail h = absurd (true≢false (sym h))
+stmt_part_begins reads starts law (stmt_parts.Decl n) ExportedHead h = absurd (true≢false (sym h))
+stmt_part_begins reads starts law (stmt_parts.Decl n) ExportedTail h = absurd (true≢false (sym h))
+stmt_part_begins reads starts law (stmt_parts.ModuleItem n) Item h = absurd (true≢false (sym h))
+stmt_part_begins reads starts law (stmt_parts.ModuleDecl n) ModuleDeclaration h = absurd (true≢false (sym h))
+stmt_part_begins reads starts law (stmt_parts.Class n) ClassHead h = absurd (true≢false (sym h))
+stmt_part_begins reads starts law (stmt_parts.Class n) ClassTail h = absurd (true≢false (sym h))
+stmt_part_begins reads starts law (stmt_parts.ClassMember n) Member h = absurd (true≢false (sym h))
 stmt_part_begins reads starts law (stmt_parts.BlockStmt n) Block h = begins_then _ _ _ (begins_mark _ false)
 stmt_part_begins reads starts law (stmt_parts.Decl n) Declaration h = decl_begins reads starts law n.value
 stmt_part_begins reads starts law (stmt_parts.VarDecl n) VariableDeclaration h = var_decl_begins reads n

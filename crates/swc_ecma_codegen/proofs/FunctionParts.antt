@@ -7,19 +7,21 @@ use Rattle.swc_ecma_codegen_tree.specs.declared.stmt_links.BlockStmtBox.{BlockSt
 use Rattle.swc_ecma_codegen_tree.specs.declared.decls.Decorator.{Decorator}
 use Rattle.swc_ecma_codegen_tree.specs.declared.decls.Param.{Param}
 use Rattle.swc_ecma_codegen_tree.specs.declared.decls.Function as functions
+use Rattle.swc_ecma_codegen_tree.specs.declared.exprs.ClassExpr.{ClassExpr}
 use Rattle.swc_ecma_codegen_tree.specs.declared.exprs.FnExpr.{FnExpr}
 use Rattle.swc_ecma_codegen_tree.specs.declared.exprs.ArrowExpr.{ArrowExpr}
 use Rattle.swc_ecma_codegen_tree.specs.declared.exprs.BlockStmtOrExpr.{BlockStmtOrExpr}
 use Rattle.swc_ecma_codegen_tree.specs.declared.exprs.BlockStmtOrExpr.TheVariants as bodies
 use Rattle.swc_ecma_codegen_tree.specs.declared.idents.Ident.{Ident}
 use Rattle.swc_ecma_codegen_ast.specs.declared.kinds.Kind.TheVariants.{Punctuator}
-use Rattle.swc_ecma_codegen_ast.specs.declared.roles.Role.TheVariants.{Pattern, PlainParameter, Function, FunctionHead}
+use Rattle.swc_ecma_codegen_ast.specs.declared.roles.Role.TheVariants.{Pattern, PlainParameter, Function, FunctionHead, ClassHead, ClassTail}
 use Rattle.swc_ecma_codegen_ast.specs.Tokens as lexical
 use Rattle.swc_ecma_codegen_ast.specs.Tokens.{token_of}
 use Rattle.swc_ecma_codegen_ast.specs.Phrases.{Phrase, Never, OptionalParentheses, ◌>◌, mark, word, is_possible}
 use Rattle.swc_ecma_codegen_ast.specs.Phrases as phrases
 use Rattle.swc_ecma_codegen_ast.specs.NamePhrases as names
 use Rattle.swc_ecma_codegen_ast.specs.PatPhrases as pats
+use Rattle.swc_ecma_codegen_ast.specs.ClassPhrases as classes
 use Rattle.swc_ecma_codegen_ast.specs.FunctionPhrases as lists
 use Rattle.swc_ecma_codegen_ast.specs.FunctionPhrases.{is_never, is_some_listed}
 use Rattle.swc_ecma_codegen_base.specs.Run.{Env, Part, spelling, no_part}
@@ -32,19 +34,21 @@ use Rattle.swc_ecma_codegen_base.proofs.ListLaws.{IsUndelimited, children_of, pr
 use Rattle.swc_ecma_codegen_base.proofs.Phrased.{Prints, then, after, before, prints_nothing, prints_same, prints_keyword, prints_punct, prints_semi, prints_ident, mark_spelled, PrintsAt, prints_wider, loosened, joined_then, joined_mark, prints_joined_punct, prints_regrouped}
 use Rattle.swc_ecma_codegen_base.proofs.Printed.{with_room, within_then, deeper_within, writes_then, writes_same, writes_if, writes_nothing, writes_space, writes_formatting_space, writes_line, writes_commit, writes_position, writes_leading, writes_shallower, Fills, joined_punct_within}
 use Rattle.swc_ecma_codegen.specs.declared.nodes.Place.{Place}
-use Rattle.swc_ecma_codegen.specs.declared.nodes.Place.TheVariants.{Plain, Body, DeclarationHead}
-use Rattle.swc_ecma_codegen.specs.Places.{before_name}
+use Rattle.swc_ecma_codegen.specs.declared.nodes.Place.TheVariants.{Plain, Body, DeclarationHead, StaticHead}
+use Rattle.swc_ecma_codegen.specs.Places.{before_name, before_method}
+use Rattle.swc_ecma_codegen.specs.ClassExprs as class_words
 use Rattle.swc_ecma_codegen.specs.Functions as words
 use Rattle.swc_ecma_codegen.specs.Functions.{decorators_format, comma_list_format, decorator_place, param_place}
 use Rattle.swc_ecma_codegen.proofs.Impossible.{refused_or, prints_impossible, never_impossible}
 use Rattle.swc_ecma_codegen.proofs.Linked.{Linked, expr_at, pat_at, block_at}
+use Rattle.swc_ecma_codegen.proofs.ListParts.{in_order_prints}
 use Rattle.swc_ecma_codegen.proofs.MarkWords as marks
 use Rattle.swc_ecma_codegen_base.proofs.Shapes.{open_, loose, ended, closed, joined}
 use Rattle.swc_ecma_codegen_text_writer.specs.Sheet.{is_ending}
 
 -- ---- parameters
 
-decorator_prints : {X : Type 0} (l : Linked X) (n : Decorator X) → PrintsAt ended l.env (words.decorator l.items n) (lists.decorator l.reads n)
+pub decorator_prints : {X : Type 0} (l : Linked X) (n : Decorator X) → PrintsAt ended l.env (words.decorator l.items n) (lists.decorator l.reads n)
 unfolding words.decorator lists.decorator
 decorator_prints l n =
     after (writes_leading l.env n.span.lo)
@@ -53,10 +57,10 @@ decorator_prints l n =
     (before (expr_at l n.expr Plain) (writes_then l.env line_end (position n.span.hi) [] [] (writes_line l.env) (writes_position l.env n.span.hi)))))
 
 -- the format of decorators
-undelimited : IsUndelimited decorators_format
+pub undelimited : IsUndelimited decorators_format
 undelimited = record { no_comma = refl; no_bar = refl; no_ampersand = refl }
 
-param_prints : {X : Type 0} (l : Linked X) (n : Param X) → PrintsAt closed l.env (words.param l.items n) (lists.param l.reads n)
+pub param_prints : {X : Type 0} (l : Linked X) (n : Param X) → PrintsAt closed l.env (words.param l.items n) (lists.param l.reads n)
 unfolding words.param lists.param
 param_prints l n =
     after (writes_leading l.env n.span.lo)
@@ -66,7 +70,7 @@ param_prints l n =
 
 -- ---- functions
 
-body_prints : {X : Type 0} (l : Linked X) (body : Option (BlockStmtBox X)) → Prints l.env (words.function_body l.items body) (lists.function_body l.reads body)
+pub body_prints : {X : Type 0} (l : Linked X) (body : Option (BlockStmtBox X)) → Prints l.env (words.function_body l.items body) (lists.function_body l.reads body)
 unfolding words.function_body lists.function_body
 body_prints l None = prints_semi l.env
 body_prints l (Some n) = after (writes_formatting_space l.env) (block_at l n Body)
@@ -102,6 +106,10 @@ function_head_prints : {X : Type 0} (env : Env) (n : functions.Function X) → P
 unfolding words.function_head lists.function_head
 function_head_prints env n = async_then env n.is_async (then (prints_keyword env None (codes "function") marks.function_word) (star_prints env n.is_generator))
 
+writes_static_gap : (env : Env) (needed : Bool) → Writes env (words.static_gap needed) []
+unfolding words.static_gap
+writes_static_gap env needed = writes_if env needed space formatting_space [] (writes_space env) (writes_formatting_space env)
+
 space_prints : (env : Env) (wanted : Bool) → PrintsAt open_ env (words.star_or_space wanted) (lists.word_if wanted (mark (codes "*")))
 unfolding words.star_or_space lists.word_if
 space_prints env true = prints_wider open_ refl (before (prints_punct env (codes "*") marks.star) (writes_formatting_space env))
@@ -120,6 +128,44 @@ head_prints l n place = function_head_prints l.env n
 pub method_head_prints : {X : Type 0} (env : Env) (n : functions.Function X) → PrintsAt open_ env (words.method_head n) (lists.method_head n)
 unfolding words.method_head lists.method_head
 method_head_prints env n = then (async_prints env n.is_async) (star_prints env n.is_generator)
+
+static_head_prints : {X : Type 0} (env : Env) (starts : Bool) (n : functions.Function X) → Prints env (words.static_head starts n) (lists.method_head n)
+unfolding words.static_head
+static_head_prints env starts n = after (writes_static_gap env _) (method_head_prints env n)
+
+-- of a static method, with the blank before it
+pub before_method_prints : {X : Type 0} (l : Linked X) (n : functions.Function X) (place : Place) → Prints l.env (words.function l.items n (before_method place)) (lists.method_head n)
+unfolding words.function
+before_method_prints l n (StaticHead starts) = static_head_prints l.env starts n
+before_method_prints l n place = method_head_prints l.env n
+
+pub decorators_print : {X : Type 0} (l : Linked X) (ns : List (Decorator X)) → Prints l.env (words.decorator_lines l.items ns) (classes.decorators l.reads ns)
+unfolding classes.decorators
+decorators_print l ns = in_order_prints l.env (words.decorator l.items) (lists.decorator l.reads) (decorator_prints l) ns
+
+pub method_decorators_print : {X : Type 0} (l : Linked X) (n : functions.Function X) → Prints l.env (words.decorator_lines l.items n.decorators.items) (classes.method_decorators l.reads n)
+unfolding classes.method_decorators
+method_decorators_print l n = decorators_print l n.decorators.items
+
+method_body_prints : {X : Type 0} (l : Linked X) (body : Option (BlockStmtBox X)) → Prints l.env (words.method_body l.items body) (classes.method_body l.reads body)
+unfolding words.method_body classes.method_body
+method_body_prints l None = prints_punct l.env (codes ";") marks.semicolon
+method_body_prints l (Some n) = after (writes_formatting_space l.env) (block_at l n Plain)
+
+method_trailing_prints : {X : Type 0} (l : Linked X) (n : functions.Function X) → Prints l.env (words.method_tail_parts l.items n) (mark (codes "(") > phrases.listed (codes ",") (map (lists.param l.reads) n.params.items) > mark (codes ")") > classes.method_body l.reads n.body)
+unfolding words.method_tail_parts
+method_trailing_prints l n =
+    then (prints_punct l.env (codes "(") marks.left_parenthesis)
+    (then (prints_list l.env comma_list_format n.span param_place (words.param l.items) (lists.param l.reads) (param_prints l) refl refl refl refl n.params.items)
+    (then (prints_punct l.env (codes ")") marks.right_parenthesis) (method_body_prints l n.body)))
+
+pub method_tail_prints : {X : Type 0} (l : Linked X) (n : functions.Function X) → Prints l.env (words.method_tail l.items n) (classes.method_tail l.reads n)
+unfolding words.method_tail classes.method_tail
+method_tail_prints l n = refused_or (is_some n.type_params || is_some n.return_type) (method_trailing_prints l n)
+
+pub private_tail_prints : {X : Type 0} (l : Linked X) (n : functions.Function X) → Prints l.env (words.private_tail l.items n) (classes.private_tail l.reads n)
+unfolding words.private_tail classes.private_tail
+private_tail_prints l n = refused_or (is_some n.type_params || is_some n.return_type) (trailing_prints l n)
 
 pub name_prints : {X : Type 0} (l : Linked X) (n : Option Ident) → PrintsAt open_ l.env (words.optional_name n) (lists.optional_name n)
 unfolding words.optional_name lists.optional_name names.ident
@@ -229,3 +275,13 @@ arrow_parts_prints l n =
 pub arrow_expr_prints : {X : Type 0} (l : Linked X) (n : ArrowExpr X) → Prints l.env (words.arrow_expr l.asks l.items n) (lists.arrow_expr l.reads n)
 unfolding words.arrow_expr lists.arrow_expr
 arrow_expr_prints l n = refused_or (is_some n.type_params || is_some n.return_type) (arrow_parts_prints l n)
+
+-- ---- classes in expressions
+
+pub class_expr_prints : {X : Type 0} (l : Linked X) (n : ClassExpr X) → Prints l.env (class_words.class_expr l.asks l.items n) (classes.class_expr l.reads n)
+unfolding class_words.class_expr classes.class_expr
+class_expr_prints l n =
+    after (writes_leading l.env (l.asks n.class.node.value).place.lo)
+    (after (writes_position l.env (l.asks n.class.node.value).place.lo)
+    (then (l.law n.class.node.value Plain ClassHead)
+    (then (prints_keyword l.env None (codes "class") marks.class_word) (then (name_prints l n.ident) (l.law n.class.node.value Plain ClassTail)))))

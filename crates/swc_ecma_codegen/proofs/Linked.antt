@@ -53,7 +53,7 @@ prop_name_at l n = l.law n.node.value Plain PropertyName
 pub block_at : {X : Type 0} (l : Linked X) (n : BlockStmtBox X) (place : Place) → Prints l.env (l.items n.node.value place) (l.reads n.node.value Block)
 block_at l n place = l.law n.node.value place Block
 
-pub decl_at : {X : Type 0} (l : Linked X) (n : DeclBox X) (place : Place) → Prints l.env (l.items n.node.value place) (l.reads n.node.value Declaration)
+pub decl_at : {X : Type 0} (l : Linked X) (n : DeclBox X) (place : Place) → Prints l.env (l.items n.node.value (placed Declaration place)) (l.reads n.node.value Declaration)
 decl_at l n place = l.law n.node.value place Declaration
 
 pub var_decl_at : {X : Type 0} (l : Linked X) (n : VarDeclBox X) → PrintsAt ended l.env (l.items n.node.value Plain) (l.reads n.node.value VariableDeclaration)

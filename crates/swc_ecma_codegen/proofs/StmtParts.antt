@@ -23,6 +23,7 @@ use Rattle.swc_ecma_codegen_tree.specs.declared.stmts.TryStmt.{TryStmt}
 use Rattle.swc_ecma_codegen_tree.specs.declared.stmts.WithStmt.{WithStmt}
 use Rattle.swc_ecma_codegen_tree.specs.declared.programs.Program.{Program}
 use Rattle.swc_ecma_codegen_tree.specs.declared.programs.Program.TheVariants as program_variants
+use Rattle.swc_ecma_codegen_tree.specs.declared.programs.Module.{Module}
 use Rattle.swc_ecma_codegen_tree.specs.declared.programs.Script.{Script}
 use Rattle.swc_ecma_codegen_spans.specs.Spans.{stmt_span}
 use Rattle.swc_ecma_codegen_ast.specs.Phrases.{Never, in_order, ◌>◌, word}
@@ -33,7 +34,8 @@ use Rattle.swc_ecma_codegen_base.specs.Run.{Env}
 use Rattle.swc_ecma_codegen_base.specs.Words.{formatting_space, formatting_line, commit_pending_semi, trailing_comments, semi}
 use Rattle.swc_ecma_codegen_base.proofs.Choices.{prints_bare}
 use Rattle.swc_ecma_codegen_base.proofs.Phrased.{Prints, then, after, before, prints_nothing, prints_never, prints_keyword, prints_punct, prints_semi, PrintsAt, prints_wider, joined_then, prints_ident}
-use Rattle.swc_ecma_codegen_base.proofs.Printed.{writes_then, writes_same, writes_if, writes_nothing, writes_formatting_space, writes_formatting_line, writes_commit, writes_position, writes_leading, writes_trailing, Fills, makes_wider, EndsLines, writes_space}
+use Rattle.swc_ecma_codegen_base.proofs.Printed.{Writes, writes_then, writes_same, writes_if, writes_nothing, writes_formatting_space, writes_formatting_line, writes_commit, writes_position, writes_leading, writes_trailing, Fills, makes_wider, EndsLines, writes_space}
+use Rattle.swc_ecma_codegen_ast.specs.declared.roles.Role.TheVariants.{Item}
 use Rattle.swc_ecma_codegen.specs.declared.nodes.Place.TheVariants.{Plain, Statement}
 use Rattle.swc_ecma_codegen.specs.Answers.{place_of}
 use Rattle.swc_ecma_codegen.specs.Branches.{is_block}
@@ -42,6 +44,8 @@ use Rattle.swc_ecma_codegen.specs.Stmts as words
 use Rattle.swc_ecma_codegen.specs.Programs as programs
 use Rattle.swc_ecma_codegen.proofs.Asked.{kept_same, committed_same}
 use Rattle.swc_ecma_codegen.proofs.ExprParts.{writes_opened, ident_prints}
+use Rattle.swc_ecma_codegen.proofs.FunctionParts.{name_prints}
+use Rattle.swc_ecma_codegen.proofs.Impossible.{refused_or}
 use Rattle.swc_ecma_codegen.proofs.Linked.{Linked, expr_at, stmt_at, pat_at, block_at, decl_at}
 use Rattle.swc_ecma_codegen.proofs.ListParts.{in_order_prints}
 use Rattle.swc_ecma_codegen.proofs.LoopParts.{begun, begun_joined, enclosed_then, spaced_expr, spaced_stmt, switch_prints, while_prints, do_while_prints, for_prints, for_in_prints, for_of_prints}
@@ -231,7 +235,18 @@ pub script_prints : {X : Type 0} (l : Linked X) (n : Script X) → PrintsAt loos
 unfolding programs.script lists.script
 script_prints l n = script_case l n (is_some n.shebang)
 
+module_body_prints : {X : Type 0} (l : Linked X) (n : Module X) → Prints l.env (programs.module_body l.items n) (in_order (map (lists.item_at l.reads) n.body.items))
+unfolding programs.module_body
+module_body_prints l n =
+    after (writes_leading l.env n.span.lo)
+    (after (writes_start_if_empty l.env n.body.items n.span)
+    (before (in_order_prints l.env (programs.held_item l.items) (lists.item_at l.reads) (λ x. l.law x.node.value Plain Item) n.body.items) (writes_script_end l.env n.span)))
+
+module_prints : {X : Type 0} (l : Linked X) (n : Module X) → Prints l.env (programs.whole_module l.items n) (lists.whole_module l.reads n)
+unfolding programs.whole_module lists.whole_module
+module_prints l n = refused_or (is_some n.shebang) (module_body_prints l n)
+
 pub program_prints : {X : Type 0} (l : Linked X) (n : Program X) → PrintsAt loose l.env (programs.program l.items n) (lists.program l.reads n)
 unfolding programs.program lists.program
+program_prints l (program_variants.Module n) = module_prints l n
 program_prints l (program_variants.Script n) = script_prints l n
-program_prints l n = prints_never

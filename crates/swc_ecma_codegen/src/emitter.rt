@@ -108,7 +108,7 @@ impl<'a, W: WriteJs, S: SourceMapper, C: Comments> Emitter<'a, W, S, C> {
         // Where positions are kept, each name of a well-formed tree has its own where it begins, unless that is 0.
         ensures names { is_well_formed node.now ≡ true → (W.sheet self.old.wr).keeps_positions ≡ true → (W.sheet self.old.wr).keeps_invalid ≡ false → OnOk result (RecordsNames self.old.cfg (names_in (program_phrase node.now)) (W.sheet self.old.wr) (W.sheet self.new.wr)) }
         // Where the settings ask for ASCII, what is added is, unless a text that stands as it is in the tree isn't: a regular
-        // expression, or a directive with a backslash.
+        // expression, a template with a tag, or a directive with a backslash.
         ensures ascii { is_well_formed node.now ≡ true → WantsAscii (state_of S.lines W.sheet self.old) → keeps_other (steps_of (steps_in (program any_items node.now) (state_of S.lines W.sheet self.old))) ≡ false → OnOk result (AddsAscii (W.sheet self.old.wr).text (W.sheet self.new.wr).text) }
         // Under `inline_script` no string of a well-formed tree that is printed by its value ends a script of an HTML page, or
         // opens or closes a comment there: it holds no `<!--`, no `-->`, and no `</script` before `>` or ASCII whitespace.
@@ -146,7 +146,7 @@ impl<'a, W: WriteJs, S: SourceMapper, C: Comments> Emitter<'a, W, S, C> {
         // Where positions are kept, each name of a well-formed tree has its own where it begins, unless that is 0.
         ensures names { is_well_formed (Program.Script node.now) ≡ true → (W.sheet self.old.wr).keeps_positions ≡ true → (W.sheet self.old.wr).keeps_invalid ≡ false → OnOk result (RecordsNames self.old.cfg (names_in (program_phrase (Program.Script node.now))) (W.sheet self.old.wr) (W.sheet self.new.wr)) }
         // Where the settings ask for ASCII, what is added is, unless a text that stands as it is in the tree isn't: a regular
-        // expression, or a directive with a backslash.
+        // expression, a template with a tag, or a directive with a backslash.
         ensures ascii { is_well_formed (Program.Script node.now) ≡ true → WantsAscii (state_of S.lines W.sheet self.old) → keeps_other (steps_of (steps_in (script any_items node.now) (state_of S.lines W.sheet self.old))) ≡ false → OnOk result (AddsAscii (W.sheet self.old.wr).text (W.sheet self.new.wr).text) }
         // Under `inline_script` no string of a well-formed tree that is printed by its value ends a script of an HTML page, or
         // opens or closes a comment there: it holds no `<!--`, no `-->`, and no `</script` before `>` or ASCII whitespace.

@@ -9,7 +9,7 @@ use Rattle.swc_ecma_codegen_ast.specs.Endings.{IsReduced}
 use Rattle.swc_ecma_codegen_ast.specs.Keys.{wants_quotes, is_quoted, key_token}
 use Rattle.swc_ecma_codegen_ast.specs.Layouts.{AreAlike, PutsIn, no_more, token, with_semicolon, with_comma, with_parentheses, AreSameBut, IsWritten}
 use Rattle.swc_ecma_codegen_ast.specs.Names.{name_value}
-use Rattle.swc_ecma_codegen_ast.specs.Phrases.{Phrase, Never, Nothing, One, NameOf, KeyOf, Then, OptionalComma, OptionalParentheses, Chosen, EmptyArguments, LoopEnding, Generates, chosen, open_parenthesis, close_parenthesis, in_parentheses}
+use Rattle.swc_ecma_codegen_ast.specs.Phrases.{Phrase, Never, Nothing, One, NameOf, KeyOf, PrivateOf, Then, OptionalComma, OptionalParentheses, Chosen, EmptyArguments, LoopEnding, Generates, chosen, comma, open_parenthesis, close_parenthesis, in_parentheses}
 use Rattle.swc_ecma_codegen_ast.specs.Settings.{Settings, is_up_to_es5}
 use Rattle.swc_ecma_codegen_ast.specs.SpelledNames.{spelled_name}
 use Rattle.swc_ecma_codegen_ast.specs.Tokens.{Token, Units, ending}
@@ -125,6 +125,7 @@ core s Nothing = []
 core s (One x) = x ∷ []
 core s (NameOf at bytes) = tokens.name (name_value (spelled_name bytes)) ∷ []
 core s (KeyOf at bytes) = key_token s bytes ∷ []
+core s (PrivateOf bytes) = tokens.private_name (name_value (spelled_name bytes)) ∷ []
 core s (Then a b) = core s a ++ core s b
 core s OptionalComma = []
 core s (OptionalParentheses a) = core s a
@@ -163,6 +164,7 @@ listed s Nothing ts g = no_token ts g
 listed s (One x) ts g = one_token x ts g
 listed s (NameOf at bytes) ts g = one_token _ ts g
 listed s (KeyOf at bytes) ts g = one_token _ ts g
+listed s (PrivateOf bytes) ts g = one_token _ ts g
 listed s (Then a b) ts g = subst (λ z. PutsIn (core s a ++ core s b) z) (sym g.4) (puts_both (core s a) (core s b) g.0 g.1 (listed s a g.0 g.2) (listed s b g.1 g.3))
 listed s OptionalComma ts (inl g) = no_token ts g
 listed s OptionalComma ts (inr g) = subst (λ z. PutsIn [] z) (sym g) (with_comma [] [] no_more)
@@ -187,6 +189,7 @@ core_same s t Nothing a = refl
 core_same s t (One x) a = refl
 core_same s t (NameOf at bytes) a = refl
 core_same s t (KeyOf at bytes) a = ap (λ x. x ∷ []) (same_key s t bytes a)
+core_same s t (PrivateOf bytes) a = refl
 core_same s t (Then f g) a = ap (λ z. z ++ core s g) (core_same s t f a) ∙ ap (λ z. core t f ++ z) (core_same s t g a)
 core_same s t OptionalComma a = refl
 core_same s t (OptionalParentheses f) a = core_same s t f a

@@ -34,7 +34,7 @@ unfolding is_some_listed
 some_mapped g [] = refl
 some_mapped g (x ∷ xs) = refl
 
-param_mapped : {X Y : Type 0} (g : Param X → Param Y) (h : Decorator X → Decorator Y) (f : Y → Role → Phrase) (d : X → Role → Phrase) → ((n : Param X) → (g n).decorators.items ≡ map h n.decorators.items) → ((n : Param X) → pat_at f (g n).pat ≡ pat_at d n.pat) → ((n : Decorator X) → decorator f (h n) ≡ decorator d n) → (n : Param X) → param f (g n) ≡ param d n
+pub param_mapped : {X Y : Type 0} (g : Param X → Param Y) (h : Decorator X → Decorator Y) (f : Y → Role → Phrase) (d : X → Role → Phrase) → ((n : Param X) → (g n).decorators.items ≡ map h n.decorators.items) → ((n : Param X) → pat_at f (g n).pat ≡ pat_at d n.pat) → ((n : Decorator X) → decorator f (h n) ≡ decorator d n) → (n : Param X) → param f (g n) ≡ param d n
 unfolding param
 param_mapped g h f d items pat same n =
     ap (λ ds. in_order (map (decorator f) ds) > pat_at f (g n).pat) (items n)
@@ -47,7 +47,7 @@ undecorated decorated ps body = cond decorated Never (mark (codes "(") > listed 
 undecorated_same : (b c : Bool) (ps qs : List Phrase) (body : Phrase) → b ≡ c → ps ≡ qs → undecorated b ps body ≡ undecorated c qs body
 undecorated_same b c ps qs body e k = ap (λ z. undecorated z ps body) e ∙ ap (λ z. undecorated c z body) k
 
-abbrev with_parts : {X : Type 0} → functions.Function X → Option (BlockStmtBox X) → Option (TsTypeParamDeclBox X) → Option (TsTypeAnnBox X) → functions.Function X
+abbrev pub with_parts : {X : Type 0} → functions.Function X → Option (BlockStmtBox X) → Option (TsTypeParamDeclBox X) → Option (TsTypeAnnBox X) → functions.Function X
 with_parts n body type_params return_type = record n { body = body; type_params = type_params; return_type = return_type }
 
 function_mapped : {X Y : Type 0} (g : X → Y) (f : Y → Role → Phrase) (b : Box (functions.Function X) Global) (n : functions.Function X) (body : Option (BlockStmtBox X)) (type_params : Option (TsTypeParamDeclBox X)) (return_type : Option (TsTypeAnnBox X)) → node_phrase f (map-AnyNode X Y g (nodes.StmtPart (stmt_parts.Function (record b { value = with_parts n body type_params return_type })))) Function ≡ function (λ x. f (g x)) (with_parts n body type_params return_type)

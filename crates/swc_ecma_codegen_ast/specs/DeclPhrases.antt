@@ -1,5 +1,5 @@
--- Declarations: one production a node. `f` says what is read of what a link holds, in its role. Classes, and what TypeScript adds,
--- `declare` and `!` after a name, aren't printed yet.
+-- Declarations: one production a node. `f` says what is read of what a link holds, in its role. What TypeScript adds, `declare` and
+-- `!` after a name, isn't printed yet.
 use Rattle.std.specs.Prelude.{if◌then◌else◌, map, codes}
 use Rattle.swc_ecma_codegen_tree.specs.declared.stmt_links.DeclBox.{DeclBox}
 use Rattle.swc_ecma_codegen_tree.specs.declared.stmt_links.VarDeclBox.{VarDeclBox}
@@ -14,6 +14,7 @@ use Rattle.swc_ecma_codegen_tree.specs.declared.decls.VarDeclarator.{VarDeclarat
 use Rattle.swc_ecma_codegen_ast.specs.Phrases.{Phrase, Never, ◌>◌, word, ending, some_listed}
 use Rattle.swc_ecma_codegen_ast.specs.NamePhrases.{ident}
 use Rattle.swc_ecma_codegen_ast.specs.PatPhrases.{pat_at, initializer}
+use Rattle.swc_ecma_codegen_ast.specs.ClassPhrases.{class_decl}
 use Rattle.swc_ecma_codegen_ast.specs.FunctionPhrases.{word_if, function_at}
 use Rattle.swc_ecma_codegen_ast.specs.declared.roles.Role.{Role}
 use Rattle.swc_ecma_codegen_ast.specs.declared.roles.Role.TheVariants.{FunctionHead, Declaration, VariableDeclaration}
@@ -48,6 +49,7 @@ using_decl f n = word_if n.is_await (word (codes "await")) > word (codes "using"
 
 -- one of variables ends with a semicolon here, and has none in the head of a `for`
 unfoldable pub decl : {X : Type 0} → (X → Role → Phrase) → Decl X → Phrase
+decl f (decls.Class n) = class_decl f n
 decl f (decls.Fn n) = fn_decl f n
 decl f (decls.Var n) = var_decl_at f n > ending
 decl f (decls.Using n) = using_decl f n > ending

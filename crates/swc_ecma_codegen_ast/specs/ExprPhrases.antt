@@ -39,11 +39,13 @@ use Rattle.swc_ecma_codegen_ast.specs.Phrases.{Phrase, Never, Nothing, One, Opti
 use Rattle.swc_ecma_codegen_ast.specs.Tokens.{Token}
 use Rattle.swc_ecma_codegen_ast.specs.Tokens as tokens
 use Rattle.swc_ecma_codegen_ast.specs.declared.roles.Role.{Role}
-use Rattle.swc_ecma_codegen_ast.specs.declared.roles.Role.TheVariants.{Expression, MemberExpression, ChainMember, AssignmentTarget, ObjectLiteral, ChainCall}
+use Rattle.swc_ecma_codegen_ast.specs.declared.roles.Role.TheVariants.{Expression, MemberExpression, ChainMember, AssignmentTarget, ObjectLiteral, ChainCall, Template}
 use Rattle.swc_ecma_codegen_ast.specs.FunctionPhrases.{fn_expr, arrow_expr}
+use Rattle.swc_ecma_codegen_ast.specs.TemplatePhrases.{tagged_tpl}
+use Rattle.swc_ecma_codegen_ast.specs.ClassPhrases.{class_expr}
 use Rattle.swc_ecma_codegen_ast.specs.CallPhrases.{callee_at, array_lit, call_expr, new_expr}
 use Rattle.swc_ecma_codegen_ast.specs.LitPhrases.{lit}
-use Rattle.swc_ecma_codegen_ast.specs.NamePhrases.{ident, ident_name}
+use Rattle.swc_ecma_codegen_ast.specs.NamePhrases.{ident, ident_name, private_name}
 
 -- an expression that a link holds
 abbrev pub expr_at : {X : Type 0} → (X → Role → Phrase) → ExprBox X → Phrase
@@ -86,8 +88,8 @@ computed_prop_name f n = mark (codes "[") > expr_at f n.expr > mark (codes "]")
 
 unfoldable pub member_prop : {X : Type 0} → (X → Role → Phrase) → MemberProp X → Phrase
 member_prop f (member_props.Ident n) = mark (codes ".") > ident_name n
+member_prop f (member_props.PrivateName n) = mark (codes ".") > private_name n
 member_prop f (member_props.Computed n) = computed_prop_name f n
-member_prop f n = Never
 
 unfoldable pub member_expr : {X : Type 0} → (X → Role → Phrase) → MemberExpr X → Phrase
 member_expr f n = callee_at f n.obj > member_prop f n.prop
@@ -112,8 +114,8 @@ chain_mark false n = mark (codes ".")
 
 unfoldable pub chain_prop : {X : Type 0} → (X → Role → Phrase) → MemberProp X → Phrase
 chain_prop f (member_props.Ident n) = ident_name n
+chain_prop f (member_props.PrivateName n) = private_name n
 chain_prop f (member_props.Computed n) = computed_prop_name f n
-chain_prop f n = Never
 
 unfoldable pub chain_member : {X : Type 0} → (X → Role → Phrase) → Bool → MemberExpr X → Phrase
 chain_member f optional n = callee_at f n.obj > chain_mark optional n.prop > chain_prop f n.prop
@@ -187,11 +189,15 @@ expr f (exprs.New n) = new_expr f false n
 expr f (exprs.Seq n) = seq_expr f n
 expr f (exprs.Ident n) = ident n
 expr f (exprs.Lit n) = lit n
+expr f (exprs.Tpl n) = f n.node.value Template
+expr f (exprs.TaggedTpl n) = tagged_tpl f n
 expr f (exprs.Arrow n) = arrow_expr f n
+expr f (exprs.Class n) = class_expr f n
 expr f (exprs.Yield n) = yield_expr f n
 expr f (exprs.MetaProp n) = meta_prop_expr n
 expr f (exprs.Await n) = await_expr f n
 expr f (exprs.Paren n) = paren_expr f n
+expr f (exprs.PrivateName n) = private_name n
 expr f (exprs.OptChain n) = opt_chain_expr f n
 -- what isn't printed yet
 expr f n = Never

@@ -4,6 +4,7 @@ use Rattle.swc_ecma_codegen_tree.specs.declared.idents.Ident.{Ident}
 use Rattle.swc_ecma_codegen_tree.specs.declared.expr_links.ExprBox.{ExprBox}
 use Rattle.swc_ecma_codegen_tree.specs.declared.expr_links.PatBox.{PatBox}
 use Rattle.swc_ecma_codegen_tree.specs.declared.stmt_links.BlockStmtBox.{BlockStmtBox}
+use Rattle.swc_ecma_codegen_tree.specs.declared.stmt_links.ModuleItemBox.{ModuleItemBox}
 use Rattle.swc_ecma_codegen_tree.specs.declared.stmt_links.StmtBox.{StmtBox}
 use Rattle.swc_ecma_codegen_tree.specs.declared.stmts.Stmt.{Stmt}
 use Rattle.swc_ecma_codegen_tree.specs.declared.stmts.Stmt.TheVariants as stmts
@@ -33,10 +34,11 @@ use Rattle.swc_ecma_codegen_tree.specs.declared.stmts.WhileStmt.{WhileStmt}
 use Rattle.swc_ecma_codegen_tree.specs.declared.stmts.WithStmt.{WithStmt}
 use Rattle.swc_ecma_codegen_tree.specs.declared.programs.Program.{Program}
 use Rattle.swc_ecma_codegen_tree.specs.declared.programs.Program.TheVariants as programs
+use Rattle.swc_ecma_codegen_tree.specs.declared.programs.Module.{Module}
 use Rattle.swc_ecma_codegen_tree.specs.declared.programs.Script.{Script}
 use Rattle.swc_ecma_codegen_ast.specs.Phrases.{Phrase, Never, Nothing, OptionalParentheses, Chosen, LoopEnding, ◌>◌, word, mark, ending, in_order, same_line}
 use Rattle.swc_ecma_codegen_ast.specs.declared.roles.Role.{Role}
-use Rattle.swc_ecma_codegen_ast.specs.declared.roles.Role.TheVariants.{Statement, Block}
+use Rattle.swc_ecma_codegen_ast.specs.declared.roles.Role.TheVariants.{Statement, Block, Item}
 use Rattle.swc_ecma_codegen_ast.specs.NamePhrases.{ident}
 use Rattle.swc_ecma_codegen_ast.specs.PatPhrases.{value_at, pat_at}
 use Rattle.swc_ecma_codegen_ast.specs.FunctionPhrases.{word_if, block_at}
@@ -200,7 +202,14 @@ stmt f (stmts.Expr n) = expr_stmt f n
 unfoldable pub script : {X : Type 0} → (X → Role → Phrase) → Script X → Phrase
 script f n = if is_some n.shebang then Never else in_order (map (stmt_at f) n.body.items)
 
+-- an item of a module that a link holds
+abbrev pub item_at : {X : Type 0} → (X → Role → Phrase) → ModuleItemBox X → Phrase
+item_at f n = f n.node.value Item
+
+-- section 16.2
+unfoldable pub whole_module : {X : Type 0} → (X → Role → Phrase) → Module X → Phrase
+whole_module f n = if is_some n.shebang then Never else in_order (map (item_at f) n.body.items)
+
 unfoldable pub program : {X : Type 0} → (X → Role → Phrase) → Program X → Phrase
+program f (programs.Module n) = whole_module f n
 program f (programs.Script n) = script f n
--- what isn't printed yet
-program f n = Never

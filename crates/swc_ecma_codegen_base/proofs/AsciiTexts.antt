@@ -8,7 +8,7 @@ use Rattle.swc_ecma_codegen_common.specs.declared.errors.Refusal.{Refusal}
 use Rattle.swc_ecma_codegen_common.specs.declared.positions.Span.{Span}
 use Rattle.swc_ecma_codegen_ast.specs.GapRules.{fuses, Apart}
 use Rattle.swc_ecma_codegen_ast.specs.Settings.{Settings, is_up_to_es5}
-use Rattle.swc_ecma_codegen_ast.specs.Phrases.{Phrase, Never, Nothing, One, NameOf, KeyOf, Then, OptionalComma, OptionalParentheses, Chosen, EmptyArguments, LoopEnding, in_parentheses, close_parenthesis, Generates, chosen, is_possible}
+use Rattle.swc_ecma_codegen_ast.specs.Phrases.{Phrase, Never, Nothing, One, NameOf, KeyOf, PrivateOf, Then, OptionalComma, OptionalParentheses, Chosen, EmptyArguments, LoopEnding, in_parentheses, close_parenthesis, Generates, chosen, is_possible}
 use Rattle.swc_ecma_codegen_ast.specs.Tokens as lexical
 use Rattle.swc_ecma_codegen_text_writer.specs.Sheet.{Item, Semi, Space, Keyword, Operator, Param, Property, Line, Lit, Comment, StrLit, Str, Symbol, Punct, Position, Commit, Deeper, Shallower, Sheet, Semicolons, AtOnce, HoldsNone, HoldsOne, appended, written, literal_written, ended, settled, settled_by, semicolon_by, before_punct, is_ending, dropped, effect}
 use Rattle.swc_ecma_codegen_text_writer.proofs.Sheets.{effect_indent_text, effect_line_end, settled_same}
@@ -177,12 +177,13 @@ unfolding keeps_tokens chosen is_other_value lexical.ending
 ending_kept s = elim (is_up_to_es5 s.target) as (λ b. keeps_tokens (cond b (lexical.ending ∷ []) []) ≡ false) [ true ↦ refl | false ↦ refl ]
 
 kept_listed : (s : Settings) (f : Phrase) (ts : List lexical.Token) → is_possible f ≡ true → Generates s f ts → keeps_tokens ts ≡ may_keep_other f
-unfolding Generates is_possible keeps_tokens may_keep_other is_other_value lexical.name lexical.punctuator
+unfolding Generates is_possible keeps_tokens may_keep_other is_other_value lexical.name lexical.private_name lexical.punctuator
 kept_listed s Never ts w g = absurd g
 kept_listed s Nothing ts w g = ap keeps_tokens g
 kept_listed s (One x) ts w g = ap keeps_tokens g ∙ kept_alone (is_other_value x.kind x.value)
 kept_listed s (NameOf at bytes) ts w g = ap keeps_tokens g
 kept_listed s (KeyOf at bytes) ts w g = ap keeps_tokens g ∙ key_kept s bytes w
+kept_listed s (PrivateOf bytes) ts w g = ap keeps_tokens g
 kept_listed s (Then a b) ts w g =
     let p = and_parts (is_possible a) (is_possible b) w in
     ap keeps_tokens g.4 ∙ tokens_keep g.0 g.1 ∙ ap (λ z. z || keeps_tokens g.1) (kept_listed s a g.0 p.0 g.2) ∙ ap (λ z. may_keep_other a || z) (kept_listed s b g.1 p.1 g.3)

@@ -9,7 +9,7 @@ use Rattle.swc_ecma_codegen_base.specs.declared.refusals.Unprintable.{Unprintabl
 use Rattle.swc_ecma_codegen_text_writer.proofs.Sheets.{effect_refused, effect_faults, effect_takes_memory, effect_keeps_positions}
 use Rattle.swc_ecma_codegen_ast.specs.Tokens.{Token as LexicalToken, ending}
 use Rattle.swc_ecma_codegen_ast.specs.Settings.{Settings, is_up_to_es5}
-use Rattle.swc_ecma_codegen_ast.specs.Phrases.{Phrase, Never, Nothing, One, NameOf, KeyOf, Then, OptionalComma, OptionalParentheses, Chosen, EmptyArguments, LoopEnding, in_parentheses, close_parenthesis, Generates, chosen, is_possible}
+use Rattle.swc_ecma_codegen_ast.specs.Phrases.{Phrase, Never, Nothing, One, NameOf, KeyOf, PrivateOf, Then, OptionalComma, OptionalParentheses, Chosen, EmptyArguments, LoopEnding, in_parentheses, close_parenthesis, Generates, chosen, is_possible}
 use Rattle.swc_ecma_codegen_base.specs.declared.refusals.Unprintable.TheVariants.{NameOutOfTarget}
 use Rattle.swc_ecma_codegen_base.specs.Targets.{is_out}
 use Rattle.swc_ecma_codegen_base.specs.Run.{Env, Plan, Part, Step, State, run, steps_of, unprintable_in, nothing, Follows, HasCause, PassesLimit, IsUnhindered, earlier, stopped, reached}
@@ -38,6 +38,7 @@ counted s Nothing ts g = let e = ap length g in omega (arith, e)
 counted s (One x) ts g = let e = ap length g in omega (arith, e)
 counted s (NameOf at bytes) ts g = let e = ap length g in omega (arith, e)
 counted s (KeyOf at bytes) ts g = let e = ap length g in omega (arith, e)
+counted s (PrivateOf bytes) ts g = let e = ap length g in omega (arith, e)
 counted s (Then a b) ts g =
     let h = counted s a g.0 g.2 in
     let k = counted s b g.1 g.3 in

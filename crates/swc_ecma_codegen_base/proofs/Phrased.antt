@@ -359,7 +359,7 @@ joined_then env span t w h = prints_regrouped (then (joint_word env (keyword spa
 
 -- ---- names
 
-name_written : (config : Config) (bytes : List ℕ) → is_well_formed_name bytes ≡ true → is_out_name config (turned bytes) ≡ false → Names config (turned bytes) (written_name config bytes)
+pub name_written : (config : Config) (bytes : List ℕ) → is_well_formed_name bytes ≡ true → is_out_name config (turned bytes) ≡ false → Names config (turned bytes) (written_name config bytes)
 unfolding is_well_formed_name names.spelled_name written_name
 name_written config bytes w o = let p = and_parts (is_utf8 (turned bytes)) (is_name (chars (turned bytes))) w in names_in_ascii config (turned bytes) p.0 p.1 o
 

@@ -14,7 +14,7 @@ use Rattle.swc_ecma_codegen_base.specs.Run.{Env, Plan, Part, State, Step, Guard,
 use Rattle.swc_ecma_codegen_base.specs.Words.{keyword, operator, word_operator, punct, placed_punct, semi, space, formatting_space, line_end, formatting_line, commit_pending_semi, position, position_before, leading_comments, trailing_comments, symbol, spelled_symbol, valid_symbol, name_text}
 use Rattle.swc_ecma_codegen_base.specs.Lists.{deeper, shallower}
 use Rattle.swc_ecma_codegen_literals.specs.AsciiNames.{is_ascii_text}
-use Rattle.swc_ecma_codegen_base.specs.Ascii.{is_kept, is_other, keeps_other, are_ascii}
+use Rattle.swc_ecma_codegen_base.specs.Ascii.{is_kept, is_other, is_kept_piece, is_other_piece, keeps_other, are_ascii}
 use Rattle.swc_ecma_codegen_base.specs.Scripts.{is_string_call}
 use Rattle.swc_ecma_codegen_base.specs.Targets.{wants_escapes, in_ascii, is_out_name, written_name}
 use Rattle.swc_ecma_codegen_base.specs.Written.{AtRest}
@@ -31,7 +31,7 @@ unfoldable pub chain : List Step → Steps → Steps
 chain [] rest = rest
 chain (x ∷ xs) rest = next x (chain xs rest)
 
-chain_append : (xs ys : List Step) (rest : Steps) → chain (xs ++ ys) rest ≡ chain xs (chain ys rest)
+pub chain_append : (xs ys : List Step) (rest : Steps) → chain (xs ++ ys) rest ≡ chain xs (chain ys rest)
 unfolding chain
 chain_append [] ys rest = refl
 chain_append (x ∷ xs) ys rest = ap (λ z. next x z) (chain_append xs ys rest)
@@ -72,7 +72,7 @@ pub or_false : (b : Bool) → (b || false) ≡ b
 or_false true = refl
 or_false false = refl
 
-remakes_append : (xs ys : List Step) → makes_text (xs ++ ys) ≡ (makes_text xs || makes_text ys)
+pub remakes_append : (xs ys : List Step) → makes_text (xs ++ ys) ≡ (makes_text xs || makes_text ys)
 unfolding makes_text
 remakes_append [] ys = refl
 remakes_append (Guard t ∷ xs) ys = remakes_append xs ys
@@ -278,7 +278,7 @@ name_token env kind t p a = writes_two env (Guard t) (Token kind (Symbol dummy_s
 
 -- with a position, which stands after the blank that is due
 placed_token : (env : Env) (kind : Kind) (pos : BytePos) (t : List ℕ) → Spelled kind t → (env.config.ascii_only ≡ true → is_ascii_text t ≡ true) → Writes env (λ rest. step (Guard t) (step (Plain (Position pos)) (step (Token kind (Symbol dummy_span t)) rest))) (token_of kind (spelling kind t) ∷ [])
-unfolding step chain run put effect text_of after_token after_plain own_put makes_text levels rise are_ascii has_string is_string_call keeps_other is_other is_kept
+unfolding step chain run put effect text_of after_token after_plain own_put makes_text levels rise are_ascii has_string is_string_call keeps_other is_other is_kept is_other_piece is_kept_piece
 placed_token env kind pos t p a = record {
   steps = Guard t ∷ Plain (Position pos) ∷ Token kind (Symbol dummy_span t) ∷ [];
   is_steps = λ rest. refl;

@@ -3,6 +3,7 @@
 
 mod big_integers;
 mod calls;
+mod classes;
 mod code_units;
 mod decls;
 pub mod exprs;
@@ -10,6 +11,7 @@ pub mod forms;
 mod functions;
 mod knot;
 mod lits;
+mod modules;
 mod names;
 mod numbers;
 mod numerals;
@@ -20,6 +22,7 @@ mod regexes;
 mod stmts;
 mod strings;
 mod targets;
+mod templates;
 mod texts;
 
 pub use crate::forms::{Fits, WellFormed};

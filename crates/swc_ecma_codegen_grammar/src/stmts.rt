@@ -353,8 +353,8 @@ impl<N: Fits> WellFormed for Program<N> {
     #[tactic(auto, unfolding(swc_ecma_codegen_ast::specs::StmtPhrases::program, swc_ecma_codegen_ast::specs::Phrases::is_possible))]
     fn is_well_formed(&self) -> bool {
         match self {
+            Program::Module(node) => node.is_well_formed(),
             Program::Script(node) => node.is_well_formed(),
-            _ => false,
         }
     }
 }

@@ -160,13 +160,13 @@ fn is_unsupported<N: Tree>(alloc: Global, program: &Program<N>) -> bool {
     matches!(to_code(alloc, program), Err(Error::UnsupportedNode)) && !program.is_well_formed()
 }
 
-/// Whether an empty module and a script with a hashbang are refused.
+/// Whether a module and a script with a hashbang are refused.
 pub(crate) fn are_unsupported<N: Tree>(alloc: Global) -> Result<bool, Fail> {
     let span = DUMMY_SP;
     let module = Module {
         span,
         body: Vec::new(alloc),
-        shebang: None,
+        shebang: Some(String::from_str(alloc, "a")?),
     };
     let script = Script {
         span,
