@@ -32,7 +32,7 @@ use Rattle.swc_ecma_codegen.proofs.Impossible.{refused_or}
 use Rattle.swc_ecma_codegen.proofs.Linked.{Linked, pat_at, var_decl_at}
 use Rattle.swc_ecma_codegen.proofs.MarkWords as marks
 use Rattle.swc_ecma_codegen.proofs.PatParts.{initializer_prints}
-use Rattle.swc_ecma_codegen_base.proofs.Shapes.{open_, loose, ended}
+use Rattle.swc_ecma_codegen_base.proofs.Shapes.{open_, loose, ended, ended_if_any}
 
 fn_decl_prints : {X : Type 0} (l : Linked X) (n : FnDecl X) → Prints l.env (words.fn_decl l.asks l.items n) (lists.fn_decl l.reads n)
 unfolding words.fn_decl words.fn_decl_parts lists.fn_decl
@@ -106,10 +106,10 @@ decl_prints l n place = prints_never
 
 -- ---- one that is exported
 
-pub exported_head_prints : {X : Type 0} (l : Linked X) (n : Decl X) → Prints l.env (words.decl l.asks l.items n ExportedHead) (module_lists.exported_head l.reads n)
+pub exported_head_prints : {X : Type 0} (l : Linked X) (n : Decl X) → PrintsAt ended_if_any l.env (words.decl l.asks l.items n ExportedHead) (module_lists.exported_head l.reads n)
 unfolding words.decl words.without_head words.by_export module_lists.exported_head
 exported_head_prints l (decls.Class n) = l.law n.class.node.value Plain HeadOfClass
-exported_head_prints l n = prints_nothing
+exported_head_prints l n = prints_wider ended_if_any refl prints_nothing
 
 exported_class_prints : {X : Type 0} (l : Linked X) (n : ClassDecl X) → Prints l.env (words.exported_class l.asks l.items n) (cond n.declare Never (phrases.word (codes "class") > ident_list n.ident > l.reads n.class.node.value ClassTail))
 unfolding words.exported_class words.exported_class_parts

@@ -43,7 +43,7 @@ use Rattle.swc_ecma_codegen.proofs.Impossible.{refused_or, prints_impossible, ne
 use Rattle.swc_ecma_codegen.proofs.Linked.{Linked, expr_at, pat_at, block_at}
 use Rattle.swc_ecma_codegen.proofs.ListParts.{in_order_prints}
 use Rattle.swc_ecma_codegen.proofs.MarkWords as marks
-use Rattle.swc_ecma_codegen_base.proofs.Shapes.{open_, loose, ended, closed, joined}
+use Rattle.swc_ecma_codegen_base.proofs.Shapes.{open_, loose, ended, ended_if_any, closed, joined, at_joint, joining_if_any}
 use Rattle.swc_ecma_codegen_text_writer.specs.Sheet.{is_ending}
 
 -- ---- parameters
@@ -102,11 +102,17 @@ unfolding words.async_word lists.after_async
 async_then env true h = joined_then env None (codes "async") marks.async_word (after (writes_space env) h)
 async_then env false h = h
 
+-- the same of what may be nothing
+after_async_prints : (env : Env) (wanted : Bool) {p : Part} {f : Phrase} → PrintsAt open_ env p f → PrintsAt joining_if_any env (λ rest. words.async_word wanted (p rest)) (lists.after_async wanted f)
+unfolding words.async_word lists.after_async
+after_async_prints env true h = prints_wider joining_if_any refl (joined_then env None (codes "async") marks.async_word (after (writes_space env) h))
+after_async_prints env false h = prints_wider joining_if_any refl h
+
 function_head_prints : {X : Type 0} (env : Env) (n : functions.Function X) → Prints env (words.function_head n) (lists.function_head n)
 unfolding words.function_head lists.function_head
 function_head_prints env n = async_then env n.is_async (then (prints_keyword env None (codes "function") marks.function_word) (star_prints env n.is_generator))
 
-writes_static_gap : (env : Env) (needed : Bool) → Writes env (words.static_gap needed) []
+writes_static_gap : (env : Env) (needed : Bool) → Fills env (words.static_gap needed)
 unfolding words.static_gap
 writes_static_gap env needed = writes_if env needed space formatting_space [] (writes_space env) (writes_formatting_space env)
 
@@ -125,25 +131,25 @@ unfolding words.function
 head_prints l n DeclarationHead = declaration_head_prints l.env n
 head_prints l n place = function_head_prints l.env n
 
-pub method_head_prints : {X : Type 0} (env : Env) (n : functions.Function X) → PrintsAt open_ env (words.method_head n) (lists.method_head n)
+pub method_head_prints : {X : Type 0} (env : Env) (n : functions.Function X) → PrintsAt joining_if_any env (words.method_head n) (lists.method_head n)
 unfolding words.method_head lists.method_head
-method_head_prints env n = then (async_prints env n.is_async) (star_prints env n.is_generator)
+method_head_prints env n = after_async_prints env n.is_async (star_prints env n.is_generator)
 
-static_head_prints : {X : Type 0} (env : Env) (starts : Bool) (n : functions.Function X) → Prints env (words.static_head starts n) (lists.method_head n)
+static_head_prints : {X : Type 0} (env : Env) (starts : Bool) (n : functions.Function X) → PrintsAt joining_if_any env (words.static_head starts n) (lists.method_head n)
 unfolding words.static_head
 static_head_prints env starts n = after (writes_static_gap env _) (method_head_prints env n)
 
 -- of a static method, with the blank before it
-pub before_method_prints : {X : Type 0} (l : Linked X) (n : functions.Function X) (place : Place) → Prints l.env (words.function l.items n (before_method place)) (lists.method_head n)
+pub before_method_prints : {X : Type 0} (l : Linked X) (n : functions.Function X) (place : Place) → PrintsAt joining_if_any l.env (words.function l.items n (before_method place)) (lists.method_head n)
 unfolding words.function
 before_method_prints l n (StaticHead starts) = static_head_prints l.env starts n
 before_method_prints l n place = method_head_prints l.env n
 
-pub decorators_print : {X : Type 0} (l : Linked X) (ns : List (Decorator X)) → Prints l.env (words.decorator_lines l.items ns) (classes.decorators l.reads ns)
+pub decorators_print : {X : Type 0} (l : Linked X) (ns : List (Decorator X)) → PrintsAt ended_if_any l.env (words.decorator_lines l.items ns) (classes.decorators l.reads ns)
 unfolding classes.decorators
 decorators_print l ns = in_order_prints l.env (words.decorator l.items) (lists.decorator l.reads) (decorator_prints l) ns
 
-pub method_decorators_print : {X : Type 0} (l : Linked X) (n : functions.Function X) → Prints l.env (words.decorator_lines l.items n.decorators.items) (classes.method_decorators l.reads n)
+pub method_decorators_print : {X : Type 0} (l : Linked X) (n : functions.Function X) → PrintsAt ended_if_any l.env (words.decorator_lines l.items n.decorators.items) (classes.method_decorators l.reads n)
 unfolding classes.method_decorators
 method_decorators_print l n = decorators_print l n.decorators.items
 
@@ -156,7 +162,7 @@ method_trailing_prints : {X : Type 0} (l : Linked X) (n : functions.Function X) 
 unfolding words.method_tail_parts
 method_trailing_prints l n =
     then (prints_punct l.env (codes "(") marks.left_parenthesis)
-    (then (prints_list l.env comma_list_format n.span param_place (words.param l.items) (lists.param l.reads) (param_prints l) refl refl refl refl n.params.items)
+    (then (prints_list l.env comma_list_format n.span param_place (words.param l.items) (lists.param l.reads) (λ p. prints_wider loose refl (param_prints l p)) refl refl refl refl n.params.items)
     (then (prints_punct l.env (codes ")") marks.right_parenthesis) (method_body_prints l n.body)))
 
 pub method_tail_prints : {X : Type 0} (l : Linked X) (n : functions.Function X) → Prints l.env (words.method_tail l.items n) (classes.method_tail l.reads n)

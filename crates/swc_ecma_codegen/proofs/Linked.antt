@@ -2,7 +2,7 @@
 use Rattle.std.proofs.Common.{◌≡◌, false, cond}
 use Rattle.swc_ecma_codegen_ast.specs.Phrases.{Phrase, Never}
 use Rattle.swc_ecma_codegen_ast.specs.declared.roles.Role.{Role}
-use Rattle.swc_ecma_codegen_ast.specs.declared.roles.Role.TheVariants.{Expression, Statement, Pattern, PlainParameter, PropertyName, Block, Declaration, VariableDeclaration, MethodHead}
+use Rattle.swc_ecma_codegen_ast.specs.declared.roles.Role.TheVariants.{Expression, Statement, Pattern, PlainParameter, PropertyName, Block, Declaration, VariableDeclaration, MethodHead, ClassHead, MethodDecorators, Member, ExportedHead, Item, ModuleDeclaration}
 use Rattle.swc_ecma_codegen_tree.specs.declared.expr_links.ExprBox.{ExprBox}
 use Rattle.swc_ecma_codegen_tree.specs.declared.expr_links.PatBox.{PatBox}
 use Rattle.swc_ecma_codegen_tree.specs.declared.expr_links.PropNameBox.{PropNameBox}
@@ -17,14 +17,21 @@ use Rattle.swc_ecma_codegen.specs.declared.nodes.Place.TheVariants.{Plain}
 use Rattle.swc_ecma_codegen.specs.Answers.{Answers}
 use Rattle.swc_ecma_codegen.specs.Functions.{is_plain}
 use Rattle.swc_ecma_codegen.specs.Places.{placed}
-use Rattle.swc_ecma_codegen_base.proofs.Shapes.{Shape, whole, open_, ended}
+use Rattle.swc_ecma_codegen_base.proofs.Shapes.{Shape, whole, closed, ended, ended_if_any, joining_if_any}
 
--- A statement may end with the end of its line, and declarations of variables with a list; of a method there may be nothing before
--- its name. All else begins and ends with a token.
+-- A statement may end with the end of its line, as an item of a module does, and declarations of variables with a list; decorators
+-- stand on lines of their own, where there are some; of a method there may be `async` before its name, on the line of that name, or
+-- nothing. All else begins and ends with a token.
 abbrev pub role_shape : Role → Shape
 role_shape Statement = ended
 role_shape VariableDeclaration = ended
-role_shape MethodHead = open_
+role_shape Item = ended
+role_shape ModuleDeclaration = ended
+role_shape ClassHead = ended_if_any
+role_shape ExportedHead = ended_if_any
+role_shape MethodDecorators = ended_if_any
+role_shape MethodHead = joining_if_any
+role_shape Member = closed
 role_shape role = whole
 
 -- What it answers, what is written of it, and what it reads as, in each role; that it is said to be a name alone where it may stand

@@ -35,7 +35,8 @@ use Rattle.swc_ecma_codegen_base.specs.Lists.{list}
 use Rattle.swc_ecma_codegen_base.specs.Run.{Env, Part}
 use Rattle.swc_ecma_codegen_base.specs.Words.{punct}
 use Rattle.swc_ecma_codegen_base.proofs.ListLaws.{children_of, writes_no_list, prints_some, prints_optional_closing}
-use Rattle.swc_ecma_codegen_base.proofs.Phrased.{Prints, then, after, before, prints_nothing, prints_never, prints_keyword, prints_punct, prints_semi}
+use Rattle.swc_ecma_codegen_base.proofs.Shapes.{open_, closed, ended}
+use Rattle.swc_ecma_codegen_base.proofs.Phrased.{Prints, PrintsAt, prints_wider, loosened, then, after, before, prints_nothing, prints_never, prints_keyword, prints_punct, prints_semi}
 use Rattle.swc_ecma_codegen_base.proofs.Printed.{Writes, writes_then, writes_nothing, writes_space, writes_formatting_space, writes_formatting_line, writes_position, writes_leading, writes_trailing}
 use Rattle.swc_ecma_codegen_base.proofs.StringPrints.{prints_str}
 use Rattle.swc_ecma_codegen.specs.declared.nodes.Place.TheVariants.{Plain}
@@ -70,10 +71,10 @@ star_prints env h =
 
 -- ---- imports
 
-imported_prints : {X : Type 0} (l : Linked X) (n : Option ModuleExportName) → Prints l.env (words.imported_as n) (lists.imported_as n)
+imported_prints : {X : Type 0} (l : Linked X) (n : Option ModuleExportName) → PrintsAt open_ l.env (words.imported_as n) (lists.imported_as n)
 unfolding words.imported_as lists.imported_as
 imported_prints l None = prints_nothing
-imported_prints l (Some n) = then (name_prints l n) (as_prints l.env)
+imported_prints l (Some n) = prints_wider open_ refl (then (name_prints l n) (as_prints l.env))
 
 import_named_prints : {X : Type 0} (l : Linked X) (n : ImportNamedSpecifier) → Prints l.env (words.import_named n) (lists.import_named n)
 unfolding words.import_named words.import_named_parts lists.import_named
@@ -85,12 +86,12 @@ unfolding words.import_specifier lists.import_specifier
 import_specifier_prints l (imported.Named n) = import_named_prints l n
 import_specifier_prints l n = prints_never
 
-import_list_prints : {X : Type 0} (l : Linked X) (parent : Span) (close : Part) (after_list : Phrase) → Prints l.env close after_list → (ns : List ImportSpecifier) → Prints l.env (λ rest. words.import_list parent ns (close rest)) (phrases.listed (codes ",") (map lists.import_specifier ns) > trailing_comma ns > after_list)
+import_list_prints : {X : Type 0} (l : Linked X) (parent : Span) (close : Part) (after_list : Phrase) → Prints l.env close after_list → (ns : List ImportSpecifier) → PrintsAt closed l.env (λ rest. words.import_list parent ns (close rest)) (phrases.listed (codes ",") (map lists.import_specifier ns) > trailing_comma ns > after_list)
 unfolding phrases.listed trailing_comma
 import_list_prints l parent close after_list closed [] = after (writes_no_list l.env words.named_format parent) (then prints_nothing (then prints_nothing closed))
 import_list_prints l parent close after_list closed (n ∷ ns) =
     prints_some l.env words.named_format parent import_specifier_span words.import_specifier lists.import_specifier OptionalComma after_list close
-    (import_specifier_prints l) refl refl (λ last. prints_optional_closing l.env words.named_format parent last refl refl) closed n ns
+    (λ n. loosened (import_specifier_prints l n)) refl refl (λ last. prints_optional_closing l.env words.named_format parent last refl refl) closed n ns
 
 import_braces_print : {X : Type 0} (l : Linked X) (parent : Span) (ns : List ImportSpecifier) → Prints l.env (λ rest. punct (codes "{") (words.import_list parent ns (punct (codes "}") rest))) (mark (codes "{") > phrases.listed (codes ",") (map lists.import_specifier ns) > trailing_comma ns > mark (codes "}"))
 import_braces_print l parent ns = then (prints_punct l.env (codes "{") marks.left_brace) (import_list_prints l parent (punct (codes "}")) (mark (codes "}")) (prints_punct l.env (codes "}") marks.right_brace) ns)
@@ -103,23 +104,23 @@ bindings_print l parent (imported.Namespace n ∷ m ∷ ns) = before (import_bra
 bindings_print l parent (imported.Named n ∷ ns) = before (import_braces_print l parent (imported.Named n ∷ ns)) (writes_formatting_space l.env)
 bindings_print l parent (imported.Default n ∷ ns) = before (import_braces_print l parent (imported.Default n ∷ ns)) (writes_formatting_space l.env)
 
-after_default_prints : {X : Type 0} (l : Linked X) (parent : Span) (ns : List ImportSpecifier) → Prints l.env (words.after_default parent ns) (lists.after_default ns)
+after_default_prints : {X : Type 0} (l : Linked X) (parent : Span) (ns : List ImportSpecifier) → PrintsAt open_ l.env (words.after_default parent ns) (lists.after_default ns)
 unfolding words.after_default lists.after_default
 after_default_prints l parent [] = after (writes_space l.env) prints_nothing
-after_default_prints l parent (n ∷ ns) = then (prints_punct l.env (codes ",") marks.comma) (after (writes_formatting_space l.env) (bindings_print l parent (n ∷ ns)))
+after_default_prints l parent (n ∷ ns) = prints_wider open_ refl (then (prints_punct l.env (codes ",") marks.comma) (after (writes_formatting_space l.env) (bindings_print l parent (n ∷ ns))))
 
-import_clause_prints : {X : Type 0} (l : Linked X) (parent : Span) (ns : List ImportSpecifier) → Prints l.env (words.import_clause parent ns) (lists.import_clause ns)
+import_clause_prints : {X : Type 0} (l : Linked X) (parent : Span) (ns : List ImportSpecifier) → PrintsAt open_ l.env (words.import_clause parent ns) (lists.import_clause ns)
 unfolding words.import_clause words.some_imports words.begins_default words.default_clause words.default_name words.bindings_clause lists.import_clause
 import_clause_prints l parent [] = prints_nothing
-import_clause_prints l parent (imported.Default n ∷ ns) = then (ident_prints l n.local) (then (after_default_prints l parent ns) (from_prints l.env))
-import_clause_prints l parent (imported.Named n ∷ ns) = then (bindings_print l parent (imported.Named n ∷ ns)) (from_prints l.env)
-import_clause_prints l parent (imported.Namespace n ∷ ns) = then (bindings_print l parent (imported.Namespace n ∷ ns)) (from_prints l.env)
+import_clause_prints l parent (imported.Default n ∷ ns) = prints_wider open_ refl (then (ident_prints l n.local) (then (after_default_prints l parent ns) (from_prints l.env)))
+import_clause_prints l parent (imported.Named n ∷ ns) = prints_wider open_ refl (then (bindings_print l parent (imported.Named n ∷ ns)) (from_prints l.env))
+import_clause_prints l parent (imported.Namespace n ∷ ns) = prints_wider open_ refl (then (bindings_print l parent (imported.Namespace n ∷ ns)) (from_prints l.env))
 
-phase_prints : (env : Env) (phase : ImportPhase) → Prints env (words.phase_word phase) (lists.import_phase phase)
+phase_prints : (env : Env) (phase : ImportPhase) → PrintsAt open_ env (words.phase_word phase) (lists.import_phase phase)
 unfolding words.phase_word lists.import_phase
 phase_prints env Evaluation = prints_nothing
-phase_prints env Source = after (writes_space env) (prints_keyword env None (codes "source") marks.source_word)
-phase_prints env Defer = after (writes_space env) (prints_keyword env None (codes "defer") marks.defer_word)
+phase_prints env Source = prints_wider open_ refl (after (writes_space env) (prints_keyword env None (codes "source") marks.source_word))
+phase_prints env Defer = prints_wider open_ refl (after (writes_space env) (prints_keyword env None (codes "defer") marks.defer_word))
 
 import_prints : {X : Type 0} (l : Linked X) (n : ImportDecl X) → Prints l.env (words.import_decl n) (lists.import_decl n)
 unfolding words.import_decl words.import_parts words.import_tail lists.import_decl
@@ -134,10 +135,10 @@ import_prints l n = refused_or (n.type_only || is_some n.with_)
 
 -- ---- exports
 
-exported_as_prints : {X : Type 0} (l : Linked X) (n : Option ModuleExportName) → Prints l.env (words.exported_as n) (lists.exported_as n)
+exported_as_prints : {X : Type 0} (l : Linked X) (n : Option ModuleExportName) → PrintsAt open_ l.env (words.exported_as n) (lists.exported_as n)
 unfolding words.exported_as lists.exported_as
 exported_as_prints l None = prints_nothing
-exported_as_prints l (Some n) = then (as_prints l.env) (name_prints l n)
+exported_as_prints l (Some n) = prints_wider open_ refl (then (as_prints l.env) (name_prints l n))
 
 export_named_specifier_prints : {X : Type 0} (l : Linked X) (n : ExportNamedSpecifier) → Prints l.env (words.export_named_specifier n) (lists.export_named_specifier n)
 unfolding words.export_named_specifier words.export_named_parts lists.export_named_specifier
@@ -150,12 +151,12 @@ unfolding words.export_specifier lists.export_specifier
 export_specifier_prints l (exported.Named n) = export_named_specifier_prints l n
 export_specifier_prints l n = prints_never
 
-export_list_prints : {X : Type 0} (l : Linked X) (parent : Span) (close : Part) (after_list : Phrase) → Prints l.env close after_list → (ns : List ExportSpecifier) → Prints l.env (λ rest. words.export_list parent ns (close rest)) (phrases.listed (codes ",") (map lists.export_specifier ns) > trailing_comma ns > after_list)
+export_list_prints : {X : Type 0} (l : Linked X) (parent : Span) (close : Part) (after_list : Phrase) → Prints l.env close after_list → (ns : List ExportSpecifier) → PrintsAt closed l.env (λ rest. words.export_list parent ns (close rest)) (phrases.listed (codes ",") (map lists.export_specifier ns) > trailing_comma ns > after_list)
 unfolding phrases.listed trailing_comma
 export_list_prints l parent close after_list closed [] = after (writes_no_list l.env words.named_format parent) (then prints_nothing (then prints_nothing closed))
 export_list_prints l parent close after_list closed (n ∷ ns) =
     prints_some l.env words.named_format parent export_specifier_span words.export_specifier lists.export_specifier OptionalComma after_list close
-    (export_specifier_prints l) refl refl (λ last. prints_optional_closing l.env words.named_format parent last refl refl) closed n ns
+    (λ n. loosened (export_specifier_prints l n)) refl refl (λ last. prints_optional_closing l.env words.named_format parent last refl refl) closed n ns
 
 export_braces_print : {X : Type 0} (l : Linked X) (parent : Span) (ns : List ExportSpecifier) → Prints l.env (words.export_braces parent ns) (lists.export_braces ns)
 unfolding words.export_braces lists.export_braces
@@ -174,10 +175,10 @@ export_clause_prints l parent (exported.Namespace n ∷ m ∷ ns) =
 export_clause_prints l parent (exported.Named n ∷ ns) = export_braces_print l parent (exported.Named n ∷ ns)
 export_clause_prints l parent (exported.Default n ∷ ns) = export_braces_print l parent (exported.Default n ∷ ns)
 
-from_clause_prints : (env : Env) (needed : Bool) (n : Option Str) → Prints env (words.from_clause needed n) (lists.from_clause n)
+from_clause_prints : (env : Env) (needed : Bool) (n : Option Str) → PrintsAt open_ env (words.from_clause needed n) (lists.from_clause n)
 unfolding words.from_clause lists.from_clause
 from_clause_prints env needed None = prints_nothing
-from_clause_prints env needed (Some n) = after (writes_blank env needed) (then (from_prints env) (prints_str env n))
+from_clause_prints env needed (Some n) = prints_wider open_ refl (after (writes_blank env needed) (then (from_prints env) (prints_str env n)))
 
 export_named_prints : {X : Type 0} (l : Linked X) (n : NamedExport X) → Prints l.env (words.export_named n) (lists.export_named n)
 unfolding words.export_named words.export_parts words.export_tail lists.export_named
@@ -241,18 +242,18 @@ decl_by_prints l (module_decls.ExportDefaultExpr n) = export_default_expr_prints
 decl_by_prints l (module_decls.ExportAll n) = export_all_prints l n
 decl_by_prints l n = prints_never
 
-pub module_decl_prints : {X : Type 0} (l : Linked X) (n : ModuleDecl X) → Prints l.env (words.module_decl l.asks l.items n) (lists.module_decl l.reads n)
+pub module_decl_prints : {X : Type 0} (l : Linked X) (n : ModuleDecl X) → PrintsAt ended l.env (words.module_decl l.asks l.items n) (lists.module_decl l.reads n)
 unfolding words.module_decl
 module_decl_prints l n =
     after (writes_leading l.env (module_decl_span n).lo)
     (before (before (decl_by_prints l n) (writes_trailing l.env true (module_decl_span n).hi)) (writes_formatting_line l.env))
 
-item_by_prints : {X : Type 0} (l : Linked X) (n : ModuleItem X) → Prints l.env (words.module_item_by l.items n) (lists.module_item l.reads n)
+item_by_prints : {X : Type 0} (l : Linked X) (n : ModuleItem X) → PrintsAt ended l.env (words.module_item_by l.items n) (lists.module_item l.reads n)
 unfolding words.module_item_by lists.module_item
 item_by_prints l (module_items.ModuleDecl n) = l.law n.node.value Plain ModuleDeclaration
 item_by_prints l (module_items.Stmt n) = l.law n.node.value Plain Statement
 
-pub module_item_prints : {X : Type 0} (l : Linked X) (n : ModuleItem X) → Prints l.env (words.module_item l.asks l.items n) (lists.module_item l.reads n)
+pub module_item_prints : {X : Type 0} (l : Linked X) (n : ModuleItem X) → PrintsAt ended l.env (words.module_item l.asks l.items n) (lists.module_item l.reads n)
 unfolding words.module_item
 module_item_prints l n =
     after (writes_leading l.env (module_item_span (place_of l.asks) n).lo) (before (item_by_prints l n) (writes_trailing l.env true (module_item_span (place_of l.asks) n).hi))

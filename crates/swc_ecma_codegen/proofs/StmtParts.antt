@@ -225,7 +225,7 @@ unfolding programs.script_body
 script_body_prints l n =
     after (writes_leading l.env n.span.lo)
     (after (writes_start_if_empty l.env n.body.items n.span)
-    (before (in_order_prints l.env (programs.held l.items) (lists.stmt_at l.reads) (stmt_at l) n.body.items) (writes_script_end l.env n.span)))
+    (before (prints_wider loose refl (in_order_prints l.env (programs.held l.items) (lists.stmt_at l.reads) (stmt_at l) n.body.items)) (writes_script_end l.env n.span)))
 
 script_case : {X : Type 0} (l : Linked X) (n : Script X) (shebang : Bool) → PrintsAt loose l.env (λ rest. cond shebang (unsupported rest) (programs.script_body l.items n rest)) (cond shebang Never (in_order (map (lists.stmt_at l.reads) n.body.items)))
 script_case l n true = prints_never
@@ -235,14 +235,14 @@ pub script_prints : {X : Type 0} (l : Linked X) (n : Script X) → PrintsAt loos
 unfolding programs.script lists.script
 script_prints l n = script_case l n (is_some n.shebang)
 
-module_body_prints : {X : Type 0} (l : Linked X) (n : Module X) → Prints l.env (programs.module_body l.items n) (in_order (map (lists.item_at l.reads) n.body.items))
+module_body_prints : {X : Type 0} (l : Linked X) (n : Module X) → PrintsAt loose l.env (programs.module_body l.items n) (in_order (map (lists.item_at l.reads) n.body.items))
 unfolding programs.module_body
 module_body_prints l n =
     after (writes_leading l.env n.span.lo)
     (after (writes_start_if_empty l.env n.body.items n.span)
-    (before (in_order_prints l.env (programs.held_item l.items) (lists.item_at l.reads) (λ x. l.law x.node.value Plain Item) n.body.items) (writes_script_end l.env n.span)))
+    (before (prints_wider loose refl (in_order_prints l.env (programs.held_item l.items) (lists.item_at l.reads) (λ x. l.law x.node.value Plain Item) n.body.items)) (writes_script_end l.env n.span)))
 
-module_prints : {X : Type 0} (l : Linked X) (n : Module X) → Prints l.env (programs.whole_module l.items n) (lists.whole_module l.reads n)
+module_prints : {X : Type 0} (l : Linked X) (n : Module X) → PrintsAt loose l.env (programs.whole_module l.items n) (lists.whole_module l.reads n)
 unfolding programs.whole_module lists.whole_module
 module_prints l n = refused_or (is_some n.shebang) (module_body_prints l n)
 

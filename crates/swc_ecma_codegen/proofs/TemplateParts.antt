@@ -1,5 +1,5 @@
 -- What is written of templates is what they read as.
-use Rattle.std.proofs.Common.{Bool, true, false, cond, is_some, List, [], ◌∷◌}
+use Rattle.std.proofs.Common.{refl, Bool, true, false, cond, is_some, List, [], ◌∷◌}
 use Rattle.swc_ecma_codegen_tree.specs.declared.expr_links.ExprBox.{ExprBox}
 use Rattle.swc_ecma_codegen_tree.specs.declared.exprs.Tpl.{Tpl}
 use Rattle.swc_ecma_codegen_tree.specs.declared.exprs.TplElement.{TplElement}
@@ -9,7 +9,8 @@ use Rattle.swc_ecma_codegen_ast.specs.TemplatePhrases as lists
 use Rattle.swc_ecma_codegen_ast.specs.TemplatePhrases.{is_counted, part_before}
 use Rattle.swc_ecma_codegen_ast.specs.declared.roles.Role.TheVariants.{TaggedTemplate, Callee as IsCallee}
 use Rattle.swc_ecma_codegen_base.specs.Run.{Env, Part}
-use Rattle.swc_ecma_codegen_base.proofs.Phrased.{Prints, then, after, before, prints_nothing, prints_never}
+use Rattle.swc_ecma_codegen_base.proofs.Phrased.{Prints, PrintsAt, prints_wider, then, after, before, prints_nothing, prints_never}
+use Rattle.swc_ecma_codegen_base.proofs.Shapes.{open_}
 use Rattle.swc_ecma_codegen_base.proofs.Printed.{writes_leading, writes_position}
 use Rattle.swc_ecma_codegen_base.proofs.TemplatePrints.{tpl_element_prints}
 use Rattle.swc_ecma_codegen.specs.declared.nodes.Place.{Place}
@@ -18,11 +19,11 @@ use Rattle.swc_ecma_codegen.specs.Templates as words
 use Rattle.swc_ecma_codegen.proofs.Impossible.{refused_or}
 use Rattle.swc_ecma_codegen.proofs.Linked.{Linked, expr_at}
 
-rest_prints : {X : Type 0} (l : Linked X) (tagged : Bool) (es : List (ExprBox X)) (qs : List TplElement) → Prints l.env (words.tpl_rest l.items tagged es qs) (lists.tpl_rest l.reads tagged es qs)
+rest_prints : {X : Type 0} (l : Linked X) (tagged : Bool) (es : List (ExprBox X)) (qs : List TplElement) → PrintsAt open_ l.env (words.tpl_rest l.items tagged es qs) (lists.tpl_rest l.reads tagged es qs)
 unfolding words.tpl_rest lists.tpl_rest
 rest_prints l tagged [] qs = prints_nothing
 rest_prints l tagged (e ∷ es) [] = prints_nothing
-rest_prints l tagged (e ∷ es) (q ∷ qs) = then (expr_at l e Plain) (then (tpl_element_prints l.env false (part_before tagged qs) q) (rest_prints l tagged es qs))
+rest_prints l tagged (e ∷ es) (q ∷ qs) = prints_wider open_ refl (then (expr_at l e Plain) (then (tpl_element_prints l.env false (part_before tagged qs) q) (rest_prints l tagged es qs)))
 
 parts_print : {X : Type 0} (l : Linked X) (tagged : Bool) (es : List (ExprBox X)) (qs : List TplElement) → Prints l.env (words.tpl_parts l.items tagged es qs) (lists.tpl_parts l.reads tagged es qs)
 unfolding words.tpl_parts lists.tpl_parts

@@ -65,7 +65,7 @@ function_head n = after_async n.is_async (word (codes "function") > word_if n.is
 
 -- sections 15.4 to 15.6 and 15.8: `async *` of a method, or a part of it
 unfoldable pub method_head : {X : Type 0} → functions.Function X → Phrase
-method_head n = word_if n.is_async (word (codes "async")) > word_if n.is_generator (mark (codes "*"))
+method_head n = after_async n.is_async (word_if n.is_generator (mark (codes "*")))
 
 -- a name, where there is one
 unfoldable pub optional_name : Option Ident → Phrase

@@ -51,7 +51,7 @@ use Rattle.swc_ecma_codegen_base.proofs.Spelled.{valid_same, spelled_same, out_s
 use Rattle.swc_ecma_codegen_base.proofs.Positions.{Named, named_none, named_then, named_records, name_named, name_steps, name_call, run_records}
 use Rattle.swc_ecma_codegen_base.proofs.ValueStrings.{none_by_value, steps_safe}
 use Rattle.swc_ecma_codegen_base.proofs.Targets.{Names, names_in_ascii, plain_not_out}
-use Rattle.swc_ecma_codegen_base.proofs.Shapes.{Shape, whole, open_, loose, joining, joined, at_joint, join, is_within, not_broken, broken_from, walk_append}
+use Rattle.swc_ecma_codegen_base.proofs.Shapes.{Shape, whole, open_, loose, joining, joined, at_joint, join, is_within, not_broken, met_past, broken_from, walk_append}
 use Rattle.swc_ecma_codegen_base.proofs.Appended.{tokens_append}
 use Rattle.swc_ecma_codegen_base.proofs.Written.{LaysAt, held, held_of, Spelled, spelled_word, spelled_name, spelled_mark}
 use Rattle.swc_ecma_codegen_base.proofs.Printed.{MakesAt, makes_wider, writes_joined_operator, writes_joined_punct, writes_keyword_joint, chain, or_false, Writes, writes_whatever, writes_then, writes_same, writes_nothing, writes_keyword, writes_operator, writes_word_operator, writes_punct, writes_placed_punct, writes_semi, writes_commit, writes_leading, writes_name_text}
@@ -469,7 +469,7 @@ laid_reads config f ts a b g n l =
     subst (λ z. Reduced z (l.laid ++ end)) (append-nil l.out) (subst (λ z. Reduced (z ++ (l.out ++ [])) (l.laid ++ end)) none (l.reduces [] end (end_reduced last b.sheet))) in
     let apart : NoneFuse Start l.out = subst (λ z. NoneFuse z l.out) n.nothing_written (subst (λ z. NoneFuse a.last z) (append-nil l.out) (l.apart [] (l.rest.allowed []))) in
     let laid : NoneFuse Start l.laid = without_end last b.sheet l.laid (none_fuse_reduced l.out (l.laid ++ end) apart reduced) in
-    let kept : KeepsLines l.out = not_broken _ _ l.fits.line refl in
+    let kept : KeepsLines l.out = not_broken _ _ (met_past _ l.fits.line) refl in
     let lines : KeepsLines l.laid = kept_front l.laid end OnLine (keeps_reduced l.out (l.laid ++ end) OnLine reduced kept) in
     let same : tokens_of (l.laid ++ end) ≡ tokens_of l.laid = tokens_append l.laid end ∙ ap (λ z. tokens_of l.laid ++ z) (no_end_tokens last b.sheet) ∙ append-nil (tokens_of l.laid) in
     record {

@@ -18,20 +18,6 @@ pub data Le : OfLine → OfLine → Type 0 where
   line_first : (w : OfLine) → Le OnLine w
   broken_last : (w : OfLine) → Le w Broken
 
-abbrev pub is_le : OfLine → OfLine → Bool
-is_le OnLine w = true
-is_le v Broken = true
-is_le PastLine PastLine = true
-is_le AtJoint AtJoint = true
-is_le v w = false
-
-le_from : (v w : OfLine) → is_le v w ≡ true → Le v w
-le_from OnLine w h = line_first w
-le_from v Broken h = broken_last v
-le_from PastLine PastLine h = same PastLine
-le_from AtJoint AtJoint h = same AtJoint
-le_from v w h = absurd (true≢false (sym h))
-
 line_is_not_broken : OnLine ≡ Broken → ⊥
 line_is_not_broken e = cc
 
@@ -112,50 +98,168 @@ walk_append (Joint ∷ xs) ys w = walk_append xs ys _
 
 -- ---- where parts lead
 
--- The places that parts lead to at most, from the line of the last token, from past its end, and from right after
+-- What is known of a place: it is on the line of the last token; there, or past its end; there, or right after
+-- `[no LineTerminator here]`; one of these; or nothing is known.
+pub data Among : Type 0 where
+  ToLine ToPast ToJoint ToEither ToAny : Among
+
+abbrev pub meets : OfLine → Among → Bool
+meets OnLine r = true
+meets w ToAny = true
+meets PastLine ToPast = true
+meets PastLine ToEither = true
+meets AtJoint ToJoint = true
+meets AtJoint ToEither = true
+meets w r = false
+
+any_met : (w : OfLine) → meets w ToAny ≡ true
+any_met OnLine = refl
+any_met PastLine = refl
+any_met AtJoint = refl
+any_met Broken = refl
+
+only_any : (r : Among) → meets Broken r ≡ true → r ≡ ToAny
+only_any ToAny h = refl
+only_any r h = absurd (true≢false (sym h))
+
+met_before : (v w : OfLine) (r : Among) → Le v w → meets w r ≡ true → meets v r ≡ true
+met_before v w r (same u) h = h
+met_before v w r (line_first u) h = refl
+met_before v w r (broken_last u) h = ap (meets u) (only_any r h) ∙ any_met u
+
+pub met_past : (w : OfLine) → meets w ToPast ≡ true → Le w PastLine
+met_past OnLine h = line_first PastLine
+met_past PastLine h = same PastLine
+met_past AtJoint h = absurd (true≢false (sym h))
+met_past Broken h = absurd (true≢false (sym h))
+
+abbrev pub implies : Bool → Bool → Bool
+implies true b = b
+implies false b = true
+
+implied : (a b : Bool) → implies a b ≡ true → a ≡ true → b ≡ true
+implied true b h e = h
+implied false b h e = absurd (true≢false (sym e))
+
+-- whether all that one may be the other may
+abbrev pub is_part : Among → Among → Bool
+is_part r s = implies (meets PastLine r) (meets PastLine s) && (implies (meets AtJoint r) (meets AtJoint s) && implies (meets Broken r) (meets Broken s))
+
+met_wider : (w : OfLine) (r s : Among) → is_part r s ≡ true → meets w r ≡ true → meets w s ≡ true
+met_wider OnLine r s h e = refl
+met_wider PastLine r s h e = implied (meets PastLine r) (meets PastLine s) (and_parts (implies (meets PastLine r) (meets PastLine s)) _ h).0 e
+met_wider AtJoint r s h e = implied (meets AtJoint r) (meets AtJoint s) (and_parts (implies (meets AtJoint r) (meets AtJoint s)) (implies (meets Broken r) (meets Broken s)) (and_parts (implies (meets PastLine r) (meets PastLine s)) _ h).1).0 e
+met_wider Broken r s h e = implied (meets Broken r) (meets Broken s) (and_parts (implies (meets AtJoint r) (meets AtJoint s)) (implies (meets Broken r) (meets Broken s)) (and_parts (implies (meets PastLine r) (meets PastLine s)) _ h).1).1 e
+
+-- one of two
+abbrev pub either : Among → Among → Among
+either ToLine s = s
+either ToAny s = ToAny
+either r ToLine = r
+either r ToAny = ToAny
+either ToPast ToPast = ToPast
+either ToJoint ToJoint = ToJoint
+either r s = ToEither
+
+first_part : (r s : Among) → is_part r (either r s) ≡ true
+first_part ToLine s = refl
+first_part ToAny s = refl
+first_part ToPast ToLine = refl
+first_part ToPast ToPast = refl
+first_part ToPast ToJoint = refl
+first_part ToPast ToEither = refl
+first_part ToPast ToAny = refl
+first_part ToJoint ToLine = refl
+first_part ToJoint ToPast = refl
+first_part ToJoint ToJoint = refl
+first_part ToJoint ToEither = refl
+first_part ToJoint ToAny = refl
+first_part ToEither ToLine = refl
+first_part ToEither ToPast = refl
+first_part ToEither ToJoint = refl
+first_part ToEither ToEither = refl
+first_part ToEither ToAny = refl
+
+second_part : (r s : Among) → is_part s (either r s) ≡ true
+second_part ToLine ToLine = refl
+second_part ToLine ToPast = refl
+second_part ToLine ToJoint = refl
+second_part ToLine ToEither = refl
+second_part ToLine ToAny = refl
+second_part ToPast ToLine = refl
+second_part ToPast ToPast = refl
+second_part ToPast ToJoint = refl
+second_part ToPast ToEither = refl
+second_part ToPast ToAny = refl
+second_part ToJoint ToLine = refl
+second_part ToJoint ToPast = refl
+second_part ToJoint ToJoint = refl
+second_part ToJoint ToEither = refl
+second_part ToJoint ToAny = refl
+second_part ToEither ToLine = refl
+second_part ToEither ToPast = refl
+second_part ToEither ToJoint = refl
+second_part ToEither ToEither = refl
+second_part ToEither ToAny = refl
+second_part ToAny ToLine = refl
+second_part ToAny ToPast = refl
+second_part ToAny ToJoint = refl
+second_part ToAny ToEither = refl
+second_part ToAny ToAny = refl
+
+-- The places that parts lead to, from the line of the last token, from past its end, and from right after
 -- `[no LineTerminator here]`.
 pub record Shape : Type 0 where
-  pub line : OfLine
-  pub past : OfLine
-  pub joint : OfLine
+  pub line : Among
+  pub past : Among
+  pub joint : Among
 
 -- what begins and ends with a token, as `a`
 abbrev pub whole : Shape
-whole = record { line = OnLine; past = OnLine; joint = OnLine }
+whole = record { line = ToLine; past = ToLine; joint = ToLine }
 
 -- blanks, or nothing at all
 abbrev pub open_ : Shape
-open_ = record { line = OnLine; past = PastLine; joint = AtJoint }
+open_ = record { line = ToLine; past = ToPast; joint = ToJoint }
 
 -- what begins with a token, and then a line may end
 abbrev pub ended : Shape
-ended = record { line = PastLine; past = PastLine; joint = PastLine }
+ended = record { line = ToPast; past = ToPast; joint = ToPast }
+
+-- that, or nothing at all
+abbrev pub ended_if_any : Shape
+ended_if_any = record { line = ToPast; past = ToPast; joint = ToEither }
 
 -- where lines may end anywhere
 abbrev pub loose : Shape
-loose = record { line = PastLine; past = PastLine; joint = Broken }
+loose = record { line = ToPast; past = ToPast; joint = ToAny }
 
 -- what ends with a token, and a line may end before it
 abbrev pub closed : Shape
-closed = record { line = OnLine; past = OnLine; joint = Broken }
+closed = record { line = ToLine; past = ToLine; joint = ToAny }
 
 -- `[no LineTerminator here]`
 abbrev pub joining : Shape
-joining = record { line = AtJoint; past = Broken; joint = AtJoint }
+joining = record { line = ToJoint; past = ToAny; joint = ToJoint }
 
 -- a token behind that
 abbrev pub joined : Shape
-joined = record { line = OnLine; past = Broken; joint = OnLine }
+joined = record { line = ToLine; past = ToAny; joint = ToLine }
 
-abbrev pub leads : Shape → OfLine → OfLine
-leads i OnLine = i.line
-leads i PastLine = i.past
-leads i AtJoint = i.joint
-leads i Broken = Broken
+-- a word and `[no LineTerminator here]`, or nothing at all
+abbrev pub joining_if_any : Shape
+joining_if_any = record { line = ToJoint; past = ToEither; joint = ToJoint }
+
+abbrev pub leads : Shape → Among → Among
+leads i ToLine = i.line
+leads i ToPast = i.past
+leads i ToJoint = i.joint
+leads i ToEither = either i.past i.joint
+leads i ToAny = ToAny
 
 -- behind what ends with a token, and a line may end between
 abbrev pub past_line : Shape → Shape
-past_line j = record { line = leads j PastLine; past = leads j PastLine; joint = leads j PastLine }
+past_line j = record { line = j.past; past = j.past; joint = j.past }
 
 -- behind what ends with a token
 abbrev pub on_line : Shape → Shape
@@ -170,63 +274,76 @@ abbrev pub join : Shape → Shape → Shape
 join i j = record { line = leads j i.line; past = leads j i.past; joint = leads j i.joint }
 
 abbrev pub is_within : Shape → Shape → Bool
-is_within i j = is_le i.line j.line && (is_le i.past j.past && is_le i.joint j.joint)
+is_within i j = is_part i.line j.line && (is_part i.past j.past && is_part i.joint j.joint)
 
 pub record Fits (i : Shape) (xs : List parts.Part) : Type 0 where
-  pub line : Le (walk OnLine xs) i.line
-  pub past : Le (walk PastLine xs) i.past
-  pub joint : Le (walk AtJoint xs) i.joint
+  pub line : meets (walk OnLine xs) i.line ≡ true
+  pub past : meets (walk PastLine xs) i.past ≡ true
+  pub joint : meets (walk AtJoint xs) i.joint ≡ true
 
-fits_at : {i : Shape} {xs : List parts.Part} → Fits i xs → (w : OfLine) → Le (walk w xs) (leads i w)
-fits_at h OnLine = h.line
-fits_at h PastLine = h.past
-fits_at h AtJoint = h.joint
-fits_at h Broken = broken_last _
+first_met : {i : Shape} {xs : List parts.Part} → Fits i xs → (v : OfLine) → meets (walk v xs) i.past ≡ true → meets (walk v xs) (either i.past i.joint) ≡ true
+first_met {i} h v e = met_wider _ i.past (either i.past i.joint) (first_part i.past i.joint) e
 
-fits_step : {j : Shape} (xs ys : List parts.Part) (v w : OfLine) → Le (walk v xs) w → Fits j ys → Le (walk v (xs ++ ys)) (leads j w)
-fits_step {j} xs ys v w h k = subst (λ z. Le z (leads j w)) (sym (walk_append xs ys v)) (le_trans _ _ _ (walk_le ys (walk v xs) w h) (fits_at k w))
+-- from the line of the last token parts lead no farther than from elsewhere
+line_met : (xs : List parts.Part) (w : OfLine) (r : Among) → meets (walk w xs) r ≡ true → meets (walk OnLine xs) r ≡ true
+line_met xs w r h = met_before _ _ r (walk_le xs OnLine w (line_first w)) h
+
+fits_at : {i : Shape} {xs : List parts.Part} → Fits i xs → (w : OfLine) (r : Among) → meets w r ≡ true → meets (walk w xs) (leads i r) ≡ true
+fits_at h w ToAny e = any_met _
+fits_at h OnLine ToLine e = h.line
+fits_at {i} {xs} h OnLine ToPast e = line_met xs PastLine i.past h.past
+fits_at {i} {xs} h OnLine ToJoint e = line_met xs AtJoint i.joint h.joint
+fits_at {i} {xs} h OnLine ToEither e = first_met h OnLine (line_met xs PastLine i.past h.past)
+fits_at h PastLine ToPast e = h.past
+fits_at h PastLine ToEither e = first_met h PastLine h.past
+fits_at h AtJoint ToJoint e = h.joint
+fits_at {i} h AtJoint ToEither e = met_wider _ i.joint (either i.past i.joint) (second_part i.past i.joint) h.joint
+fits_at h w r e = absurd (true≢false (sym e))
+
+fits_step : {j : Shape} (xs ys : List parts.Part) (v : OfLine) (r : Among) → meets (walk v xs) r ≡ true → Fits j ys → meets (walk v (xs ++ ys)) (leads j r) ≡ true
+fits_step {j} xs ys v r h k = subst (λ z. meets z (leads j r) ≡ true) (sym (walk_append xs ys v)) (fits_at k (walk v xs) r h)
 
 pub fits_then : {i j : Shape} (xs ys : List parts.Part) → Fits i xs → Fits j ys → Fits (join i j) (xs ++ ys)
-fits_then xs ys h k = record { line = fits_step xs ys OnLine _ h.line k; past = fits_step xs ys PastLine _ h.past k; joint = fits_step xs ys AtJoint _ h.joint k }
+fits_then {i} xs ys h k = record { line = fits_step xs ys OnLine i.line h.line k; past = fits_step xs ys PastLine i.past h.past k; joint = fits_step xs ys AtJoint i.joint h.joint k }
 
 pub fits_wider : {i : Shape} (j : Shape) {xs : List parts.Part} → is_within i j ≡ true → Fits i xs → Fits j xs
 fits_wider {i} j e h =
-    let p = and_parts (is_le i.line j.line) _ e in
-    let q = and_parts (is_le i.past j.past) (is_le i.joint j.joint) p.1 in
-    record { line = le_trans _ _ _ h.line (le_from _ _ p.0); past = le_trans _ _ _ h.past (le_from _ _ q.0); joint = le_trans _ _ _ h.joint (le_from _ _ q.1) }
+    let p = and_parts (is_part i.line j.line) _ e in
+    let q = and_parts (is_part i.past j.past) (is_part i.joint j.joint) p.1 in
+    record { line = met_wider _ i.line j.line p.0 h.line; past = met_wider _ i.past j.past q.0 h.past; joint = met_wider _ i.joint j.joint q.1 h.joint }
 
 pub fits_nothing : Fits open_ []
 unfolding walk
-fits_nothing = record { line = same OnLine; past = same PastLine; joint = same AtJoint }
+fits_nothing = record { line = refl; past = refl; joint = refl }
 
 pub fits_joint : Fits joining (Joint ∷ [])
 unfolding walk over_joint
-fits_joint = record { line = same AtJoint; past = same Broken; joint = same AtJoint }
+fits_joint = record { line = refl; past = refl; joint = refl }
 
 -- a gap that holds no line terminator, and any gap
 pub fits_blank : {gap : List parts.Part} (u : List ℕ) → is_one_line u ≡ true → ((w : OfLine) → walk w gap ≡ over_gap (is_one_line u) w) → Fits open_ gap
 unfolding over_gap
 fits_blank u h e =
-    let f : (w : OfLine) → Le (walk w _) w = λ w. subst (λ z. Le z w) (sym (e w ∙ ap (λ o. over_gap o w) h)) (same w) in
-    record { line = f OnLine; past = f PastLine; joint = f AtJoint }
+    let f : (w : OfLine) → walk w _ ≡ w = λ w. e w ∙ ap (λ o. over_gap o w) h in
+    record { line = ap (λ z. meets z ToLine) (f OnLine); past = ap (λ z. meets z ToPast) (f PastLine); joint = ap (λ z. meets z ToJoint) (f AtJoint) }
 
-gap_line : (o : Bool) → Le (over_gap o OnLine) PastLine
+gap_line : (o : Bool) → meets (over_gap o OnLine) ToPast ≡ true
 unfolding over_gap
-gap_line true = line_first PastLine
-gap_line false = same PastLine
+gap_line true = refl
+gap_line false = refl
 
-gap_past : (o : Bool) → Le (over_gap o PastLine) PastLine
+gap_past : (o : Bool) → meets (over_gap o PastLine) ToPast ≡ true
 unfolding over_gap
-gap_past true = same PastLine
-gap_past false = same PastLine
+gap_past true = refl
+gap_past false = refl
 
 pub fits_gap : {gap : List parts.Part} (o : Bool) → ((w : OfLine) → walk w gap ≡ over_gap o w) → Fits loose gap
-fits_gap o e = record { line = subst (λ z. Le z PastLine) (sym (e OnLine)) (gap_line o); past = subst (λ z. Le z PastLine) (sym (e PastLine)) (gap_past o); joint = broken_last _ }
+fits_gap o e = record { line = ap (λ z. meets z ToPast) (e OnLine) ∙ gap_line o; past = ap (λ z. meets z ToPast) (e PastLine) ∙ gap_past o; joint = any_met _ }
 
 -- a token
 pub fits_own : (kind : Kind) (t : List ℕ) → Fits whole (Own kind t ∷ [])
 unfolding walk over_own
-fits_own kind t = record { line = same OnLine; past = same OnLine; joint = same OnLine }
+fits_own kind t = record { line = refl; past = refl; joint = refl }
 
 -- indentation, and a token behind it
 pub fits_indent : (u : List ℕ) → all_indent u ≡ true → Fits open_ (Gap (blanks u) ∷ [])

@@ -25,7 +25,7 @@ use Rattle.swc_ecma_codegen_base.proofs.Appended.{text_append, tokens_append, re
 use Rattle.swc_ecma_codegen_base.proofs.Written.{LaysAt}
 use Rattle.swc_ecma_codegen_base.proofs.Printed.{writes_space, writes_formatting_space, writes_line, writes_formatting_line, writes_commit, writes_position, writes_position_before, writes_leading, writes_trailing, MakesAt, EndsLines, makes_wider}
 use Rattle.swc_ecma_codegen_base.proofs.Phrased.{Prints, steps_of_chain, new_at_rest, prints_keyword, prints_operator, prints_word_operator, prints_punct, prints_semi, prints_ident, made_not_out}
-use Rattle.swc_ecma_codegen_base.proofs.Shapes.{Le, line_first, loose, walk_append, walk_le, not_broken}
+use Rattle.swc_ecma_codegen_base.proofs.Shapes.{Le, line_first, loose, walk_append, walk_le, not_broken, met_past}
 
 -- where no line ends within what follows the end of a line, none does where some parts stand before
 kept_on : (xs more : List parts.Part) → Le (walk PastLine xs) PastLine → is_broken (walk PastLine more) ≡ false → is_broken (walk PastLine (xs ++ more)) ≡ false
@@ -54,7 +54,7 @@ lays_so_far old tokens ts a b l h =
           subst (λ z. Reads z ((tokens ++ ts) ++ tokens_of more) (remarks_in more)) text
           (subst (λ z. Reads (chars h.added ++ parts.text_of (l.out ++ more)) z (remarks_in more)) list
           (subst (λ z. Reads (chars h.added ++ parts.text_of (l.out ++ more)) (tokens ++ tokens_of (l.out ++ more)) z) none
-          (h.reads (l.out ++ more) (l.apart more n) (kept_on l.out more l.fits.past k))));
+          (h.reads (l.out ++ more) (l.apart more n) (kept_on l.out more (met_past _ l.fits.past) k))));
       rest = l.rest;
     }
 

@@ -31,7 +31,7 @@ after_async_possible false p = refl
 
 pub method_head_possible : {X : Type 0} (n : functions.Function X) → is_possible (method_head n) ≡ true
 unfolding is_possible method_head
-method_head_possible n = ap (λ b. b && is_possible (word_if n.is_generator (mark (codes "*")))) (word_possible n.is_async (codes "async")) ∙ mark_possible n.is_generator (codes "*")
+method_head_possible n = after_async_possible n.is_async _ ∙ mark_possible n.is_generator (codes "*")
 
 pub function_head_possible : {X : Type 0} (n : functions.Function X) → is_possible (function_head n) ≡ true
 unfolding is_possible function_head
