@@ -27,10 +27,10 @@ use Rattle.swc_ecma_codegen.specs.Tree.{any_items}
 use Rattle.swc_ecma_codegen.specs.Texts.{blank_sheet, text_of, IsOfWriter, GivesCause}
 use Rattle.swc_ecma_codegen.specs.Roots.{Root, OfScript, OfProgram, root_items, root_phrase, is_well_formed_root}
 use Rattle.swc_ecma_codegen.proofs.TreeReads.{root_prints, new_is_new}
-use Rattle.swc_ecma_codegen_base.proofs.Shapes.{loose}
+use Rattle.swc_ecma_codegen_base.proofs.Shapes.{unbroken}
 
-part_prints : (n : Root) (p : Part) (env : Env) → env.keeps_invalid ≡ false → p ≡ root_items n → PrintsAt loose env p (root_phrase n)
-part_prints n p env e same = subst (λ z. PrintsAt loose env z (root_phrase n)) (sym same) (root_prints env e n)
+part_prints : (n : Root) (p : Part) (env : Env) → env.keeps_invalid ≡ false → p ≡ root_items n → PrintsAt unbroken env p (root_phrase n)
+part_prints n p env e same = subst (λ z. PrintsAt unbroken env z (root_phrase n)) (sym same) (root_prints env e n)
 
 -- whatever the root is, and whatever refers to it
 pub root_made : (n : Root) (p : Part) (a b : State) (r : Result (Unit {0}) Error) → p ≡ root_items n → IsPlainTree a.env.config (root_phrase n) a.sheet.indentation → IsReady a → b.sheet.faults ≡ a.sheet.faults → Follows (p nothing) a b (in_short r) → IsOk r

@@ -51,7 +51,7 @@ use Rattle.swc_ecma_codegen_base.proofs.Spelled.{valid_same, spelled_same, out_s
 use Rattle.swc_ecma_codegen_base.proofs.Positions.{Named, named_none, named_then, named_records, name_named, name_steps, name_call, run_records}
 use Rattle.swc_ecma_codegen_base.proofs.ValueStrings.{none_by_value, steps_safe}
 use Rattle.swc_ecma_codegen_base.proofs.Targets.{Names, names_in_ascii, plain_not_out}
-use Rattle.swc_ecma_codegen_base.proofs.Shapes.{Shape, whole, open_, loose, joining, joined, at_joint, join, is_within, not_broken, met_past, broken_from, walk_append}
+use Rattle.swc_ecma_codegen_base.proofs.Shapes.{Shape, whole, open_, loose, unbroken, joining, joined, at_joint, join, is_within, met_unbroken, broken_from, walk_append}
 use Rattle.swc_ecma_codegen_base.proofs.Appended.{tokens_append}
 use Rattle.swc_ecma_codegen_base.proofs.Written.{LaysAt, held, held_of, Spelled, spelled_word, spelled_name, spelled_mark}
 use Rattle.swc_ecma_codegen_base.proofs.Printed.{MakesAt, makes_wider, writes_joined_operator, writes_joined_punct, writes_keyword_joint, chain, or_false, Writes, writes_whatever, writes_then, writes_same, writes_nothing, writes_keyword, writes_operator, writes_word_operator, writes_punct, writes_placed_punct, writes_semi, writes_commit, writes_leading, writes_name_text}
@@ -459,7 +459,7 @@ kept_front xs ys w h = still_whole ys (walk w xs) (ap is_broken (sym (walk_appen
     still_whole : (ys : List parts.Part) (v : OfLine) → is_broken (walk v ys) ≡ false → is_broken v ≡ false
     still_whole ys v h = false_from_ne_true (is_broken v) (λ b. true≢false (sym (broken_from ys v b) ∙ h))
 
-laid_reads : (config : Config) (f : Phrase) (ts : List lexical.Token) (a b : State) → Generates (settings_of config) f ts → IsNew a → LaysAt loose ts a b → AddsReading config f a.sheet b.sheet
+laid_reads : (config : Config) (f : Phrase) (ts : List lexical.Token) (a b : State) → Generates (settings_of config) f ts → IsNew a → LaysAt unbroken ts a b → AddsReading config f a.sheet b.sheet
 unfolding NoneFuse is_broken
 laid_reads config f ts a b g n l =
     let last : Bool = holds_one b.sheet.semicolons in
@@ -469,7 +469,7 @@ laid_reads config f ts a b g n l =
     subst (λ z. Reduced z (l.laid ++ end)) (append-nil l.out) (subst (λ z. Reduced (z ++ (l.out ++ [])) (l.laid ++ end)) none (l.reduces [] end (end_reduced last b.sheet))) in
     let apart : NoneFuse Start l.out = subst (λ z. NoneFuse z l.out) n.nothing_written (subst (λ z. NoneFuse a.last z) (append-nil l.out) (l.apart [] (l.rest.allowed []))) in
     let laid : NoneFuse Start l.laid = without_end last b.sheet l.laid (none_fuse_reduced l.out (l.laid ++ end) apart reduced) in
-    let kept : KeepsLines l.out = not_broken _ _ (met_past _ l.fits.line) refl in
+    let kept : KeepsLines l.out = met_unbroken _ l.fits.line in
     let lines : KeepsLines l.laid = kept_front l.laid end OnLine (keeps_reduced l.out (l.laid ++ end) OnLine reduced kept) in
     let same : tokens_of (l.laid ++ end) ≡ tokens_of l.laid = tokens_append l.laid end ∙ ap (λ z. tokens_of l.laid ++ z) (no_end_tokens last b.sheet) ∙ append-nil (tokens_of l.laid) in
     record {
@@ -487,7 +487,7 @@ laid_reads config f ts a b g n l =
     }
 
 -- the steps of a part, made from a state where an emission begins
-pub steps_read : (p : Part) (f : Phrase) (a : State) → IsNew a → PrintsAt loose a.env p f → is_possible f ≡ true → is_out a.env.config f ≡ false → AddsReading a.env.config f a.sheet (run (steps_of (p nothing a.env)) a).sheet
+pub steps_read : (p : Part) (f : Phrase) (a : State) → IsNew a → PrintsAt unbroken a.env p f → is_possible f ≡ true → is_out a.env.config f ≡ false → AddsReading a.env.config f a.sheet (run (steps_of (p nothing a.env)) a).sheet
 unfolding nothing
 steps_read p f a n prints w o =
     let h = prints.where_possible w o in
@@ -503,7 +503,7 @@ made_not_out p f env prints w end = false_from_ne_true (is_out env.config f) (λ
 pub whole_reads : (config : Config) (holds : Bool) (f : Phrase) (text : List ℕ) → AddsText config holds f [] text → ReadsAs config holds f text
 whole_reads config holds f text h = subst (λ z. ReadsAs config holds f z) (sym h.is_added) h.reading
 
-pub printed_reads : (p : Part) (f : Phrase) (a b : State) (r : Result (Unit {0}) Refusal) → IsNew a → PrintsAt loose a.env p f → is_possible f ≡ true → Follows (p nothing) a b r → OnOk r (AddsReading a.env.config f a.sheet b.sheet)
+pub printed_reads : (p : Part) (f : Phrase) (a b : State) (r : Result (Unit {0}) Refusal) → IsNew a → PrintsAt unbroken a.env p f → is_possible f ≡ true → Follows (p nothing) a b r → OnOk r (AddsReading a.env.config f a.sheet b.sheet)
 unfolding Follows
 printed_reads p f a b (Ok u) n prints w k = let P : State → Type 0 = λ z. AddsReading a.env.config f a.sheet z.sheet in subst P (sym k.1) (steps_read p f a n prints w (made_not_out p f a.env prints w k.0))
 printed_reads p f a b (Err e) n prints w k = tt

@@ -133,6 +133,13 @@ met_past PastLine h = same PastLine
 met_past AtJoint h = absurd (true≢false (sym h))
 met_past Broken h = absurd (true≢false (sym h))
 
+pub met_unbroken : (w : OfLine) → meets w ToEither ≡ true → is_broken w ≡ false
+unfolding is_broken
+met_unbroken OnLine h = refl
+met_unbroken PastLine h = refl
+met_unbroken AtJoint h = refl
+met_unbroken Broken h = absurd (true≢false (sym h))
+
 abbrev pub implies : Bool → Bool → Bool
 implies true b = b
 implies false b = true
@@ -249,6 +256,10 @@ joined = record { line = ToLine; past = ToAny; joint = ToLine }
 -- a word and `[no LineTerminator here]`, or nothing at all
 abbrev pub joining_if_any : Shape
 joining_if_any = record { line = ToJoint; past = ToEither; joint = ToJoint }
+
+-- what keeps the lines of a text that begins with it
+abbrev pub unbroken : Shape
+unbroken = record { line = ToEither; past = ToAny; joint = ToAny }
 
 abbrev pub leads : Shape → Among → Among
 leads i ToLine = i.line
