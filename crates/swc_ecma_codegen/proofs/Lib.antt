@@ -35,7 +35,5 @@ pub mod LoopParts
 pub mod StmtParts
 pub mod TreeLaw
 pub mod TreeReads
-pub mod LinkLaws
 pub mod TreeMade
-pub mod FirstTokens
 pub mod OperatorLaws

@@ -25,5 +25,3 @@ pub mod Programs
 pub mod Tree
 pub mod Texts
 pub mod Roots
-pub mod FirstTokens
-pub mod HeldRoots

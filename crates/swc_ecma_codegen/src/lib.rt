@@ -13,8 +13,6 @@ mod emitter;
 mod expr;
 mod functions;
 mod knot;
-pub mod laws;
-mod link_laws;
 mod lists;
 mod lits;
 mod loops;

@@ -1,12 +1,6 @@
 //! Trees for the tests.
 
 use std::alloc::Global;
-use swc_ecma_codegen::laws::{
-    emitted_boxed_stmt_reads, emitted_expr_box_reads, emitted_expr_reads,
-    emitted_member_expr_box_reads, emitted_optional_stmt_reads, emitted_program_reads,
-    emitted_script_reads, emitted_stmt_box_reads, emitted_stmt_reads, emitted_stmt_ref_reads,
-    links_write_their_roots, new_emitter_reads,
-};
 use swc_ecma_codegen::nodes::Held;
 use swc_ecma_codegen::operands::SpaceBefore;
 use swc_ecma_codegen::util::{EndsWithAlphaNum, StartsWithAlphaNum};
@@ -16,6 +10,12 @@ use swc_ecma_codegen_ast::mapper::NoSource;
 use swc_ecma_codegen_common::{Error, EsVersion};
 use swc_ecma_codegen_grammar::Fits;
 use swc_ecma_codegen_json::{ReadError, program_from_slice};
+use swc_ecma_codegen_laws::{
+    emitted_boxed_stmt_reads, emitted_expr_box_reads, emitted_expr_reads,
+    emitted_member_expr_box_reads, emitted_optional_stmt_reads, emitted_program_reads,
+    emitted_script_reads, emitted_stmt_box_reads, emitted_stmt_reads, emitted_stmt_ref_reads,
+    links_write_their_roots, new_emitter_reads,
+};
 use swc_ecma_codegen_spans::Spanned;
 use swc_ecma_codegen_text_writer::JsWriter;
 use swc_ecma_codegen_tree::{AnyNode, Expr, Holds, MemberExpr, Program, Script, Stmt};

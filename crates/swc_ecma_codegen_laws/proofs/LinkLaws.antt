@@ -1,0 +1,89 @@
+-- What is written of what a link holds, by its sort, and what it reads as.
+use Rattle.std.proofs.Common.{◌≡◌, true, refl, sym, ap, ◌∙◌, subst, Option, Some, None, Result, OnOk}
+use Rattle.swc_ecma_codegen_common.specs.declared.errors.Error.{Error}
+use Rattle.swc_ecma_codegen_common.specs.declared.errors.Refusal.{Refusal}
+use Rattle.swc_ecma_codegen_common.specs.Refusals.{in_short}
+use Rattle.swc_ecma_codegen_tree.specs.declared.links.AnyNode.{AnyNode}
+use Rattle.swc_ecma_codegen_tree.specs.declared.links.AnyNode.TheOpen as nodes
+use Rattle.swc_ecma_codegen_tree.specs.declared.links.AnyNode.TheVariants as whole
+use Rattle.swc_ecma_codegen_tree.specs.declared.exprs.MemberExpr.{MemberExpr}
+use Rattle.swc_ecma_codegen_tree.specs.declared.parts.ExprPart.{ExprPart}
+use Rattle.swc_ecma_codegen_tree.specs.declared.parts.ExprPart.TheVariants as expr_parts
+use Rattle.swc_ecma_codegen_tree.specs.declared.pats.AssignTarget.{AssignTarget}
+use Rattle.swc_ecma_codegen_ast.specs.Phrases.{Phrase, is_possible}
+use Rattle.swc_ecma_codegen_ast.specs.ExprPhrases.{member_expr}
+use Rattle.swc_ecma_codegen_ast.specs.AssignPhrases as target_lists
+use Rattle.swc_ecma_codegen_ast.specs.PartPhrases as part_lists
+use Rattle.swc_ecma_codegen_ast.specs.TreePhrases.{node_phrase, phrase}
+use Rattle.swc_ecma_codegen_ast.specs.declared.roles.Role.{Role}
+use Rattle.swc_ecma_codegen_ast.specs.declared.roles.Role.TheVariants.{MemberExpression, AssignmentTarget}
+use Rattle.swc_ecma_codegen_ast.proofs.TreeLaws.{phrase_member_expr, phrase_expr_part}
+use Rattle.swc_ecma_codegen_base.specs.Run.{Part, State, Follows, nothing}
+use Rattle.swc_ecma_codegen_base.specs.Written.{IsNew, AddsReading}
+use Rattle.swc_ecma_codegen.specs.declared.nodes.Place.{Place}
+use Rattle.swc_ecma_codegen.specs.declared.nodes.Place.TheVariants.{Plain}
+use Rattle.swc_ecma_codegen.specs.Exprs.{member, member_at}
+use Rattle.swc_ecma_codegen.specs.Answers.{any_answers}
+use Rattle.swc_ecma_codegen.specs.Targets.{assign_target}
+use Rattle.swc_ecma_codegen.specs.Parts.{expr_part}
+use Rattle.swc_ecma_codegen.specs.Places.{placed}
+use Rattle.swc_ecma_codegen.specs.Lists.{if_some_at}
+use Rattle.swc_ecma_codegen.specs.Roots.{Root, OfExpr, OfStmt, OfScript, OfProgram, OfLink, root_items}
+use Rattle.swc_ecma_codegen_laws.specs.HeldRoots.{IsHeld}
+use Rattle.swc_ecma_codegen.specs.Tree.{any_items}
+use Rattle.swc_ecma_codegen.proofs.Knots.{any_items_expr, any_items_stmt, any_items_member_expr, any_items_expr_part}
+use Rattle.swc_ecma_codegen.proofs.TreeReads.{root_reads}
+
+-- ---- what is written
+
+-- a link writes what it holds
+pub held_written : (n : AnyNode) (root : Root) → IsHeld n root → any_items n Plain ≡ root_items root
+held_written n (OfExpr e) h = ap (λ z. any_items z Plain) h ∙ any_items_expr e Plain
+held_written n (OfStmt s) h = ap (λ z. any_items z Plain) h ∙ any_items_stmt s Plain
+held_written n (OfLink m role) h = ap (λ z. any_items z Plain) h.0 ∙ ap (any_items m) (sym h.1)
+held_written n (OfScript s) h = absurd h
+held_written n (OfProgram p) h = absurd h
+
+pub member_written : (n : AnyNode) (m : MemberExpr AnyNode) → n ≡ whole.MemberExpr m → any_items n Plain ≡ member any_items m
+unfolding member_at
+member_written n m h = ap (λ z. any_items z Plain) h ∙ any_items_member_expr m Plain
+
+part_written : (n : AnyNode) (m : ExprPart AnyNode) → n ≡ whole.ExprPart m → any_items n Plain ≡ expr_part any_answers any_items m Plain
+part_written n m h = ap (λ z. any_items z Plain) h ∙ any_items_expr_part m Plain
+
+pub assign_target_written : (n : AnyNode) (m : AssignTarget AnyNode) → n ≡ whole.ExprPart (expr_parts.AssignTarget m) → any_items n Plain ≡ assign_target any_answers any_items m
+unfolding expr_part
+assign_target_written n m h = part_written n (expr_parts.AssignTarget m) h
+
+pub some_written : {A : Type 0} (items : A → Place → Part) (o : Option A) (x : A) → o ≡ Some x → if_some_at items o Plain ≡ items x Plain
+unfolding if_some_at
+some_written items o x h = ap (λ z. if_some_at items z Plain) h ∙ (λ i. λ rest. items x Plain rest)
+
+pub none_written : {A : Type 0} (items : A → Place → Part) (o : Option A) → o ≡ None → if_some_at items o Plain ≡ (λ rest. rest)
+unfolding if_some_at
+none_written items o h = ap (λ z. if_some_at items z Plain) h ∙ (λ i. λ rest. rest)
+
+-- what is done of one is done of the other
+pub follows_part : (p q : Part) (a b : State) (r : Result (Unit {0}) Refusal) → p ≡ q → Follows (p nothing) a b r → Follows (q nothing) a b r
+follows_part p q a b r e h = subst (λ z. Follows (z nothing) a b r) e h
+
+-- ---- what it reads as
+
+pub member_reads : (n : AnyNode) (m : MemberExpr AnyNode) (a b : State) (r : Result (Unit {0}) Error) → n ≡ whole.MemberExpr m → is_possible (member_expr phrase m) ≡ true → IsNew a → Follows (any_items n Plain nothing) a b (in_short r) → OnOk r (AddsReading a.env.config (member_expr phrase m) a.sheet b.sheet)
+unfolding node_phrase
+member_reads n m a b r h w s k =
+    let e : phrase n MemberExpression ≡ node_phrase phrase (nodes.MemberExpr m) MemberExpression = ap (λ z. phrase z MemberExpression) h ∙ phrase_member_expr m MemberExpression in
+    let P : Phrase → Type 0 = λ z. OnOk r (AddsReading a.env.config z a.sheet b.sheet) in
+    subst P e (root_reads (OfLink n MemberExpression) (any_items n Plain) a b r refl (ap is_possible e ∙ w) s k)
+
+-- a part of an expression, in a role that it has by itself
+part_reads : (n : AnyNode) (m : ExprPart AnyNode) (role : Role) (a b : State) (r : Result (Unit {0}) Error) → n ≡ whole.ExprPart m → placed role Plain ≡ Plain → is_possible (part_lists.expr_part phrase m role) ≡ true → IsNew a → Follows (any_items n Plain nothing) a b (in_short r) → OnOk r (AddsReading a.env.config (part_lists.expr_part phrase m role) a.sheet b.sheet)
+unfolding node_phrase
+part_reads n m role a b r h plain w s k =
+    let e : phrase n role ≡ node_phrase phrase (nodes.ExprPart m) role = ap (λ z. phrase z role) h ∙ phrase_expr_part m role in
+    let P : Phrase → Type 0 = λ z. OnOk r (AddsReading a.env.config z a.sheet b.sheet) in
+    subst P e (root_reads (OfLink n role) (any_items n Plain) a b r (ap (any_items n) (sym plain)) (ap is_possible e ∙ w) s k)
+
+pub assign_target_reads : (n : AnyNode) (m : AssignTarget AnyNode) (a b : State) (r : Result (Unit {0}) Error) → n ≡ whole.ExprPart (expr_parts.AssignTarget m) → is_possible (target_lists.assign_target phrase m) ≡ true → IsNew a → Follows (any_items n Plain nothing) a b (in_short r) → OnOk r (AddsReading a.env.config (target_lists.assign_target phrase m) a.sheet b.sheet)
+unfolding part_lists.expr_part
+assign_target_reads n m a b r h w s k = part_reads n (expr_parts.AssignTarget m) AssignmentTarget a b r h refl w s k
