@@ -15,11 +15,10 @@ use Rattle.swc_ecma_codegen_ast.specs.Phrases as phrases
 use Rattle.swc_ecma_codegen_ast.specs.Phrases.{Never, ◌>◌}
 use Rattle.swc_ecma_codegen_ast.specs.NamePhrases.{ident as ident_list}
 use Rattle.swc_ecma_codegen_ast.specs.ModulePhrases as module_lists
-use Rattle.swc_ecma_codegen_ast.specs.FunctionPhrases.{word_if}
 use Rattle.swc_ecma_codegen_ast.specs.DeclPhrases as lists
 use Rattle.swc_ecma_codegen_base.specs.Run.{Env, Part}
 use Rattle.swc_ecma_codegen_base.proofs.ListLaws.{prints_list}
-use Rattle.swc_ecma_codegen_base.proofs.Phrased.{Prints, then, after, before, prints_nothing, prints_never, prints_keyword, prints_semi, PrintsAt, prints_wider, loosened}
+use Rattle.swc_ecma_codegen_base.proofs.Phrased.{Prints, then, after, before, prints_nothing, prints_never, prints_keyword, prints_semi, PrintsAt, prints_wider, loosened, joined_then}
 use Rattle.swc_ecma_codegen_base.proofs.Printed.{writes_nothing, writes_space, writes_commit, writes_position, writes_leading, Fills}
 use Rattle.swc_ecma_codegen.specs.declared.nodes.Place.{Place}
 use Rattle.swc_ecma_codegen.specs.declared.nodes.Place.TheVariants.{Plain, DeclarationHead, ExportedHead, ExportedTail, Statement}
@@ -32,7 +31,7 @@ use Rattle.swc_ecma_codegen.proofs.Impossible.{refused_or}
 use Rattle.swc_ecma_codegen.proofs.Linked.{Linked, pat_at, var_decl_at}
 use Rattle.swc_ecma_codegen.proofs.MarkWords as marks
 use Rattle.swc_ecma_codegen.proofs.PatParts.{initializer_prints}
-use Rattle.swc_ecma_codegen_base.proofs.Shapes.{open_, loose, ended, ended_if_any}
+use Rattle.swc_ecma_codegen_base.proofs.Shapes.{loose, ended, ended_if_any}
 
 fn_decl_prints : {X : Type 0} (l : Linked X) (n : FnDecl X) → Prints l.env (words.fn_decl l.asks l.items n) (lists.fn_decl l.reads n)
 unfolding words.fn_decl words.fn_decl_parts lists.fn_decl
@@ -69,16 +68,17 @@ var_decl_prints l n = refused_or n.declare
     (then (kind_prints l.env n.kind)
     (after (writes_blank l.env (words.first_is_unmarked l.asks n.decls.items)) (declarators_print l n.span n.decls.items))))))
 
-await_prints : (env : Env) (wanted : Bool) → PrintsAt open_ env (words.await_word wanted) (word_if wanted (phrases.word (codes "await")))
-unfolding words.await_word word_if
-await_prints env true = prints_wider open_ refl (before (prints_keyword env None (codes "await") marks.await_word) (writes_space env))
-await_prints env false = prints_nothing
+-- behind `await`, where it is so
+await_then : (env : Env) (wanted : Bool) {p : Part} {f : phrases.Phrase} → PrintsAt ended env p f → PrintsAt ended env (λ rest. words.await_word wanted (p rest)) (lists.after_await wanted f)
+unfolding words.await_word lists.after_await
+await_then env true h = joined_then env None (codes "await") marks.await_word (after (writes_space env) h)
+await_then env false h = h
 
 pub using_decl_prints : {X : Type 0} (l : Linked X) (n : UsingDecl X) → PrintsAt ended l.env (words.using_decl l.items n) (lists.using_decl l.reads n)
 unfolding words.using_decl lists.using_decl
 using_decl_prints l n =
     after (writes_leading l.env n.span.lo)
-    (then (await_prints l.env n.is_await)
+    (await_then l.env n.is_await
     (then (prints_keyword l.env None (codes "using") marks.using_word)
     (after (writes_space l.env) (declarators_print l n.span n.decls.items))))
 

@@ -455,10 +455,10 @@ var_decl_begins : {X : Type 0} (reads : X → Role → Phrase) (n : VarDecl X) �
 unfolding decl_lists.var_decl
 var_decl_begins reads n = unless_begins n.declare _ true (begins_then _ _ _ (kind_begins n.kind))
 
-using_begins : (is_await : Bool) (rest : Phrase) → Begins (function_lists.word_if is_await (phrases.word (codes "await")) > phrases.word (codes "using") > rest) true
-unfolding function_lists.word_if
+using_begins : (is_await : Bool) (rest : Phrase) → Begins (decl_lists.after_await is_await (phrases.word (codes "using") > rest)) true
+unfolding decl_lists.after_await
 using_begins true rest = begins_then _ _ _ (begins_true _)
-using_begins false rest = begins_behind _ _ (begins_then _ _ _ (begins_true _))
+using_begins false rest = begins_then _ _ _ (begins_true _)
 
 decl_begins : {X : Type 0} (reads : X → Role → Phrase) (starts : X → Bool) → Begin reads starts → (n : Decl X) → Begins (decl_lists.decl reads n) true
 unfolding leads begins_as decl_lists.decl class_lists.class_decl decl_lists.fn_decl decl_lists.using_decl
