@@ -1,6 +1,7 @@
 -- Imports and exports: one production a node. `f` says what is read of what a link holds, in its role. What TypeScript adds isn't printed
 -- yet, nor are attributes. ECMA-262, section 16.2.
-use Rattle.std.specs.Prelude.{◌||◌, is_some, if◌then◌else◌, List, [], ◌∷◌, map, codes, Option, Some, None}
+use Rattle.std.specs.Prelude.{if◌then◌else◌, List, [], ◌∷◌, map, codes, Option, Some, None}
+use Rattle.swc_ecma_codegen_tree.specs.declared.expr_links.ObjectLitBox.{ObjectLitBox}
 use Rattle.swc_ecma_codegen_tree.specs.declared.decls.Decl.{Decl}
 use Rattle.swc_ecma_codegen_tree.specs.declared.decls.Decl.TheVariants as decls
 use Rattle.swc_ecma_codegen_tree.specs.declared.lits.Str.{Str}
@@ -27,7 +28,7 @@ use Rattle.swc_ecma_codegen_tree.specs.declared.programs.ModuleDecl.{ModuleDecl}
 use Rattle.swc_ecma_codegen_tree.specs.declared.programs.ModuleDecl.TheVariants as module_decls
 use Rattle.swc_ecma_codegen_tree.specs.declared.programs.ModuleItem.{ModuleItem}
 use Rattle.swc_ecma_codegen_tree.specs.declared.programs.ModuleItem.TheVariants as module_items
-use Rattle.swc_ecma_codegen_ast.specs.Phrases.{Phrase, Never, Nothing, ◌>◌, word, mark, ending, listed}
+use Rattle.swc_ecma_codegen_ast.specs.Phrases.{Phrase, Never, Nothing, Chosen, AttributesWord, ◌>◌, word, mark, ending, listed}
 use Rattle.swc_ecma_codegen_ast.specs.ClassPhrases.{class_expr}
 use Rattle.swc_ecma_codegen_ast.specs.DeclPhrases.{decl, decl_at}
 use Rattle.swc_ecma_codegen_ast.specs.ElementPhrases.{trailing_comma}
@@ -36,7 +37,7 @@ use Rattle.swc_ecma_codegen_ast.specs.LitPhrases.{str_lit}
 use Rattle.swc_ecma_codegen_ast.specs.NamePhrases.{ident}
 use Rattle.swc_ecma_codegen_ast.specs.PatPhrases.{value_at}
 use Rattle.swc_ecma_codegen_ast.specs.declared.roles.Role.{Role}
-use Rattle.swc_ecma_codegen_ast.specs.declared.roles.Role.TheVariants.{Statement, ClassHead, ClassTail, ExportedHead, ExportedTail, ModuleDeclaration}
+use Rattle.swc_ecma_codegen_ast.specs.declared.roles.Role.TheVariants.{Statement, ObjectLiteral, ClassHead, ClassTail, ExportedHead, ExportedTail, ModuleDeclaration}
 
 -- `a` or `'b c'`
 unfoldable pub module_export_name : ModuleExportName → Phrase
@@ -81,11 +82,16 @@ import_phase Evaluation = Nothing
 import_phase Source = word (codes "source")
 import_phase Defer = word (codes "defer")
 
--- `import a, { b as c } from 'd';`
-unfoldable pub import_decl : {X : Type 0} → ImportDecl X → Phrase
-import_decl n =
-    if n.type_only || is_some n.with_ then Never
-    else (word (codes "import") > import_phase n.phase > import_clause n.specifiers.items > str_lit n.src > ending)
+-- section 16.2.2: `with { type: 'json' }`, where there is such
+unfoldable pub attributes : {X : Type 0} → (X → Role → Phrase) → Option (ObjectLitBox X) → Phrase
+attributes f None = Nothing
+attributes f (Some n) = Chosen AttributesWord > f n.node.value ObjectLiteral
+
+-- `import a, { b as c } from 'd' with { type: 'json' };`
+unfoldable pub import_decl : {X : Type 0} → (X → Role → Phrase) → ImportDecl X → Phrase
+import_decl f n =
+    if n.type_only then Never
+    else (word (codes "import") > import_phase n.phase > import_clause n.specifiers.items > str_lit n.src > attributes f n.with_ > ending)
 
 -- ---- exports
 
@@ -117,22 +123,22 @@ export_clause (exported.Namespace n ∷ []) = export_namespace n
 export_clause (exported.Namespace n ∷ m ∷ ns) = export_namespace n > mark (codes ",") > export_braces (m ∷ ns)
 export_clause ns = export_braces ns
 
--- `from 'a'`, where it is so
-unfoldable pub from_clause : Option Str → Phrase
-from_clause None = Nothing
-from_clause (Some n) = word (codes "from") > str_lit n
+-- `from 'a'`, where it is so; without it there are no attributes
+unfoldable pub from_clause : {X : Type 0} → (X → Role → Phrase) → Option (ObjectLitBox X) → Option Str → Phrase
+from_clause f with_ None = Nothing
+from_clause f with_ (Some n) = word (codes "from") > str_lit n > attributes f with_
 
 -- `export { a, b as c } from 'd';`
-unfoldable pub export_named : {X : Type 0} → NamedExport X → Phrase
-export_named n =
-    if n.type_only || is_some n.with_ then Never
-    else (word (codes "export") > export_clause n.specifiers.items > from_clause n.src > ending)
+unfoldable pub export_named : {X : Type 0} → (X → Role → Phrase) → NamedExport X → Phrase
+export_named f n =
+    if n.type_only then Never
+    else (word (codes "export") > export_clause n.specifiers.items > from_clause f n.with_ n.src > ending)
 
 -- `export * from 'a';`
-unfoldable pub export_all : {X : Type 0} → ExportAll X → Phrase
-export_all n =
-    if n.type_only || is_some n.with_ then Never
-    else (word (codes "export") > mark (codes "*") > word (codes "from") > str_lit n.src > ending)
+unfoldable pub export_all : {X : Type 0} → (X → Role → Phrase) → ExportAll X → Phrase
+export_all f n =
+    if n.type_only then Never
+    else (word (codes "export") > mark (codes "*") > word (codes "from") > str_lit n.src > attributes f n.with_ > ending)
 
 -- what of a declaration stands before `export`: `@a` of `@a export class B {}`
 unfoldable pub exported_head : {X : Type 0} → (X → Role → Phrase) → Decl X → Phrase
@@ -164,12 +170,12 @@ export_default_expr f n = word (codes "export") > word (codes "default") > value
 -- ---- all of them
 
 unfoldable pub module_decl : {X : Type 0} → (X → Role → Phrase) → ModuleDecl X → Phrase
-module_decl f (module_decls.Import n) = import_decl n
+module_decl f (module_decls.Import n) = import_decl f n
 module_decl f (module_decls.ExportDecl n) = export_decl f n
-module_decl f (module_decls.ExportNamed n) = export_named n
+module_decl f (module_decls.ExportNamed n) = export_named f n
 module_decl f (module_decls.ExportDefaultDecl n) = export_default_decl f n
 module_decl f (module_decls.ExportDefaultExpr n) = export_default_expr f n
-module_decl f (module_decls.ExportAll n) = export_all n
+module_decl f (module_decls.ExportAll n) = export_all f n
 -- what TypeScript adds
 module_decl f n = Never
 

@@ -8,11 +8,12 @@ use Rattle.swc_ecma_codegen_ast.specs.SpelledNames.{spelled_name, is_well_formed
 use Rattle.swc_ecma_codegen_ast.specs.Tokens.{Token}
 use Rattle.swc_ecma_codegen_ast.specs.Tokens as tokens
 
--- What is chosen by the settings: `()` after `new A`, which isn't there where they are to minify, and the semicolon that ends
--- `do a; while (b);`, which is there for a version before 2015.
+-- What is chosen by the settings: `()` after `new A`, which isn't there where they are to minify; the semicolon that ends
+-- `do a; while (b);`, which is there for a version before 2015; the word before import attributes, `with` or, as a proposal had it, `assert`.
 pub data Choice : Type 0 where
   EmptyArguments : Choice
   LoopEnding : Choice
+  AttributesWord : Choice
 
 -- No list at all, no token, one token, a name by its bytes in the tree and where it stands in its source, the same of a key of
 -- a property, a private name by its bytes in the tree, without `#`, or one list and then another. What syntax leaves open: a comma or none, `[a,] = b` or `[a] = b`; a list, bare or
@@ -49,6 +50,7 @@ in_parentheses ts = open_parenthesis ∷ (ts ++ (close_parenthesis ∷ []))
 unfoldable pub chosen : Settings → Choice → List Token
 chosen s EmptyArguments = if s.minify then [] else in_parentheses []
 chosen s LoopEnding = if is_up_to_es5 s.target then tokens.ending ∷ [] else []
+chosen s AttributesWord = tokens.word (if s.assert_for_attributes then codes "assert" else codes "with") ∷ []
 
 -- A list is one of the set, under these settings.
 unfoldable pub Generates : Settings → Phrase → List Token → Type 0

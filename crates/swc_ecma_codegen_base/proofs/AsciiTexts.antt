@@ -8,7 +8,7 @@ use Rattle.swc_ecma_codegen_common.specs.declared.errors.Refusal.{Refusal}
 use Rattle.swc_ecma_codegen_common.specs.declared.positions.Span.{Span}
 use Rattle.swc_ecma_codegen_ast.specs.GapRules.{fuses, Apart}
 use Rattle.swc_ecma_codegen_ast.specs.Settings.{Settings, is_up_to_es5}
-use Rattle.swc_ecma_codegen_ast.specs.Phrases.{Phrase, Never, Nothing, One, NameOf, KeyOf, PrivateOf, Then, OptionalComma, OptionalParentheses, Chosen, EmptyArguments, LoopEnding, in_parentheses, close_parenthesis, Generates, chosen, is_possible}
+use Rattle.swc_ecma_codegen_ast.specs.Phrases.{Phrase, Never, Nothing, One, NameOf, KeyOf, PrivateOf, Then, OptionalComma, OptionalParentheses, Chosen, EmptyArguments, LoopEnding, AttributesWord, in_parentheses, close_parenthesis, Generates, chosen, is_possible}
 use Rattle.swc_ecma_codegen_ast.specs.Tokens as lexical
 use Rattle.swc_ecma_codegen_text_writer.specs.Sheet.{Item, Semi, Space, Keyword, Operator, Param, Property, Line, Lit, Comment, StrLit, Str, Symbol, Punct, Position, Commit, Deeper, Shallower, Sheet, Semicolons, AtOnce, HoldsNone, HoldsOne, appended, written, literal_written, ended, settled, settled_by, semicolon_by, before_punct, is_ending, dropped, effect}
 use Rattle.swc_ecma_codegen_text_writer.proofs.Sheets.{effect_indent_text, effect_line_end, settled_same}
@@ -176,6 +176,10 @@ ending_kept : (s : Settings) → keeps_tokens (chosen s LoopEnding) ≡ false
 unfolding keeps_tokens chosen is_other_value lexical.ending
 ending_kept s = elim (is_up_to_es5 s.target) as (λ b. keeps_tokens (cond b (lexical.ending ∷ []) []) ≡ false) [ true ↦ refl | false ↦ refl ]
 
+word_kept : (s : Settings) → keeps_tokens (chosen s AttributesWord) ≡ false
+unfolding keeps_tokens chosen is_other_value lexical.word
+word_kept s = refl
+
 kept_listed : (s : Settings) (f : Phrase) (ts : List lexical.Token) → is_possible f ≡ true → Generates s f ts → keeps_tokens ts ≡ may_keep_other f
 unfolding Generates is_possible keeps_tokens may_keep_other is_other_value lexical.name lexical.private_name lexical.punctuator
 kept_listed s Never ts w g = absurd g
@@ -193,6 +197,7 @@ kept_listed s (OptionalParentheses a) ts w (inl g) = kept_listed s a ts w g
 kept_listed s (OptionalParentheses a) ts w (inr g) = ap keeps_tokens g.2 ∙ tokens_keep g.0 (close_parenthesis ∷ []) ∙ kept_alone (keeps_tokens g.0) ∙ kept_listed s a g.0 w g.1
 kept_listed s (Chosen EmptyArguments) ts w g = ap keeps_tokens g ∙ choice_kept s
 kept_listed s (Chosen LoopEnding) ts w g = ap keeps_tokens g ∙ ending_kept s
+kept_listed s (Chosen AttributesWord) ts w g = ap keeps_tokens g ∙ word_kept s
 
 -- where no such token is in the tree, no such text is among the steps
 pub printed_keeps : {i : Shape} (p : Part) (f : Phrase) (env : Env) → PrintsAt i env p f → is_possible f ≡ true → is_out env.config f ≡ false → may_keep_other f ≡ false → keeps_other (steps_of (p nothing env)) ≡ false

@@ -1,7 +1,10 @@
 -- Parts that write what syntax leaves open: one of the lists that their phrase has.
-use Rattle.std.proofs.Common.{◌≡◌, ◌⊎◌, Bool, true, false, cond, ◌||◌, List, [], ◌∷◌, ◌++◌, ◌&&◌, append-nil, codes, refl, sym, ap, ◌∙◌, subst, inl, inr}
+use Rattle.std.proofs.Common.{◌≡◌, ◌⊎◌, ℕ, None, Bool, true, false, cond, ◌||◌, List, [], ◌∷◌, ◌++◌, ◌&&◌, append-nil, codes, refl, sym, ap, ◌∙◌, subst, inl, inr}
 use Rattle.std.proofs.lemmas.Bool.{cases_Bool, true≢false}
-use Rattle.swc_ecma_codegen_ast.specs.Phrases.{Phrase, Nothing, OptionalComma, OptionalParentheses, Chosen, EmptyArguments, LoopEnding, Generates, chosen, in_parentheses, comma, open_parenthesis, is_possible, names_in, ◌>◌, mark, ending}
+use Rattle.swc_ecma_codegen_ast.specs.Phrases.{Phrase, Nothing, OptionalComma, OptionalParentheses, Chosen, EmptyArguments, LoopEnding, AttributesWord, Generates, chosen, in_parentheses, comma, open_parenthesis, is_possible, names_in, ◌>◌, mark, ending}
+use Rattle.swc_ecma_codegen_ast.specs.Phrases as phrases
+use Rattle.swc_ecma_codegen_ast.specs.Chars.{is_start, is_part, is_letter, is_digit}
+use Rattle.swc_ecma_codegen_ast.specs.Names.{is_word, all_part}
 use Rattle.swc_ecma_codegen_ast.specs.Punctuators.{is_punctuator, punctuators}
 use Rattle.swc_ecma_codegen_ast.specs.Settings.{is_up_to_es5}
 use Rattle.swc_ecma_codegen_ast.specs.Texts.{is_same, is_among}
@@ -9,18 +12,18 @@ use Rattle.swc_ecma_codegen_ast.specs.Tokens.{Token}
 use Rattle.swc_ecma_codegen_ast.specs.Tokens as lexical
 use Rattle.swc_ecma_codegen_util.specs.declared.config.Config.{Config}
 use Rattle.std.specs.Str.{chars, is_utf8}
-use Rattle.swc_ecma_codegen_base.specs.Choices.{optional_comma, optional_parentheses, empty_arguments, loop_ending}
+use Rattle.swc_ecma_codegen_base.specs.Choices.{optional_comma, optional_parentheses, empty_arguments, loop_ending, attributes_word}
 use Rattle.swc_ecma_codegen_base.specs.Escapes.{is_spelled_anew, may_make_text}
 use Rattle.swc_ecma_codegen_base.specs.Run.{Env, Plan, Part, no_part}
 use Rattle.swc_ecma_codegen_base.specs.Scripts.{is_str}
 use Rattle.swc_ecma_codegen_base.specs.Settings.{settings_of}
 use Rattle.swc_ecma_codegen_base.specs.Targets.{is_out}
-use Rattle.swc_ecma_codegen_base.specs.Words.{punct, semi}
-use Rattle.swc_ecma_codegen_base.specs.Written.{IsMark}
+use Rattle.swc_ecma_codegen_base.specs.Words.{keyword, punct, semi}
+use Rattle.swc_ecma_codegen_base.specs.Written.{IsMark, IsWord}
 use Rattle.swc_ecma_codegen_base.proofs.Emitting.{minified_same, pretty_same}
 use Rattle.swc_ecma_codegen_base.proofs.Hands.{holds_string}
 use Rattle.swc_ecma_codegen_base.proofs.Printed.{makes_some, MakesAt}
-use Rattle.swc_ecma_codegen_base.proofs.Phrased.{NamedBy, Prints, no_names, no_strings, then, prints_nothing, prints_punct, prints_semi, prints_same, PrintsAt, prints_wider}
+use Rattle.swc_ecma_codegen_base.proofs.Phrased.{NamedBy, Prints, no_names, no_strings, then, prints_nothing, prints_keyword, prints_punct, prints_semi, prints_same, PrintsAt, prints_wider}
 use Rattle.swc_ecma_codegen_base.proofs.Shapes.{Shape, open_}
 
 -- ---- a phrase whose lists another has too
@@ -202,4 +205,39 @@ pub prints_loop_ending : {env : Env} → PrintsAt open_ env loop_ending (Chosen 
 prints_loop_ending {env} = elim (cases_Bool (is_up_to_es5 env.config.target)) [
   | inl e ↦ prints_among (ending_among env.config e) (prints_same loop_ending semi (λ rest. ended_same rest env e) (prints_wider open_ refl (prints_semi env)))
   | inr e ↦ prints_among (no_ending_among env.config e) (prints_same loop_ending (λ rest. rest) (λ rest. not_ended_same rest env e) prints_nothing)
+]
+
+-- the word before import attributes, by the settings
+assert_is_word : IsWord (codes "assert")
+unfolding is_word is_start is_part is_letter is_digit all_part chars is_utf8 lib.Utf8.encode
+assert_is_word = record { utf8 = refl; ascii = refl; shape = refl }
+
+with_is_word : IsWord (codes "with")
+unfolding is_word is_start is_part is_letter is_digit all_part chars is_utf8 lib.Utf8.encode
+with_is_word = record { utf8 = refl; ascii = refl; shape = refl }
+
+assert_chosen : (config : Config) → config.emit_assert_for_import_attributes ≡ true → chosen (settings_of config) AttributesWord ≡ lexical.word (codes "assert") ∷ []
+unfolding chosen
+assert_chosen config e = ap (λ b. lexical.word (cond b (codes "assert") (codes "with")) ∷ []) e
+
+with_chosen : (config : Config) → config.emit_assert_for_import_attributes ≡ false → chosen (settings_of config) AttributesWord ≡ lexical.word (codes "with") ∷ []
+unfolding chosen
+with_chosen config e = ap (λ b. lexical.word (cond b (codes "assert") (codes "with")) ∷ []) e
+
+word_among : (config : Config) (t : List ℕ) → chosen (settings_of config) AttributesWord ≡ lexical.word t ∷ [] → IsAmong config (phrases.word t) (Chosen AttributesWord)
+unfolding Generates is_possible is_out may_make_text names_in is_spelled_anew lexical.word
+word_among config t e = record { generates = λ ts g. g ∙ sym e; possible = refl; out = refl; makes = λ m. m; names = refl }
+
+pub assert_same : (rest : Plan) (env : Env) → env.config.emit_assert_for_import_attributes ≡ true → attributes_word rest env ≡ keyword None (codes "assert") rest env
+unfolding attributes_word
+assert_same rest env e = ap (λ b. cond b (keyword None (codes "assert") rest env) (keyword None (codes "with") rest env)) e
+
+pub with_same : (rest : Plan) (env : Env) → env.config.emit_assert_for_import_attributes ≡ false → attributes_word rest env ≡ keyword None (codes "with") rest env
+unfolding attributes_word
+with_same rest env e = ap (λ b. cond b (keyword None (codes "assert") rest env) (keyword None (codes "with") rest env)) e
+
+pub prints_attributes_word : {env : Env} → Prints env attributes_word (Chosen AttributesWord)
+prints_attributes_word {env} = elim (cases_Bool env.config.emit_assert_for_import_attributes) [
+  | inl e ↦ prints_among (word_among env.config (codes "assert") (assert_chosen env.config e)) (prints_same attributes_word (keyword None (codes "assert")) (λ rest. assert_same rest env e) (prints_keyword env None (codes "assert") assert_is_word))
+  | inr e ↦ prints_among (word_among env.config (codes "with") (with_chosen env.config e)) (prints_same attributes_word (keyword None (codes "with")) (λ rest. with_same rest env e) (prints_keyword env None (codes "with") with_is_word))
 ]

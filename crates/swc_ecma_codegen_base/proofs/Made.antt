@@ -9,7 +9,7 @@ use Rattle.swc_ecma_codegen_base.specs.declared.refusals.Unprintable.{Unprintabl
 use Rattle.swc_ecma_codegen_text_writer.proofs.Sheets.{effect_refused, effect_faults, effect_takes_memory, effect_keeps_positions}
 use Rattle.swc_ecma_codegen_ast.specs.Tokens.{Token as LexicalToken, ending}
 use Rattle.swc_ecma_codegen_ast.specs.Settings.{Settings, is_up_to_es5}
-use Rattle.swc_ecma_codegen_ast.specs.Phrases.{Phrase, Never, Nothing, One, NameOf, KeyOf, PrivateOf, Then, OptionalComma, OptionalParentheses, Chosen, EmptyArguments, LoopEnding, in_parentheses, close_parenthesis, Generates, chosen, is_possible}
+use Rattle.swc_ecma_codegen_ast.specs.Phrases.{Phrase, Never, Nothing, One, NameOf, KeyOf, PrivateOf, Then, OptionalComma, OptionalParentheses, Chosen, EmptyArguments, LoopEnding, AttributesWord, in_parentheses, close_parenthesis, Generates, chosen, is_possible}
 use Rattle.swc_ecma_codegen_base.specs.declared.refusals.Unprintable.TheVariants.{NameOutOfTarget}
 use Rattle.swc_ecma_codegen_base.specs.Targets.{is_out}
 use Rattle.swc_ecma_codegen_base.specs.Run.{Env, Plan, Part, Step, State, run, steps_of, unprintable_in, nothing, Follows, HasCause, PassesLimit, IsUnhindered, earlier, stopped, reached}
@@ -32,7 +32,7 @@ ending_count s = elim (is_up_to_es5 s.target) as (λ b. length (cond b (ending �
 
 -- each list of a phrase has no more tokens
 counted : (s : Settings) (f : Phrase) (ts : List LexicalToken) → Generates s f ts → length ts ≤ token_count f
-unfolding Generates token_count
+unfolding Generates token_count chosen
 counted s Never ts g = absurd g
 counted s Nothing ts g = let e = ap length g in omega (arith, e)
 counted s (One x) ts g = let e = ap length g in omega (arith, e)
@@ -53,6 +53,7 @@ counted s (OptionalParentheses a) ts (inr g) =
     omega (arith, h, e, length-append g.0 (close_parenthesis ∷ []))
 counted s (Chosen EmptyArguments) ts g = let h = argument_count s in let e = ap length g in omega (arith, h, e)
 counted s (Chosen LoopEnding) ts g = let h = ending_count s in let e = ap length g in omega (arith, h, e)
+counted s (Chosen AttributesWord) ts g = let e = ap length g in omega (arith, e)
 
 -- each node of a well-formed tree can be printed, whose names can
 pub printable : {i : Shape} (p : Part) (f : Phrase) (env : Env) → PrintsAt i env p f → is_possible f ≡ true → is_out env.config f ≡ false → unprintable_in (p nothing env) ≡ None
