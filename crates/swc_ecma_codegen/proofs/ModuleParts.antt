@@ -1,6 +1,7 @@
 -- What is written of imports and exports is what they read as.
-use Rattle.std.proofs.Common.{Bool, true, false, ◌||◌, is_some, List, [], ◌∷◌, map, codes, Option, Some, None, refl}
+use Rattle.std.proofs.Common.{Bool, true, false, List, [], ◌∷◌, map, codes, Option, Some, None, refl}
 use Rattle.swc_ecma_codegen_common.specs.declared.positions.Span.{Span}
+use Rattle.swc_ecma_codegen_tree.specs.declared.expr_links.ObjectLitBox.{ObjectLitBox}
 use Rattle.swc_ecma_codegen_tree.specs.declared.lits.Str.{Str}
 use Rattle.swc_ecma_codegen_tree.specs.declared.modules.DefaultDecl.{DefaultDecl}
 use Rattle.swc_ecma_codegen_tree.specs.declared.modules.DefaultDecl.TheVariants as default_decls
@@ -29,12 +30,14 @@ use Rattle.swc_ecma_codegen_spans.specs.Spans.{import_specifier_span, export_spe
 use Rattle.swc_ecma_codegen_ast.specs.ElementPhrases.{trailing_comma}
 use Rattle.swc_ecma_codegen_ast.specs.ModulePhrases as lists
 use Rattle.swc_ecma_codegen_ast.specs.Phrases as phrases
-use Rattle.swc_ecma_codegen_ast.specs.Phrases.{Phrase, OptionalComma, ◌>◌, mark, word}
-use Rattle.swc_ecma_codegen_ast.specs.declared.roles.Role.TheVariants.{Statement, ModuleDeclaration, ExportedHead as HeadOfExported, ExportedTail as TailOfExported}
+use Rattle.swc_ecma_codegen_ast.specs.Phrases.{Phrase, OptionalComma, ◌>◌, mark, word, ending}
+use Rattle.swc_ecma_codegen_ast.specs.LitPhrases.{str_lit}
+use Rattle.swc_ecma_codegen_ast.specs.declared.roles.Role.TheVariants.{Statement, ObjectLiteral, ModuleDeclaration, ExportedHead as HeadOfExported, ExportedTail as TailOfExported}
 use Rattle.swc_ecma_codegen_base.specs.Lists.{list}
 use Rattle.swc_ecma_codegen_base.specs.Run.{Env, Part}
 use Rattle.swc_ecma_codegen_base.specs.Words.{punct}
 use Rattle.swc_ecma_codegen_base.proofs.ListLaws.{children_of, writes_no_list, prints_some, prints_optional_closing}
+use Rattle.swc_ecma_codegen_base.proofs.Choices.{prints_attributes_word}
 use Rattle.swc_ecma_codegen_base.proofs.Shapes.{open_, closed, ended}
 use Rattle.swc_ecma_codegen_base.proofs.Phrased.{Prints, PrintsAt, prints_wider, loosened, then, after, before, prints_nothing, prints_never, prints_keyword, prints_punct, prints_semi}
 use Rattle.swc_ecma_codegen_base.proofs.Printed.{Writes, writes_then, writes_nothing, writes_space, writes_formatting_space, writes_formatting_line, writes_position, writes_leading, writes_trailing}
@@ -122,16 +125,26 @@ phase_prints env Evaluation = prints_nothing
 phase_prints env Source = prints_wider open_ refl (after (writes_space env) (prints_keyword env None (codes "source") marks.source_word))
 phase_prints env Defer = prints_wider open_ refl (after (writes_space env) (prints_keyword env None (codes "defer") marks.defer_word))
 
-import_prints : {X : Type 0} (l : Linked X) (n : ImportDecl X) → Prints l.env (words.import_decl n) (lists.import_decl n)
+attributes_print : {X : Type 0} (l : Linked X) (n : Option (ObjectLitBox X)) → PrintsAt open_ l.env (words.attributes l.items n) (lists.attributes l.reads n)
+unfolding words.attributes lists.attributes
+attributes_print l None = prints_nothing
+attributes_print l (Some n) =
+    prints_wider open_ refl
+    (after (writes_formatting_space l.env) (then prints_attributes_word (after (writes_formatting_space l.env) (l.law n.node.value Plain ObjectLiteral))))
+
+source_end_prints : {X : Type 0} (l : Linked X) (src : Str) (with_ : Option (ObjectLitBox X)) (span : Span) → Prints l.env (words.source_end l.items src with_ span) (str_lit src > lists.attributes l.reads with_ > ending)
+unfolding words.source_end
+source_end_prints l src with_ span = then (prints_str l.env src) (then (attributes_print l with_) (before (prints_semi l.env) (writes_position l.env span.hi)))
+
+import_prints : {X : Type 0} (l : Linked X) (n : ImportDecl X) → Prints l.env (words.import_decl l.items n) (lists.import_decl l.reads n)
 unfolding words.import_decl words.import_parts words.import_tail lists.import_decl
-import_prints l n = refused_or (n.type_only || is_some n.with_)
+import_prints l n = refused_or n.type_only
     (after (writes_leading l.env n.span.lo)
     (after (writes_position l.env n.span.lo)
     (then (prints_keyword l.env None (codes "import") marks.import_word)
     (then (phase_prints l.env n.phase)
     (after (writes_blank l.env (words.begins_default n.specifiers.items))
-    (then (import_clause_prints l n.span n.specifiers.items)
-    (then (prints_str l.env n.src) (before (prints_semi l.env) (writes_position l.env n.span.hi)))))))))
+    (then (import_clause_prints l n.span n.specifiers.items) (source_end_prints l n.src n.with_ n.span)))))))
 
 -- ---- exports
 
@@ -175,31 +188,31 @@ export_clause_prints l parent (exported.Namespace n ∷ m ∷ ns) =
 export_clause_prints l parent (exported.Named n ∷ ns) = export_braces_print l parent (exported.Named n ∷ ns)
 export_clause_prints l parent (exported.Default n ∷ ns) = export_braces_print l parent (exported.Default n ∷ ns)
 
-from_clause_prints : (env : Env) (needed : Bool) (n : Option Str) → PrintsAt open_ env (words.from_clause needed n) (lists.from_clause n)
+from_clause_prints : {X : Type 0} (l : Linked X) (with_ : Option (ObjectLitBox X)) (needed : Bool) (n : Option Str) → PrintsAt open_ l.env (words.from_clause l.items with_ needed n) (lists.from_clause l.reads with_ n)
 unfolding words.from_clause lists.from_clause
-from_clause_prints env needed None = prints_nothing
-from_clause_prints env needed (Some n) = prints_wider open_ refl (after (writes_blank env needed) (then (from_prints env) (prints_str env n)))
+from_clause_prints l with_ needed None = prints_nothing
+from_clause_prints l with_ needed (Some n) = prints_wider open_ refl (after (writes_blank l.env needed) (then (from_prints l.env) (then (prints_str l.env n) (attributes_print l with_))))
 
-export_named_prints : {X : Type 0} (l : Linked X) (n : NamedExport X) → Prints l.env (words.export_named n) (lists.export_named n)
+export_named_prints : {X : Type 0} (l : Linked X) (n : NamedExport X) → Prints l.env (words.export_named l.items n) (lists.export_named l.reads n)
 unfolding words.export_named words.export_parts words.export_tail lists.export_named
-export_named_prints l n = refused_or (n.type_only || is_some n.with_)
+export_named_prints l n = refused_or n.type_only
     (after (writes_leading l.env n.span.lo)
     (after (writes_position l.env n.span.lo)
     (then (prints_keyword l.env None (codes "export") marks.export_word)
     (after (writes_formatting_space l.env)
     (then (export_clause_prints l n.span n.specifiers.items)
-    (then (from_clause_prints l.env (words.ends_with_name n.specifiers.items) n.src) (before (prints_semi l.env) (writes_position l.env n.span.hi))))))))
+    (then (from_clause_prints l n.with_ (words.ends_with_name n.specifiers.items) n.src) (before (prints_semi l.env) (writes_position l.env n.span.hi))))))))
 
-export_all_prints : {X : Type 0} (l : Linked X) (n : ExportAll X) → Prints l.env (words.export_all n) (lists.export_all n)
+export_all_prints : {X : Type 0} (l : Linked X) (n : ExportAll X) → Prints l.env (words.export_all l.items n) (lists.export_all l.reads n)
 unfolding words.export_all words.all_parts words.all_tail lists.export_all
-export_all_prints l n = refused_or (n.type_only || is_some n.with_)
+export_all_prints l n = refused_or n.type_only
     (after (writes_leading l.env n.span.lo)
     (after (writes_position l.env n.span.lo)
     (then (prints_keyword l.env None (codes "export") marks.export_word)
     (after (writes_formatting_space l.env)
     (then (prints_punct l.env (codes "*") marks.star)
     (after (writes_formatting_space l.env)
-    (then (from_prints l.env) (then (prints_str l.env n.src) (before (prints_semi l.env) (writes_position l.env n.span.hi))))))))))
+    (then (from_prints l.env) (source_end_prints l n.src n.with_ n.span))))))))
 
 export_decl_prints : {X : Type 0} (l : Linked X) (n : ExportDecl X) → Prints l.env (words.export_decl l.items n) (lists.export_decl l.reads n)
 unfolding words.export_decl lists.export_decl

@@ -1,9 +1,10 @@
 -- What is written of imports and exports. What TypeScript adds isn't printed yet, nor are attributes.
-use Rattle.std.specs.Prelude.{ℕ, Bool, true, false, ◌||◌, is_some, if◌then◌else◌, List, [], ◌∷◌, map, codes, Option, Some, None}
+use Rattle.std.specs.Prelude.{ℕ, Bool, true, false, if◌then◌else◌, List, [], ◌∷◌, map, codes, Option, Some, None}
 use Rattle.swc_ecma_codegen_common.specs.declared.positions.Span.{Span}
 use Rattle.swc_ecma_codegen_tree.specs.declared.decls.Decl.{Decl}
 use Rattle.swc_ecma_codegen_tree.specs.declared.decls.Decl.TheVariants as decls
 use Rattle.swc_ecma_codegen_tree.specs.declared.decls.ClassDecl.{ClassDecl}
+use Rattle.swc_ecma_codegen_tree.specs.declared.expr_links.ObjectLitBox.{ObjectLitBox}
 use Rattle.swc_ecma_codegen_tree.specs.declared.lits.Str.{Str}
 use Rattle.swc_ecma_codegen_tree.specs.declared.modules.DefaultDecl.{DefaultDecl}
 use Rattle.swc_ecma_codegen_tree.specs.declared.modules.DefaultDecl.TheVariants as default_decls
@@ -29,6 +30,7 @@ use Rattle.swc_ecma_codegen_tree.specs.declared.programs.ModuleDecl.TheVariants 
 use Rattle.swc_ecma_codegen_tree.specs.declared.programs.ModuleItem.{ModuleItem}
 use Rattle.swc_ecma_codegen_tree.specs.declared.programs.ModuleItem.TheVariants as module_items
 use Rattle.swc_ecma_codegen_spans.specs.Spans.{import_specifier_span, export_specifier_span, module_item_span, module_decl_span}
+use Rattle.swc_ecma_codegen_base.specs.Choices.{attributes_word}
 use Rattle.swc_ecma_codegen_base.specs.Run.{Part}
 use Rattle.swc_ecma_codegen_base.specs.Lists.{list}
 use Rattle.swc_ecma_codegen_base.specs.Lits.{str_lit}
@@ -142,19 +144,28 @@ phase_word Evaluation rest = rest
 phase_word Source rest = space (keyword None (codes "source") rest)
 phase_word Defer rest = space (keyword None (codes "defer") rest)
 
+-- ` with { type: 'json' }`, minified `with{type:"json"}`, where there is such
+unfoldable pub attributes : {X : Type 0} → (X → Place → Part) → Option (ObjectLitBox X) → Part
+attributes items None rest = rest
+attributes items (Some n) rest = formatting_space (attributes_word (formatting_space (items n.node.value Plain rest)))
+
+-- `'b' with { type: 'json' };`, the end of an import or an export
+unfoldable pub source_end : {X : Type 0} → (X → Place → Part) → Str → Option (ObjectLitBox X) → Span → Part
+source_end items src with_ span rest = str_lit src (attributes items with_ (semi (end_of span rest)))
+
 -- `{ a } from 'b';`
-unfoldable pub import_tail : {X : Type 0} → ImportDecl X → Part
-import_tail n rest = import_clause n.span n.specifiers.items (str_lit n.src (semi (end_of n.span rest)))
+unfoldable pub import_tail : {X : Type 0} → (X → Place → Part) → ImportDecl X → Part
+import_tail items n rest = import_clause n.span n.specifiers.items (source_end items n.src n.with_ n.span rest)
 
 -- `import { a } from 'b';`
-unfoldable pub import_parts : {X : Type 0} → ImportDecl X → Part
-import_parts n rest =
+unfoldable pub import_parts : {X : Type 0} → (X → Place → Part) → ImportDecl X → Part
+import_parts items n rest =
     leading_comments n.span.lo
     (start_of n.span
-    (keyword None (codes "import") (phase_word n.phase (blank (begins_default n.specifiers.items) (import_tail n rest)))))
+    (keyword None (codes "import") (phase_word n.phase (blank (begins_default n.specifiers.items) (import_tail items n rest)))))
 
-unfoldable pub import_decl : {X : Type 0} → ImportDecl X → Part
-import_decl n rest = if n.type_only || is_some n.with_ then unsupported rest else import_parts n rest
+unfoldable pub import_decl : {X : Type 0} → (X → Place → Part) → ImportDecl X → Part
+import_decl items n rest = if n.type_only then unsupported rest else import_parts items n rest
 
 -- ---- exports
 
@@ -213,31 +224,31 @@ unfoldable pub ends_with_name : List ExportSpecifier → Bool
 ends_with_name (exported.Namespace n ∷ []) = true
 ends_with_name ns = false
 
--- ` from 'a'`, where it is so
-unfoldable pub from_clause : Bool → Option Str → Part
-from_clause needed None rest = rest
-from_clause needed (Some n) rest = blank needed (from_word (str_lit n rest))
+-- ` from 'a'` with its attributes, where it is so
+unfoldable pub from_clause : {X : Type 0} → (X → Place → Part) → Option (ObjectLitBox X) → Bool → Option Str → Part
+from_clause items with_ needed None rest = rest
+from_clause items with_ needed (Some n) rest = blank needed (from_word (str_lit n (attributes items with_ rest)))
 
-unfoldable pub export_tail : {X : Type 0} → NamedExport X → Part
-export_tail n rest = export_clause n.span n.specifiers.items (from_clause (ends_with_name n.specifiers.items) n.src (semi (end_of n.span rest)))
+unfoldable pub export_tail : {X : Type 0} → (X → Place → Part) → NamedExport X → Part
+export_tail items n rest = export_clause n.span n.specifiers.items (from_clause items n.with_ (ends_with_name n.specifiers.items) n.src (semi (end_of n.span rest)))
 
 -- `export { a, b as c } from 'd';`
-unfoldable pub export_parts : {X : Type 0} → NamedExport X → Part
-export_parts n rest = leading_comments n.span.lo (start_of n.span (keyword None (codes "export") (formatting_space (export_tail n rest))))
+unfoldable pub export_parts : {X : Type 0} → (X → Place → Part) → NamedExport X → Part
+export_parts items n rest = leading_comments n.span.lo (start_of n.span (keyword None (codes "export") (formatting_space (export_tail items n rest))))
 
-unfoldable pub export_named : {X : Type 0} → NamedExport X → Part
-export_named n rest = if n.type_only || is_some n.with_ then unsupported rest else export_parts n rest
+unfoldable pub export_named : {X : Type 0} → (X → Place → Part) → NamedExport X → Part
+export_named items n rest = if n.type_only then unsupported rest else export_parts items n rest
 
 -- `* from 'a';`
-unfoldable pub all_tail : {X : Type 0} → ExportAll X → Part
-all_tail n rest = punct (codes "*") (formatting_space (from_word (str_lit n.src (semi (end_of n.span rest)))))
+unfoldable pub all_tail : {X : Type 0} → (X → Place → Part) → ExportAll X → Part
+all_tail items n rest = punct (codes "*") (formatting_space (from_word (source_end items n.src n.with_ n.span rest)))
 
-unfoldable pub all_parts : {X : Type 0} → ExportAll X → Part
-all_parts n rest = leading_comments n.span.lo (start_of n.span (keyword None (codes "export") (formatting_space (all_tail n rest))))
+unfoldable pub all_parts : {X : Type 0} → (X → Place → Part) → ExportAll X → Part
+all_parts items n rest = leading_comments n.span.lo (start_of n.span (keyword None (codes "export") (formatting_space (all_tail items n rest))))
 
 -- `export * from 'a';`
-unfoldable pub export_all : {X : Type 0} → ExportAll X → Part
-export_all n rest = if n.type_only || is_some n.with_ then unsupported rest else all_parts n rest
+unfoldable pub export_all : {X : Type 0} → (X → Place → Part) → ExportAll X → Part
+export_all items n rest = if n.type_only then unsupported rest else all_parts items n rest
 
 -- `export let a = b;`; decorators of a class stand before the word
 unfoldable pub export_decl : {X : Type 0} → (X → Place → Part) → ExportDecl X → Part
@@ -263,12 +274,12 @@ export_default_expr asks items n rest = start_of n.span (export_default (blank (
 -- ---- all of them
 
 unfoldable pub module_decl_by : {X : Type 0} → (X → Answers) → (X → Place → Part) → ModuleDecl X → Part
-module_decl_by asks items (module_decls.Import n) rest = import_decl n rest
+module_decl_by asks items (module_decls.Import n) rest = import_decl items n rest
 module_decl_by asks items (module_decls.ExportDecl n) rest = export_decl items n rest
-module_decl_by asks items (module_decls.ExportNamed n) rest = export_named n rest
+module_decl_by asks items (module_decls.ExportNamed n) rest = export_named items n rest
 module_decl_by asks items (module_decls.ExportDefaultDecl n) rest = export_default_decl asks items n rest
 module_decl_by asks items (module_decls.ExportDefaultExpr n) rest = export_default_expr asks items n rest
-module_decl_by asks items (module_decls.ExportAll n) rest = export_all n rest
+module_decl_by asks items (module_decls.ExportAll n) rest = export_all items n rest
 -- what TypeScript adds
 module_decl_by asks items n rest = unsupported rest
 
