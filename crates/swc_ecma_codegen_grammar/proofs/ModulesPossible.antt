@@ -1,5 +1,5 @@
 -- When modules, imports and exports are well-formed.
-use Rattle.std.proofs.Common.{◌≡◌, Bool, true, false, not, ◌&&◌, ◌||◌, is_some, is_none, List, [], ◌∷◌, map, codes, Option, Some, None, refl, ap, ◌∙◌}
+use Rattle.std.proofs.Common.{◌≡◌, Bool, true, false, not, ◌&&◌, List, [], ◌∷◌, map, codes, Option, Some, None, refl, ap, ◌∙◌}
 use Rattle.swc_ecma_codegen_tree.specs.declared.decls.ClassDecl.{ClassDecl}
 use Rattle.swc_ecma_codegen_tree.specs.declared.decls.Decl.TheVariants as decls
 use Rattle.swc_ecma_codegen_tree.specs.declared.modules.ExportAll.{ExportAll}
@@ -17,13 +17,13 @@ use Rattle.swc_ecma_codegen_tree.specs.declared.modules.NamedExport.{NamedExport
 use Rattle.swc_ecma_codegen_ast.specs.Phrases.{Phrase, ◌>◌, mark, listed, is_possible}
 use Rattle.swc_ecma_codegen_ast.specs.ElementPhrases.{trailing_comma}
 use Rattle.swc_ecma_codegen_ast.specs.LitPhrases.{str_lit}
-use Rattle.swc_ecma_codegen_ast.specs.ModulePhrases.{module_export_name, imported_as, import_named, import_specifier, import_bindings, after_default, import_clause, import_phase, import_decl, exported_as, export_named_specifier, export_specifier, export_namespace, export_braces, export_clause, from_clause, export_named, export_all, exported_tail}
+use Rattle.swc_ecma_codegen_ast.specs.ModulePhrases.{attributes, module_export_name, imported_as, import_named, import_specifier, import_bindings, after_default, import_clause, import_phase, import_decl, exported_as, export_named_specifier, export_specifier, export_namespace, export_braces, export_clause, from_clause, export_named, export_all, exported_tail}
 use Rattle.swc_ecma_codegen_ast.specs.NamePhrases.{ident}
 use Rattle.swc_ecma_codegen_ast.specs.declared.roles.Role.{Role}
 use Rattle.swc_ecma_codegen_ast.specs.declared.roles.Role.TheVariants.{ClassTail}
 use Rattle.swc_ecma_codegen_grammar.specs.ModuleForms.{bindings_fit, others_fit, imports_fit, exports_fit}
 use Rattle.swc_ecma_codegen_grammar.specs.Possible.{all_possible}
-use Rattle.swc_ecma_codegen_grammar.proofs.ClassesPossible.{typed, not_some, not_either}
+use Rattle.swc_ecma_codegen_grammar.proofs.ClassesPossible.{typed}
 use Rattle.swc_ecma_codegen_grammar.proofs.Lists.{listed_possible, and_true}
 use Rattle.swc_ecma_codegen_grammar.proofs.PatsPossible.{comma_possible}
 
@@ -34,9 +34,6 @@ braces e ns =
     ap (λ b. b && (is_possible (trailing_comma ns) && true)) (listed_possible (codes ",") e ns)
     ∙ ap (λ b. all_possible e ns && (b && true)) (comma_possible ns)
     ∙ and_true (all_possible e ns)
-
-untyped : (a b c : Bool) → (not (a || b) && c) ≡ (not a && (not b && c))
-untyped a b c = not_either a b c
 
 -- ---- imports
 
@@ -74,16 +71,15 @@ phase_possible Evaluation = refl
 phase_possible Source = refl
 phase_possible Defer = refl
 
-pub import_decl_possible : {X : Type 0} (n : ImportDecl X) → is_possible (import_decl n) ≡ (not n.type_only && (is_none n.with_ && (imports_fit n.specifiers.items && is_possible (str_lit n.src))))
+pub import_decl_possible : {X : Type 0} (f : X → Role → Phrase) (n : ImportDecl X) → is_possible (import_decl f n) ≡ (not n.type_only && (imports_fit n.specifiers.items && (is_possible (str_lit n.src) && is_possible (attributes f n.with_))))
 unfolding is_possible import_decl
-import_decl_possible n =
-    let rest : Bool = imports_fit n.specifiers.items && is_possible (str_lit n.src) in
-    typed (n.type_only || is_some n.with_) _ rest
-    (ap (λ b. b && (is_possible (import_clause n.specifiers.items) && (is_possible (str_lit n.src) && true))) (phase_possible n.phase)
-    ∙ ap (λ b. b && (is_possible (str_lit n.src) && true)) (imports_possible n.specifiers.items)
-    ∙ ap (λ b. imports_fit n.specifiers.items && b) (and_true (is_possible (str_lit n.src))))
-    ∙ untyped n.type_only (is_some n.with_) rest
-    ∙ ap (λ b. not n.type_only && (b && rest)) (not_some n.with_)
+import_decl_possible f n =
+    let src : Bool = is_possible (str_lit n.src) in
+    let with_ : Bool = is_possible (attributes f n.with_) in
+    typed n.type_only _ (imports_fit n.specifiers.items && (src && with_))
+    (ap (λ b. b && (is_possible (import_clause n.specifiers.items) && (src && (with_ && true)))) (phase_possible n.phase)
+    ∙ ap (λ b. b && (src && (with_ && true))) (imports_possible n.specifiers.items)
+    ∙ ap (λ b. imports_fit n.specifiers.items && (src && b)) (and_true with_))
 
 -- ---- exports
 
@@ -99,23 +95,16 @@ exports_possible (exported.Namespace n ∷ m ∷ ns) = ap (λ b. is_possible (mo
 exports_possible (exported.Named n ∷ ns) = braces export_specifier (exported.Named n ∷ ns)
 exports_possible (exported.Default n ∷ ns) = braces export_specifier (exported.Default n ∷ ns)
 
-pub export_named_possible : {X : Type 0} (n : NamedExport X) → is_possible (export_named n) ≡ (not n.type_only && (is_none n.with_ && (exports_fit n.specifiers.items && is_possible (from_clause n.src))))
+pub export_named_possible : {X : Type 0} (f : X → Role → Phrase) (n : NamedExport X) → is_possible (export_named f n) ≡ (not n.type_only && (exports_fit n.specifiers.items && is_possible (from_clause f n.with_ n.src)))
 unfolding is_possible export_named
-export_named_possible n =
-    let rest : Bool = exports_fit n.specifiers.items && is_possible (from_clause n.src) in
-    typed (n.type_only || is_some n.with_) _ rest
-    (ap (λ b. b && (is_possible (from_clause n.src) && true)) (exports_possible n.specifiers.items)
-    ∙ ap (λ b. exports_fit n.specifiers.items && b) (and_true (is_possible (from_clause n.src))))
-    ∙ untyped n.type_only (is_some n.with_) rest
-    ∙ ap (λ b. not n.type_only && (b && rest)) (not_some n.with_)
+export_named_possible f n =
+    let from : Bool = is_possible (from_clause f n.with_ n.src) in
+    typed n.type_only _ (exports_fit n.specifiers.items && from)
+    (ap (λ b. b && (from && true)) (exports_possible n.specifiers.items) ∙ ap (λ b. exports_fit n.specifiers.items && b) (and_true from))
 
-pub export_all_possible : {X : Type 0} (n : ExportAll X) → is_possible (export_all n) ≡ (not n.type_only && (is_none n.with_ && is_possible (str_lit n.src)))
+pub export_all_possible : {X : Type 0} (f : X → Role → Phrase) (n : ExportAll X) → is_possible (export_all f n) ≡ (not n.type_only && (is_possible (str_lit n.src) && is_possible (attributes f n.with_)))
 unfolding is_possible export_all
-export_all_possible n =
-    let rest : Bool = is_possible (str_lit n.src) in
-    typed (n.type_only || is_some n.with_) _ rest (and_true rest)
-    ∙ untyped n.type_only (is_some n.with_) rest
-    ∙ ap (λ b. not n.type_only && (b && rest)) (not_some n.with_)
+export_all_possible f n = typed n.type_only _ _ (ap (λ b. is_possible (str_lit n.src) && b) (and_true (is_possible (attributes f n.with_))))
 
 pub exported_class_possible : {X : Type 0} (f : X → Role → Phrase) (n : ClassDecl X) → is_possible (exported_tail f (decls.Class n)) ≡ (not n.declare && (is_possible (ident n.ident) && is_possible (f n.class.node.value ClassTail)))
 unfolding is_possible exported_tail

@@ -2,7 +2,7 @@
 
 ghost use Rattle.std.specs.Prelude.{◌≡◌};
 ghost use Rattle.swc_ecma_codegen_ast.specs.Phrases.{is_possible};
-ghost use Rattle.swc_ecma_codegen_ast.specs.ModulePhrases.{module_export_name, imported_as, import_named, import_specifier, import_decl, exported_as, export_named_specifier, export_specifier, from_clause, export_named, export_all, exported_head, exported_tail, export_decl, default_decl, export_default_decl, export_default_expr, module_decl, module_item};
+ghost use Rattle.swc_ecma_codegen_ast.specs.ModulePhrases.{attributes, module_export_name, imported_as, import_named, import_specifier, import_decl, exported_as, export_named_specifier, export_specifier, from_clause, export_named, export_all, exported_head, exported_tail, export_decl, default_decl, export_default_decl, export_default_expr, module_decl, module_item};
 ghost use Rattle.swc_ecma_codegen_ast.specs.StmtPhrases.{whole_module};
 ghost use Rattle.swc_ecma_codegen_ast.specs.declared.roles.Role.TheVariants.{Item, ModuleDeclaration};
 ghost use Rattle.swc_ecma_codegen_grammar.specs.ModuleForms.{bindings_fit, others_fit, imports_fit, exports_fit};
@@ -13,7 +13,7 @@ use swc_ecma_codegen_tree::{
     Decl, DefaultDecl, ExportAll, ExportDecl, ExportDefaultDecl, ExportDefaultExpr,
     ExportNamedSpecifier, ExportSpecifier, ImportDecl, ImportNamedSpecifier, ImportSpecifier,
     Module, ModuleDecl, ModuleDeclBox, ModuleExportName, ModuleItem, ModuleItemBox, NamedExport,
-    Str,
+    ObjectLitBox, Str,
 };
 
 impl WellFormed for ModuleExportName {
@@ -96,15 +96,26 @@ fn imports_fit(specifiers: &[ImportSpecifier]) -> bool
     }
 }
 
-impl<N> WellFormed for ImportDecl<N> {
-    ghost phrase = { import_decl };
+/// Whether the attributes of an import or an export are well-formed, or there are none.
+#[tactic(auto, unfolding(swc_ecma_codegen_ast::specs::ModulePhrases::attributes, swc_ecma_codegen_ast::specs::Phrases::is_possible))]
+fn are_attributes<N: Fits>(with_: &Option<ObjectLitBox<N>>) -> bool
+    ensures { result ≡ is_possible (attributes N.reads with_.now) }
+{
+    match with_ {
+        Some(with_) => with_.is_well_formed(),
+        None => true,
+    }
+}
+
+impl<N: Fits> WellFormed for ImportDecl<N> {
+    ghost phrase = { import_decl N.reads };
 
     #[tactic(auto, using(crate::proofs::ModulesPossible::import_decl_possible))]
     fn is_well_formed(&self) -> bool {
         !self.type_only
-            && self.with_.is_none()
             && imports_fit(&self.specifiers)
             && self.src.is_well_formed()
+            && are_attributes(&self.with_)
     }
 }
 
@@ -154,35 +165,32 @@ fn exports_fit(specifiers: &[ExportSpecifier]) -> bool
     }
 }
 
-/// Whether the name of another module is well-formed, or there is none.
+/// Whether the name of another module, with its attributes, is well-formed, or there is none.
 #[tactic(auto, unfolding(swc_ecma_codegen_ast::specs::ModulePhrases::from_clause, swc_ecma_codegen_ast::specs::Phrases::is_possible))]
-fn is_from_clause(src: &Option<Str>) -> bool
-    ensures { result ≡ is_possible (from_clause src.now) }
+fn is_from_clause<N: Fits>(with_: &Option<ObjectLitBox<N>>, src: &Option<Str>) -> bool
+    ensures { result ≡ is_possible (from_clause N.reads with_.now src.now) }
 {
     match src {
-        Some(src) => src.is_well_formed(),
+        Some(src) => src.is_well_formed() && are_attributes(with_),
         None => true,
     }
 }
 
-impl<N> WellFormed for NamedExport<N> {
-    ghost phrase = { export_named };
+impl<N: Fits> WellFormed for NamedExport<N> {
+    ghost phrase = { export_named N.reads };
 
     #[tactic(auto, using(crate::proofs::ModulesPossible::export_named_possible))]
     fn is_well_formed(&self) -> bool {
-        !self.type_only
-            && self.with_.is_none()
-            && exports_fit(&self.specifiers)
-            && is_from_clause(&self.src)
+        !self.type_only && exports_fit(&self.specifiers) && is_from_clause(&self.with_, &self.src)
     }
 }
 
-impl<N> WellFormed for ExportAll<N> {
-    ghost phrase = { export_all };
+impl<N: Fits> WellFormed for ExportAll<N> {
+    ghost phrase = { export_all N.reads };
 
     #[tactic(auto, using(crate::proofs::ModulesPossible::export_all_possible))]
     fn is_well_formed(&self) -> bool {
-        !self.type_only && self.with_.is_none() && self.src.is_well_formed()
+        !self.type_only && self.src.is_well_formed() && are_attributes(&self.with_)
     }
 }
 
