@@ -35,7 +35,7 @@ use Rattle.swc_ecma_codegen_base.specs.Run.{Env, Part}
 use Rattle.swc_ecma_codegen_base.specs.Words.{keyword, punct, last_of}
 use Rattle.swc_ecma_codegen_base.proofs.ListLaws.{IsUndelimited, prints_list, prints_in_order, prints_bracketed_in_order}
 use Rattle.swc_ecma_codegen_base.proofs.Choices.{prints_optional_parentheses}
-use Rattle.swc_ecma_codegen_base.proofs.Phrased.{Prints, PrintsAt, prints_wider, then, after, before, prints_nothing, prints_never, prints_keyword, prints_punct, prints_semi}
+use Rattle.swc_ecma_codegen_base.proofs.Phrased.{Prints, PrintsAt, prints_wider, joined_then, then, after, before, prints_nothing, prints_never, prints_keyword, prints_punct, prints_semi}
 use Rattle.swc_ecma_codegen_base.proofs.Printed.{makes_wider, writes_nothing, writes_space, writes_formatting_space, writes_position, writes_position_before, writes_leading}
 use Rattle.swc_ecma_codegen_base.proofs.Shapes.{open_, ended_if_any, closed, loose, joining_if_any}
 use Rattle.swc_ecma_codegen.specs.declared.nodes.Place.{Place}
@@ -200,7 +200,7 @@ unfolding words.auto_accessor words.auto_accessor_parts words.accessor_tail list
 accessor_prints l n = refused_or (is_typed_accessor n)
     (then (prints_in_order l.env decorators_format n.span decorator_place (decorator l.items) (function_lists.decorator l.reads) (λ d. prints_wider loose refl (decorator_prints l d)) undelimited refl n.decorators.items)
     (then (static_prints l.env n.is_static)
-    (then (prints_keyword l.env None (codes "accessor") marks.accessor_word)
+    (joined_then l.env None (codes "accessor") marks.accessor_word
     (after (writes_space l.env) (then (key_prints l n.key) (then (initializer_prints l n.value) (prints_semi l.env)))))))
 
 static_block_prints : {X : Type 0} (l : Linked X) (n : StaticBlock X) → Prints l.env (words.static_block l.items n) (lists.static_block l.reads n)

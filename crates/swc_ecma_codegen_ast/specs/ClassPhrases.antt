@@ -26,7 +26,7 @@ use Rattle.swc_ecma_codegen_tree.specs.declared.decls.ClassDecl.{ClassDecl}
 use Rattle.swc_ecma_codegen_tree.specs.declared.decls.Decorator.{Decorator}
 use Rattle.swc_ecma_codegen_tree.specs.declared.decls.Function as functions
 use Rattle.swc_ecma_codegen_tree.specs.declared.exprs.ClassExpr.{ClassExpr}
-use Rattle.swc_ecma_codegen_ast.specs.Phrases.{Phrase, Never, Nothing, OptionalParentheses, ◌>◌, word, mark, ending, listed, in_order}
+use Rattle.swc_ecma_codegen_ast.specs.Phrases.{Phrase, Never, Nothing, OptionalParentheses, ◌>◌, word, mark, same_line, ending, listed, in_order}
 use Rattle.swc_ecma_codegen_ast.specs.NamePhrases.{ident, private_name}
 use Rattle.swc_ecma_codegen_ast.specs.PatPhrases.{value_at, prop_name_at, initializer}
 use Rattle.swc_ecma_codegen_ast.specs.FunctionPhrases.{block_at, word_if, is_some_listed, decorator, param, function_body, optional_name}
@@ -152,11 +152,11 @@ accessor_key f (keys.Private n) = private_name n
 abbrev pub is_typed_accessor : {X : Type 0} → AutoAccessor X → Bool
 is_typed_accessor n = is_some n.type_ann || (is_some n.accessibility || (n.is_abstract || (n.is_override || n.definite)))
 
--- a proposal: `static accessor a = b;`
+-- a proposal: `static accessor a = b;`, with no line end behind `accessor`
 unfoldable pub auto_accessor : {X : Type 0} → (X → Role → Phrase) → AutoAccessor X → Phrase
 auto_accessor f n =
     if is_typed_accessor n then Never
-    else (decorators f n.decorators.items > word_if n.is_static (word (codes "static")) > word (codes "accessor") > accessor_key f n.key > initializer f n.value > ending)
+    else (decorators f n.decorators.items > word_if n.is_static (word (codes "static")) > word (codes "accessor") > same_line > accessor_key f n.key > initializer f n.value > ending)
 
 -- `static { a; }`
 unfoldable pub static_block : {X : Type 0} → (X → Role → Phrase) → StaticBlock X → Phrase
