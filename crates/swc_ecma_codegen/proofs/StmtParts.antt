@@ -242,7 +242,7 @@ module_body_prints l n =
     (after (writes_start_if_empty l.env n.body.items n.span)
     (before (prints_wider loose refl (in_order_prints l.env (programs.held_item l.items) (lists.item_at l.reads) (λ x. l.law x.node.value Plain Item) n.body.items)) (writes_script_end l.env n.span)))
 
-module_prints : {X : Type 0} (l : Linked X) (n : Module X) → PrintsAt loose l.env (programs.whole_module l.items n) (lists.whole_module l.reads n)
+pub module_prints : {X : Type 0} (l : Linked X) (n : Module X) → PrintsAt loose l.env (programs.whole_module l.items n) (lists.whole_module l.reads n)
 unfolding programs.whole_module lists.whole_module
 module_prints l n = refused_or (is_some n.shebang) (module_body_prints l n)
 

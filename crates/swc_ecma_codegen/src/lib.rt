@@ -37,7 +37,9 @@ pub use crate::code::to_code;
 pub use crate::emitter::Emitter;
 pub use crate::node::Node;
 pub use swc_ecma_codegen_ast::{Error, Result};
-pub use swc_ecma_codegen_grammar::{is_well_formed, is_well_formed_expr, is_well_formed_stmt};
+pub use swc_ecma_codegen_grammar::{
+    is_well_formed, is_well_formed_expr, is_well_formed_item, is_well_formed_stmt,
+};
 pub use swc_ecma_codegen_text_writer as text_writer;
 pub use swc_ecma_codegen_util::config::Config;
 pub use swc_ecma_codegen_util::{config, util};

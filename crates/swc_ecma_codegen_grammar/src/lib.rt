@@ -26,4 +26,6 @@ mod templates;
 mod texts;
 
 pub use crate::forms::{Fits, WellFormed};
-pub use crate::knot::{is_well_formed, is_well_formed_expr, is_well_formed_stmt};
+pub use crate::knot::{
+    is_well_formed, is_well_formed_expr, is_well_formed_item, is_well_formed_stmt,
+};
