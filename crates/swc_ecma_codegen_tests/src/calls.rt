@@ -1,6 +1,8 @@
 //! Each public call once.
 
-use crate::trees::{DECREMENT, MEMBER, NAME, Tree, expr_of, script_of, settings, statement_of};
+use crate::trees::{
+    DECREMENT, EXPORT, MEMBER, NAME, Tree, expr_of, script_of, settings, statement_of,
+};
 use std::alloc::{AllocError, Global};
 use std::test::Fail;
 use swc_ecma_codegen::operands::{Operand, OperandKind, SpaceBefore};
@@ -134,6 +136,17 @@ pub(crate) fn has_its_text_each_way<N: Tree>(alloc: Global) -> Result<bool, Fail
             && parts.as_slice() == b"a.b;a.b;a.b;;".as_slice()
             && expr.as_slice() == b"a.b".as_slice(),
     )
+}
+
+/// Whether a module, its item and what that exports have their texts.
+pub(crate) fn prints_a_module<N: Tree>(alloc: Global) -> Result<bool, Fail> {
+    let tree = N::read(alloc, EXPORT)?;
+    let Program::Module(module) = &tree else {
+        return Ok(false);
+    };
+    let bytes = N::bytes_of_module(alloc, module)?;
+    let twice = br#"export{a}from"b"with{c:"d"};export{a}from"b"with{c:"d"};a"#.as_slice();
+    Ok(bytes.as_slice() == twice)
 }
 
 /// What the expression of `--a` tells those above it.
