@@ -22,7 +22,7 @@ use swc_ecma_codegen_spans::Spanned;
 use swc_ecma_codegen_text_writer::JsWriter;
 use swc_ecma_codegen_tree::{
     AnyNode, ExportSpecifier, Expr, Holds, MemberExpr, Module, ModuleDecl, ModuleExportName,
-    ModuleItem, Program, Script, Stmt,
+    ModuleItem, Program, Script, Stmt, StmtPart,
 };
 
 /// `a`
@@ -155,7 +155,7 @@ impl Tree for AnyNode {
 }
 
 /// The first item.
-fn item_of<N: Holds<ModuleItem<N>> + Drop>(module: &Module<N>) -> Option<&ModuleItem<N>> {
+fn item_of<N: Holds<StmtPart<N>> + Drop>(module: &Module<N>) -> Option<&ModuleItem<N>> {
     match module.body.first() {
         Some(link) => link.get(),
         None => None,
@@ -163,9 +163,7 @@ fn item_of<N: Holds<ModuleItem<N>> + Drop>(module: &Module<N>) -> Option<&Module
 }
 
 /// The first name that an item exports.
-fn exported_name<N: Holds<ModuleDecl<N>> + Drop>(
-    item: &ModuleItem<N>,
-) -> Option<&ModuleExportName> {
+fn exported_name<N: Holds<StmtPart<N>> + Drop>(item: &ModuleItem<N>) -> Option<&ModuleExportName> {
     match item {
         ModuleItem::ModuleDecl(link) => match link.get() {
             Some(ModuleDecl::ExportNamed(node)) => match node.specifiers.first() {
