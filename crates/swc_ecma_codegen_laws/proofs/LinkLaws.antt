@@ -1,10 +1,7 @@
 -- What is written of what a link holds, by its sort, and what it reads as.
-use Rattle.std.proofs.Common.{◌≡◌, true, refl, sym, ap, ◌∙◌, subst, Option, Some, None, Result, OnOk}
-use Rattle.swc_ecma_codegen_common.specs.declared.errors.Error.{Error}
+use Rattle.std.proofs.Common.{◌≡◌, sym, ap, ◌∙◌, subst, Option, Some, None, Result}
 use Rattle.swc_ecma_codegen_common.specs.declared.errors.Refusal.{Refusal}
-use Rattle.swc_ecma_codegen_common.specs.Refusals.{in_short}
 use Rattle.swc_ecma_codegen_tree.specs.declared.links.AnyNode.{AnyNode}
-use Rattle.swc_ecma_codegen_tree.specs.declared.links.AnyNode.TheOpen as nodes
 use Rattle.swc_ecma_codegen_tree.specs.declared.links.AnyNode.TheVariants as whole
 use Rattle.swc_ecma_codegen_tree.specs.declared.exprs.MemberExpr.{MemberExpr}
 use Rattle.swc_ecma_codegen_tree.specs.declared.parts.ExprPart.{ExprPart}
@@ -12,16 +9,13 @@ use Rattle.swc_ecma_codegen_tree.specs.declared.parts.ExprPart.TheVariants as ex
 use Rattle.swc_ecma_codegen_tree.specs.declared.parts.StmtPart.TheVariants as stmt_parts
 use Rattle.swc_ecma_codegen_tree.specs.declared.pats.AssignTarget.{AssignTarget}
 use Rattle.swc_ecma_codegen_tree.specs.declared.programs.ModuleItem.{ModuleItem}
-use Rattle.swc_ecma_codegen_ast.specs.Phrases.{Phrase, is_possible}
 use Rattle.swc_ecma_codegen_ast.specs.ExprPhrases.{member_expr}
 use Rattle.swc_ecma_codegen_ast.specs.AssignPhrases as target_lists
 use Rattle.swc_ecma_codegen_ast.specs.PartPhrases as part_lists
 use Rattle.swc_ecma_codegen_ast.specs.TreePhrases.{node_phrase, phrase}
-use Rattle.swc_ecma_codegen_ast.specs.declared.roles.Role.{Role}
 use Rattle.swc_ecma_codegen_ast.specs.declared.roles.Role.TheVariants.{MemberExpression, AssignmentTarget}
 use Rattle.swc_ecma_codegen_ast.proofs.TreeLaws.{phrase_member_expr, phrase_expr_part}
 use Rattle.swc_ecma_codegen_base.specs.Run.{Part, State, Follows, nothing}
-use Rattle.swc_ecma_codegen_base.specs.Written.{IsNew, AddsReading}
 use Rattle.swc_ecma_codegen.specs.declared.nodes.Place.{Place}
 use Rattle.swc_ecma_codegen.specs.declared.nodes.Place.TheVariants.{Plain}
 use Rattle.swc_ecma_codegen.specs.Exprs.{member, member_at}
@@ -29,13 +23,11 @@ use Rattle.swc_ecma_codegen.specs.Answers.{any_answers}
 use Rattle.swc_ecma_codegen.specs.Targets.{assign_target}
 use Rattle.swc_ecma_codegen.specs.Modules.{module_item}
 use Rattle.swc_ecma_codegen.specs.Parts.{expr_part, stmt_part}
-use Rattle.swc_ecma_codegen.specs.Places.{placed}
 use Rattle.swc_ecma_codegen.specs.Lists.{if_some_at}
 use Rattle.swc_ecma_codegen.specs.Roots.{Root, OfExpr, OfStmt, OfItem, OfModule, OfScript, OfProgram, OfLink, root_items}
 use Rattle.swc_ecma_codegen_laws.specs.HeldRoots.{IsHeld}
 use Rattle.swc_ecma_codegen.specs.Tree.{any_items}
 use Rattle.swc_ecma_codegen.proofs.Knots.{any_items_expr, any_items_stmt, any_items_member_expr, any_items_expr_part, any_items_stmt_part}
-use Rattle.swc_ecma_codegen.proofs.TreeReads.{root_reads}
 
 -- ---- what is written
 
@@ -78,21 +70,10 @@ follows_part p q a b r e h = subst (λ z. Follows (z nothing) a b r) e h
 
 -- ---- what it reads as
 
-pub member_reads : (n : AnyNode) (m : MemberExpr AnyNode) (a b : State) (r : Result (Unit {0}) Error) → n ≡ whole.MemberExpr m → is_possible (member_expr phrase m) ≡ true → IsNew a → Follows (any_items n Plain nothing) a b (in_short r) → OnOk r (AddsReading a.env.config (member_expr phrase m) a.sheet b.sheet)
+pub member_read : (n : AnyNode) (m : MemberExpr AnyNode) → n ≡ whole.MemberExpr m → phrase n MemberExpression ≡ member_expr phrase m
 unfolding node_phrase
-member_reads n m a b r h w s k =
-    let e : phrase n MemberExpression ≡ node_phrase phrase (nodes.MemberExpr m) MemberExpression = ap (λ z. phrase z MemberExpression) h ∙ phrase_member_expr m MemberExpression in
-    let P : Phrase → Type 0 = λ z. OnOk r (AddsReading a.env.config z a.sheet b.sheet) in
-    subst P e (root_reads (OfLink n MemberExpression) (any_items n Plain) a b r refl (ap is_possible e ∙ w) s k)
+member_read n m h = ap (λ z. phrase z MemberExpression) h ∙ phrase_member_expr m MemberExpression
 
--- a part of an expression, in a role that it has by itself
-part_reads : (n : AnyNode) (m : ExprPart AnyNode) (role : Role) (a b : State) (r : Result (Unit {0}) Error) → n ≡ whole.ExprPart m → placed role Plain ≡ Plain → is_possible (part_lists.expr_part phrase m role) ≡ true → IsNew a → Follows (any_items n Plain nothing) a b (in_short r) → OnOk r (AddsReading a.env.config (part_lists.expr_part phrase m role) a.sheet b.sheet)
-unfolding node_phrase
-part_reads n m role a b r h plain w s k =
-    let e : phrase n role ≡ node_phrase phrase (nodes.ExprPart m) role = ap (λ z. phrase z role) h ∙ phrase_expr_part m role in
-    let P : Phrase → Type 0 = λ z. OnOk r (AddsReading a.env.config z a.sheet b.sheet) in
-    subst P e (root_reads (OfLink n role) (any_items n Plain) a b r (ap (any_items n) (sym plain)) (ap is_possible e ∙ w) s k)
-
-pub assign_target_reads : (n : AnyNode) (m : AssignTarget AnyNode) (a b : State) (r : Result (Unit {0}) Error) → n ≡ whole.ExprPart (expr_parts.AssignTarget m) → is_possible (target_lists.assign_target phrase m) ≡ true → IsNew a → Follows (any_items n Plain nothing) a b (in_short r) → OnOk r (AddsReading a.env.config (target_lists.assign_target phrase m) a.sheet b.sheet)
-unfolding part_lists.expr_part
-assign_target_reads n m a b r h w s k = part_reads n (expr_parts.AssignTarget m) AssignmentTarget a b r h refl w s k
+pub assign_target_read : (n : AnyNode) (m : AssignTarget AnyNode) → n ≡ whole.ExprPart (expr_parts.AssignTarget m) → phrase n AssignmentTarget ≡ target_lists.assign_target phrase m
+unfolding node_phrase part_lists.expr_part
+assign_target_read n m h = ap (λ z. phrase z AssignmentTarget) h ∙ phrase_expr_part (expr_parts.AssignTarget m) AssignmentTarget

@@ -5,7 +5,8 @@ use swc_ecma_codegen::nodes::Held;
 use swc_ecma_codegen::operands::SpaceBefore;
 use swc_ecma_codegen::util::{EndsWithAlphaNum, StartsWithAlphaNum};
 use swc_ecma_codegen::{
-    Config, Emitter, is_well_formed, is_well_formed_expr, is_well_formed_item, is_well_formed_stmt,
+    Config, Emitter, Node, is_well_formed, is_well_formed_expr, is_well_formed_item,
+    is_well_formed_stmt,
 };
 use swc_ecma_codegen_ast::comments::CommentMaps;
 use swc_ecma_codegen_ast::mapper::NoSource;
@@ -13,10 +14,9 @@ use swc_ecma_codegen_common::{Error, EsVersion};
 use swc_ecma_codegen_grammar::Fits;
 use swc_ecma_codegen_json::{ReadError, program_from_slice};
 use swc_ecma_codegen_laws::{
-    emitted_boxed_stmt_reads, emitted_expr_box_reads, emitted_expr_reads,
-    emitted_member_expr_box_reads, emitted_optional_stmt_reads, emitted_program_reads,
-    emitted_script_reads, emitted_stmt_box_reads, emitted_stmt_reads, emitted_stmt_ref_reads,
-    links_write_their_roots, new_emitter_reads,
+    emitted_box_reads, emitted_expr_box_reads, emitted_expr_reads, emitted_member_expr_box_reads,
+    emitted_option_reads, emitted_ref_reads, emitted_stmt_box_reads, emitted_stmt_reads,
+    links_write_members, links_write_targets, links_write_their_roots, new_emitter_reads,
 };
 use swc_ecma_codegen_spans::Spanned;
 use swc_ecma_codegen_text_writer::JsWriter;
@@ -89,16 +89,18 @@ impl Tree for AnyNode {
 
     fn bytes_of_whole(alloc: Global, tree: &Program) -> Result<Vec<u8>, Error> {
         links_write_their_roots();
+        links_write_members();
+        links_write_targets();
         new_emitter_reads();
         let wr = JsWriter::new(alloc, &NoSource, "\r\n", Vec::new(alloc), None);
         let mut emitter = Emitter::new(alloc, settings(false), &NoSource, None::<CommentMaps>, wr);
         if is_well_formed(tree) {
             emitter.emit_program(tree)?;
-            emitted_program_reads(tree, &mut emitter)?;
+            tree.emit_with(&mut emitter)?;
         }
         if let Some(script) = script_of(tree) {
             emitter.emit_script(script)?;
-            emitted_script_reads(script, &mut emitter)?;
+            script.emit_with(&mut emitter)?;
             if let Some(link) = script.body.first() {
                 emitted_stmt_box_reads(link, &mut emitter)?;
             }
@@ -118,14 +120,14 @@ impl Tree for AnyNode {
         let mut emitter = Emitter::new(alloc, settings(true), &NoSource, None::<CommentMaps>, wr);
         if is_well_formed_stmt(stmt) {
             emitted_stmt_reads(stmt, &mut emitter)?;
-            emitted_stmt_ref_reads(&stmt, &mut emitter)?;
+            emitted_ref_reads(&stmt, &mut emitter)?;
         }
         if let Stmt::Expr(node) = stmt {
             emitted_expr_box_reads(&node.expr, &mut emitter)?;
         }
-        emitted_boxed_stmt_reads(boxed, &mut emitter)?;
-        emitted_optional_stmt_reads(some, &mut emitter)?;
-        emitted_optional_stmt_reads(none, &mut emitter)?;
+        emitted_box_reads(boxed, &mut emitter)?;
+        emitted_option_reads(some, &mut emitter)?;
+        emitted_option_reads(none, &mut emitter)?;
         Ok(emitter.wr.into_inner())
     }
 
