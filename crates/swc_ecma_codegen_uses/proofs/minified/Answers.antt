@@ -11,7 +11,7 @@ use Rattle.swc_ecma_codegen_base.specs.Written.{IsNew, AddsReading, ReadsAs, all
 use Rattle.swc_ecma_codegen.specs.Roots.{root_phrase}
 use Rattle.swc_ecma_codegen_uses.proofs.minified.Goals as goal
 
--- the sheet that holds no semicolon yet is new by the law, and the vector has what was added to it
+-- the sheet that holds no semicolon yet is one of a new emitter, and the vector has what was added to it
 pub returns : goal.returns
 unfolding with_held all_indent is_indent holds_one
 returns g c = λ root same well.
