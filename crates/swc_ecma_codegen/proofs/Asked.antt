@@ -1,14 +1,14 @@
 -- What is done where a setting says so.
-use Rattle.std.proofs.Common.{◌≡◌, ℕ, List, Bool, true, false, ◌&&◌, cond, Result, Ok, Err, ap, sym}
+use Rattle.std.proofs.Common.{◌≡◌, ℕ, List, Bool, true, false, ◌&&◌, cond, codes, None, Result, Ok, Err, ap, sym}
 use Rattle.std.proofs.lemmas.Bool.{true≢false}
 use Rattle.swc_ecma_codegen_common.specs.declared.errors.Refusal.{Refusal}
 use Rattle.swc_ecma_codegen_base.specs.Run.{Env, Plan, Part, State, Emits, when_minified, no_part}
-use Rattle.swc_ecma_codegen_base.specs.Words.{commit_pending_semi, punct, semi}
+use Rattle.swc_ecma_codegen_base.specs.Words.{commit_pending_semi, keyword, punct, semi}
 use Rattle.swc_ecma_codegen_base.proofs.Emitting.{follows_same, minified_same, pretty_same}
 use Rattle.swc_ecma_codegen.specs.Functions.{parenthesis}
 use Rattle.swc_ecma_codegen_ast.specs.Settings.{is_up_to_es5}
-use Rattle.swc_ecma_codegen_base.specs.Choices.{empty_arguments, loop_ending}
-use Rattle.swc_ecma_codegen_base.proofs.Choices.{ended_same, not_ended_same}
+use Rattle.swc_ecma_codegen_base.specs.Choices.{empty_arguments, loop_ending, attributes_word}
+use Rattle.swc_ecma_codegen_base.proofs.Choices.{ended_same, not_ended_same, assert_same, with_same}
 use Rattle.swc_ecma_codegen.specs.Calls.{parentheses}
 use Rattle.swc_ecma_codegen.specs.Programs.{last_semi}
 
@@ -71,3 +71,12 @@ loop_ended a b (Err e) h k = λ rest. follows_same (loop_ending rest) (semi rest
 -- for a later one it isn't
 pub loop_not_ended : (a : State) → is_up_to_es5 a.env.config.target ≡ false → Emits loop_ending a a (Ok tt)
 loop_not_ended a h rest c r k = follows_same (loop_ending rest) rest a c r (not_ended_same rest a.env h) k
+
+-- the word before import attributes, by the settings
+pub attributes_by_assert : (a b : State) (r : Result (Unit {0}) Refusal) → a.env.config.emit_assert_for_import_attributes ≡ true → Emits (keyword None (codes "assert")) a b r → Emits attributes_word a b r
+attributes_by_assert a b (Ok u) h k = λ rest c r f. follows_same (attributes_word rest) (keyword None (codes "assert") rest) a c r (assert_same rest a.env h) (k rest c r f)
+attributes_by_assert a b (Err e) h k = λ rest. follows_same (attributes_word rest) (keyword None (codes "assert") rest) a b (Err e) (assert_same rest a.env h) (k rest)
+
+pub attributes_by_with : (a b : State) (r : Result (Unit {0}) Refusal) → a.env.config.emit_assert_for_import_attributes ≡ false → Emits (keyword None (codes "with")) a b r → Emits attributes_word a b r
+attributes_by_with a b (Ok u) h k = λ rest c r f. follows_same (attributes_word rest) (keyword None (codes "with") rest) a c r (with_same rest a.env h) (k rest c r f)
+attributes_by_with a b (Err e) h k = λ rest. follows_same (attributes_word rest) (keyword None (codes "with") rest) a b (Err e) (with_same rest a.env h) (k rest)

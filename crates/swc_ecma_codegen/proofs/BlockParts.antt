@@ -1,5 +1,5 @@
 -- What is written of blocks is what it reads as.
-use Rattle.std.proofs.Common.{◌≡◌, refl, ap, ℕ, Bool, true, false, cond, List, [], ◌∷◌, map, codes, inl, inr, None}
+use Rattle.std.proofs.Common.{◌≡◌, refl, ap, ℕ, Bool, true, false, cond, List, map, codes, inl, inr, None}
 use Rattle.std.proofs.lemmas.Bool.{cases_Bool}
 use Rattle.swc_ecma_codegen_common.specs.declared.positions.Span.{Span}
 use Rattle.swc_ecma_codegen_tree.specs.declared.stmts.BlockStmt.{BlockStmt}
@@ -14,8 +14,8 @@ use Rattle.swc_ecma_codegen_base.specs.Lists.{list}
 use Rattle.swc_ecma_codegen_base.specs.Words.{punct, position_before}
 use Rattle.swc_ecma_codegen_base.proofs.Emitting.{minified_same, pretty_same}
 use Rattle.swc_ecma_codegen_base.proofs.ListLaws.{IsUndelimited, children_of, prints_bracketed_in_order}
-use Rattle.swc_ecma_codegen_base.proofs.Phrased.{Prints, after, prints_same, prints_punct}
-use Rattle.swc_ecma_codegen_base.proofs.Printed.{Writes, writes_nothing, writes_position, writes_position_before, writes_leading}
+use Rattle.swc_ecma_codegen_base.proofs.Phrased.{Prints, after, prints_same, prints_punct, prints_wider}
+use Rattle.swc_ecma_codegen_base.proofs.Printed.{writes_nothing, writes_position, writes_position_before, writes_leading, Fills, makes_wider}
 use Rattle.swc_ecma_codegen.specs.declared.nodes.Place.{Place}
 use Rattle.swc_ecma_codegen.specs.declared.nodes.Place.TheVariants.{Plain, Body}
 use Rattle.swc_ecma_codegen.specs.Blocks as words
@@ -24,13 +24,14 @@ use Rattle.swc_ecma_codegen.specs.Exprs.{comments_before}
 use Rattle.swc_ecma_codegen.proofs.ExprParts.{writes_comments_before}
 use Rattle.swc_ecma_codegen.proofs.Linked.{Linked, stmt_at}
 use Rattle.swc_ecma_codegen.proofs.MarkWords as marks
+use Rattle.swc_ecma_codegen_base.proofs.Shapes.{loose}
 
 -- what is the same is the same behind a bracket
 pub behind_bracket : (env : Env) (t : List ℕ) (p q : Part) → ((rest : Plan) → p rest env ≡ q rest env) → (rest : Plan) → punct t (p rest) env ≡ punct t (q rest) env
 unfolding punct step
 behind_bracket env t p q same rest = ap (λ z. next (Guard t) (next (Token Punctuator (Punct None t)) z)) (same rest)
 
-writes_block_start : (env : Env) (place : Place) (span : Span) → Writes env (words.block_start place span) []
+writes_block_start : (env : Env) (place : Place) (span : Span) → Fills env (words.block_start place span)
 unfolding words.block_start
 writes_block_start env Body span = writes_nothing env
 writes_block_start env place span = writes_position env span.lo
@@ -57,8 +58,8 @@ whole l n = mark (codes "{") > phrases.in_order (map (lists.stmt_at l.reads) n.s
 
 lines_prints : {X : Type 0} (l : Linked X) (n : BlockStmt X) (some : Bool) → Prints l.env (λ rest. punct (codes "{") (stmts_by l some n (closing n rest))) (whole l n)
 lines_prints l n some =
-    prints_bracketed_in_order l.env (codes "{") marks.left_brace (λ rest. rest) (writes_nothing l.env) (format_of some) n.span (λ s. (l.asks s.node.value).place) (λ s. l.items s.node.value Plain) (lists.stmt_at l.reads) (mark (codes "}")) (closing n)
-    (stmt_at l) (undelimited some) (closing_prints l.env n) n.stmts.items
+    prints_bracketed_in_order l.env (codes "{") marks.left_brace (λ rest. rest) (makes_wider loose refl (writes_nothing l.env)) (format_of some) n.span (λ s. (l.asks s.node.value).place) (λ s. l.items s.node.value Plain) (lists.stmt_at l.reads) (mark (codes "}")) (closing n)
+    (λ s. prints_wider loose refl (stmt_at l s)) (undelimited some) (closing_prints l.env n) n.stmts.items
 
 stmts_print : {X : Type 0} (l : Linked X) (n : BlockStmt X) → Prints l.env (λ rest. punct (codes "{") (words.block_list (is_some_listed n.stmts.items) n.span (children_of (λ s. (l.asks s.node.value).place) (λ s. l.items s.node.value Plain) n.stmts.items) (closing n rest))) (whole l n)
 unfolding words.block_list

@@ -18,17 +18,17 @@ use Rattle.swc_ecma_codegen_ast.specs.Chars.{is_start, is_part, is_letter, is_di
 use Rattle.swc_ecma_codegen_ast.specs.Names.{is_word, all_part}
 use Rattle.swc_ecma_codegen_ast.specs.Punctuators.{is_punctuator, punctuators}
 use Rattle.swc_ecma_codegen_ast.specs.Texts.{is_same, is_among}
-use Rattle.swc_ecma_codegen_ast.specs.Phrases.{Phrase, Never, Nothing, ◌>◌, word, mark}
+use Rattle.swc_ecma_codegen_ast.specs.Phrases.{Phrase, Never, ◌>◌, word, mark}
 use Rattle.swc_ecma_codegen_ast.specs.ElementPhrases.{element, last_is_hole}
 use Rattle.swc_ecma_codegen_ast.specs.CallPhrases as lists
 use Rattle.swc_ecma_codegen_ast.specs.ListFormats.{comma_delimited, allows_trailing_comma, forces_trailing_comma}
 use Rattle.swc_ecma_codegen_ast.specs.declared.roles.Role.TheVariants.{Callee as IsCallee}
 use Rattle.swc_ecma_codegen_base.specs.Run.{Env, Part}
 use Rattle.swc_ecma_codegen_base.specs.Lists.{list}
-use Rattle.swc_ecma_codegen_base.specs.Words.{punct, space, formatting_space, position, end_of}
+use Rattle.swc_ecma_codegen_base.specs.Words.{punct, space, formatting_space, position}
 use Rattle.swc_ecma_codegen_base.specs.Written.{IsWord, IsMark}
-use Rattle.swc_ecma_codegen_base.proofs.Printed.{Writes, writes_if, writes_nothing, writes_space, writes_formatting_space, writes_commit, writes_position, writes_leading}
-use Rattle.swc_ecma_codegen_base.proofs.Phrased.{Prints, then, after, before, prints_nothing, prints_never, prints_keyword, prints_punct}
+use Rattle.swc_ecma_codegen_base.proofs.Printed.{writes_if, writes_nothing, writes_space, writes_formatting_space, writes_commit, writes_position, writes_leading, Fills, makes_wider}
+use Rattle.swc_ecma_codegen_base.proofs.Phrased.{Prints, then, after, before, prints_nothing, prints_never, prints_keyword, prints_punct, PrintsAt, prints_wider, loosened}
 use Rattle.swc_ecma_codegen_base.proofs.Choices.{prints_empty_arguments}
 use Rattle.swc_ecma_codegen_base.proofs.ListLaws.{prints_bracketed, prints_bracketed_some, prints_forced_closing}
 use Rattle.swc_ecma_codegen.specs.declared.nodes.Place.TheVariants.{Plain, Callee}
@@ -36,6 +36,7 @@ use Rattle.swc_ecma_codegen.specs.Answers.{place_of}
 use Rattle.swc_ecma_codegen.specs.Calls as words
 use Rattle.swc_ecma_codegen.specs.Lists.{child_of, if_some_at, unsupported}
 use Rattle.swc_ecma_codegen.proofs.Linked.{Linked, expr_at}
+use Rattle.swc_ecma_codegen_base.proofs.Shapes.{open_, loose}
 
 open_is_mark : IsMark (codes "(")
 unfolding is_punctuator is_among is_same punctuators chars is_utf8 lib.Utf8.encode
@@ -92,24 +93,24 @@ unless_typed false h = h
 
 -- ---- elements and arguments
 
-spread_mark_prints : (env : Env) (spread : Option Span) → Prints env (words.spread_mark spread) (lists.spread_mark spread)
+spread_mark_prints : (env : Env) (spread : Option Span) → PrintsAt open_ env (words.spread_mark spread) (lists.spread_mark spread)
 unfolding words.spread_mark lists.spread_mark
 spread_mark_prints env None = prints_nothing
-spread_mark_prints env (Some dots) = prints_punct env (codes "...") ellipsis_is_mark
+spread_mark_prints env (Some dots) = prints_wider open_ refl (prints_punct env (codes "...") ellipsis_is_mark)
 
 expr_or_spread_prints : {X : Type 0} (l : Linked X) (n : ExprOrSpread X) → Prints l.env (words.expr_or_spread l.asks l.items n) (lists.expr_or_spread l.reads n)
 unfolding words.expr_or_spread lists.expr_or_spread
 expr_or_spread_prints l n = after (writes_leading l.env (expr_or_spread_span (place_of l.asks) n).lo) (then (spread_mark_prints l.env n.spread) (expr_at l n.expr Plain))
 
-element_prints : {X : Type 0} (l : Linked X) (n : Option (ExprOrSpread X)) → Prints l.env (if_some_at (words.argument_items l.asks l.items) n Plain) (element (lists.expr_or_spread l.reads) n)
+element_prints : {X : Type 0} (l : Linked X) (n : Option (ExprOrSpread X)) → PrintsAt open_ l.env (if_some_at (words.argument_items l.asks l.items) n Plain) (element (lists.expr_or_spread l.reads) n)
 unfolding if_some_at element
 element_prints l None = prints_nothing
-element_prints l (Some n) = expr_or_spread_prints l n
+element_prints l (Some n) = prints_wider open_ refl (expr_or_spread_prints l n)
 
 arguments_print : {X : Type 0} (l : Linked X) (format : ℕ) → comma_delimited format ≡ true → forces_trailing_comma format ≡ false → allows_trailing_comma format ≡ false → (parent : Span) (xs : List (ExprOrSpread X)) → Prints l.env (words.arguments l.asks l.items format parent xs) (lists.arguments l.reads xs)
 unfolding words.arguments lists.arguments
 arguments_print l format c f a parent xs =
-    prints_bracketed l.env (codes "(") open_is_mark (λ rest. rest) (writes_nothing l.env) format parent (words.argument_place l.asks) (λ n. words.expr_or_spread l.asks l.items n) (lists.expr_or_spread l.reads) (mark (codes ")")) (punct (codes ")")) (expr_or_spread_prints l) c f a (prints_punct l.env (codes ")") close_is_mark) xs
+    prints_bracketed l.env (codes "(") open_is_mark (λ rest. rest) (makes_wider loose refl (writes_nothing l.env)) format parent (words.argument_place l.asks) (λ n. words.expr_or_spread l.asks l.items n) (lists.expr_or_spread l.reads) (mark (codes ")")) (punct (codes ")")) (λ n. loosened (expr_or_spread_prints l n)) c f a (prints_punct l.env (codes ")") close_is_mark) xs
 
 -- ---- arrays
 
@@ -120,9 +121,9 @@ array_by : {X : Type 0} (l : Linked X) (span : Span) (hole : Bool) (xs : List (O
 unfolding lists.array_elements last_is_hole
 array_by l span true [] h = absurd (false≢true h)
 array_by l span true (x ∷ xs) h =
-    prints_bracketed_some l.env (codes "[") open_bracket_is_mark (λ rest. rest) (writes_nothing l.env) (words.array_format true) span (option_span (words.argument_place l.asks)) (λ n. if_some_at (words.argument_items l.asks l.items) n Plain) (element (lists.expr_or_spread l.reads)) (mark (codes ",")) (mark (codes "]")) (λ rest. punct (codes "]") (position span.hi rest)) (element_prints l) refl (λ last. prints_forced_closing l.env (words.array_format true) span last refl refl refl) (closing_bracket_prints l.env span) x xs
+    prints_bracketed_some l.env (codes "[") open_bracket_is_mark (λ rest. rest) (makes_wider loose refl (writes_nothing l.env)) (words.array_format true) span (option_span (words.argument_place l.asks)) (λ n. if_some_at (words.argument_items l.asks l.items) n Plain) (element (lists.expr_or_spread l.reads)) (mark (codes ",")) (mark (codes "]")) (λ rest. punct (codes "]") (position span.hi rest)) (λ n. prints_wider loose refl (element_prints l n)) refl (λ last. prints_forced_closing l.env (words.array_format true) span last refl refl refl) (closing_bracket_prints l.env span) x xs
 array_by l span false xs h =
-    prints_bracketed l.env (codes "[") open_bracket_is_mark (λ rest. rest) (writes_nothing l.env) (words.array_format false) span (option_span (words.argument_place l.asks)) (λ n. if_some_at (words.argument_items l.asks l.items) n Plain) (element (lists.expr_or_spread l.reads)) (mark (codes "]")) (λ rest. punct (codes "]") (position span.hi rest)) (element_prints l) refl refl refl (closing_bracket_prints l.env span) xs
+    prints_bracketed l.env (codes "[") open_bracket_is_mark (λ rest. rest) (makes_wider loose refl (writes_nothing l.env)) (words.array_format false) span (option_span (words.argument_place l.asks)) (λ n. if_some_at (words.argument_items l.asks l.items) n Plain) (element (lists.expr_or_spread l.reads)) (mark (codes "]")) (λ rest. punct (codes "]") (position span.hi rest)) (λ n. prints_wider loose refl (element_prints l n)) refl refl refl (closing_bracket_prints l.env span) xs
 
 pub array_lit_prints : {X : Type 0} (l : Linked X) (n : ArrayLit X) → Prints l.env (words.array_lit l.asks l.items n) (lists.array_lit l.reads n)
 unfolding words.array_lit lists.array_lit
@@ -130,11 +131,11 @@ array_lit_prints l n = after (writes_leading l.env n.span.lo) (after (writes_pos
 
 -- ---- calls
 
-import_phase_prints : (env : Env) (phase : ImportPhase) → Prints env (words.import_phase phase) (lists.import_phase phase)
+import_phase_prints : (env : Env) (phase : ImportPhase) → PrintsAt open_ env (words.import_phase phase) (lists.import_phase phase)
 unfolding words.import_phase lists.import_phase
 import_phase_prints env phases.Evaluation = prints_nothing
-import_phase_prints env phases.Source = then (prints_punct env (codes ".") dot_is_mark) (prints_keyword env None (codes "source") source_is_word)
-import_phase_prints env phases.Defer = then (prints_punct env (codes ".") dot_is_mark) (prints_keyword env None (codes "defer") defer_is_word)
+import_phase_prints env phases.Source = prints_wider open_ refl (then (prints_punct env (codes ".") dot_is_mark) (prints_keyword env None (codes "source") source_is_word))
+import_phase_prints env phases.Defer = prints_wider open_ refl (then (prints_punct env (codes ".") dot_is_mark) (prints_keyword env None (codes "defer") defer_is_word))
 
 callee_prints : {X : Type 0} (l : Linked X) (n : callee_exprs.Callee X) → Prints l.env (words.callee l.items n) (lists.callee l.reads n)
 unfolding words.callee words.super_keyword words.import_callee lists.callee lists.import_callee
@@ -155,18 +156,18 @@ call_prints l n = unless_typed (is_some n.type_args) (call_parts_print l n)
 
 -- ---- `new`
 
-listed_arguments_print : {X : Type 0} (l : Linked X) (parent : Span) (keeps : Bool) (xs : List (ExprOrSpread X)) → Prints l.env (words.listed_arguments l.asks l.items parent keeps xs) (lists.listed_arguments l.reads keeps xs)
+listed_arguments_print : {X : Type 0} (l : Linked X) (parent : Span) (keeps : Bool) (xs : List (ExprOrSpread X)) → PrintsAt open_ l.env (words.listed_arguments l.asks l.items parent keeps xs) (lists.listed_arguments l.reads keeps xs)
 unfolding words.listed_arguments lists.listed_arguments
 listed_arguments_print l parent false [] = prints_empty_arguments
-listed_arguments_print l parent false (x ∷ xs) = arguments_print l words.new_format refl refl refl parent (x ∷ xs)
-listed_arguments_print l parent true xs = arguments_print l words.new_format refl refl refl parent xs
+listed_arguments_print l parent false (x ∷ xs) = prints_wider open_ refl (arguments_print l words.new_format refl refl refl parent (x ∷ xs))
+listed_arguments_print l parent true xs = prints_wider open_ refl (arguments_print l words.new_format refl refl refl parent xs)
 
-new_arguments_print : {X Z : Type 0} (l : Linked X) (parent : Span) (keeps : Bool) (args : Option (Vec (ExprOrSpread X) Z)) → Prints l.env (words.new_arguments l.asks l.items parent keeps args) (lists.new_arguments l.reads keeps args)
+new_arguments_print : {X Z : Type 0} (l : Linked X) (parent : Span) (keeps : Bool) (args : Option (Vec (ExprOrSpread X) Z)) → PrintsAt open_ l.env (words.new_arguments l.asks l.items parent keeps args) (lists.new_arguments l.reads keeps args)
 unfolding words.new_arguments lists.new_arguments
 new_arguments_print l parent keeps None = prints_nothing
 new_arguments_print l parent keeps (Some xs) = listed_arguments_print l parent keeps xs.items
 
-writes_new_gap : (env : Env) (starts : Bool) → Writes env (words.new_gap starts) []
+writes_new_gap : (env : Env) (starts : Bool) → Fills env (words.new_gap starts)
 unfolding words.new_gap
 writes_new_gap env starts = writes_if env starts space formatting_space [] (writes_space env) (writes_formatting_space env)
 
@@ -185,9 +186,9 @@ new_prints l keeps n = unless_typed (is_some n.type_args) (new_parts_print l kee
 
 -- ---- calls in optional chains
 
-call_mark_prints : (env : Env) (optional : Bool) → Prints env (words.call_mark optional) (lists.call_mark optional)
+call_mark_prints : (env : Env) (optional : Bool) → PrintsAt open_ env (words.call_mark optional) (lists.call_mark optional)
 unfolding words.call_mark lists.call_mark
-call_mark_prints env true = prints_punct env (codes "?.") question_dot_is_mark
+call_mark_prints env true = prints_wider open_ refl (prints_punct env (codes "?.") question_dot_is_mark)
 call_mark_prints env false = prints_nothing
 
 chain_call_parts_print : {X : Type 0} (l : Linked X) (optional : Bool) (n : OptCall X) → Prints l.env (words.chain_call_parts l.asks l.items optional n) (lists.callee_at l.reads n.callee > lists.call_mark optional > lists.arguments l.reads n.args.items)

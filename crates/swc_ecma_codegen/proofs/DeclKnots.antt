@@ -14,7 +14,8 @@ use Rattle.swc_ecma_codegen_base.specs.Run.{Plan, Part, refuse}
 use Rattle.swc_ecma_codegen_base.specs.Words.{keyword, semi, space, commit_pending_semi, start_of, leading_comments}
 use Rattle.swc_ecma_codegen.specs.declared.nodes.Place.{Place}
 use Rattle.swc_ecma_codegen.specs.Answers.{Answers}
-use Rattle.swc_ecma_codegen.specs.Decls.{declarators_format, fn_decl_parts, fn_decl, var_declarator_parts, var_declarator, declarator_place, var_kind, is_unmarked, first_is_unmarked, var_decl_parts, var_decl, await_word, using_decl, decl}
+use Rattle.swc_ecma_codegen.specs.Decls.{declarators_format, fn_decl_parts, fn_decl, var_declarator_parts, var_declarator, declarator_place, var_kind, is_unmarked, first_is_unmarked, var_decl_parts, var_decl, await_word, using_decl, by_export, without_head, exported_class_parts, exported_class, variables, resources, decl}
+use Rattle.swc_ecma_codegen.specs.Classes.{class_decl, class_decl_parts}
 use Rattle.swc_ecma_codegen.specs.Exprs.{blank}
 use Rattle.swc_ecma_codegen.specs.Lists.{child_of, unsupported}
 use Rattle.swc_ecma_codegen.specs.Parts.{stmt_part}
@@ -46,12 +47,15 @@ var_by {X} {Y} g asks items n false place rest = ap (λ z. leading_comments n.sp
 pub var_decl_mapped : {X Y : Type 0} (g : X → Y) (asks : Y → Answers) (items : Y → Place → Part) (n : VarDecl X) (place : Place) (rest : Plan) → node_items asks items (map-AnyNode X Y g (nodes.StmtPart (stmt_parts.VarDecl n))) place rest ≡ var_decl (λ x. asks (g x)) (λ x. items (g x)) n rest
 var_decl_mapped g asks items n place rest = var_by g asks items n n.declare place rest
 
+without_head_same : (place : Place) (p q : Part) → ((rest : Plan) → p rest ≡ q rest) → (rest : Plan) → without_head place p rest ≡ without_head place q rest
+without_head_same place p q h rest = ap (λ z. without_head place z rest) (λ i. λ after. h after i)
+
 decl_by : {X Y : Type 0} (g : X → Y) (asks : Y → Answers) (items : Y → Place → Part) (b : Box (Decl X) Global) (n : Decl X) (place : Place) (rest : Plan) → node_items asks items (map-AnyNode X Y g (nodes.StmtPart (stmt_parts.Decl (record b { value = n })))) place rest ≡ decl (λ x. asks (g x)) (λ x. items (g x)) n place rest
-unfolding node_items stmt_part decl fn_decl fn_decl_parts using_decl var_declarator var_declarator_parts initializer unsupported refuse
+unfolding node_items stmt_part decl without_head variables resources exported_class exported_class_parts class_decl class_decl_parts fn_decl fn_decl_parts using_decl var_declarator var_declarator_parts initializer unsupported refuse
 decl_by g asks items b (decls.Fn n) place rest = refl
 decl_by g asks items b (decls.Var n) place rest = refl
-decl_by {X} g asks items b (decls.Using n) place rest = ap (λ z. leading_comments n.span.lo (await_word n.is_await (keyword None (codes "using") (space z))))
-    (children_mapped {A = VarDeclarator X} _ _ _ (by_init {X = X} _ (λ span name definite. refl) (λ span name init definite. refl)) declarators_format n.span n.decls.items (semi rest))
+decl_by {X} g asks items b (decls.Using n) place rest = without_head_same place _ _ (λ after. ap (λ z. leading_comments n.span.lo (await_word n.is_await (keyword None (codes "using") (space z))))
+    (children_mapped {A = VarDeclarator X} _ _ _ (by_init {X = X} _ (λ span name definite. refl) (λ span name init definite. refl)) declarators_format n.span n.decls.items (semi after))) rest
 decl_by g asks items b n place rest = refl
 
 pub decl_mapped : {X Y : Type 0} (g : X → Y) (asks : Y → Answers) (items : Y → Place → Part) (b : Box (Decl X) Global) (place : Place) (rest : Plan) → node_items asks items (map-AnyNode X Y g (nodes.StmtPart (stmt_parts.Decl b))) place rest ≡ decl (λ x. asks (g x)) (λ x. items (g x)) b.value place rest

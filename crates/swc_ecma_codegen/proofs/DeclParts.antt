@@ -1,6 +1,7 @@
 -- What is written of each declaration is what it reads as.
-use Rattle.std.proofs.Common.{Bool, true, false, List, [], ◌∷◌, map, codes, refl, None}
+use Rattle.std.proofs.Common.{Bool, true, false, cond, List, [], ◌∷◌, map, codes, refl, None}
 use Rattle.swc_ecma_codegen_common.specs.declared.positions.Span.{Span}
+use Rattle.swc_ecma_codegen_tree.specs.declared.decls.ClassDecl.{ClassDecl}
 use Rattle.swc_ecma_codegen_tree.specs.declared.decls.Decl.{Decl}
 use Rattle.swc_ecma_codegen_tree.specs.declared.decls.Decl.TheVariants as decls
 use Rattle.swc_ecma_codegen_tree.specs.declared.decls.FnDecl.{FnDecl}
@@ -9,23 +10,28 @@ use Rattle.swc_ecma_codegen_tree.specs.declared.decls.VarDecl.{VarDecl}
 use Rattle.swc_ecma_codegen_tree.specs.declared.decls.VarDeclKind.{VarDeclKind}
 use Rattle.swc_ecma_codegen_tree.specs.declared.decls.VarDeclKind.TheVariants.{Var, Let, Const}
 use Rattle.swc_ecma_codegen_tree.specs.declared.decls.VarDeclarator.{VarDeclarator}
-use Rattle.swc_ecma_codegen_ast.specs.declared.roles.Role.TheVariants.{Function, FunctionHead}
+use Rattle.swc_ecma_codegen_ast.specs.declared.roles.Role.TheVariants.{Function, FunctionHead, ClassHead as HeadOfClass, ClassTail}
 use Rattle.swc_ecma_codegen_ast.specs.Phrases as phrases
-use Rattle.swc_ecma_codegen_ast.specs.FunctionPhrases.{word_if}
+use Rattle.swc_ecma_codegen_ast.specs.Phrases.{Never, ◌>◌}
+use Rattle.swc_ecma_codegen_ast.specs.NamePhrases.{ident as ident_list}
+use Rattle.swc_ecma_codegen_ast.specs.ModulePhrases as module_lists
 use Rattle.swc_ecma_codegen_ast.specs.DeclPhrases as lists
-use Rattle.swc_ecma_codegen_base.specs.Run.{Env}
+use Rattle.swc_ecma_codegen_base.specs.Run.{Env, Part}
 use Rattle.swc_ecma_codegen_base.proofs.ListLaws.{prints_list}
-use Rattle.swc_ecma_codegen_base.proofs.Phrased.{Prints, then, after, before, prints_nothing, prints_never, prints_keyword, prints_semi}
-use Rattle.swc_ecma_codegen_base.proofs.Printed.{Writes, writes_nothing, writes_space, writes_commit, writes_position, writes_leading}
+use Rattle.swc_ecma_codegen_base.proofs.Phrased.{Prints, then, after, before, prints_nothing, prints_never, prints_keyword, prints_semi, PrintsAt, prints_wider, loosened, joined_then}
+use Rattle.swc_ecma_codegen_base.proofs.Printed.{writes_nothing, writes_space, writes_commit, writes_position, writes_leading, Fills}
 use Rattle.swc_ecma_codegen.specs.declared.nodes.Place.{Place}
-use Rattle.swc_ecma_codegen.specs.declared.nodes.Place.TheVariants.{Plain, DeclarationHead, Statement}
+use Rattle.swc_ecma_codegen.specs.declared.nodes.Place.TheVariants.{Plain, DeclarationHead, ExportedHead, ExportedTail, Statement}
+use Rattle.swc_ecma_codegen.specs.Places.{declared}
 use Rattle.swc_ecma_codegen.specs.Decls as words
 use Rattle.swc_ecma_codegen.specs.Decls.{declarators_format, declarator_place}
 use Rattle.swc_ecma_codegen.proofs.ExprParts.{writes_blank, writes_opened, ident_prints}
+use Rattle.swc_ecma_codegen.proofs.ClassParts.{class_decl_prints}
 use Rattle.swc_ecma_codegen.proofs.Impossible.{refused_or}
 use Rattle.swc_ecma_codegen.proofs.Linked.{Linked, pat_at, var_decl_at}
 use Rattle.swc_ecma_codegen.proofs.MarkWords as marks
 use Rattle.swc_ecma_codegen.proofs.PatParts.{initializer_prints}
+use Rattle.swc_ecma_codegen_base.proofs.Shapes.{loose, ended, ended_if_any}
 
 fn_decl_prints : {X : Type 0} (l : Linked X) (n : FnDecl X) → Prints l.env (words.fn_decl l.asks l.items n) (lists.fn_decl l.reads n)
 unfolding words.fn_decl words.fn_decl_parts lists.fn_decl
@@ -42,10 +48,10 @@ declarator_prints : {X : Type 0} (l : Linked X) (n : VarDeclarator X) → Prints
 unfolding words.var_declarator words.var_declarator_parts lists.var_declarator
 declarator_prints l n = refused_or n.definite (after (writes_opened l.env n.span) (then (pat_at l n.name) (initializer_prints l n.init)))
 
-declarators_print : {X : Type 0} (l : Linked X) (span : Span) (ns : List (VarDeclarator X)) → Prints l.env (words.declarators l.items span ns) (phrases.some_listed (codes ",") (map (lists.var_declarator l.reads) ns))
+declarators_print : {X : Type 0} (l : Linked X) (span : Span) (ns : List (VarDeclarator X)) → PrintsAt loose l.env (words.declarators l.items span ns) (phrases.some_listed (codes ",") (map (lists.var_declarator l.reads) ns))
 unfolding phrases.listed phrases.some_listed
 declarators_print l span [] = prints_never
-declarators_print l span (n ∷ ns) = prints_list l.env declarators_format span declarator_place (words.var_declarator l.items) (lists.var_declarator l.reads) (declarator_prints l) refl refl refl refl (n ∷ ns)
+declarators_print l span (n ∷ ns) = prints_list l.env declarators_format span declarator_place (words.var_declarator l.items) (lists.var_declarator l.reads) (λ n. loosened (declarator_prints l n)) refl refl refl refl (n ∷ ns)
 
 kind_prints : (env : Env) (kind : VarDeclKind) → Prints env (words.var_kind kind) (lists.var_kind kind)
 unfolding words.var_kind lists.var_kind
@@ -53,7 +59,7 @@ kind_prints env Var = prints_keyword env None (codes "var") marks.var_word
 kind_prints env Let = prints_keyword env None (codes "let") marks.let_word
 kind_prints env Const = prints_keyword env None (codes "const") marks.const_word
 
-pub var_decl_prints : {X : Type 0} (l : Linked X) (n : VarDecl X) → Prints l.env (words.var_decl l.asks l.items n) (lists.var_decl l.reads n)
+pub var_decl_prints : {X : Type 0} (l : Linked X) (n : VarDecl X) → PrintsAt ended l.env (words.var_decl l.asks l.items n) (lists.var_decl l.reads n)
 unfolding words.var_decl words.var_decl_parts lists.var_decl
 var_decl_prints l n = refused_or n.declare
     (after (writes_leading l.env n.span.lo)
@@ -62,29 +68,61 @@ var_decl_prints l n = refused_or n.declare
     (then (kind_prints l.env n.kind)
     (after (writes_blank l.env (words.first_is_unmarked l.asks n.decls.items)) (declarators_print l n.span n.decls.items))))))
 
-await_prints : (env : Env) (wanted : Bool) → Prints env (words.await_word wanted) (word_if wanted (phrases.word (codes "await")))
-unfolding words.await_word word_if
-await_prints env true = before (prints_keyword env None (codes "await") marks.await_word) (writes_space env)
-await_prints env false = prints_nothing
+-- behind `await`, where it is so
+await_then : (env : Env) (wanted : Bool) {p : Part} {f : phrases.Phrase} → PrintsAt ended env p f → PrintsAt ended env (λ rest. words.await_word wanted (p rest)) (lists.after_await wanted f)
+unfolding words.await_word lists.after_await
+await_then env true h = joined_then env None (codes "await") marks.await_word (after (writes_space env) h)
+await_then env false h = h
 
-pub using_decl_prints : {X : Type 0} (l : Linked X) (n : UsingDecl X) → Prints l.env (words.using_decl l.items n) (lists.using_decl l.reads n)
+pub using_decl_prints : {X : Type 0} (l : Linked X) (n : UsingDecl X) → PrintsAt ended l.env (words.using_decl l.items n) (lists.using_decl l.reads n)
 unfolding words.using_decl lists.using_decl
 using_decl_prints l n =
     after (writes_leading l.env n.span.lo)
-    (then (await_prints l.env n.is_await)
+    (await_then l.env n.is_await
     (then (prints_keyword l.env None (codes "using") marks.using_word)
     (after (writes_space l.env) (declarators_print l n.span n.decls.items))))
 
 -- ---- all of them
 
-writes_decl_end : (env : Env) (place : Place) (span : Span) → Writes env (words.decl_end place span) []
+writes_decl_end : (env : Env) (place : Place) (span : Span) → Fills env (words.decl_end place span)
 unfolding words.decl_end
 writes_decl_end env Statement span = writes_nothing env
 writes_decl_end env place span = writes_position env span.hi
 
-pub decl_prints : {X : Type 0} (l : Linked X) (n : Decl X) (place : Place) → Prints l.env (words.decl l.asks l.items n place) (lists.decl l.reads n)
-unfolding words.decl lists.decl
-decl_prints l (decls.Fn n) place = fn_decl_prints l n
-decl_prints l (decls.Var n) place = then (var_decl_at l n) (before (prints_semi l.env) (writes_decl_end l.env place (l.asks n.node.value).place))
-decl_prints l (decls.Using n) place = then (using_decl_prints l n) (prints_semi l.env)
+by_prints : (env : Env) (place : Place) (head tail : Part) {whole : Part} {f : phrases.Phrase} → Prints env whole f → Prints env (words.by_export (declared place) head tail whole) f
+unfolding words.by_export
+by_prints env ExportedHead head tail h = h
+by_prints env ExportedTail head tail h = h
+by_prints env place head tail h = h
+
+-- one that isn't exported
+pub decl_prints : {X : Type 0} (l : Linked X) (n : Decl X) (place : Place) → Prints l.env (words.decl l.asks l.items n (declared place)) (lists.decl l.reads n)
+unfolding words.decl words.without_head words.variables words.resources lists.decl
+decl_prints l (decls.Class n) place = by_prints l.env place _ _ (class_decl_prints l n)
+decl_prints l (decls.Fn n) place = by_prints l.env place _ _ (fn_decl_prints l n)
+decl_prints l (decls.Var n) place = by_prints l.env place _ _ (then (var_decl_at l n) (before (prints_semi l.env) (writes_decl_end l.env (declared place) (l.asks n.node.value).place)))
+decl_prints l (decls.Using n) place = by_prints l.env place _ _ (then (using_decl_prints l n) (prints_semi l.env))
 decl_prints l n place = prints_never
+
+-- ---- one that is exported
+
+pub exported_head_prints : {X : Type 0} (l : Linked X) (n : Decl X) → PrintsAt ended_if_any l.env (words.decl l.asks l.items n ExportedHead) (module_lists.exported_head l.reads n)
+unfolding words.decl words.without_head words.by_export module_lists.exported_head
+exported_head_prints l (decls.Class n) = l.law n.class.node.value Plain HeadOfClass
+exported_head_prints l n = prints_wider ended_if_any refl prints_nothing
+
+exported_class_prints : {X : Type 0} (l : Linked X) (n : ClassDecl X) → Prints l.env (words.exported_class l.asks l.items n) (cond n.declare Never (phrases.word (codes "class") > ident_list n.ident > l.reads n.class.node.value ClassTail))
+unfolding words.exported_class words.exported_class_parts
+exported_class_prints l n = refused_or n.declare
+    (after (writes_leading l.env (l.asks n.class.node.value).place.lo)
+    (after (writes_position l.env (l.asks n.class.node.value).place.lo)
+    (then (prints_keyword l.env None (codes "class") marks.class_word)
+    (after (writes_space l.env) (then (ident_prints l n.ident) (l.law n.class.node.value Plain ClassTail))))))
+
+pub exported_tail_prints : {X : Type 0} (l : Linked X) (n : Decl X) → Prints l.env (words.decl l.asks l.items n ExportedTail) (module_lists.exported_tail l.reads n)
+unfolding words.decl words.without_head words.by_export words.variables words.resources words.decl_end lists.decl module_lists.exported_tail
+exported_tail_prints l (decls.Class n) = exported_class_prints l n
+exported_tail_prints l (decls.Fn n) = fn_decl_prints l n
+exported_tail_prints l (decls.Var n) = then (var_decl_at l n) (before (prints_semi l.env) (writes_position l.env (l.asks n.node.value).place.hi))
+exported_tail_prints l (decls.Using n) = then (using_decl_prints l n) (prints_semi l.env)
+exported_tail_prints l n = prints_never

@@ -5,6 +5,7 @@ use Rattle.swc_ecma_codegen_common.specs.declared.positions.BytePos.{BytePos}
 use Rattle.swc_ecma_codegen_common.specs.declared.positions.Span.{Span}
 use Rattle.swc_ecma_codegen_tree.specs.declared.idents.Ident.{Ident}
 use Rattle.swc_ecma_codegen_tree.specs.declared.idents.IdentName.{IdentName}
+use Rattle.swc_ecma_codegen_tree.specs.declared.idents.PrivateName.{PrivateName}
 use Rattle.swc_ecma_codegen_common.specs.declared.operators.AssignOp.{AssignOp}
 use Rattle.swc_ecma_codegen_common.specs.declared.operators.AssignOp.TheVariants as assign
 use Rattle.swc_ecma_codegen_common.specs.declared.operators.UnaryOp.{UnaryOp}
@@ -49,21 +50,22 @@ use Rattle.swc_ecma_codegen_ast.specs.Chars.{is_start, is_part, is_letter, is_di
 use Rattle.swc_ecma_codegen_ast.specs.Names.{is_word, all_part}
 use Rattle.swc_ecma_codegen_ast.specs.Punctuators.{is_punctuator, punctuators}
 use Rattle.swc_ecma_codegen_ast.specs.Texts.{is_same, is_among}
-use Rattle.swc_ecma_codegen_ast.specs.Phrases.{Phrase, Nothing, One, ◌>◌, mark}
+use Rattle.swc_ecma_codegen_ast.specs.Phrases.{Phrase, Nothing, One, ◌>◌, mark, word}
 use Rattle.swc_ecma_codegen_ast.specs.NamePhrases as names
 use Rattle.swc_ecma_codegen_ast.specs.ExprPhrases as lists
 use Rattle.swc_ecma_codegen_ast.specs.CallPhrases.{callee_at}
 use Rattle.swc_ecma_codegen_ast.specs.LitPhrases as lit_lists
-use Rattle.swc_ecma_codegen_ast.specs.declared.roles.Role.TheVariants.{MemberExpression, ChainMember, AssignmentTarget, ObjectLiteral, Callee as IsCallee, ChainCall}
+use Rattle.swc_ecma_codegen_ast.specs.declared.roles.Role.TheVariants.{MemberExpression, ChainMember, AssignmentTarget, ObjectLiteral, Callee as IsCallee, ChainCall, Template}
 use Rattle.swc_ecma_codegen_ast.specs.declared.roles.Role.{Role}
 use Rattle.swc_ecma_codegen_base.specs.Run.{Env, Part}
-use Rattle.swc_ecma_codegen_base.specs.Words.{operator, space, formatting_space, position, leading_comments, trailing_comments}
-use Rattle.swc_ecma_codegen_base.proofs.Printed.{Writes, writes_then, writes_if, writes_nothing, writes_space, writes_formatting_space, writes_commit, writes_position, writes_position_before, writes_leading, writes_trailing}
+use Rattle.swc_ecma_codegen_base.specs.Words.{operator, space, formatting_space, position, leading_comments, trailing_comments, keyword}
+use Rattle.swc_ecma_codegen_base.proofs.PrivatePrints.{prints_private}
+use Rattle.swc_ecma_codegen_base.proofs.Printed.{Writes, writes_then, writes_if, writes_nothing, writes_space, writes_formatting_space, writes_commit, writes_position, writes_position_before, writes_leading, writes_trailing, Fills}
 use Rattle.swc_ecma_codegen_base.specs.Written.{IsWord, IsMark}
 use Rattle.swc_ecma_codegen_base.proofs.Choices.{prints_bare}
 use Rattle.swc_ecma_codegen_base.proofs.EachLit.{prints_lit}
 use Rattle.swc_ecma_codegen_base.proofs.NumberPrints.{prints_number, prints_number_object}
-use Rattle.swc_ecma_codegen_base.proofs.Phrased.{Prints, then, after, before, prints_nothing, prints_never, prints_keyword, prints_word_operator, prints_operator, prints_punct, prints_ident, prints_name}
+use Rattle.swc_ecma_codegen_base.proofs.Phrased.{Prints, then, after, before, prints_nothing, prints_never, prints_keyword, prints_word_operator, prints_operator, prints_punct, prints_ident, prints_name, PrintsAt, prints_wider, prints_joined_operator, joined_then}
 use Rattle.swc_ecma_codegen.specs.declared.nodes.Place.{Place}
 use Rattle.swc_ecma_codegen.specs.declared.nodes.Place.TheVariants.{Plain, LeftOperand, Object, DottedObject, Callee, Chain}
 use Rattle.swc_ecma_codegen.specs.Answers.{Answers, place_of}
@@ -71,39 +73,42 @@ use Rattle.swc_ecma_codegen.specs.Operands.{is_word_op, operand_space}
 use Rattle.swc_ecma_codegen.specs.Exprs as words
 use Rattle.swc_ecma_codegen.specs.Calls as calls
 use Rattle.swc_ecma_codegen.specs.Lits.{lit_at}
-use Rattle.swc_ecma_codegen.proofs.FunctionParts.{fn_expr_prints, arrow_expr_prints}
+use Rattle.swc_ecma_codegen.proofs.FunctionParts.{fn_expr_prints, arrow_expr_prints, class_expr_prints}
 use Rattle.swc_ecma_codegen.proofs.CallParts.{super_is_word, array_lit_prints, call_prints, new_prints}
+use Rattle.swc_ecma_codegen.proofs.TemplateParts.{tagged_tpl_prints}
 use Rattle.swc_ecma_codegen.proofs.Linked.{Linked, expr_at}
 use Rattle.swc_ecma_codegen.proofs.ListParts.{some_listed_prints}
+use Rattle.swc_ecma_codegen_base.proofs.Shapes.{open_, joined}
+use Rattle.swc_ecma_codegen_ast.specs.Phrases as phrases
 
 -- ---- blanks and comments
 
-pub writes_blank : (env : Env) (needed : Bool) → Writes env (words.blank needed) []
+pub writes_blank : (env : Env) (needed : Bool) → Fills env (words.blank needed)
 unfolding words.blank
 writes_blank env needed = writes_if env needed space formatting_space [] (writes_space env) (writes_formatting_space env)
 
-pub writes_space_if : (env : Env) (needed : Bool) → Writes env (words.space_if needed) []
+pub writes_space_if : (env : Env) (needed : Bool) → Fills env (words.space_if needed)
 unfolding words.space_if
 writes_space_if env needed = writes_if env needed space (λ rest. rest) [] (writes_space env) (writes_nothing env)
 
-pub writes_opened : (env : Env) (span : Span) → Writes env (words.opened span) []
+pub writes_opened : (env : Env) (span : Span) → Fills env (words.opened span)
 unfolding words.opened
 writes_opened env span = writes_then env (leading_comments span.lo) (position span.lo) [] [] (writes_leading env span.lo) (writes_position env span.lo)
 
-writes_bin_opened : (env : Env) (place : Place) (span : Span) → Writes env (words.bin_opened place span) []
+writes_bin_opened : (env : Env) (place : Place) (span : Span) → Fills env (words.bin_opened place span)
 unfolding words.bin_opened
 writes_bin_opened env LeftOperand span = writes_nothing env
 writes_bin_opened env place span = writes_opened env span
 
-writes_unary_gap : (env : Env) (op : UnaryOp) (arg : Answers) → Writes env (words.unary_gap op arg) []
+writes_unary_gap : (env : Env) (op : UnaryOp) (arg : Answers) → Fills env (words.unary_gap op arg)
 unfolding words.unary_gap
 writes_unary_gap env op arg = writes_if env (starts.is_word_op op) (words.blank arg.starts) (words.space_if (operand_space op arg.kind)) [] (writes_blank env arg.starts) (writes_space_if env (operand_space op arg.kind))
 
-pub writes_comments_before : (env : Env) (pos : BytePos) → Writes env (words.comments_before pos) []
+pub writes_comments_before : (env : Env) (pos : BytePos) → Fills env (words.comments_before pos)
 unfolding words.comments_before
 writes_comments_before env pos = writes_if env (pos.0 == 0) (λ rest. rest) (leading_comments (record { 0 = pos.0 - 1 })) [] (writes_nothing env) (writes_leading env (record { 0 = pos.0 - 1 }))
 
-writes_closed : (env : Env) (left : Bool) (span : Span) → Writes env (words.expr_closed left span) []
+writes_closed : (env : Env) (left : Bool) (span : Span) → Fills env (words.expr_closed left span)
 unfolding words.expr_closed
 writes_closed env left span = writes_if env left (λ rest. rest) (trailing_comments true span.hi) [] (writes_nothing env) (writes_trailing env true span.hi)
 
@@ -258,13 +263,23 @@ ident_name_prints : {X : Type 0} (l : Linked X) (n : IdentName) → Prints l.env
 unfolding words.ident_name names.ident_name
 ident_name_prints l n = prints_name l.env n.span (string_bytes n.sym) l.leaves_out
 
+pub private_name_prints : {X : Type 0} (l : Linked X) (n : PrivateName) → Prints l.env (words.private_name n) (names.private_name n)
+unfolding words.private_name names.private_name
+private_name_prints l n = prints_private l.env n.span (string_bytes n.name) l.leaves_out
+
 unary_prints : {X : Type 0} (l : Linked X) (n : UnaryExpr X) → Prints l.env (words.unary l.asks l.items n) (lists.unary_expr l.reads n)
 unfolding words.unary lists.unary_expr
 unary_prints l n = after (writes_opened l.env n.span) (then (unary_op_prints l.env n.op) (after (writes_unary_gap l.env n.op (l.asks n.arg.node.value)) (expr_at l n.arg Plain)))
 
-update_case : (env : Env) (prefix : Bool) (op : UpdateOp) (p : Part) (f : Phrase) → Prints env p f → Prints env (λ rest. cond prefix (operator (update_text op) (p rest)) (p (operator (update_text op) rest))) (cond prefix (One (lists.update_op op) > f) (f > One (lists.update_op op)))
+-- behind `[no LineTerminator here]`
+joined_op_prints : (env : Env) (op : UpdateOp) → PrintsAt joined env (operator (update_text op)) (phrases.same_line > One (lists.update_op op))
+unfolding lists.update_op update_text is_punctuator is_among is_same punctuators chars is_utf8 lib.Utf8.encode
+joined_op_prints env update.PlusPlus = prints_joined_operator env (codes "++") (record { utf8 = refl; ascii = refl; shape = refl })
+joined_op_prints env update.MinusMinus = prints_joined_operator env (codes "--") (record { utf8 = refl; ascii = refl; shape = refl })
+
+update_case : (env : Env) (prefix : Bool) (op : UpdateOp) (p : Part) (f : Phrase) → Prints env p f → Prints env (λ rest. cond prefix (operator (update_text op) (p rest)) (p (operator (update_text op) rest))) (cond prefix (One (lists.update_op op) > f) (f > phrases.same_line > One (lists.update_op op)))
 update_case env true op p f h = then (update_op_prints env op) h
-update_case env false op p f h = then h (update_op_prints env op)
+update_case env false op p f h = then h (joined_op_prints env op)
 
 update_prints : {X : Type 0} (l : Linked X) (n : UpdateExpr X) → Prints l.env (words.update l.items n) (lists.update_expr l.reads n)
 unfolding words.update words.update_parts lists.update_expr
@@ -291,7 +306,7 @@ member_prop_prints : {X : Type 0} (l : Linked X) (n : MemberProp X) → Prints l
 unfolding words.member_prop lists.member_prop
 member_prop_prints l (member_props.Ident n) = after (writes_comments_before l.env n.span.lo) (then (prints_punct l.env (codes ".") dot_is_mark) (ident_name_prints l n))
 member_prop_prints l (member_props.Computed n) = computed_prints l n
-member_prop_prints l n = prints_never
+member_prop_prints l (member_props.PrivateName n) = after (writes_comments_before l.env n.span.lo) (then (prints_punct l.env (codes ".") dot_is_mark) (private_name_prints l n))
 
 -- the object before a property
 object_prints : {X : Type 0} (l : Linked X) (n : ExprBox X) (prop : MemberProp X) → Prints l.env (l.items n.node.value (words.object_place prop)) (callee_at l.reads n)
@@ -315,17 +330,17 @@ super_prop_expr_prints l n = after (writes_opened l.env n.span) (then (prints_ke
 
 -- ---- optional chains
 
-chain_mark_prints : {X : Type 0} (env : Env) (optional : Bool) (n : MemberProp X) → Prints env (words.chain_mark optional n) (lists.chain_mark optional n)
+chain_mark_prints : {X : Type 0} (env : Env) (optional : Bool) (n : MemberProp X) → PrintsAt open_ env (words.chain_mark optional n) (lists.chain_mark optional n)
 unfolding words.chain_mark lists.chain_mark
-chain_mark_prints env true n = prints_punct env (codes "?.") question_dot_is_mark
+chain_mark_prints env true n = prints_wider open_ refl (prints_punct env (codes "?.") question_dot_is_mark)
 chain_mark_prints env false (member_props.Computed n) = prints_nothing
-chain_mark_prints env false n = prints_punct env (codes ".") dot_is_mark
+chain_mark_prints env false n = prints_wider open_ refl (prints_punct env (codes ".") dot_is_mark)
 
 chain_prop_prints : {X : Type 0} (l : Linked X) (n : MemberProp X) → Prints l.env (words.chain_prop l.items n) (lists.chain_prop l.reads n)
 unfolding words.chain_prop lists.chain_prop
 chain_prop_prints l (member_props.Ident n) = ident_name_prints l n
 chain_prop_prints l (member_props.Computed n) = computed_prints l n
-chain_prop_prints l n = prints_never
+chain_prop_prints l (member_props.PrivateName n) = private_name_prints l n
 
 pub chain_member_prints : {X : Type 0} (l : Linked X) (optional : Bool) (n : MemberExpr X) → Prints l.env (words.chain_member l.items optional n) (lists.chain_member l.reads optional n)
 unfolding words.chain_member lists.chain_member
@@ -359,21 +374,20 @@ assign_prints l n =
     (after (writes_formatting_space l.env)
     (then (assign_op_prints l.env n.op) (after (writes_formatting_space l.env) (expr_at l n.right Plain)))))
 
-yield_star_prints : (env : Env) (delegate : Bool) → Prints env (words.yield_star delegate) (cond delegate (mark (codes "*")) Nothing)
-unfolding words.yield_star
-yield_star_prints env true = prints_operator env (codes "*") star_is_mark
-yield_star_prints env false = prints_nothing
-
-yield_arg_prints : {X : Type 0} (l : Linked X) (delegate : Bool) (arg : Option (ExprBox X)) → Prints l.env (words.yield_arg l.asks l.items delegate arg) (lists.yield_arg l.reads arg)
+yield_arg_prints : {X : Type 0} (l : Linked X) (arg : Option (ExprBox X)) → PrintsAt open_ l.env (words.yield_arg l.asks l.items true arg) (lists.yield_arg l.reads arg)
 unfolding words.yield_arg lists.yield_arg
-yield_arg_prints l delegate None = prints_nothing
-yield_arg_prints l delegate (Some n) = after (writes_blank l.env (cond delegate false (l.asks n.node.value).starts)) (prints_bare (expr_at l n Plain))
+yield_arg_prints l None = prints_nothing
+yield_arg_prints l (Some n) = prints_wider open_ refl (after (writes_blank l.env false) (prints_bare (expr_at l n Plain)))
+
+yield_case : {X : Type 0} (l : Linked X) (delegate : Bool) (arg : Option (ExprBox X)) → Prints l.env (λ rest. keyword None (codes "yield") (words.yield_star delegate (words.yield_arg l.asks l.items delegate arg rest))) (word (codes "yield") > lists.yield_rest l.reads delegate arg)
+unfolding words.yield_star words.yield_arg lists.yield_rest
+yield_case l true arg = joined_then l.env None (codes "yield") yield_is_word (then (prints_operator l.env (codes "*") star_is_mark) (yield_arg_prints l arg))
+yield_case l false None = then (prints_keyword l.env None (codes "yield") yield_is_word) prints_nothing
+yield_case l false (Some n) = joined_then l.env None (codes "yield") yield_is_word (after (writes_blank l.env (l.asks n.node.value).starts) (prints_bare (expr_at l n Plain)))
 
 yield_prints : {X : Type 0} (l : Linked X) (n : YieldExpr X) → Prints l.env (words.yield_expr l.asks l.items n) (lists.yield_expr l.reads n)
 unfolding words.yield_expr lists.yield_expr
-yield_prints l n =
-    after (writes_opened l.env n.span)
-    (then (prints_keyword l.env None (codes "yield") yield_is_word) (then (yield_star_prints l.env n.delegate) (yield_arg_prints l n.delegate n.arg)))
+yield_prints l n = after (writes_opened l.env n.span) (yield_case l n.delegate n.arg)
 
 await_prints : {X : Type 0} (l : Linked X) (n : AwaitExpr X) → Prints l.env (words.await_expr l.items n) (lists.await_expr l.reads n)
 unfolding words.await_expr lists.await_expr
@@ -431,11 +445,15 @@ parts_print l (exprs.New n) place = new_prints l (calls.keeps_arguments place) n
 parts_print l (exprs.Seq n) place = seq_prints l n
 parts_print l (exprs.Ident n) place = ident_prints l n
 parts_print l (exprs.Lit n) place = lit_prints l.env n place
+parts_print l (exprs.Tpl n) place = l.law n.node.value Plain Template
+parts_print l (exprs.TaggedTpl n) place = tagged_tpl_prints l n
 parts_print l (exprs.Arrow n) place = arrow_expr_prints l n
+parts_print l (exprs.Class n) place = class_expr_prints l n
 parts_print l (exprs.Yield n) place = yield_prints l n
 parts_print l (exprs.MetaProp n) place = meta_prop_expr_prints l.env n
 parts_print l (exprs.Await n) place = await_prints l n
 parts_print l (exprs.Paren n) place = paren_prints l n
+parts_print l (exprs.PrivateName n) place = private_name_prints l n
 parts_print l (exprs.OptChain n) place = opt_chain_prints l n
 parts_print l n place = prints_never
 

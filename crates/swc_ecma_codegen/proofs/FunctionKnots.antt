@@ -1,7 +1,7 @@
 -- What is written of functions and blocks sees what links hold through `asks` and `items` alone.
-use Rattle.std.proofs.Common.{◌≡◌, refl, sym, ◌∙◌, ap, ℕ, List, [], ◌∷◌, map, codes, Bool, true, false, cond, ◌||◌, is_some, Option, Some, None, Box, Global}
+use Rattle.std.proofs.Common.{◌≡◌, refl, ◌∙◌, ap, List, [], ◌∷◌, map, codes, Bool, cond, Option, Some, None, Box, Global}
 use Rattle.swc_ecma_codegen_common.specs.declared.positions.Span.{Span}
-use Rattle.swc_ecma_codegen_tree.specs.declared.links.AnyNode.{AnyNode, map-AnyNode}
+use Rattle.swc_ecma_codegen_tree.specs.declared.links.AnyNode.{map-AnyNode}
 use Rattle.swc_ecma_codegen_tree.specs.declared.links.AnyNode.TheOpen as nodes
 use Rattle.swc_ecma_codegen_tree.specs.declared.expr_links.PatBox.{PatBox}
 use Rattle.swc_ecma_codegen_tree.specs.declared.stmt_links.BlockStmtBox.{BlockStmtBox}
@@ -24,13 +24,13 @@ use Rattle.swc_ecma_codegen_base.specs.Run.{Plan, Part, refuse}
 use Rattle.swc_ecma_codegen_base.specs.Lists.{ListChild, list}
 use Rattle.swc_ecma_codegen_base.specs.Words.{punct, leading_comments, start_of, end_of}
 use Rattle.swc_ecma_codegen.specs.declared.nodes.Place.{Place}
-use Rattle.swc_ecma_codegen.specs.declared.nodes.Place.TheVariants.{Plain, FunctionHead, MethodHead, DeclarationHead}
+use Rattle.swc_ecma_codegen.specs.declared.nodes.Place.TheVariants.{Plain, FunctionHead, MethodHead, DeclarationHead, StaticHead, MethodDecorators, MethodTail, PrivateTail}
 use Rattle.swc_ecma_codegen.specs.declared.patterns.PatternKind.{PatternKind}
 use Rattle.swc_ecma_codegen.specs.Answers.{Answers}
 use Rattle.swc_ecma_codegen.specs.Blocks.{block_list, block_start, block_stmt}
 use Rattle.swc_ecma_codegen.specs.Exprs.{expr, expr_parts, expr_closed, leaves_comments}
-use Rattle.swc_ecma_codegen.specs.Functions.{decorators_format, comma_list_format, decorator, decorator_place, param, function_body, fn_trailing_parts, fn_trailing, function_head, declaration_head, method_head, function, is_plain, is_name, is_only, async_arrow, star, parenthesis, arrow_parameters, arrow_body, arrow_parts, arrow_expr}
-use Rattle.swc_ecma_codegen.specs.Lists.{child_of, unsupported}
+use Rattle.swc_ecma_codegen.specs.Functions.{decorators_format, comma_list_format, decorator, decorator_place, param, function_body, fn_trailing_parts, fn_trailing, function_head, declaration_head, method_head, static_head, decorator_lines, method_body, method_tail_parts, method_tail, private_tail, function, is_plain, is_name, is_only, async_arrow, star, parenthesis, arrow_parameters, arrow_body, arrow_parts, arrow_expr}
+use Rattle.swc_ecma_codegen.specs.Lists.{child_of, in_order, unsupported}
 use Rattle.swc_ecma_codegen.specs.Parts.{stmt_part}
 use Rattle.swc_ecma_codegen.specs.Tree.{node_items}
 use Rattle.swc_ecma_codegen.proofs.PatKnots.{children_mapped}
@@ -38,10 +38,10 @@ use Rattle.swc_ecma_codegen.proofs.PatKnots.{children_mapped}
 -- ---- functions
 
 -- a parameter, by its parts
-abbrev param_child : Span → List ListChild → Part → ListChild
+abbrev pub param_child : Span → List ListChild → Part → ListChild
 param_child span ds pat = record { place = span; part = λ rest. leading_comments span.lo (start_of span (list decorators_format span ds (pat (end_of span rest)))) }
 
-either_same : {A : Type 0} (b c : Bool) (r p q : A) → b ≡ c → p ≡ q → cond b r p ≡ cond c r q
+pub either_same : {A : Type 0} (b c : Bool) (r p q : A) → b ≡ c → p ≡ q → cond b r p ≡ cond c r q
 either_same b c r p q e h = ap (λ z. cond z r p) e ∙ ap (λ z. cond c r z) h
 
 abbrev with_parts : {X : Type 0} → functions.Function X → Option (BlockStmtBox X) → Option (TsTypeParamDeclBox X) → Option (TsTypeAnnBox X) → functions.Function X
@@ -56,11 +56,45 @@ trailing_mapped g asks items b n None (Some p) t rest = refl
 trailing_mapped g asks items b n (Some body) None (Some t) rest = refl
 trailing_mapped g asks items b n (Some body) (Some p) t rest = refl
 
+in_order_mapped : {A B : Type 0} (g : A → B) (e : B → Part) (d : A → Part) → ((x : A) → e (g x) ≡ d x) → (xs : List A) (rest : Plan) → in_order e (map g xs) rest ≡ in_order d xs rest
+unfolding in_order
+in_order_mapped g e d same [] rest = refl
+in_order_mapped g e d same (x ∷ xs) rest = ap (λ part. part (in_order e (map g xs) rest)) (same x) ∙ ap (d x) (in_order_mapped g e d same xs rest)
+
+pub decorators_mapped : {X Y : Type 0} (g : Decorator X → Decorator Y) (items : Y → Place → Part) (put : X → Place → Part) → ((n : Decorator X) → decorator items (g n) ≡ decorator put n) → (ns : List (Decorator X)) (rest : Plan) → decorator_lines items (map g ns) rest ≡ decorator_lines put ns rest
+decorators_mapped g items put same ns rest = in_order_mapped g (decorator items) (decorator put) same ns rest
+
+tail_mapped : {X Y : Type 0} (g : X → Y) (asks : Y → Answers) (items : Y → Place → Part) (b : Box (functions.Function X) Global) (n : functions.Function X) (body : Option (BlockStmtBox X)) (type_params : Option (TsTypeParamDeclBox X)) (return_type : Option (TsTypeAnnBox X)) (rest : Plan) → node_items asks items (map-AnyNode X Y g (nodes.StmtPart (stmt_parts.Function (record b { value = with_parts n body type_params return_type })))) MethodTail rest ≡ method_tail (λ x. items (g x)) (with_parts n body type_params return_type) rest
+unfolding node_items stmt_part function method_tail method_tail_parts method_body param decorator unsupported refuse
+tail_mapped {X} {Y} g asks items b n None None None rest = ap (λ z. punct (codes "(") z) (children_mapped {A = Param X} _ _ _ (λ p. ap (λ ds. param_child p.span ds (items (g p.pat.node.value) Plain)) (list_mapped {A = Decorator X} _ _ (child_of decorator_place (λ d place. decorator (λ x. items (g x)) d)) (λ d. refl) p.decorators.items)) comma_list_format n.span n.params.items _)
+tail_mapped {X} {Y} g asks items b n (Some body) None None rest = ap (λ z. punct (codes "(") z) (children_mapped {A = Param X} _ _ _ (λ p. ap (λ ds. param_child p.span ds (items (g p.pat.node.value) Plain)) (list_mapped {A = Decorator X} _ _ (child_of decorator_place (λ d place. decorator (λ x. items (g x)) d)) (λ d. refl) p.decorators.items)) comma_list_format n.span n.params.items _)
+tail_mapped g asks items b n None None (Some t) rest = refl
+tail_mapped g asks items b n None (Some p) t rest = refl
+tail_mapped g asks items b n (Some body) None (Some t) rest = refl
+tail_mapped g asks items b n (Some body) (Some p) t rest = refl
+
+private_tail_mapped : {X Y : Type 0} (g : X → Y) (asks : Y → Answers) (items : Y → Place → Part) (b : Box (functions.Function X) Global) (n : functions.Function X) (body : Option (BlockStmtBox X)) (type_params : Option (TsTypeParamDeclBox X)) (return_type : Option (TsTypeAnnBox X)) (rest : Plan) → node_items asks items (map-AnyNode X Y g (nodes.StmtPart (stmt_parts.Function (record b { value = with_parts n body type_params return_type })))) PrivateTail rest ≡ private_tail (λ x. items (g x)) (with_parts n body type_params return_type) rest
+unfolding node_items stmt_part function private_tail fn_trailing_parts function_body param decorator unsupported refuse
+private_tail_mapped {X} {Y} g asks items b n None None None rest = ap (λ z. punct (codes "(") z) (children_mapped {A = Param X} _ _ _ (λ p. ap (λ ds. param_child p.span ds (items (g p.pat.node.value) Plain)) (list_mapped {A = Decorator X} _ _ (child_of decorator_place (λ d place. decorator (λ x. items (g x)) d)) (λ d. refl) p.decorators.items)) comma_list_format n.span n.params.items _)
+private_tail_mapped {X} {Y} g asks items b n (Some body) None None rest = ap (λ z. punct (codes "(") z) (children_mapped {A = Param X} _ _ _ (λ p. ap (λ ds. param_child p.span ds (items (g p.pat.node.value) Plain)) (list_mapped {A = Decorator X} _ _ (child_of decorator_place (λ d place. decorator (λ x. items (g x)) d)) (λ d. refl) p.decorators.items)) comma_list_format n.span n.params.items _)
+private_tail_mapped g asks items b n None None (Some t) rest = refl
+private_tail_mapped g asks items b n None (Some p) t rest = refl
+private_tail_mapped g asks items b n (Some body) None (Some t) rest = refl
+private_tail_mapped g asks items b n (Some body) (Some p) t rest = refl
+
+method_decorators_mapped : {X Y : Type 0} (g : X → Y) (asks : Y → Answers) (items : Y → Place → Part) (b : Box (functions.Function X) Global) (rest : Plan) → node_items asks items (map-AnyNode X Y g (nodes.StmtPart (stmt_parts.Function b))) MethodDecorators rest ≡ decorator_lines (λ x. items (g x)) b.value.decorators.items rest
+unfolding node_items stmt_part function decorator
+method_decorators_mapped g asks items b rest = decorators_mapped _ items (λ x. items (g x)) (λ d. refl) b.value.decorators.items rest
+
 pub function_mapped : {X Y : Type 0} (g : X → Y) (asks : Y → Answers) (items : Y → Place → Part) (b : Box (functions.Function X) Global) (place : Place) (rest : Plan) → node_items asks items (map-AnyNode X Y g (nodes.StmtPart (stmt_parts.Function b))) place rest ≡ function (λ x. items (g x)) b.value place rest
-unfolding node_items stmt_part function function_head declaration_head method_head
+unfolding node_items stmt_part function function_head declaration_head method_head static_head
 function_mapped g asks items b FunctionHead rest = refl
 function_mapped g asks items b MethodHead rest = refl
 function_mapped g asks items b DeclarationHead rest = refl
+function_mapped g asks items b (StaticHead starts) rest = refl
+function_mapped g asks items b MethodDecorators rest = method_decorators_mapped g asks items b rest
+function_mapped g asks items b MethodTail rest = tail_mapped g asks items b b.value b.value.body b.value.type_params b.value.return_type rest
+function_mapped g asks items b PrivateTail rest = private_tail_mapped g asks items b b.value b.value.body b.value.type_params b.value.return_type rest
 function_mapped g asks items b place rest = trailing_mapped g asks items b b.value b.value.body b.value.type_params b.value.return_type rest
 
 -- ---- blocks

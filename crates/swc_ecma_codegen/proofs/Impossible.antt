@@ -1,5 +1,5 @@
 -- Phrases that no tree has, and what is said where a phrase is possible.
-use Rattle.std.proofs.Common.{◌≡◌, ◌∙◌, sym, refl, ap, ℕ, Bool, true, false, cond, ◌&&◌, ◌||◌, List, [], ◌++◌, append-nil, subst}
+use Rattle.std.proofs.Common.{◌≡◌, ◌∙◌, sym, refl, ap, ℕ, Bool, true, false, cond, ◌&&◌, ◌||◌, List, ◌++◌, append-nil, subst}
 use Rattle.std.proofs.lemmas.Bool.{true≢false}
 use Rattle.swc_ecma_codegen_ast.specs.Tokens as lexical
 use Rattle.swc_ecma_codegen_util.specs.declared.config.Config.{Config}
@@ -9,16 +9,17 @@ use Rattle.swc_ecma_codegen_base.specs.Escapes.{is_spelled_anew, may_make_text}
 use Rattle.swc_ecma_codegen_base.specs.Run.{Env, Part}
 use Rattle.swc_ecma_codegen_base.specs.Targets.{is_out}
 use Rattle.swc_ecma_codegen_base.proofs.Choices.{IsAmong, prints_among}
-use Rattle.swc_ecma_codegen_base.proofs.Phrased.{Prints, prints_never}
+use Rattle.swc_ecma_codegen_base.proofs.Phrased.{prints_never, PrintsAt}
 use Rattle.swc_ecma_codegen.specs.Lists.{unsupported}
+use Rattle.swc_ecma_codegen_base.proofs.Shapes.{Shape}
 
 -- one that isn't printed yet is refused, and has no list of tokens
-pub refused_or : {env : Env} {p : Part} {f : Phrase} (refused : Bool) → Prints env p f → Prints env (λ rest. cond refused (unsupported rest) (p rest)) (cond refused Never f)
+pub refused_or : {i : Shape} {env : Env} {p : Part} {f : Phrase} (refused : Bool) → PrintsAt i env p f → PrintsAt i env (λ rest. cond refused (unsupported rest) (p rest)) (cond refused Never f)
 refused_or true h = prints_never
 refused_or false h = h
 
 -- whatever is written, no tree is written so
-pub prints_impossible : {env : Env} {p : Part} {f : Phrase} → is_possible f ≡ false → Prints env p f
+pub prints_impossible : {i : Shape} {env : Env} {p : Part} {f : Phrase} → is_possible f ≡ false → PrintsAt i env p f
 prints_impossible none = record {
   where_possible = λ w o. absurd (true≢false (sym w ∙ none));
   where_out = λ w o. absurd (true≢false (sym w ∙ none));
@@ -48,8 +49,8 @@ alone_among config f = record {
   names = append-nil (names_in f);
 }
 
-pub prints_alone : {env : Env} {p : Part} {f : Phrase} → Prints env p (f > Nothing) → Prints env p f
-prints_alone {env} {p} {f} h = prints_among (alone_among env.config f) h
+pub prints_alone : {i : Shape} {env : Env} {p : Part} {f : Phrase} → PrintsAt i env p (f > Nothing) → PrintsAt i env p f
+prints_alone {env = env} {f = f} h = prints_among (alone_among env.config f) h
 
 -- so is one behind a mark
 last_among : (config : Config) (t : List ℕ) (f : Phrase) → IsAmong config (mark t > f > Nothing) (mark t > f)
@@ -62,5 +63,5 @@ last_among config t f = record {
   names = append-nil (names_in f);
 }
 
-pub prints_last : {env : Env} {p : Part} (t : List ℕ) {f : Phrase} → Prints env p (mark t > f > Nothing) → Prints env p (mark t > f)
-prints_last {env} {p} t {f} h = prints_among (last_among env.config t f) h
+pub prints_last : {i : Shape} {env : Env} {p : Part} (t : List ℕ) {f : Phrase} → PrintsAt i env p (mark t > f > Nothing) → PrintsAt i env p (mark t > f)
+prints_last {env = env} t {f} h = prints_among (last_among env.config t f) h

@@ -6,11 +6,8 @@ use Rattle.swc_ecma_codegen_tree.specs.declared.links.AnyNode.TheVariants as who
 use Rattle.swc_ecma_codegen_tree.specs.declared.links.AnyNode.TheViews.{roll-out-AnyNode}
 use Rattle.swc_ecma_codegen_tree.specs.declared.exprs.Expr.{Expr}
 use Rattle.swc_ecma_codegen_tree.specs.declared.exprs.Expr.TheVariants as exprs
-use Rattle.swc_ecma_codegen_tree.specs.declared.exprs.MemberExpr.{MemberExpr}
-use Rattle.swc_ecma_codegen_tree.specs.declared.stmts.Stmt.{Stmt}
 use Rattle.swc_ecma_codegen_tree.specs.declared.links.AnyNode.TheFolds.{fold-roll-AnyNode}
 use Rattle.swc_ecma_codegen.specs.declared.operands.OperandKind.{OperandKind}
-use Rattle.swc_ecma_codegen.specs.declared.operands.OperandKind.TheVariants as kinds
 use Rattle.swc_ecma_codegen.specs.Operands.{expr_kind, update_kind, node_kind, any_kind}
 
 known_of : AnyNode-F AnyNode → AnyNode-F OperandKind

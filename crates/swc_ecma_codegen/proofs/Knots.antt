@@ -30,7 +30,7 @@ use Rattle.swc_ecma_codegen_tree.specs.declared.pats.AssignTarget.{AssignTarget}
 use Rattle.swc_ecma_codegen_tree.specs.declared.pats.AssignTarget.TheVariants as targets
 use Rattle.swc_ecma_codegen_tree.specs.declared.pats.SimpleAssignTarget.{SimpleAssignTarget}
 use Rattle.swc_ecma_codegen_tree.specs.declared.pats.SimpleAssignTarget.TheVariants as simple_targets
-use Rattle.swc_ecma_codegen_spans.specs.Spans.{expr_span, fn_expr_span}
+use Rattle.swc_ecma_codegen_spans.specs.Spans.{expr_span, fn_expr_span, class_expr_span}
 use Rattle.swc_ecma_codegen_base.specs.Run.{Plan, Part, refuse}
 use Rattle.swc_ecma_codegen_base.specs.Words.{trailing_comments}
 use Rattle.swc_ecma_codegen.specs.declared.nodes.Place.{Place}
@@ -39,16 +39,20 @@ use Rattle.swc_ecma_codegen.specs.Answers.{Answers, any_answers}
 use Rattle.swc_ecma_codegen.specs.Lists.{comma, listed, unsupported}
 use Rattle.swc_ecma_codegen.specs.Exprs.{this, unary, update, update_parts, bin, bin_trailing, member, member_at, member_prop, object_place, computed_prop_name, super_prop, super_prop_expr, chain_mark, chain_prop, chain_member, chain_base, opt_chain, meta_prop_expr, assign, yield_arg, yield_expr, await_expr, choice, seq, held, paren, ident, opened, expr_parts, expr_closed, leaves_comments, expr}
 use Rattle.swc_ecma_codegen.specs.Functions.{fn_expr, optional_name}
+use Rattle.swc_ecma_codegen.specs.ClassExprs.{class_expr}
 use Rattle.swc_ecma_codegen.specs.Names.{binding_ident}
 use Rattle.swc_ecma_codegen.specs.Targets.{simple_assign_target, assign_target}
 use Rattle.swc_ecma_codegen.specs.Parts.{expr_part, stmt_part}
 use Rattle.swc_ecma_codegen.specs.Stmts.{stmt}
 use Rattle.swc_ecma_codegen.specs.Tree.{node_items, any_items}
 use Rattle.swc_ecma_codegen.proofs.DeclKnots.{decl_mapped, var_decl_mapped}
+use Rattle.swc_ecma_codegen.proofs.ModuleKnots.{module_item_mapped, module_decl_mapped}
+use Rattle.swc_ecma_codegen.proofs.ClassKnots.{class_mapped, class_member_mapped}
 use Rattle.swc_ecma_codegen.proofs.StmtKnots.{stmt_mapped}
 use Rattle.swc_ecma_codegen.proofs.FunctionKnots.{function_mapped, block_mapped, arrow_expr_mapped}
 use Rattle.swc_ecma_codegen.proofs.PatKnots.{pat_mapped, target_pat_mapped}
 use Rattle.swc_ecma_codegen.proofs.PropKnots.{prop_name_mapped, prop_mapped, object_lit_mapped}
+use Rattle.swc_ecma_codegen.proofs.TemplateKnots.{tpl_mapped, tagged_tpl_mapped}
 use Rattle.swc_ecma_codegen.proofs.CallKnots.{array_lit_mapped, call_mapped, new_mapped, chain_call_mapped}
 
 -- ---- a word sees what links hold through `asks` and `items` alone
@@ -86,7 +90,7 @@ yield_mapped g asks items n None place rest = refl
 yield_mapped g asks items n (Some x) place rest = refl
 
 expr_mapped : {X Y : Type 0} (g : X → Y) (asks : Y → Answers) (items : Y → Place → Part) (n : Expr X) (place : Place) (rest : Plan) → node_items asks items (map-AnyNode X Y g (nodes.Expr n)) place rest ≡ expr (λ x. asks (g x)) (λ x. items (g x)) n place rest
-unfolding node_items expr expr_parts expr_closed expr_span fn_expr_span leaves_comments unsupported refuse fn_expr optional_name this unary update update_parts bin bin_trailing assign meta_prop_expr await_expr choice seq paren ident
+unfolding node_items expr expr_parts expr_closed expr_span fn_expr_span class_expr_span leaves_comments unsupported refuse fn_expr class_expr optional_name this unary update update_parts bin bin_trailing assign meta_prop_expr await_expr choice seq paren ident
 expr_mapped {X} g asks items (exprs.Seq n) place rest = ap (opened n.span) (listed_mapped {A = ExprBox X} _ (held items) (held (λ x. items (g x))) (λ x. refl) true n.exprs.items (trailing_comments true n.span.hi rest))
 expr_mapped g asks items (exprs.Array n) place rest = array_lit_mapped g asks items n place rest
 expr_mapped g asks items (exprs.Call n) place rest = call_mapped g asks items n place rest
@@ -94,6 +98,7 @@ expr_mapped g asks items (exprs.New n) place rest = new_mapped g asks items n pl
 expr_mapped g asks items (exprs.SuperProp n) place rest = super_mapped g asks items n n.prop place rest
 expr_mapped g asks items (exprs.OptChain n) place rest = chain_mapped g asks items n n.base place rest
 expr_mapped g asks items (exprs.Yield n) place rest = yield_mapped g asks items n n.arg place rest
+expr_mapped g asks items (exprs.TaggedTpl n) place rest = tagged_tpl_mapped g asks items n place rest
 expr_mapped g asks items (exprs.Arrow n) place rest = arrow_expr_mapped g asks items n place rest
 expr_mapped g asks items n place rest = refl
 
@@ -134,17 +139,20 @@ part_mapped g asks items (expr_parts.Pat n) place rest = pat_mapped g asks items
 part_mapped g asks items (expr_parts.ObjectLit n) place rest = object_lit_mapped g asks items n place rest
 part_mapped g asks items (expr_parts.PropName n) place rest = prop_name_mapped g asks items n place rest
 part_mapped g asks items (expr_parts.Prop n) place rest = prop_mapped g asks items n place rest
+part_mapped g asks items (expr_parts.Tpl n) place rest = tpl_mapped g asks items n place rest
 part_mapped g asks items (expr_parts.OptCall n) place rest = chain_call_mapped g asks items n place rest
 part_mapped g asks items (expr_parts.AssignTarget n) place rest = target_mapped g asks items n place rest
-part_mapped g asks items n place rest = refl
 
 stmt_part_mapped : {X Y : Type 0} (g : X → Y) (asks : Y → Answers) (items : Y → Place → Part) (n : StmtPart X) (place : Place) (rest : Plan) → node_items asks items (map-AnyNode X Y g (nodes.StmtPart n)) place rest ≡ stmt_part (λ x. asks (g x)) (λ x. items (g x)) n place rest
 unfolding node_items stmt_part unsupported refuse
 stmt_part_mapped g asks items (stmt_parts.Function n) place rest = function_mapped g asks items n place rest
+stmt_part_mapped g asks items (stmt_parts.Class n) place rest = class_mapped g asks items n place rest
+stmt_part_mapped g asks items (stmt_parts.ClassMember n) place rest = class_member_mapped g asks items n place rest
 stmt_part_mapped g asks items (stmt_parts.BlockStmt n) place rest = block_mapped g asks items n place rest
 stmt_part_mapped g asks items (stmt_parts.Decl n) place rest = decl_mapped g asks items n place rest
 stmt_part_mapped g asks items (stmt_parts.VarDecl n) place rest = var_decl_mapped g asks items n place rest
-stmt_part_mapped g asks items n place rest = refl
+stmt_part_mapped g asks items (stmt_parts.ModuleItem n) place rest = module_item_mapped g asks items n place rest
+stmt_part_mapped g asks items (stmt_parts.ModuleDecl n) place rest = module_decl_mapped g asks items n place rest
 
 node_mapped : {X Y : Type 0} (g : X → Y) (asks : Y → Answers) (items : Y → Place → Part) (n : AnyNode-F X) (place : Place) (rest : Plan) → node_items asks items (map-AnyNode X Y g n) place rest ≡ node_items (λ x. asks (g x)) (λ x. items (g x)) n place rest
 unfolding node_items

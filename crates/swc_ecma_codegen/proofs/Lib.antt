@@ -4,6 +4,8 @@ pub mod PatternLaws
 pub mod BranchLaws
 pub mod PatKnots
 pub mod FunctionKnots
+pub mod ClassKnots
+pub mod ModuleKnots
 pub mod DeclKnots
 pub mod StmtKnots
 pub mod PropKnots
@@ -16,7 +18,9 @@ pub mod MarkWords
 pub mod Impossible
 pub mod FunctionParts
 pub mod CallKnots
+pub mod TemplateKnots
 pub mod CallParts
+pub mod TemplateParts
 pub mod ExprParts
 pub mod NameParts
 pub mod PatParts
@@ -24,12 +28,12 @@ pub mod BlockParts
 pub mod PropParts
 pub mod TargetParts
 pub mod PartLaws
+pub mod ClassParts
+pub mod ModuleParts
 pub mod DeclParts
 pub mod LoopParts
 pub mod StmtParts
 pub mod TreeLaw
 pub mod TreeReads
-pub mod LinkLaws
 pub mod TreeMade
-pub mod FirstTokens
 pub mod OperatorLaws

@@ -2,7 +2,7 @@
 use Rattle.std.proofs.Common.{◌≡◌, false, cond}
 use Rattle.swc_ecma_codegen_ast.specs.Phrases.{Phrase, Never}
 use Rattle.swc_ecma_codegen_ast.specs.declared.roles.Role.{Role}
-use Rattle.swc_ecma_codegen_ast.specs.declared.roles.Role.TheVariants.{Expression, Statement, Pattern, PlainParameter, PropertyName, Block, Declaration, VariableDeclaration}
+use Rattle.swc_ecma_codegen_ast.specs.declared.roles.Role.TheVariants.{Expression, Statement, Pattern, PlainParameter, PropertyName, Block, Declaration, VariableDeclaration, MethodHead, ClassHead, MethodDecorators, Member, ExportedHead, Item, ModuleDeclaration}
 use Rattle.swc_ecma_codegen_tree.specs.declared.expr_links.ExprBox.{ExprBox}
 use Rattle.swc_ecma_codegen_tree.specs.declared.expr_links.PatBox.{PatBox}
 use Rattle.swc_ecma_codegen_tree.specs.declared.expr_links.PropNameBox.{PropNameBox}
@@ -11,12 +11,28 @@ use Rattle.swc_ecma_codegen_tree.specs.declared.stmt_links.DeclBox.{DeclBox}
 use Rattle.swc_ecma_codegen_tree.specs.declared.stmt_links.StmtBox.{StmtBox}
 use Rattle.swc_ecma_codegen_tree.specs.declared.stmt_links.VarDeclBox.{VarDeclBox}
 use Rattle.swc_ecma_codegen_base.specs.Run.{Env, Part}
-use Rattle.swc_ecma_codegen_base.proofs.Phrased.{Prints}
+use Rattle.swc_ecma_codegen_base.proofs.Phrased.{Prints, PrintsAt}
 use Rattle.swc_ecma_codegen.specs.declared.nodes.Place.{Place}
 use Rattle.swc_ecma_codegen.specs.declared.nodes.Place.TheVariants.{Plain}
 use Rattle.swc_ecma_codegen.specs.Answers.{Answers}
 use Rattle.swc_ecma_codegen.specs.Functions.{is_plain}
 use Rattle.swc_ecma_codegen.specs.Places.{placed}
+use Rattle.swc_ecma_codegen_base.proofs.Shapes.{Shape, whole, closed, ended, ended_if_any, joining_if_any}
+
+-- A statement may end with the end of its line, as an item of a module does, and declarations of variables with a list; decorators
+-- stand on lines of their own, where there are some; of a method there may be `async` before its name, on the line of that name, or
+-- nothing. All else begins and ends with a token.
+abbrev pub role_shape : Role → Shape
+role_shape Statement = ended
+role_shape VariableDeclaration = ended
+role_shape Item = ended
+role_shape ModuleDeclaration = ended
+role_shape ClassHead = ended_if_any
+role_shape ExportedHead = ended_if_any
+role_shape MethodDecorators = ended_if_any
+role_shape MethodHead = joining_if_any
+role_shape Member = closed
+role_shape role = whole
 
 -- What it answers, what is written of it, and what it reads as, in each role; that it is said to be a name alone where it may stand
 -- without parentheses; and that what is written is what it reads as.
@@ -27,12 +43,12 @@ pub record Linked (X : Type 0) : Type 0 where
   pub items : X → Place → Part
   pub reads : X → Role → Phrase
   pub plain : (x : X) → reads x PlainParameter ≡ cond (is_plain (asks x).pattern) (reads x Pattern) Never
-  pub law : (x : X) (place : Place) (role : Role) → Prints env (items x (placed role place)) (reads x role)
+  pub law : (x : X) (place : Place) (role : Role) → PrintsAt (role_shape role) env (items x (placed role place)) (reads x role)
 
 pub expr_at : {X : Type 0} (l : Linked X) (n : ExprBox X) (place : Place) → Prints l.env (l.items n.node.value (placed Expression place)) (l.reads n.node.value Expression)
 expr_at l n place = l.law n.node.value place Expression
 
-pub stmt_at : {X : Type 0} (l : Linked X) (n : StmtBox X) → Prints l.env (l.items n.node.value Plain) (l.reads n.node.value Statement)
+pub stmt_at : {X : Type 0} (l : Linked X) (n : StmtBox X) → PrintsAt ended l.env (l.items n.node.value Plain) (l.reads n.node.value Statement)
 stmt_at l n = l.law n.node.value Plain Statement
 
 pub pat_at : {X : Type 0} (l : Linked X) (n : PatBox X) → Prints l.env (l.items n.node.value Plain) (l.reads n.node.value Pattern)
@@ -44,8 +60,8 @@ prop_name_at l n = l.law n.node.value Plain PropertyName
 pub block_at : {X : Type 0} (l : Linked X) (n : BlockStmtBox X) (place : Place) → Prints l.env (l.items n.node.value place) (l.reads n.node.value Block)
 block_at l n place = l.law n.node.value place Block
 
-pub decl_at : {X : Type 0} (l : Linked X) (n : DeclBox X) (place : Place) → Prints l.env (l.items n.node.value place) (l.reads n.node.value Declaration)
+pub decl_at : {X : Type 0} (l : Linked X) (n : DeclBox X) (place : Place) → Prints l.env (l.items n.node.value (placed Declaration place)) (l.reads n.node.value Declaration)
 decl_at l n place = l.law n.node.value place Declaration
 
-pub var_decl_at : {X : Type 0} (l : Linked X) (n : VarDeclBox X) → Prints l.env (l.items n.node.value Plain) (l.reads n.node.value VariableDeclaration)
+pub var_decl_at : {X : Type 0} (l : Linked X) (n : VarDeclBox X) → PrintsAt ended l.env (l.items n.node.value Plain) (l.reads n.node.value VariableDeclaration)
 var_decl_at l n = l.law n.node.value Plain VariableDeclaration

@@ -170,3 +170,51 @@ while_word = record { utf8 = refl; ascii = refl; shape = refl }
 pub with_word : IsWord (codes "with")
 unfolding is_word is_start is_part is_letter is_digit all_part chars is_utf8 lib.Utf8.encode
 with_word = record { utf8 = refl; ascii = refl; shape = refl }
+
+pub class_word : IsWord (codes "class")
+unfolding is_word is_start is_part is_letter is_digit all_part chars is_utf8 lib.Utf8.encode
+class_word = record { utf8 = refl; ascii = refl; shape = refl }
+
+pub extends_word : IsWord (codes "extends")
+unfolding is_word is_start is_part is_letter is_digit all_part chars is_utf8 lib.Utf8.encode
+extends_word = record { utf8 = refl; ascii = refl; shape = refl }
+
+pub constructor_word : IsWord (codes "constructor")
+unfolding is_word is_start is_part is_letter is_digit all_part chars is_utf8 lib.Utf8.encode
+constructor_word = record { utf8 = refl; ascii = refl; shape = refl }
+
+pub static_word : IsWord (codes "static")
+unfolding is_word is_start is_part is_letter is_digit all_part chars is_utf8 lib.Utf8.encode
+static_word = record { utf8 = refl; ascii = refl; shape = refl }
+
+pub accessor_word : IsWord (codes "accessor")
+unfolding is_word is_start is_part is_letter is_digit all_part chars is_utf8 lib.Utf8.encode
+accessor_word = record { utf8 = refl; ascii = refl; shape = refl }
+
+pub import_word : IsWord (codes "import")
+unfolding is_word is_start is_part is_letter is_digit all_part chars is_utf8 lib.Utf8.encode
+import_word = record { utf8 = refl; ascii = refl; shape = refl }
+
+pub export_word : IsWord (codes "export")
+unfolding is_word is_start is_part is_letter is_digit all_part chars is_utf8 lib.Utf8.encode
+export_word = record { utf8 = refl; ascii = refl; shape = refl }
+
+pub from_word : IsWord (codes "from")
+unfolding is_word is_start is_part is_letter is_digit all_part chars is_utf8 lib.Utf8.encode
+from_word = record { utf8 = refl; ascii = refl; shape = refl }
+
+pub as_word : IsWord (codes "as")
+unfolding is_word is_start is_part is_letter is_digit all_part chars is_utf8 lib.Utf8.encode
+as_word = record { utf8 = refl; ascii = refl; shape = refl }
+
+pub source_word : IsWord (codes "source")
+unfolding is_word is_start is_part is_letter is_digit all_part chars is_utf8 lib.Utf8.encode
+source_word = record { utf8 = refl; ascii = refl; shape = refl }
+
+pub defer_word : IsWord (codes "defer")
+unfolding is_word is_start is_part is_letter is_digit all_part chars is_utf8 lib.Utf8.encode
+defer_word = record { utf8 = refl; ascii = refl; shape = refl }
+
+pub comma : IsMark (codes ",")
+unfolding is_punctuator is_among is_same punctuators chars is_utf8 lib.Utf8.encode
+comma = record { utf8 = refl; ascii = refl; shape = refl }

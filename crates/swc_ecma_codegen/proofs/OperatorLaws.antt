@@ -1,5 +1,5 @@
 -- Operators, by the punctuator or the word that they are.
-use Rattle.std.proofs.Common.{◌≡◌, ℕ, true, false, cond, List, Result, None, sym, subst, ap}
+use Rattle.std.proofs.Common.{◌≡◌, ℕ, true, false, cond, List, Result, None, sym, subst}
 use Rattle.swc_ecma_codegen_common.specs.declared.errors.Refusal.{Refusal}
 use Rattle.swc_ecma_codegen_common.specs.declared.operators.UnaryOp.{UnaryOp}
 use Rattle.swc_ecma_codegen_common.specs.declared.operators.BinaryOp.{BinaryOp}

@@ -1,7 +1,7 @@
 -- What is written of patterns sees what links hold through `asks` and `items` alone.
-use Rattle.std.proofs.Common.{◌≡◌, refl, sym, ◌∙◌, ap, ℕ, List, [], ◌∷◌, map, codes, Bool, true, false, cond, ◌||◌, is_some, Option, Some, None}
+use Rattle.std.proofs.Common.{◌≡◌, refl, ◌∙◌, ap, ℕ, List, map, codes, Bool, true, false, Option, Some, None}
 use Rattle.swc_ecma_codegen_common.specs.declared.positions.Span.{Span}
-use Rattle.swc_ecma_codegen_tree.specs.declared.links.AnyNode.{AnyNode, map-AnyNode}
+use Rattle.swc_ecma_codegen_tree.specs.declared.links.AnyNode.{map-AnyNode}
 use Rattle.swc_ecma_codegen_tree.specs.declared.links.AnyNode.TheOpen as nodes
 use Rattle.swc_ecma_codegen_tree.specs.declared.expr_links.PatBox.{PatBox}
 use Rattle.swc_ecma_codegen_tree.specs.declared.ts_links.TsTypeAnnBox.{TsTypeAnnBox}

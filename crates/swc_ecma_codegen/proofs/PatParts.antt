@@ -1,6 +1,5 @@
 -- What is written of patterns is what it reads as.
-use Rattle.std.proofs.Common.{◌≡◌, refl, ap, ℕ, Bool, true, false, cond, ◌||◌, ◌==◌, is_some, List, [], ◌∷◌, map, codes, Option, Some, None, inl, inr}
-use Rattle.std.proofs.lemmas.Bool.{cases_Bool}
+use Rattle.std.proofs.Common.{◌≡◌, refl, Bool, true, false, cond, ◌||◌, is_some, List, [], ◌∷◌, map, codes, Option, Some, None}
 use Rattle.swc_ecma_codegen_common.specs.declared.positions.Span.{Span}
 use Rattle.swc_ecma_codegen_tree.specs.declared.expr_links.ExprBox.{ExprBox}
 use Rattle.swc_ecma_codegen_tree.specs.declared.expr_links.PatBox.{PatBox}
@@ -25,7 +24,7 @@ use Rattle.swc_ecma_codegen_base.specs.Run.{Env, Part}
 use Rattle.swc_ecma_codegen_base.specs.Lists.{list, list_closing}
 use Rattle.swc_ecma_codegen_base.specs.Words.{punct, position}
 use Rattle.swc_ecma_codegen_base.proofs.ListLaws.{children_of, writes_no_list, prints_some, prints_forced_closing, prints_optional_closing}
-use Rattle.swc_ecma_codegen_base.proofs.Phrased.{Prints, then, after, before, prints_nothing, prints_never, prints_punct, prints_placed_punct}
+use Rattle.swc_ecma_codegen_base.proofs.Phrased.{Prints, then, after, before, prints_nothing, prints_never, prints_punct, prints_placed_punct, PrintsAt, prints_wider, loosened}
 use Rattle.swc_ecma_codegen_base.proofs.Printed.{writes_formatting_space, writes_position, writes_leading, writes_trailing}
 use Rattle.swc_ecma_codegen.specs.declared.nodes.Place.TheVariants.{Plain}
 use Rattle.swc_ecma_codegen.specs.Answers.{place_of}
@@ -37,21 +36,22 @@ use Rattle.swc_ecma_codegen.proofs.Impossible.{refused_or}
 use Rattle.swc_ecma_codegen.proofs.Linked.{Linked, expr_at, pat_at, prop_name_at}
 use Rattle.swc_ecma_codegen.proofs.MarkWords as marks
 use Rattle.swc_ecma_codegen.proofs.NameParts.{binding_ident_prints}
+use Rattle.swc_ecma_codegen_base.proofs.Shapes.{open_, loose, closed}
 
-pub initializer_prints : {X : Type 0} (l : Linked X) (n : Option (ExprBox X)) → Prints l.env (words.initializer l.items n) (lists.initializer l.reads n)
+pub initializer_prints : {X : Type 0} (l : Linked X) (n : Option (ExprBox X)) → PrintsAt open_ l.env (words.initializer l.items n) (lists.initializer l.reads n)
 unfolding words.initializer lists.initializer
 initializer_prints l None = prints_nothing
-initializer_prints l (Some n) = then (spaced_prints l.env (codes "=") marks.equal) (expr_at l n Plain)
+initializer_prints l (Some n) = prints_wider open_ refl (then (spaced_prints l.env (codes "=") marks.equal) (expr_at l n Plain))
 
 -- ---- arrays
 
-element_prints : {X : Type 0} (l : Linked X) (n : Option (PatBox X)) → Prints l.env (if_some_at (pat_items l.items) n Plain) (element (lists.pat_at l.reads) n)
+element_prints : {X : Type 0} (l : Linked X) (n : Option (PatBox X)) → PrintsAt open_ l.env (if_some_at (pat_items l.items) n Plain) (element (lists.pat_at l.reads) n)
 unfolding if_some_at element
 element_prints l None = prints_nothing
-element_prints l (Some n) = pat_at l n
+element_prints l (Some n) = prints_wider open_ refl (pat_at l n)
 
 -- a comma after a hole that is last, or an optional one
-end_prints : (env : Env) (hole : Bool) (parent last : Span) → Prints env (list_closing (array_pat_format hole) parent last) (cond hole (mark (codes ",")) OptionalComma)
+end_prints : (env : Env) (hole : Bool) (parent last : Span) → PrintsAt loose env (list_closing (array_pat_format hole) parent last) (cond hole (mark (codes ",")) OptionalComma)
 end_prints env true parent last = prints_forced_closing env (array_pat_format true) parent last refl refl refl
 end_prints env false parent last = prints_optional_closing env (array_pat_format false) parent last refl refl
 
@@ -66,13 +66,13 @@ is_flat false = refl
 abbrev elements_list : {X : Type 0} → Linked X → Span → List (Option (PatBox X)) → Part
 elements_list l parent xs = list (array_pat_format (last_is_hole xs)) parent (children_of (option_span (pat_place l.asks)) (λ o. if_some_at (pat_items l.items) o Plain) xs)
 
-elements_prints : {X : Type 0} (l : Linked X) (parent : Span) (close : Part) (after_list : Phrase) → Prints l.env close after_list → (xs : List (Option (PatBox X))) → Prints l.env (λ rest. elements_list l parent xs (close rest)) (phrases.listed (codes ",") (map (element (lists.pat_at l.reads)) xs) > elements_end xs (trailing_comma xs) > after_list)
+elements_prints : {X : Type 0} (l : Linked X) (parent : Span) (close : Part) (after_list : Phrase) → Prints l.env close after_list → (xs : List (Option (PatBox X))) → PrintsAt closed l.env (λ rest. elements_list l parent xs (close rest)) (phrases.listed (codes ",") (map (element (lists.pat_at l.reads)) xs) > elements_end xs (trailing_comma xs) > after_list)
 unfolding phrases.listed elements_end trailing_comma last_is_hole
 elements_prints l parent close after_list closed [] = after (writes_no_list l.env (array_pat_format false) parent) (then prints_nothing (then prints_nothing closed))
 elements_prints l parent close after_list closed (x ∷ xs) =
     let hole : Bool = last_is_hole (x ∷ xs) in
     prints_some l.env (array_pat_format hole) parent (option_span (pat_place l.asks)) (λ o. if_some_at (pat_items l.items) o Plain) (element (lists.pat_at l.reads)) (cond hole (mark (codes ",")) OptionalComma) after_list close
-    (element_prints l) (is_list hole) (is_flat hole) (end_prints l.env hole parent) closed x xs
+    (λ n. prints_wider loose refl (element_prints l n)) (is_list hole) (is_flat hole) (end_prints l.env hole parent) closed x xs
 
 array_parts_prints : {X : Type 0} (l : Linked X) (n : ArrayPat X) → Prints l.env (words.array_pat_parts l.asks l.items n) (mark (codes "[") > phrases.listed (codes ",") (map (element (lists.pat_at l.reads)) n.elems.items) > elements_end n.elems.items (trailing_comma n.elems.items) > mark (codes "]"))
 unfolding words.array_pat_parts
@@ -127,12 +127,12 @@ prop_prints l (pat_props.Rest n) = rest_pat_prints l n
 abbrev props_list : {X : Type 0} → Linked X → Span → List (ObjectPatProp X) → Part
 props_list l parent xs = list object_pat_format parent (children_of (object_pat_prop_span (place_of l.asks)) (words.object_pat_prop l.asks l.items) xs)
 
-props_prints : {X : Type 0} (l : Linked X) (parent : Span) (close : Part) (after_list : Phrase) → Prints l.env close after_list → (xs : List (ObjectPatProp X)) → Prints l.env (λ rest. props_list l parent xs (close rest)) (phrases.listed (codes ",") (map (lists.object_pat_prop l.reads) xs) > trailing_comma xs > after_list)
+props_prints : {X : Type 0} (l : Linked X) (parent : Span) (close : Part) (after_list : Phrase) → Prints l.env close after_list → (xs : List (ObjectPatProp X)) → PrintsAt closed l.env (λ rest. props_list l parent xs (close rest)) (phrases.listed (codes ",") (map (lists.object_pat_prop l.reads) xs) > trailing_comma xs > after_list)
 unfolding phrases.listed trailing_comma
 props_prints l parent close after_list closed [] = after (writes_no_list l.env object_pat_format parent) (then prints_nothing (then prints_nothing closed))
 props_prints l parent close after_list closed (x ∷ xs) =
     prints_some l.env object_pat_format parent (object_pat_prop_span (place_of l.asks)) (words.object_pat_prop l.asks l.items) (lists.object_pat_prop l.reads) OptionalComma after_list close
-    (prop_prints l) refl refl (λ last. prints_optional_closing l.env object_pat_format parent last refl refl) closed x xs
+    (λ n. loosened (prop_prints l n)) refl refl (λ last. prints_optional_closing l.env object_pat_format parent last refl refl) closed x xs
 
 object_parts_prints : {X : Type 0} (l : Linked X) (n : ObjectPat X) → Prints l.env (words.object_pat_parts l.asks l.items n) (mark (codes "{") > phrases.listed (codes ",") (map (lists.object_pat_prop l.reads) n.props.items) > trailing_comma n.props.items > mark (codes "}"))
 unfolding words.object_pat_parts

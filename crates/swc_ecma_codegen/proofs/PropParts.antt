@@ -1,5 +1,5 @@
 -- What is written of objects and their properties is what it reads as.
-use Rattle.std.proofs.Common.{◌≡◌, refl, ℕ, Bool, true, false, cond, ◌==◌, is_some, List, [], ◌∷◌, map, codes, string_bytes, Option, Some, None, inl, inr}
+use Rattle.std.proofs.Common.{refl, ℕ, Bool, true, false, cond, ◌==◌, is_some, List, [], map, codes, string_bytes, Option, Some, None, inl, inr}
 use Rattle.std.proofs.lemmas.Bool.{cases_Bool}
 use Rattle.swc_ecma_codegen_common.specs.declared.positions.Span.{Span}
 use Rattle.swc_ecma_codegen_tree.specs.declared.expr_links.PropNameBox.{PropNameBox}
@@ -32,8 +32,8 @@ use Rattle.swc_ecma_codegen_base.proofs.Emitting.{minified_same, pretty_same}
 use Rattle.swc_ecma_codegen_base.proofs.KeyPrints.{prints_key}
 use Rattle.swc_ecma_codegen_base.proofs.ListLaws.{children_of, prints_list, prints_bracketed}
 use Rattle.swc_ecma_codegen_base.proofs.NumberPrints.{prints_number}
-use Rattle.swc_ecma_codegen_base.proofs.Phrased.{Prints, then, after, before, prints_nothing, prints_same, prints_keyword, prints_punct}
-use Rattle.swc_ecma_codegen_base.proofs.Printed.{Writes, writes_if, writes_nothing, writes_formatting_space, writes_line, writes_position, writes_position_before}
+use Rattle.swc_ecma_codegen_base.proofs.Phrased.{Prints, then, after, before, prints_nothing, prints_same, prints_keyword, prints_punct, PrintsAt, prints_wider, loosened}
+use Rattle.swc_ecma_codegen_base.proofs.Printed.{writes_if, writes_nothing, writes_formatting_space, writes_line, writes_position, writes_position_before, Fills}
 use Rattle.swc_ecma_codegen_base.proofs.StringPrints.{prints_str}
 use Rattle.swc_ecma_codegen.specs.declared.nodes.Place.TheVariants.{Plain}
 use Rattle.swc_ecma_codegen.specs.Answers.{place_of}
@@ -44,6 +44,7 @@ use Rattle.swc_ecma_codegen.proofs.ExprParts.{ident_prints, computed_prints, spr
 use Rattle.swc_ecma_codegen.proofs.Impossible.{refused_or}
 use Rattle.swc_ecma_codegen.proofs.Linked.{Linked, expr_at, pat_at, prop_name_at, block_at}
 use Rattle.swc_ecma_codegen.proofs.MarkWords as marks
+use Rattle.swc_ecma_codegen_base.proofs.Shapes.{open_}
 
 pub prop_name_prints : {X : Type 0} (l : Linked X) (n : PropName X) → Prints l.env (words.prop_name l.items n) (lists.prop_name l.reads n)
 unfolding words.prop_name lists.prop_name
@@ -55,11 +56,11 @@ prop_name_prints l (prop_names.Computed n) = computed_prints l n
 
 -- ---- properties
 
-writes_key_end : (env : Env) (key value : Span) → Writes env (words.key_end key value) []
+writes_key_end : (env : Env) (key value : Span) → Fills env (words.key_end key value)
 unfolding words.key_end
 writes_key_end env key value = writes_if env (key.lo.0 == 0) (λ rest. rest) (λ rest. cond (value.lo.0 == 0) (position key.hi rest) rest) [] (writes_nothing env) (writes_if env (value.lo.0 == 0) (position key.hi) (λ rest. rest) [] (writes_position env key.hi) (writes_nothing env))
 
-writes_value_start : (env : Env) (key value : Span) → Writes env (words.value_start key value) []
+writes_value_start : (env : Env) (key value : Span) → Fills env (words.value_start key value)
 unfolding words.value_start
 writes_value_start env key value = writes_if env (key.lo.0 == 0) (position value.lo) (λ rest. rest) [] (writes_position env value.lo) (writes_nothing env)
 
@@ -82,10 +83,10 @@ accessor_prints : {X : Type 0} (l : Linked X) (t : List ℕ) (n : PropNameBox X)
 unfolding words.accessor
 accessor_prints l t n w = then (before (prints_keyword l.env None t w) (writes_blank l.env (l.asks n.node.value).starts)) (before (prop_name_at l n) (writes_formatting_space l.env))
 
-body_prints : {X : Type 0} (l : Linked X) (n : Option (BlockStmtBox X)) → Prints l.env (words.optional_body l.items n) (lists.optional_body l.reads n)
+body_prints : {X : Type 0} (l : Linked X) (n : Option (BlockStmtBox X)) → PrintsAt open_ l.env (words.optional_body l.items n) (lists.optional_body l.reads n)
 unfolding words.optional_body lists.optional_body
 body_prints l None = prints_nothing
-body_prints l (Some n) = block_at l n Plain
+body_prints l (Some n) = prints_wider open_ refl (block_at l n Plain)
 
 getter_parts_prints : {X : Type 0} (l : Linked X) (n : GetterProp X) → Prints l.env (words.getter_parts l.asks l.items n) (word (codes "get") > heads.prop_name_at l.reads n.key > mark (codes "(") > mark (codes ")") > lists.optional_body l.reads n.body)
 unfolding words.getter_parts words.accessor
@@ -152,13 +153,13 @@ closing_prints env n = after (writes_position_before env n.span.hi) (prints_punc
 flat_prints : {X : Type 0} (l : Linked X) (n : ObjectLit X) → Prints l.env (λ rest. punct (codes "{") (props_by l flat_object_format n (closing n rest))) (whole l n)
 flat_prints l n =
     then (prints_punct l.env (codes "{") marks.left_brace)
-    (then (prints_list l.env flat_object_format n.span (prop_or_spread_span (place_of l.asks)) (words.prop_or_spread l.asks l.items) (lists.prop_or_spread l.reads) (prop_or_spread_prints l) refl refl refl refl n.props.items) (closing_prints l.env n))
+    (then (prints_list l.env flat_object_format n.span (prop_or_spread_span (place_of l.asks)) (words.prop_or_spread l.asks l.items) (lists.prop_or_spread l.reads) (λ n. loosened (prop_or_spread_prints l n)) refl refl refl refl n.props.items) (closing_prints l.env n))
 
 -- over several lines
 lines_prints : {X : Type 0} (l : Linked X) (n : ObjectLit X) → Prints l.env (λ rest. punct (codes "{") (line_end (props_by l object_format n (line_end (closing n rest))))) (whole l n)
 lines_prints l n =
     prints_bracketed l.env (codes "{") marks.left_brace line_end (writes_line l.env) object_format n.span (prop_or_spread_span (place_of l.asks)) (words.prop_or_spread l.asks l.items) (lists.prop_or_spread l.reads) (mark (codes "}")) (λ rest. line_end (closing n rest))
-    (prop_or_spread_prints l) refl refl refl (after (writes_line l.env) (closing_prints l.env n)) n.props.items
+    (λ n. loosened (prop_or_spread_prints l n)) refl refl refl (after (writes_line l.env) (closing_prints l.env n)) n.props.items
 
 either_prints : {X : Type 0} (l : Linked X) (n : ObjectLit X) (some : Bool) → Prints l.env (λ rest. punct (codes "{") (words.object_lines some n.span (children_of (prop_or_spread_span (place_of l.asks)) (words.prop_or_spread l.asks l.items) n.props.items) (closing n rest))) (whole l n)
 unfolding words.object_lines words.lined_object_list

@@ -1,13 +1,11 @@
 -- The blanks before whole nodes, by their sorts.
-use Rattle.std.proofs.Common.{◌≡◌, Bool, false, refl, sym, ◌∙◌, ap}
+use Rattle.std.proofs.Common.{◌≡◌, Bool, refl, sym, ◌∙◌, ap}
 use Rattle.swc_ecma_codegen_tree.specs.declared.links.AnyNode.{AnyNode, AnyNode-F, map-AnyNode, roll-AnyNode, out-AnyNode}
 use Rattle.swc_ecma_codegen_tree.specs.declared.links.AnyNode.TheOpen as nodes
 use Rattle.swc_ecma_codegen_tree.specs.declared.links.AnyNode.TheVariants as whole
 use Rattle.swc_ecma_codegen_tree.specs.declared.links.AnyNode.TheViews.{roll-out-AnyNode}
 use Rattle.swc_ecma_codegen_tree.specs.declared.exprs.Expr.{Expr}
 use Rattle.swc_ecma_codegen_tree.specs.declared.exprs.Expr.TheVariants as exprs
-use Rattle.swc_ecma_codegen_tree.specs.declared.exprs.MemberExpr.{MemberExpr}
-use Rattle.swc_ecma_codegen_tree.specs.declared.stmts.Stmt.{Stmt}
 use Rattle.swc_ecma_codegen_tree.specs.declared.links.AnyNode.TheFolds.{para-roll-AnyNode}
 use Rattle.swc_ecma_codegen_common.specs.declared.operators.BinaryOp.{BinaryOp}
 use Rattle.swc_ecma_codegen.specs.Operands.{any_kind, expr_space, update_space, node_space, any_space}

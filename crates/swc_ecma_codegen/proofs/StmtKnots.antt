@@ -1,5 +1,5 @@
 -- What is written of statements sees what links hold through `asks` and `items` alone.
-use Rattle.std.proofs.Common.{◌≡◌, refl, ◌∙◌, ap, List, [], ◌∷◌, map, codes, Bool, true, not, Option, Some, None, Vec, Global}
+use Rattle.std.proofs.Common.{◌≡◌, refl, ◌∙◌, ap, List, [], ◌∷◌, map, codes, Bool, true, not, Option, Some, None}
 use Rattle.swc_ecma_codegen_common.specs.declared.positions.Span.{Span}
 use Rattle.swc_ecma_codegen_tree.specs.declared.links.AnyNode.{map-AnyNode}
 use Rattle.swc_ecma_codegen_tree.specs.declared.links.AnyNode.TheOpen as nodes
@@ -29,7 +29,7 @@ use Rattle.swc_ecma_codegen_ast.specs.ListFormats.{leading_line}
 use Rattle.swc_ecma_codegen_ast.specs.SourceLines.{Lines}
 use Rattle.swc_ecma_codegen_ast.proofs.Mapped.{list_mapped}
 use Rattle.swc_ecma_codegen_ast.proofs.MappedStmts.{by_init, by_test}
-use Rattle.swc_ecma_codegen_util.specs.Ends.{init_ends, declarator_ends, declarators_end, head_ends}
+use Rattle.swc_ecma_codegen_util.specs.Ends.{init_ends, declarator_ends, head_ends}
 use Rattle.swc_ecma_codegen_util.proofs.Finishes.{declarators_mapped}
 use Rattle.swc_ecma_codegen_base.specs.Lists.{ListChild, by_lines, list}
 use Rattle.swc_ecma_codegen_base.specs.Run.{Plan, Part, refuse}
@@ -40,9 +40,9 @@ use Rattle.swc_ecma_codegen.specs.Answers.{Answers}
 use Rattle.swc_ecma_codegen.specs.Branches.{is_block}
 use Rattle.swc_ecma_codegen.specs.Decls.{declarators_format, var_declarator_parts, var_declarator, await_word, using_decl}
 use Rattle.swc_ecma_codegen.specs.Exprs.{opened}
-use Rattle.swc_ecma_codegen.specs.Lists.{child_of, unsupported}
+use Rattle.swc_ecma_codegen.specs.Lists.{unsupported}
 use Rattle.swc_ecma_codegen.specs.Pats.{initializer}
-use Rattle.swc_ecma_codegen.specs.Stmts.{enclosed, spaced, stmt_word, empty_stmt, expr_stmt, debugger_stmt, with_stmt, return_arg, return_stmt, labeled_stmt, break_stmt, continue_stmt, else_branch, if_stmt, catch_param, catch_clause, handler, finalizer, try_stmt, throw_stmt, lines_format, cases_format, case_test, is_single, case_list, switch_case, case_place, switch_cases, switch_stmt, while_stmt, loop_test, do_while_stmt, var_decl_or_expr, for_init, for_value, for_clause, for_control, for_stmt, for_head, for_right, for_each, for_in_stmt, for_await, for_of_stmt, stmt_parts, stmt_closed, stmt}
+use Rattle.swc_ecma_codegen.specs.Stmts.{enclosed, spaced, stmt_word, empty_stmt, expr_stmt, debugger_stmt, with_stmt, return_arg, return_stmt, labeled_stmt, break_stmt, continue_stmt, else_branch, if_stmt, catch_param, catch_clause, handler, finalizer, try_stmt, throw_stmt, lines_format, cases_format, case_test, is_single, case_list, switch_case, switch_cases, switch_stmt, while_stmt, loop_test, do_while_stmt, var_decl_or_expr, for_init, for_value, for_clause, for_control, for_stmt, for_head, for_right, for_each, for_in_stmt, for_await, for_of_stmt, stmt_parts, stmt_closed, stmt}
 use Rattle.swc_ecma_codegen.specs.Tree.{node_items}
 use Rattle.swc_ecma_codegen.proofs.DeclKnots.{declarator_child}
 use Rattle.swc_ecma_codegen.proofs.PatKnots.{children_mapped}

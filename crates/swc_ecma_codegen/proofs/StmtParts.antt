@@ -1,11 +1,12 @@
 -- What is written of each statement and program is what it reads as.
-use Rattle.std.proofs.Common.{ℕ, Bool, true, false, cond, is_some, List, [], ◌∷◌, map, codes, refl, inl, inr, Option, Some, None}
+use Rattle.std.proofs.Common.{ℕ, Bool, true, false, cond, is_some, List, [], ◌∷◌, map, codes, string_bytes, refl, inl, inr, Option, Some, None}
 use Rattle.std.proofs.lemmas.Bool.{cases_Bool}
 use Rattle.swc_ecma_codegen_common.specs.declared.positions.Span.{Span}
 use Rattle.swc_ecma_codegen_tree.specs.declared.expr_links.ExprBox.{ExprBox}
 use Rattle.swc_ecma_codegen_tree.specs.declared.expr_links.PatBox.{PatBox}
 use Rattle.swc_ecma_codegen_tree.specs.declared.stmt_links.BlockStmtBox.{BlockStmtBox}
 use Rattle.swc_ecma_codegen_tree.specs.declared.stmt_links.StmtBox.{StmtBox}
+use Rattle.swc_ecma_codegen_tree.specs.declared.idents.Ident.{Ident}
 use Rattle.swc_ecma_codegen_tree.specs.declared.stmts.BreakStmt.{BreakStmt}
 use Rattle.swc_ecma_codegen_tree.specs.declared.stmts.CatchClause.{CatchClause}
 use Rattle.swc_ecma_codegen_tree.specs.declared.stmts.ContinueStmt.{ContinueStmt}
@@ -22,16 +23,19 @@ use Rattle.swc_ecma_codegen_tree.specs.declared.stmts.TryStmt.{TryStmt}
 use Rattle.swc_ecma_codegen_tree.specs.declared.stmts.WithStmt.{WithStmt}
 use Rattle.swc_ecma_codegen_tree.specs.declared.programs.Program.{Program}
 use Rattle.swc_ecma_codegen_tree.specs.declared.programs.Program.TheVariants as program_variants
+use Rattle.swc_ecma_codegen_tree.specs.declared.programs.Module.{Module}
 use Rattle.swc_ecma_codegen_tree.specs.declared.programs.Script.{Script}
 use Rattle.swc_ecma_codegen_spans.specs.Spans.{stmt_span}
-use Rattle.swc_ecma_codegen_ast.specs.Phrases.{Never, in_order}
+use Rattle.swc_ecma_codegen_ast.specs.Phrases.{Never, in_order, ◌>◌, word}
 use Rattle.swc_ecma_codegen_ast.specs.StmtPhrases as lists
+use Rattle.swc_ecma_codegen_ast.specs.NamePhrases as names
 use Rattle.swc_ecma_codegen_base.specs.Lists.{blank_if}
 use Rattle.swc_ecma_codegen_base.specs.Run.{Env}
-use Rattle.swc_ecma_codegen_base.specs.Words.{formatting_space, formatting_line, commit_pending_semi, trailing_comments}
+use Rattle.swc_ecma_codegen_base.specs.Words.{formatting_space, formatting_line, commit_pending_semi, trailing_comments, semi}
 use Rattle.swc_ecma_codegen_base.proofs.Choices.{prints_bare}
-use Rattle.swc_ecma_codegen_base.proofs.Phrased.{Prints, then, after, before, prints_nothing, prints_never, prints_keyword, prints_punct, prints_semi}
-use Rattle.swc_ecma_codegen_base.proofs.Printed.{Writes, writes_then, writes_same, writes_if, writes_nothing, writes_formatting_space, writes_formatting_line, writes_commit, writes_position, writes_leading, writes_trailing}
+use Rattle.swc_ecma_codegen_base.proofs.Phrased.{Prints, then, after, before, prints_nothing, prints_never, prints_keyword, prints_punct, prints_semi, PrintsAt, prints_wider, joined_then, prints_ident}
+use Rattle.swc_ecma_codegen_base.proofs.Printed.{Writes, writes_then, writes_same, writes_if, writes_nothing, writes_formatting_space, writes_formatting_line, writes_commit, writes_position, writes_leading, writes_trailing, Fills, makes_wider, EndsLines, writes_space}
+use Rattle.swc_ecma_codegen_ast.specs.declared.roles.Role.TheVariants.{Item}
 use Rattle.swc_ecma_codegen.specs.declared.nodes.Place.TheVariants.{Plain, Statement}
 use Rattle.swc_ecma_codegen.specs.Answers.{place_of}
 use Rattle.swc_ecma_codegen.specs.Branches.{is_block}
@@ -41,10 +45,14 @@ use Rattle.swc_ecma_codegen.specs.Programs as programs
 use Rattle.swc_ecma_codegen.proofs.Asked.{kept_same, committed_same}
 use Rattle.swc_ecma_codegen.proofs.ExprParts.{writes_opened, ident_prints}
 use Rattle.swc_ecma_codegen.proofs.FunctionParts.{name_prints}
+use Rattle.swc_ecma_codegen.proofs.Impossible.{refused_or}
 use Rattle.swc_ecma_codegen.proofs.Linked.{Linked, expr_at, stmt_at, pat_at, block_at, decl_at}
 use Rattle.swc_ecma_codegen.proofs.ListParts.{in_order_prints}
-use Rattle.swc_ecma_codegen.proofs.LoopParts.{begun, enclosed_then, spaced_expr, spaced_stmt, switch_prints, while_prints, do_while_prints, for_prints, for_in_prints, for_of_prints}
+use Rattle.swc_ecma_codegen.proofs.LoopParts.{begun, begun_joined, enclosed_then, spaced_expr, spaced_stmt, switch_prints, while_prints, do_while_prints, for_prints, for_in_prints, for_of_prints}
 use Rattle.swc_ecma_codegen.proofs.MarkWords as marks
+use Rattle.swc_ecma_codegen_base.proofs.Shapes.{open_, ended, loose}
+use Rattle.swc_ecma_codegen.specs.Functions.{optional_name}
+use Rattle.swc_ecma_codegen_base.specs.Written.{IsWord}
 
 -- ---- statements
 
@@ -60,7 +68,7 @@ debugger_prints : (env : Env) (n : DebuggerStmt) → Prints env (words.debugger_
 unfolding words.debugger_stmt lists.debugger_stmt
 debugger_prints env n = after (writes_commit env) (after (writes_leading env n.span.lo) (then (prints_keyword env (Some n.span) (codes "debugger") marks.debugger_word) (prints_semi env)))
 
-with_prints : {X : Type 0} (l : Linked X) (n : WithStmt X) → Prints l.env (words.with_stmt l.items n) (lists.with_stmt l.reads n)
+with_prints : {X : Type 0} (l : Linked X) (n : WithStmt X) → PrintsAt ended l.env (words.with_stmt l.items n) (lists.with_stmt l.reads n)
 unfolding words.with_stmt lists.with_stmt
 with_prints l n =
     after (writes_commit l.env)
@@ -68,16 +76,16 @@ with_prints l n =
     (then (prints_keyword l.env None (codes "with") marks.with_word)
     (after (writes_formatting_space l.env) (enclosed_then l n.obj (stmt_at l n.body)))))
 
-return_arg_prints : {X : Type 0} (l : Linked X) (n : Option (ExprBox X)) → Prints l.env (words.return_arg l.asks l.items n) (lists.return_arg l.reads n)
-unfolding words.return_arg lists.return_arg
-return_arg_prints l None = prints_nothing
-return_arg_prints l (Some n) = prints_bare (spaced_expr l n)
+return_by : {X : Type 0} (l : Linked X) (span : Span) (arg : Option (ExprBox X)) → Prints l.env (λ rest. words.stmt_word span (codes "return") (words.return_arg l.asks l.items arg (semi rest))) (word (codes "return") > lists.return_rest l.reads arg)
+unfolding words.return_arg lists.return_rest
+return_by l span None = begun l.env span (codes "return") marks.return_word (prints_semi l.env)
+return_by l span (Some n) = begun_joined l.env span (codes "return") marks.return_word (then (prints_bare (spaced_expr l n)) (prints_semi l.env))
 
 return_prints : {X : Type 0} (l : Linked X) (n : ReturnStmt X) → Prints l.env (words.return_stmt l.asks l.items n) (lists.return_stmt l.reads n)
 unfolding words.return_stmt lists.return_stmt
-return_prints l n = begun l.env n.span (codes "return") marks.return_word (then (return_arg_prints l n.arg) (prints_semi l.env))
+return_prints l n = return_by l n.span n.arg
 
-labeled_prints : {X : Type 0} (l : Linked X) (n : LabeledStmt X) → Prints l.env (words.labeled_stmt l.items n) (lists.labeled_stmt l.reads n)
+labeled_prints : {X : Type 0} (l : Linked X) (n : LabeledStmt X) → PrintsAt ended l.env (words.labeled_stmt l.items n) (lists.labeled_stmt l.reads n)
 unfolding words.labeled_stmt lists.labeled_stmt
 labeled_prints l n =
     after (writes_commit l.env)
@@ -85,26 +93,32 @@ labeled_prints l n =
     (then (prints_punct l.env (codes ":") marks.colon)
     (after (writes_formatting_space l.env) (stmt_at l n.body))))
 
+-- `break` and `continue`
+jump_prints : {X : Type 0} (l : Linked X) (span : Span) (t : List ℕ) → IsWord t → (label : Option Ident) → Prints l.env (words.jump span t label) (word t > lists.jump_rest label)
+unfolding words.jump optional_name lists.jump_rest names.ident
+jump_prints l span t w None = after (writes_commit l.env) (after (writes_position l.env span.lo) (then (prints_keyword l.env None t w) (prints_semi l.env)))
+jump_prints l span t w (Some n) = after (writes_commit l.env) (after (writes_position l.env span.lo) (joined_then l.env None t w (after (writes_space l.env) (then (prints_ident l.env n.span (string_bytes n.sym) n.optional l.leaves_out) (prints_semi l.env)))))
+
 break_prints : {X : Type 0} (l : Linked X) (n : BreakStmt) → Prints l.env (words.break_stmt n) (lists.break_stmt n)
-unfolding words.break_stmt words.jump lists.break_stmt
-break_prints l n = after (writes_commit l.env) (after (writes_position l.env n.span.lo) (then (prints_keyword l.env None (codes "break") marks.break_word) (then (name_prints l n.label) (prints_semi l.env))))
+unfolding words.break_stmt lists.break_stmt
+break_prints l n = jump_prints l n.span (codes "break") marks.break_word n.label
 
 continue_prints : {X : Type 0} (l : Linked X) (n : ContinueStmt) → Prints l.env (words.continue_stmt n) (lists.continue_stmt n)
-unfolding words.continue_stmt words.jump lists.continue_stmt
-continue_prints l n = after (writes_commit l.env) (after (writes_position l.env n.span.lo) (then (prints_keyword l.env None (codes "continue") marks.continue_word) (then (name_prints l n.label) (prints_semi l.env))))
+unfolding words.continue_stmt lists.continue_stmt
+continue_prints l n = jump_prints l n.span (codes "continue") marks.continue_word n.label
 
 -- ---- `if` and `try`
 
-writes_blank_if : (env : Env) (wanted : Bool) → Writes env (blank_if wanted) []
+writes_blank_if : (env : Env) (wanted : Bool) → Fills env (blank_if wanted)
 unfolding blank_if
 writes_blank_if env wanted = writes_if env wanted formatting_space (λ rest. rest) [] (writes_formatting_space env) (writes_nothing env)
 
-else_prints : {X : Type 0} (l : Linked X) (block : Bool) (n : Option (StmtBox X)) → Prints l.env (words.else_branch l.asks l.items block n) (lists.else_branch l.reads n)
+else_prints : {X : Type 0} (l : Linked X) (block : Bool) (n : Option (StmtBox X)) → PrintsAt loose l.env (words.else_branch l.asks l.items block n) (lists.else_branch l.reads n)
 unfolding words.else_branch lists.else_branch
-else_prints l block None = prints_nothing
-else_prints l block (Some n) = after (writes_blank_if l.env block) (then (prints_keyword l.env None (codes "else") marks.else_word) (spaced_stmt l n))
+else_prints l block None = prints_wider loose refl prints_nothing
+else_prints l block (Some n) = prints_wider loose refl (after (writes_blank_if l.env block) (then (prints_keyword l.env None (codes "else") marks.else_word) (spaced_stmt l n)))
 
-if_prints : {X : Type 0} (l : Linked X) (n : IfStmt X) → Prints l.env (words.if_stmt l.asks l.items n) (lists.if_stmt l.reads n)
+if_prints : {X : Type 0} (l : Linked X) (n : IfStmt X) → PrintsAt ended l.env (words.if_stmt l.asks l.items n) (lists.if_stmt l.reads n)
 unfolding words.if_stmt words.spaced_word lists.if_stmt
 if_prints l n =
     after (writes_leading l.env n.span.lo)
@@ -115,10 +129,10 @@ if_prints l n =
     (enclosed_then l n.test
     (after (writes_formatting_space l.env) (then (stmt_at l n.cons) (else_prints l (l.asks n.cons.node.value).block n.alt))))))))
 
-catch_param_prints : {X : Type 0} (l : Linked X) (n : Option (PatBox X)) → Prints l.env (words.catch_param l.items n) (lists.catch_param l.reads n)
+catch_param_prints : {X : Type 0} (l : Linked X) (n : Option (PatBox X)) → PrintsAt open_ l.env (words.catch_param l.items n) (lists.catch_param l.reads n)
 unfolding words.catch_param lists.catch_param
 catch_param_prints l None = prints_nothing
-catch_param_prints l (Some n) = then (prints_punct l.env (codes "(") marks.left_parenthesis) (then (pat_at l n) (prints_punct l.env (codes ")") marks.right_parenthesis))
+catch_param_prints l (Some n) = prints_wider open_ refl (then (prints_punct l.env (codes "(") marks.left_parenthesis) (then (pat_at l n) (prints_punct l.env (codes ")") marks.right_parenthesis)))
 
 catch_prints : {X : Type 0} (l : Linked X) (n : CatchClause X) → Prints l.env (words.catch_clause l.items n) (lists.catch_clause l.reads n)
 unfolding words.catch_clause lists.catch_clause
@@ -129,15 +143,15 @@ catch_prints l n =
     (then (catch_param_prints l n.param)
     (after (writes_formatting_space l.env) (block_at l n.body Plain)))))
 
-handler_prints : {X : Type 0} (l : Linked X) (n : Option (CatchClause X)) → Prints l.env (words.handler l.items n) (lists.handler l.reads n)
+handler_prints : {X : Type 0} (l : Linked X) (n : Option (CatchClause X)) → PrintsAt open_ l.env (words.handler l.items n) (lists.handler l.reads n)
 unfolding words.handler lists.handler
 handler_prints l None = prints_nothing
-handler_prints l (Some n) = after (writes_formatting_space l.env) (catch_prints l n)
+handler_prints l (Some n) = prints_wider open_ refl (after (writes_formatting_space l.env) (catch_prints l n))
 
-finalizer_prints : {X : Type 0} (l : Linked X) (n : Option (BlockStmtBox X)) → Prints l.env (words.finalizer l.items n) (lists.finalizer l.reads n)
+finalizer_prints : {X : Type 0} (l : Linked X) (n : Option (BlockStmtBox X)) → PrintsAt open_ l.env (words.finalizer l.items n) (lists.finalizer l.reads n)
 unfolding words.finalizer lists.finalizer
 finalizer_prints l None = prints_nothing
-finalizer_prints l (Some n) = after (writes_formatting_space l.env) (then (prints_keyword l.env None (codes "finally") marks.finally_word) (block_at l n Plain))
+finalizer_prints l (Some n) = prints_wider open_ refl (after (writes_formatting_space l.env) (then (prints_keyword l.env None (codes "finally") marks.finally_word) (block_at l n Plain)))
 
 try_prints : {X : Type 0} (l : Linked X) (n : TryStmt X) → Prints l.env (words.try_stmt l.items n) (lists.try_stmt l.reads n)
 unfolding words.try_stmt words.spaced_word lists.try_stmt
@@ -153,75 +167,86 @@ throw_prints : {X : Type 0} (l : Linked X) (n : ThrowStmt X) → Prints l.env (w
 unfolding words.throw_stmt lists.throw_stmt
 throw_prints l n =
     after (writes_opened l.env n.span)
-    (then (prints_keyword l.env None (codes "throw") marks.throw_word)
+    (joined_then l.env None (codes "throw") marks.throw_word
     (then (prints_bare (spaced_expr l n.arg)) (prints_semi l.env)))
 
 -- ---- all of them
 
-parts_print : {X : Type 0} (l : Linked X) (n : Stmt X) → Prints l.env (words.stmt_parts l.asks l.items n) (lists.stmt l.reads n)
+parts_print : {X : Type 0} (l : Linked X) (n : Stmt X) → PrintsAt ended l.env (words.stmt_parts l.asks l.items n) (lists.stmt l.reads n)
 unfolding words.stmt_parts lists.stmt
-parts_print l (stmts.Block n) = block_at l n Plain
-parts_print l (stmts.Empty n) = empty_prints l.env n
-parts_print l (stmts.Debugger n) = debugger_prints l.env n
+parts_print l (stmts.Block n) = prints_wider ended refl (block_at l n Plain)
+parts_print l (stmts.Empty n) = prints_wider ended refl (empty_prints l.env n)
+parts_print l (stmts.Debugger n) = prints_wider ended refl (debugger_prints l.env n)
 parts_print l (stmts.With n) = with_prints l n
-parts_print l (stmts.Return n) = return_prints l n
+parts_print l (stmts.Return n) = prints_wider ended refl (return_prints l n)
 parts_print l (stmts.Labeled n) = labeled_prints l n
-parts_print l (stmts.Break n) = break_prints l n
-parts_print l (stmts.Continue n) = continue_prints l n
+parts_print l (stmts.Break n) = prints_wider ended refl (break_prints l n)
+parts_print l (stmts.Continue n) = prints_wider ended refl (continue_prints l n)
 parts_print l (stmts.If n) = if_prints l n
-parts_print l (stmts.Switch n) = switch_prints l n
-parts_print l (stmts.Throw n) = throw_prints l n
-parts_print l (stmts.Try n) = try_prints l n
+parts_print l (stmts.Switch n) = prints_wider ended refl (switch_prints l n)
+parts_print l (stmts.Throw n) = prints_wider ended refl (throw_prints l n)
+parts_print l (stmts.Try n) = prints_wider ended refl (try_prints l n)
 parts_print l (stmts.While n) = while_prints l n
-parts_print l (stmts.DoWhile n) = do_while_prints l n
+parts_print l (stmts.DoWhile n) = prints_wider ended refl (do_while_prints l n)
 parts_print l (stmts.For n) = for_prints l n
 parts_print l (stmts.ForIn n) = for_in_prints l n
 parts_print l (stmts.ForOf n) = for_of_prints l n
-parts_print l (stmts.Decl n) = decl_at l n Statement
-parts_print l (stmts.Expr n) = expr_stmt_prints l n
+parts_print l (stmts.Decl n) = prints_wider ended refl (decl_at l n Statement)
+parts_print l (stmts.Expr n) = prints_wider ended refl (expr_stmt_prints l n)
 
 -- the comments after it, and the end of its line, which a block doesn't end
-writes_closed : (env : Env) (block : Bool) (span : Span) → Writes env (words.stmt_closed block span) []
+writes_closed : (env : Env) (block : Bool) (span : Span) → EndsLines env (words.stmt_closed block span)
 unfolding words.stmt_closed
-writes_closed env true span = writes_nothing env
+writes_closed env true span = makes_wider loose refl (writes_nothing env)
 writes_closed env false span = writes_then env (trailing_comments true span.hi) formatting_line [] [] (writes_trailing env true span.hi) (writes_formatting_line env)
 
-pub stmt_prints : {X : Type 0} (l : Linked X) (n : Stmt X) → Prints l.env (words.stmt l.asks l.items n) (lists.stmt l.reads n)
+pub stmt_prints : {X : Type 0} (l : Linked X) (n : Stmt X) → PrintsAt ended l.env (words.stmt l.asks l.items n) (lists.stmt l.reads n)
 unfolding words.stmt
 stmt_prints l n = before (parts_print l n) (writes_closed l.env (is_block n) (stmt_span (place_of l.asks) n))
 
 -- ---- programs
 
-writes_last_semi : (env : Env) → Writes env programs.last_semi []
+writes_last_semi : (env : Env) → Fills env programs.last_semi
 writes_last_semi env = elim (cases_Bool env.config.omit_last_semi) [
   | inl left ↦ writes_same env programs.last_semi (λ rest. rest) [] (λ rest. kept_same rest env left) (writes_nothing env)
   | inr wanted ↦ writes_same env programs.last_semi commit_pending_semi [] (λ rest. committed_same rest env wanted) (writes_commit env)
 ]
 
-writes_start_if_empty : {A : Type 0} (env : Env) (xs : List A) (span : Span) → Writes env (programs.start_if_empty xs span) []
+writes_start_if_empty : {A : Type 0} (env : Env) (xs : List A) (span : Span) → Fills env (programs.start_if_empty xs span)
 unfolding programs.start_if_empty
 writes_start_if_empty env [] span = writes_position env span.lo
 writes_start_if_empty env (x ∷ xs) span = writes_nothing env
 
-writes_script_end : (env : Env) (span : Span) → Writes env (λ rest. trailing_comments true span.hi (programs.last_semi rest)) []
+writes_script_end : (env : Env) (span : Span) → Fills env (λ rest. trailing_comments true span.hi (programs.last_semi rest))
 writes_script_end env span = writes_then env (trailing_comments true span.hi) programs.last_semi [] [] (writes_trailing env true span.hi) (writes_last_semi env)
 
-script_body_prints : {X : Type 0} (l : Linked X) (n : Script X) → Prints l.env (programs.script_body l.items n) (in_order (map (lists.stmt_at l.reads) n.body.items))
+script_body_prints : {X : Type 0} (l : Linked X) (n : Script X) → PrintsAt loose l.env (programs.script_body l.items n) (in_order (map (lists.stmt_at l.reads) n.body.items))
 unfolding programs.script_body
 script_body_prints l n =
     after (writes_leading l.env n.span.lo)
     (after (writes_start_if_empty l.env n.body.items n.span)
-    (before (in_order_prints l.env (programs.held l.items) (lists.stmt_at l.reads) (stmt_at l) n.body.items) (writes_script_end l.env n.span)))
+    (before (prints_wider loose refl (in_order_prints l.env (programs.held l.items) (lists.stmt_at l.reads) (stmt_at l) n.body.items)) (writes_script_end l.env n.span)))
 
-script_case : {X : Type 0} (l : Linked X) (n : Script X) (shebang : Bool) → Prints l.env (λ rest. cond shebang (unsupported rest) (programs.script_body l.items n rest)) (cond shebang Never (in_order (map (lists.stmt_at l.reads) n.body.items)))
+script_case : {X : Type 0} (l : Linked X) (n : Script X) (shebang : Bool) → PrintsAt loose l.env (λ rest. cond shebang (unsupported rest) (programs.script_body l.items n rest)) (cond shebang Never (in_order (map (lists.stmt_at l.reads) n.body.items)))
 script_case l n true = prints_never
 script_case l n false = script_body_prints l n
 
-pub script_prints : {X : Type 0} (l : Linked X) (n : Script X) → Prints l.env (programs.script l.items n) (lists.script l.reads n)
+pub script_prints : {X : Type 0} (l : Linked X) (n : Script X) → PrintsAt loose l.env (programs.script l.items n) (lists.script l.reads n)
 unfolding programs.script lists.script
 script_prints l n = script_case l n (is_some n.shebang)
 
-pub program_prints : {X : Type 0} (l : Linked X) (n : Program X) → Prints l.env (programs.program l.items n) (lists.program l.reads n)
+module_body_prints : {X : Type 0} (l : Linked X) (n : Module X) → PrintsAt loose l.env (programs.module_body l.items n) (in_order (map (lists.item_at l.reads) n.body.items))
+unfolding programs.module_body
+module_body_prints l n =
+    after (writes_leading l.env n.span.lo)
+    (after (writes_start_if_empty l.env n.body.items n.span)
+    (before (prints_wider loose refl (in_order_prints l.env (programs.held_item l.items) (lists.item_at l.reads) (λ x. l.law x.node.value Plain Item) n.body.items)) (writes_script_end l.env n.span)))
+
+pub module_prints : {X : Type 0} (l : Linked X) (n : Module X) → PrintsAt loose l.env (programs.whole_module l.items n) (lists.whole_module l.reads n)
+unfolding programs.whole_module lists.whole_module
+module_prints l n = refused_or (is_some n.shebang) (module_body_prints l n)
+
+pub program_prints : {X : Type 0} (l : Linked X) (n : Program X) → PrintsAt loose l.env (programs.program l.items n) (lists.program l.reads n)
 unfolding programs.program lists.program
+program_prints l (program_variants.Module n) = module_prints l n
 program_prints l (program_variants.Script n) = script_prints l n
-program_prints l n = prints_never

@@ -6,9 +6,12 @@ use Rattle.swc_ecma_codegen_common.specs.Refusals.{in_short}
 use Rattle.swc_ecma_codegen_common.specs.declared.errors.Error.TheVariants.{Writer, OutOfMemory, UnsupportedNode, BadShape, NameOutOfTarget, PositionTooLarge, Failed}
 use Rattle.swc_ecma_codegen_tree.specs.declared.links.AnyNode.{AnyNode}
 use Rattle.swc_ecma_codegen_tree.specs.declared.programs.Program.{Program}
-use Rattle.swc_ecma_codegen_tree.specs.declared.programs.Program.TheVariants.{Script as a_script}
+use Rattle.swc_ecma_codegen_tree.specs.declared.programs.Program.TheVariants.{Module as a_module, Script as a_script}
+use Rattle.swc_ecma_codegen_tree.specs.declared.programs.Module.{Module}
+use Rattle.swc_ecma_codegen_tree.specs.declared.programs.ModuleItem.{ModuleItem}
 use Rattle.swc_ecma_codegen_tree.specs.declared.programs.Script.{Script}
-use Rattle.swc_ecma_codegen_ast.specs.TreePhrases.{program_phrase}
+use Rattle.swc_ecma_codegen_ast.specs.TreePhrases.{phrase, program_phrase}
+use Rattle.swc_ecma_codegen_ast.specs.ModulePhrases as module_lists
 use Rattle.swc_ecma_codegen_util.specs.declared.config.Config.{Config}
 use Rattle.swc_ecma_codegen_util.specs.Defaults.{default_config}
 use Rattle.swc_ecma_codegen_text_writer.specs.View.{new_sheet}
@@ -19,21 +22,30 @@ use Rattle.swc_ecma_codegen_base.specs.Targets.{is_out}
 use Rattle.swc_ecma_codegen_base.specs.Ready.{token_count, IsPlainTree, IsReady}
 use Rattle.swc_ecma_codegen_base.specs.Written.{ReadsAs}
 use Rattle.swc_ecma_codegen_base.proofs.Short.{is_ok_in_short}
-use Rattle.swc_ecma_codegen_base.proofs.Phrased.{Prints, steps_read, whole_reads}
+use Rattle.swc_ecma_codegen_base.proofs.Phrased.{steps_read, whole_reads, PrintsAt}
 use Rattle.swc_ecma_codegen_base.proofs.Made.{plain_made, printable, within}
 use Rattle.swc_ecma_codegen_base.proofs.Targets.{bare_not_out}
+use Rattle.swc_ecma_codegen.specs.Answers.{any_answers}
+use Rattle.swc_ecma_codegen.specs.Modules.{module_item}
 use Rattle.swc_ecma_codegen.specs.Programs as programs
 use Rattle.swc_ecma_codegen.specs.Tree.{any_items}
 use Rattle.swc_ecma_codegen.specs.Texts.{blank_sheet, text_of, IsOfWriter, GivesCause}
-use Rattle.swc_ecma_codegen.specs.Roots.{Root, OfScript, OfProgram, root_items, root_phrase, is_well_formed_root}
+use Rattle.swc_ecma_codegen.specs.Roots.{Root, OfItem, OfModule, OfScript, OfProgram, root_items, root_phrase, is_well_formed_root}
 use Rattle.swc_ecma_codegen.proofs.TreeReads.{root_prints, new_is_new}
+use Rattle.swc_ecma_codegen_base.proofs.Shapes.{unbroken}
 
-part_prints : (n : Root) (p : Part) (env : Env) → env.keeps_invalid ≡ false → p ≡ root_items n → Prints env p (root_phrase n)
-part_prints n p env e same = subst (λ z. Prints env z (root_phrase n)) (sym same) (root_prints env e n)
+part_prints : (n : Root) (p : Part) (env : Env) → env.keeps_invalid ≡ false → p ≡ root_items n → PrintsAt unbroken env p (root_phrase n)
+part_prints n p env e same = subst (λ z. PrintsAt unbroken env z (root_phrase n)) (sym same) (root_prints env e n)
 
 -- whatever the root is, and whatever refers to it
 pub root_made : (n : Root) (p : Part) (a b : State) (r : Result (Unit {0}) Error) → p ≡ root_items n → IsPlainTree a.env.config (root_phrase n) a.sheet.indentation → IsReady a → b.sheet.faults ≡ a.sheet.faults → Follows (p nothing) a b (in_short r) → IsOk r
 root_made n p a b r same t s e h = is_ok_in_short r (plain_made p (root_phrase n) a b (in_short r) (part_prints n p a.env s.leaves_out same) t s e h)
+
+pub item_made : (n : ModuleItem AnyNode) (a b : State) (r : Result (Unit {0}) Error) → IsPlainTree a.env.config (module_lists.module_item phrase n) a.sheet.indentation → IsReady a → b.sheet.faults ≡ a.sheet.faults → Follows (module_item any_answers any_items n nothing) a b (in_short r) → IsOk r
+item_made n a b r t s e h = root_made (OfItem n) _ a b r refl t s e h
+
+pub module_made : (n : Module AnyNode) (a b : State) (r : Result (Unit {0}) Error) → IsPlainTree a.env.config (program_phrase (a_module n)) a.sheet.indentation → IsReady a → b.sheet.faults ≡ a.sheet.faults → Follows (programs.whole_module any_items n nothing) a b (in_short r) → IsOk r
+module_made n a b r t s e h = root_made (OfModule n) _ a b r refl t s e h
 
 pub script_made : (n : Script AnyNode) (a b : State) (r : Result (Unit {0}) Error) → IsPlainTree a.env.config (program_phrase (a_script n)) a.sheet.indentation → IsReady a → b.sheet.faults ≡ a.sheet.faults → Follows (programs.script any_items n nothing) a b (in_short r) → IsOk r
 script_made n a b r t s e h = root_made (OfScript n) _ a b r refl t s e h

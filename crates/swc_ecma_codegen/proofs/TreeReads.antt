@@ -4,10 +4,13 @@ use Rattle.swc_ecma_codegen_common.specs.declared.errors.Error.{Error}
 use Rattle.swc_ecma_codegen_common.specs.Refusals.{in_short}
 use Rattle.swc_ecma_codegen_tree.specs.declared.links.AnyNode.{AnyNode}
 use Rattle.swc_ecma_codegen_tree.specs.declared.programs.Program.{Program}
-use Rattle.swc_ecma_codegen_tree.specs.declared.programs.Program.TheVariants.{Script as a_script}
+use Rattle.swc_ecma_codegen_tree.specs.declared.programs.Program.TheVariants.{Module as a_module, Script as a_script}
+use Rattle.swc_ecma_codegen_tree.specs.declared.programs.Module.{Module}
+use Rattle.swc_ecma_codegen_tree.specs.declared.programs.ModuleItem.{ModuleItem}
 use Rattle.swc_ecma_codegen_tree.specs.declared.programs.Script.{Script}
 use Rattle.swc_ecma_codegen_ast.specs.StmtPhrases as stmt_lists
-use Rattle.swc_ecma_codegen_ast.specs.TreePhrases.{program_phrase, is_well_formed}
+use Rattle.swc_ecma_codegen_ast.specs.TreePhrases.{phrase, program_phrase, is_well_formed}
+use Rattle.swc_ecma_codegen_ast.specs.ModulePhrases as module_lists
 use Rattle.swc_ecma_codegen_util.specs.declared.config.Config.{Config}
 use Rattle.swc_ecma_codegen_text_writer.specs.View.{new_sheet}
 use Rattle.swc_ecma_codegen_common.specs.declared.errors.Refusal.TheVariants as refusals
@@ -23,31 +26,58 @@ use Rattle.swc_ecma_codegen_base.specs.Scripts.{value_strings, AddsSafe}
 use Rattle.swc_ecma_codegen_base.proofs.AsciiTexts.{printed_ascii, printed_keeps}
 use Rattle.swc_ecma_codegen_base.proofs.ScriptTexts.{printed_safe}
 use Rattle.swc_ecma_codegen_text_writer.specs.Recorded.{RecordsTruly}
-use Rattle.swc_ecma_codegen_ast.specs.Phrases.{names_in}
+use Rattle.swc_ecma_codegen_ast.specs.Phrases.{is_possible, names_in}
 use Rattle.swc_ecma_codegen_text_writer.specs.Sheet.{HoldsNone}
 use Rattle.swc_ecma_codegen_base.specs.Written.{IsLineEnd, IsNew, AddsReading, all_indent, is_indent, holds_one}
 use Rattle.swc_ecma_codegen_base.proofs.Short.{on_ok_in_short}
-use Rattle.swc_ecma_codegen_base.proofs.Phrased.{Prints, printed_reads, printed_remakes, printed_names, follows_records}
+use Rattle.swc_ecma_codegen_base.proofs.Phrased.{printed_reads, printed_remakes, printed_names, follows_records, PrintsAt, prints_wider}
 use Rattle.swc_ecma_codegen_base.proofs.Made.{ends_where_out, follows_in_target, follows_out_of_target}
 use Rattle.swc_ecma_codegen.specs.declared.nodes.Place.TheVariants.{Plain}
+use Rattle.swc_ecma_codegen.specs.Answers.{any_answers}
+use Rattle.swc_ecma_codegen.specs.Modules.{module_item}
 use Rattle.swc_ecma_codegen.specs.Programs as programs
 use Rattle.swc_ecma_codegen.specs.Tree.{any_items}
-use Rattle.swc_ecma_codegen.specs.Roots.{Root, OfExpr, OfStmt, OfScript, OfProgram, OfLink, root_items, root_phrase, is_well_formed_root}
+use Rattle.swc_ecma_codegen.specs.Roots.{Root, OfExpr, OfStmt, OfItem, OfModule, OfScript, OfProgram, OfLink, root_items, root_phrase, is_well_formed_root}
 use Rattle.swc_ecma_codegen.proofs.ExprParts.{plain_expr_prints}
-use Rattle.swc_ecma_codegen.proofs.StmtParts.{stmt_prints, script_prints, program_prints}
+use Rattle.swc_ecma_codegen.proofs.ModuleParts.{module_item_prints}
+use Rattle.swc_ecma_codegen.proofs.StmtParts.{stmt_prints, module_prints, script_prints, program_prints}
 use Rattle.swc_ecma_codegen.proofs.TreeLaw.{prints, known}
+use Rattle.swc_ecma_codegen_base.proofs.Shapes.{unbroken, is_within}
+use Rattle.swc_ecma_codegen.proofs.Linked.{role_shape}
+use Rattle.swc_ecma_codegen_ast.specs.declared.roles.Role.{Role}
+use Rattle.swc_ecma_codegen_ast.specs.declared.roles.Role.TheVariants.{Statement, VariableDeclaration, MethodHead, MethodDecorators, ClassHead, ExportedHead, Member, Item, ModuleDeclaration}
 
-pub root_prints : (env : Env) → env.keeps_invalid ≡ false → (n : Root) → Prints env (root_items n) (root_phrase n)
+role_within : (role : Role) → is_within (role_shape role) unbroken ≡ true
+role_within Statement = refl
+role_within VariableDeclaration = refl
+role_within MethodHead = refl
+role_within MethodDecorators = refl
+role_within ClassHead = refl
+role_within ExportedHead = refl
+role_within Member = refl
+role_within Item = refl
+role_within ModuleDeclaration = refl
+role_within role = refl
+
+pub root_prints : (env : Env) → env.keeps_invalid ≡ false → (n : Root) → PrintsAt unbroken env (root_items n) (root_phrase n)
 unfolding stmt_lists.program
-root_prints env e (OfExpr n) = plain_expr_prints (known env e) n Plain refl
-root_prints env e (OfStmt n) = stmt_prints (known env e) n
-root_prints env e (OfScript n) = script_prints (known env e) n
-root_prints env e (OfProgram n) = program_prints (known env e) n
-root_prints env e (OfLink n role) = prints env e n Plain role
+root_prints env e (OfExpr n) = prints_wider unbroken refl (plain_expr_prints (known env e) n Plain refl)
+root_prints env e (OfStmt n) = prints_wider unbroken refl (stmt_prints (known env e) n)
+root_prints env e (OfItem n) = prints_wider unbroken refl (module_item_prints (known env e) n)
+root_prints env e (OfModule n) = prints_wider unbroken refl (module_prints (known env e) n)
+root_prints env e (OfScript n) = prints_wider unbroken refl (script_prints (known env e) n)
+root_prints env e (OfProgram n) = prints_wider unbroken refl (program_prints (known env e) n)
+root_prints env e (OfLink n role) = prints_wider unbroken (role_within role) (prints env e n Plain role)
 
 -- whatever the root is, and whatever refers to it
 pub root_reads : (n : Root) (p : Part) (a b : State) (r : Result (Unit {0}) Error) → p ≡ root_items n → is_well_formed_root n ≡ true → IsNew a → Follows (p nothing) a b (in_short r) → OnOk r (AddsReading a.env.config (root_phrase n) a.sheet b.sheet)
-root_reads n p a b r same w s h = on_ok_in_short _ r (printed_reads p (root_phrase n) a b (in_short r) s (subst (λ z. Prints a.env z (root_phrase n)) (sym same) (root_prints a.env s.leaves_out n)) w h)
+root_reads n p a b r same w s h = on_ok_in_short _ r (printed_reads p (root_phrase n) a b (in_short r) s (subst (λ z. PrintsAt unbroken a.env z (root_phrase n)) (sym same) (root_prints a.env s.leaves_out n)) w h)
+
+pub item_reads : (n : ModuleItem AnyNode) (a b : State) (r : Result (Unit {0}) Error) → is_possible (module_lists.module_item phrase n) ≡ true → IsNew a → Follows (module_item any_answers any_items n nothing) a b (in_short r) → OnOk r (AddsReading a.env.config (module_lists.module_item phrase n) a.sheet b.sheet)
+item_reads n a b r w s h = root_reads (OfItem n) _ a b r refl w s h
+
+pub module_reads : (n : Module AnyNode) (a b : State) (r : Result (Unit {0}) Error) → is_well_formed (a_module n) ≡ true → IsNew a → Follows (programs.whole_module any_items n nothing) a b (in_short r) → OnOk r (AddsReading a.env.config (program_phrase (a_module n)) a.sheet b.sheet)
+module_reads n a b r w s h = root_reads (OfModule n) _ a b r refl w s h
 
 pub script_reads : (n : Script AnyNode) (a b : State) (r : Result (Unit {0}) Error) → is_well_formed (a_script n) ≡ true → IsNew a → Follows (programs.script any_items n nothing) a b (in_short r) → OnOk r (AddsReading a.env.config (program_phrase (a_script n)) a.sheet b.sheet)
 script_reads n a b r w s h = root_reads (OfScript n) _ a b r refl w s h
@@ -61,7 +91,13 @@ steps_recorded p a b r h = on_ok_in_short _ r (follows_records p a b (in_short r
 
 -- where positions are kept, each name has its own where it begins
 pub root_names : (n : Root) (p : Part) (a b : State) (r : Result (Unit {0}) Error) → p ≡ root_items n → is_well_formed_root n ≡ true → a.sheet.keeps_positions ≡ true → a.env.keeps_invalid ≡ false → Follows (p nothing) a b (in_short r) → OnOk r (RecordsNames a.env.config (names_in (root_phrase n)) a.sheet b.sheet)
-root_names n p a b r same w k e h = on_ok_in_short _ r (printed_names p (root_phrase n) a b (in_short r) (subst (λ z. Prints a.env z (root_phrase n)) (sym same) (root_prints a.env e n)) w k h)
+root_names n p a b r same w k e h = on_ok_in_short _ r (printed_names p (root_phrase n) a b (in_short r) (subst (λ z. PrintsAt unbroken a.env z (root_phrase n)) (sym same) (root_prints a.env e n)) w k h)
+
+pub item_names : (n : ModuleItem AnyNode) (a b : State) (r : Result (Unit {0}) Error) → is_possible (module_lists.module_item phrase n) ≡ true → a.sheet.keeps_positions ≡ true → a.env.keeps_invalid ≡ false → Follows (module_item any_answers any_items n nothing) a b (in_short r) → OnOk r (RecordsNames a.env.config (names_in (module_lists.module_item phrase n)) a.sheet b.sheet)
+item_names n a b r w k e h = root_names (OfItem n) _ a b r refl w k e h
+
+pub module_names : (n : Module AnyNode) (a b : State) (r : Result (Unit {0}) Error) → is_well_formed (a_module n) ≡ true → a.sheet.keeps_positions ≡ true → a.env.keeps_invalid ≡ false → Follows (programs.whole_module any_items n nothing) a b (in_short r) → OnOk r (RecordsNames a.env.config (names_in (program_phrase (a_module n))) a.sheet b.sheet)
+module_names n a b r w k e h = root_names (OfModule n) _ a b r refl w k e h
 
 pub script_names : (n : Script AnyNode) (a b : State) (r : Result (Unit {0}) Error) → is_well_formed (a_script n) ≡ true → a.sheet.keeps_positions ≡ true → a.env.keeps_invalid ≡ false → Follows (programs.script any_items n nothing) a b (in_short r) → OnOk r (RecordsNames a.env.config (names_in (program_phrase (a_script n))) a.sheet b.sheet)
 script_names n a b r w k e h = root_names (OfScript n) _ a b r refl w k e h
@@ -71,7 +107,13 @@ program_names n a b r w k e h = root_names (OfProgram n) _ a b r refl w k e h
 
 -- under ASCII only what is added is ASCII, save what stands as it is
 pub root_ascii : (n : Root) (p : Part) (a b : State) (r : Result (Unit {0}) Error) → p ≡ root_items n → is_well_formed_root n ≡ true → WantsAscii a → keeps_other (steps_of (p nothing a.env)) ≡ false → Follows (p nothing) a b (in_short r) → OnOk r (AddsAscii a.sheet.text b.sheet.text)
-root_ascii n p a b r same w s k h = on_ok_in_short _ r (printed_ascii p (root_phrase n) a b (in_short r) (subst (λ z. Prints a.env z (root_phrase n)) (sym same) (root_prints a.env s.leaves_out n)) w s k h)
+root_ascii n p a b r same w s k h = on_ok_in_short _ r (printed_ascii p (root_phrase n) a b (in_short r) (subst (λ z. PrintsAt unbroken a.env z (root_phrase n)) (sym same) (root_prints a.env s.leaves_out n)) w s k h)
+
+pub item_ascii : (n : ModuleItem AnyNode) (a b : State) (r : Result (Unit {0}) Error) → is_possible (module_lists.module_item phrase n) ≡ true → WantsAscii a → keeps_other (steps_of (module_item any_answers any_items n nothing a.env)) ≡ false → Follows (module_item any_answers any_items n nothing) a b (in_short r) → OnOk r (AddsAscii a.sheet.text b.sheet.text)
+item_ascii n a b r w s k h = root_ascii (OfItem n) _ a b r refl w s k h
+
+pub module_ascii : (n : Module AnyNode) (a b : State) (r : Result (Unit {0}) Error) → is_well_formed (a_module n) ≡ true → WantsAscii a → keeps_other (steps_of (programs.whole_module any_items n nothing a.env)) ≡ false → Follows (programs.whole_module any_items n nothing) a b (in_short r) → OnOk r (AddsAscii a.sheet.text b.sheet.text)
+module_ascii n a b r w s k h = root_ascii (OfModule n) _ a b r refl w s k h
 
 pub script_ascii : (n : Script AnyNode) (a b : State) (r : Result (Unit {0}) Error) → is_well_formed (a_script n) ≡ true → WantsAscii a → keeps_other (steps_of (programs.script any_items n nothing a.env)) ≡ false → Follows (programs.script any_items n nothing) a b (in_short r) → OnOk r (AddsAscii a.sheet.text b.sheet.text)
 script_ascii n a b r w s k h = root_ascii (OfScript n) _ a b r refl w s k h
@@ -81,7 +123,13 @@ program_ascii n a b r w s k h = root_ascii (OfProgram n) _ a b r refl w s k h
 
 -- under `inline_script` each string that is printed by its value is safe inside a script
 pub root_safe : (n : Root) (p : Part) (a b : State) (r : Result (Unit {0}) Error) → p ≡ root_items n → is_well_formed_root n ≡ true → a.env.config.inline_script ≡ true → a.env.keeps_invalid ≡ false → Follows (p nothing) a b (in_short r) → OnOk r (AddsSafe (value_strings (steps_of (p nothing a.env))) a.sheet.text b.sheet.text)
-root_safe n p a b r same w i e h = on_ok_in_short _ r (printed_safe p (root_phrase n) a b (in_short r) (subst (λ z. Prints a.env z (root_phrase n)) (sym same) (root_prints a.env e n)) w i h)
+root_safe n p a b r same w i e h = on_ok_in_short _ r (printed_safe p (root_phrase n) a b (in_short r) (subst (λ z. PrintsAt unbroken a.env z (root_phrase n)) (sym same) (root_prints a.env e n)) w i h)
+
+pub item_safe : (n : ModuleItem AnyNode) (a b : State) (r : Result (Unit {0}) Error) → is_possible (module_lists.module_item phrase n) ≡ true → a.env.config.inline_script ≡ true → a.env.keeps_invalid ≡ false → Follows (module_item any_answers any_items n nothing) a b (in_short r) → OnOk r (AddsSafe (value_strings (steps_of (module_item any_answers any_items n nothing a.env))) a.sheet.text b.sheet.text)
+item_safe n a b r w i e h = root_safe (OfItem n) _ a b r refl w i e h
+
+pub module_safe : (n : Module AnyNode) (a b : State) (r : Result (Unit {0}) Error) → is_well_formed (a_module n) ≡ true → a.env.config.inline_script ≡ true → a.env.keeps_invalid ≡ false → Follows (programs.whole_module any_items n nothing) a b (in_short r) → OnOk r (AddsSafe (value_strings (steps_of (programs.whole_module any_items n nothing a.env))) a.sheet.text b.sheet.text)
+module_safe n a b r w i e h = root_safe (OfModule n) _ a b r refl w i e h
 
 pub script_safe : (n : Script AnyNode) (a b : State) (r : Result (Unit {0}) Error) → is_well_formed (a_script n) ≡ true → a.env.config.inline_script ≡ true → a.env.keeps_invalid ≡ false → Follows (programs.script any_items n nothing) a b (in_short r) → OnOk r (AddsSafe (value_strings (steps_of (programs.script any_items n nothing a.env))) a.sheet.text b.sheet.text)
 script_safe n a b r w i e h = root_safe (OfScript n) _ a b r refl w i e h

@@ -25,7 +25,7 @@ pub record Answers : Type 0 where
   pub space : BinaryOp → Bool
   -- what it begins with, where it is a pattern
   pub pattern : PatternKind
-  -- it is a block, where it is a statement
+  -- it is a block, where it is a statement, or a sequence, where it is an expression: `a, b`
   pub block : Bool
 
 -- where what a link holds stands

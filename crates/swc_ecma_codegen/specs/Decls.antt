@@ -1,6 +1,7 @@
--- What is written of declarations. Classes, and what TypeScript adds, `declare` and `!` after a name, aren't printed yet.
+-- What is written of declarations. What TypeScript adds, `declare` and `!` after a name, isn't printed yet.
 use Rattle.std.specs.Prelude.{ℕ, Bool, true, false, if◌then◌else◌, List, [], ◌∷◌, map, codes, Option, Some, None}
 use Rattle.swc_ecma_codegen_common.specs.declared.positions.Span.{Span}
+use Rattle.swc_ecma_codegen_tree.specs.declared.decls.ClassDecl.{ClassDecl}
 use Rattle.swc_ecma_codegen_tree.specs.declared.decls.Decl.{Decl}
 use Rattle.swc_ecma_codegen_tree.specs.declared.decls.Decl.TheVariants as decls
 use Rattle.swc_ecma_codegen_tree.specs.declared.decls.FnDecl.{FnDecl}
@@ -9,14 +10,16 @@ use Rattle.swc_ecma_codegen_tree.specs.declared.decls.VarDecl.{VarDecl}
 use Rattle.swc_ecma_codegen_tree.specs.declared.decls.VarDeclKind.{VarDeclKind}
 use Rattle.swc_ecma_codegen_tree.specs.declared.decls.VarDeclKind.TheVariants.{Var, Let, Const}
 use Rattle.swc_ecma_codegen_tree.specs.declared.decls.VarDeclarator.{VarDeclarator}
+use Rattle.swc_ecma_codegen_tree.specs.declared.stmt_links.VarDeclBox.{VarDeclBox}
 use Rattle.swc_ecma_codegen_base.specs.Run.{Part}
 use Rattle.swc_ecma_codegen_base.specs.Lists.{list}
 use Rattle.swc_ecma_codegen_base.specs.Words.{keyword, semi, space, commit_pending_semi, start_of, end_of, leading_comments}
 use Rattle.swc_ecma_codegen.specs.declared.nodes.Place.{Place}
-use Rattle.swc_ecma_codegen.specs.declared.nodes.Place.TheVariants.{Plain, DeclarationHead, Statement}
+use Rattle.swc_ecma_codegen.specs.declared.nodes.Place.TheVariants.{Plain, ClassHead, DeclarationHead, ExportedHead, ExportedTail, Statement}
 use Rattle.swc_ecma_codegen.specs.declared.patterns.PatternKind.{PatternKind}
 use Rattle.swc_ecma_codegen.specs.declared.patterns.PatternKind.TheVariants.{Marked}
 use Rattle.swc_ecma_codegen.specs.Answers.{Answers}
+use Rattle.swc_ecma_codegen.specs.Classes.{class_decl}
 use Rattle.swc_ecma_codegen.specs.Exprs.{blank, opened, ident}
 use Rattle.swc_ecma_codegen.specs.Lists.{child_of, unsupported}
 use Rattle.swc_ecma_codegen.specs.Pats.{initializer}
@@ -88,9 +91,38 @@ unfoldable pub decl_end : Place → Span → Part
 decl_end Statement span rest = rest
 decl_end place span rest = end_of span rest
 
+-- what is exported stands around the word: its head, its tail, or the whole where there is no such word
+unfoldable pub by_export : Place → Part → Part → Part → Part
+by_export ExportedHead head tail whole rest = head rest
+by_export ExportedTail head tail whole rest = tail rest
+by_export place head tail whole rest = whole rest
+
+-- `class A {}` of `@b export class A {}`: decorators stand before the word
+unfoldable pub exported_class_parts : {X : Type 0} → (X → Answers) → (X → Place → Part) → ClassDecl X → Part
+exported_class_parts asks items n rest =
+    let class = n.class.node.value in
+    leading_comments (asks class).place.lo
+    (start_of (asks class).place (keyword None (codes "class") (space (ident n.ident (items class Plain rest)))))
+
+unfoldable pub exported_class : {X : Type 0} → (X → Answers) → (X → Place → Part) → ClassDecl X → Part
+exported_class asks items n rest = if n.declare then unsupported rest else exported_class_parts asks items n rest
+
+-- one that has no head
+unfoldable pub without_head : Place → Part → Part
+without_head place part rest = by_export place (λ after. after) part part rest
+
+-- `let a = b;`
+unfoldable pub variables : {X : Type 0} → (X → Answers) → (X → Place → Part) → VarDeclBox X → Place → Part
+variables asks items n place rest = items n.node.value Plain (semi (decl_end place (asks n.node.value).place rest))
+
+-- `using a = b;`
+unfoldable pub resources : {X : Type 0} → (X → Place → Part) → UsingDecl X → Part
+resources items n rest = using_decl items n (semi rest)
+
 -- a declaration by its variant
 unfoldable pub decl : {X : Type 0} → (X → Answers) → (X → Place → Part) → Decl X → Place → Part
-decl asks items (decls.Fn n) place rest = fn_decl asks items n rest
-decl asks items (decls.Var n) place rest = items n.node.value Plain (semi (decl_end place (asks n.node.value).place rest))
-decl asks items (decls.Using n) place rest = using_decl items n (semi rest)
-decl asks items n place rest = unsupported rest
+decl asks items (decls.Class n) place rest = by_export place (items n.class.node.value ClassHead) (exported_class asks items n) (class_decl asks items n) rest
+decl asks items (decls.Fn n) place rest = without_head place (fn_decl asks items n) rest
+decl asks items (decls.Var n) place rest = without_head place (variables asks items n place) rest
+decl asks items (decls.Using n) place rest = without_head place (resources items n) rest
+decl asks items n place rest = without_head place unsupported rest

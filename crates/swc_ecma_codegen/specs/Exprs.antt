@@ -5,6 +5,7 @@ use Rattle.swc_ecma_codegen_common.specs.declared.positions.BytePos.{BytePos}
 use Rattle.swc_ecma_codegen_common.specs.declared.positions.Span.{Span}
 use Rattle.swc_ecma_codegen_tree.specs.declared.idents.Ident.{Ident}
 use Rattle.swc_ecma_codegen_tree.specs.declared.idents.IdentName.{IdentName}
+use Rattle.swc_ecma_codegen_tree.specs.declared.idents.PrivateName.{PrivateName}
 use Rattle.swc_ecma_codegen_common.specs.declared.operators.UnaryOp.{UnaryOp}
 use Rattle.swc_ecma_codegen_common.specs.declared.operators.BinaryOp.{BinaryOp}
 use Rattle.swc_ecma_codegen_tree.specs.declared.expr_links.ExprBox.{ExprBox}
@@ -37,6 +38,7 @@ use Rattle.swc_ecma_codegen_tree.specs.declared.exprs.Expr.TheVariants as exprs
 use Rattle.swc_ecma_codegen_common.specs.Operators.{assign_text, unary_text, binary_text, update_text}
 use Rattle.swc_ecma_codegen_spans.specs.Spans.{expr_span, spread_element_span}
 use Rattle.swc_ecma_codegen_util.specs.Starts as starts
+use Rattle.swc_ecma_codegen_base.specs.PrivateNames as names
 use Rattle.swc_ecma_codegen_base.specs.Run.{Part}
 use Rattle.swc_ecma_codegen_base.specs.Words.{keyword, operator, word_operator, punct, space, formatting_space, commit_pending_semi, start_of, end_of, last_of, leading_comments, trailing_comments, name}
 use Rattle.swc_ecma_codegen.specs.declared.nodes.Place.{Place}
@@ -44,6 +46,8 @@ use Rattle.swc_ecma_codegen.specs.declared.nodes.Place.TheVariants.{Plain, LeftO
 use Rattle.swc_ecma_codegen.specs.Answers.{Answers, place_of}
 use Rattle.swc_ecma_codegen.specs.Operands.{is_word_op, space_after, operand_space}
 use Rattle.swc_ecma_codegen.specs.Functions.{fn_expr, arrow_expr}
+use Rattle.swc_ecma_codegen.specs.ClassExprs.{class_expr}
+use Rattle.swc_ecma_codegen.specs.Templates.{tagged_tpl}
 use Rattle.swc_ecma_codegen.specs.Calls.{super_keyword, array_lit, call_expr, keeps_arguments, new_expr}
 use Rattle.swc_ecma_codegen.specs.Lists.{listed, unsupported}
 use Rattle.swc_ecma_codegen.specs.Lits.{lit_at, is_number_object}
@@ -69,6 +73,10 @@ ident n rest = name n.span (string_bytes n.sym) n.optional rest
 
 unfoldable pub ident_name : IdentName → Part
 ident_name n rest = name n.span (string_bytes n.sym) false rest
+
+-- `#a`
+unfoldable pub private_name : PrivateName → Part
+private_name n rest = names.private_name n.span (string_bytes n.name) rest
 
 unfoldable pub this : this_expr.ThisExpr → Part
 this n rest = leading_comments n.span.lo (keyword (Some n.span) (codes "this") rest)
@@ -127,8 +135,8 @@ computed_prop_name items n rest = start_of n.span (punct (codes "[") (items n.ex
 -- `.b`, `[b]`
 unfoldable pub member_prop : {X : Type 0} → (X → Place → Part) → MemberProp X → Part
 member_prop items (member_props.Ident n) rest = comments_before n.span.lo (punct (codes ".") (ident_name n rest))
+member_prop items (member_props.PrivateName n) rest = comments_before n.span.lo (punct (codes ".") (private_name n rest))
 member_prop items (member_props.Computed n) rest = computed_prop_name items n rest
-member_prop items n rest = unsupported rest
 
 -- the place of the object before it
 unfoldable pub object_place : {X : Type 0} → MemberProp X → Place
@@ -155,8 +163,8 @@ chain_mark false n rest = punct (codes ".") rest
 
 unfoldable pub chain_prop : {X : Type 0} → (X → Place → Part) → MemberProp X → Part
 chain_prop items (member_props.Ident n) rest = ident_name n rest
+chain_prop items (member_props.PrivateName n) rest = private_name n rest
 chain_prop items (member_props.Computed n) rest = computed_prop_name items n rest
-chain_prop items n rest = unsupported rest
 
 -- A member of an optional chain has neither comments nor positions of its own.
 unfoldable pub chain_member : {X : Type 0} → (X → Place → Part) → Bool → MemberExpr X → Part
@@ -245,11 +253,15 @@ expr_parts asks items (exprs.New n) place rest = new_expr asks items (keeps_argu
 expr_parts asks items (exprs.Seq n) place rest = seq items n rest
 expr_parts asks items (exprs.Ident n) place rest = ident n rest
 expr_parts asks items (exprs.Lit n) place rest = lit_at n place rest
+expr_parts asks items (exprs.Tpl n) place rest = items n.node.value Plain rest
+expr_parts asks items (exprs.TaggedTpl n) place rest = tagged_tpl items n rest
 expr_parts asks items (exprs.Arrow n) place rest = arrow_expr asks items n rest
+expr_parts asks items (exprs.Class n) place rest = class_expr asks items n rest
 expr_parts asks items (exprs.Yield n) place rest = yield_expr asks items n rest
 expr_parts asks items (exprs.MetaProp n) place rest = meta_prop_expr n rest
 expr_parts asks items (exprs.Await n) place rest = await_expr items n rest
 expr_parts asks items (exprs.Paren n) place rest = paren items n rest
+expr_parts asks items (exprs.PrivateName n) place rest = private_name n rest
 expr_parts asks items (exprs.OptChain n) place rest = opt_chain items n rest
 expr_parts asks items n place rest = unsupported rest
 

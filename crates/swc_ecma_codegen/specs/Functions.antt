@@ -1,5 +1,5 @@
 -- What is written of functions. What TypeScript adds, types and their parameters, isn't printed yet.
-use Rattle.std.specs.Prelude.{ℕ, ◌||◌, Bool, true, false, if◌then◌else◌, is_some, List, [], ◌∷◌, map, codes, string_bytes, Option, Some, None}
+use Rattle.std.specs.Prelude.{ℕ, ◌||◌, ◌&&◌, not, Bool, true, false, if◌then◌else◌, is_some, List, [], ◌∷◌, map, codes, string_bytes, Option, Some, None}
 use Rattle.swc_ecma_codegen_common.specs.declared.positions.Span.{Span}
 use Rattle.swc_ecma_codegen_tree.specs.declared.expr_links.PatBox.{PatBox}
 use Rattle.swc_ecma_codegen_tree.specs.declared.stmt_links.BlockStmtBox.{BlockStmtBox}
@@ -16,11 +16,11 @@ use Rattle.swc_ecma_codegen_base.specs.Run.{Part, when_minified, no_part}
 use Rattle.swc_ecma_codegen_base.specs.Lists.{list, deeper, shallower}
 use Rattle.swc_ecma_codegen_base.specs.Words.{keyword, punct, semi, space, formatting_space, line_end, commit_pending_semi, start_of, end_of, leading_comments, name}
 use Rattle.swc_ecma_codegen.specs.declared.nodes.Place.{Place}
-use Rattle.swc_ecma_codegen.specs.declared.nodes.Place.TheVariants.{Plain, Body, FunctionHead, MethodHead, DeclarationHead}
+use Rattle.swc_ecma_codegen.specs.declared.nodes.Place.TheVariants.{Plain, Body, FunctionHead, MethodHead, DeclarationHead, StaticHead, MethodDecorators, MethodTail, PrivateTail}
 use Rattle.swc_ecma_codegen.specs.declared.patterns.PatternKind.{PatternKind}
 use Rattle.swc_ecma_codegen.specs.declared.patterns.PatternKind.TheVariants.{PlainName, Name}
 use Rattle.swc_ecma_codegen.specs.Answers.{Answers}
-use Rattle.swc_ecma_codegen.specs.Lists.{child_of, unsupported}
+use Rattle.swc_ecma_codegen.specs.Lists.{child_of, in_order, unsupported}
 
 -- `CommaListElements`, and `Decorators`
 abbrev pub comma_list_format : ℕ
@@ -97,11 +97,45 @@ declaration_head n rest = async_word n.is_async (keyword None (codes "function")
 unfoldable pub method_head : {X : Type 0} → functions.Function X → Part
 method_head n rest = async_word n.is_async (star n.is_generator rest)
 
+-- the blank after `static` of a method, by whether its key begins with a name: `static *a() {}`, minified `static*a(){}`
+unfoldable pub static_gap : Bool → Part
+static_gap needed rest = if needed then space rest else formatting_space rest
+
+unfoldable pub static_head : {X : Type 0} → Bool → functions.Function X → Part
+static_head starts n rest = static_gap (n.is_async || (not n.is_generator && starts)) (method_head n rest)
+
+-- decorators, one after another
+abbrev pub decorator_lines : {X : Type 0} → (X → Place → Part) → List (Decorator X) → Part
+decorator_lines items ns = in_order (decorator items) ns
+
+-- the body of a method, or a semicolon, which is never left out
+unfoldable pub method_body : {X : Type 0} → (X → Place → Part) → Option (BlockStmtBox X) → Part
+method_body items None rest = punct (codes ";") rest
+method_body items (Some n) rest = formatting_space (items n.node.value Plain rest)
+
+unfoldable pub method_tail_parts : {X : Type 0} → (X → Place → Part) → functions.Function X → Part
+method_tail_parts items n rest =
+    punct (codes "(")
+    (parameters items n
+    (punct (codes ")") (method_body items n.body rest)))
+
+-- `(a) { b; }` of a method, whose decorators stand elsewhere
+unfoldable pub method_tail : {X : Type 0} → (X → Place → Part) → functions.Function X → Part
+method_tail items n rest = if is_some n.type_params || is_some n.return_type then unsupported rest else method_tail_parts items n rest
+
+-- the same of a private method, with a semicolon that may be left out
+unfoldable pub private_tail : {X : Type 0} → (X → Place → Part) → functions.Function X → Part
+private_tail items n rest = if is_some n.type_params || is_some n.return_type then unsupported rest else fn_trailing_parts items n rest
+
 -- a function, or what of it stands before its name
 unfoldable pub function : {X : Type 0} → (X → Place → Part) → functions.Function X → Place → Part
 function items n FunctionHead rest = function_head n rest
 function items n MethodHead rest = method_head n rest
 function items n DeclarationHead rest = declaration_head n rest
+function items n (StaticHead starts) rest = static_head starts n rest
+function items n MethodDecorators rest = decorator_lines items n.decorators.items rest
+function items n MethodTail rest = method_tail items n rest
+function items n PrivateTail rest = private_tail items n rest
 function items n place rest = fn_trailing items n rest
 
 -- a blank and a name, where there is one

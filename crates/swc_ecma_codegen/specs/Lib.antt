@@ -7,6 +7,10 @@ pub mod Lists
 pub mod Lits
 pub mod Places
 pub mod Functions
+pub mod Templates
+pub mod ClassExprs
+pub mod Classes
+pub mod Modules
 pub mod Calls
 pub mod Exprs
 pub mod Names
@@ -21,5 +25,3 @@ pub mod Programs
 pub mod Tree
 pub mod Texts
 pub mod Roots
-pub mod FirstTokens
-pub mod HeldRoots

@@ -1,8 +1,8 @@
 -- Where a node may stand in its role.
 use Rattle.swc_ecma_codegen_ast.specs.declared.roles.Role.{Role}
-use Rattle.swc_ecma_codegen_ast.specs.declared.roles.Role.TheVariants.{MemberExpression, ChainMember, Function, FunctionHead as HeadOfFunction, MethodHead as HeadOfMethod, Expression, Callee as IsCallee, ChainCall}
+use Rattle.swc_ecma_codegen_ast.specs.declared.roles.Role.TheVariants.{MemberExpression, ChainMember, Function, FunctionHead as HeadOfFunction, MethodHead as HeadOfMethod, Expression, Callee as IsCallee, ChainCall, Template, TaggedTemplate, ClassHead as HeadOfClass, ClassTail, MethodDecorators as DecoratorsOfMethod, MethodTail as TailOfMethod, PrivateTail as TailOfPrivate, Item, ModuleDeclaration, Declaration, ExportedHead as HeadOfExported, ExportedTail as TailOfExported}
 use Rattle.swc_ecma_codegen.specs.declared.nodes.Place.{Place}
-use Rattle.swc_ecma_codegen.specs.declared.nodes.Place.TheVariants.{Plain, Chain, FunctionHead, MethodHead, DeclarationHead, Object, DottedObject, Callee}
+use Rattle.swc_ecma_codegen.specs.declared.nodes.Place.TheVariants.{Plain, Chain, FunctionHead, MethodHead, DeclarationHead, Object, DottedObject, Callee, Tagged, ClassHead, StaticHead, MethodDecorators, MethodTail, PrivateTail, ExportedHead, ExportedTail}
 
 -- a place outside of a callee, and one inside
 abbrev pub outside : Place → Place
@@ -21,8 +21,19 @@ abbrev pub before_name : Place → Place
 before_name DeclarationHead = DeclarationHead
 before_name place = FunctionHead
 
+-- what of a method stands before its name: of a static one, behind that word
+abbrev pub before_method : Place → Place
+before_method (StaticHead starts) = StaticHead starts
+before_method place = MethodHead
+
+-- a declaration that isn't exported
+abbrev pub declared : Place → Place
+declared ExportedHead = Plain
+declared ExportedTail = Plain
+declared place = place
+
 -- An expression stands where it is called or has a property where that is its role, and there alone, and so does a member, or a call,
--- in a chain, and what of a function stands before its name; another node stands where it is put.
+-- in a chain, what of a function or a class stands before its name, and a template with a tag; another node stands where it is put.
 abbrev pub placed : Role → Place → Place
 placed Expression place = outside place
 placed IsCallee place = inside place
@@ -30,6 +41,18 @@ placed MemberExpression place = Plain
 placed (ChainMember optional) place = Chain optional
 placed Function place = Plain
 placed HeadOfFunction place = before_name place
-placed HeadOfMethod place = MethodHead
+placed HeadOfMethod place = before_method place
+placed HeadOfClass place = ClassHead
+placed ClassTail place = Plain
+placed DecoratorsOfMethod place = MethodDecorators
+placed TailOfMethod place = MethodTail
+placed TailOfPrivate place = PrivateTail
 placed (ChainCall optional) place = Chain optional
+placed Declaration place = declared place
+placed HeadOfExported place = ExportedHead
+placed TailOfExported place = ExportedTail
+placed Item place = Plain
+placed ModuleDeclaration place = Plain
+placed Template place = Plain
+placed TaggedTemplate place = Tagged
 placed role place = place

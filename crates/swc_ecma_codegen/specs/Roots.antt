@@ -3,9 +3,12 @@ use Rattle.std.specs.Prelude.{Bool}
 use Rattle.swc_ecma_codegen_tree.specs.declared.links.AnyNode.{AnyNode}
 use Rattle.swc_ecma_codegen_tree.specs.declared.exprs.Expr.{Expr}
 use Rattle.swc_ecma_codegen_tree.specs.declared.stmts.Stmt.{Stmt}
+use Rattle.swc_ecma_codegen_tree.specs.declared.programs.Module.{Module}
+use Rattle.swc_ecma_codegen_tree.specs.declared.programs.ModuleItem.{ModuleItem}
 use Rattle.swc_ecma_codegen_tree.specs.declared.programs.Program.{Program}
 use Rattle.swc_ecma_codegen_tree.specs.declared.programs.Program.TheVariants as programs
 use Rattle.swc_ecma_codegen_tree.specs.declared.programs.Script.{Script}
+use Rattle.swc_ecma_codegen_ast.specs.ModulePhrases as lists
 use Rattle.swc_ecma_codegen_ast.specs.Phrases.{Phrase, is_possible}
 use Rattle.swc_ecma_codegen_ast.specs.declared.roles.Role.{Role}
 use Rattle.swc_ecma_codegen_ast.specs.TreePhrases.{phrase, expr_phrase, stmt_phrase, program_phrase}
@@ -15,13 +18,16 @@ use Rattle.swc_ecma_codegen.specs.Answers.{any_answers}
 use Rattle.swc_ecma_codegen.specs.Places.{placed}
 use Rattle.swc_ecma_codegen.specs.Exprs.{expr}
 use Rattle.swc_ecma_codegen.specs.Stmts.{stmt}
-use Rattle.swc_ecma_codegen.specs.Programs.{script, program}
+use Rattle.swc_ecma_codegen.specs.Modules.{module_item}
+use Rattle.swc_ecma_codegen.specs.Programs.{whole_module, script, program}
 use Rattle.swc_ecma_codegen.specs.Tree.{any_items}
 
--- an expression, a statement, a script, a program, or what a link holds, in a role
+-- an expression, a statement, an item of a module, a module, a script, a program, or what a link holds, in a role
 pub data Root : Type 0 where
   OfExpr : (node : Expr AnyNode) → Root
   OfStmt : (node : Stmt AnyNode) → Root
+  OfItem : (node : ModuleItem AnyNode) → Root
+  OfModule : (node : Module AnyNode) → Root
   OfScript : (node : Script AnyNode) → Root
   OfProgram : (node : Program AnyNode) → Root
   OfLink : (node : AnyNode) → (role : Role) → Root
@@ -30,6 +36,8 @@ pub data Root : Type 0 where
 abbrev pub root_items : Root → Part
 root_items (OfExpr n) = expr any_answers any_items n Plain
 root_items (OfStmt n) = stmt any_answers any_items n
+root_items (OfItem n) = module_item any_answers any_items n
+root_items (OfModule n) = whole_module any_items n
 root_items (OfScript n) = script any_items n
 root_items (OfProgram n) = program any_items n
 root_items (OfLink n role) = any_items n (placed role Plain)
@@ -38,6 +46,8 @@ root_items (OfLink n role) = any_items n (placed role Plain)
 abbrev pub root_phrase : Root → Phrase
 root_phrase (OfExpr n) = expr_phrase n
 root_phrase (OfStmt n) = stmt_phrase n
+root_phrase (OfItem n) = lists.module_item phrase n
+root_phrase (OfModule n) = program_phrase (programs.Module n)
 root_phrase (OfScript n) = program_phrase (programs.Script n)
 root_phrase (OfProgram n) = program_phrase n
 root_phrase (OfLink n role) = phrase n role

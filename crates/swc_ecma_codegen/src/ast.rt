@@ -283,4 +283,5 @@ pub use swc_ecma_codegen_ast::comments;
 pub use swc_ecma_codegen_ast::mapper;
 pub use swc_ecma_codegen_grammar::is_well_formed;
 pub use swc_ecma_codegen_grammar::is_well_formed_expr;
+pub use swc_ecma_codegen_grammar::is_well_formed_item;
 pub use swc_ecma_codegen_grammar::is_well_formed_stmt;

@@ -95,7 +95,11 @@ impl<W: WriteJs, S: SourceMapper, C: Comments> Emitter<'_, W, S, C> {
                 name.emit_at(self, Place::Plain)
             }
             MemberProp::Computed(name) => name.emit_at(self, Place::Plain),
-            MemberProp::PrivateName(_) => self.unsupported(),
+            MemberProp::PrivateName(name) => {
+                self.comments_before(name.span.lo)?;
+                self.punct(Punctuator::Dot)?;
+                name.emit_at(self, Place::Plain)
+            }
         }
     }
 
@@ -149,7 +153,7 @@ impl<W: WriteJs, S: SourceMapper, C: Comments> Emitter<'_, W, S, C> {
         match prop {
             MemberProp::Ident(name) => name.emit_at(self, Place::Plain),
             MemberProp::Computed(name) => name.emit_at(self, Place::Plain),
-            MemberProp::PrivateName(_) => self.unsupported(),
+            MemberProp::PrivateName(name) => name.emit_at(self, Place::Plain),
         }
     }
 }

@@ -2,7 +2,10 @@
 
 ghost use Rattle.std.specs.Prelude.{◌≡◌, OnOk};
 ghost use Rattle.swc_ecma_codegen_base.specs.Run.{Emits};
-ghost use Rattle.swc_ecma_codegen.specs.Decls.{declarators_format, fn_decl, var_declarator, declarators, var_kind, is_unmarked, first_is_unmarked, var_decl, await_word, using_decl, decl_end, decl};
+ghost use Rattle.swc_ecma_codegen.specs.Decls.{declarators_format, fn_decl, var_declarator, declarators, var_kind, is_unmarked, first_is_unmarked, var_decl, await_word, using_decl, decl_end, by_export, without_head, exported_class, variables, resources, decl};
+ghost use Rattle.swc_ecma_codegen.specs.declared.nodes.Place.TheVariants.{ClassHead};
+ghost use Rattle.swc_ecma_codegen.specs.Classes.{class_decl};
+ghost use Rattle.swc_ecma_codegen.specs.Lists.{unsupported};
 ghost use Rattle.swc_ecma_codegen.specs.View.{state_of};
 
 use crate::emitter::Emitter;
@@ -13,7 +16,9 @@ use swc_ecma_codegen_ast::comments::Comments;
 use swc_ecma_codegen_ast::mapper::SourceMapper;
 use swc_ecma_codegen_common::{Answer, Span};
 use swc_ecma_codegen_text_writer::WriteJs;
-use swc_ecma_codegen_tree::{Decl, FnDecl, UsingDecl, VarDecl, VarDeclKind, VarDeclarator};
+use swc_ecma_codegen_tree::{
+    ClassDecl, Decl, FnDecl, UsingDecl, VarDecl, VarDeclBox, VarDeclKind, VarDeclarator,
+};
 
 /// The format of declarators.
 fn declarators_format() -> ListFormat
@@ -54,17 +59,11 @@ impl<N: Held> EmitAt for Decl<N> {
         place: Place,
     ) -> Answer {
         match self {
-            Decl::Fn(node) => node.emit_at(e, Place::Plain),
-            Decl::Var(node) => {
-                node.held().emit_at(e, Place::Plain)?;
-                e.semi()?;
-                e.decl_end(place, node.held().place())
-            }
-            Decl::Using(node) => {
-                node.emit_at(e, Place::Plain)?;
-                e.semi()
-            }
-            _ => e.unsupported(),
+            Decl::Class(node) => e.class_by_place(node, place),
+            Decl::Fn(node) => e.fn_by_place(node, place),
+            Decl::Var(node) => e.var_by_place(node, place),
+            Decl::Using(node) => e.using_by_place(node, place),
+            _ => e.unsupported_by_place(place),
         }
     }
 }
@@ -192,6 +191,93 @@ impl<W: WriteJs, S: SourceMapper, C: Comments> Emitter<'_, W, S, C> {
             self.space()?;
         }
         Ok(())
+    }
+
+    /// Writes a class, or what of it stands before or after `export`.
+    #[tactic(auto, unfolding(crate::specs::Decls::by_export))]
+    fn class_by_place<N: Held>(&mut self, node: &ClassDecl<N>, place: Place) -> Answer
+        ensures items { Emits (by_export place (N.items node.now.class.node.value ClassHead) (exported_class N.answers N.items node.now) (class_decl N.answers N.items node.now)) (state_of S.lines W.sheet self.old) (state_of S.lines W.sheet self.new) result }
+        ensures level { OnOk result ((W.sheet self.new.wr).indentation ≡ (W.sheet self.old.wr).indentation) }
+    {
+        match place {
+            Place::ExportedHead => node.class.held().emit_at(self, Place::ClassHead),
+            Place::ExportedTail => self.exported_class(node),
+            _ => node.emit_at(self, Place::Plain),
+        }
+    }
+
+    /// Writes what of a class stands after `export`.
+    #[tactic(auto, unfolding(crate::specs::Decls::exported_class, crate::specs::Decls::exported_class_parts))]
+    fn exported_class<N: Held>(&mut self, node: &ClassDecl<N>) -> Answer
+        ensures items { Emits (exported_class N.answers N.items node.now) (state_of S.lines W.sheet self.old) (state_of S.lines W.sheet self.new) result }
+        ensures level { OnOk result ((W.sheet self.new.wr).indentation ≡ (W.sheet self.old.wr).indentation) }
+    {
+        if node.declare {
+            return self.unsupported();
+        }
+        let span = node.class.held().place();
+        self.leading_comments(span.lo)?;
+        self.start_of(span)?;
+        self.keyword(None, "class")?;
+        self.space()?;
+        node.ident.emit_at(self, Place::Plain)?;
+        node.class.held().emit_at(self, Place::Plain)?;
+        Ok(())
+    }
+
+    /// Writes a function, before `export` nothing.
+    #[tactic(auto, unfolding(crate::specs::Decls::without_head, crate::specs::Decls::by_export))]
+    fn fn_by_place<N: Held>(&mut self, node: &FnDecl<N>, place: Place) -> Answer
+        ensures items { Emits (without_head place (fn_decl N.answers N.items node.now)) (state_of S.lines W.sheet self.old) (state_of S.lines W.sheet self.new) result }
+        ensures level { OnOk result ((W.sheet self.new.wr).indentation ≡ (W.sheet self.old.wr).indentation) }
+    {
+        match place {
+            Place::ExportedHead => Ok(()),
+            _ => node.emit_at(self, Place::Plain),
+        }
+    }
+
+    /// Writes variables, before `export` nothing.
+    #[tactic(auto, unfolding(crate::specs::Decls::without_head, crate::specs::Decls::by_export, crate::specs::Decls::variables))]
+    fn var_by_place<N: Held>(&mut self, node: &VarDeclBox<N>, place: Place) -> Answer
+        ensures items { Emits (without_head place (variables N.answers N.items node.now place)) (state_of S.lines W.sheet self.old) (state_of S.lines W.sheet self.new) result }
+        ensures level { OnOk result ((W.sheet self.new.wr).indentation ≡ (W.sheet self.old.wr).indentation) }
+    {
+        match place {
+            Place::ExportedHead => Ok(()),
+            _ => {
+                node.held().emit_at(self, Place::Plain)?;
+                self.semi()?;
+                self.decl_end(place, node.held().place())
+            }
+        }
+    }
+
+    /// Writes resources, before `export` nothing.
+    #[tactic(auto, unfolding(crate::specs::Decls::without_head, crate::specs::Decls::by_export, crate::specs::Decls::resources))]
+    fn using_by_place<N: Held>(&mut self, node: &UsingDecl<N>, place: Place) -> Answer
+        ensures items { Emits (without_head place (resources N.items node.now)) (state_of S.lines W.sheet self.old) (state_of S.lines W.sheet self.new) result }
+        ensures level { OnOk result ((W.sheet self.new.wr).indentation ≡ (W.sheet self.old.wr).indentation) }
+    {
+        match place {
+            Place::ExportedHead => Ok(()),
+            _ => {
+                node.emit_at(self, Place::Plain)?;
+                self.semi()
+            }
+        }
+    }
+
+    /// Refuses a declaration, before `export` it writes nothing.
+    #[tactic(auto, unfolding(crate::specs::Decls::without_head, crate::specs::Decls::by_export))]
+    fn unsupported_by_place(&mut self, place: Place) -> Answer
+        ensures items { Emits (without_head place unsupported) (state_of S.lines W.sheet self.old) (state_of S.lines W.sheet self.new) result }
+        ensures level { OnOk result ((W.sheet self.new.wr).indentation ≡ (W.sheet self.old.wr).indentation) }
+    {
+        match place {
+            Place::ExportedHead => Ok(()),
+            _ => self.unsupported(),
+        }
     }
 
     /// Records the end of a declaration of variables, unless it is a statement.

@@ -12,7 +12,7 @@ use swc_ecma_codegen_ast::mapper::SourceMapper;
 use swc_ecma_codegen_base::LowerEmitter;
 use swc_ecma_codegen_common::{Answer, Error, Result};
 use swc_ecma_codegen_text_writer::WriteJs;
-use swc_ecma_codegen_tree::{Program, Script};
+use swc_ecma_codegen_tree::{Module, ModuleExportName, ModuleItem, Program, Script};
 use swc_ecma_codegen_util::config::Config;
 
 /// Prints nodes to a writer. Once a call was refused, each further call that gives a `Result` answers `Failed`.
@@ -35,10 +35,13 @@ pub struct Emitter<'a, W, S, C> {
 impl<'a, W: WriteJs, S: SourceMapper, C: Comments> Emitter<'a, W, S, C> {
     ghost use Rattle.swc_ecma_codegen.specs.View.{state_of};
     ghost use Rattle.swc_ecma_codegen.specs.Tree.{any_items};
-    ghost use Rattle.swc_ecma_codegen.specs.Programs.{program, script};
+    ghost use Rattle.swc_ecma_codegen.specs.Answers.{any_answers};
+    ghost use Rattle.swc_ecma_codegen.specs.Modules.{module_export_name, module_item};
+    ghost use Rattle.swc_ecma_codegen.specs.Programs.{program, script, whole_module};
     ghost use Rattle.swc_ecma_codegen.specs.declared.nodes.Place.TheVariants.{Plain};
-    ghost use Rattle.swc_ecma_codegen_ast.specs.TreePhrases.{program_phrase, is_well_formed};
-    ghost use Rattle.swc_ecma_codegen_ast.specs.Phrases.{names_in};
+    ghost use Rattle.swc_ecma_codegen_ast.specs.TreePhrases.{phrase, program_phrase, is_well_formed};
+    ghost use Rattle.swc_ecma_codegen_ast.specs.ModulePhrases.{module_item as item_phrase};
+    ghost use Rattle.swc_ecma_codegen_ast.specs.Phrases.{is_possible, names_in};
     ghost use Rattle.swc_ecma_codegen_text_writer.specs.Recorded.{RecordsTruly};
     ghost use Rattle.swc_ecma_codegen_base.specs.Named.{RecordsNames};
     ghost use Rattle.swc_ecma_codegen_base.specs.Ascii.{keeps_other, AddsAscii, WantsAscii};
@@ -108,7 +111,7 @@ impl<'a, W: WriteJs, S: SourceMapper, C: Comments> Emitter<'a, W, S, C> {
         // Where positions are kept, each name of a well-formed tree has its own where it begins, unless that is 0.
         ensures names { is_well_formed node.now ≡ true → (W.sheet self.old.wr).keeps_positions ≡ true → (W.sheet self.old.wr).keeps_invalid ≡ false → OnOk result (RecordsNames self.old.cfg (names_in (program_phrase node.now)) (W.sheet self.old.wr) (W.sheet self.new.wr)) }
         // Where the settings ask for ASCII, what is added is, unless a text that stands as it is in the tree isn't: a regular
-        // expression, or a directive with a backslash.
+        // expression, a template with a tag, or a directive with a backslash.
         ensures ascii { is_well_formed node.now ≡ true → WantsAscii (state_of S.lines W.sheet self.old) → keeps_other (steps_of (steps_in (program any_items node.now) (state_of S.lines W.sheet self.old))) ≡ false → OnOk result (AddsAscii (W.sheet self.old.wr).text (W.sheet self.new.wr).text) }
         // Under `inline_script` no string of a well-formed tree that is printed by its value ends a script of an HTML page, or
         // opens or closes a comment there: it holds no `<!--`, no `-->`, and no `</script` before `>` or ASCII whitespace.
@@ -133,6 +136,44 @@ impl<'a, W: WriteJs, S: SourceMapper, C: Comments> Emitter<'a, W, S, C> {
         self.emit(node)
     }
 
+    /// Prints a module: the text of each item, and then a semicolon that is held back, unless the settings leave it out.
+    /// swc's `emit_module`.
+    #[tactic(auto, using(crate::proofs::TreeReads::module_reads, crate::proofs::TreeReads::steps_recorded, crate::proofs::TreeReads::module_names, crate::proofs::TreeReads::module_ascii, crate::proofs::TreeReads::module_safe, crate::proofs::TreeMade::module_made, swc_ecma_codegen_base::proofs::Made::ready_after, swc_ecma_codegen_base::proofs::Phrased::never_out_of_memory))]
+    pub fn emit_module(&mut self, node: &Module) -> Result
+        // The steps of the tree are made, and it comes to no node that can't be printed; or it halts.
+        ensures items { Follows (whole_module any_items node.now nothing) (state_of S.lines W.sheet self.old) (state_of S.lines W.sheet self.new) (in_short result) }
+        // What a new emitter adds to the text, of a well-formed tree, reads as one of the tree's token lists.
+        ensures reads { is_well_formed (Program.Module node.now) ≡ true → IsNew (state_of S.lines W.sheet self.old) → OnOk result (AddsReading self.old.cfg (program_phrase (Program.Module node.now)) (W.sheet self.old.wr) (W.sheet self.new.wr)) }
+        // Each position that is recorded holds the place that the text had reached, and none is recorded twice.
+        ensures recorded { OnOk result (RecordsTruly (W.sheet self.old.wr) (W.sheet self.new.wr)) }
+        // Where positions are kept, each name of a well-formed tree has its own where it begins, unless that is 0.
+        ensures names { is_well_formed (Program.Module node.now) ≡ true → (W.sheet self.old.wr).keeps_positions ≡ true → (W.sheet self.old.wr).keeps_invalid ≡ false → OnOk result (RecordsNames self.old.cfg (names_in (program_phrase (Program.Module node.now))) (W.sheet self.old.wr) (W.sheet self.new.wr)) }
+        // Where the settings ask for ASCII, what is added is, unless a text that stands as it is in the tree isn't: a regular
+        // expression, a template with a tag, or a directive with a backslash.
+        ensures ascii { is_well_formed (Program.Module node.now) ≡ true → WantsAscii (state_of S.lines W.sheet self.old) → keeps_other (steps_of (steps_in (whole_module any_items node.now) (state_of S.lines W.sheet self.old))) ≡ false → OnOk result (AddsAscii (W.sheet self.old.wr).text (W.sheet self.new.wr).text) }
+        // Under `inline_script` no string of a well-formed tree that is printed by its value ends a script of an HTML page, or
+        // opens or closes a comment there: it holds no `<!--`, no `-->`, and no `</script` before `>` or ASCII whitespace.
+        ensures inline { is_well_formed (Program.Module node.now) ≡ true → self.old.cfg.inline_script ≡ true → (W.sheet self.old.wr).keeps_invalid ≡ false → OnOk result (AddsSafe (value_strings (steps_of (steps_in (whole_module any_items node.now) (state_of S.lines W.sheet self.old)))) (W.sheet self.old.wr).text (W.sheet self.new.wr).text) }
+        // What is out is a beginning of the text of these steps.
+        ensures front { IsFront (W.sheet self.new.wr).text (printed (whole_module any_items node.now) (state_of S.lines W.sheet self.old)).sheet.text }
+        // It is refused only for the cause that the error names.
+        ensures cause { IfErr result (λ error. HasCause (steps_in (whole_module any_items node.now) (state_of S.lines W.sheet self.old)) (reason_of error) (state_of S.lines W.sheet self.old) (state_of S.lines W.sheet self.new)) }
+        // Where no text is made anew, and no call of the writer takes memory, none is wanting.
+        ensures no_memory { makes_text (steps_of (steps_in (whole_module any_items node.now) (state_of S.lines W.sheet self.old))) ≡ false → (W.sheet self.old.wr).takes_memory ≡ false → result ≢ Err Error.OutOfMemory }
+        // Where nothing stands in its way, it is made.
+        ensures succeeds { IsUnhindered (steps_in (whole_module any_items node.now) (state_of S.lines W.sheet self.old)) (state_of S.lines W.sheet self.old) (state_of S.lines W.sheet self.new) → IsOk result }
+        // Where it is ready, and the writer counts no fault, a plain tree is printed.
+        ensures made { IsPlainTree self.old.cfg (program_phrase (Program.Module node.now)) (W.sheet self.old.wr).indentation → IsReady (state_of S.lines W.sheet self.old) → (W.sheet self.new.wr).faults ≡ (W.sheet self.old.wr).faults → IsOk result }
+        // It is ready again for the next.
+        ensures ready { OnOk result (IsReady (state_of S.lines W.sheet self.old) → IsReady (state_of S.lines W.sheet self.new)) }
+        ensures marked { OnErr result ((state_of S.lines W.sheet self.new).failed ≡ true) }
+        ensures failed { (state_of S.lines W.sheet self.old).failed ≡ true → result ≡ Err Error.Failed }
+        // The indentation is what it was.
+        ensures level { OnOk result ((W.sheet self.new.wr).indentation ≡ (W.sheet self.old.wr).indentation) }
+    {
+        self.emit(node)
+    }
+
     /// Prints a script: the text of each statement, and then a semicolon that is held back, unless the settings leave
     /// it out. swc's `emit_script`.
     #[tactic(auto, using(crate::proofs::TreeReads::script_reads, crate::proofs::TreeReads::steps_recorded, crate::proofs::TreeReads::script_names, crate::proofs::TreeReads::script_ascii, crate::proofs::TreeReads::script_safe, crate::proofs::TreeMade::script_made, swc_ecma_codegen_base::proofs::Made::ready_after, swc_ecma_codegen_base::proofs::Phrased::never_out_of_memory))]
@@ -146,7 +187,7 @@ impl<'a, W: WriteJs, S: SourceMapper, C: Comments> Emitter<'a, W, S, C> {
         // Where positions are kept, each name of a well-formed tree has its own where it begins, unless that is 0.
         ensures names { is_well_formed (Program.Script node.now) ≡ true → (W.sheet self.old.wr).keeps_positions ≡ true → (W.sheet self.old.wr).keeps_invalid ≡ false → OnOk result (RecordsNames self.old.cfg (names_in (program_phrase (Program.Script node.now))) (W.sheet self.old.wr) (W.sheet self.new.wr)) }
         // Where the settings ask for ASCII, what is added is, unless a text that stands as it is in the tree isn't: a regular
-        // expression, or a directive with a backslash.
+        // expression, a template with a tag, or a directive with a backslash.
         ensures ascii { is_well_formed (Program.Script node.now) ≡ true → WantsAscii (state_of S.lines W.sheet self.old) → keeps_other (steps_of (steps_in (script any_items node.now) (state_of S.lines W.sheet self.old))) ≡ false → OnOk result (AddsAscii (W.sheet self.old.wr).text (W.sheet self.new.wr).text) }
         // Under `inline_script` no string of a well-formed tree that is printed by its value ends a script of an HTML page, or
         // opens or closes a comment there: it holds no `<!--`, no `-->`, and no `</script` before `>` or ASCII whitespace.
@@ -161,6 +202,64 @@ impl<'a, W: WriteJs, S: SourceMapper, C: Comments> Emitter<'a, W, S, C> {
         ensures succeeds { IsUnhindered (steps_in (script any_items node.now) (state_of S.lines W.sheet self.old)) (state_of S.lines W.sheet self.old) (state_of S.lines W.sheet self.new) → IsOk result }
         // Where it is ready, and the writer counts no fault, a plain tree is printed.
         ensures made { IsPlainTree self.old.cfg (program_phrase (Program.Script node.now)) (W.sheet self.old.wr).indentation → IsReady (state_of S.lines W.sheet self.old) → (W.sheet self.new.wr).faults ≡ (W.sheet self.old.wr).faults → IsOk result }
+        // It is ready again for the next.
+        ensures ready { OnOk result (IsReady (state_of S.lines W.sheet self.old) → IsReady (state_of S.lines W.sheet self.new)) }
+        ensures marked { OnErr result ((state_of S.lines W.sheet self.new).failed ≡ true) }
+        ensures failed { (state_of S.lines W.sheet self.old).failed ≡ true → result ≡ Err Error.Failed }
+        // The indentation is what it was.
+        ensures level { OnOk result ((W.sheet self.new.wr).indentation ≡ (W.sheet self.old.wr).indentation) }
+    {
+        self.emit(node)
+    }
+
+    /// Prints an item of a module: an import, an export or a statement. swc's `emit_module_item`.
+    #[tactic(auto, using(crate::proofs::TreeReads::item_reads, crate::proofs::TreeReads::steps_recorded, crate::proofs::TreeReads::item_names, crate::proofs::TreeReads::item_ascii, crate::proofs::TreeReads::item_safe, crate::proofs::TreeMade::item_made, swc_ecma_codegen_base::proofs::Made::ready_after, swc_ecma_codegen_base::proofs::Phrased::never_out_of_memory))]
+    pub fn emit_module_item(&mut self, node: &ModuleItem) -> Result
+        // The steps of the tree are made, and it comes to no node that can't be printed; or it halts.
+        ensures items { Follows (module_item any_answers any_items node.now nothing) (state_of S.lines W.sheet self.old) (state_of S.lines W.sheet self.new) (in_short result) }
+        // What a new emitter adds to the text, of a well-formed tree, reads as one of the tree's token lists.
+        ensures reads { is_possible (item_phrase phrase node.now) ≡ true → IsNew (state_of S.lines W.sheet self.old) → OnOk result (AddsReading self.old.cfg (item_phrase phrase node.now) (W.sheet self.old.wr) (W.sheet self.new.wr)) }
+        // Each position that is recorded holds the place that the text had reached, and none is recorded twice.
+        ensures recorded { OnOk result (RecordsTruly (W.sheet self.old.wr) (W.sheet self.new.wr)) }
+        // Where positions are kept, each name of a well-formed tree has its own where it begins, unless that is 0.
+        ensures names { is_possible (item_phrase phrase node.now) ≡ true → (W.sheet self.old.wr).keeps_positions ≡ true → (W.sheet self.old.wr).keeps_invalid ≡ false → OnOk result (RecordsNames self.old.cfg (names_in (item_phrase phrase node.now)) (W.sheet self.old.wr) (W.sheet self.new.wr)) }
+        // Where the settings ask for ASCII, what is added is, unless a text that stands as it is in the tree isn't: a regular
+        // expression, a template with a tag, or a directive with a backslash.
+        ensures ascii { is_possible (item_phrase phrase node.now) ≡ true → WantsAscii (state_of S.lines W.sheet self.old) → keeps_other (steps_of (steps_in (module_item any_answers any_items node.now) (state_of S.lines W.sheet self.old))) ≡ false → OnOk result (AddsAscii (W.sheet self.old.wr).text (W.sheet self.new.wr).text) }
+        // Under `inline_script` no string of a well-formed tree that is printed by its value ends a script of an HTML page, or
+        // opens or closes a comment there: it holds no `<!--`, no `-->`, and no `</script` before `>` or ASCII whitespace.
+        ensures inline { is_possible (item_phrase phrase node.now) ≡ true → self.old.cfg.inline_script ≡ true → (W.sheet self.old.wr).keeps_invalid ≡ false → OnOk result (AddsSafe (value_strings (steps_of (steps_in (module_item any_answers any_items node.now) (state_of S.lines W.sheet self.old)))) (W.sheet self.old.wr).text (W.sheet self.new.wr).text) }
+        // What is out is a beginning of the text of these steps.
+        ensures front { IsFront (W.sheet self.new.wr).text (printed (module_item any_answers any_items node.now) (state_of S.lines W.sheet self.old)).sheet.text }
+        // It is refused only for the cause that the error names.
+        ensures cause { IfErr result (λ error. HasCause (steps_in (module_item any_answers any_items node.now) (state_of S.lines W.sheet self.old)) (reason_of error) (state_of S.lines W.sheet self.old) (state_of S.lines W.sheet self.new)) }
+        // Where no text is made anew, and no call of the writer takes memory, none is wanting.
+        ensures no_memory { makes_text (steps_of (steps_in (module_item any_answers any_items node.now) (state_of S.lines W.sheet self.old))) ≡ false → (W.sheet self.old.wr).takes_memory ≡ false → result ≢ Err Error.OutOfMemory }
+        // Where nothing stands in its way, it is made.
+        ensures succeeds { IsUnhindered (steps_in (module_item any_answers any_items node.now) (state_of S.lines W.sheet self.old)) (state_of S.lines W.sheet self.old) (state_of S.lines W.sheet self.new) → IsOk result }
+        // Where it is ready, and the writer counts no fault, a plain tree is printed.
+        ensures made { IsPlainTree self.old.cfg (item_phrase phrase node.now) (W.sheet self.old.wr).indentation → IsReady (state_of S.lines W.sheet self.old) → (W.sheet self.new.wr).faults ≡ (W.sheet self.old.wr).faults → IsOk result }
+        // It is ready again for the next.
+        ensures ready { OnOk result (IsReady (state_of S.lines W.sheet self.old) → IsReady (state_of S.lines W.sheet self.new)) }
+        ensures marked { OnErr result ((state_of S.lines W.sheet self.new).failed ≡ true) }
+        ensures failed { (state_of S.lines W.sheet self.old).failed ≡ true → result ≡ Err Error.Failed }
+        // The indentation is what it was.
+        ensures level { OnOk result ((W.sheet self.new.wr).indentation ≡ (W.sheet self.old.wr).indentation) }
+    {
+        self.emit(node)
+    }
+
+    /// Prints the name of what a module imports or exports: a name, or a string. swc's `emit_module_export_name`.
+    #[tactic(auto, using(swc_ecma_codegen_base::proofs::Made::ready_after))]
+    pub fn emit_module_export_name(&mut self, node: &ModuleExportName) -> Result
+        // Its steps are made, or it halts.
+        ensures items { Follows (module_export_name node.now nothing) (state_of S.lines W.sheet self.old) (state_of S.lines W.sheet self.new) (in_short result) }
+        // What is out is a beginning of the text of these steps.
+        ensures front { IsFront (W.sheet self.new.wr).text (printed (module_export_name node.now) (state_of S.lines W.sheet self.old)).sheet.text }
+        // It is refused only for the cause that the error names.
+        ensures cause { IfErr result (λ error. HasCause (steps_in (module_export_name node.now) (state_of S.lines W.sheet self.old)) (reason_of error) (state_of S.lines W.sheet self.old) (state_of S.lines W.sheet self.new)) }
+        // Where nothing stands in its way, it is made.
+        ensures succeeds { IsUnhindered (steps_in (module_export_name node.now) (state_of S.lines W.sheet self.old)) (state_of S.lines W.sheet self.old) (state_of S.lines W.sheet self.new) → IsOk result }
         // It is ready again for the next.
         ensures ready { OnOk result (IsReady (state_of S.lines W.sheet self.old) → IsReady (state_of S.lines W.sheet self.new)) }
         ensures marked { OnErr result ((state_of S.lines W.sheet self.new).failed ≡ true) }

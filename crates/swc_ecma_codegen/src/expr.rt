@@ -2,7 +2,7 @@
 
 ghost use Rattle.std.specs.Prelude.{◌≡◌, Some, None, OnOk};
 ghost use Rattle.swc_ecma_codegen_base.specs.Run.{Emits};
-ghost use Rattle.swc_ecma_codegen.specs.Exprs.{ident, ident_name, this, unary_op, unary_gap, unary, update_parts, update, binary_op, before_op, after_op, bin_trailing, bin_opened, bin, computed_prop_name, choice, meta_prop_expr, assign, yield_star, yield_arg, yield_expr, spread_element, await_expr, seq, paren, expr_parts, is_left_operand, leaves_comments, expr_closed, expr};
+ghost use Rattle.swc_ecma_codegen.specs.Exprs.{ident, ident_name, private_name, this, unary_op, unary_gap, unary, update_parts, update, binary_op, before_op, after_op, bin_trailing, bin_opened, bin, computed_prop_name, choice, meta_prop_expr, assign, yield_star, yield_arg, yield_expr, spread_element, await_expr, seq, paren, expr_parts, is_left_operand, leaves_comments, expr_closed, expr};
 ghost use Rattle.swc_ecma_codegen_util.specs.Starts.{is_word_op as is_word_unary};
 ghost use Rattle.swc_ecma_codegen.specs.View.{state_of};
 
@@ -19,8 +19,8 @@ use swc_ecma_codegen_literals::Punctuator;
 use swc_ecma_codegen_text_writer::WriteJs;
 use swc_ecma_codegen_tree::{
     AssignExpr, AwaitExpr, BinExpr, ComputedPropName, CondExpr, Expr, ExprBox, Ident, IdentName,
-    MetaPropExpr, MetaPropKind, ParenExpr, SeqExpr, SpreadElement, ThisExpr, UnaryExpr, UpdateExpr,
-    YieldExpr,
+    MetaPropExpr, MetaPropKind, ParenExpr, PrivateName, SeqExpr, SpreadElement, ThisExpr,
+    UnaryExpr, UpdateExpr, YieldExpr,
 };
 
 /// Whether it is the place of a left operand.
@@ -72,16 +72,17 @@ fn expr_parts<N: Held, W: WriteJs, S: SourceMapper, C: Comments>(
         Expr::Seq(node) => node.emit_at(e, place),
         Expr::Ident(node) => node.emit_at(e, place),
         Expr::Lit(node) => node.emit_at(e, place),
+        Expr::Tpl(node) => node.held().emit_at(e, Place::Plain),
+        Expr::TaggedTpl(node) => node.emit_at(e, place),
         Expr::Arrow(node) => node.emit_at(e, place),
+        Expr::Class(node) => node.emit_at(e, place),
         Expr::Yield(node) => node.emit_at(e, place),
         Expr::MetaProp(node) => node.emit_at(e, place),
         Expr::Await(node) => node.emit_at(e, place),
         Expr::Paren(node) => node.emit_at(e, place),
+        Expr::PrivateName(node) => node.emit_at(e, place),
         Expr::OptChain(node) => node.emit_at(e, place),
-        Expr::Tpl(_)
-        | Expr::TaggedTpl(_)
-        | Expr::Class(_)
-        | Expr::JSXMember(_)
+        Expr::JSXMember(_)
         | Expr::JSXNamespacedName(_)
         | Expr::JSXEmpty(_)
         | Expr::JSXElement(_)
@@ -92,7 +93,6 @@ fn expr_parts<N: Held, W: WriteJs, S: SourceMapper, C: Comments>(
         | Expr::TsAs(_)
         | Expr::TsInstantiation(_)
         | Expr::TsSatisfies(_)
-        | Expr::PrivateName(_)
         | Expr::Invalid(_) => e.unsupported(),
     }
 }
@@ -340,6 +340,19 @@ impl EmitAt for Ident {
     ) -> Answer {
         e.name(self.span, &self.sym, self.optional)?;
         Ok(())
+    }
+}
+
+impl EmitAt for PrivateName {
+    ghost items = { λ n _. private_name n };
+
+    #[tactic(auto, unfolding(crate::specs::Exprs::private_name))]
+    fn emit_at<W: WriteJs, S: SourceMapper, C: Comments>(
+        &self,
+        e: &mut Emitter<'_, W, S, C>,
+        place: Place,
+    ) -> Answer {
+        e.private_name(self.span, &self.name)
     }
 }
 

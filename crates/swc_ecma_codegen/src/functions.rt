@@ -3,7 +3,7 @@
 ghost use Rattle.std.specs.Prelude.{◌≡◌, Bool, OnOk};
 ghost use Rattle.swc_ecma_codegen_literals.specs.Punctuators.{spelling};
 ghost use Rattle.swc_ecma_codegen_base.specs.Run.{Emits};
-ghost use Rattle.swc_ecma_codegen.specs.Functions.{comma_list_format, decorators_format, decorator, decorators, param, function_body, parameters, fn_trailing_parts, fn_trailing, async_word, star, function_head, star_or_space, declaration_head, method_head, function, optional_name, fn_expr, is_plain, is_name, is_only, async_arrow, parenthesis, arrow_list, arrow_parameters, arrow_body, arrow_expr};
+ghost use Rattle.swc_ecma_codegen.specs.Functions.{comma_list_format, decorators_format, decorator, decorators, decorator_lines, param, function_body, parameters, fn_trailing_parts, fn_trailing, static_gap, static_head, method_body, method_tail_parts, method_tail, private_tail, async_word, star, function_head, star_or_space, declaration_head, method_head, function, optional_name, fn_expr, is_plain, is_name, is_only, async_arrow, parenthesis, arrow_list, arrow_parameters, arrow_body, arrow_expr};
 ghost use Rattle.swc_ecma_codegen.specs.View.{state_of};
 
 use crate::blocks::is_some_listed;
@@ -21,14 +21,14 @@ use swc_ecma_codegen_tree::{
 };
 
 /// The format of parameters.
-fn comma_list_format() -> ListFormat
+pub(crate) fn comma_list_format() -> ListFormat
     ensures { result.0 ≡ comma_list_format }
 {
     ListFormat::CommaListElements
 }
 
 /// The format of a parameter's decorators.
-fn decorators_format() -> ListFormat
+pub(crate) fn decorators_format() -> ListFormat
     ensures { result.0 ≡ decorators_format }
 {
     ListFormat::Decorators
@@ -142,6 +142,10 @@ impl<N: Held> EmitAt for Function<N> {
             Place::FunctionHead => e.function_head(self),
             Place::MethodHead => e.method_head(self),
             Place::DeclarationHead => e.declaration_head(self),
+            Place::StaticHead(starts) => e.static_head(starts, self),
+            Place::MethodDecorators => e.decorator_lines(&self.decorators),
+            Place::MethodTail => e.method_tail(self),
+            Place::PrivateTail => e.private_tail(self),
             _ => e.fn_trailing(self),
         }
     }
@@ -282,6 +286,58 @@ impl<W: WriteJs, S: SourceMapper, C: Comments> Emitter<'_, W, S, C> {
         self.fn_trailing_parts(node)
     }
 
+    /// Writes the body of a method, or a semicolon in its place.
+    #[tactic(auto, unfolding(crate::specs::Functions::method_body))]
+    fn method_body<N: Held>(&mut self, body: &Option<BlockStmtBox<N>>) -> Answer
+        ensures items { Emits (method_body N.items body.now) (state_of S.lines W.sheet self.old) (state_of S.lines W.sheet self.new) result }
+        ensures level { OnOk result ((W.sheet self.new.wr).indentation ≡ (W.sheet self.old.wr).indentation) }
+    {
+        match body {
+            Some(body) => {
+                self.formatting_space()?;
+                body.held().emit_at(self, Place::Plain)
+            }
+            None => self.punct(Punctuator::Semicolon),
+        }
+    }
+
+    /// Writes `(a) { b; }` of a method, without what TypeScript adds.
+    #[tactic(auto, unfolding(crate::specs::Functions::method_tail_parts))]
+    fn method_tail_parts<N: Held>(&mut self, node: &Function<N>) -> Answer
+        ensures items { Emits (method_tail_parts N.items node.now) (state_of S.lines W.sheet self.old) (state_of S.lines W.sheet self.new) result }
+        ensures level { OnOk result ((W.sheet self.new.wr).indentation ≡ (W.sheet self.old.wr).indentation) }
+    {
+        self.punct(Punctuator::LeftParenthesis)?;
+        self.parameters(node)?;
+        self.punct(Punctuator::RightParenthesis)?;
+        self.method_body(&node.body)?;
+        Ok(())
+    }
+
+    /// Writes `(a) { b; }` of a method, whose decorators stand elsewhere.
+    #[tactic(auto, unfolding(crate::specs::Functions::method_tail))]
+    fn method_tail<N: Held>(&mut self, node: &Function<N>) -> Answer
+        ensures items { Emits (method_tail N.items node.now) (state_of S.lines W.sheet self.old) (state_of S.lines W.sheet self.new) result }
+        ensures level { OnOk result ((W.sheet self.new.wr).indentation ≡ (W.sheet self.old.wr).indentation) }
+    {
+        if node.type_params.is_some() || node.return_type.is_some() {
+            return self.unsupported();
+        }
+        self.method_tail_parts(node)
+    }
+
+    /// Writes `(a) { b; }` of a private method, whose decorators stand elsewhere.
+    #[tactic(auto, unfolding(crate::specs::Functions::private_tail))]
+    fn private_tail<N: Held>(&mut self, node: &Function<N>) -> Answer
+        ensures items { Emits (private_tail N.items node.now) (state_of S.lines W.sheet self.old) (state_of S.lines W.sheet self.new) result }
+        ensures level { OnOk result ((W.sheet self.new.wr).indentation ≡ (W.sheet self.old.wr).indentation) }
+    {
+        if node.type_params.is_some() || node.return_type.is_some() {
+            return self.unsupported();
+        }
+        self.fn_trailing_parts(node)
+    }
+
     /// Writes `(a) { b; }`.
     #[tactic(auto, unfolding(crate::specs::Functions::fn_trailing_parts))]
     fn fn_trailing_parts<N: Held>(&mut self, node: &Function<N>) -> Answer
@@ -292,6 +348,43 @@ impl<W: WriteJs, S: SourceMapper, C: Comments> Emitter<'_, W, S, C> {
         self.parameters(node)?;
         self.punct(Punctuator::RightParenthesis)?;
         self.function_body(&node.body)?;
+        Ok(())
+    }
+
+    /// Writes decorators, one after another.
+    #[tactic(auto, using(crate::proofs::Steps::in_order_next), unfolding(crate::specs::Lists::in_order))]
+    pub(crate) fn decorator_lines<N: Held>(&mut self, nodes: &[Decorator<N>]) -> Answer
+        ensures items { Emits (decorator_lines N.items nodes.now) (state_of S.lines W.sheet self.old) (state_of S.lines W.sheet self.new) result }
+        ensures level { OnOk result ((W.sheet self.new.wr).indentation ≡ (W.sheet self.old.wr).indentation) }
+    {
+        for node in nodes {
+            node.emit_at(self, Place::Plain)?;
+        }
+        Ok(())
+    }
+
+    /// Writes the blank after `static`.
+    #[tactic(auto, unfolding(crate::specs::Functions::static_gap))]
+    fn static_gap(&mut self, needed: bool) -> Answer
+        ensures items { Emits (static_gap needed) (state_of S.lines W.sheet self.old) (state_of S.lines W.sheet self.new) result }
+        ensures level { OnOk result ((W.sheet self.new.wr).indentation ≡ (W.sheet self.old.wr).indentation) }
+    {
+        if needed {
+            self.space()
+        } else {
+            self.formatting_space()
+        }
+    }
+
+    /// Writes the blank after `static`, and `async *` or a part of it. `starts` says whether the key of the method begins with
+    /// a character of a name.
+    #[tactic(auto, unfolding(crate::specs::Functions::static_head))]
+    fn static_head<N>(&mut self, starts: bool, node: &Function<N>) -> Answer
+        ensures items { Emits (static_head starts node.now) (state_of S.lines W.sheet self.old) (state_of S.lines W.sheet self.new) result }
+        ensures level { OnOk result ((W.sheet self.new.wr).indentation ≡ (W.sheet self.old.wr).indentation) }
+    {
+        self.static_gap(node.is_async || (!node.is_generator && starts))?;
+        self.method_head(node)?;
         Ok(())
     }
 

@@ -46,7 +46,7 @@ pub trait Node: Spanned {
         // Where positions are kept, each name of a well-formed tree has its own where it begins, unless that is 0.
         ensures names { (root : Root) → part self.now ≡ root_items root → is_well_formed_root root ≡ true → (W.sheet e.old.wr).keeps_positions ≡ true → (W.sheet e.old.wr).keeps_invalid ≡ false → OnOk result (RecordsNames e.old.cfg (names_in (root_phrase root)) (W.sheet e.old.wr) (W.sheet e.new.wr)) }
         // Where the settings ask for ASCII, what is added is, unless a text that stands as it is in the tree isn't: a regular
-        // expression, or a directive with a backslash.
+        // expression, a template with a tag, or a directive with a backslash.
         ensures ascii { (root : Root) → part self.now ≡ root_items root → is_well_formed_root root ≡ true → WantsAscii (state_of S.lines W.sheet e.old) → keeps_other (steps_of (steps_in (part self.now) (state_of S.lines W.sheet e.old))) ≡ false → OnOk result (AddsAscii (W.sheet e.old.wr).text (W.sheet e.new.wr).text) }
         // Under `inline_script` no string of a well-formed tree that is printed by its value ends a script of an HTML page, or
         // opens or closes a comment there: it holds no `<!--`, no `-->`, and no `</script` before `>` or ASCII whitespace.

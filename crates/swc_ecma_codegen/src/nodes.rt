@@ -41,6 +41,22 @@ pub enum Place {
     DeclarationHead,
     /// A declaration as a statement: where one of variables ends isn't recorded there.
     Statement,
+    /// A template after its tag.
+    Tagged,
+    /// What of a class stands before the word: `@a` of `@a class B {}`
+    ClassHead,
+    /// What of a static method stands before its name, and whether that begins with a character of a name: ` async *`
+    StaticHead(bool),
+    /// What of a method stands before its modifiers: `@a` of `@a b() {}`
+    MethodDecorators,
+    /// The function of a method, whose decorators stand elsewhere: `() {}` of `@a b() {}`
+    MethodTail,
+    /// The same of a private method: `() {}` of `@a #b() {}`
+    PrivateTail,
+    /// What of a declaration stands before `export`: `@a` of `@a export class B {}`
+    ExportedHead,
+    /// And what stands after it: `class B {}`
+    ExportedTail,
 }
 
 /// What a node tells those above it.
@@ -84,7 +100,7 @@ pub trait AskPattern: Known {
         ensures { result ≡ (Self.answers self.now).pattern };
 }
 
-/// Whether it is a block, where it is a statement.
+/// Whether it is a block, where it is a statement, or a sequence, where it is an expression.
 pub trait AskBlock: Known {
     fn block(&self) -> bool
         ensures { result ≡ (Self.answers self.now).block };

@@ -24,9 +24,9 @@ impl<N: Held> EmitAt for ExprPart<N> {
             ExprPart::ObjectLit(node) => node.emit_at(e, place),
             ExprPart::PropName(node) => node.emit_at(e, place),
             ExprPart::Prop(node) => node.emit_at(e, place),
+            ExprPart::Tpl(node) => node.emit_at(e, place),
             ExprPart::OptCall(node) => node.emit_at(e, place),
             ExprPart::AssignTarget(node) => node.emit_at(e, place),
-            _ => e.unsupported(),
         }
     }
 }
@@ -42,10 +42,13 @@ impl<N: Held> EmitAt for StmtPart<N> {
     ) -> Answer {
         match self {
             StmtPart::Function(node) => (**node).emit_at(e, place),
+            StmtPart::Class(node) => (**node).emit_at(e, place),
+            StmtPart::ClassMember(node) => (**node).emit_at(e, place),
             StmtPart::BlockStmt(node) => node.emit_at(e, place),
             StmtPart::Decl(node) => (**node).emit_at(e, place),
+            StmtPart::ModuleItem(node) => node.emit_at(e, place),
+            StmtPart::ModuleDecl(node) => (**node).emit_at(e, place),
             StmtPart::VarDecl(node) => node.emit_at(e, place),
-            _ => e.unsupported(),
         }
     }
 }

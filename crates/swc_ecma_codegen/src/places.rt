@@ -1,13 +1,13 @@
 //! Where a node stands whose place is that of what it holds.
 
 ghost use Rattle.std.specs.Prelude.{◌≡◌};
-ghost use Rattle.swc_ecma_codegen_spans.specs.Spans.{expr_or_spread_span, expr_span, spread_element_span, stmt_span};
+ghost use Rattle.swc_ecma_codegen_spans.specs.Spans.{expr_or_spread_span, expr_span, module_item_span, spread_element_span, stmt_span};
 ghost use Rattle.swc_ecma_codegen.specs.Answers.{place_of};
 
 use crate::nodes::AskPlace;
 use swc_ecma_codegen_common::Span;
 use swc_ecma_codegen_spans::Spanned;
-use swc_ecma_codegen_tree::{Expr, ExprOrSpread, SpreadElement, Stmt};
+use swc_ecma_codegen_tree::{Expr, ExprOrSpread, ModuleItem, SpreadElement, Stmt};
 
 /// Where an expression stands.
 #[tactic(auto, unfolding(swc_ecma_codegen_spans::specs::Spans::expr_span, swc_ecma_codegen_spans::specs::Spans::fn_expr_span, swc_ecma_codegen_spans::specs::Spans::class_expr_span, swc_ecma_codegen_spans::specs::Spans::jsx_member_expr_span))]
@@ -84,6 +84,17 @@ pub(crate) fn stmt_place<N: AskPlace>(node: &Stmt<N>) -> Span
         Stmt::ForOf(node) => node.span,
         Stmt::Decl(node) => node.held().place(),
         Stmt::Expr(node) => node.span,
+    }
+}
+
+/// Where an item of a module stands.
+#[tactic(auto, unfolding(swc_ecma_codegen_spans::specs::Spans::module_item_span))]
+pub(crate) fn module_item_place<N: AskPlace>(node: &ModuleItem<N>) -> Span
+    ensures { result ≡ module_item_span (place_of N.answers) node.now }
+{
+    match node {
+        ModuleItem::ModuleDecl(node) => node.held().place(),
+        ModuleItem::Stmt(node) => node.held().place(),
     }
 }
 

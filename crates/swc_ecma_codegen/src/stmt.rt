@@ -302,8 +302,8 @@ impl<N: Held> EmitAt for Program<N> {
         place: Place,
     ) -> Answer {
         match self {
+            Program::Module(node) => node.emit_at(e, Place::Plain),
             Program::Script(node) => node.emit_at(e, Place::Plain),
-            _ => e.unsupported(),
         }
     }
 }
@@ -477,7 +477,7 @@ impl<W: WriteJs, S: SourceMapper, C: Comments> Emitter<'_, W, S, C> {
 
     /// Records the start of a program without statements.
     #[tactic(auto, unfolding(crate::specs::Programs::start_if_empty))]
-    fn start_if_empty<N>(&mut self, body: &[StmtBox<N>], span: Span) -> Answer
+    pub(crate) fn start_if_empty<T>(&mut self, body: &[T], span: Span) -> Answer
         ensures items { Emits (start_if_empty body.now span) (state_of S.lines W.sheet self.old) (state_of S.lines W.sheet self.new) result }
         ensures level { OnOk result ((W.sheet self.new.wr).indentation ≡ (W.sheet self.old.wr).indentation) }
     {

@@ -13,12 +13,12 @@ use Rattle.swc_ecma_codegen_ast.proofs.RegexShapes.{regex_head}
 use Rattle.swc_ecma_codegen_ast.proofs.StringShapes.{string_head}
 use Rattle.swc_ecma_codegen_ast.proofs.Tables.{blank_ne, each, each_at, each_begins}
 use Rattle.swc_ecma_codegen_ast.proofs.TemplateShapes.{template_head}
-use Rattle.swc_ecma_codegen_ast.specs.Chars.{begins_digit, is_blank, is_digit, is_letter, is_line_end, is_part, is_quote, is_start}
+use Rattle.swc_ecma_codegen_ast.specs.Chars.{begins_digit, is_blank, is_digit, is_letter, is_line_end, is_part, is_quote, is_start, is_one_line}
 use Rattle.swc_ecma_codegen_ast.specs.Endings.{IsAtEnd, IsReduced, ends, is_end}
 use Rattle.swc_ecma_codegen_ast.specs.GapRules.{Apart, IntegerEnd, Last, LessBang, LineEnd, Mark, MayBegin, Start, TagNameEnd, TextEnd, Whole, WordEnd, allows, ends_line, ends_text, fuses, grows, holds_child, last_after, last_after_gap, mark_after, mark_fuses}
 use Rattle.swc_ecma_codegen_ast.specs.Jsx.{is_jsx_open}
 use Rattle.swc_ecma_codegen_ast.specs.Numbers.{takes_dot}
-use Rattle.swc_ecma_codegen_ast.specs.Parts.{Gap, IsEnding, NoneFuse, Own, Part, Reduced, remarks_in, text_of, tokens_of}
+use Rattle.swc_ecma_codegen_ast.specs.Parts.{Gap, IsEnding, NoneFuse, Own, Part, Reduced, remarks_in, text_of, tokens_of, Joint, OfLine, OnLine, PastLine, AtJoint, Broken, walk, over_own, over_gap, over_joint, is_broken, KeepsLines}
 use Rattle.swc_ecma_codegen_ast.specs.Punctuators.{punctuators}
 use Rattle.swc_ecma_codegen_ast.specs.Reads.{Reads, is_child}
 use Rattle.swc_ecma_codegen_ast.specs.RegularExpressions.{is_regex}
@@ -26,7 +26,7 @@ use Rattle.swc_ecma_codegen_ast.specs.Texts.{begins, is_among, is_same}
 use Rattle.swc_ecma_codegen_ast.specs.Tokens.{ending, has_shape, token_of, value_of}
 use Rattle.swc_ecma_codegen_ast.specs.Trivia.{Blank, BlockOf, LineOf, Piece, all_pieces, is_piece, piece_text, pieces_text}
 use Rattle.swc_ecma_codegen_ast.specs.declared.kinds.Kind.{Kind}
-use Rattle.swc_ecma_codegen_ast.specs.declared.kinds.Kind.TheVariants.{BigInt, Close, Ending, Hashbang, JsxName, JsxOpen, JsxString, JsxText, Name, Number, PrivateName, Punctuator, Regex, Str, Template, TemplateRest, Word}
+use Rattle.swc_ecma_codegen_ast.specs.declared.kinds.Kind.TheVariants.{BigInt, Close, Ending, Hashbang, JsxName, JsxOpen, JsxString, JsxText, Name, Number, PrivateName, Punctuator, Regex, Str, Template, TemplateRest, Word, SameLine}
 
 -- `}` and `;` go on with no punctuator
 unfoldable tail_quiet : List ℕ → Bool
@@ -156,6 +156,7 @@ last_ending k l JsxName c n h = refl
 last_ending k l JsxString c n h = refl
 last_ending k l JsxText c n h = refl
 last_ending k l Hashbang c n h = refl
+last_ending k l SameLine c n h = refl
 
 -- the last token after a token is real
 real_case : (b : Bool) (c : ℕ) (n : List ℕ) → IsReal (cond b LessBang (Mark (c ∷ n)))
@@ -207,6 +208,7 @@ real_own k JsxName t h = tt
 real_own k JsxString t h = tt
 real_own k JsxText t h = tt
 real_own k Hashbang t h = tt
+real_own k SameLine t h = tt
 
 real_gap : (k : Last) (ps : List Piece) → IsReal k → IsReal (last_after_gap k ps)
 unfolding last_after_gap IsReal
@@ -239,6 +241,7 @@ drop_semi : (k : Last) (xs : List Part) → IsReal k → allows k (codes ";") �
 unfolding NoneFuse IsEnding
 drop_semi k [] r a h e = end_allowed k a
 drop_semi k (Gap ps ∷ xs) r a h e = absurd e
+drop_semi k (Joint ∷ xs) r a h e = absurd e
 drop_semi k (Own y [] ∷ xs) r a h e = absurd (some_text y h.0)
 drop_semi k (Own y (c ∷ n) ∷ xs) r a h e =
     let i = ending_char c n e in (
@@ -263,6 +266,10 @@ reduced_fuses (Gap ps ∷ xs) ys k r h (inl e) =
     let P : List Part → Type 0 = λ z. NoneFuse k z in
     subst P (sym e.1) (h.0, h.1, h.2, reduced_fuses xs e.0 (last_after_gap k ps) (real_gap k ps r) h.3 e.2)
 reduced_fuses (Gap ps ∷ xs) ys k r h (inr e) = absurd (cc e.0)
+reduced_fuses (Joint ∷ xs) ys k r h (inl e) =
+    let P : List Part → Type 0 = λ z. NoneFuse k z in
+    subst P (sym e.1) (reduced_fuses xs e.0 k r h e.2)
+reduced_fuses (Joint ∷ xs) ys k r h (inr e) = absurd (cc e.0)
 reduced_fuses (Own x t ∷ xs) ys k r h (inl e) =
     let P : List Part → Type 0 = λ z. NoneFuse k z in
     subst P (sym e.1) (h.0, h.1, h.2, h.3, reduced_fuses xs e.0 (last_after k x t) (real_own k x t h.0) h.4 e.2)
@@ -278,9 +285,44 @@ start_is_real = tt
 pub none_fuse_reduced : (xs ys : List Part) → NoneFuse Start xs → Reduced xs ys → NoneFuse Start ys
 none_fuse_reduced xs ys h e = reduced_fuses xs ys Start start_is_real h e
 
+-- ---- where lines end
+
+own_again : (w : OfLine) → over_own (over_own w) ≡ over_own w
+unfolding over_own
+own_again OnLine = refl
+own_again PastLine = refl
+own_again AtJoint = refl
+own_again Broken = refl
+
+whole_before : (w : OfLine) → is_broken (over_own w) ≡ false → is_broken w ≡ false
+unfolding over_own is_broken
+whole_before OnLine h = refl
+whole_before PastLine h = refl
+whole_before AtJoint h = refl
+whole_before Broken h = h
+
+-- what a dropped semicolon stood before is a token, or nothing
+ending_walk : (xs : List Part) (w : OfLine) → IsEnding xs → is_broken (walk (over_own w) xs) ≡ false → is_broken (walk w xs) ≡ false
+unfolding walk IsEnding
+ending_walk [] w e h = whole_before w h
+ending_walk (Gap ps ∷ xs) w e h = absurd e
+ending_walk (Joint ∷ xs) w e h = absurd e
+ending_walk (Own x t ∷ xs) w e h = subst (λ z. is_broken (walk z xs) ≡ false) (own_again w) h
+
+-- no line ends where none may, where none did before
+pub keeps_reduced : (xs ys : List Part) (w : OfLine) → Reduced xs ys → is_broken (walk w xs) ≡ false → is_broken (walk w ys) ≡ false
+unfolding walk Reduced
+keeps_reduced [] ys w e h = subst (λ (z : List Part). is_broken (walk w z) ≡ false) (sym e) h
+keeps_reduced (Gap ps ∷ xs) ys w (inl e) h = subst (λ (z : List Part). is_broken (walk w z) ≡ false) (sym e.1) (keeps_reduced xs e.0 (over_gap (is_one_line (pieces_text ps)) w) e.2 h)
+keeps_reduced (Gap ps ∷ xs) ys w (inr e) h = absurd (cc e.0)
+keeps_reduced (Joint ∷ xs) ys w (inl e) h = subst (λ (z : List Part). is_broken (walk w z) ≡ false) (sym e.1) (keeps_reduced xs e.0 (over_joint w) e.2 h)
+keeps_reduced (Joint ∷ xs) ys w (inr e) h = absurd (cc e.0)
+keeps_reduced (Own x t ∷ xs) ys w (inl e) h = subst (λ (z : List Part). is_broken (walk w z) ≡ false) (sym e.1) (keeps_reduced xs e.0 (over_own w) e.2 h)
+keeps_reduced (Own x t ∷ xs) ys w (inr e) h = keeps_reduced xs ys w e.2 (ending_walk xs w e.1 h)
+
 -- what is left reads as the tokens that are left
-pub reads_reduced : (xs ys : List Part) → NoneFuse Start xs → Reduced xs ys → Reads (text_of ys) (tokens_of ys) (remarks_in ys)
-reads_reduced xs ys h e = reads ys (none_fuse_reduced xs ys h e)
+pub reads_reduced : (xs ys : List Part) → NoneFuse Start xs → KeepsLines xs → Reduced xs ys → Reads (text_of ys) (tokens_of ys) (remarks_in ys)
+reads_reduced xs ys h l e = reads ys (none_fuse_reduced xs ys h e) (keeps_reduced xs ys OnLine e l)
 
 -- ---- the tokens that are left
 
@@ -326,6 +368,7 @@ token_ends JsxString c n h m e = absurd (no_end is_quote c (ending_char c n e) (
 token_ends JsxText c n h m e = absurd (true≢false (sym (m.child refl) ∙ semi_holds_none))
 token_ends JsxOpen c n h m e = absurd (no_end (λ c. is_jsx_open (c ∷ n)) c (ending_char c n e) h refl refl)
 token_ends Hashbang c n h m e = absurd (no_end (λ c. c == 35) c (ending_char c n e) (hashbang_head c n h) refl refl)
+token_ends SameLine c n h m e = absurd (true≢false (sym h))
 
 semi_token : (x : Kind) (t : List ℕ) → Own x t ≡ Own Ending (codes ";") → token_of x t ≡ ending
 unfolding token_of value_of ending
@@ -338,6 +381,7 @@ ends_after : (k : Last) (xs : List Part) → NoneFuse (mark_after k (codes ";"))
 unfolding NoneFuse IsEnding IsAtEnd tokens_of
 ends_after k [] h e = tt
 ends_after k (Gap ps ∷ xs) h e = absurd e
+ends_after k (Joint ∷ xs) h e = absurd e
 ends_after k (Own y [] ∷ xs) h e = absurd (some_text y h.0)
 ends_after k (Own y (c ∷ n) ∷ xs) h e = token_ends y c n h.0 (subst (λ z. MayBegin z y) (mark_ending k 59 [] refl) h.2) e
 
@@ -346,6 +390,8 @@ unfolding NoneFuse Reduced IsReduced tokens_of
 reduced_tokens [] ys k h e = ap tokens_of e
 reduced_tokens (Gap ps ∷ xs) ys k h (inl e) = subst (λ z. IsReduced (tokens_of xs) z) (sym (ap tokens_of e.1)) (reduced_tokens xs e.0 (last_after_gap k ps) h.3 e.2)
 reduced_tokens (Gap ps ∷ xs) ys k h (inr e) = absurd (cc e.0)
+reduced_tokens (Joint ∷ xs) ys k h (inl e) = inl (tokens_of e.0, ap tokens_of e.1, reduced_tokens xs e.0 k h e.2)
+reduced_tokens (Joint ∷ xs) ys k h (inr e) = absurd (cc e.0)
 reduced_tokens (Own x t ∷ xs) ys k h (inl e) = inl (tokens_of e.0, ap tokens_of e.1, reduced_tokens xs e.0 (last_after k x t) h.4 e.2)
 reduced_tokens (Own x t ∷ xs) ys k h (inr e) = inr (semi_token x t e.0, ends_after k xs (semi_parts k x t xs e.0 h.3 h.4).1 e.1, reduced_tokens xs ys (last_after k x t) h.4 e.2)
 
@@ -393,4 +439,5 @@ pub without_last_gap : (k : Last) (xs : List Part) (ps : List Piece) → NoneFus
 unfolding NoneFuse
 without_last_gap k [] ps h = end_for_gap k ps h.0 h.2
 without_last_gap k (Gap qs ∷ xs) ps h = (h.0, h.1, h.2, without_last_gap (last_after_gap k qs) xs ps h.3)
+without_last_gap k (Joint ∷ xs) ps h = without_last_gap k xs ps h
 without_last_gap k (Own x t ∷ xs) ps h = (h.0, h.1, h.2, h.3, without_last_gap (last_after k x t) xs ps h.4)

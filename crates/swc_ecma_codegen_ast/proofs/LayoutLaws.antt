@@ -3,14 +3,13 @@ use Rattle.std.proofs.Common.{◌≡◌, ◌⊎◌, Bool, true, false, ◌&&◌,
 use Rattle.std.specs.List.{list_all, list_any}
 use Rattle.std.specs.Prelude.{ℕ, not, nat_lt, Some, codes}
 use Rattle.swc_ecma_codegen_common.specs.declared.versions.EsVersion.{EsVersion}
-use Rattle.swc_ecma_codegen_ast.specs.declared.kinds.Kind.{Kind}
 use Rattle.swc_ecma_codegen_ast.specs.declared.kinds.Kind.TheVariants.{Str, Punctuator, Ending}
 use Rattle.swc_ecma_codegen_ast.specs.CodeUnits.{all_utf16}
 use Rattle.swc_ecma_codegen_ast.specs.Endings.{IsReduced}
 use Rattle.swc_ecma_codegen_ast.specs.Keys.{wants_quotes, is_quoted, key_token}
 use Rattle.swc_ecma_codegen_ast.specs.Layouts.{AreAlike, PutsIn, no_more, token, with_semicolon, with_comma, with_parentheses, AreSameBut, IsWritten}
 use Rattle.swc_ecma_codegen_ast.specs.Names.{name_value}
-use Rattle.swc_ecma_codegen_ast.specs.Phrases.{Phrase, Never, Nothing, One, NameOf, KeyOf, Then, OptionalComma, OptionalParentheses, Chosen, EmptyArguments, LoopEnding, Generates, chosen, comma, open_parenthesis, close_parenthesis, in_parentheses}
+use Rattle.swc_ecma_codegen_ast.specs.Phrases.{Phrase, Never, Nothing, One, NameOf, KeyOf, PrivateOf, Then, OptionalComma, OptionalParentheses, Chosen, EmptyArguments, LoopEnding, AttributesWord, Generates, chosen, comma, open_parenthesis, close_parenthesis, in_parentheses}
 use Rattle.swc_ecma_codegen_ast.specs.Settings.{Settings, is_up_to_es5}
 use Rattle.swc_ecma_codegen_ast.specs.SpelledNames.{spelled_name}
 use Rattle.swc_ecma_codegen_ast.specs.Tokens.{Token, Units, ending}
@@ -126,10 +125,13 @@ core s Nothing = []
 core s (One x) = x ∷ []
 core s (NameOf at bytes) = tokens.name (name_value (spelled_name bytes)) ∷ []
 core s (KeyOf at bytes) = key_token s bytes ∷ []
+core s (PrivateOf bytes) = tokens.private_name (name_value (spelled_name bytes)) ∷ []
 core s (Then a b) = core s a ++ core s b
 core s OptionalComma = []
 core s (OptionalParentheses a) = core s a
-core s (Chosen choice) = []
+core s (Chosen EmptyArguments) = []
+core s (Chosen LoopEnding) = []
+core s (Chosen AttributesWord) = chosen s AttributesWord
 
 puts_both : (xs ys us vs : List Token) → PutsIn xs us → PutsIn ys vs → PutsIn (xs ++ ys) (us ++ vs)
 puts_both xs ys us vs no_more q = q
@@ -158,12 +160,13 @@ unfolding chosen
 loop_ending s = elim (is_up_to_es5 s.target) as (λ b. PutsIn [] (cond b (ending ∷ []) [])) [ true ↦ with_semicolon [] [] no_more | false ↦ no_more ]
 
 listed : (s : Settings) (f : Phrase) (ts : List Token) → Generates s f ts → PutsIn (core s f) ts
-unfolding Generates core
+unfolding Generates core chosen
 listed s Never ts g = absurd g
 listed s Nothing ts g = no_token ts g
 listed s (One x) ts g = one_token x ts g
 listed s (NameOf at bytes) ts g = one_token _ ts g
 listed s (KeyOf at bytes) ts g = one_token _ ts g
+listed s (PrivateOf bytes) ts g = one_token _ ts g
 listed s (Then a b) ts g = subst (λ z. PutsIn (core s a ++ core s b) z) (sym g.4) (puts_both (core s a) (core s b) g.0 g.1 (listed s a g.0 g.2) (listed s b g.1 g.3))
 listed s OptionalComma ts (inl g) = no_token ts g
 listed s OptionalComma ts (inr g) = subst (λ z. PutsIn [] z) (sym g) (with_comma [] [] no_more)
@@ -171,6 +174,7 @@ listed s (OptionalParentheses a) ts (inl g) = listed s a ts g
 listed s (OptionalParentheses a) ts (inr g) = subst (λ z. PutsIn (core s a) z) (sym g.2) (within (core s a) g.0 (listed s a g.0 g.1))
 listed s (Chosen EmptyArguments) ts g = subst (λ z. PutsIn [] z) (sym g) (arguments s)
 listed s (Chosen LoopEnding) ts g = subst (λ z. PutsIn [] z) (sym g) (loop_ending s)
+listed s (Chosen AttributesWord) ts g = one_token _ ts g
 
 -- a key is the same under settings that are alike
 same_key : (s t : Settings) (bytes : List ℕ) → AreAlike s t → key_token s bytes ≡ key_token t bytes
@@ -182,16 +186,19 @@ same_key s t bytes a =
     ap (λ b. token_by b s.target) a.ascii_only ∙ ap (λ v. token_by t.ascii_only v) a.target
 
 core_same : (s t : Settings) (f : Phrase) → AreAlike s t → core s f ≡ core t f
-unfolding core
+unfolding core chosen
 core_same s t Never a = refl
 core_same s t Nothing a = refl
 core_same s t (One x) a = refl
 core_same s t (NameOf at bytes) a = refl
 core_same s t (KeyOf at bytes) a = ap (λ x. x ∷ []) (same_key s t bytes a)
+core_same s t (PrivateOf bytes) a = refl
 core_same s t (Then f g) a = ap (λ z. z ++ core s g) (core_same s t f a) ∙ ap (λ z. core t f ++ z) (core_same s t g a)
 core_same s t OptionalComma a = refl
 core_same s t (OptionalParentheses f) a = core_same s t f a
-core_same s t (Chosen choice) a = refl
+core_same s t (Chosen EmptyArguments) a = refl
+core_same s t (Chosen LoopEnding) a = refl
+core_same s t (Chosen AttributesWord) a = ap (λ b. tokens.word (cond b (codes "assert") (codes "with")) ∷ []) a.assert_for_attributes
 
 -- The lists of a phrase are the same but for what a layout may leave out.
 pub lists_alike : (s t : Settings) (f : Phrase) (xs ys : List Token) → AreAlike s t → Generates s f xs → Generates t f ys → AreSameBut xs ys

@@ -12,6 +12,9 @@ pub mod MappedFunctions
 pub mod MappedPats
 pub mod MappedProps
 pub mod MappedStmts
+pub mod MappedTemplates
+pub mod MappedClasses
+pub mod MappedModules
 pub mod MappedCalls
 pub mod MarkMatch
 pub mod Marks

@@ -1,5 +1,5 @@
 -- The productions of arrays, calls and `new` see what links hold through f alone.
-use Rattle.std.proofs.Common.{◌≡◌, refl, ◌∙◌, ap, List, [], ◌∷◌, map, codes, Bool, true, false, cond, Option, Some, None, Global}
+use Rattle.std.proofs.Common.{◌≡◌, refl, ◌∙◌, ap, List, [], ◌∷◌, map, codes, Bool, true, false, Option, Some, None, Global}
 use Rattle.std.specs.declared.vec.Vec.{Vec}
 use Rattle.swc_ecma_codegen_tree.specs.declared.links.AnyNode.{AnyNode-F, map-AnyNode}
 use Rattle.swc_ecma_codegen_tree.specs.declared.links.AnyNode.TheOpen as nodes
@@ -13,7 +13,7 @@ use Rattle.swc_ecma_codegen_tree.specs.declared.exprs.Callee.TheVariants as call
 use Rattle.swc_ecma_codegen_tree.specs.declared.exprs.NewExpr.{NewExpr}
 use Rattle.swc_ecma_codegen_tree.specs.declared.exprs.OptCall.{OptCall}
 use Rattle.swc_ecma_codegen_tree.specs.declared.parts.ExprPart.TheVariants as expr_parts
-use Rattle.swc_ecma_codegen_ast.specs.Phrases.{Phrase, Never, Nothing, ◌>◌, word, mark, listed}
+use Rattle.swc_ecma_codegen_ast.specs.Phrases.{Phrase, Never, ◌>◌, word, mark, listed}
 use Rattle.swc_ecma_codegen_ast.specs.declared.roles.Role.{Role}
 use Rattle.swc_ecma_codegen_ast.specs.declared.roles.Role.TheVariants.{Expression, ChainCall}
 use Rattle.swc_ecma_codegen_ast.specs.ElementPhrases.{element, last_is_hole}

@@ -16,11 +16,11 @@ use Rattle.swc_ecma_codegen_tree.specs.declared.exprs.BlockStmtOrExpr.{BlockStmt
 use Rattle.swc_ecma_codegen_tree.specs.declared.exprs.BlockStmtOrExpr.TheVariants as bodies
 use Rattle.swc_ecma_codegen_tree.specs.declared.exprs.Expr.TheVariants as exprs
 use Rattle.swc_ecma_codegen_tree.specs.declared.stmts.BlockStmt.{BlockStmt}
-use Rattle.swc_ecma_codegen_ast.specs.Phrases.{Phrase, Never, ◌>◌, mark, word, listed, in_order}
+use Rattle.swc_ecma_codegen_ast.specs.Phrases.{Phrase, Never, ◌>◌, mark, listed, in_order, same_line}
 use Rattle.swc_ecma_codegen_ast.specs.declared.roles.Role.{Role}
 use Rattle.swc_ecma_codegen_ast.specs.declared.roles.Role.TheVariants.{Expression, Function, Block}
 use Rattle.swc_ecma_codegen_ast.specs.PatPhrases.{pat_at}
-use Rattle.swc_ecma_codegen_ast.specs.FunctionPhrases.{word_if, is_some_listed, decorator, param, function_body, function, only_parameter, arrow_parameters, arrow_body, arrow_expr}
+use Rattle.swc_ecma_codegen_ast.specs.FunctionPhrases.{word_if, is_some_listed, decorator, param, function_body, function, only_parameter, arrow_parameters, arrow_body, arrow_expr, after_async}
 use Rattle.swc_ecma_codegen_ast.specs.ExprPhrases.{expr}
 use Rattle.swc_ecma_codegen_ast.specs.StmtPhrases.{stmt_at, block_stmt}
 use Rattle.swc_ecma_codegen_ast.specs.PartPhrases.{stmt_part}
@@ -34,7 +34,7 @@ unfolding is_some_listed
 some_mapped g [] = refl
 some_mapped g (x ∷ xs) = refl
 
-param_mapped : {X Y : Type 0} (g : Param X → Param Y) (h : Decorator X → Decorator Y) (f : Y → Role → Phrase) (d : X → Role → Phrase) → ((n : Param X) → (g n).decorators.items ≡ map h n.decorators.items) → ((n : Param X) → pat_at f (g n).pat ≡ pat_at d n.pat) → ((n : Decorator X) → decorator f (h n) ≡ decorator d n) → (n : Param X) → param f (g n) ≡ param d n
+pub param_mapped : {X Y : Type 0} (g : Param X → Param Y) (h : Decorator X → Decorator Y) (f : Y → Role → Phrase) (d : X → Role → Phrase) → ((n : Param X) → (g n).decorators.items ≡ map h n.decorators.items) → ((n : Param X) → pat_at f (g n).pat ≡ pat_at d n.pat) → ((n : Decorator X) → decorator f (h n) ≡ decorator d n) → (n : Param X) → param f (g n) ≡ param d n
 unfolding param
 param_mapped g h f d items pat same n =
     ap (λ ds. in_order (map (decorator f) ds) > pat_at f (g n).pat) (items n)
@@ -47,7 +47,7 @@ undecorated decorated ps body = cond decorated Never (mark (codes "(") > listed 
 undecorated_same : (b c : Bool) (ps qs : List Phrase) (body : Phrase) → b ≡ c → ps ≡ qs → undecorated b ps body ≡ undecorated c qs body
 undecorated_same b c ps qs body e k = ap (λ z. undecorated z ps body) e ∙ ap (λ z. undecorated c z body) k
 
-abbrev with_parts : {X : Type 0} → functions.Function X → Option (BlockStmtBox X) → Option (TsTypeParamDeclBox X) → Option (TsTypeAnnBox X) → functions.Function X
+abbrev pub with_parts : {X : Type 0} → functions.Function X → Option (BlockStmtBox X) → Option (TsTypeParamDeclBox X) → Option (TsTypeAnnBox X) → functions.Function X
 with_parts n body type_params return_type = record n { body = body; type_params = type_params; return_type = return_type }
 
 function_mapped : {X Y : Type 0} (g : X → Y) (f : Y → Role → Phrase) (b : Box (functions.Function X) Global) (n : functions.Function X) (body : Option (BlockStmtBox X)) (type_params : Option (TsTypeParamDeclBox X)) (return_type : Option (TsTypeAnnBox X)) → node_phrase f (map-AnyNode X Y g (nodes.StmtPart (stmt_parts.Function (record b { value = with_parts n body type_params return_type })))) Function ≡ function (λ x. f (g x)) (with_parts n body type_params return_type)
@@ -76,8 +76,8 @@ parameters_mapped g f d same only (n ∷ m ∷ ns) = ap (λ ps. mark (codes "(")
 
 arrow_mapped : {X Y : Type 0} (g : X → Y) (f : Y → Role → Phrase) (n : ArrowExpr X) (body : BlockStmtOrExpr X) (type_params : Option (TsTypeParamDeclBox X)) (return_type : Option (TsTypeAnnBox X)) → node_phrase f (map-AnyNode X Y g (nodes.Expr (exprs.Arrow (record n { body = body; type_params = type_params; return_type = return_type })))) Expression ≡ arrow_expr (λ x. f (g x)) (record n { body = body; type_params = type_params; return_type = return_type })
 unfolding node_phrase expr arrow_expr arrow_body only_parameter
-arrow_mapped {X} {Y} g f n (bodies.BlockStmt b) None None = ap (λ p. word_if n.is_async (word (codes "async")) > word_if n.is_generator (mark (codes "*")) > p > mark (codes "=>") > f (g b.node.value) Block) (parameters_mapped {X = X} {Y = Y} _ f (λ x. f (g x)) (λ x. refl) (λ x. refl) n.params.items)
-arrow_mapped {X} {Y} g f n (bodies.Expr b) None None = ap (λ p. word_if n.is_async (word (codes "async")) > word_if n.is_generator (mark (codes "*")) > p > mark (codes "=>") > f (g b.node.value) Expression) (parameters_mapped {X = X} {Y = Y} _ f (λ x. f (g x)) (λ x. refl) (λ x. refl) n.params.items)
+arrow_mapped {X} {Y} g f n (bodies.BlockStmt b) None None = ap (λ p. after_async n.is_async (word_if n.is_generator (mark (codes "*")) > p > same_line > mark (codes "=>") > f (g b.node.value) Block)) (parameters_mapped {X = X} {Y = Y} _ f (λ x. f (g x)) (λ x. refl) (λ x. refl) n.params.items)
+arrow_mapped {X} {Y} g f n (bodies.Expr b) None None = ap (λ p. after_async n.is_async (word_if n.is_generator (mark (codes "*")) > p > same_line > mark (codes "=>") > f (g b.node.value) Expression)) (parameters_mapped {X = X} {Y = Y} _ f (λ x. f (g x)) (λ x. refl) (λ x. refl) n.params.items)
 arrow_mapped g f n body None (Some t) = refl
 arrow_mapped g f n body (Some p) None = refl
 arrow_mapped g f n body (Some p) (Some t) = refl

@@ -1,5 +1,5 @@
 -- The productions of statements and declarations see what links hold through f alone.
-use Rattle.std.proofs.Common.{◌≡◌, refl, ◌∙◌, ap, List, map, codes, Bool, true, false, Option, Some, None, Box, Vec, Global}
+use Rattle.std.proofs.Common.{◌≡◌, refl, ap, List, map, codes, Bool, true, false, Option, Some, None, Box, Vec, Global}
 use Rattle.swc_ecma_codegen_common.specs.declared.positions.Span.{Span}
 use Rattle.swc_ecma_codegen_tree.specs.declared.links.AnyNode.{map-AnyNode}
 use Rattle.swc_ecma_codegen_tree.specs.declared.links.AnyNode.TheOpen as nodes
@@ -32,8 +32,9 @@ use Rattle.swc_ecma_codegen_ast.specs.declared.roles.Role.{Role}
 use Rattle.swc_ecma_codegen_ast.specs.declared.roles.Role.TheVariants.{Statement, Declaration, VariableDeclaration}
 use Rattle.swc_ecma_codegen_ast.specs.PatPhrases.{value_at, initializer}
 use Rattle.swc_ecma_codegen_ast.specs.FunctionPhrases.{word_if}
-use Rattle.swc_ecma_codegen_ast.specs.DeclPhrases.{fn_decl, var_declarator, var_kind, var_decl, using_decl, decl}
-use Rattle.swc_ecma_codegen_ast.specs.StmtPhrases.{stmt_at, optional_value, empty_stmt, expr_stmt, debugger_stmt, with_stmt, return_arg, return_stmt, labeled_stmt, break_stmt, continue_stmt, else_branch, if_stmt, case_test, switch_case, switch_stmt, throw_stmt, catch_param, catch_clause, handler, finalizer, try_stmt, while_stmt, do_while_stmt, var_decl_or_expr, for_init, for_stmt, for_head, for_in_stmt, for_of_stmt, stmt}
+use Rattle.swc_ecma_codegen_ast.specs.DeclPhrases.{after_await, fn_decl, var_declarator, var_kind, var_decl, using_decl, decl}
+use Rattle.swc_ecma_codegen_ast.specs.ClassPhrases.{class_decl}
+use Rattle.swc_ecma_codegen_ast.specs.StmtPhrases.{stmt_at, optional_value, empty_stmt, expr_stmt, debugger_stmt, with_stmt, return_stmt, labeled_stmt, break_stmt, continue_stmt, else_branch, if_stmt, case_test, switch_case, switch_stmt, throw_stmt, catch_param, catch_clause, handler, finalizer, try_stmt, while_stmt, do_while_stmt, var_decl_or_expr, for_init, for_stmt, for_head, for_in_stmt, for_of_stmt, stmt, return_rest}
 use Rattle.swc_ecma_codegen_ast.specs.PartPhrases.{stmt_part}
 use Rattle.swc_ecma_codegen_ast.specs.TreePhrases.{node_phrase}
 use Rattle.swc_ecma_codegen_ast.proofs.Mapped.{list_mapped, each_option}
@@ -59,8 +60,8 @@ pub var_decl_mapped : {X Y : Type 0} (g : X → Y) (f : Y → Role → Phrase) (
 var_decl_mapped g f n = var_by g f n n.declare
 
 decl_by : {X Y : Type 0} (g : X → Y) (f : Y → Role → Phrase) (b : Box (Decl X) Global) (n : Decl X) → node_phrase f (map-AnyNode X Y g (nodes.StmtPart (stmt_parts.Decl (record b { value = n })))) Declaration ≡ decl (λ x. f (g x)) n
-unfolding node_phrase stmt_part decl fn_decl using_decl var_declarator initializer
-decl_by {X} {Y} g f b (decls.Using n) = ap (λ p. (word_if n.is_await (word (codes "await")) > word (codes "using") > p) > ending) (declarators_mapped {X = X} {Y = Y} _ f (λ x. f (g x)) (by_init {X = X} _ (λ span name definite. refl) (λ span name init definite. refl)) n.decls.items)
+unfolding node_phrase stmt_part decl fn_decl using_decl var_declarator initializer class_decl
+decl_by {X} {Y} g f b (decls.Using n) = ap (λ p. after_await n.is_await (word (codes "using") > p) > ending) (declarators_mapped {X = X} {Y = Y} _ f (λ x. f (g x)) (by_init {X = X} _ (λ span name definite. refl) (λ span name init definite. refl)) n.decls.items)
 decl_by g f b (decls.Fn n) = refl
 decl_by g f b (decls.Var n) = refl
 decl_by g f b n = refl
@@ -71,7 +72,7 @@ decl_mapped g f b = decl_by g f b b.value
 -- ---- statements
 
 return_by : {X Y : Type 0} (g : X → Y) (f : Y → Role → Phrase) (n : ReturnStmt X) (arg : Option (ExprBox X)) → node_phrase f (map-AnyNode X Y g (nodes.Stmt (stmts.Return (record n { arg = arg })))) Statement ≡ return_stmt (λ x. f (g x)) (record n { arg = arg })
-unfolding node_phrase stmt return_stmt return_arg
+unfolding node_phrase stmt return_stmt return_rest
 return_by g f n None = refl
 return_by g f n (Some x) = refl
 
@@ -127,7 +128,7 @@ for_by g f n (Some (inits.Expr i)) (Some t) (Some u) = refl
 
 -- the head of a `for` that declares by `using`
 abbrev using_head : Bool → Phrase → Phrase
-using_head is_await declarators = word_if is_await (word (codes "await")) > word (codes "using") > declarators
+using_head is_await declarators = after_await is_await (word (codes "using") > declarators)
 
 for_in_by : {X Y : Type 0} (g : X → Y) (f : Y → Role → Phrase) (n : ForInStmt X) (left : ForHead X) → node_phrase f (map-AnyNode X Y g (nodes.Stmt (stmts.ForIn (record n { left = left })))) Statement ≡ for_in_stmt (λ x. f (g x)) (record n { left = left })
 unfolding node_phrase stmt for_in_stmt for_head using_decl var_declarator initializer

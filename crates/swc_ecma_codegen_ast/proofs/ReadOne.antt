@@ -3,22 +3,23 @@ use Rattle.std.proofs.Common.{Bool, List, [], ap, append_assoc, ap₂, arith, co
 use Rattle.std.proofs.Math.Seq.{drop-append-add, drop-append_seam, take-append-add, take-append_seam, take-length}
 use Rattle.std.proofs.lemmas.Bool.{and_from, and_parts, cases_lt, false_from_ne_true, lt-ltb, ltb-true, not-true, or_cases, or_from, or_left, or_parts, or_right, true≢false}
 use Rattle.std.proofs.lemmas.List.{length-append, length-drop, length-take-le, take-append-drop}
+use Rattle.swc_ecma_codegen_ast.proofs.Conditions.{same_line_unspelled}
 use Rattle.swc_ecma_codegen_ast.proofs.Heads.{some_text}
 use Rattle.swc_ecma_codegen_ast.proofs.Marks.{ending_punctuator, opener_cases}
 use Rattle.swc_ecma_codegen_ast.proofs.Reading.{no_trivia}
 use Rattle.swc_ecma_codegen_ast.proofs.Skips.{skipped, solid_no_piece}
 use Rattle.swc_ecma_codegen_ast.proofs.Tables.{eq_of_same, same_refl}
 use Rattle.swc_ecma_codegen_ast.proofs.Unique.{block_opener, line_opener, not_child, solid}
-use Rattle.swc_ecma_codegen_ast.specs.Chars.{begins_digit}
+use Rattle.swc_ecma_codegen_ast.specs.Chars.{begins_digit, is_one_line}
 use Rattle.swc_ecma_codegen_ast.specs.LongestMatch.{IsLongest, Stands, goes_on, is_numeric_kind, openers}
 use Rattle.swc_ecma_codegen_ast.specs.Reading.{ReadsOne, Starts, fits, is_jsx_text_kind, opens_comment, some_part, some_shape, stands_at}
 use Rattle.swc_ecma_codegen_ast.specs.Reads.{is_close_by, is_hashbang_kind}
 use Rattle.swc_ecma_codegen_ast.specs.Skipping.{Skips}
 use Rattle.swc_ecma_codegen_ast.specs.Texts.{begins, is_among, is_same}
-use Rattle.swc_ecma_codegen_ast.specs.Tokens.{Attribute, Child, Closing, FirstLine, Goal, InTag, Ordinary, RegularExpression, TemplateTail, Token, goal, has_shape, token_of}
+use Rattle.swc_ecma_codegen_ast.specs.Tokens.{Attribute, Child, Closing, FirstLine, Goal, InTag, Ordinary, RegularExpression, TemplateTail, Token, goal, has_shape, token_of, NoToken}
 use Rattle.swc_ecma_codegen_ast.specs.Trivia.{pieces_text, remarks_of}
 use Rattle.swc_ecma_codegen_ast.specs.declared.kinds.Kind.{Kind}
-use Rattle.swc_ecma_codegen_ast.specs.declared.kinds.Kind.TheVariants.{BigInt, Close, Ending, Hashbang, JsxName, JsxOpen, JsxString, JsxText, Name, Number, PrivateName, Punctuator, Regex, Str, Template, TemplateRest, Word}
+use Rattle.swc_ecma_codegen_ast.specs.declared.kinds.Kind.TheVariants.{BigInt, Close, Ending, Hashbang, JsxName, JsxOpen, JsxString, JsxText, Name, Number, PrivateName, Punctuator, Regex, Str, Template, TemplateRest, Word, SameLine}
 use Rattle.swc_ecma_codegen_ast.specs.declared.kinds.TemplatePart.{TemplatePart}
 
 part_of : (holds : TemplatePart → Bool) (t o : Bool) → holds (record { tagged = t; opens = o }) ≡ true → some_part holds ≡ true
@@ -63,6 +64,7 @@ some_shape_of JsxName t h = h
 some_shape_of JsxString t h = h
 some_shape_of JsxText t h = h
 some_shape_of Hashbang t h = h
+some_shape_of SameLine t h = absurd (same_line_unspelled t h)
 
 -- a token of a goal is one of some kind
 pub data IsOfKind (g : Goal) (t : List ℕ) : Type 0 where
@@ -77,6 +79,7 @@ some_kind Closing t h = of_kind Close refl h
 some_kind InTag t h = of_kind JsxName refl h
 some_kind Attribute t h = of_kind JsxString refl h
 some_kind Child t h = of_kind JsxText refl h
+some_kind NoToken t h = absurd (true≢false (sym h))
 some_kind Ordinary t h =
     elim (or_cases (has_shape Word t) _ h) [
       | inl x ↦ of_kind Word refl x
@@ -229,6 +232,7 @@ text_kind JsxName g = refl
 text_kind JsxString g = refl
 text_kind JsxOpen g = refl
 text_kind Hashbang g = refl
+text_kind SameLine g = refl
 
 no_text_goal : (kind : Kind) → is_jsx_text_kind kind ≡ false → goal kind ≡ Child → ⊥
 unfolding goal is_jsx_text_kind
@@ -254,9 +258,16 @@ longest_here kind start n w most other (c ∷ m) left g e s =
     let within : length front ≤ length start = omega (arith, all) in
     absurd (true≢false (sym t ∙ most (length front) above within))
 
-pub read_one_sound : (first : Bool) (kind : Kind) (text start : List ℕ) (n : ℕ) → Starts kind text start → n ≤ length start → (0 < n → stands_at kind start n ≡ true) → IsMost kind start n → fits first kind start n ≡ true → ReadsOne first kind text (take n start) (drop n start)
+-- the trivia before a start
+pub gap_of : (text gap start : List ℕ) → text ≡ gap ++ start → take (length text - length start) text ≡ gap
+gap_of text gap start e =
+    let all : length text ≡ length gap + length start = ap length e ∙ length-append gap start in
+    let n : length text - length start ≡ length gap = omega (arith, all) in
+    ap₂ take n e ∙ take-append_seam gap start
+
+pub read_one_sound : (first joined : Bool) (kind : Kind) (text start : List ℕ) (n : ℕ) → Starts kind text start → n ≤ length start → (0 < n → stands_at kind start n ≡ true) → IsMost kind start n → fits first kind start n ≡ true → (joined ≡ true → is_one_line (take (length text - length start) text) ≡ true) → ReadsOne first joined kind text (take n start) (drop n start)
 unfolding stands_at token_of
-read_one_sound first kind text start n s w here most f =
+read_one_sound first joined kind text start n s w here most f o =
     let t = fitting first kind start n f in
     let at = and_parts (some_shape (goal kind) (take n start)) _ (here t.some) in
     let whole = take-append-drop n start in
@@ -267,6 +278,7 @@ read_one_sound first kind text start n s w here most f =
       trivia = s.trivia;
       close_by = s.close_by;
       at_start = t.at_start;
+      in_line = λ e. ap is_one_line (sym (gap_of text s.gap start s.is_text)) ∙ o e;
       is_longest = record {
         stands = record { spells = record { shape = t.shape; value = refl }; no_digit = choice_from (take n start) (drop n start) at.1 };
         longest = longest_here kind start n w most;
@@ -302,9 +314,9 @@ longer_there kind start own rest n e l w t h =
 text_of_child : (kind : Kind) → is_close_by kind ≡ false → goal kind ≡ Child → ⊥
 text_of_child kind c g = not_child kind c g
 
-pub read_one_complete : (first : Bool) (kind : Kind) (text start : List ℕ) (n : ℕ) → Starts kind text start → n ≤ length start → (0 < n → stands_at kind start n ≡ true) → IsMost kind start n → (own rest : List ℕ) → ReadsOne first kind text own rest → (own ≡ take n start) × (rest ≡ drop n start) × (fits first kind start n ≡ true)
+pub read_one_complete : (first joined : Bool) (kind : Kind) (text start : List ℕ) (n : ℕ) → Starts kind text start → n ≤ length start → (0 < n → stands_at kind start n ≡ true) → IsMost kind start n → (own rest : List ℕ) → ReadsOne first joined kind text own rest → (own ≡ take n start) × (rest ≡ drop n start) × (fits first kind start n ≡ true) × (joined ≡ true → is_one_line (take (length text - length start) text) ≡ true)
 unfolding token_of
-read_one_complete first kind text start n s w here most own rest h =
+read_one_complete first joined kind text start n s w here most own rest h =
     let e : start ≡ own ++ rest = s.only h.gap (own ++ rest) h.before h.trivia h.close_by (λ c. solid_no_piece (own ++ rest) (solid (token_of kind own) own rest (text_of_child kind c) h.is_longest)) h.is_text in
     let at : stands_at kind start (length own) ≡ true = stands_here kind start own rest (token_of kind own) e refl h.is_longest.stands in
     let all : length start ≡ length own + length rest = ap length e ∙ length-append own rest in
@@ -323,6 +335,7 @@ read_one_complete first kind text start n s w here most own rest h =
         no_comment = λ g. none_opens start (λ o k. subst (λ z. begins o z ≡ false) (sym e) (h.is_longest.no_comment (no_text_goal kind g) o k));
         ends = λ k. subst (λ z. goes_on z ≡ false) (sym b) (h.is_longest.number_ends k);
       }),
+      (λ o. ap is_one_line (gap_of text h.gap start (h.is_text ∙ ap (λ z. h.gap ++ z) (sym e))) ∙ h.in_line o),
     )
   where
     some_own : (t : List ℕ) → has_shape kind t ≡ true → 0 < length t
@@ -353,3 +366,14 @@ starts_apart kind text start c s = record {
 -- all that is left
 pub rest_all : (n : ℕ) (t : List ℕ) → take (length t - n) (drop n t) ≡ drop n t
 rest_all n t = ap (λ k. take k (drop n t)) (sym (length-drop n t)) ∙ take-length (drop n t)
+
+pub starts_within : (kind : Kind) (text start : List ℕ) → Starts kind text start → length start ≤ length text
+starts_within kind text start s = let all : length text ≡ length s.gap + length start = ap length s.is_text ∙ length-append s.gap start in omega (arith, all)
+
+pub in_line_from : (joined : Bool) (gap : List ℕ) → (not joined || is_one_line gap) ≡ true → joined ≡ true → is_one_line gap ≡ true
+in_line_from true gap h e = h
+in_line_from false gap h e = absurd (true≢false (sym e))
+
+pub in_line_to : (joined : Bool) (gap : List ℕ) → (joined ≡ true → is_one_line gap ≡ true) → (not joined || is_one_line gap) ≡ true
+in_line_to true gap h = h refl
+in_line_to false gap h = refl

@@ -3,17 +3,17 @@ use Rattle.std.proofs.Common.{Bool, List, [], ap, codes, cond, false, refl, subs
 use Rattle.std.proofs.lemmas.Bool.{and_right, cond-false, true≢false}
 use Rattle.swc_ecma_codegen_ast.proofs.Reading.{blank_fuses, reads}
 use Rattle.swc_ecma_codegen_ast.proofs.Tables.{eq_of_same}
-use Rattle.swc_ecma_codegen_ast.specs.Chars.{is_blank}
+use Rattle.swc_ecma_codegen_ast.specs.Chars.{is_blank, is_one_line, is_line_end}
 use Rattle.swc_ecma_codegen_ast.specs.GapRules.{Apart, IntegerEnd, Last, LessBang, LineEnd, Mark, MayBegin, Start, TagNameEnd, TextEnd, Whole, WordEnd, allows, fuses, grows, holds_child, is_choice, last_after, last_after_gap, mark_after, mark_fuses}
 use Rattle.swc_ecma_codegen_ast.specs.Numbers.{takes_dot}
-use Rattle.swc_ecma_codegen_ast.specs.Parts.{AllSpelled, AtStart, Before, Elsewhere, Gap, InLine, InTagName, InText, NoneFuse, Own, Part, TagEnd, before, before_gap, is_between_tags, remarks_in, spaced, text_of, tokens_of, wants}
+use Rattle.swc_ecma_codegen_ast.specs.Parts.{AllSpelled, AtStart, Before, Elsewhere, Gap, InLine, InTagName, InText, NoneFuse, Own, Part, TagEnd, before, before_gap, is_between_tags, remarks_in, spaced, text_of, tokens_of, wants, Joint, OfLine, OnLine, walk, over_own, over_gap, over_joint, is_broken, KeepsLines}
 use Rattle.swc_ecma_codegen_ast.specs.Punctuators.{punctuators}
 use Rattle.swc_ecma_codegen_ast.specs.Reads.{Reads, is_child, is_hashbang_kind}
 use Rattle.swc_ecma_codegen_ast.specs.Texts.{begins, is_same, some_begins}
-use Rattle.swc_ecma_codegen_ast.specs.Tokens.{has_shape, token_of}
+use Rattle.swc_ecma_codegen_ast.specs.Tokens.{has_shape, token_of, same_line}
 use Rattle.swc_ecma_codegen_ast.specs.Trivia.{Blank, Piece, all_pieces, is_piece, piece_text, pieces_text, remarks_of}
 use Rattle.swc_ecma_codegen_ast.specs.declared.kinds.Kind.{Kind}
-use Rattle.swc_ecma_codegen_ast.specs.declared.kinds.Kind.TheVariants.{BigInt, Close, Ending, Hashbang, JsxName, JsxOpen, JsxString, JsxText, Name, Number, PrivateName, Punctuator, Regex, Str, Template, TemplateRest, Word}
+use Rattle.swc_ecma_codegen_ast.specs.declared.kinds.Kind.TheVariants.{BigInt, Close, Ending, Hashbang, JsxName, JsxOpen, JsxString, JsxText, Name, Number, PrivateName, Punctuator, Regex, Str, Template, TemplateRest, Word, SameLine}
 
 -- the last token, and what may stand there
 record Fits (b : Before) (k : Last) : Type 0 where
@@ -105,6 +105,7 @@ fits_own k JsxName t = record { tags = λ e. absurd (true≢false (sym e)); star
 fits_own k JsxString t = elsewhere Whole (λ u. refl)
 fits_own k JsxText t = record { tags = λ e. refl; start = λ e. absurd (text_is_no_start e); follows = λ u h. h }
 fits_own k JsxOpen t = elsewhere (mark_after k t) (mark_allows k t)
+fits_own k SameLine t = elsewhere Apart (λ u. refl)
 fits_own k Hashbang t = record { tags = λ e. absurd (true≢false (sym e)); start = λ e. absurd (line_is_no_start e); follows = λ u h. h }
 
 apart_allows : (t : List ℕ) → allows Apart t ≡ true
@@ -201,6 +202,7 @@ spaced_fuses : (xs : List Part) (b : Before) (k : Last) → AllSpelled b xs → 
 unfolding AllSpelled spaced NoneFuse
 spaced_fuses [] b k h f = f.follows [] h
 spaced_fuses (Gap ps ∷ xs) b k h f = gap_case b k ps xs (fuses k (pieces_text ps)) refl f h.0 h.1 (λ l g. spaced_fuses xs (before_gap b ps) l h.2 g)
+spaced_fuses (Joint ∷ xs) b k h f = spaced_fuses xs b k h f
 spaced_fuses (Own x t ∷ xs) b k h f = own_case b k x t xs (fuses k t) refl f h.0 h.1 h.2 h.3 (λ l g. spaced_fuses xs (before x t) l h.4 g)
 
 own_same : (k : Last) (x : Kind) (t : List ℕ) (xs : List Part) (c : Bool) → ((l : Last) → (tokens_of (spaced l xs) ≡ tokens_of xs) × (remarks_in (spaced l xs) ≡ remarks_in xs))
@@ -221,16 +223,35 @@ pub spaced_same : (xs : List Part) (k : Last) → (tokens_of (spaced k xs) ≡ t
 unfolding tokens_of remarks_in spaced
 spaced_same [] k = (refl, refl)
 spaced_same (Gap ps ∷ xs) k = gap_same k ps xs (fuses k (pieces_text ps)) (λ l. spaced_same xs l)
+spaced_same (Joint ∷ xs) k = let r = spaced_same xs k in (ap (λ z. same_line ∷ z) r.0, r.1)
 spaced_same (Own x t ∷ xs) k = own_same k x t xs (fuses k t) (λ l. spaced_same xs l)
+
+-- a blank ends no line
+own_walk : (k : Last) (x : Kind) (t : List ℕ) (xs : List Part) (c : Bool) (w : OfLine) → ((l : Last) (v : OfLine) → walk v (spaced l xs) ≡ walk v xs) → walk w (cond c (Gap (Blank 32 ∷ []) ∷ Own x t ∷ spaced (last_after Apart x t) xs) (Own x t ∷ spaced (last_after k x t) xs)) ≡ walk (over_own w) xs
+unfolding walk over_gap is_one_line is_line_end pieces_text piece_text
+own_walk k x t xs true w h = h (last_after Apart x t) (over_own w)
+own_walk k x t xs false w h = h (last_after k x t) (over_own w)
+
+gap_walk : (k : Last) (ps : List Piece) (xs : List Part) (c : Bool) (w : OfLine) → ((l : Last) (v : OfLine) → walk v (spaced l xs) ≡ walk v xs) → walk w (cond c (Gap (Blank 32 ∷ []) ∷ Gap ps ∷ spaced (last_after_gap Apart ps) xs) (Gap ps ∷ spaced (last_after_gap k ps) xs)) ≡ walk w (Gap ps ∷ xs)
+unfolding walk over_gap is_one_line is_line_end pieces_text piece_text
+gap_walk k ps xs true w h = h (last_after_gap Apart ps) _
+gap_walk k ps xs false w h = h (last_after_gap k ps) _
+
+spaced_walk : (xs : List Part) (k : Last) (w : OfLine) → walk w (spaced k xs) ≡ walk w xs
+unfolding walk spaced
+spaced_walk [] k w = refl
+spaced_walk (Gap ps ∷ xs) k w = gap_walk k ps xs (fuses k (pieces_text ps)) w (λ l v. spaced_walk xs l v)
+spaced_walk (Joint ∷ xs) k w = spaced_walk xs k (over_joint w)
+spaced_walk (Own x t ∷ xs) k w = own_walk k x t xs (fuses k t) w (λ l v. spaced_walk xs l v)
 
 start_fits : Fits AtStart Start
 unfolding is_between_tags wants allows
 start_fits = record { tags = λ e. absurd (true≢false (sym e)); start = λ e. refl; follows = λ t h. refl }
 
 -- what the second pass leaves reads as the tokens, with the comments between
-pub reads_spaced : (xs : List Part) → AllSpelled AtStart xs → Reads (text_of (spaced Start xs)) (tokens_of xs) (remarks_in xs)
-reads_spaced xs h =
+pub reads_spaced : (xs : List Part) → AllSpelled AtStart xs → KeepsLines xs → Reads (text_of (spaced Start xs)) (tokens_of xs) (remarks_in xs)
+reads_spaced xs h l =
     let s = spaced_same xs Start in
     subst (λ z. Reads (text_of (spaced Start xs)) (tokens_of xs) z) s.1
     (subst (λ z. Reads (text_of (spaced Start xs)) z (remarks_in (spaced Start xs))) s.0
-    (reads (spaced Start xs) (spaced_fuses xs AtStart Start h start_fits)))
+    (reads (spaced Start xs) (spaced_fuses xs AtStart Start h start_fits) (ap is_broken (spaced_walk xs Start OnLine) ∙ l)))

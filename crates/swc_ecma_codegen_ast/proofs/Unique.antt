@@ -1,6 +1,7 @@
 -- For given kinds of tokens a text reads as one list at most, with one list of remarks.
 use Rattle.std.proofs.Common.{Bool, List, [], ap, append-nil, append_assoc, ap₂, codes, false, inl, inr, not, refl, subst, sym, true, ℕ, ◌&&◌, ◌++◌, ◌==◌, ◌∙◌, ◌∷◌, ◌≡◌, ◌⊎◌}
 use Rattle.std.proofs.lemmas.Bool.{and_parts, not-true, true≢false}
+use Rattle.swc_ecma_codegen_ast.proofs.Conditions.{same_line_unspelled}
 use Rattle.swc_ecma_codegen_ast.proofs.Heads.{AsClose, AsMark, AsRegex, AsText, HasHead, Head, Plain, has_head, head_of, plain_solid}
 use Rattle.swc_ecma_codegen_ast.proofs.Marks.{mark_head}
 use Rattle.swc_ecma_codegen_ast.proofs.RegexShapes.{regex_head}
@@ -10,7 +11,7 @@ use Rattle.swc_ecma_codegen_ast.specs.Punctuators.{punctuators}
 use Rattle.swc_ecma_codegen_ast.specs.Reads.{Reads, ReadsOn, is_child, is_close_by, kinds_of}
 use Rattle.swc_ecma_codegen_ast.specs.RegularExpressions.{is_regex}
 use Rattle.swc_ecma_codegen_ast.specs.Texts.{begins, is_among, is_same}
-use Rattle.swc_ecma_codegen_ast.specs.Tokens.{Child, Spells, Token, goal, has_shape, value_of}
+use Rattle.swc_ecma_codegen_ast.specs.Tokens.{Child, Spells, Token, goal, has_shape, value_of, same_line}
 use Rattle.swc_ecma_codegen_ast.specs.Trivia.{Blank, BlockOf, LineOf, Piece, Remark, Trivia, all_pieces, is_open, is_piece, piece_text, pieces_text, remarks_of}
 use Rattle.swc_ecma_codegen_ast.specs.declared.kinds.Kind.{Kind}
 use Rattle.swc_ecma_codegen_ast.specs.declared.kinds.Kind.TheVariants.{JsxText}
@@ -222,21 +223,31 @@ gap_case x a b own1 own2 u v cs ds false c h j f g l m e = same_trivia a b (own1
 pub head_kind : {x y : Kind} {xs ys : List Kind} → x ∷ xs ≡ y ∷ ys → (x ≡ y) × (xs ≡ ys)
 head_kind e = (cc e, cc e)
 
-reads_on_once : (xs ys : List Token) (first : Bool) (text : List ℕ) (cs ds : List Remark) → ReadsOn first text xs cs → ReadsOn first text ys ds → kinds_of xs ≡ kinds_of ys → (xs ≡ ys) × (cs ≡ ds)
+-- what is `[no LineTerminator here]` is no token
+no_shape : (x y : Token) (t : List ℕ) → x ≡ same_line → y.kind ≡ x.kind → has_shape y.kind t ≡ true → ⊥
+unfolding same_line
+no_shape x y t e k h = same_line_unspelled t (subst (λ z. has_shape z t ≡ true) (k ∙ ap (λ (z : Token). z.kind) e) h)
+
+reads_on_once : (xs ys : List Token) (first joined : Bool) (text : List ℕ) (cs ds : List Remark) → ReadsOn first joined text xs cs → ReadsOn first joined text ys ds → kinds_of xs ≡ kinds_of ys → (xs ≡ ys) × (cs ≡ ds)
 unfolding ReadsOn kinds_of
-reads_on_once [] [] first text cs ds h k a = (refl, (same_trivia text text [] [] cs ds h k refl nothing_solid nothing_solid).0)
-reads_on_once [] (y ∷ ys) first text cs ds h k a = absurd (cc)
-reads_on_once (x ∷ xs) [] first text cs ds h k a = absurd (cc)
-reads_on_once (x ∷ xs) (y ∷ ys) first text cs ds h k a =
+reads_on_once [] [] first joined text cs ds h k a = (refl, (same_trivia text text [] [] cs ds h k refl nothing_solid nothing_solid).0)
+reads_on_once [] (y ∷ ys) first joined text cs ds h k a = absurd (cc)
+reads_on_once (x ∷ xs) [] first joined text cs ds h k a = absurd (cc)
+reads_on_once (x ∷ xs) (y ∷ ys) first joined text cs ds (inl h) (inl k) a =
+    let later = reads_on_once xs ys first true text cs ds h.1 k.1 (head_kind a).1 in
+    (ap₂ (λ z zs. z ∷ zs) (h.0 ∙ sym k.0) later.0, later.1)
+reads_on_once (x ∷ xs) (y ∷ ys) first joined text cs ds (inl h) (inr k) a = absurd (no_shape x y k.1 h.0 (sym (head_kind a).0) k.10.stands.spells.shape)
+reads_on_once (x ∷ xs) (y ∷ ys) first joined text cs ds (inr h) (inl k) a = absurd (no_shape y x h.1 k.0 (head_kind a).0 h.10.stands.spells.shape)
+reads_on_once (x ∷ xs) (y ∷ ys) first joined text cs ds (inr h) (inr k) a =
     let kinds = head_kind a in
     let same : x.kind ≡ y.kind = kinds.0 in
     let e : h.0 ++ (h.1 ++ h.2) ≡ k.0 ++ (k.1 ++ k.2) = sym h.5 ∙ k.5 in
     let close : is_close_by x.kind ≡ is_close_by y.kind = ap is_close_by same in
-    let f = gap_case x.kind h.0 k.0 h.1 k.1 h.2 k.2 h.3 k.3 (is_close_by x.kind) refl h.6 k.6 h.7 (λ c. k.7 (sym close ∙ c)) (λ n. solid x h.1 h.2 n h.9) (λ n. solid y k.1 k.2 (λ c. n (ap goal same ∙ c)) k.9) e in
-    let one = same_longest x y h.1 k.1 h.2 k.2 h.9 k.9 f.1 same in
-    let later = reads_on_once xs ys false h.2 h.4 k.4 h.10 (subst (λ z. ReadsOn false z ys k.4) (sym one.2) k.10) kinds.1 in
-    (ap₂ (λ z zs. z ∷ zs) one.0 later.0, h.11 ∙ ap₂ (λ z zs. z ++ zs) f.0 later.1 ∙ sym k.11)
+    let f = gap_case x.kind h.0 k.0 h.1 k.1 h.2 k.2 h.3 k.3 (is_close_by x.kind) refl h.6 k.6 h.7 (λ c. k.7 (sym close ∙ c)) (λ n. solid x h.1 h.2 n h.10) (λ n. solid y k.1 k.2 (λ c. n (ap goal same ∙ c)) k.10) e in
+    let one = same_longest x y h.1 k.1 h.2 k.2 h.10 k.10 f.1 same in
+    let later = reads_on_once xs ys false false h.2 h.4 k.4 h.11 (subst (λ z. ReadsOn false false z ys k.4) (sym one.2) k.11) kinds.1 in
+    (ap₂ (λ z zs. z ∷ zs) one.0 later.0, h.12 ∙ ap₂ (λ z zs. z ++ zs) f.0 later.1 ∙ sym k.12)
 
 pub reads_once : (xs ys : List Token) (text : List ℕ) (cs ds : List Remark) → Reads text xs cs → Reads text ys ds → kinds_of xs ≡ kinds_of ys → (xs ≡ ys) × (cs ≡ ds)
 unfolding Reads
-reads_once xs ys text cs ds h k a = reads_on_once xs ys true text cs ds h k a
+reads_once xs ys text cs ds h k a = reads_on_once xs ys true false text cs ds h k a

@@ -1,6 +1,6 @@
--- Declarations: one production a node. `f` says what is read of what a link holds, in its role. Classes, and what TypeScript adds,
--- `declare` and `!` after a name, aren't printed yet.
-use Rattle.std.specs.Prelude.{if◌then◌else◌, map, codes}
+-- Declarations: one production a node. `f` says what is read of what a link holds, in its role. What TypeScript adds, `declare` and
+-- `!` after a name, isn't printed yet.
+use Rattle.std.specs.Prelude.{Bool, true, false, if◌then◌else◌, map, codes}
 use Rattle.swc_ecma_codegen_tree.specs.declared.stmt_links.DeclBox.{DeclBox}
 use Rattle.swc_ecma_codegen_tree.specs.declared.stmt_links.VarDeclBox.{VarDeclBox}
 use Rattle.swc_ecma_codegen_tree.specs.declared.decls.Decl.{Decl}
@@ -11,10 +11,11 @@ use Rattle.swc_ecma_codegen_tree.specs.declared.decls.VarDecl.{VarDecl}
 use Rattle.swc_ecma_codegen_tree.specs.declared.decls.VarDeclKind.{VarDeclKind}
 use Rattle.swc_ecma_codegen_tree.specs.declared.decls.VarDeclKind.TheVariants.{Var, Let, Const}
 use Rattle.swc_ecma_codegen_tree.specs.declared.decls.VarDeclarator.{VarDeclarator}
-use Rattle.swc_ecma_codegen_ast.specs.Phrases.{Phrase, Never, ◌>◌, word, ending, some_listed}
+use Rattle.swc_ecma_codegen_ast.specs.Phrases.{Phrase, Never, ◌>◌, word, same_line, ending, some_listed}
 use Rattle.swc_ecma_codegen_ast.specs.NamePhrases.{ident}
 use Rattle.swc_ecma_codegen_ast.specs.PatPhrases.{pat_at, initializer}
-use Rattle.swc_ecma_codegen_ast.specs.FunctionPhrases.{word_if, function_at}
+use Rattle.swc_ecma_codegen_ast.specs.ClassPhrases.{class_decl}
+use Rattle.swc_ecma_codegen_ast.specs.FunctionPhrases.{function_at}
 use Rattle.swc_ecma_codegen_ast.specs.declared.roles.Role.{Role}
 use Rattle.swc_ecma_codegen_ast.specs.declared.roles.Role.TheVariants.{FunctionHead, Declaration, VariableDeclaration}
 
@@ -42,12 +43,18 @@ var_kind Const = word (codes "const")
 unfoldable pub var_decl : {X : Type 0} → (X → Role → Phrase) → VarDecl X → Phrase
 var_decl f n = if n.declare then Never else (var_kind n.kind > some_listed (codes ",") (map (var_declarator f) n.decls.items))
 
+-- behind `await`, where it is so, with no line end between
+unfoldable pub after_await : Bool → Phrase → Phrase
+after_await true phrase = word (codes "await") > same_line > phrase
+after_await false phrase = phrase
+
 -- a proposal: `await using a = b, c = d`, of one declarator at least
 unfoldable pub using_decl : {X : Type 0} → (X → Role → Phrase) → UsingDecl X → Phrase
-using_decl f n = word_if n.is_await (word (codes "await")) > word (codes "using") > some_listed (codes ",") (map (var_declarator f) n.decls.items)
+using_decl f n = after_await n.is_await (word (codes "using") > some_listed (codes ",") (map (var_declarator f) n.decls.items))
 
 -- one of variables ends with a semicolon here, and has none in the head of a `for`
 unfoldable pub decl : {X : Type 0} → (X → Role → Phrase) → Decl X → Phrase
+decl f (decls.Class n) = class_decl f n
 decl f (decls.Fn n) = fn_decl f n
 decl f (decls.Var n) = var_decl_at f n > ending
 decl f (decls.Using n) = using_decl f n > ending

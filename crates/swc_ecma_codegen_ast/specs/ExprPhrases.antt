@@ -35,15 +35,17 @@ use Rattle.swc_ecma_codegen_tree.specs.declared.exprs.SpreadElement.{SpreadEleme
 use Rattle.swc_ecma_codegen_tree.specs.declared.exprs.CondExpr.{CondExpr}
 use Rattle.swc_ecma_codegen_tree.specs.declared.exprs.SeqExpr.{SeqExpr}
 use Rattle.swc_ecma_codegen_tree.specs.declared.exprs.ParenExpr.{ParenExpr}
-use Rattle.swc_ecma_codegen_ast.specs.Phrases.{Phrase, Never, Nothing, One, OptionalParentheses, ◌>◌, word, mark, some_listed}
+use Rattle.swc_ecma_codegen_ast.specs.Phrases.{Phrase, Never, Nothing, One, OptionalParentheses, ◌>◌, word, mark, some_listed, same_line}
 use Rattle.swc_ecma_codegen_ast.specs.Tokens.{Token}
 use Rattle.swc_ecma_codegen_ast.specs.Tokens as tokens
 use Rattle.swc_ecma_codegen_ast.specs.declared.roles.Role.{Role}
-use Rattle.swc_ecma_codegen_ast.specs.declared.roles.Role.TheVariants.{Expression, MemberExpression, ChainMember, AssignmentTarget, ObjectLiteral, ChainCall}
+use Rattle.swc_ecma_codegen_ast.specs.declared.roles.Role.TheVariants.{Expression, MemberExpression, ChainMember, AssignmentTarget, ObjectLiteral, ChainCall, Template}
 use Rattle.swc_ecma_codegen_ast.specs.FunctionPhrases.{fn_expr, arrow_expr}
+use Rattle.swc_ecma_codegen_ast.specs.TemplatePhrases.{tagged_tpl}
+use Rattle.swc_ecma_codegen_ast.specs.ClassPhrases.{class_expr}
 use Rattle.swc_ecma_codegen_ast.specs.CallPhrases.{callee_at, array_lit, call_expr, new_expr}
 use Rattle.swc_ecma_codegen_ast.specs.LitPhrases.{lit}
-use Rattle.swc_ecma_codegen_ast.specs.NamePhrases.{ident, ident_name}
+use Rattle.swc_ecma_codegen_ast.specs.NamePhrases.{ident, ident_name, private_name}
 
 -- an expression that a link holds
 abbrev pub expr_at : {X : Type 0} → (X → Role → Phrase) → ExprBox X → Phrase
@@ -74,7 +76,7 @@ unary_expr f n = One (unary_op n.op) > expr_at f n.arg
 
 -- section 13.4
 unfoldable pub update_expr : {X : Type 0} → (X → Role → Phrase) → UpdateExpr X → Phrase
-update_expr f n = if n.prefix then One (update_op n.op) > expr_at f n.arg else (expr_at f n.arg > One (update_op n.op))
+update_expr f n = if n.prefix then One (update_op n.op) > expr_at f n.arg else (expr_at f n.arg > same_line > One (update_op n.op))
 
 -- sections 13.6 to 13.13
 unfoldable pub bin_expr : {X : Type 0} → (X → Role → Phrase) → BinExpr X → Phrase
@@ -86,8 +88,8 @@ computed_prop_name f n = mark (codes "[") > expr_at f n.expr > mark (codes "]")
 
 unfoldable pub member_prop : {X : Type 0} → (X → Role → Phrase) → MemberProp X → Phrase
 member_prop f (member_props.Ident n) = mark (codes ".") > ident_name n
+member_prop f (member_props.PrivateName n) = mark (codes ".") > private_name n
 member_prop f (member_props.Computed n) = computed_prop_name f n
-member_prop f n = Never
 
 unfoldable pub member_expr : {X : Type 0} → (X → Role → Phrase) → MemberExpr X → Phrase
 member_expr f n = callee_at f n.obj > member_prop f n.prop
@@ -112,8 +114,8 @@ chain_mark false n = mark (codes ".")
 
 unfoldable pub chain_prop : {X : Type 0} → (X → Role → Phrase) → MemberProp X → Phrase
 chain_prop f (member_props.Ident n) = ident_name n
+chain_prop f (member_props.PrivateName n) = private_name n
 chain_prop f (member_props.Computed n) = computed_prop_name f n
-chain_prop f n = Never
 
 unfoldable pub chain_member : {X : Type 0} → (X → Role → Phrase) → Bool → MemberExpr X → Phrase
 chain_member f optional n = callee_at f n.obj > chain_mark optional n.prop > chain_prop f n.prop
@@ -145,8 +147,14 @@ unfoldable pub yield_arg : {X : Type 0} → (X → Role → Phrase) → Option (
 yield_arg f None = Nothing
 yield_arg f (Some arg) = OptionalParentheses (expr_at f arg)
 
+-- no line may end between `yield` and what belongs to it
+unfoldable pub yield_rest : {X : Type 0} → (X → Role → Phrase) → Bool → Option (ExprBox X) → Phrase
+yield_rest f true arg = same_line > mark (codes "*") > yield_arg f arg
+yield_rest f false None = Nothing
+yield_rest f false (Some arg) = same_line > OptionalParentheses (expr_at f arg)
+
 unfoldable pub yield_expr : {X : Type 0} → (X → Role → Phrase) → YieldExpr X → Phrase
-yield_expr f n = word (codes "yield") > (if n.delegate then mark (codes "*") else Nothing) > yield_arg f n.arg
+yield_expr f n = word (codes "yield") > yield_rest f n.delegate n.arg
 
 -- section 15.8
 unfoldable pub await_expr : {X : Type 0} → (X → Role → Phrase) → AwaitExpr X → Phrase
@@ -181,11 +189,15 @@ expr f (exprs.New n) = new_expr f false n
 expr f (exprs.Seq n) = seq_expr f n
 expr f (exprs.Ident n) = ident n
 expr f (exprs.Lit n) = lit n
+expr f (exprs.Tpl n) = f n.node.value Template
+expr f (exprs.TaggedTpl n) = tagged_tpl f n
 expr f (exprs.Arrow n) = arrow_expr f n
+expr f (exprs.Class n) = class_expr f n
 expr f (exprs.Yield n) = yield_expr f n
 expr f (exprs.MetaProp n) = meta_prop_expr n
 expr f (exprs.Await n) = await_expr f n
 expr f (exprs.Paren n) = paren_expr f n
+expr f (exprs.PrivateName n) = private_name n
 expr f (exprs.OptChain n) = opt_chain_expr f n
 -- what isn't printed yet
 expr f n = Never

@@ -12,7 +12,7 @@ use Rattle.swc_ecma_codegen_tree.specs.declared.exprs.ArrowExpr.{ArrowExpr}
 use Rattle.swc_ecma_codegen_tree.specs.declared.exprs.BlockStmtOrExpr.{BlockStmtOrExpr}
 use Rattle.swc_ecma_codegen_tree.specs.declared.exprs.BlockStmtOrExpr.TheVariants as bodies
 use Rattle.swc_ecma_codegen_tree.specs.declared.idents.Ident.{Ident}
-use Rattle.swc_ecma_codegen_ast.specs.Phrases.{Phrase, Never, Nothing, OptionalParentheses, ◌>◌, word, mark, ending, listed, in_order}
+use Rattle.swc_ecma_codegen_ast.specs.Phrases.{Phrase, Never, Nothing, OptionalParentheses, ◌>◌, word, mark, ending, listed, in_order, same_line}
 use Rattle.swc_ecma_codegen_ast.specs.NamePhrases.{ident}
 use Rattle.swc_ecma_codegen_ast.specs.PatPhrases.{value_at, pat_at}
 use Rattle.swc_ecma_codegen_ast.specs.declared.roles.Role.{Role}
@@ -29,6 +29,11 @@ function_at f n = f n.node.value Function
 unfoldable pub word_if : Bool → Phrase → Phrase
 word_if true phrase = phrase
 word_if false phrase = Nothing
+
+-- behind `async`, where it is so, with no line end between
+unfoldable pub after_async : Bool → Phrase → Phrase
+after_async true phrase = word (codes "async") > same_line > phrase
+after_async false phrase = phrase
 
 -- there is something in a list
 unfoldable pub is_some_listed : {A : Type 0} → List A → Bool
@@ -56,11 +61,11 @@ function f n =
 
 -- sections 15.2, 15.5, 15.6 and 15.8: `function`, `function*`, `async function`, `async function*`
 unfoldable pub function_head : {X : Type 0} → functions.Function X → Phrase
-function_head n = word_if n.is_async (word (codes "async")) > word (codes "function") > word_if n.is_generator (mark (codes "*"))
+function_head n = after_async n.is_async (word (codes "function") > word_if n.is_generator (mark (codes "*")))
 
 -- sections 15.4 to 15.6 and 15.8: `async *` of a method, or a part of it
 unfoldable pub method_head : {X : Type 0} → functions.Function X → Phrase
-method_head n = word_if n.is_async (word (codes "async")) > word_if n.is_generator (mark (codes "*"))
+method_head n = after_async n.is_async (word_if n.is_generator (mark (codes "*")))
 
 -- a name, where there is one
 unfoldable pub optional_name : Option Ident → Phrase
@@ -93,4 +98,4 @@ arrow_body f (bodies.Expr n) = value_at f n
 unfoldable pub arrow_expr : {X : Type 0} → (X → Role → Phrase) → ArrowExpr X → Phrase
 arrow_expr f n =
     if is_some n.type_params || is_some n.return_type then Never
-    else (word_if n.is_async (word (codes "async")) > word_if n.is_generator (mark (codes "*")) > arrow_parameters f n.params.items > mark (codes "=>") > arrow_body f n.body)
+    else after_async n.is_async (word_if n.is_generator (mark (codes "*")) > arrow_parameters f n.params.items > same_line > mark (codes "=>") > arrow_body f n.body)

@@ -9,6 +9,7 @@ use Rattle.swc_ecma_codegen_ast.specs.Tokens.{Token, ending}
 pub record AreAlike (s t : Settings) : Type 0 where
   pub target : s.target ≡ t.target
   pub ascii_only : s.ascii_only ≡ t.ascii_only
+  pub assert_for_attributes : s.assert_for_attributes ≡ t.assert_for_attributes
 
 -- The second list is the first with some of these put in: semicolons that end a statement, commas, and parentheses, each pair
 -- round what stands between the two. So `(a) => new B();` is `a => new B` with such.

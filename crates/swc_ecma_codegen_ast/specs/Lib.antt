@@ -9,6 +9,9 @@ pub mod ElementPhrases
 pub mod Endings
 pub mod ExprPhrases
 pub mod FunctionPhrases
+pub mod TemplatePhrases
+pub mod ClassPhrases
+pub mod ModulePhrases
 pub mod GapRules
 pub mod Hashbangs
 pub mod HeldNumbers

@@ -1,16 +1,20 @@
 -- Parts of expressions and statements that links hold: a production for each sort, in its role.
+use Rattle.std.specs.Prelude.{true, false}
 use Rattle.swc_ecma_codegen_tree.specs.declared.parts.ExprPart.{ExprPart}
 use Rattle.swc_ecma_codegen_tree.specs.declared.parts.ExprPart.TheVariants as expr_parts
 use Rattle.swc_ecma_codegen_tree.specs.declared.parts.StmtPart.{StmtPart}
 use Rattle.swc_ecma_codegen_tree.specs.declared.parts.StmtPart.TheVariants as stmt_parts
 use Rattle.swc_ecma_codegen_ast.specs.Phrases.{Phrase, Never}
 use Rattle.swc_ecma_codegen_ast.specs.declared.roles.Role.{Role}
-use Rattle.swc_ecma_codegen_ast.specs.declared.roles.Role.TheVariants.{AssignmentTarget, Pattern, PlainParameter, PropertyName, PropertyDefinition, ObjectLiteral, Function, FunctionHead, MethodHead, Block, Declaration, VariableDeclaration, ChainCall}
+use Rattle.swc_ecma_codegen_ast.specs.declared.roles.Role.TheVariants.{AssignmentTarget, Pattern, PlainParameter, PropertyName, PropertyDefinition, ObjectLiteral, Function, FunctionHead, MethodHead, Block, Declaration, VariableDeclaration, ChainCall, Template, TaggedTemplate, ClassHead, ClassTail, Member, MethodDecorators, MethodTail, PrivateTail, Item, ModuleDeclaration, ExportedHead, ExportedTail}
 use Rattle.swc_ecma_codegen_ast.specs.AssignPhrases.{assign_target}
 use Rattle.swc_ecma_codegen_ast.specs.CallPhrases.{chain_call}
+use Rattle.swc_ecma_codegen_ast.specs.ModulePhrases.{exported_head, exported_tail, module_item, module_decl}
 use Rattle.swc_ecma_codegen_ast.specs.PatPhrases.{pat, plain_parameter}
 use Rattle.swc_ecma_codegen_ast.specs.PropPhrases.{object_lit, prop_name, prop}
 use Rattle.swc_ecma_codegen_ast.specs.FunctionPhrases.{function, function_head, method_head}
+use Rattle.swc_ecma_codegen_ast.specs.TemplatePhrases.{tpl}
+use Rattle.swc_ecma_codegen_ast.specs.ClassPhrases.{class_head, class_tail, class_member, method_decorators, method_tail, private_tail}
 use Rattle.swc_ecma_codegen_ast.specs.DeclPhrases.{decl, var_decl}
 use Rattle.swc_ecma_codegen_ast.specs.StmtPhrases.{block_stmt}
 
@@ -22,13 +26,25 @@ expr_part f (expr_parts.PropName n) PropertyName = prop_name f n
 expr_part f (expr_parts.Prop n) PropertyDefinition = prop f n
 expr_part f (expr_parts.OptCall n) (ChainCall optional) = chain_call f optional n
 expr_part f (expr_parts.AssignTarget n) AssignmentTarget = assign_target f n
+expr_part f (expr_parts.Tpl n) Template = tpl f false n
+expr_part f (expr_parts.Tpl n) TaggedTemplate = tpl f true n
 expr_part f n role = Never
 
 unfoldable pub stmt_part : {X : Type 0} → (X → Role → Phrase) → StmtPart X → Role → Phrase
 stmt_part f (stmt_parts.Function n) Function = function f n.value
 stmt_part f (stmt_parts.Function n) FunctionHead = function_head n.value
 stmt_part f (stmt_parts.Function n) MethodHead = method_head n.value
+stmt_part f (stmt_parts.Function n) MethodDecorators = method_decorators f n.value
+stmt_part f (stmt_parts.Function n) MethodTail = method_tail f n.value
+stmt_part f (stmt_parts.Function n) PrivateTail = private_tail f n.value
+stmt_part f (stmt_parts.Class n) ClassHead = class_head f n.value
+stmt_part f (stmt_parts.Class n) ClassTail = class_tail f n.value
+stmt_part f (stmt_parts.ClassMember n) Member = class_member f n.value
 stmt_part f (stmt_parts.BlockStmt n) Block = block_stmt f n
 stmt_part f (stmt_parts.Decl n) Declaration = decl f n.value
+stmt_part f (stmt_parts.Decl n) ExportedHead = exported_head f n.value
+stmt_part f (stmt_parts.Decl n) ExportedTail = exported_tail f n.value
+stmt_part f (stmt_parts.ModuleItem n) Item = module_item f n
+stmt_part f (stmt_parts.ModuleDecl n) ModuleDeclaration = module_decl f n.value
 stmt_part f (stmt_parts.VarDecl n) VariableDeclaration = var_decl f n
 stmt_part f n role = Never

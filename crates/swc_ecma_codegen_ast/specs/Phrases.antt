@@ -8,14 +8,15 @@ use Rattle.swc_ecma_codegen_ast.specs.SpelledNames.{spelled_name, is_well_formed
 use Rattle.swc_ecma_codegen_ast.specs.Tokens.{Token}
 use Rattle.swc_ecma_codegen_ast.specs.Tokens as tokens
 
--- What is chosen by the settings: `()` after `new A`, which isn't there where they are to minify, and the semicolon that ends
--- `do a; while (b);`, which is there for a version before 2015.
+-- What is chosen by the settings: `()` after `new A`, which isn't there where they are to minify; the semicolon that ends
+-- `do a; while (b);`, which is there for a version before 2015; the word before import attributes, `with` or, as a proposal had it, `assert`.
 pub data Choice : Type 0 where
   EmptyArguments : Choice
   LoopEnding : Choice
+  AttributesWord : Choice
 
 -- No list at all, no token, one token, a name by its bytes in the tree and where it stands in its source, the same of a key of
--- a property, or one list and then another. What syntax leaves open: a comma or none, `[a,] = b` or `[a] = b`; a list, bare or
+-- a property, a private name by its bytes in the tree, without `#`, or one list and then another. What syntax leaves open: a comma or none, `[a,] = b` or `[a] = b`; a list, bare or
 -- in parentheses, `a => b` or `(a) => b`; what is chosen by the settings.
 pub data Phrase : Type 0 where
   Never : Phrase
@@ -23,6 +24,7 @@ pub data Phrase : Type 0 where
   One : (token : Token) → Phrase
   NameOf : (at : BytePos) → (bytes : List ℕ) → Phrase
   KeyOf : (at : BytePos) → (bytes : List ℕ) → Phrase
+  PrivateOf : (bytes : List ℕ) → Phrase
   Then : (first second : Phrase) → Phrase
   OptionalComma : Phrase
   OptionalParentheses : (inside : Phrase) → Phrase
@@ -48,6 +50,7 @@ in_parentheses ts = open_parenthesis ∷ (ts ++ (close_parenthesis ∷ []))
 unfoldable pub chosen : Settings → Choice → List Token
 chosen s EmptyArguments = if s.minify then [] else in_parentheses []
 chosen s LoopEnding = if is_up_to_es5 s.target then tokens.ending ∷ [] else []
+chosen s AttributesWord = tokens.word (if s.assert_for_attributes then codes "assert" else codes "with") ∷ []
 
 -- A list is one of the set, under these settings.
 unfoldable pub Generates : Settings → Phrase → List Token → Type 0
@@ -56,6 +59,7 @@ Generates s Nothing ts = ts ≡ []
 Generates s (One x) ts = ts ≡ x ∷ []
 Generates s (NameOf at bytes) ts = ts ≡ tokens.name (name_value (spelled_name bytes)) ∷ []
 Generates s (KeyOf at bytes) ts = ts ≡ key_token s bytes ∷ []
+Generates s (PrivateOf bytes) ts = ts ≡ tokens.private_name (name_value (spelled_name bytes)) ∷ []
 Generates s (Then a b) ts = (us vs : List Token) × Generates s a us × Generates s b vs × (ts ≡ us ++ vs)
 Generates s OptionalComma ts = (ts ≡ []) ⊎ (ts ≡ comma ∷ [])
 Generates s (OptionalParentheses a) ts = Generates s a ts ⊎ ((us : List Token) × Generates s a us × (ts ≡ in_parentheses us))
@@ -68,6 +72,7 @@ is_possible Nothing = true
 is_possible (One x) = true
 is_possible (NameOf at bytes) = is_well_formed_name bytes
 is_possible (KeyOf at bytes) = is_well_formed_name bytes
+is_possible (PrivateOf bytes) = is_well_formed_name bytes
 is_possible (Then a b) = is_possible a && is_possible b
 is_possible OptionalComma = true
 is_possible (OptionalParentheses a) = is_possible a
@@ -79,13 +84,14 @@ pub record PlacedName : Type 0 where
   pub bytes : List ℕ
   pub is_key : Bool
 
--- the names in order
+-- the names in order, save private ones
 unfoldable pub names_in : Phrase → List PlacedName
 names_in Never = []
 names_in Nothing = []
 names_in (One x) = []
 names_in (NameOf at bytes) = record { at = at; bytes = bytes; is_key = false } ∷ []
 names_in (KeyOf at bytes) = record { at = at; bytes = bytes; is_key = true } ∷ []
+names_in (PrivateOf bytes) = []
 names_in (Then a b) = names_in a ++ names_in b
 names_in OptionalComma = []
 names_in (OptionalParentheses a) = names_in a
@@ -105,6 +111,10 @@ mark spelling = One (tokens.punctuator spelling)
 -- the semicolon that ends a statement
 abbrev pub ending : Phrase
 ending = One tokens.ending
+
+-- `[no LineTerminator here]`
+abbrev pub same_line : Phrase
+same_line = One tokens.same_line
 
 -- what is there
 unfoldable pub if_some : Option Phrase → Phrase

@@ -1,14 +1,14 @@
 -- One step of reading.
-use Rattle.std.specs.Prelude.{◌≡◌, ℕ, Bool, true, false, not, List, [], ◌∷◌, ◌++◌, ◌&&◌, ◌||◌, codes, take, drop, nat_lt, length}
+use Rattle.std.specs.Prelude.{◌≡◌, ◌⊎◌, ℕ, Bool, true, false, not, List, [], ◌∷◌, ◌++◌, ◌&&◌, ◌||◌, codes, take, drop, nat_lt, length}
 use Rattle.swc_ecma_codegen_ast.specs.declared.kinds.Kind.{Kind}
 use Rattle.swc_ecma_codegen_ast.specs.declared.kinds.TemplatePart.{TemplatePart}
-use Rattle.swc_ecma_codegen_ast.specs.Chars.{begins_digit}
+use Rattle.swc_ecma_codegen_ast.specs.Chars.{begins_digit, is_one_line}
 use Rattle.swc_ecma_codegen_ast.specs.Texts.{is_same, begins}
-use Rattle.swc_ecma_codegen_ast.specs.Tokens.{Token, Goal, Ordinary, RegularExpression, TemplateTail, FirstLine, Closing, InTag, Attribute, Child, has_shape, token_of, goal}
+use Rattle.swc_ecma_codegen_ast.specs.Tokens.{Token, Goal, Ordinary, RegularExpression, TemplateTail, FirstLine, Closing, InTag, Attribute, Child, NoToken, has_shape, token_of, goal}
 use Rattle.swc_ecma_codegen_ast.specs.declared.kinds.Kind.TheVariants.{Word, Name, PrivateName, Punctuator, Number, BigInt, Str, Regex, Template, TemplateRest, Close, JsxName, JsxString, JsxText, JsxOpen, Hashbang}
 use Rattle.swc_ecma_codegen_ast.specs.LongestMatch.{IsLongest, is_numeric_kind, goes_on}
 use Rattle.swc_ecma_codegen_ast.specs.Trivia.{Remark, Trivia}
-use Rattle.swc_ecma_codegen_ast.specs.Reads.{Reads, kinds_of, is_close_by, is_hashbang_kind}
+use Rattle.swc_ecma_codegen_ast.specs.Reads.{Reads, kinds_of, is_close_by, is_hashbang_kind, is_same_line}
 use Rattle.swc_ecma_codegen_ast.specs.Skipping.{NoPiece}
 
 unfoldable pub some_part : (TemplatePart → Bool) → Bool
@@ -28,20 +28,32 @@ some_shape Closing text = has_shape Close text
 some_shape InTag text = has_shape JsxName text
 some_shape Attribute text = has_shape JsxString text
 some_shape Child text = has_shape JsxText text
+some_shape NoToken text = false
 
 -- the first n characters are a token of a goal, where the others follow
 unfoldable pub stands_at : Kind → List ℕ → ℕ → Bool
 stands_at kind text n = some_shape (goal kind) (take n text) && not (is_same (take n text) (codes "?.") && begins_digit (drop n text))
 
--- a text is trivia, a longest token of a kind, and what is left
-pub record ReadsOne (first : Bool) (kind : Kind) (text own rest : List ℕ) : Type 0 where
+-- A text is trivia, a longest token of a kind, and what is left. `joined`: the trivia hold no line terminator.
+pub record ReadsOne (first joined : Bool) (kind : Kind) (text own rest : List ℕ) : Type 0 where
   pub gap : List ℕ
   pub before : List Remark
   pub is_text : text ≡ gap ++ (own ++ rest)
   pub trivia : Trivia gap before
   pub close_by : is_close_by kind ≡ true → gap ≡ []
   pub at_start : is_hashbang_kind kind ≡ true → first ≡ true
+  pub in_line : joined ≡ true → is_one_line gap ≡ true
   pub is_longest : IsLongest (token_of kind own) own rest
+
+-- The same of `[no LineTerminator here]`, which is no text.
+unfoldable pub ReadsNext : Bool → Bool → Kind → List ℕ → List ℕ → List ℕ → Type 0
+ReadsNext first joined kind text own rest =
+    ((is_same_line kind ≡ true) × (own ≡ []) × (rest ≡ text))
+    ⊎ ((is_same_line kind ≡ false) × ReadsOne first joined kind text own rest)
+
+-- a text goes on with no token of a kind
+unfoldable pub ReadsNone : Bool → Bool → Kind → List ℕ → Type 0
+ReadsNone first joined kind text = (is_same_line kind ≡ false) × ((own rest : List ℕ) → ReadsOne first joined kind text own rest → ⊥)
 
 -- tokens of given kinds, as they are spelled
 unfoldable pub tokens_as : List Kind → List (List ℕ) → List Token

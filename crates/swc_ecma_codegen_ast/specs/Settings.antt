@@ -7,6 +7,7 @@ pub record Settings : Type 0 where
   pub target : EsVersion
   pub ascii_only : Bool
   pub minify : Bool
+  pub assert_for_attributes : Bool
 
 -- a version before 2015
 unfoldable pub is_up_to_es5 : EsVersion → Bool

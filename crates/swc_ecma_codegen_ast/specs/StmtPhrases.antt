@@ -1,8 +1,10 @@
 -- Statements and programs: one production a node. `f` says what is read of what a link holds, in its role.
 use Rattle.std.specs.Prelude.{if◌then◌else◌, is_some, map, codes, Option, Some, None}
+use Rattle.swc_ecma_codegen_tree.specs.declared.idents.Ident.{Ident}
 use Rattle.swc_ecma_codegen_tree.specs.declared.expr_links.ExprBox.{ExprBox}
 use Rattle.swc_ecma_codegen_tree.specs.declared.expr_links.PatBox.{PatBox}
 use Rattle.swc_ecma_codegen_tree.specs.declared.stmt_links.BlockStmtBox.{BlockStmtBox}
+use Rattle.swc_ecma_codegen_tree.specs.declared.stmt_links.ModuleItemBox.{ModuleItemBox}
 use Rattle.swc_ecma_codegen_tree.specs.declared.stmt_links.StmtBox.{StmtBox}
 use Rattle.swc_ecma_codegen_tree.specs.declared.stmts.Stmt.{Stmt}
 use Rattle.swc_ecma_codegen_tree.specs.declared.stmts.Stmt.TheVariants as stmts
@@ -32,13 +34,14 @@ use Rattle.swc_ecma_codegen_tree.specs.declared.stmts.WhileStmt.{WhileStmt}
 use Rattle.swc_ecma_codegen_tree.specs.declared.stmts.WithStmt.{WithStmt}
 use Rattle.swc_ecma_codegen_tree.specs.declared.programs.Program.{Program}
 use Rattle.swc_ecma_codegen_tree.specs.declared.programs.Program.TheVariants as programs
+use Rattle.swc_ecma_codegen_tree.specs.declared.programs.Module.{Module}
 use Rattle.swc_ecma_codegen_tree.specs.declared.programs.Script.{Script}
-use Rattle.swc_ecma_codegen_ast.specs.Phrases.{Phrase, Never, Nothing, OptionalParentheses, Chosen, LoopEnding, ◌>◌, word, mark, ending, in_order}
+use Rattle.swc_ecma_codegen_ast.specs.Phrases.{Phrase, Never, Nothing, OptionalParentheses, Chosen, LoopEnding, ◌>◌, word, mark, ending, in_order, same_line}
 use Rattle.swc_ecma_codegen_ast.specs.declared.roles.Role.{Role}
-use Rattle.swc_ecma_codegen_ast.specs.declared.roles.Role.TheVariants.{Statement, Block}
+use Rattle.swc_ecma_codegen_ast.specs.declared.roles.Role.TheVariants.{Statement, Block, Item}
 use Rattle.swc_ecma_codegen_ast.specs.NamePhrases.{ident}
 use Rattle.swc_ecma_codegen_ast.specs.PatPhrases.{value_at, pat_at}
-use Rattle.swc_ecma_codegen_ast.specs.FunctionPhrases.{word_if, block_at, optional_name}
+use Rattle.swc_ecma_codegen_ast.specs.FunctionPhrases.{word_if, block_at}
 use Rattle.swc_ecma_codegen_ast.specs.DeclPhrases.{decl_at, var_decl_at, using_decl}
 use Rattle.swc_ecma_codegen_ast.specs.ExprPhrases.{expr_at}
 
@@ -71,24 +74,29 @@ debugger_stmt n = word (codes "debugger") > ending
 unfoldable pub with_stmt : {X : Type 0} → (X → Role → Phrase) → WithStmt X → Phrase
 with_stmt f n = word (codes "with") > mark (codes "(") > value_at f n.obj > mark (codes ")") > stmt_at f n.body
 
--- section 14.10: `return a;`, `return;`; parentheses may stand round the argument
-unfoldable pub return_arg : {X : Type 0} → (X → Role → Phrase) → Option (ExprBox X) → Phrase
-return_arg f None = Nothing
-return_arg f (Some n) = OptionalParentheses (value_at f n)
+-- section 14.10: `return a;`, `return;`; parentheses may stand round the argument, and no line may end before it
+unfoldable pub return_rest : {X : Type 0} → (X → Role → Phrase) → Option (ExprBox X) → Phrase
+return_rest f None = ending
+return_rest f (Some n) = same_line > OptionalParentheses (value_at f n) > ending
 
 unfoldable pub return_stmt : {X : Type 0} → (X → Role → Phrase) → ReturnStmt X → Phrase
-return_stmt f n = word (codes "return") > return_arg f n.arg > ending
+return_stmt f n = word (codes "return") > return_rest f n.arg
 
 -- section 14.13: `a: b;`
 unfoldable pub labeled_stmt : {X : Type 0} → (X → Role → Phrase) → LabeledStmt X → Phrase
 labeled_stmt f n = ident n.label > mark (codes ":") > stmt_at f n.body
 
+-- a label, where there is one, on the line of the word before it
+unfoldable pub jump_rest : Option Ident → Phrase
+jump_rest None = ending
+jump_rest (Some n) = same_line > ident n > ending
+
 -- sections 14.9 and 14.8
 unfoldable pub break_stmt : BreakStmt → Phrase
-break_stmt n = word (codes "break") > optional_name n.label > ending
+break_stmt n = word (codes "break") > jump_rest n.label
 
 unfoldable pub continue_stmt : ContinueStmt → Phrase
-continue_stmt n = word (codes "continue") > optional_name n.label > ending
+continue_stmt n = word (codes "continue") > jump_rest n.label
 
 -- section 14.6: `if (a) b; else c;`
 unfoldable pub else_branch : {X : Type 0} → (X → Role → Phrase) → Option (StmtBox X) → Phrase
@@ -111,7 +119,7 @@ switch_stmt f n = word (codes "switch") > mark (codes "(") > value_at f n.discri
 
 -- section 14.14: parentheses may stand round the argument
 unfoldable pub throw_stmt : {X : Type 0} → (X → Role → Phrase) → ThrowStmt X → Phrase
-throw_stmt f n = word (codes "throw") > OptionalParentheses (value_at f n.arg) > ending
+throw_stmt f n = word (codes "throw") > same_line > OptionalParentheses (value_at f n.arg) > ending
 
 -- section 14.15: `catch { b; }`, `catch (a) { b; }`
 unfoldable pub catch_param : {X : Type 0} → (X → Role → Phrase) → Option (PatBox X) → Phrase
@@ -194,7 +202,14 @@ stmt f (stmts.Expr n) = expr_stmt f n
 unfoldable pub script : {X : Type 0} → (X → Role → Phrase) → Script X → Phrase
 script f n = if is_some n.shebang then Never else in_order (map (stmt_at f) n.body.items)
 
+-- an item of a module that a link holds
+abbrev pub item_at : {X : Type 0} → (X → Role → Phrase) → ModuleItemBox X → Phrase
+item_at f n = f n.node.value Item
+
+-- section 16.2
+unfoldable pub whole_module : {X : Type 0} → (X → Role → Phrase) → Module X → Phrase
+whole_module f n = if is_some n.shebang then Never else in_order (map (item_at f) n.body.items)
+
 unfoldable pub program : {X : Type 0} → (X → Role → Phrase) → Program X → Phrase
+program f (programs.Module n) = whole_module f n
 program f (programs.Script n) = script f n
--- what isn't printed yet
-program f n = Never

@@ -1,6 +1,6 @@
 //! A plain, slow reader of texts: for given kinds of tokens it finds the tokens, or that there are none.
 
-ghost use Rattle.std.specs.Prelude.{◌≡◌, ◌<◌, ◌≤◌, ℕ, List, map, true, false, length, IfOk, IfSome, IfNone};
+ghost use Rattle.std.specs.Prelude.{◌≡◌, ◌<◌, ◌≤◌, ◌-◌, ◌||◌, ◌&&◌, ℕ, List, map, not, take, true, false, length, IfOk, IfSome, IfNone};
 ghost use Rattle.std.specs.Str.{chars as chars_of};
 ghost use Rattle.swc_ecma_codegen_ast.specs.Chars as chars;
 ghost use Rattle.swc_ecma_codegen_ast.specs.Tokens as tokens;
@@ -15,8 +15,8 @@ use crate::names::{is_name, is_private_name, is_word};
 use crate::numerals::{is_big_integer, is_number};
 use crate::punctuation::is_punctuator;
 use crate::shapes::{
-    begins, is_hashbang, is_jsx_name, is_jsx_open, is_jsx_string, is_jsx_text, is_regex, is_same,
-    is_string, is_template, is_template_rest,
+    begins, is_hashbang, is_jsx_name, is_jsx_open, is_jsx_string, is_jsx_text, is_one_line,
+    is_regex, is_same, is_string, is_template, is_template_rest,
 };
 use std::alloc::{AllocError, Global};
 
@@ -43,6 +43,7 @@ pub fn has_shape(kind: Kind, text: &[char]) -> bool
         Kind::JsxText => is_jsx_text(text),
         Kind::JsxOpen => is_jsx_open(text),
         Kind::Hashbang => is_hashbang(text),
+        Kind::SameLine => false,
     }
 }
 
@@ -136,6 +137,7 @@ fn is_of_goal(kind: Kind, text: &[char]) -> bool
         Kind::JsxString => is_jsx_string(text),
         Kind::JsxText => is_jsx_text(text),
         Kind::Hashbang => is_hashbang(text),
+        Kind::SameLine => false,
         Kind::Word
         | Kind::Name
         | Kind::PrivateName
@@ -215,6 +217,16 @@ fn is_hashbang_kind(kind: Kind) -> bool
     }
 }
 
+#[tactic(auto, unfolding(crate::specs::Reads::is_same_line))]
+fn is_same_line(kind: Kind) -> bool
+    ensures { result ≡ reads.is_same_line kind }
+{
+    match kind {
+        Kind::SameLine => true,
+        _ => false,
+    }
+}
+
 #[tactic(auto, unfolding(crate::specs::Reading::is_jsx_text_kind))]
 fn is_jsx_text_kind(kind: Kind) -> bool
     ensures { result ≡ reading.is_jsx_text_kind kind }
@@ -255,18 +267,57 @@ fn start(kind: Kind, text: &[char]) -> &[char]
     if is_close_by(kind) { text } else { skip(text) }
 }
 
-/// The next token, where it is of this kind, and what is left.
-fn read_one(first: bool, kind: Kind, text: &[char]) -> Option<(&[char], &[char])>
-    ensures found { IfSome result (λ pair. reading.ReadsOne first kind text.now pair.0.now pair.1.now) }
-    ensures none { IfNone result ((own rest : List ℕ) → reading.ReadsOne first kind text.now own rest → ⊥) }
+/// Whether the trivia before a start hold no line terminator, where they may hold none.
+fn keeps_line(joined: bool, text: &[char], start: &[char]) -> bool
+    requires { length start.now ≤ length text.now }
+    ensures { result ≡ (not joined || chars.is_one_line (take (length text.now - length start.now) text.now)) }
 {
-    let text = start(kind, text);
-    let n = longest(kind, text);
-    if fits(first, kind, text, n) {
-        Some((&text[..n], &text[n..]))
+    !joined || is_one_line(&text[..text.len() - start.len()])
+}
+
+/// Whether the next token is of this kind, where its `n` characters begin after the trivia.
+fn takes(first: bool, joined: bool, kind: Kind, text: &[char], start: &[char], n: usize) -> bool
+    requires taken { n ≤ length start.now }
+    requires within { length start.now ≤ length text.now }
+    ensures { result ≡ ((not joined || chars.is_one_line (take (length text.now - length start.now) text.now)) && reading.fits first kind start.now n) }
+{
+    keeps_line(joined, text, start) && fits(first, kind, start, n)
+}
+
+/// The next token, where it is of this kind, and what is left. `joined`: no line terminator may stand before it.
+#[tactic(auto, using(crate::proofs::ReadOne::starts_within))]
+fn read_one(first: bool, joined: bool, kind: Kind, text: &[char]) -> Option<(&[char], &[char])>
+    ensures found { IfSome result (λ pair. reading.ReadsOne first joined kind text.now pair.0.now pair.1.now) }
+    ensures none { IfNone result ((own rest : List ℕ) → reading.ReadsOne first joined kind text.now own rest → ⊥) }
+{
+    let begin = start(kind, text);
+    let n = longest(kind, begin);
+    if takes(first, joined, kind, text, begin, n) {
+        Some((&begin[..n], &begin[n..]))
     } else {
         None
     }
+}
+
+/// The same of `[no LineTerminator here]` too, which is no text.
+fn read_next(first: bool, joined: bool, kind: Kind, text: &[char]) -> Option<(&[char], &[char])>
+    ensures found { IfSome result (λ pair. reading.ReadsNext first joined kind text.now pair.0.now pair.1.now) }
+    ensures none { IfNone result (reading.ReadsNone first joined kind text.now) }
+{
+    if is_same_line(kind) {
+        return Some((&text[..0], text));
+    }
+    match read_one(first, joined, kind, text) {
+        None => None,
+        Some((own, after)) => Some((own, after)),
+    }
+}
+
+/// Whether nothing was read yet, after one more kind.
+fn still_first(first: bool, joint: bool) -> bool
+    ensures { result ≡ (first && joint) }
+{
+    first && joint
 }
 
 /// The tokens of a text, one of each of these kinds in turn, as they are spelled. `None`: the text reads as no list of
@@ -282,13 +333,15 @@ pub fn read_tokens<'a>(
     let mut found = Vec::new(alloc);
     let mut rest = text;
     let mut first = true;
+    let mut joined = false;
     for kind in kinds {
-        match read_one(first, *kind, rest) {
+        match read_next(first, joined, *kind, rest) {
             None => return Ok(None),
             Some((own, after)) => {
                 found.push(own)?;
                 rest = after;
-                first = false;
+                joined = is_same_line(*kind);
+                first = still_first(first, joined);
             }
         }
     }

@@ -9,20 +9,21 @@ ghost use Rattle.swc_ecma_codegen_ast.specs.GapRules.{Start};
 ghost use Rattle.swc_ecma_codegen_ast.specs.Layouts.{AreAlike, AreSameBut, IsWritten};
 ghost use Rattle.swc_ecma_codegen_ast.specs.Phrases.{Phrase, Generates};
 ghost use Rattle.swc_ecma_codegen_ast.specs.Settings.{Settings};
-ghost use Rattle.swc_ecma_codegen_ast.specs.Parts.{Part, text_of, tokens_of, remarks_in, AllSpelled, AtStart, NoneFuse, Reduced, spaced};
+ghost use Rattle.swc_ecma_codegen_ast.specs.Parts.{Part, text_of, tokens_of, remarks_in, AllSpelled, AtStart, KeepsLines, NoneFuse, Reduced, spaced};
 
 /// What the second pass makes of tokens, their spellings and comments reads as these tokens, with the comments between,
-/// each once and in order: `a` `-` `-` `b` becomes `a- -b`, and that reads as these four.
+/// each once and in order: `a` `-` `-` `b` becomes `a- -b`, and that reads as these four. Where no line may end, as in
+/// `return a`, none does.
 #[tactic(auto, using(crate::proofs::Spacing::reads_spaced))]
 pub fn spaced_tokens_read()
-    ensures { (xs : List Part) → AllSpelled AtStart xs → Reads (text_of (spaced Start xs)) (tokens_of xs) (remarks_in xs) }
+    ensures { (xs : List Part) → AllSpelled AtStart xs → KeepsLines xs → Reads (text_of (spaced Start xs)) (tokens_of xs) (remarks_in xs) }
 {}
 
 /// A text without some ending semicolons, each of which stood right before `}`, `;` or the end, reads as the tokens that
 /// are left, and these are all but such semicolons: without its semicolon `a;` reads as `a`.
 #[tactic(auto, using(crate::proofs::Dropped::reads_reduced, crate::proofs::Dropped::tokens_reduced))]
 pub fn reduced_tokens_read()
-    ensures reads { (xs ys : List Part) → NoneFuse Start xs → Reduced xs ys → Reads (text_of ys) (tokens_of ys) (remarks_in ys) }
+    ensures reads { (xs ys : List Part) → NoneFuse Start xs → KeepsLines xs → Reduced xs ys → Reads (text_of ys) (tokens_of ys) (remarks_in ys) }
     ensures reduced { (xs ys : List Part) → NoneFuse Start xs → Reduced xs ys → IsReduced (tokens_of xs) (tokens_of ys) }
 {}
 

@@ -37,4 +37,28 @@ pub enum Role {
     Declaration,
     /// `let a = b`, without its semicolon.
     VariableDeclaration,
+    /// `a${b}c` between back quotes.
+    Template,
+    /// The same after a tag.
+    TaggedTemplate,
+    /// `@a` of `@a class B {}`.
+    ClassHead,
+    /// `extends B { c; }` of `class A extends B { c; }`, all but the word before it and the name.
+    ClassTail,
+    /// `a;` of `class B { a; }`.
+    Member,
+    /// `@a` of `class B { @a c() {} }`.
+    MethodDecorators,
+    /// `() {}` of `class B { @a c() {} }`: the function of a method, whose decorators stand elsewhere.
+    MethodTail,
+    /// `() {}` of `class B { @a #c() {} }`: the same of a private method.
+    PrivateTail,
+    /// `import a from "b";` or `a();` at the top of a module.
+    Item,
+    /// `import a from "b";` or `export { a };`.
+    ModuleDeclaration,
+    /// `@a` of `@a export class B {}`: what of a declaration stands before the word.
+    ExportedHead,
+    /// `class B {}` of `@a export class B {}`, `let a;` of `export let a;`.
+    ExportedTail,
 }

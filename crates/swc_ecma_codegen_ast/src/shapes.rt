@@ -218,8 +218,9 @@ pub fn is_jsx_open(text: &[char]) -> bool
     is_same(text, &['{']) || is_same(text, &['<'])
 }
 
+/// Whether a text holds no line terminator. Section 12.3.
 #[tactic(auto, unfolding(crate::specs::Chars::is_one_line))]
-fn is_one_line(text: &[char]) -> bool
+pub fn is_one_line(text: &[char]) -> bool
     ensures { result ≡ chars.is_one_line text.now }
 {
     match text {

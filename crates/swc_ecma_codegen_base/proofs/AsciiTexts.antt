@@ -8,7 +8,7 @@ use Rattle.swc_ecma_codegen_common.specs.declared.errors.Refusal.{Refusal}
 use Rattle.swc_ecma_codegen_common.specs.declared.positions.Span.{Span}
 use Rattle.swc_ecma_codegen_ast.specs.GapRules.{fuses, Apart}
 use Rattle.swc_ecma_codegen_ast.specs.Settings.{Settings, is_up_to_es5}
-use Rattle.swc_ecma_codegen_ast.specs.Phrases.{Phrase, Never, Nothing, One, NameOf, KeyOf, Then, OptionalComma, OptionalParentheses, Chosen, EmptyArguments, LoopEnding, in_parentheses, close_parenthesis, Generates, chosen, is_possible}
+use Rattle.swc_ecma_codegen_ast.specs.Phrases.{Phrase, Never, Nothing, One, NameOf, KeyOf, PrivateOf, Then, OptionalComma, OptionalParentheses, Chosen, EmptyArguments, LoopEnding, AttributesWord, in_parentheses, close_parenthesis, Generates, chosen, is_possible}
 use Rattle.swc_ecma_codegen_ast.specs.Tokens as lexical
 use Rattle.swc_ecma_codegen_text_writer.specs.Sheet.{Item, Semi, Space, Keyword, Operator, Param, Property, Line, Lit, Comment, StrLit, Str, Symbol, Punct, Position, Commit, Deeper, Shallower, Sheet, Semicolons, AtOnce, HoldsNone, HoldsOne, appended, written, literal_written, ended, settled, settled_by, semicolon_by, before_punct, is_ending, dropped, effect}
 use Rattle.swc_ecma_codegen_text_writer.proofs.Sheets.{effect_indent_text, effect_line_end, settled_same}
@@ -20,8 +20,9 @@ use Rattle.swc_ecma_codegen_base.specs.Targets.{is_out}
 use Rattle.swc_ecma_codegen_base.proofs.Hands.{tokens_keep}
 use Rattle.swc_ecma_codegen_base.proofs.KeyTexts.{key_kept}
 use Rattle.swc_ecma_codegen_base.proofs.Held.{front, front_of, written_text, pointed_keeps}
-use Rattle.swc_ecma_codegen_base.proofs.Phrased.{Prints, steps_of_chain, made_not_out}
+use Rattle.swc_ecma_codegen_base.proofs.Phrased.{steps_of_chain, made_not_out, PrintsAt}
 use Rattle.swc_ecma_codegen_base.proofs.Texts.{adds_literal}
+use Rattle.swc_ecma_codegen_base.proofs.Shapes.{Shape}
 
 -- ---- ASCII texts
 
@@ -144,15 +145,15 @@ run_goes old (Remake due ∷ xs) a h g = run_goes old xs (put (Remake due) a) h 
 
 -- ---- what an emission adds
 
-part_steps : {p : Part} {f : Phrase} {env : Env} → Prints env p f → is_possible f ≡ true → is_out env.config f ≡ false → env.config.ascii_only ≡ true → keeps_other (steps_of (p nothing env)) ≡ false → are_ascii (steps_of (p nothing env)) ≡ true
+part_steps : {i : Shape} {p : Part} {f : Phrase} {env : Env} → PrintsAt i env p f → is_possible f ≡ true → is_out env.config f ≡ false → env.config.ascii_only ≡ true → keeps_other (steps_of (p nothing env)) ≡ false → are_ascii (steps_of (p nothing env)) ≡ true
 unfolding nothing
-part_steps {p} {f} {env} prints w o e n =
+part_steps {p = p} {f = f} {env = env} prints w o e n =
     let h = (prints.where_possible w o).writes in
     let same : steps_of (p nothing env) ≡ h.steps = ap steps_of (h.is_steps nothing) ∙ steps_of_chain h.steps in
     ap are_ascii same ∙ h.hands.ascii e (sym (ap keeps_other same) ∙ n)
 
 -- under ASCII only what is added is ASCII, save what stands as it is
-pub printed_ascii : (p : Part) (f : Phrase) (a b : State) (r : Result (Unit {0}) Refusal) → Prints a.env p f → is_possible f ≡ true → WantsAscii a → keeps_other (steps_of (p nothing a.env)) ≡ false → Follows (p nothing) a b r → OnOk r (AddsAscii a.sheet.text b.sheet.text)
+pub printed_ascii : {i : Shape} (p : Part) (f : Phrase) (a b : State) (r : Result (Unit {0}) Refusal) → PrintsAt i a.env p f → is_possible f ≡ true → WantsAscii a → keeps_other (steps_of (p nothing a.env)) ≡ false → Follows (p nothing) a b r → OnOk r (AddsAscii a.sheet.text b.sheet.text)
 unfolding Follows
 printed_ascii p f a b (Ok u) prints w s n k =
     let begin : Goes a.sheet.text a.sheet = record { lines = record { indent_text = s.indent_text; line_end = s.line_end }; adds = adds_none a.sheet.text } in
@@ -175,13 +176,18 @@ ending_kept : (s : Settings) → keeps_tokens (chosen s LoopEnding) ≡ false
 unfolding keeps_tokens chosen is_other_value lexical.ending
 ending_kept s = elim (is_up_to_es5 s.target) as (λ b. keeps_tokens (cond b (lexical.ending ∷ []) []) ≡ false) [ true ↦ refl | false ↦ refl ]
 
+word_kept : (s : Settings) → keeps_tokens (chosen s AttributesWord) ≡ false
+unfolding keeps_tokens chosen is_other_value lexical.word
+word_kept s = refl
+
 kept_listed : (s : Settings) (f : Phrase) (ts : List lexical.Token) → is_possible f ≡ true → Generates s f ts → keeps_tokens ts ≡ may_keep_other f
-unfolding Generates is_possible keeps_tokens may_keep_other is_other_value lexical.name lexical.punctuator
+unfolding Generates is_possible keeps_tokens may_keep_other is_other_value lexical.name lexical.private_name lexical.punctuator
 kept_listed s Never ts w g = absurd g
 kept_listed s Nothing ts w g = ap keeps_tokens g
 kept_listed s (One x) ts w g = ap keeps_tokens g ∙ kept_alone (is_other_value x.kind x.value)
 kept_listed s (NameOf at bytes) ts w g = ap keeps_tokens g
 kept_listed s (KeyOf at bytes) ts w g = ap keeps_tokens g ∙ key_kept s bytes w
+kept_listed s (PrivateOf bytes) ts w g = ap keeps_tokens g
 kept_listed s (Then a b) ts w g =
     let p = and_parts (is_possible a) (is_possible b) w in
     ap keeps_tokens g.4 ∙ tokens_keep g.0 g.1 ∙ ap (λ z. z || keeps_tokens g.1) (kept_listed s a g.0 p.0 g.2) ∙ ap (λ z. may_keep_other a || z) (kept_listed s b g.1 p.1 g.3)
@@ -191,9 +197,10 @@ kept_listed s (OptionalParentheses a) ts w (inl g) = kept_listed s a ts w g
 kept_listed s (OptionalParentheses a) ts w (inr g) = ap keeps_tokens g.2 ∙ tokens_keep g.0 (close_parenthesis ∷ []) ∙ kept_alone (keeps_tokens g.0) ∙ kept_listed s a g.0 w g.1
 kept_listed s (Chosen EmptyArguments) ts w g = ap keeps_tokens g ∙ choice_kept s
 kept_listed s (Chosen LoopEnding) ts w g = ap keeps_tokens g ∙ ending_kept s
+kept_listed s (Chosen AttributesWord) ts w g = ap keeps_tokens g ∙ word_kept s
 
 -- where no such token is in the tree, no such text is among the steps
-pub printed_keeps : (p : Part) (f : Phrase) (env : Env) → Prints env p f → is_possible f ≡ true → is_out env.config f ≡ false → may_keep_other f ≡ false → keeps_other (steps_of (p nothing env)) ≡ false
+pub printed_keeps : {i : Shape} (p : Part) (f : Phrase) (env : Env) → PrintsAt i env p f → is_possible f ≡ true → is_out env.config f ≡ false → may_keep_other f ≡ false → keeps_other (steps_of (p nothing env)) ≡ false
 unfolding nothing
 printed_keeps p f env prints w o none =
     let h = prints.where_possible w o in

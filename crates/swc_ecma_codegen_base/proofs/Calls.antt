@@ -148,6 +148,15 @@ pub called_kept : (item : Item) (config : Config) (e f : LowerEmitter) (old new 
 called_kept item config e f old new answer r fresh w token ok err eq last =
     called_plain item config e f old new e.token.value answer r fresh w (on_ok r (λ h. (token, h)) ok) (on_err r (λ h. (token, h)) err) eq last
 
+-- one with which tokens end, but none that is another than the last one
+pub called_ends_kept : (tokens : List (Kind × List ℕ)) (item : Item) (config : Config) (e f : LowerEmitter) (old new : Sheet) (answer r : Result (Unit {0}) Refusal)
+    → e.failed ≡ false → Writes item old new answer
+    → f.token.value ≡ e.token.value → OnOk r (f.failed ≡ e.failed) → OnErr r (f.failed ≡ true) → r ≡ answer
+    → last_at e.token.value ≡ after_tokens tokens (last_at e.token.value)
+    → Does (step (Ends tokens item)) (state_of config old e) (state_of config new f) r
+called_ends_kept tokens item config e f old new answer r fresh w token ok err eq last =
+    called_ends tokens item config e f old new e.token.value answer r fresh w (on_ok r (λ h. (token, h)) ok) (on_err r (λ h. (token, h)) err) eq last
+
 guarded_put : (t : List ℕ) (s : State) → fuses s.last (chars t) ≡ true → put (Guard t) s ≡ record s { sheet = effect Space s.sheet; last = rules.Apart }
 unfolding put
 guarded_put t s h = ap (λ b. cond b (record s { sheet = effect Space s.sheet; last = rules.Apart }) s) h

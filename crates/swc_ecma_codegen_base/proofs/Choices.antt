@@ -1,27 +1,30 @@
 -- Parts that write what syntax leaves open: one of the lists that their phrase has.
-use Rattle.std.proofs.Common.{◌≡◌, ◌⊎◌, Bool, true, false, cond, ◌||◌, List, [], ◌∷◌, ◌++◌, ◌&&◌, append-nil, codes, refl, sym, ap, ◌∙◌, subst, inl, inr}
+use Rattle.std.proofs.Common.{◌≡◌, ◌⊎◌, ℕ, None, Bool, true, false, cond, ◌||◌, List, [], ◌∷◌, ◌++◌, ◌&&◌, append-nil, codes, refl, sym, ap, ◌∙◌, subst, inl, inr}
 use Rattle.std.proofs.lemmas.Bool.{cases_Bool, true≢false}
-use Rattle.swc_ecma_codegen_ast.specs.Phrases.{Phrase, Nothing, One, Then, OptionalComma, OptionalParentheses, Chosen, EmptyArguments, LoopEnding, Generates, chosen, in_parentheses, comma, open_parenthesis, is_possible, names_in, ◌>◌, mark, ending}
+use Rattle.swc_ecma_codegen_ast.specs.Phrases.{Phrase, Nothing, OptionalComma, OptionalParentheses, Chosen, EmptyArguments, LoopEnding, AttributesWord, Generates, chosen, in_parentheses, comma, open_parenthesis, is_possible, names_in, ◌>◌, mark, ending}
+use Rattle.swc_ecma_codegen_ast.specs.Phrases as phrases
+use Rattle.swc_ecma_codegen_ast.specs.Chars.{is_start, is_part, is_letter, is_digit}
+use Rattle.swc_ecma_codegen_ast.specs.Names.{is_word, all_part}
 use Rattle.swc_ecma_codegen_ast.specs.Punctuators.{is_punctuator, punctuators}
 use Rattle.swc_ecma_codegen_ast.specs.Settings.{is_up_to_es5}
 use Rattle.swc_ecma_codegen_ast.specs.Texts.{is_same, is_among}
 use Rattle.swc_ecma_codegen_ast.specs.Tokens.{Token}
 use Rattle.swc_ecma_codegen_ast.specs.Tokens as lexical
-use Rattle.swc_ecma_codegen_ast.specs.declared.kinds.Kind.TheVariants.{Punctuator}
 use Rattle.swc_ecma_codegen_util.specs.declared.config.Config.{Config}
 use Rattle.std.specs.Str.{chars, is_utf8}
-use Rattle.swc_ecma_codegen_base.specs.Choices.{optional_comma, optional_parentheses, empty_arguments, loop_ending}
+use Rattle.swc_ecma_codegen_base.specs.Choices.{optional_comma, optional_parentheses, empty_arguments, loop_ending, attributes_word}
 use Rattle.swc_ecma_codegen_base.specs.Escapes.{is_spelled_anew, may_make_text}
-use Rattle.swc_ecma_codegen_base.specs.Run.{Env, Plan, Part, no_part, when_minified}
+use Rattle.swc_ecma_codegen_base.specs.Run.{Env, Plan, Part, no_part}
 use Rattle.swc_ecma_codegen_base.specs.Scripts.{is_str}
 use Rattle.swc_ecma_codegen_base.specs.Settings.{settings_of}
 use Rattle.swc_ecma_codegen_base.specs.Targets.{is_out}
-use Rattle.swc_ecma_codegen_base.specs.Words.{punct, semi}
-use Rattle.swc_ecma_codegen_base.specs.Written.{IsMark}
+use Rattle.swc_ecma_codegen_base.specs.Words.{keyword, punct, semi}
+use Rattle.swc_ecma_codegen_base.specs.Written.{IsMark, IsWord}
 use Rattle.swc_ecma_codegen_base.proofs.Emitting.{minified_same, pretty_same}
 use Rattle.swc_ecma_codegen_base.proofs.Hands.{holds_string}
-use Rattle.swc_ecma_codegen_base.proofs.Printed.{Makes, makes_some}
-use Rattle.swc_ecma_codegen_base.proofs.Phrased.{NamedBy, Prints, no_names, no_strings, then, prints_nothing, prints_punct, prints_semi, prints_same}
+use Rattle.swc_ecma_codegen_base.proofs.Printed.{makes_some, MakesAt}
+use Rattle.swc_ecma_codegen_base.proofs.Phrased.{NamedBy, Prints, no_names, no_strings, then, prints_nothing, prints_keyword, prints_punct, prints_semi, prints_same, PrintsAt, prints_wider}
+use Rattle.swc_ecma_codegen_base.proofs.Shapes.{Shape, open_}
 
 -- ---- a phrase whose lists another has too
 
@@ -35,11 +38,11 @@ pub record IsAmong (config : Config) (f g : Phrase) : Type 0 where
   pub names : names_in f ≡ names_in g
 
 -- a text may be made anew where another may
-makes_where : {env : Env} {p : Part} {ts : List Token} {a b : Bool} → (a ≡ true → b ≡ true) → Makes env p ts a → Makes env p ts b
+makes_where : {i : Shape} {env : Env} {p : Part} {ts : List Token} {a b : Bool} → (a ≡ true → b ≡ true) → MakesAt i env p ts a → MakesAt i env p ts b
 makes_where k h = record { steps = h.steps; is_steps = h.is_steps; lays = h.lays; remakes = λ e. k (h.remakes e); deep = h.deep; hands = h.hands }
 
-pub prints_among : {env : Env} {p : Part} {f g : Phrase} → IsAmong env.config f g → Prints env p f → Prints env p g
-prints_among {env} {p} {f} {g} i h = record {
+pub prints_among : {k : Shape} {env : Env} {p : Part} {f g : Phrase} → IsAmong env.config f g → PrintsAt k env p f → PrintsAt k env p g
+prints_among {env = env} {p = p} i h = record {
   where_possible = λ w o.
       let a = h.where_possible (i.possible ∙ w) (i.out ∙ o) in
       record {
@@ -63,11 +66,11 @@ unfolding Generates is_possible is_out may_make_text names_in is_spelled_anew le
 comma_among config = record { generates = λ ts g. inr g; possible = refl; out = refl; makes = λ e. refl; names = refl }
 
 -- a part that writes nothing, or a comma, writes an optional comma
-pub prints_no_comma : {env : Env} {p : Part} → Prints env p Nothing → Prints env p OptionalComma
-prints_no_comma {env} h = prints_among (no_comma_among env.config) h
+pub prints_no_comma : {k : Shape} {env : Env} {p : Part} → PrintsAt k env p Nothing → PrintsAt k env p OptionalComma
+prints_no_comma {env = env} h = prints_among (no_comma_among env.config) h
 
-pub prints_comma : {env : Env} {p : Part} → Prints env p (mark (codes ",")) → Prints env p OptionalComma
-prints_comma {env} h = prints_among (comma_among env.config) h
+pub prints_comma : {k : Shape} {env : Env} {p : Part} → PrintsAt k env p (mark (codes ",")) → PrintsAt k env p OptionalComma
+prints_comma {env = env} h = prints_among (comma_among env.config) h
 
 -- the same of a part that may take memory to find out whether the comma stands
 commas : (there : Bool) (ts : List Token) → ts ≡ cond there (comma ∷ []) [] → (ts ≡ []) ⊎ (ts ≡ comma ∷ [])
@@ -79,9 +82,9 @@ unfolding holds_string is_str lexical.punctuator
 comma_strings true = refl
 comma_strings false = refl
 
-pub prints_comma_where : {env : Env} {p : Part} {made : Bool} (there : Bool) → Makes env p (cond there (comma ∷ []) []) made → Prints env p OptionalComma
+pub prints_comma_where : {k : Shape} {env : Env} {p : Part} {made : Bool} (there : Bool) → MakesAt k env p (cond there (comma ∷ []) []) made → PrintsAt k env p OptionalComma
 unfolding Generates is_out may_make_text names_in
-prints_comma_where {env} {p} there h = record {
+prints_comma_where {env = env} {p = p} there h = record {
   where_possible = λ w o. record { tokens = cond there (comma ∷ []) []; generated = commas there _ refl; writes = makes_some h; named = no_names env p; safe = no_strings h (comma_strings there) };
   where_out = λ w o. absurd (true≢false (sym o));
 }
@@ -90,9 +93,9 @@ comma_is_mark : IsMark (codes ",")
 unfolding is_punctuator is_among is_same punctuators chars is_utf8 lib.Utf8.encode
 comma_is_mark = record { utf8 = refl; ascii = refl; shape = refl }
 
-pub prints_optional_comma : {env : Env} (there : Bool) → Prints env (optional_comma there) OptionalComma
+pub prints_optional_comma : {env : Env} (there : Bool) → PrintsAt open_ env (optional_comma there) OptionalComma
 unfolding optional_comma
-prints_optional_comma {env} true = prints_comma (prints_punct env (codes ",") comma_is_mark)
+prints_optional_comma {env} true = prints_wider open_ refl (prints_comma (prints_punct env (codes ",") comma_is_mark))
 prints_optional_comma {env} false = prints_no_comma prints_nothing
 
 -- ---- parentheses or none
@@ -120,11 +123,11 @@ parentheses_among config f = record {
 }
 
 -- a part that writes a phrase bare, or in parentheses, writes it in optional ones
-pub prints_bare : {env : Env} {p : Part} {f : Phrase} → Prints env p f → Prints env p (OptionalParentheses f)
-prints_bare {env} {p} {f} h = prints_among (bare_among env.config f) h
+pub prints_bare : {k : Shape} {env : Env} {p : Part} {f : Phrase} → PrintsAt k env p f → PrintsAt k env p (OptionalParentheses f)
+prints_bare {env = env} {f = f} h = prints_among (bare_among env.config f) h
 
-pub prints_parentheses : {env : Env} {p : Part} {f : Phrase} → Prints env p (mark (codes "(") > f > mark (codes ")")) → Prints env p (OptionalParentheses f)
-prints_parentheses {env} {p} {f} h = prints_among (parentheses_among env.config f) h
+pub prints_parentheses : {k : Shape} {env : Env} {p : Part} {f : Phrase} → PrintsAt k env p (mark (codes "(") > f > mark (codes ")")) → PrintsAt k env p (OptionalParentheses f)
+prints_parentheses {env = env} {f = f} h = prints_among (parentheses_among env.config f) h
 
 open_is_mark : IsMark (codes "(")
 unfolding is_punctuator is_among is_same punctuators chars is_utf8 lib.Utf8.encode
@@ -159,19 +162,19 @@ unfolding Generates is_possible is_out may_make_text names_in is_spelled_anew le
 empty_among config m = record { generates = λ ts g. g.4 ∙ ap (λ z. z ++ g.1) g.2 ∙ ap (λ z. open_parenthesis ∷ z) g.3 ∙ sym (chosen_wide config m); possible = refl; out = refl; makes = λ e. e; names = refl }
 
 -- by the settings: minified nothing is written, else `()`
-pub prints_chosen : {env : Env} {p : Part} → (env.config.minify ≡ true → Prints env p Nothing) → (env.config.minify ≡ false → Prints env p (mark (codes "(") > mark (codes ")"))) → Prints env p (Chosen EmptyArguments)
-prints_chosen {env} h k = elim (cases_Bool env.config.minify) [
+pub prints_chosen : {i : Shape} {env : Env} {p : Part} → (env.config.minify ≡ true → PrintsAt i env p Nothing) → (env.config.minify ≡ false → PrintsAt i env p (mark (codes "(") > mark (codes ")"))) → PrintsAt i env p (Chosen EmptyArguments)
+prints_chosen {env = env} h k = elim (cases_Bool env.config.minify) [
   | inl m ↦ prints_among (none_among env.config m) (h m)
   | inr m ↦ prints_among (empty_among env.config m) (k m)
 ]
 
-pub prints_empty_arguments : {env : Env} → Prints env empty_arguments (Chosen EmptyArguments)
+pub prints_empty_arguments : {env : Env} → PrintsAt open_ env empty_arguments (Chosen EmptyArguments)
 unfolding empty_arguments no_part
 prints_empty_arguments {env} =
     let other : Part = λ rest. punct (codes "(") (punct (codes ")") rest) in
     prints_chosen
     (λ m. prints_same empty_arguments (λ rest. rest) (λ rest. minified_same no_part other rest env m) prints_nothing)
-    (λ m. prints_same empty_arguments other (λ rest. pretty_same no_part other rest env m) (then (prints_punct env (codes "(") open_is_mark) (prints_punct env (codes ")") close_is_mark)))
+    (λ m. prints_same empty_arguments other (λ rest. pretty_same no_part other rest env m) (prints_wider open_ refl (then (prints_punct env (codes "(") open_is_mark) (prints_punct env (codes ")") close_is_mark))))
 
 -- the semicolon after `do a; while (b)`, by the version
 ending_chosen : (config : Config) → is_up_to_es5 config.target ≡ true → chosen (settings_of config) LoopEnding ≡ lexical.ending ∷ []
@@ -198,8 +201,43 @@ pub not_ended_same : (rest : Plan) (env : Env) → is_up_to_es5 env.config.targe
 unfolding loop_ending
 not_ended_same rest env e = ap (λ b. cond b (semi rest env) (rest env)) e
 
-pub prints_loop_ending : {env : Env} → Prints env loop_ending (Chosen LoopEnding)
+pub prints_loop_ending : {env : Env} → PrintsAt open_ env loop_ending (Chosen LoopEnding)
 prints_loop_ending {env} = elim (cases_Bool (is_up_to_es5 env.config.target)) [
-  | inl e ↦ prints_among (ending_among env.config e) (prints_same loop_ending semi (λ rest. ended_same rest env e) (prints_semi env))
+  | inl e ↦ prints_among (ending_among env.config e) (prints_same loop_ending semi (λ rest. ended_same rest env e) (prints_wider open_ refl (prints_semi env)))
   | inr e ↦ prints_among (no_ending_among env.config e) (prints_same loop_ending (λ rest. rest) (λ rest. not_ended_same rest env e) prints_nothing)
+]
+
+-- the word before import attributes, by the settings
+assert_is_word : IsWord (codes "assert")
+unfolding is_word is_start is_part is_letter is_digit all_part chars is_utf8 lib.Utf8.encode
+assert_is_word = record { utf8 = refl; ascii = refl; shape = refl }
+
+with_is_word : IsWord (codes "with")
+unfolding is_word is_start is_part is_letter is_digit all_part chars is_utf8 lib.Utf8.encode
+with_is_word = record { utf8 = refl; ascii = refl; shape = refl }
+
+assert_chosen : (config : Config) → config.emit_assert_for_import_attributes ≡ true → chosen (settings_of config) AttributesWord ≡ lexical.word (codes "assert") ∷ []
+unfolding chosen
+assert_chosen config e = ap (λ b. lexical.word (cond b (codes "assert") (codes "with")) ∷ []) e
+
+with_chosen : (config : Config) → config.emit_assert_for_import_attributes ≡ false → chosen (settings_of config) AttributesWord ≡ lexical.word (codes "with") ∷ []
+unfolding chosen
+with_chosen config e = ap (λ b. lexical.word (cond b (codes "assert") (codes "with")) ∷ []) e
+
+word_among : (config : Config) (t : List ℕ) → chosen (settings_of config) AttributesWord ≡ lexical.word t ∷ [] → IsAmong config (phrases.word t) (Chosen AttributesWord)
+unfolding Generates is_possible is_out may_make_text names_in is_spelled_anew lexical.word
+word_among config t e = record { generates = λ ts g. g ∙ sym e; possible = refl; out = refl; makes = λ m. m; names = refl }
+
+pub assert_same : (rest : Plan) (env : Env) → env.config.emit_assert_for_import_attributes ≡ true → attributes_word rest env ≡ keyword None (codes "assert") rest env
+unfolding attributes_word
+assert_same rest env e = ap (λ b. cond b (keyword None (codes "assert") rest env) (keyword None (codes "with") rest env)) e
+
+pub with_same : (rest : Plan) (env : Env) → env.config.emit_assert_for_import_attributes ≡ false → attributes_word rest env ≡ keyword None (codes "with") rest env
+unfolding attributes_word
+with_same rest env e = ap (λ b. cond b (keyword None (codes "assert") rest env) (keyword None (codes "with") rest env)) e
+
+pub prints_attributes_word : {env : Env} → Prints env attributes_word (Chosen AttributesWord)
+prints_attributes_word {env} = elim (cases_Bool env.config.emit_assert_for_import_attributes) [
+  | inl e ↦ prints_among (word_among env.config (codes "assert") (assert_chosen env.config e)) (prints_same attributes_word (keyword None (codes "assert")) (λ rest. assert_same rest env e) (prints_keyword env None (codes "assert") assert_is_word))
+  | inr e ↦ prints_among (word_among env.config (codes "with") (with_chosen env.config e)) (prints_same attributes_word (keyword None (codes "with")) (λ rest. with_same rest env e) (prints_keyword env None (codes "with") with_is_word))
 ]

@@ -5,7 +5,7 @@ use Rattle.swc_ecma_codegen_ast.specs.Tokens as lexical
 use Rattle.swc_ecma_codegen_text_writer.specs.Sheet.{Item}
 use Rattle.swc_ecma_codegen_literals.specs.AsciiNames.{is_ascii_text}
 use Rattle.swc_ecma_codegen_base.specs.Run.{Env, Step, Guard, Token, Plain, Ends, Remake, text_of}
-use Rattle.swc_ecma_codegen_base.specs.Ascii.{is_kept, is_other, is_other_value, keeps_other, are_ascii, keeps_tokens}
+use Rattle.swc_ecma_codegen_base.specs.Ascii.{is_kept, is_other, is_kept_piece, is_other_piece, is_kept_end, is_other_end, is_other_value, keeps_other, are_ascii, keeps_tokens}
 use Rattle.swc_ecma_codegen_base.specs.Scripts.{is_str, is_string_call}
 
 -- a string is among these steps
@@ -39,16 +39,16 @@ and_assoc : (a b c : Bool) → (a && (b && c)) ≡ ((a && b) && c)
 and_assoc true b c = refl
 and_assoc false b c = refl
 
-keeps_append : (xs ys : List Step) → keeps_other (xs ++ ys) ≡ (keeps_other xs || keeps_other ys)
+pub keeps_append : (xs ys : List Step) → keeps_other (xs ++ ys) ≡ (keeps_other xs || keeps_other ys)
 unfolding keeps_other
 keeps_append [] ys = refl
 keeps_append (Guard t ∷ xs) ys = keeps_append xs ys
 keeps_append (Token kind x ∷ xs) ys = ap (λ z. is_other x || z) (keeps_append xs ys) ∙ or_assoc (is_other x) (keeps_other xs) (keeps_other ys)
-keeps_append (Plain x ∷ xs) ys = ap (λ z. is_other x || z) (keeps_append xs ys) ∙ or_assoc (is_other x) (keeps_other xs) (keeps_other ys)
-keeps_append (Ends tokens x ∷ xs) ys = ap (λ z. is_other x || z) (keeps_append xs ys) ∙ or_assoc (is_other x) (keeps_other xs) (keeps_other ys)
+keeps_append (Plain x ∷ xs) ys = ap (λ z. is_other_piece x || z) (keeps_append xs ys) ∙ or_assoc (is_other_piece x) (keeps_other xs) (keeps_other ys)
+keeps_append (Ends tokens x ∷ xs) ys = ap (λ z. is_other_end tokens x || z) (keeps_append xs ys) ∙ or_assoc (is_other_end tokens x) (keeps_other xs) (keeps_other ys)
 keeps_append (Remake due ∷ xs) ys = keeps_append xs ys
 
-ascii_append : (xs ys : List Step) → are_ascii (xs ++ ys) ≡ (are_ascii xs && are_ascii ys)
+pub ascii_append : (xs ys : List Step) → are_ascii (xs ++ ys) ≡ (are_ascii xs && are_ascii ys)
 unfolding are_ascii
 ascii_append [] ys = refl
 ascii_append (Guard t ∷ xs) ys = ascii_append xs ys
@@ -62,7 +62,7 @@ unfolding keeps_tokens
 tokens_keep [] us = refl
 tokens_keep (x ∷ ts) us = ap (λ z. is_other_value x.kind x.value || z) (tokens_keep ts us) ∙ or_assoc (is_other_value x.kind x.value) (keeps_tokens ts) (keeps_tokens us)
 
-has_append : (xs ys : List Step) → has_string (xs ++ ys) ≡ (has_string xs || has_string ys)
+pub has_append : (xs ys : List Step) → has_string (xs ++ ys) ≡ (has_string xs || has_string ys)
 unfolding has_string
 has_append [] ys = refl
 has_append (Guard t ∷ xs) ys = has_append xs ys
@@ -94,17 +94,16 @@ and_none : (a b : Bool) → b ≡ true → (a && not b) ≡ false
 and_none true b h = ap not h
 and_none false b h = refl
 
-call_keeps : (x : Item) (rest : Bool) → is_ascii_text (text_of x) ≡ true → rest ≡ false → (is_other x || rest) ≡ false
-unfolding is_other
-call_keeps x rest h k = or_from (is_other x) rest (and_none (is_kept x) (is_ascii_text (text_of x)) h) k
+call_keeps : (kept : Bool) (x : Item) (rest : Bool) → is_ascii_text (text_of x) ≡ true → rest ≡ false → ((kept && not (is_ascii_text (text_of x))) || rest) ≡ false
+call_keeps kept x rest h k = or_from (kept && not (is_ascii_text (text_of x))) rest (and_none kept (is_ascii_text (text_of x)) h) k
 
-ascii_keeps : (xs : List Step) → are_ascii xs ≡ true → keeps_other xs ≡ false
-unfolding are_ascii keeps_other
+pub ascii_keeps : (xs : List Step) → are_ascii xs ≡ true → keeps_other xs ≡ false
+unfolding are_ascii keeps_other is_other is_other_piece is_other_end
 ascii_keeps [] h = refl
 ascii_keeps (Guard t ∷ xs) h = ascii_keeps xs h
-ascii_keeps (Token kind x ∷ xs) h = let p = and_parts (is_ascii_text (text_of x)) (are_ascii xs) h in call_keeps x (keeps_other xs) p.0 (ascii_keeps xs p.1)
-ascii_keeps (Plain x ∷ xs) h = let p = and_parts (is_ascii_text (text_of x)) (are_ascii xs) h in call_keeps x (keeps_other xs) p.0 (ascii_keeps xs p.1)
-ascii_keeps (Ends tokens x ∷ xs) h = let p = and_parts (is_ascii_text (text_of x)) (are_ascii xs) h in call_keeps x (keeps_other xs) p.0 (ascii_keeps xs p.1)
+ascii_keeps (Token kind x ∷ xs) h = let p = and_parts (is_ascii_text (text_of x)) (are_ascii xs) h in call_keeps _ x (keeps_other xs) p.0 (ascii_keeps xs p.1)
+ascii_keeps (Plain x ∷ xs) h = let p = and_parts (is_ascii_text (text_of x)) (are_ascii xs) h in call_keeps _ x (keeps_other xs) p.0 (ascii_keeps xs p.1)
+ascii_keeps (Ends tokens x ∷ xs) h = let p = and_parts (is_ascii_text (text_of x)) (are_ascii xs) h in call_keeps _ x (keeps_other xs) p.0 (ascii_keeps xs p.1)
 ascii_keeps (Remake due ∷ xs) h = ascii_keeps xs h
 
 -- whatever the settings

@@ -1,11 +1,11 @@
 -- Indentation: blanks and tabs.
-use Rattle.std.proofs.Common.{◌≡◌, ℕ, zero, suc, true, List, [], ◌∷◌, ◌++◌, ◌||◌, ◌==◌, ◌<◌, refl, sym, ap, subst, arith, inl, inr}
+use Rattle.std.proofs.Common.{◌≡◌, ℕ, zero, suc, true, not, List, [], ◌∷◌, ◌++◌, ◌||◌, ◌==◌, ◌<◌, refl, sym, ap, subst, arith, inl, inr}
 use Rattle.std.specs.List.{repeat}
 use Rattle.std.specs.Str.{chars, IsAscii, IsUtf8}
 use Rattle.std.proofs.lemmas.Bool.{and_from, and_parts, eqb-true, or_cases}
 use Rattle.std.proofs.lemmas.Str.{chars-IsAscii, IsUtf8-from_ascii}
 use Rattle.std.proofs.lemmas.Str.Ascii.{IsAscii-cons, IsAscii-nil}
-use Rattle.swc_ecma_codegen_ast.specs.Chars.{is_blank}
+use Rattle.swc_ecma_codegen_ast.specs.Chars.{is_blank, is_line_end, is_one_line}
 use Rattle.swc_ecma_codegen_ast.specs.Trivia.{Piece, Blank, is_piece, piece_text, pieces_text, all_pieces, remarks_of}
 use Rattle.swc_ecma_codegen_base.specs.Written.{all_indent, is_indent}
 
@@ -67,3 +67,17 @@ pub blanks_remarks : (u : List ℕ) → remarks_of (blanks u) ≡ []
 unfolding blanks remarks_of
 blanks_remarks [] = refl
 blanks_remarks (c ∷ cs) = blanks_remarks cs
+
+-- indentation holds no line terminator
+indent_in_line : (c : ℕ) → is_indent c ≡ true → not (is_line_end c) ≡ true
+unfolding is_indent is_line_end
+indent_in_line c h =
+    elim (or_cases (c == 32) (c == 9) h) [
+      | inl e ↦ subst (λ z. not ((z == 10) || ((z == 13) || ((z == 8232) || (z == 8233)))) ≡ true) (sym (eqb-true c 32 e)) refl
+      | inr e ↦ subst (λ z. not ((z == 10) || ((z == 13) || ((z == 8232) || (z == 8233)))) ≡ true) (sym (eqb-true c 9 e)) refl
+    ]
+
+pub indent_one_line : (u : List ℕ) → all_indent u ≡ true → is_one_line (pieces_text (blanks u)) ≡ true
+unfolding all_indent is_one_line blanks pieces_text piece_text
+indent_one_line [] h = refl
+indent_one_line (c ∷ cs) h = let p = and_parts (is_indent c) (all_indent cs) h in and_from (not (is_line_end c)) (is_one_line (pieces_text (blanks cs))) (indent_in_line c p.0) (indent_one_line cs p.1)

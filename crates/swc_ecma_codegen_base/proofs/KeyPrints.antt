@@ -15,7 +15,7 @@ use Rattle.swc_ecma_codegen_ast.specs.Tokens.{token_of}
 use Rattle.swc_ecma_codegen_ast.specs.ValidNames.{turned}
 use Rattle.swc_ecma_codegen_text_writer.specs.Sheet.{Symbol, Position, Commit}
 use Rattle.swc_ecma_codegen_util.specs.declared.config.Config.{Config}
-use Rattle.swc_ecma_codegen_literals.specs.AsciiNames.{is_ascii_text, ascii_name, wants_quotes}
+use Rattle.swc_ecma_codegen_literals.specs.AsciiNames.{ascii_name, wants_quotes}
 use Rattle.swc_ecma_codegen_base.specs.Escapes.{may_make_text}
 use Rattle.swc_ecma_codegen_base.specs.Keys.{quoted_key, ascii_key, bare_key, plain_key, valid_key, key_text, key}
 use Rattle.swc_ecma_codegen_base.specs.Run.{Env, Plan, Part, State, Step, next, Guard, Token, Plain, Remake, step, steps_of, nothing, put, run, spelling, has_backslash}
@@ -29,8 +29,8 @@ use Rattle.swc_ecma_codegen_base.proofs.KeyTexts.{SpellsKey, made_key, kept_key}
 use Rattle.swc_ecma_codegen_base.proofs.LiteralParts.{writes_guard}
 use Rattle.swc_ecma_codegen_base.proofs.Phrased.{IsSafe, NamedBy, Prints, after, names_then, no_names, no_strings, safe_then, prints_same}
 use Rattle.swc_ecma_codegen_base.proofs.Positions.{Named, name_named, name_call, name_steps}
-use Rattle.swc_ecma_codegen_base.proofs.Printed.{Makes, Writes, or_false, writes_then, writes_remake, writes_commit, writes_leading, writes_position, writes_placed}
-use Rattle.swc_ecma_codegen_base.proofs.Written.{Spelled}
+use Rattle.swc_ecma_codegen_base.proofs.Shapes.{open_}
+use Rattle.swc_ecma_codegen_base.proofs.Printed.{MakesAt, Makes, Writes, or_false, writes_then, writes_remake, writes_commit, writes_leading, writes_position, writes_placed}
 
 -- ---- the text of a key, by the settings
 
@@ -192,7 +192,7 @@ makes_kept env first span bytes t h =
     writes_then env commit_pending_semi _ [] (x ∷ []) (writes_commit env)
     (writes_then env (step (Remake first)) (placed Name span t) [] (x ∷ []) (writes_remake env first) (writes_key env Name span bytes t h))
 
-makes_begin : (env : Env) (first : Bool) (span : Span) (t : List ℕ) → Makes env (begin_part first span t) [] (first || false)
+makes_begin : (env : Env) (first : Bool) (span : Span) (t : List ℕ) → MakesAt open_ env (begin_part first span t) [] (first || false)
 unfolding begin_part
 makes_begin env first span t =
     writes_then env commit_pending_semi _ [] [] (writes_commit env)

@@ -1,5 +1,5 @@
 -- Keys, by the text that they are written with.
-use Rattle.std.proofs.Common.{◌≡◌, true, false, cond, List, ℕ, Bool, Result, Err, refl, sym, ap, ◌∙◌, subst}
+use Rattle.std.proofs.Common.{◌≡◌, true, false, cond, List, ℕ, Bool, Result, Err, refl, ap, subst}
 use Rattle.std.specs.List.{list_any}
 use Rattle.std.specs.Str.{chars}
 use Rattle.std.proofs.lemmas.Bool.{true_from_ne_false}

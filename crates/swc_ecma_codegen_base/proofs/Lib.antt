@@ -10,6 +10,7 @@ pub mod Anew
 pub mod ListCommas
 pub mod RawTexts
 pub mod KeySteps
+pub mod PrivateSteps
 pub mod Fronts
 pub mod Levels
 pub mod Strangers
@@ -32,13 +33,19 @@ pub mod SoFar
 pub mod KeyTexts
 pub mod AsciiTexts
 pub mod ScriptTexts
+pub mod Appended
+pub mod Shapes
 pub mod Made
 pub mod OwnDots
 pub mod LitTexts
 pub mod Remade
 pub mod LitPrints
+pub mod LineFeeds
+pub mod TemplateLaws
+pub mod PrivatePrints
 pub mod StringPrints
 pub mod NumberPrints
 pub mod BigPrints
+pub mod TemplatePrints
 pub mod EachLit
 pub mod ListLaws

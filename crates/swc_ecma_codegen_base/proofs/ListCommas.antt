@@ -1,5 +1,5 @@
 -- The trailing comma of a list, and what asks where lines end.
-use Rattle.std.proofs.Common.{◌≡◌, ◌==◌, ◌&&◌, not, Bool, true, false, cond, ℕ, Result, Ok, Err, OnOk, refl, ap, ◌∙◌, subst}
+use Rattle.std.proofs.Common.{◌≡◌, ◌==◌, Bool, true, false, cond, ℕ, Result, Ok, Err, OnOk, refl, ap, ◌∙◌, subst}
 use Rattle.swc_ecma_codegen_common.specs.declared.errors.Refusal.{Refusal}
 use Rattle.swc_ecma_codegen_common.specs.declared.errors.Refusal.TheVariants.{OutOfMemory}
 use Rattle.swc_ecma_codegen_common.specs.declared.positions.Span.{Span}

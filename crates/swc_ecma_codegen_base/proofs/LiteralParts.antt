@@ -17,7 +17,7 @@ use Rattle.swc_ecma_codegen_text_writer.specs.Sheet as calls
 use Rattle.swc_ecma_codegen_text_writer.specs.Sheet.{Sheet, Lit, StrLit, Punct, effect, written, literal_written, settled, before_punct, is_ending}
 use Rattle.swc_ecma_codegen_literals.specs.AsciiNames.{is_ascii_text}
 use Rattle.swc_ecma_codegen_literals.specs.ValidNames.{has_byte}
-use Rattle.swc_ecma_codegen_base.specs.Ascii.{is_strict, is_kept_directive, is_kept, is_other, is_other_value, keeps_other, are_ascii, keeps_tokens}
+use Rattle.swc_ecma_codegen_base.specs.Ascii.{is_strict, is_kept_directive, is_kept, is_other, is_kept_piece, is_other_piece, is_kept_end, is_other_end, is_other_value, keeps_other, are_ascii, keeps_tokens}
 use Rattle.swc_ecma_codegen_base.specs.Run.{Env, State, Step, Guard, Token, Plain, Ends, put, run, step, spelling, text_of, after_tokens, after_plain, makes_text}
 use Rattle.swc_ecma_codegen_base.specs.Scripts.{is_string_call}
 use Rattle.swc_ecma_codegen_base.specs.Starts.{start_class}
@@ -31,19 +31,19 @@ use Rattle.swc_ecma_codegen_base.proofs.NumeralTexts.{numeric_ascii, ascii_by_ch
 use Rattle.swc_ecma_codegen_base.proofs.Starting.{same_beginning, sample}
 use Rattle.swc_ecma_codegen_base.proofs.Written.{Lays, lays_then, lays_settled, lays_guard, settle, settle_rest, after_guard, Spelled}
 use Rattle.swc_ecma_codegen_base.proofs.Texts.{Adds, adds_written, adds_literal, adds_more, owns, SpelledAs, spelled_one, lays_texts}
-use Rattle.swc_ecma_codegen_base.proofs.Printed.{chain, no_text, Makes, Writes, writes_then, writes_step, writes_two, writes_position, writes_commit, writes_leading}
+use Rattle.swc_ecma_codegen_base.proofs.Printed.{chain, no_text, Makes, Writes, writes_then, writes_step, writes_two, writes_position, writes_commit, writes_leading, Fills}
 
 -- ---- what stands before a literal
 
-pub writes_guard : (env : Env) (t : List ℕ) → Writes env (step (Guard t)) []
+pub writes_guard : (env : Env) (t : List ℕ) → Fills env (step (Guard t))
 unfolding makes_text levels are_ascii has_string is_string_call
 writes_guard env t = writes_step env (Guard t) [] (λ s r. lays_guard t s r) (omega arith) (hands_ascii env _ [] refl no_text)
 
-pub writes_begun : (env : Env) (span : Span) (t : List ℕ) → Writes env (words.begun span t) []
+pub writes_begun : (env : Env) (span : Span) (t : List ℕ) → Fills env (words.begun span t)
 unfolding words.begun
 writes_begun env span t = writes_then env (leading_comments span.lo) _ [] [] (writes_leading env span.lo) (writes_then env (step (Guard t)) (start_of span) [] [] (writes_guard env t) (writes_position env span.lo))
 
-pub writes_settled_begun : (env : Env) (span : Span) (t : List ℕ) → Writes env (words.settled_begun span t) []
+pub writes_settled_begun : (env : Env) (span : Span) (t : List ℕ) → Fills env (words.settled_begun span t)
 unfolding words.settled_begun
 writes_settled_begun env span t = writes_then env commit_pending_semi (words.begun span t) [] [] (writes_commit env) (writes_begun env span t)
 
@@ -132,7 +132,7 @@ writes_number env t p some a = writes_two env (Guard t) (Ends (words.signed Numb
 -- ---- one text by two calls
 
 -- nothing is held back after a text
-still_settled : (t : List ℕ) (a b : Sheet) → holds_one a.semicolons ≡ false → Adds t a b → settled b ≡ b
+pub still_settled : (t : List ℕ) (a b : Sheet) → holds_one a.semicolons ≡ false → Adds t a b → settled b ≡ b
 still_settled t a b o h = unheld_settled b (ap holds_one h.semicolons ∙ o)
 
 -- a number and its dot
@@ -178,7 +178,7 @@ unfolding written
 after_adds t [] a b h = subst (λ z. Adds z a b) (sym (append-nil t)) h
 after_adds t (c ∷ cs) a b h = adds_more t (c ∷ cs) a b _ h (adds_written None c cs b)
 
-more_adds : (t u : List ℕ) (a b : Sheet) → holds_one a.semicolons ≡ false → Adds t a b → Adds (t ++ u) a (written None u (settled b))
+pub more_adds : (t u : List ℕ) (a b : Sheet) → holds_one a.semicolons ≡ false → Adds t a b → Adds (t ++ u) a (written None u (settled b))
 more_adds t u a b o h = subst (λ z. Adds (t ++ u) a (written None u z)) (sym (still_settled t a b o h)) (after_adds t u a b h)
 
 slash : List ℕ
@@ -227,7 +227,7 @@ either_other true false h e f = true≢false (sym f)
 either_other false b h e f = true≢false (sym e)
 
 regex_handed : (env : Env) (exp flags : List ℕ) → Spelled Regex (words.regex_text exp flags) → Hands env (regex_steps exp flags) (token_of Regex (spelling Regex (words.regex_text exp flags)) ∷ [])
-unfolding regex_steps are_ascii has_string is_string_call keeps_other is_other is_kept text_of keeps_tokens is_other_value token_of value_of spelling
+unfolding regex_steps are_ascii has_string is_string_call keeps_other is_other_piece is_kept_piece is_other_end is_kept_end text_of keeps_tokens is_other_value token_of value_of spelling
 regex_handed env exp flags p = record {
   ascii = λ e n. neither (is_ascii_text exp) (is_ascii_text flags) n;
   keeps = λ n.

@@ -9,7 +9,7 @@ use Rattle.swc_ecma_codegen_base.specs.declared.refusals.Unprintable.{Unprintabl
 use Rattle.swc_ecma_codegen_text_writer.proofs.Sheets.{effect_refused, effect_faults, effect_takes_memory, effect_keeps_positions}
 use Rattle.swc_ecma_codegen_ast.specs.Tokens.{Token as LexicalToken, ending}
 use Rattle.swc_ecma_codegen_ast.specs.Settings.{Settings, is_up_to_es5}
-use Rattle.swc_ecma_codegen_ast.specs.Phrases.{Phrase, Never, Nothing, One, NameOf, KeyOf, Then, OptionalComma, OptionalParentheses, Chosen, EmptyArguments, LoopEnding, in_parentheses, close_parenthesis, Generates, chosen, is_possible}
+use Rattle.swc_ecma_codegen_ast.specs.Phrases.{Phrase, Never, Nothing, One, NameOf, KeyOf, PrivateOf, Then, OptionalComma, OptionalParentheses, Chosen, EmptyArguments, LoopEnding, AttributesWord, in_parentheses, close_parenthesis, Generates, chosen, is_possible}
 use Rattle.swc_ecma_codegen_base.specs.declared.refusals.Unprintable.TheVariants.{NameOutOfTarget}
 use Rattle.swc_ecma_codegen_base.specs.Targets.{is_out}
 use Rattle.swc_ecma_codegen_base.specs.Run.{Env, Plan, Part, Step, State, run, steps_of, unprintable_in, nothing, Follows, HasCause, PassesLimit, IsUnhindered, earlier, stopped, reached}
@@ -18,8 +18,9 @@ use Rattle.swc_ecma_codegen_base.specs.Ready.{token_count, IsPlainTree, IsReady}
 use Rattle.swc_ecma_codegen_base.proofs.Emitting.{put_failed, put_env}
 use Rattle.swc_ecma_codegen_base.proofs.Fronts.{run_sheet, follows_cause, follows_succeeds}
 use Rattle.swc_ecma_codegen_base.proofs.Levels.{levels, stays_within}
-use Rattle.swc_ecma_codegen_base.proofs.Phrased.{Prints, steps_of_chain, goes_on, made_not_out, printed_remakes}
+use Rattle.swc_ecma_codegen_base.proofs.Phrased.{steps_of_chain, goes_on, made_not_out, printed_remakes, PrintsAt}
 use Rattle.swc_ecma_codegen_base.proofs.Targets.{plain_not_out}
+use Rattle.swc_ecma_codegen_base.proofs.Shapes.{Shape}
 
 argument_count : (s : Settings) → length (chosen s EmptyArguments) ≤ 2
 unfolding chosen
@@ -31,12 +32,13 @@ ending_count s = elim (is_up_to_es5 s.target) as (λ b. length (cond b (ending �
 
 -- each list of a phrase has no more tokens
 counted : (s : Settings) (f : Phrase) (ts : List LexicalToken) → Generates s f ts → length ts ≤ token_count f
-unfolding Generates token_count
+unfolding Generates token_count chosen
 counted s Never ts g = absurd g
 counted s Nothing ts g = let e = ap length g in omega (arith, e)
 counted s (One x) ts g = let e = ap length g in omega (arith, e)
 counted s (NameOf at bytes) ts g = let e = ap length g in omega (arith, e)
 counted s (KeyOf at bytes) ts g = let e = ap length g in omega (arith, e)
+counted s (PrivateOf bytes) ts g = let e = ap length g in omega (arith, e)
 counted s (Then a b) ts g =
     let h = counted s a g.0 g.2 in
     let k = counted s b g.1 g.3 in
@@ -51,34 +53,35 @@ counted s (OptionalParentheses a) ts (inr g) =
     omega (arith, h, e, length-append g.0 (close_parenthesis ∷ []))
 counted s (Chosen EmptyArguments) ts g = let h = argument_count s in let e = ap length g in omega (arith, h, e)
 counted s (Chosen LoopEnding) ts g = let h = ending_count s in let e = ap length g in omega (arith, h, e)
+counted s (Chosen AttributesWord) ts g = let e = ap length g in omega (arith, e)
 
 -- each node of a well-formed tree can be printed, whose names can
-pub printable : (p : Part) (f : Phrase) (env : Env) → Prints env p f → is_possible f ≡ true → is_out env.config f ≡ false → unprintable_in (p nothing env) ≡ None
+pub printable : {i : Shape} (p : Part) (f : Phrase) (env : Env) → PrintsAt i env p f → is_possible f ≡ true → is_out env.config f ≡ false → unprintable_in (p nothing env) ≡ None
 unfolding nothing unprintable_in
 printable p f env prints w o = goes_on (prints.where_possible w o).writes nothing
 
 -- so it comes to such a node exactly where some name can't be
-pub ends_where_out : (p : Part) (f : Phrase) (env : Env) → Prints env p f → is_possible f ≡ true → unprintable_in (p nothing env) ≡ (if is_out env.config f then Some NameOutOfTarget else None)
+pub ends_where_out : {i : Shape} (p : Part) (f : Phrase) (env : Env) → PrintsAt i env p f → is_possible f ≡ true → unprintable_in (p nothing env) ≡ (if is_out env.config f then Some NameOutOfTarget else None)
 ends_where_out p f env prints w = elim (cases_Bool (is_out env.config f)) [
   | inl o ↦ prints.where_out w o nothing ∙ ap (λ b. cond b (Some NameOutOfTarget) None) (sym o)
   | inr o ↦ printable p f env prints w o ∙ ap (λ b. cond b (Some NameOutOfTarget) None) (sym o)
 ]
 
 -- so where it was made, all could
-pub follows_in_target : (p : Part) (f : Phrase) (a b : State) (r : Result (Unit {0}) Refusal) → Prints a.env p f → is_possible f ≡ true → Follows (p nothing) a b r → OnOk r (is_out a.env.config f ≡ false)
+pub follows_in_target : {i : Shape} (p : Part) (f : Phrase) (a b : State) (r : Result (Unit {0}) Refusal) → PrintsAt i a.env p f → is_possible f ≡ true → Follows (p nothing) a b r → OnOk r (is_out a.env.config f ≡ false)
 unfolding Follows
 follows_in_target p f a b (Ok u) prints w h = made_not_out p f a.env prints w h.0
 follows_in_target p f a b (Err e) prints w h = tt
 
 -- and where a name was refused, some couldn't
-pub follows_out_of_target : (p : Part) (f : Phrase) (a b : State) → Prints a.env p f → is_possible f ≡ true → Follows (p nothing) a b (Err refusals.NameOutOfTarget) → is_out a.env.config f ≡ true
+pub follows_out_of_target : {i : Shape} (p : Part) (f : Phrase) (a b : State) → PrintsAt i a.env p f → is_possible f ≡ true → Follows (p nothing) a b (Err refusals.NameOutOfTarget) → is_out a.env.config f ≡ true
 unfolding HasCause
 follows_out_of_target p f a b prints w h =
     let k = (follows_cause (p nothing) a b (Err refusals.NameOutOfTarget) h).refusal in
     true_from_ne_false (is_out a.env.config f) (λ o. let z = sym k ∙ printable p f a.env prints w o in absurd (cc))
 
 -- and with room for as many levels as tokens it comes to no limit
-pub within : (p : Part) (f : Phrase) (a : State) → Prints a.env p f → is_possible f ≡ true → is_out a.env.config f ≡ false → a.sheet.indentation + token_count f < 2 ^ 32 → PassesLimit (steps_of (p nothing a.env)) a → ⊥
+pub within : {i : Shape} (p : Part) (f : Phrase) (a : State) → PrintsAt i a.env p f → is_possible f ≡ true → is_out a.env.config f ≡ false → a.sheet.indentation + token_count f < 2 ^ 32 → PassesLimit (steps_of (p nothing a.env)) a → ⊥
 unfolding nothing
 within p f a prints w o room =
     let h = prints.where_possible w o in
@@ -89,7 +92,7 @@ within p f a prints w o room =
     stays_within (steps_of (p nothing a.env)) a (omega (arith, deep, count, few, room))
 
 -- nothing stands in the way of a plain tree
-plain_unhindered : (p : Part) (f : Phrase) (a b : State) → Prints a.env p f → IsPlainTree a.env.config f a.sheet.indentation → IsReady a → b.sheet.faults ≡ a.sheet.faults → IsUnhindered (p nothing a.env) a b
+plain_unhindered : {i : Shape} (p : Part) (f : Phrase) (a b : State) → PrintsAt i a.env p f → IsPlainTree a.env.config f a.sheet.indentation → IsReady a → b.sheet.faults ≡ a.sheet.faults → IsUnhindered (p nothing a.env) a b
 plain_unhindered p f a b prints t s e = record {
   fresh = or_from _ _ s.none_failed s.none_refused;
   no_fault = e;
@@ -100,7 +103,7 @@ plain_unhindered p f a b prints t s e = record {
   printable = printable p f a.env prints t.well_formed (plain_not_out a.env.config f t.no_text_made);
 }
 
-pub plain_made : (p : Part) (f : Phrase) (a b : State) (r : Result (Unit {0}) Refusal) → Prints a.env p f → IsPlainTree a.env.config f a.sheet.indentation → IsReady a → b.sheet.faults ≡ a.sheet.faults → Follows (p nothing) a b r → IsOk r
+pub plain_made : {i : Shape} (p : Part) (f : Phrase) (a b : State) (r : Result (Unit {0}) Refusal) → PrintsAt i a.env p f → IsPlainTree a.env.config f a.sheet.indentation → IsReady a → b.sheet.faults ≡ a.sheet.faults → Follows (p nothing) a b r → IsOk r
 plain_made p f a b r prints t s e h = follows_succeeds (p nothing) a b r h (plain_unhindered p f a b prints t s e)
 
 -- ---- what is left after it

@@ -41,7 +41,7 @@ use Rattle.swc_ecma_codegen_base.proofs.LiteralParts.{literal_token, writes_dott
 use Rattle.swc_ecma_codegen_base.proofs.NumeralTexts.{numeric_ascii, ascii_by_chars}
 use Rattle.swc_ecma_codegen_base.proofs.OwnDots.{dotted_begins}
 use Rattle.swc_ecma_codegen_base.proofs.Phrased.{Prints, after, prints_mark, prints_never, prints_one, prints_same, prints_where, then}
-use Rattle.swc_ecma_codegen_base.proofs.Printed.{Writes, writes_commit, writes_if, writes_leading, writes_nothing, writes_then}
+use Rattle.swc_ecma_codegen_base.proofs.Printed.{Writes, writes_commit, writes_if, writes_leading, writes_nothing, writes_then, Fills}
 use Rattle.swc_ecma_codegen_base.proofs.Remade.{makes_remade, prints_signed, writes_begun_in}
 use Rattle.swc_ecma_codegen_base.proofs.Texts.{minus_is_mark}
 use Rattle.swc_ecma_codegen_base.proofs.Written.{Spelled, spelled_name}
@@ -232,7 +232,7 @@ prints_number env n = prints_number_at env false n
 
 -- ---- a number before the dot of a property
 
-writes_between_dots : (env : Env) (pos : BytePos) → Writes env (between_dots pos) []
+writes_between_dots : (env : Env) (pos : BytePos) → Fills env (between_dots pos)
 unfolding between_dots
 writes_between_dots env pos = writes_if env (nat_lt pos.0 2) (λ rest. rest) (leading_comments (record { 0 = pos.0 - 2 })) [] (writes_nothing env) (writes_leading env (record { 0 = pos.0 - 2 }))
 

@@ -1,5 +1,5 @@
 -- What each word writes is one of the token lists of a phrase.
-use Rattle.std.proofs.Common.{◌≡◌, ◌≢◌, ℕ, Bool, true, false, cond, List, [], ◌∷◌, ◌++◌, ◌||◌, ◌==◌, codes, refl, sym, ap, ◌∙◌, subst, append-nil, inl, inr, Option, Some, None, Result, Ok, Err, OnOk, IfErr}
+use Rattle.std.proofs.Common.{◌≡◌, ◌≢◌, ℕ, Bool, true, false, cond, List, [], ◌∷◌, ◌++◌, ◌&&◌, ◌||◌, ◌==◌, codes, refl, sym, ap, ◌∙◌, subst, append_assoc, append-nil, inl, inr, Option, Some, None, Result, Ok, Err, OnOk, IfErr}
 use Rattle.std.specs.Str.{chars, is_utf8}
 use Rattle.std.proofs.lemmas.Bool.{and_parts, or_from, or_parts, false_from_ne_true, true≢false}
 use Rattle.swc_ecma_codegen_common.specs.declared.errors.Error.{Error}
@@ -16,13 +16,13 @@ use Rattle.swc_ecma_codegen_ast.specs.Texts.{is_same, is_among}
 use Rattle.swc_ecma_codegen_ast.specs.Reads.{Reads}
 use Rattle.swc_ecma_codegen_ast.specs.GapRules.{Start, allows}
 use Rattle.swc_ecma_codegen_ast.specs.Parts as parts
-use Rattle.swc_ecma_codegen_ast.specs.Parts.{Gap, NoneFuse, Reduced, IsEnding, tokens_of, remarks_in}
+use Rattle.swc_ecma_codegen_ast.specs.Parts.{OfLine, OnLine, KeepsLines, walk, is_broken, Gap, NoneFuse, Reduced, IsEnding, tokens_of, remarks_in}
 use Rattle.swc_ecma_codegen_ast.specs.Endings.{IsReduced}
-use Rattle.swc_ecma_codegen_ast.proofs.Dropped.{none_fuse_reduced, tokens_reduced, without_last_gap}
+use Rattle.swc_ecma_codegen_ast.proofs.Dropped.{keeps_reduced, none_fuse_reduced, tokens_reduced, without_last_gap}
 use Rattle.swc_ecma_codegen_common.specs.declared.positions.BytePos.{BytePos}
 use Rattle.swc_ecma_codegen_spans.specs.Spans.{dummy_span}
 use Rattle.swc_ecma_codegen_text_writer.specs.Recorded.{RecordsTruly}
-use Rattle.swc_ecma_codegen_text_writer.specs.Sheet.{Sheet, Symbol, Position, Commit}
+use Rattle.swc_ecma_codegen_text_writer.specs.Sheet.{Sheet, Symbol, Position, Commit, is_ending}
 use Rattle.swc_ecma_codegen_text_writer.proofs.Sheets.{effect_keeps_positions}
 use Rattle.swc_ecma_codegen_ast.specs.Phrases.{Phrase, Never, Nothing, One, NameOf, Then, PlacedName, Generates, is_possible, names_in, where_, ◌>◌, mark}
 use Rattle.swc_ecma_codegen_ast.specs.Phrases as phrases
@@ -51,8 +51,18 @@ use Rattle.swc_ecma_codegen_base.proofs.Spelled.{valid_same, spelled_same, out_s
 use Rattle.swc_ecma_codegen_base.proofs.Positions.{Named, named_none, named_then, named_records, name_named, name_steps, name_call, run_records}
 use Rattle.swc_ecma_codegen_base.proofs.ValueStrings.{none_by_value, steps_safe}
 use Rattle.swc_ecma_codegen_base.proofs.Targets.{Names, names_in_ascii, plain_not_out}
-use Rattle.swc_ecma_codegen_base.proofs.Written.{Lays, held, held_of, tokens_append, Spelled, spelled_word, spelled_name, spelled_mark}
-use Rattle.swc_ecma_codegen_base.proofs.Printed.{chain, or_false, Makes, Writes, writes_whatever, writes_then, writes_same, writes_nothing, writes_keyword, writes_operator, writes_word_operator, writes_punct, writes_placed_punct, writes_semi, writes_commit, writes_leading, writes_name_text}
+use Rattle.swc_ecma_codegen_base.proofs.Shapes.{Shape, whole, open_, loose, unbroken, joining, joined, at_joint, join, is_within, met_unbroken, broken_from, walk_append}
+use Rattle.swc_ecma_codegen_base.proofs.Appended.{tokens_append}
+use Rattle.swc_ecma_codegen_base.proofs.Written.{LaysAt, held, held_of, Spelled, spelled_word, spelled_name, spelled_mark}
+use Rattle.swc_ecma_codegen_base.proofs.Printed.{MakesAt, makes_wider, writes_joined_operator, writes_joined_punct, writes_keyword_joint, chain, or_false, Writes, writes_whatever, writes_then, writes_same, writes_nothing, writes_keyword, writes_operator, writes_word_operator, writes_punct, writes_placed_punct, writes_semi, writes_commit, writes_leading, writes_name_text}
+
+and_assoc : (a b c : Bool) → ((a && b) && c) ≡ (a && (b && c))
+and_assoc true b c = refl
+and_assoc false b c = refl
+
+or_assoc : (a b c : Bool) → ((a || b) || c) ≡ (a || (b || c))
+or_assoc true b c = refl
+or_assoc false b c = refl
 
 -- ---- the steps of a part
 
@@ -67,9 +77,9 @@ steps_of_more [] rest = refl
 steps_of_more (x ∷ xs) rest = ap (λ z. x ∷ z) (steps_of_more xs rest)
 
 -- the steps of a part, and then those of another
-steps_then : {env : Env} {p : Part} {ts : List lexical.Token} {b : Bool} → Makes env p ts b → (q : Part) → steps_of (p (q nothing) env) ≡ steps_of (p nothing env) ++ steps_of (q nothing env)
+steps_then : {i : Shape} {env : Env} {p : Part} {ts : List lexical.Token} {b : Bool} → MakesAt i env p ts b → (q : Part) → steps_of (p (q nothing) env) ≡ steps_of (p nothing env) ++ steps_of (q nothing env)
 unfolding nothing
-steps_then {env} h q =
+steps_then {env = env} h q =
     let alone = ap steps_of (h.is_steps nothing) ∙ steps_of_chain h.steps in
     ap steps_of (h.is_steps (q nothing)) ∙ steps_of_more h.steps (q nothing env) ∙ ap (λ z. z ++ steps_of (q nothing env)) (sym alone)
 
@@ -81,9 +91,9 @@ pub no_names : (env : Env) (p : Part) → NamedBy env p []
 unfolding NamedBy
 no_names env p s k = named_none env.config s.sheet _ (run_records (steps_of (p nothing env)) s)
 
-pub names_then : {env : Env} {p : Part} {ts : List lexical.Token} {b : Bool} (q : Part) (xs ys : List PlacedName) → Makes env p ts b → NamedBy env p xs → NamedBy env q ys → NamedBy env (λ rest. p (q rest)) (xs ++ ys)
+pub names_then : {i : Shape} {env : Env} {p : Part} {ts : List lexical.Token} {b : Bool} (q : Part) (xs ys : List PlacedName) → MakesAt i env p ts b → NamedBy env p xs → NamedBy env q ys → NamedBy env (λ rest. p (q rest)) (xs ++ ys)
 unfolding NamedBy
-names_then {env} {p} q xs ys m h k s keeps =
+names_then {env = env} {p = p} q xs ys m h k s keeps =
     let here = steps_of (p nothing env) in
     let there = steps_of (q nothing env) in
     let P : List Step → Type 0 = λ z. Named env.config (xs ++ ys) s.sheet (run z s).sheet in
@@ -96,33 +106,48 @@ unfoldable pub IsSafe : Env → Part → Type 0
 IsSafe env p = env.config.inline_script ≡ true → (anew : Bool) → AreSafe (strings_after anew (steps_of (p nothing env)))
 
 -- a part without strings
-pub no_strings : {env : Env} {p : Part} {ts : List lexical.Token} {b : Bool} → Makes env p ts b → holds_string ts ≡ false → IsSafe env p
+pub no_strings : {i : Shape} {env : Env} {p : Part} {ts : List lexical.Token} {b : Bool} → MakesAt i env p ts b → holds_string ts ≡ false → IsSafe env p
 unfolding IsSafe AreSafe nothing
-no_strings {env} {p} {ts} h none e anew =
+no_strings {env = env} {p = p} {ts = ts} h none e anew =
     let same : steps_of (p nothing env) ≡ h.steps = ap steps_of (h.is_steps nothing) ∙ steps_of_chain h.steps in
     let no : has_string h.steps ≡ false = false_from_ne_true (has_string h.steps) (λ s. true≢false (sym (h.hands.strings s) ∙ none)) in
     subst AreSafe (sym (ap (strings_after anew) same ∙ none_by_value anew h.steps no)) tt
 
-pub safe_then : {env : Env} {p : Part} {ts : List lexical.Token} {b : Bool} (q : Part) → Makes env p ts b → IsSafe env p → IsSafe env q → IsSafe env (λ rest. p (q rest))
+pub safe_then : {i : Shape} {env : Env} {p : Part} {ts : List lexical.Token} {b : Bool} (q : Part) → MakesAt i env p ts b → IsSafe env p → IsSafe env q → IsSafe env (λ rest. p (q rest))
 unfolding IsSafe
-safe_then {env} {p} q m h k e anew =
+safe_then {env = env} {p = p} q m h k e anew =
     let here = steps_of (p nothing env) in
     let there = steps_of (q nothing env) in
     subst (λ z. AreSafe (strings_after anew z)) (sym (steps_then m q)) (steps_safe here there (h e) (k e) anew)
 
 -- A part writes a token list of a phrase, whatever comes after it, and makes no name anew but those of the phrase.
-pub record Printed (env : Env) (part : Part) (phrase : Phrase) : Type 0 where
+pub record Printed (shape : Shape) (env : Env) (part : Part) (phrase : Phrase) : Type 0 where
   pub tokens : List lexical.Token
   pub generated : Generates (settings_of env.config) phrase tokens
-  pub writes : Makes env part tokens (may_make_text env.config phrase)
+  pub writes : MakesAt shape env part tokens (may_make_text env.config phrase)
   pub named : NamedBy env part (names_in phrase)
   pub safe : IsSafe env part
 
 -- It does so where the phrase is possible and all its names can be written; else it ends where one can't be, whatever
 -- comes after it.
-pub record Prints (env : Env) (part : Part) (phrase : Phrase) : Type 0 where
-  pub where_possible : is_possible phrase ≡ true → is_out env.config phrase ≡ false → Printed env part phrase
+pub record PrintsAt (shape : Shape) (env : Env) (part : Part) (phrase : Phrase) : Type 0 where
+  pub where_possible : is_possible phrase ≡ true → is_out env.config phrase ≡ false → Printed shape env part phrase
   pub where_out : is_possible phrase ≡ true → is_out env.config phrase ≡ true → (rest : Plan) → unprintable_in (part rest env) ≡ Some NameOutOfTarget
+
+-- what begins and ends with a token
+abbrev pub Prints : Env → Part → Phrase → Type 0
+Prints env part phrase = PrintsAt whole env part phrase
+
+-- what leads less far
+pub prints_wider : {i : Shape} (j : Shape) {env : Env} {p : Part} {f : Phrase} → is_within i j ≡ true → PrintsAt i env p f → PrintsAt j env p f
+prints_wider j e h = record {
+  where_possible = λ w o. let a = h.where_possible w o in record { tokens = a.tokens; generated = a.generated; writes = makes_wider j e a.writes; named = a.named; safe = a.safe };
+  where_out = h.where_out;
+}
+
+-- where lines may end anywhere
+pub loosened : {env : Env} {p : Part} {f : Phrase} → Prints env p f → PrintsAt loose env p f
+loosened h = prints_wider loose refl h
 
 -- a part that writes tokens goes on to what comes after it
 more_unprintable : (xs : List Step) (rest : Steps) → unprintable_in (chain xs rest) ≡ unprintable_in rest
@@ -130,8 +155,8 @@ unfolding unprintable_in chain
 more_unprintable [] rest = refl
 more_unprintable (x ∷ xs) rest = more_unprintable xs rest
 
-pub goes_on : {env : Env} {p : Part} {ts : List lexical.Token} {b : Bool} → Makes env p ts b → (rest : Plan) → unprintable_in (p rest env) ≡ unprintable_in (rest env)
-goes_on {env} h rest = ap unprintable_in (h.is_steps rest) ∙ more_unprintable h.steps (rest env)
+pub goes_on : {i : Shape} {env : Env} {p : Part} {ts : List lexical.Token} {b : Bool} → MakesAt i env p ts b → (rest : Plan) → unprintable_in (p rest env) ≡ unprintable_in (rest env)
+goes_on {env = env} h rest = ap unprintable_in (h.is_steps rest) ∙ more_unprintable h.steps (rest env)
 
 -- one of two is out: the first, or else the second
 out_of_two : {P : Type 0} (a b : Bool) → (a || b) ≡ true → (a ≡ true → P) → (a ≡ false → b ≡ true → P) → P
@@ -139,9 +164,9 @@ out_of_two true b h f g = f refl
 out_of_two false b h f g = g refl h
 
 -- one part after the other
-pub then : {env : Env} {p q : Part} {f g : Phrase} → Prints env p f → Prints env q g → Prints env (λ rest. p (q rest)) (Then f g)
+pub then : {i j : Shape} {env : Env} {p q : Part} {f g : Phrase} → PrintsAt i env p f → PrintsAt j env q g → PrintsAt (join i j) env (λ rest. p (q rest)) (Then f g)
 unfolding Generates is_possible is_out may_make_text names_in
-then {env} {p} {q} {f} {g} h k = record {
+then {env = env} {p = p} {q = q} {f = f} {g = g} h k = record {
   where_possible = λ w o.
       let both = and_parts (is_possible f) (is_possible g) w in
       let none = or_parts (is_out env.config f) (is_out env.config g) o in
@@ -160,9 +185,9 @@ then {env} {p} {q} {f} {g} h k = record {
 }
 
 -- a part before or after one that writes no token
-pub after : {env : Env} {q p : Part} {f : Phrase} → Writes env q [] → Prints env p f → Prints env (λ rest. q (p rest)) f
+pub after : {i j : Shape} {env : Env} {q p : Part} {f : Phrase} → MakesAt i env q [] false → PrintsAt j env p f → PrintsAt (join i j) env (λ rest. q (p rest)) f
 unfolding holds_string
-after {env} {q} {p} {f} k h = record {
+after {env = env} {q = q} {p = p} {f = f} k h = record {
   where_possible = λ w o.
       let a = h.where_possible w o in
       record {
@@ -175,41 +200,41 @@ after {env} {q} {p} {f} k h = record {
   where_out = λ w o rest. goes_on k (p rest) ∙ h.where_out w o rest;
 }
 
-pub before : {env : Env} {p q : Part} {f : Phrase} → Prints env p f → Writes env q [] → Prints env (λ rest. p (q rest)) f
+pub before : {i j : Shape} {env : Env} {p q : Part} {f : Phrase} → PrintsAt i env p f → MakesAt j env q [] false → PrintsAt (join i j) env (λ rest. p (q rest)) f
 unfolding holds_string
-before {env} {p} {q} {f} h k = record {
+before {i} {j} {env} {p} {q} {f} h k = record {
   where_possible = λ w o.
       let a = h.where_possible w o in
       let made : Bool = may_make_text env.config f in
       record {
         tokens = a.tokens;
         generated = a.generated;
-        writes = subst (λ z. Makes env (λ rest. p (q rest)) a.tokens z) (or_false made) (subst (λ z. Makes env (λ rest. p (q rest)) z (made || false)) (append-nil a.tokens) (writes_then env p q a.tokens [] a.writes k));
+        writes = subst (λ z. MakesAt (join i j) env (λ rest. p (q rest)) a.tokens z) (or_false made) (subst (λ z. MakesAt (join i j) env (λ rest. p (q rest)) z (made || false)) (append-nil a.tokens) (writes_then env p q a.tokens [] a.writes k));
         named = subst (λ z. NamedBy env (λ rest. p (q rest)) z) (append-nil (names_in f)) (names_then q (names_in f) [] a.writes a.named (no_names env q));
         safe = safe_then q a.writes a.safe (no_strings k refl);
       };
   where_out = λ w o rest. h.where_out w o (q rest);
 }
 
-pub prints_nothing : {env : Env} → Prints env (λ rest. rest) Nothing
+pub prints_nothing : {env : Env} → PrintsAt open_ env (λ rest. rest) Nothing
 unfolding Generates is_out may_make_text names_in holds_string
 prints_nothing {env} = record { where_possible = λ w o. record { tokens = []; generated = refl; writes = writes_nothing env; named = no_names env (λ rest. rest); safe = no_strings (writes_nothing env) refl }; where_out = λ w o. absurd (true≢false (sym o)) }
 
 -- what is Never has no list
-pub prints_never : {env : Env} {p : Part} → Prints env p Never
+pub prints_never : {i : Shape} {env : Env} {p : Part} → PrintsAt i env p Never
 unfolding is_possible
 prints_never = record { where_possible = λ w. absurd (true≢false (sym w)); where_out = λ w. absurd (true≢false (sym w)) }
 
 -- a phrase on a condition
-pub prints_where : {env : Env} {p : Part} {f : Phrase} (b : Bool) → (b ≡ true → Prints env p f) → Prints env p (where_ b f)
+pub prints_where : {i : Shape} {env : Env} {p : Part} {f : Phrase} (b : Bool) → (b ≡ true → PrintsAt i env p f) → PrintsAt i env p (where_ b f)
 unfolding where_
 prints_where true h = h refl
 prints_where false h = prints_never
 
 -- a part that is written as another is
-pub prints_same : {env : Env} {f : Phrase} (p q : Part) → ((rest : Plan) → p rest env ≡ q rest env) → Prints env q f → Prints env p f
+pub prints_same : {i : Shape} {env : Env} {f : Phrase} (p q : Part) → ((rest : Plan) → p rest env ≡ q rest env) → PrintsAt i env q f → PrintsAt i env p f
 unfolding NamedBy IsSafe
-prints_same {env} {f} p q e h = record {
+prints_same {env = env} {f = f} p q e h = record {
   where_possible = λ w o.
       let a = h.where_possible w o in
       record {
@@ -223,16 +248,16 @@ prints_same {env} {f} p q e h = record {
 }
 
 -- a token, whose text may be made anew where it is a literal
-pub prints_made : (env : Env) (p : Part) (x : lexical.Token) → Makes env p (x ∷ []) (may_make_text env.config (One x)) → IsSafe env p → Prints env p (One x)
+pub prints_made : {i : Shape} (env : Env) (p : Part) (x : lexical.Token) → MakesAt i env p (x ∷ []) (may_make_text env.config (One x)) → IsSafe env p → PrintsAt i env p (One x)
 unfolding Generates is_out names_in
 prints_made env p x h safe = record { where_possible = λ w o. record { tokens = x ∷ []; generated = refl; writes = h; named = no_names env p; safe = safe }; where_out = λ w o. absurd (true≢false (sym o)) }
 
 -- one that is no string
-pub no_string : {env : Env} {p : Part} {x : lexical.Token} {b : Bool} → Makes env p (x ∷ []) b → is_str x.kind ≡ false → IsSafe env p
+pub no_string : {i : Shape} {env : Env} {p : Part} {x : lexical.Token} {b : Bool} → MakesAt i env p (x ∷ []) b → is_str x.kind ≡ false → IsSafe env p
 unfolding holds_string
-no_string {env} {p} {x} h none = no_strings h (or_from (is_str x.kind) false none refl)
+no_string {x = x} h none = no_strings h (or_from (is_str x.kind) false none refl)
 
-pub prints_one : (env : Env) (p : Part) (x : lexical.Token) → Writes env p (x ∷ []) → is_str x.kind ≡ false → Prints env p (One x)
+pub prints_one : {i : Shape} (env : Env) (p : Part) (x : lexical.Token) → MakesAt i env p (x ∷ []) false → is_str x.kind ≡ false → PrintsAt i env p (One x)
 unfolding Generates may_make_text names_in
 prints_one env p x h none = prints_made env p x (writes_whatever (may_make_text env.config (One x)) h) (no_string h none)
 
@@ -251,7 +276,7 @@ prints_word : (env : Env) (p : Part) (t : List ℕ) → IsWord t → Writes env 
 unfolding token_of value_of spelling lexical.word is_str
 prints_word env p t w h = subst (λ z. Prints env p (phrases.word z)) (ascii_same t w.ascii) (prints_one env p _ h refl)
 
-pub prints_mark : (env : Env) (p : Part) (t : List ℕ) → Writes env p (token_of Punctuator (spelling Punctuator t) ∷ []) → Prints env p (mark t)
+pub prints_mark : {i : Shape} (env : Env) (p : Part) (t : List ℕ) → MakesAt i env p (token_of Punctuator (spelling Punctuator t) ∷ []) false → PrintsAt i env p (mark t)
 unfolding token_of value_of spelling lexical.punctuator is_str
 prints_mark env p t h = prints_one env p _ h refl
 
@@ -278,9 +303,63 @@ pub prints_semi : (env : Env) → Prints env semi phrases.ending
 unfolding token_of value_of spelling lexical.ending is_str
 prints_semi env = prints_one env semi _ (writes_semi env) refl
 
+-- ---- tokens behind `[no LineTerminator here]`, and before it
+
+-- the phrase of two tokens
+prints_pair : {i : Shape} (env : Env) (p : Part) (x y : lexical.Token) → MakesAt i env p (x ∷ y ∷ []) false → is_str x.kind ≡ false → is_str y.kind ≡ false → PrintsAt i env p (One x > One y)
+unfolding Generates is_out is_possible names_in holds_string
+prints_pair env p x y h a b = record {
+  where_possible = λ w o. record {
+    tokens = x ∷ y ∷ [];
+    generated = (x ∷ [], y ∷ [], refl, refl, refl);
+    writes = writes_whatever (may_make_text env.config (One x > One y)) h;
+    named = no_names env p;
+    safe = no_strings h (or_from (is_str x.kind) _ a (or_from (is_str y.kind) false b refl));
+  };
+  where_out = λ w o. absurd (true≢false (sym o));
+}
+
+-- `++` of `a++`
+pub prints_joined_operator : (env : Env) (t : List ℕ) → IsMark t → PrintsAt joined env (operator t) (phrases.same_line > mark t)
+unfolding token_of value_of spelling lexical.punctuator lexical.same_line is_str
+prints_joined_operator env t w = prints_pair env (operator t) _ _ (writes_joined_operator env t (mark_spelled t w) w.ascii) refl refl
+
+-- `=>`
+pub joined_mark : {i : Shape} (env : Env) (p : Part) (t : List ℕ) → MakesAt i env p (lexical.same_line ∷ token_of Punctuator (spelling Punctuator t) ∷ []) false → PrintsAt i env p (phrases.same_line > mark t)
+unfolding token_of value_of spelling lexical.punctuator lexical.same_line is_str
+joined_mark env p t h = prints_pair env p _ _ h refl refl
+
+pub prints_joined_punct : (env : Env) (t : List ℕ) → is_ending t ≡ false → IsMark t → PrintsAt joined env (punct t) (phrases.same_line > mark t)
+prints_joined_punct env t e w = joined_mark env (punct t) t (writes_joined_punct env t e (mark_spelled t w) w.ascii)
+
+joint_word : (env : Env) (p : Part) (t : List ℕ) → IsWord t → MakesAt (join whole joining) env p (token_of Word (spelling Word t) ∷ lexical.same_line ∷ []) false → PrintsAt (join whole joining) env p (phrases.word t > phrases.same_line)
+unfolding token_of value_of spelling lexical.word lexical.same_line is_str
+joint_word env p t w h = subst (λ z. PrintsAt (join whole joining) env p (phrases.word z > phrases.same_line)) (ascii_same t w.ascii) (prints_pair env p _ _ h refl refl)
+
+-- the lists of three phrases, however they are taken together
+pub prints_regrouped : {i : Shape} {env : Env} {p : Part} {f g h : Phrase} → PrintsAt i env p ((f > g) > h) → PrintsAt i env p (f > g > h)
+unfolding Generates is_possible is_out may_make_text names_in
+prints_regrouped {i} {env} {p} {f} {g} {h} x = record {
+  where_possible = λ w o.
+      let a = x.where_possible (and_assoc (is_possible f) (is_possible g) (is_possible h) ∙ w) (or_assoc (is_out env.config f) (is_out env.config g) (is_out env.config h) ∙ o) in
+      let k = a.generated in
+      record {
+        tokens = a.tokens;
+        generated = (k.2.0, k.2.1 ++ k.1, k.2.2, (k.2.1, k.1, k.2.3, k.3, refl), k.4 ∙ ap (λ z. z ++ k.1) k.2.4 ∙ append_assoc k.2.0 k.2.1 k.1);
+        writes = subst (λ z. MakesAt i env p a.tokens z) (or_assoc (may_make_text env.config f) (may_make_text env.config g) (may_make_text env.config h)) a.writes;
+        named = subst (λ z. NamedBy env p z) (append_assoc (names_in f) (names_in g) (names_in h)) a.named;
+        safe = a.safe;
+      };
+  where_out = λ w o rest. x.where_out (and_assoc (is_possible f) (is_possible g) (is_possible h) ∙ w) (or_assoc (is_out env.config f) (is_out env.config g) (is_out env.config h) ∙ o) rest;
+}
+
+-- a word and what belongs to it: `return a`
+pub joined_then : {j : Shape} (env : Env) (span : Option Span) (t : List ℕ) → IsWord t → {p : Part} {f : Phrase} → PrintsAt j env p f → PrintsAt (at_joint j) env (λ rest. keyword span t (p rest)) (phrases.word t > phrases.same_line > f)
+joined_then env span t w h = prints_regrouped (then (joint_word env (keyword span t) t w (writes_keyword_joint env span t (word_spelled t w) w.ascii)) h)
+
 -- ---- names
 
-name_written : (config : Config) (bytes : List ℕ) → is_well_formed_name bytes ≡ true → is_out_name config (turned bytes) ≡ false → Names config (turned bytes) (written_name config bytes)
+pub name_written : (config : Config) (bytes : List ℕ) → is_well_formed_name bytes ≡ true → is_out_name config (turned bytes) ≡ false → Names config (turned bytes) (written_name config bytes)
 unfolding is_well_formed_name names.spelled_name written_name
 name_written config bytes w o = let p = and_parts (is_utf8 (turned bytes)) (is_name (chars (turned bytes))) w in names_in_ascii config (turned bytes) p.0 p.1 o
 
@@ -329,9 +408,9 @@ prints_settled_name env span bytes e = record {
   where_out = λ w o rest. name_out env span bytes rest e o;
 }
 
-prints_question : (env : Env) (optional : Bool) → Prints env (question optional) (cond optional (mark (codes "?")) Nothing)
+prints_question : (env : Env) (optional : Bool) → PrintsAt open_ env (question optional) (cond optional (mark (codes "?")) Nothing)
 unfolding question
-prints_question env true = prints_punct env (codes "?") question_is_mark
+prints_question env true = prints_wider open_ refl (prints_punct env (codes "?") question_is_mark)
 prints_question env false = prints_nothing
 
 -- a name, and `?` after an optional one
@@ -373,8 +452,15 @@ unfolding end_of tokens_of
 no_end_tokens true s = refl
 no_end_tokens false s = refl
 
-laid_reads : (config : Config) (f : Phrase) (ts : List lexical.Token) (a b : State) → Generates (settings_of config) f ts → IsNew a → Lays ts a b → AddsReading config f a.sheet b.sheet
-unfolding NoneFuse
+-- where no line ends within the whole none does within its front
+kept_front : (xs ys : List parts.Part) (w : OfLine) → is_broken (walk w (xs ++ ys)) ≡ false → is_broken (walk w xs) ≡ false
+kept_front xs ys w h = still_whole ys (walk w xs) (ap is_broken (sym (walk_append xs ys w)) ∙ h)
+  where
+    still_whole : (ys : List parts.Part) (v : OfLine) → is_broken (walk v ys) ≡ false → is_broken v ≡ false
+    still_whole ys v h = false_from_ne_true (is_broken v) (λ b. true≢false (sym (broken_from ys v b) ∙ h))
+
+laid_reads : (config : Config) (f : Phrase) (ts : List lexical.Token) (a b : State) → Generates (settings_of config) f ts → IsNew a → LaysAt unbroken ts a b → AddsReading config f a.sheet b.sheet
+unfolding NoneFuse is_broken
 laid_reads config f ts a b g n l =
     let last : Bool = holds_one b.sheet.semicolons in
     let end : List parts.Part = end_of last b.sheet in
@@ -383,6 +469,8 @@ laid_reads config f ts a b g n l =
     subst (λ z. Reduced z (l.laid ++ end)) (append-nil l.out) (subst (λ z. Reduced (z ++ (l.out ++ [])) (l.laid ++ end)) none (l.reduces [] end (end_reduced last b.sheet))) in
     let apart : NoneFuse Start l.out = subst (λ z. NoneFuse z l.out) n.nothing_written (subst (λ z. NoneFuse a.last z) (append-nil l.out) (l.apart [] (l.rest.allowed []))) in
     let laid : NoneFuse Start l.laid = without_end last b.sheet l.laid (none_fuse_reduced l.out (l.laid ++ end) apart reduced) in
+    let kept : KeepsLines l.out = met_unbroken _ l.fits.line in
+    let lines : KeepsLines l.laid = kept_front l.laid end OnLine (keeps_reduced l.out (l.laid ++ end) OnLine reduced kept) in
     let same : tokens_of (l.laid ++ end) ≡ tokens_of l.laid = tokens_append l.laid end ∙ ap (λ z. tokens_of l.laid ++ z) (no_end_tokens last b.sheet) ∙ append-nil (tokens_of l.laid) in
     record {
       added = l.bytes;
@@ -394,12 +482,12 @@ laid_reads config f ts a b g n l =
         written = tokens_of l.laid;
         reduced = subst (λ z. IsReduced z (tokens_of l.laid)) l.tokens (subst (λ z. IsReduced (tokens_of l.out) z) same (tokens_reduced l.out (l.laid ++ end) apart reduced));
         whole = λ e. ap tokens_of (l.whole e) ∙ l.tokens;
-        reads = subst (λ z. Reads (chars l.bytes) (tokens_of l.laid) z) l.remarks (subst (λ z. Reads z (tokens_of l.laid) (remarks_in l.laid)) (sym l.spells) (reads l.laid laid));
+        reads = subst (λ z. Reads (chars l.bytes) (tokens_of l.laid) z) l.remarks (subst (λ z. Reads z (tokens_of l.laid) (remarks_in l.laid)) (sym l.spells) (reads l.laid laid lines));
       };
     }
 
 -- the steps of a part, made from a state where an emission begins
-pub steps_read : (p : Part) (f : Phrase) (a : State) → IsNew a → Prints a.env p f → is_possible f ≡ true → is_out a.env.config f ≡ false → AddsReading a.env.config f a.sheet (run (steps_of (p nothing a.env)) a).sheet
+pub steps_read : (p : Part) (f : Phrase) (a : State) → IsNew a → PrintsAt unbroken a.env p f → is_possible f ≡ true → is_out a.env.config f ≡ false → AddsReading a.env.config f a.sheet (run (steps_of (p nothing a.env)) a).sheet
 unfolding nothing
 steps_read p f a n prints w o =
     let h = prints.where_possible w o in
@@ -408,20 +496,20 @@ steps_read p f a n prints w o =
     subst P (sym end) (laid_reads a.env.config f h.tokens a (run h.writes.steps a) h.generated n (h.writes.lays a (new_at_rest a n)))
 
 -- steps that come to their end come to no name that can't be written
-pub made_not_out : (p : Part) (f : Phrase) (env : Env) → Prints env p f → is_possible f ≡ true → unprintable_in (p nothing env) ≡ None → is_out env.config f ≡ false
+pub made_not_out : {i : Shape} (p : Part) (f : Phrase) (env : Env) → PrintsAt i env p f → is_possible f ≡ true → unprintable_in (p nothing env) ≡ None → is_out env.config f ≡ false
 made_not_out p f env prints w end = false_from_ne_true (is_out env.config f) (λ o. let z = sym end ∙ prints.where_out w o nothing in absurd (cc))
 
 -- of an empty text the whole reads
 pub whole_reads : (config : Config) (holds : Bool) (f : Phrase) (text : List ℕ) → AddsText config holds f [] text → ReadsAs config holds f text
 whole_reads config holds f text h = subst (λ z. ReadsAs config holds f z) (sym h.is_added) h.reading
 
-pub printed_reads : (p : Part) (f : Phrase) (a b : State) (r : Result (Unit {0}) Refusal) → IsNew a → Prints a.env p f → is_possible f ≡ true → Follows (p nothing) a b r → OnOk r (AddsReading a.env.config f a.sheet b.sheet)
+pub printed_reads : (p : Part) (f : Phrase) (a b : State) (r : Result (Unit {0}) Refusal) → IsNew a → PrintsAt unbroken a.env p f → is_possible f ≡ true → Follows (p nothing) a b r → OnOk r (AddsReading a.env.config f a.sheet b.sheet)
 unfolding Follows
 printed_reads p f a b (Ok u) n prints w k = let P : State → Type 0 = λ z. AddsReading a.env.config f a.sheet z.sheet in subst P (sym k.1) (steps_read p f a n prints w (made_not_out p f a.env prints w k.0))
 printed_reads p f a b (Err e) n prints w k = tt
 
 -- no text is made anew where nothing of the phrase may be
-pub printed_remakes : (p : Part) (f : Phrase) (env : Env) → Prints env p f → is_possible f ≡ true → may_make_text env.config f ≡ false → makes_text (steps_of (p nothing env)) ≡ false
+pub printed_remakes : {i : Shape} (p : Part) (f : Phrase) (env : Env) → PrintsAt i env p f → is_possible f ≡ true → may_make_text env.config f ≡ false → makes_text (steps_of (p nothing env)) ≡ false
 unfolding nothing
 printed_remakes p f env prints w none =
     let h = prints.where_possible w (plain_not_out env.config f none) in
@@ -439,7 +527,7 @@ never_out_of_memory p a b r plain t h e =
 -- ---- what an emission records
 
 -- where positions are kept, each name has its own where it begins
-pub printed_names : (p : Part) (f : Phrase) (a b : State) (r : Result (Unit {0}) Refusal) → Prints a.env p f → is_possible f ≡ true → a.sheet.keeps_positions ≡ true → Follows (p nothing) a b r → OnOk r (RecordsNames a.env.config (names_in f) a.sheet b.sheet)
+pub printed_names : {i : Shape} (p : Part) (f : Phrase) (a b : State) (r : Result (Unit {0}) Refusal) → PrintsAt i a.env p f → is_possible f ≡ true → a.sheet.keeps_positions ≡ true → Follows (p nothing) a b r → OnOk r (RecordsNames a.env.config (names_in f) a.sheet b.sheet)
 unfolding Follows NamedBy
 printed_names p f a b (Ok u) prints w k h =
     let P : State → Type 0 = λ z. RecordsNames a.env.config (names_in f) a.sheet z.sheet in

@@ -17,10 +17,10 @@ use Rattle.swc_ecma_codegen_base.proofs.Hands.{holds_string}
 use Rattle.swc_ecma_codegen_base.proofs.LiteralParts.{writes_begun}
 use Rattle.swc_ecma_codegen_base.proofs.LitTexts.{signed_tokens}
 use Rattle.swc_ecma_codegen_base.proofs.Phrased.{IsSafe, Prints, no_names, no_string, no_strings, prints_made}
-use Rattle.swc_ecma_codegen_base.proofs.Printed.{Makes, Writes, makes_some, writes_if, writes_nothing, writes_remake, writes_then}
+use Rattle.swc_ecma_codegen_base.proofs.Printed.{Makes, makes_some, writes_if, writes_nothing, writes_remake, writes_then, Fills}
 
 -- what begins as a `Lit` before it begins as itself
-pub writes_begun_in : (env : Env) (in_lit : Bool) (span : Span) (t : List ℕ) → Writes env (begun_in in_lit span t) []
+pub writes_begun_in : (env : Env) (in_lit : Bool) (span : Span) (t : List ℕ) → Fills env (begun_in in_lit span t)
 unfolding begun_in
 writes_begun_in env in_lit span t = writes_if env in_lit (begun span t) (λ rest. rest) [] (writes_begun env span t) (writes_nothing env)
 

@@ -12,9 +12,10 @@ use Rattle.swc_ecma_codegen_base.specs.Run.{Part, State, Step, Guard, Token, Pla
 use Rattle.swc_ecma_codegen_base.specs.Scripts.{is_string_call, string_by_value, strings_after, value_strings, AreSafe, StandIn, AddsSafe}
 use Rattle.swc_ecma_codegen_base.specs.Targets.{is_out}
 use Rattle.swc_ecma_codegen_base.proofs.Held.{front}
-use Rattle.swc_ecma_codegen_base.proofs.Phrased.{IsSafe, Prints, made_not_out}
+use Rattle.swc_ecma_codegen_base.proofs.Phrased.{IsSafe, made_not_out, PrintsAt}
 use Rattle.swc_ecma_codegen_base.proofs.Positions.{put_records}
 use Rattle.swc_ecma_codegen_base.proofs.Texts.{adds_literal}
+use Rattle.swc_ecma_codegen_base.proofs.Shapes.{Shape}
 
 -- ---- texts in a text
 
@@ -108,12 +109,12 @@ run_holds anew (Remake due ∷ xs) a = holds_then [] _ _ _ _ (holds_none _ _ (pu
 
 -- ---- what an emission adds
 
-part_safe : {p : Part} {f : Phrase} (a : State) → Prints a.env p f → is_possible f ≡ true → is_out a.env.config f ≡ false → a.env.config.inline_script ≡ true → AreSafe (value_strings (steps_of (p nothing a.env)))
+part_safe : {i : Shape} {p : Part} {f : Phrase} (a : State) → PrintsAt i a.env p f → is_possible f ≡ true → is_out a.env.config f ≡ false → a.env.config.inline_script ≡ true → AreSafe (value_strings (steps_of (p nothing a.env)))
 unfolding IsSafe
 part_safe a prints w o e = (prints.where_possible w o).safe e false
 
 -- under `inline_script` each string that is printed by its value is safe
-pub printed_safe : (p : Part) (f : Phrase) (a b : State) (r : Result (Unit {0}) Refusal) → Prints a.env p f → is_possible f ≡ true → a.env.config.inline_script ≡ true → Follows (p nothing) a b r → OnOk r (AddsSafe (value_strings (steps_of (p nothing a.env))) a.sheet.text b.sheet.text)
+pub printed_safe : {i : Shape} (p : Part) (f : Phrase) (a b : State) (r : Result (Unit {0}) Refusal) → PrintsAt i a.env p f → is_possible f ≡ true → a.env.config.inline_script ≡ true → Follows (p nothing) a b r → OnOk r (AddsSafe (value_strings (steps_of (p nothing a.env))) a.sheet.text b.sheet.text)
 unfolding Follows
 printed_safe p f a b (Ok u) prints w e k =
     let xs : List Step = steps_of (p nothing a.env) in

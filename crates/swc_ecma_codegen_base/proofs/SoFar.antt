@@ -9,7 +9,7 @@ use Rattle.swc_ecma_codegen_ast.specs.Reads.{Reads}
 use Rattle.swc_ecma_codegen_ast.specs.Endings.{IsReduced}
 use Rattle.swc_ecma_codegen_text_writer.specs.Sheet.{holds_semicolons}
 use Rattle.swc_ecma_codegen_ast.specs.Parts as parts
-use Rattle.swc_ecma_codegen_ast.specs.Parts.{NoneFuse, tokens_of, remarks_in}
+use Rattle.swc_ecma_codegen_ast.specs.Parts.{OnLine, PastLine, walk, is_broken, NoneFuse, tokens_of, remarks_in}
 use Rattle.swc_ecma_codegen_ast.specs.Settings.{Settings}
 use Rattle.swc_ecma_codegen_util.specs.declared.config.Config.{Config}
 use Rattle.swc_ecma_codegen_base.specs.Settings.{settings_of}
@@ -21,12 +21,18 @@ use Rattle.swc_ecma_codegen_base.specs.Targets.{is_out}
 use Rattle.swc_ecma_codegen_base.specs.Words.{keyword, operator, word_operator, punct, semi, name, space, formatting_space, line_end, formatting_line, commit_pending_semi, position, position_before, leading_comments, trailing_comments}
 use Rattle.swc_ecma_codegen_base.specs.Written.{IsNew, IsWord, IsMark, ReadsSoFar, AddsText, name_tokens}
 use Rattle.swc_ecma_codegen_base.proofs.Emitting.{emits_nothing}
-use Rattle.swc_ecma_codegen_base.proofs.Written.{Lays, text_append, tokens_append, remarks_append}
-use Rattle.swc_ecma_codegen_base.proofs.Printed.{Makes, Writes, writes_space, writes_formatting_space, writes_line, writes_formatting_line, writes_commit, writes_position, writes_position_before, writes_leading, writes_trailing}
+use Rattle.swc_ecma_codegen_base.proofs.Appended.{text_append, tokens_append, remarks_append}
+use Rattle.swc_ecma_codegen_base.proofs.Written.{LaysAt}
+use Rattle.swc_ecma_codegen_base.proofs.Printed.{writes_space, writes_formatting_space, writes_line, writes_formatting_line, writes_commit, writes_position, writes_position_before, writes_leading, writes_trailing, MakesAt, EndsLines, makes_wider}
 use Rattle.swc_ecma_codegen_base.proofs.Phrased.{Prints, steps_of_chain, new_at_rest, prints_keyword, prints_operator, prints_word_operator, prints_punct, prints_semi, prints_ident, made_not_out}
+use Rattle.swc_ecma_codegen_base.proofs.Shapes.{Le, line_first, loose, walk_append, walk_le, not_broken, met_past}
+
+-- where no line ends within what follows the end of a line, none does where some parts stand before
+kept_on : (xs more : List parts.Part) → Le (walk PastLine xs) PastLine → is_broken (walk PastLine more) ≡ false → is_broken (walk PastLine (xs ++ more)) ≡ false
+kept_on xs more h k = ap is_broken (walk_append xs more PastLine) ∙ not_broken _ _ (walk_le more _ _ h) k
 
 -- what was laid since
-lays_so_far : (old : List ℕ) (tokens ts : List lexical.Token) (a b : State) → Lays ts a b → ReadsSoFar old tokens a → ReadsSoFar old (tokens ++ ts) b
+lays_so_far : (old : List ℕ) (tokens ts : List lexical.Token) (a b : State) → LaysAt loose ts a b → ReadsSoFar old tokens a → ReadsSoFar old (tokens ++ ts) b
 lays_so_far old tokens ts a b l h =
     let all : l.laid ≡ l.out = l.whole h.at_once in
     record {
@@ -34,7 +40,7 @@ lays_so_far old tokens ts a b l h =
       added = h.added ++ l.bytes;
       is_added = l.text ∙ ap (λ z. z ++ l.bytes) h.is_added ∙ append_assoc old h.added l.bytes;
       utf8 = IsUtf8-append h.added l.bytes h.utf8 l.utf8;
-      reads = λ more n.
+      reads = λ more n k.
           let text : chars h.added ++ parts.text_of (l.out ++ more) ≡ chars (h.added ++ l.bytes) ++ parts.text_of more =
           ap (λ z. chars h.added ++ z) (text_append l.out more)
           ∙ sym (append_assoc (chars h.added) (parts.text_of l.out) (parts.text_of more))
@@ -48,12 +54,12 @@ lays_so_far old tokens ts a b l h =
           subst (λ z. Reads z ((tokens ++ ts) ++ tokens_of more) (remarks_in more)) text
           (subst (λ z. Reads (chars h.added ++ parts.text_of (l.out ++ more)) z (remarks_in more)) list
           (subst (λ z. Reads (chars h.added ++ parts.text_of (l.out ++ more)) (tokens ++ tokens_of (l.out ++ more)) z) none
-          (h.reads (l.out ++ more) (l.apart more n))));
+          (h.reads (l.out ++ more) (l.apart more n) (kept_on l.out more (met_past _ l.fits.past) k))));
       rest = l.rest;
     }
 
 -- a part that writes tokens, and was made
-emitted_so_far : (part : Part) (old : List ℕ) (tokens ts : List lexical.Token) (a b : State) {remade : Bool} → Makes a.env part ts remade → Emits part a b (Ok tt) → ReadsSoFar old tokens a → ReadsSoFar old (tokens ++ ts) b
+emitted_so_far : (part : Part) (old : List ℕ) (tokens ts : List lexical.Token) (a b : State) {remade : Bool} → MakesAt loose a.env part ts remade → Emits part a b (Ok tt) → ReadsSoFar old tokens a → ReadsSoFar old (tokens ++ ts) b
 unfolding Follows nothing
 emitted_so_far part old tokens ts a b w e h =
     let k = e nothing b (Ok tt) (emits_nothing b) in
@@ -66,7 +72,7 @@ one_so_far : (part : Part) (x : lexical.Token) (old : List ℕ) (tokens : List l
 unfolding Generates is_possible is_out
 one_so_far part x old tokens a b prints e h =
     let p = prints.where_possible refl refl in
-    subst (λ z. ReadsSoFar old (tokens ++ z) b) p.generated (emitted_so_far part old tokens p.tokens a b p.writes e h)
+    subst (λ z. ReadsSoFar old (tokens ++ z) b) p.generated (emitted_so_far part old tokens p.tokens a b (makes_wider loose refl p.writes) e h)
 
 -- a part that was made comes to its end
 emitted_ends : (part : Part) (a b : State) → Emits part a b (Ok tt) → unprintable_in (part nothing a.env) ≡ None
@@ -77,7 +83,7 @@ emitted_ends part a b e = (e nothing b (Ok tt) (emits_nothing b)).0
 pub phrase_so_far : (part : Part) (f : Phrase) (old : List ℕ) (tokens : List lexical.Token) (a b : State) → Prints a.env part f → is_possible f ≡ true → Emits part a b (Ok tt) → ReadsSoFar old tokens a → (ts : List lexical.Token) × Generates (settings_of a.env.config) f ts × ReadsSoFar old (tokens ++ ts) b
 phrase_so_far part f old tokens a b prints w e h =
     let p = prints.where_possible w (made_not_out part f a.env prints w (emitted_ends part a b e)) in
-    (p.tokens, p.generated, emitted_so_far part old tokens p.tokens a b p.writes e h)
+    (p.tokens, p.generated, emitted_so_far part old tokens p.tokens a b (makes_wider loose refl p.writes) e h)
 
 pub keyword_so_far : (span : Option Span) (t old : List ℕ) (tokens : List lexical.Token) (a b : State) → IsWord t → Emits (keyword span t) a b (Ok tt) → ReadsSoFar old tokens a → ReadsSoFar old (tokens ++ lexical.word t ∷ []) b
 keyword_so_far span t old tokens a b w e h = one_so_far (keyword span t) (lexical.word t) old tokens a b (prints_keyword a.env span t w) e h
@@ -117,7 +123,7 @@ new_so_far s n o = record {
   added = [];
   is_added = sym (append-nil s.sheet.text);
   utf8 = IsUtf8-nil;
-  reads = λ more f. subst (λ z. Reads (z ++ parts.text_of more) (tokens_of more) (remarks_in more)) (sym chars-nil) (reads more (subst (λ k. NoneFuse k more) n.nothing_written f));
+  reads = λ more f k. subst (λ z. Reads (z ++ parts.text_of more) (tokens_of more) (remarks_in more)) (sym chars-nil) (reads more (subst (λ k. NoneFuse k more) n.nothing_written f) (not_broken _ _ (walk_le more OnLine PastLine (line_first PastLine)) k));
   rest = new_at_rest s n;
 }
 
@@ -129,7 +135,7 @@ all_kept (x ∷ xs) = inl (xs, refl, all_kept xs)
 
 -- where nothing follows
 pub so_far_reads : (config : Config) (f : Phrase) (old : List ℕ) (tokens : List lexical.Token) (s : State) → Generates (settings_of config) f tokens → ReadsSoFar old tokens s → AddsText config false f old s.sheet.text
-unfolding NoneFuse parts.text_of tokens_of remarks_in
+unfolding NoneFuse parts.text_of tokens_of remarks_in walk is_broken
 so_far_reads config f old tokens s g h = record {
   added = h.added;
   is_added = h.is_added;
@@ -140,19 +146,19 @@ so_far_reads config f old tokens s g h = record {
     written = tokens;
     reduced = all_kept tokens;
     whole = λ e. refl;
-    reads = subst (λ z. Reads (chars h.added) z []) (append-nil tokens) (subst (λ z. Reads z (tokens ++ []) []) (append-nil (chars h.added)) (h.reads [] (h.rest.allowed [])));
+    reads = subst (λ z. Reads (chars h.added) z []) (append-nil tokens) (subst (λ z. Reads z (tokens ++ []) []) (append-nil (chars h.added)) (h.reads [] (h.rest.allowed []) refl));
   };
 }
 
 -- a part that writes no token
-gap_so_far : (part : Part) (old : List ℕ) (tokens : List lexical.Token) (a b : State) → Writes a.env part [] → Emits part a b (Ok tt) → ReadsSoFar old tokens a → ReadsSoFar old tokens b
+gap_so_far : (part : Part) (old : List ℕ) (tokens : List lexical.Token) (a b : State) → EndsLines a.env part → Emits part a b (Ok tt) → ReadsSoFar old tokens a → ReadsSoFar old tokens b
 gap_so_far part old tokens a b w e h = subst (λ z. ReadsSoFar old z b) (append-nil tokens) (emitted_so_far part old tokens [] a b w e h)
 
 pub space_so_far : (old : List ℕ) (tokens : List lexical.Token) (a b : State) → Emits space a b (Ok tt) → ReadsSoFar old tokens a → ReadsSoFar old tokens b
-space_so_far old tokens a b e h = gap_so_far space old tokens a b (writes_space a.env) e h
+space_so_far old tokens a b e h = gap_so_far space old tokens a b (makes_wider loose refl (writes_space a.env)) e h
 
 pub formatting_space_so_far : (old : List ℕ) (tokens : List lexical.Token) (a b : State) → Emits formatting_space a b (Ok tt) → ReadsSoFar old tokens a → ReadsSoFar old tokens b
-formatting_space_so_far old tokens a b e h = gap_so_far formatting_space old tokens a b (writes_formatting_space a.env) e h
+formatting_space_so_far old tokens a b e h = gap_so_far formatting_space old tokens a b (makes_wider loose refl (writes_formatting_space a.env)) e h
 
 pub line_so_far : (old : List ℕ) (tokens : List lexical.Token) (a b : State) → Emits line_end a b (Ok tt) → ReadsSoFar old tokens a → ReadsSoFar old tokens b
 line_so_far old tokens a b e h = gap_so_far line_end old tokens a b (writes_line a.env) e h
@@ -161,16 +167,16 @@ pub formatting_line_so_far : (old : List ℕ) (tokens : List lexical.Token) (a b
 formatting_line_so_far old tokens a b e h = gap_so_far formatting_line old tokens a b (writes_formatting_line a.env) e h
 
 pub commit_so_far : (old : List ℕ) (tokens : List lexical.Token) (a b : State) → Emits commit_pending_semi a b (Ok tt) → ReadsSoFar old tokens a → ReadsSoFar old tokens b
-commit_so_far old tokens a b e h = gap_so_far commit_pending_semi old tokens a b (writes_commit a.env) e h
+commit_so_far old tokens a b e h = gap_so_far commit_pending_semi old tokens a b (makes_wider loose refl (writes_commit a.env)) e h
 
 pub position_so_far : (pos : BytePos) (old : List ℕ) (tokens : List lexical.Token) (a b : State) → Emits (position pos) a b (Ok tt) → ReadsSoFar old tokens a → ReadsSoFar old tokens b
-position_so_far pos old tokens a b e h = gap_so_far (position pos) old tokens a b (writes_position a.env pos) e h
+position_so_far pos old tokens a b e h = gap_so_far (position pos) old tokens a b (makes_wider loose refl (writes_position a.env pos)) e h
 
 pub position_before_so_far : (pos : BytePos) (old : List ℕ) (tokens : List lexical.Token) (a b : State) → Emits (position_before pos) a b (Ok tt) → ReadsSoFar old tokens a → ReadsSoFar old tokens b
-position_before_so_far pos old tokens a b e h = gap_so_far (position_before pos) old tokens a b (writes_position_before a.env pos) e h
+position_before_so_far pos old tokens a b e h = gap_so_far (position_before pos) old tokens a b (makes_wider loose refl (writes_position_before a.env pos)) e h
 
 pub leading_so_far : (pos : BytePos) (old : List ℕ) (tokens : List lexical.Token) (a b : State) → Emits (leading_comments pos) a b (Ok tt) → ReadsSoFar old tokens a → ReadsSoFar old tokens b
-leading_so_far pos old tokens a b e h = gap_so_far (leading_comments pos) old tokens a b (writes_leading a.env pos) e h
+leading_so_far pos old tokens a b e h = gap_so_far (leading_comments pos) old tokens a b (makes_wider loose refl (writes_leading a.env pos)) e h
 
 pub trailing_so_far : (prefix : Bool) (pos : BytePos) (old : List ℕ) (tokens : List lexical.Token) (a b : State) → Emits (trailing_comments prefix pos) a b (Ok tt) → ReadsSoFar old tokens a → ReadsSoFar old tokens b
-trailing_so_far prefix pos old tokens a b e h = gap_so_far (trailing_comments prefix pos) old tokens a b (writes_trailing a.env prefix pos) e h
+trailing_so_far prefix pos old tokens a b e h = gap_so_far (trailing_comments prefix pos) old tokens a b (makes_wider loose refl (writes_trailing a.env prefix pos)) e h

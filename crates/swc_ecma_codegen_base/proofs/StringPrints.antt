@@ -43,7 +43,7 @@ use Rattle.swc_ecma_codegen_base.specs.Words.{commit_pending_semi, end_of, leadi
 use Rattle.swc_ecma_codegen_base.proofs.LitTexts.{spelled_string}
 use Rattle.swc_ecma_codegen_base.proofs.LiteralParts.{writes_settled_begun, writes_string}
 use Rattle.swc_ecma_codegen_base.proofs.Phrased.{IsSafe, Prints, prints_same, prints_where}
-use Rattle.swc_ecma_codegen_base.proofs.Printed.{Writes, writes_if, writes_nothing, writes_position, writes_then}
+use Rattle.swc_ecma_codegen_base.proofs.Printed.{Writes, writes_if, writes_nothing, writes_position, writes_then, Fills}
 use Rattle.swc_ecma_codegen_base.proofs.RawTexts.{ascii_is}
 use Rattle.swc_ecma_codegen_base.proofs.Remade.{makes_remade, prints_anew, writes_begun_in}
 
@@ -133,7 +133,7 @@ written_string config n h = chosen_string (prints_raw config n) config n refl h
 
 -- ---- its parts
 
-writes_directive_end : (env : Env) (n : strs.Str) → Writes env (directive_end n) []
+writes_directive_end : (env : Env) (n : strs.Str) → Fills env (directive_end n)
 unfolding directive_end
 writes_directive_end env n = writes_if env (is_directive n) (end_of n.span) (λ rest. rest) [] (writes_position env n.span.hi) (writes_nothing env)
 

@@ -10,7 +10,7 @@ use Rattle.swc_ecma_codegen_ast.specs.declared.kinds.Kind.TheVariants.{Punctuato
 use Rattle.swc_ecma_codegen_ast.specs.Texts.{begins, is_same, is_among}
 use Rattle.swc_ecma_codegen_ast.specs.Punctuators.{is_punctuator, punctuators}
 use Rattle.swc_ecma_codegen_ast.specs.Trivia.{pieces_text, remarks_of}
-use Rattle.swc_ecma_codegen_ast.specs.GapRules.{Last, Apart, Mark, fuses, allows, last_after, mark_after}
+use Rattle.swc_ecma_codegen_ast.specs.GapRules.{Last, Start, Apart, Mark, fuses, allows, last_after, mark_after}
 use Rattle.swc_ecma_codegen_ast.specs.Parts as parts
 use Rattle.swc_ecma_codegen_ast.specs.Parts.{Gap, Own, tokens_of, remarks_in, NoneFuse, Reduced}
 use Rattle.swc_ecma_codegen_text_writer.specs.Sheet.{Sheet, holds_semicolons, recorded, written, literal_written}
@@ -20,6 +20,7 @@ use Rattle.swc_ecma_codegen_base.specs.Written.{IsLineEnd, all_indent, is_free, 
 use Rattle.swc_ecma_codegen_base.proofs.Held.{front, front_of, recorded_keeps, written_text, written_semicolons, in_line}
 use Rattle.swc_ecma_codegen_base.proofs.Indented.{indent_repeat, indent_utf8, indent_chars, blanks, blanks_text, blanks_remarks}
 use Rattle.swc_ecma_codegen_base.proofs.Strangers.{dash_same}
+use Rattle.swc_ecma_codegen_base.proofs.Shapes.{whole, Fits, fits_indent, fits_then, fits_own as fits_one_own}
 use Rattle.swc_ecma_codegen_base.proofs.Written.{Lays, Spelled, spelled_mark, laid_out, front_indent, apart_alone, after_indent, in_a_line, apart_open, mark_allows, free_last, own_fits}
 
 -- ---- what calls add to a sheet
@@ -138,6 +139,23 @@ texts_apart true xs t s more e o p f r n =
     (p.fits Apart more (apart_alone (chars t)) apart_open (subst (λ k. NoneFuse k more) (p.free s.last (r.free o e)) n))
 texts_apart false xs t s more e o p f r n = in_a_line s.last (owns xs ++ more) r.allowed (p.fits s.last more f r.allowed n)
 
+-- a text is a token at least
+start_is_not_apart : Start ≡ Apart → ⊥
+start_is_not_apart e = cc
+
+no_tokens : (t : List ℕ) → SpelledAs [] t → ⊥
+unfolding after_tokens is_free
+no_tokens t p = start_is_not_apart (p.free Start refl)
+
+fits_owns : (x : Kind × List ℕ) (xs : List (Kind × List ℕ)) → Fits whole (owns (x ∷ xs))
+unfolding owns
+fits_owns x [] = fits_one_own x.0 (spelling x.0 x.1)
+fits_owns x (y ∷ ys) = fits_then (Own x.0 (spelling x.0 x.1) ∷ []) (owns (y ∷ ys)) (fits_one_own x.0 (spelling x.0 x.1)) (fits_owns y ys)
+
+fits_texts : (u : List ℕ) (xs : List (Kind × List ℕ)) (t : List ℕ) → all_indent u ≡ true → SpelledAs xs t → Fits whole (Gap (blanks u) ∷ owns xs)
+fits_texts u [] t h p = absurd (no_tokens t p)
+fits_texts u (x ∷ xs) t h p = fits_then (Gap (blanks u) ∷ []) (owns (x ∷ xs)) (fits_indent u h) (fits_owns x xs)
+
 -- tokens of a text that was added, where no semicolon is held back
 pub lays_texts : (xs : List (Kind × List ℕ)) (t : List ℕ) (s b : State) → SpelledAs xs t → fuses s.last (chars t) ≡ false → holds_one s.sheet.semicolons ≡ false → AtRest s → Adds t s.sheet b.sheet → b.last ≡ after_tokens xs s.last → Lays (tokens_of (owns xs)) s b
 unfolding tokens_of remarks_in parts.text_of
@@ -163,4 +181,5 @@ lays_texts xs t s b p f o r h last =
         free = λ o e. absurd (true≢false (sym e ∙ h.in_line));
         allowed = λ u. ap (λ k. allows k u) last ∙ p.allowed s.last u;
       };
+      fits = fits_texts (front s.sheet) xs t i p;
     }

@@ -16,7 +16,7 @@ use Rattle.swc_ecma_codegen_ast.specs.Trivia.{Blank, is_piece, piece_text, piece
 use Rattle.swc_ecma_codegen_ast.specs.Reads.{is_child, is_hashbang_kind}
 use Rattle.swc_ecma_codegen_ast.specs.GapRules.{Last, Start, Apart, Mark, LessBang, fuses, allows, mark_after, last_after, last_after_gap, holds_child}
 use Rattle.swc_ecma_codegen_ast.specs.Parts as parts
-use Rattle.swc_ecma_codegen_ast.specs.Parts.{Gap, Own, tokens_of, remarks_in, NoneFuse}
+use Rattle.swc_ecma_codegen_ast.specs.Parts.{Gap, Own, Joint, tokens_of, remarks_in, NoneFuse}
 use Rattle.swc_ecma_codegen_ast.proofs.Reading.{blank_fuses}
 use Rattle.swc_ecma_codegen_common.specs.declared.positions.BytePos.{BytePos}
 use Rattle.swc_ecma_codegen_common.specs.declared.positions.Span.{Span}
@@ -27,6 +27,8 @@ use Rattle.swc_ecma_codegen_text_writer.proofs.Sheets.{written_same, pointed_ali
 use Rattle.swc_ecma_codegen_base.specs.Run.{State, Guard, put, spelling}
 use Rattle.swc_ecma_codegen_base.specs.Written.{IsLineEnd, is_indent, all_indent, is_free, holds_one, AtRest}
 use Rattle.swc_ecma_codegen_base.proofs.Held.{front_of, front, written_text, in_line, written_semicolons, pointed_keeps, settled_none}
+use Rattle.swc_ecma_codegen_base.proofs.Appended.{text_append, tokens_append, remarks_append}
+use Rattle.swc_ecma_codegen_base.proofs.Shapes.{Shape, whole, open_, loose, joining, joined, join, is_within, Fits, fits_then, fits_wider, fits_nothing, fits_joint, fits_own, fits_indent, fits_text, fits_end}
 use Rattle.swc_ecma_codegen_base.proofs.Indented.{indent_append, indent_repeat, indent_utf8, indent_chars, blanks, blanks_text, indent_blank, blanks_pieces, blanks_remarks}
 
 -- what is asked for and isn't out yet: a semicolon that is held back, where it would stand
@@ -36,9 +38,10 @@ held_of b s = cond b (Gap (blanks (front s)) ∷ Own Ending (codes ";") ∷ []) 
 abbrev pub held : Sheet → List parts.Part
 held s = held_of (holds_one s.semicolons) s
 
--- From one state to another these tokens were asked for, with blanks between them: parts in which no two fuse. What went
--- out are the same parts without some semicolons that aren't needed, and without one that is still held back.
-pub record Lays (ts : List lexical.Token) (a b : State) : Type 0 where
+-- From one state to another these tokens were asked for, with blanks between them: parts in which no two fuse, and which lead
+-- no further on lines than their shape says. What went out are the same parts without some semicolons that aren't needed, and
+-- without one that is still held back.
+pub record LaysAt (shape : Shape) (ts : List lexical.Token) (a b : State) : Type 0 where
   pub out : List parts.Part
   pub laid : List parts.Part
   pub bytes : List ℕ
@@ -53,27 +56,14 @@ pub record Lays (ts : List lexical.Token) (a b : State) : Type 0 where
   pub holds : holds_semicolons b.sheet.semicolons ≡ holds_semicolons a.sheet.semicolons
   pub whole : holds_semicolons a.sheet.semicolons ≡ false → laid ≡ out
   pub rest : AtRest b
+  pub fits : Fits shape out
 
-pub text_append : (xs ys : List parts.Part) → parts.text_of (xs ++ ys) ≡ parts.text_of xs ++ parts.text_of ys
-unfolding parts.text_of
-text_append [] ys = refl
-text_append (Gap ps ∷ xs) ys = ap (λ z. pieces_text ps ++ z) (text_append xs ys) ∙ sym (append_assoc (pieces_text ps) (parts.text_of xs) (parts.text_of ys))
-text_append (Own x t ∷ xs) ys = ap (λ z. t ++ z) (text_append xs ys) ∙ sym (append_assoc t (parts.text_of xs) (parts.text_of ys))
-
-pub tokens_append : (xs ys : List parts.Part) → tokens_of (xs ++ ys) ≡ tokens_of xs ++ tokens_of ys
-unfolding tokens_of
-tokens_append [] ys = refl
-tokens_append (Gap ps ∷ xs) ys = tokens_append xs ys
-tokens_append (Own x t ∷ xs) ys = ap (λ z. token_of x t ∷ z) (tokens_append xs ys)
-
-pub remarks_append : (xs ys : List parts.Part) → remarks_in (xs ++ ys) ≡ remarks_in xs ++ remarks_in ys
-unfolding remarks_in
-remarks_append [] ys = refl
-remarks_append (Gap ps ∷ xs) ys = ap (λ z. remarks_of ps ++ z) (remarks_append xs ys) ∙ sym (append_assoc (remarks_of ps) (remarks_in xs) (remarks_in ys))
-remarks_append (Own x t ∷ xs) ys = remarks_append xs ys
+-- what begins and ends with a token
+abbrev pub Lays : List lexical.Token → State → State → Type 0
+Lays ts a b = LaysAt whole ts a b
 
 -- one after the other
-pub lays_then : (ts us : List lexical.Token) (a b c : State) → Lays ts a b → Lays us b c → Lays (ts ++ us) a c
+pub lays_then : {i j : Shape} (ts us : List lexical.Token) (a b c : State) → LaysAt i ts a b → LaysAt j us b c → LaysAt (join i j) (ts ++ us) a c
 lays_then ts us a b c h k = record {
   out = h.out ++ k.out;
   laid = h.laid ++ k.laid;
@@ -90,10 +80,20 @@ lays_then ts us a b c h k = record {
   holds = k.holds ∙ h.holds;
   whole = λ e. ap (λ z. z ++ k.laid) (h.whole e) ∙ ap (λ z. h.out ++ z) (k.whole (h.holds ∙ e));
   rest = k.rest;
+  fits = fits_then h.out k.out h.fits k.fits;
 }
 
+-- what leads less far
+pub lays_wider : {i : Shape} (j : Shape) {ts : List lexical.Token} {a b : State} → is_within i j ≡ true → LaysAt i ts a b → LaysAt j ts a b
+lays_wider j e h = record { out = h.out; laid = h.laid; bytes = h.bytes; text = h.text; utf8 = h.utf8; spells = h.spells; tokens = h.tokens; remarks = h.remarks; apart = h.apart; reduces = h.reduces; holds = h.holds; whole = h.whole; rest = h.rest; fits = fits_wider j e h.fits }
+
+-- the parts that are asked for go out, where no semicolon is held back
+pub laid_out : (a b : State) (out more ys : List parts.Part) → holds_one a.sheet.semicolons ≡ false → holds_one b.sheet.semicolons ≡ false → Reduced (held b.sheet ++ more) ys → Reduced (held a.sheet ++ (out ++ more)) (out ++ ys)
+laid_out a b out more ys h k r =
+    subst (λ z. Reduced (held_of z a.sheet ++ (out ++ more)) (out ++ ys)) (sym h) (reduced_after out more ys (subst (λ z. Reduced (held_of z b.sheet ++ more) ys) k r))
+
 -- nothing, where nothing that matters changes
-lays_same : (a b : State) → b.sheet.text ≡ a.sheet.text → b.last ≡ a.last → held b.sheet ≡ held a.sheet → holds_semicolons b.sheet.semicolons ≡ holds_semicolons a.sheet.semicolons → AtRest b → Lays [] a b
+lays_same : (a b : State) → b.sheet.text ≡ a.sheet.text → b.last ≡ a.last → held b.sheet ≡ held a.sheet → holds_semicolons b.sheet.semicolons ≡ holds_semicolons a.sheet.semicolons → AtRest b → LaysAt open_ [] a b
 unfolding parts.text_of tokens_of remarks_in
 lays_same a b t l h o r = record {
   out = [];
@@ -109,15 +109,31 @@ lays_same a b t l h o r = record {
   holds = o;
   whole = λ e. refl;
   rest = r;
+  fits = fits_nothing;
 }
 
-pub lays_nothing : (s : State) → AtRest s → Lays [] s s
+pub lays_nothing : (s : State) → AtRest s → LaysAt open_ [] s s
 lays_nothing s r = lays_same s s refl refl refl refl r
 
--- the parts that are asked for go out, where no semicolon is held back
-pub laid_out : (a b : State) (out more ys : List parts.Part) → holds_one a.sheet.semicolons ≡ false → holds_one b.sheet.semicolons ≡ false → Reduced (held b.sheet ++ more) ys → Reduced (held a.sheet ++ (out ++ more)) (out ++ ys)
-laid_out a b out more ys h k r =
-    subst (λ z. Reduced (held_of z a.sheet ++ (out ++ more)) (out ++ ys)) (sym h) (reduced_after out more ys (subst (λ z. Reduced (held_of z b.sheet ++ more) ys) k r))
+-- `[no LineTerminator here]`, where no semicolon is held back
+pub lays_joint : (s : State) → holds_one s.sheet.semicolons ≡ false → AtRest s → LaysAt joining (lexical.same_line ∷ []) s s
+unfolding parts.text_of tokens_of remarks_in NoneFuse
+lays_joint s o r = record {
+  out = Joint ∷ [];
+  laid = Joint ∷ [];
+  bytes = [];
+  text = sym (append-nil s.sheet.text);
+  utf8 = IsUtf8-nil;
+  spells = chars-nil;
+  tokens = refl;
+  remarks = refl;
+  apart = λ more n. n;
+  reduces = λ more ys d. laid_out s s (Joint ∷ []) more ys o o d;
+  holds = refl;
+  whole = λ e. refl;
+  rest = r;
+  fits = fits_joint;
+}
 
 -- ---- texts, and the indentation at a line's start
 
@@ -163,6 +179,7 @@ unfolding NoneFuse allows last_after_gap holds_child
 first_of_all [] h = refl
 first_of_all (Gap [] ∷ xs) h = (h.0, start_alone (pieces_text []), refl, first_of_all xs h.3)
 first_of_all (Gap (p ∷ ps) ∷ xs) h = (h.0, start_alone (pieces_text (p ∷ ps)), refl, h.3)
+first_of_all (Joint ∷ xs) h = first_of_all xs h
 first_of_all (Own x t ∷ xs) h = (h.0, start_alone t, record { child = λ e. absurd (true≢false (sym (h.2.child e))); first = λ e. refl }, refl, subst (λ k. NoneFuse k xs) (same_after x t) h.4)
 
 free_apart : (k : Last) → is_free k ≡ true → (xs : List parts.Part) → NoneFuse Apart xs → NoneFuse k xs
@@ -249,7 +266,7 @@ settles_reduces x {span} e u xs ys s f r =
     (subst (λ z. Reduced (semicolon_gap z ++ xs) (semicolon_gap u ++ ys)) f (reduced_after (semicolon_gap u) xs ys r))
 
 -- it stands before what is laid from there
-settles : (x : Semicolons) (s b : State) (ts : List lexical.Token) → x ≡ s.sheet.semicolons → AtRest s → Lays ts (settle_by x s) b → Lays ts s b
+settles : {i : Shape} (x : Semicolons) (s b : State) (ts : List lexical.Token) → x ≡ s.sheet.semicolons → AtRest s → LaysAt i ts (settle_by x s) b → LaysAt i ts s b
 unfolding settle_by settled_by holds_one semicolon_gap
 settles AtOnce s b ts e r l = l
 settles HoldsNone s b ts e r l = l
@@ -273,18 +290,19 @@ settles (HoldsOne span) s b ts e r l =
       holds = l.holds ∙ still_holds span (codes ";") there ∙ ap holds_semicolons e;
       whole = λ w. absurd (true≢false (ap holds_semicolons e ∙ w));
       rest = l.rest;
+      fits = l.fits;
     }
 
-pub lays_settled : (s b : State) (ts : List lexical.Token) → AtRest s → Lays ts (settle s) b → Lays ts s b
+pub lays_settled : {i : Shape} (s b : State) (ts : List lexical.Token) → AtRest s → LaysAt i ts (settle s) b → LaysAt i ts s b
 unfolding settle_by
 lays_settled s b ts r l = settles s.sheet.semicolons s b ts refl r l
 
 -- a semicolon that is held back is written
-pub lays_commit : (s : State) → AtRest s → Lays [] s (settle s)
+pub lays_commit : (s : State) → AtRest s → LaysAt open_ [] s (settle s)
 lays_commit s r = lays_settled s (settle s) [] r (lays_nothing (settle s) (settle_rest s r))
 
 -- later lines are indented otherwise
-pub lays_level : (n : ℕ) (s : State) → AtRest s → Lays [] s (record s { sheet = record (settled s.sheet) { indentation = n } })
+pub lays_level : (n : ℕ) (s : State) → AtRest s → LaysAt open_ [] s (record s { sheet = record (settled s.sheet) { indentation = n } })
 lays_level n s r =
     let there : State = settle s in
     let after : State = record there { sheet = record there.sheet { indentation = n } } in
@@ -294,7 +312,7 @@ lays_level n s r =
     lays_settled s after [] r (lays_same there after refl refl same refl (record { indent_text = q.indent_text; line_end = q.line_end; free = q.free; allowed = q.allowed }))
 
 -- a position that is noted
-pub lays_position : (pos : BytePos) (s : State) → AtRest s → Lays [] s (record s { sheet = pointed pos s.sheet })
+pub lays_position : (pos : BytePos) (s : State) → AtRest s → LaysAt open_ [] s (record s { sheet = pointed pos s.sheet })
 lays_position pos s r =
     let p = alike_same s.sheet (pointed pos s.sheet) (pointed_alike pos s.sheet) in
     lays_same s (record s { sheet = pointed pos s.sheet }) (pointed_keeps (λ z. z.text) (λ z x. refl) (λ z x. refl) pos s.sheet) refl
@@ -309,7 +327,7 @@ lays_position pos s r =
 -- ---- blanks and line ends, where nothing is held back
 
 -- a blank
-blank_here : (s : State) → holds_one s.sheet.semicolons ≡ false → AtRest s → Lays [] s (record s { sheet = written None (codes " ") s.sheet; last = Apart })
+blank_here : (s : State) → holds_one s.sheet.semicolons ≡ false → AtRest s → LaysAt open_ [] s (record s { sheet = written None (codes " ") s.sheet; last = Apart })
 unfolding parts.text_of tokens_of remarks_in NoneFuse all_indent is_indent allows
 blank_here s o r =
     let h : all_indent (front s.sheet ++ codes " ") ≡ true = indent_append (front s.sheet) (codes " ") (front_indent s.sheet r.indent_text) refl in
@@ -328,9 +346,10 @@ blank_here s o r =
       holds = still_holds None (codes " ") s.sheet;
       whole = λ e. refl;
       rest = at_text None 32 [] s Apart (λ t. refl) r.indent_text r.line_end;
+      fits = fits_indent (front s.sheet ++ codes " ") h;
     }
 
-pub lays_blank : (s : State) → AtRest s → Lays [] s (record s { sheet = effect Space s.sheet; last = Apart })
+pub lays_blank : (s : State) → AtRest s → LaysAt open_ [] s (record s { sheet = effect Space s.sheet; last = Apart })
 unfolding effect
 lays_blank s r = lays_settled s _ [] r (blank_here (settle s) (settled_none s.sheet) (settle_rest s r))
 
@@ -346,7 +365,7 @@ unfolding line_put appended is_free
 line_rest s r = record { indent_text = r.indent_text; line_end = r.line_end; free = λ o e. refl; allowed = apart_open }
 
 -- a line end by its bytes
-lays_end : (s : State) → holds_one s.sheet.semicolons ≡ false → AtRest s → IsLineEnd s.sheet.line_end → Lays [] s (line_put false s)
+lays_end : (s : State) → holds_one s.sheet.semicolons ≡ false → AtRest s → IsLineEnd s.sheet.line_end → LaysAt loose [] s (line_put false s)
 unfolding line_put appended parts.text_of tokens_of remarks_in NoneFuse last_after_gap pieces_text piece_text all_pieces is_piece is_blank remarks_of chars is_utf8 lib.Utf8.encode
 lays_end s o r (inl e) = record {
   out = Gap (Blank 10 ∷ []) ∷ [];
@@ -362,6 +381,7 @@ lays_end s o r (inl e) = record {
   holds = refl;
   whole = λ e. refl;
   rest = line_rest s r;
+  fits = fits_end _;
 }
 lays_end s o r (inr e) = record {
   out = Gap (Blank 13 ∷ Blank 10 ∷ []) ∷ [];
@@ -377,9 +397,10 @@ lays_end s o r (inr e) = record {
   holds = refl;
   whole = λ e. refl;
   rest = line_rest s r;
+  fits = fits_end _;
 }
 
-line_case : (b : Bool) (s : State) → s.sheet.at_line_start ≡ b → holds_one s.sheet.semicolons ≡ false → AtRest s → Lays [] s (line_put b s)
+line_case : (b : Bool) (s : State) → s.sheet.at_line_start ≡ b → holds_one s.sheet.semicolons ≡ false → AtRest s → LaysAt loose [] s (line_put b s)
 unfolding line_put parts.text_of tokens_of remarks_in is_free
 line_case true s e o r = record {
   out = [];
@@ -395,15 +416,16 @@ line_case true s e o r = record {
   holds = refl;
   whole = λ e. refl;
   rest = record { indent_text = r.indent_text; line_end = r.line_end; free = λ o z. refl; allowed = apart_open };
+  fits = fits_wider loose refl fits_nothing;
 }
 line_case false s e o r = lays_end s o r r.line_end
 
-line_here : (s : State) → holds_one s.sheet.semicolons ≡ false → AtRest s → Lays [] s (record s { sheet = ended s.sheet; last = Apart })
+line_here : (s : State) → holds_one s.sheet.semicolons ≡ false → AtRest s → LaysAt loose [] s (record s { sheet = ended s.sheet; last = Apart })
 unfolding ended line_put
 line_here s o r = line_case s.sheet.at_line_start s refl o r
 
 -- the line ends, unless at a line's start
-pub lays_line : (s : State) → AtRest s → Lays [] s (record s { sheet = effect Line s.sheet; last = Apart })
+pub lays_line : (s : State) → AtRest s → LaysAt loose [] s (record s { sheet = effect Line s.sheet; last = Apart })
 unfolding effect
 lays_line s r = lays_settled s _ [] r (line_here (settle s) (settled_none s.sheet) (settle_rest s r))
 
@@ -547,11 +569,16 @@ lays_here kind span (c ∷ cs) s p f o r =
       holds = still_holds span (c ∷ cs) s.sheet;
       whole = λ e. refl;
       rest = at_text span c cs s (after kind (c ∷ cs) s) (p.allowed s.last) r.indent_text r.line_end;
+      fits = fits_text (front s.sheet) kind (spelling kind (c ∷ cs)) h;
     }
 
 lays_own : (kind : Kind) (span : Option Span) (t : List ℕ) (s : State) → Spelled kind t → fuses s.last (chars t) ≡ false → AtRest s → Lays (token_of kind (spelling kind t) ∷ []) s (own_put kind span t s)
 unfolding own_put own_here
 lays_own kind span t s p f r = lays_settled s _ _ r (lays_here kind span t (settle s) p f (settled_none s.sheet) (settle_rest s r))
+
+-- behind `[no LineTerminator here]`
+lays_joint_here : (kind : Kind) (span : Option Span) (t : List ℕ) (s : State) → Spelled kind t → fuses s.last (chars t) ≡ false → holds_one s.sheet.semicolons ≡ false → AtRest s → LaysAt joined (lexical.same_line ∷ token_of kind (spelling kind t) ∷ []) s (own_here kind span t s)
+lays_joint_here kind span t s p f o r = (lays_then (lexical.same_line ∷ []) (token_of kind (spelling kind t) ∷ []) s s (own_here kind span t s) (lays_joint s o r) (lays_here kind span t s p f o r))
 
 -- ---- a punctuator before which a semicolon that is held back isn't needed
 
@@ -600,6 +627,7 @@ lost_here held_span span (c ∷ cs) s e i p f r =
       holds = still_holds span (c ∷ cs) there ∙ ap holds_semicolons e;
       whole = λ w. absurd (true≢false (ap holds_semicolons e ∙ w));
       rest = at_text span c cs (record s { sheet = there }) (after Punctuator (c ∷ cs) s) (p.allowed s.last) r.indent_text r.line_end;
+      fits = fits_own Punctuator (c ∷ cs);
     }
 
 lost : (x : Semicolons) (span : Option Span) (t : List ℕ) (s : State) → x ≡ s.sheet.semicolons → is_ending t ≡ true → Spelled Punctuator t → fuses s.last (chars t) ≡ false → AtRest s → Lays (token_of Punctuator (spelling Punctuator t) ∷ []) s (own_here Punctuator span t (record s { sheet = record s.sheet { semicolons = dropped x } }))
@@ -628,6 +656,7 @@ holds_back : (span : Option Span) (s : State) → holds_one s.sheet.semicolons �
 unfolding parts.text_of tokens_of remarks_in holds_one spelling
 holds_back span s o h f r = record {
   out = Gap (blanks (front s.sheet)) ∷ Own Ending (codes ";") ∷ [];
+  fits = fits_text (front s.sheet) Ending (codes ";") (front_indent s.sheet r.indent_text);
   laid = [];
   bytes = [];
   text = sym (append-nil s.sheet.text);
@@ -658,6 +687,7 @@ holds_another : (held_span span : Option Span) (s : State) → HoldsOne held_spa
 unfolding parts.text_of tokens_of remarks_in holds_one spelling semicolon_gap
 holds_another held_span span s e f r = record {
   out = Own Ending (codes ";") ∷ [];
+  fits = fits_own Ending (codes ";");
   laid = [];
   bytes = [];
   text = sym (append-nil s.sheet.text);
@@ -686,12 +716,12 @@ lays_semi_own span s f r = semi_case s.sheet.semicolons span s refl f r
 guard_put : Bool → State → State
 guard_put b s = cond b (record s { sheet = effect Space s.sheet; last = Apart }) s
 
-guard_case : (b : Bool) (s : State) → AtRest s → Lays [] s (guard_put b s)
+guard_case : (b : Bool) (s : State) → AtRest s → LaysAt open_ [] s (guard_put b s)
 unfolding guard_put
 guard_case true s r = lays_blank s r
 guard_case false s r = lays_nothing s r
 
-pub lays_guard : (t : List ℕ) (s : State) → AtRest s → Lays [] s (put (Guard t) s)
+pub lays_guard : (t : List ℕ) (s : State) → AtRest s → LaysAt open_ [] s (put (Guard t) s)
 unfolding put guard_put
 lays_guard t s r = guard_case (fuses s.last (chars t)) s r
 
@@ -703,6 +733,30 @@ passed_case false t s e = e
 pub after_guard : (t : List ℕ) (s : State) → fuses (put (Guard t) s).last (chars t) ≡ false
 unfolding put guard_put
 after_guard t s = passed_case (fuses s.last (chars t)) t s refl
+
+-- the same behind `[no LineTerminator here]`
+lays_joint_own : (kind : Kind) (span : Option Span) (t : List ℕ) (s : State) → Spelled kind t → fuses s.last (chars t) ≡ false → AtRest s → LaysAt joined (lexical.same_line ∷ token_of kind (spelling kind t) ∷ []) s (own_put kind span t s)
+unfolding own_put own_here
+lays_joint_own kind span t s p f r = lays_settled s _ _ r (lays_joint_here kind span t (settle s) p f (settled_none s.sheet) (settle_rest s r))
+
+joint_case : (b : Bool) (span : Option Span) (t : List ℕ) (s : State) → b ≡ false → Spelled Punctuator t → fuses s.last (chars t) ≡ false → AtRest s → LaysAt joined (lexical.same_line ∷ token_of Punctuator (spelling Punctuator t) ∷ []) s (own_here Punctuator span t (record s { sheet = cond b (record s.sheet { semicolons = dropped s.sheet.semicolons }) (settled s.sheet) }))
+unfolding own_here
+joint_case true span t s e p f r = absurd (true≢false e)
+joint_case false span t s e p f r = lays_settled s _ _ r (lays_joint_here Punctuator span t (settle s) p f (settled_none s.sheet) (settle_rest s r))
+
+lays_joint_mark : (span : Option Span) (t : List ℕ) (s : State) → is_ending t ≡ false → Spelled Punctuator t → fuses s.last (chars t) ≡ false → AtRest s → LaysAt joined (lexical.same_line ∷ token_of Punctuator (spelling Punctuator t) ∷ []) s (punct_put span t s)
+unfolding punct_put before_punct own_here
+lays_joint_mark span t s e p f r = joint_case (is_ending t) span t s e p f r
+
+pub lays_joint_token : (kind : Kind) (span : Option Span) (t : List ℕ) (s : State) → Spelled kind t → AtRest s → LaysAt joined (lexical.same_line ∷ token_of kind (spelling kind t) ∷ []) s (own_put kind span t (put (Guard t) s))
+lays_joint_token kind span t s p r =
+    let g = lays_guard t s r in
+    lays_then [] (lexical.same_line ∷ token_of kind (spelling kind t) ∷ []) s (put (Guard t) s) (own_put kind span t (put (Guard t) s)) g (lays_joint_own kind span t (put (Guard t) s) p (after_guard t s) g.rest)
+
+pub lays_joint_punct : (span : Option Span) (t : List ℕ) (s : State) → is_ending t ≡ false → Spelled Punctuator t → AtRest s → LaysAt joined (lexical.same_line ∷ token_of Punctuator (spelling Punctuator t) ∷ []) s (punct_put span t (put (Guard t) s))
+lays_joint_punct span t s e p r =
+    let g = lays_guard t s r in
+    lays_then [] (lexical.same_line ∷ token_of Punctuator (spelling Punctuator t) ∷ []) s (put (Guard t) s) (punct_put span t (put (Guard t) s)) g (lays_joint_mark span t (put (Guard t) s) e p (after_guard t s) g.rest)
 
 -- a token by one call, with that blank
 pub lays_token : (kind : Kind) (span : Option Span) (t : List ℕ) (s : State) → Spelled kind t → AtRest s → Lays (token_of kind (spelling kind t) ∷ []) s (own_put kind span t (put (Guard t) s))
@@ -719,6 +773,17 @@ pub lays_semi : (span : Option Span) (s : State) → AtRest s → Lays (token_of
 lays_semi span s r =
     let g = lays_guard (codes ";") s r in
     lays_then [] (token_of Ending (spelling Ending (codes ";")) ∷ []) s (put (Guard (codes ";")) s) (semi_put span (put (Guard (codes ";")) s)) g (lays_semi_own span (put (Guard (codes ";")) s) (after_guard (codes ";") s) g.rest)
+
+-- a token, and `[no LineTerminator here]`
+own_none : (kind : Kind) (span : Option Span) (t : List ℕ) (s : State) → holds_one (own_put kind span t s).sheet.semicolons ≡ false
+unfolding own_put
+own_none kind span t s = still_none span t (settled s.sheet) (settled_none s.sheet)
+
+pub lays_token_joint : (kind : Kind) (span : Option Span) (t : List ℕ) (s : State) → Spelled kind t → AtRest s → LaysAt (join whole joining) (token_of kind (spelling kind t) ∷ lexical.same_line ∷ []) s (own_put kind span t (put (Guard t) s))
+lays_token_joint kind span t s p r =
+    let l = lays_token kind span t s p r in
+    let there : State = own_put kind span t (put (Guard t) s) in
+    lays_then (token_of kind (spelling kind t) ∷ []) (lexical.same_line ∷ []) s there there l (lays_joint there (own_none kind span t (put (Guard t) s)) l.rest)
 
 -- a token by one call, with that blank and a position after it
 pub lays_placed : (pos : BytePos) (kind : Kind) (span : Option Span) (t : List ℕ) (s : State) → Spelled kind t → AtRest s → Lays (token_of kind (spelling kind t) ∷ []) s (own_put kind span t (record (put (Guard t) s) { sheet = pointed pos (put (Guard t) s).sheet }))

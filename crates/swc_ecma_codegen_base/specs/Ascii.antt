@@ -3,7 +3,7 @@ use Rattle.std.specs.Prelude.{◌≡◌, ℕ, Bool, true, false, not, ◌&&◌, 
 use Rattle.std.specs.Str.{chars}
 use Rattle.swc_ecma_codegen_ast.specs.declared.kinds.Kind.{Kind}
 use Rattle.swc_ecma_codegen_ast.specs.declared.kinds.Kind.TheVariants as kinds
-use Rattle.swc_ecma_codegen_ast.specs.Phrases.{Phrase, Never, Nothing, One, NameOf, KeyOf, Then, OptionalComma, OptionalParentheses, Chosen}
+use Rattle.swc_ecma_codegen_ast.specs.Phrases.{Phrase, Never, Nothing, One, NameOf, KeyOf, PrivateOf, Then, OptionalComma, OptionalParentheses, Chosen}
 use Rattle.swc_ecma_codegen_ast.specs.StringValues.{string_value}
 use Rattle.swc_ecma_codegen_ast.specs.Texts.{is_same}
 use Rattle.swc_ecma_codegen_ast.specs.Tokens as lexical
@@ -23,7 +23,7 @@ unfoldable pub is_kept_directive : List ℕ → Bool
 is_kept_directive t = has_byte 92 t && is_strict (string_value true (chars t))
 
 -- The text of a call stands as it is in the tree, whatever the settings: what stands between the slashes of a regular
--- expression, its flags, and such a directive.
+-- expression, its flags, the text of a template with a tag, and such a directive.
 unfoldable pub is_kept : Item → Bool
 is_kept (Str t) = true
 is_kept (StrLit span t) = is_kept_directive t
@@ -33,13 +33,29 @@ is_kept x = false
 unfoldable pub is_other : Item → Bool
 is_other x = is_kept x && not (is_ascii_text (text_of x))
 
+-- the same of a call that writes a piece of a token: what stands between the slashes
+unfoldable pub is_kept_piece : Item → Bool
+is_kept_piece (Str t) = true
+is_kept_piece x = false
+
+unfoldable pub is_other_piece : Item → Bool
+is_other_piece x = is_kept_piece x && not (is_ascii_text (text_of x))
+
+-- And of a call with which these tokens end: flags. One that ends none is the text of a template with a tag.
+unfoldable pub is_kept_end : List (Kind × List ℕ) → Item → Bool
+is_kept_end [] x = true
+is_kept_end (t ∷ ts) x = is_kept_piece x
+
+unfoldable pub is_other_end : List (Kind × List ℕ) → Item → Bool
+is_other_end ts x = is_kept_end ts x && not (is_ascii_text (text_of x))
+
 -- some of these steps hands such a text over
 unfoldable pub keeps_other : List Step → Bool
 keeps_other [] = false
 keeps_other (Guard t ∷ xs) = keeps_other xs
 keeps_other (Token kind x ∷ xs) = is_other x || keeps_other xs
-keeps_other (Plain x ∷ xs) = is_other x || keeps_other xs
-keeps_other (Ends tokens x ∷ xs) = is_other x || keeps_other xs
+keeps_other (Plain x ∷ xs) = is_other_piece x || keeps_other xs
+keeps_other (Ends tokens x ∷ xs) = is_other_end tokens x || keeps_other xs
 keeps_other (Remake due ∷ xs) = keeps_other xs
 
 -- each of them hands ASCII over
@@ -51,10 +67,13 @@ are_ascii (Plain x ∷ xs) = is_ascii_text (text_of x) && are_ascii xs
 are_ascii (Ends tokens x ∷ xs) = is_ascii_text (text_of x) && are_ascii xs
 are_ascii (Remake due ∷ xs) = are_ascii xs
 
--- a token that may stand as it is in the tree, and not in ASCII: a regular expression, or a string that may be a directive
+-- a token that may stand as it is in the tree, and not in ASCII: a regular expression, a part of a template with a tag, or a string
+-- that may be a directive
 unfoldable pub is_other_value : Kind → Value → Bool
 is_other_value kinds.Regex (Characters t) = not (is_ascii_text t)
 is_other_value kinds.Str (Units us) = is_strict us
+is_other_value (kinds.Template part) (Characters t) = not (is_ascii_text t)
+is_other_value (kinds.TemplateRest part) (Characters t) = not (is_ascii_text t)
 is_other_value kind value = false
 
 unfoldable pub keeps_tokens : List lexical.Token → Bool
@@ -68,6 +87,7 @@ may_keep_other Nothing = false
 may_keep_other (One x) = is_other_value x.kind x.value
 may_keep_other (NameOf at bytes) = false
 may_keep_other (KeyOf at bytes) = false
+may_keep_other (PrivateOf bytes) = false
 may_keep_other (Then a b) = may_keep_other a || may_keep_other b
 may_keep_other OptionalComma = false
 may_keep_other (OptionalParentheses a) = may_keep_other a

@@ -6,6 +6,8 @@ pub mod Choices
 pub mod Keys
 pub mod Literals
 pub mod Lits
+pub mod Templates
+pub mod PrivateNames
 pub mod Lists
 pub mod Last
 pub mod View

@@ -9,7 +9,7 @@ use Rattle.swc_ecma_codegen_ast.specs.Reads.{Reads}
 use Rattle.swc_ecma_codegen_ast.specs.Endings.{IsReduced}
 use Rattle.swc_ecma_codegen_ast.specs.Phrases.{Phrase, Generates}
 use Rattle.swc_ecma_codegen_ast.specs.GapRules.{Last, Start, Apart, allows}
-use Rattle.swc_ecma_codegen_ast.specs.Parts.{Part, text_of, tokens_of, remarks_in, NoneFuse}
+use Rattle.swc_ecma_codegen_ast.specs.Parts.{Part, PastLine, walk, is_broken, text_of, tokens_of, remarks_in, NoneFuse}
 use Rattle.swc_ecma_codegen_text_writer.specs.Sheet.{Sheet, Semicolons, AtOnce, HoldsNone, HoldsOne, holds_semicolons}
 use Rattle.swc_ecma_codegen_literals.specs.AsciiNames.{is_ascii_text}
 use Rattle.swc_ecma_codegen_util.specs.declared.config.Config.{Config}
@@ -89,13 +89,13 @@ pub record IsMark (t : List ℕ) : Type 0 where
   pub shape : is_punctuator t ≡ true
 
 -- What was added to an old text, by a writer that holds no semicolons back, reads as these tokens, whatever follows that
--- doesn't fuse: `a<` goes on with ` !` and `--b`, and not with `!--b`.
+-- doesn't fuse, and doesn't begin with `[no LineTerminator here]`: `a<` goes on with ` !` and `--b`, and not with `!--b`.
 pub record ReadsSoFar (old : List ℕ) (tokens : List Token) (s : State) : Type 0 where
   pub at_once : holds_semicolons s.sheet.semicolons ≡ false
   pub added : List ℕ
   pub is_added : s.sheet.text ≡ old ++ added
   pub utf8 : IsUtf8 added
-  pub reads : (more : List Part) → NoneFuse s.last more → Reads (chars added ++ text_of more) (tokens ++ tokens_of more) (remarks_in more)
+  pub reads : (more : List Part) → NoneFuse s.last more → is_broken (walk PastLine more) ≡ false → Reads (chars added ++ text_of more) (tokens ++ tokens_of more) (remarks_in more)
   pub rest : AtRest s
 
 -- the tokens of a name, with `?` after an optional one

@@ -16,9 +16,11 @@ mod literals;
 mod lits;
 mod names;
 mod numbers;
+mod private_names;
 mod raws;
 mod refusals;
 mod starts;
+mod templates;
 mod tokens;
 
 pub use crate::guard::blank_due;

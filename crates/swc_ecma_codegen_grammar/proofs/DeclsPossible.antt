@@ -12,10 +12,9 @@ use Rattle.swc_ecma_codegen_ast.specs.declared.roles.Role.TheVariants.{FunctionH
 use Rattle.swc_ecma_codegen_ast.specs.NamePhrases.{ident}
 use Rattle.swc_ecma_codegen_ast.specs.PatPhrases.{pat_at, initializer}
 use Rattle.swc_ecma_codegen_ast.specs.FunctionPhrases.{function_at, word_if}
-use Rattle.swc_ecma_codegen_ast.specs.DeclPhrases.{fn_decl, var_declarator, var_kind, var_decl, using_decl}
+use Rattle.swc_ecma_codegen_ast.specs.DeclPhrases.{after_await, fn_decl, var_declarator, var_kind, var_decl, using_decl}
 use Rattle.swc_ecma_codegen_ast.specs.Phrases.{Phrase, Never, ◌>◌, word, some_listed, is_possible}
 use Rattle.swc_ecma_codegen_grammar.specs.Possible.{all_possible}
-use Rattle.swc_ecma_codegen_grammar.proofs.FunctionsPossible.{word_possible}
 use Rattle.swc_ecma_codegen_grammar.proofs.Lists.{some_possible}
 
 -- what isn't printed yet
@@ -57,9 +56,12 @@ var_decl_possible f n =
     ∙ ap (λ b. not n.declare && (b && is_possible declarators)) (kind_possible n.kind)
     ∙ ap (λ b. not n.declare && b) (some_or_never (codes ",") (var_declarator f) n.decls.items)
 
+after_await_possible : (b : Bool) (p : Phrase) → is_possible (after_await b p) ≡ is_possible p
+unfolding is_possible after_await
+after_await_possible true p = refl
+after_await_possible false p = refl
+
 pub using_decl_possible : {X : Type 0} (f : X → Role → Phrase) (n : UsingDecl X) → is_possible (using_decl f n) ≡ (not (length n.decls.items == 0) && all_possible (var_declarator f) n.decls.items)
 unfolding is_possible using_decl
 using_decl_possible f n =
-    let declarators : Phrase = some_listed (codes ",") (map (var_declarator f) n.decls.items) in
-    ap (λ b. b && is_possible declarators) (word_possible n.is_await (codes "await"))
-    ∙ some_or_never (codes ",") (var_declarator f) n.decls.items
+    after_await_possible n.is_await _ ∙ some_or_never (codes ",") (var_declarator f) n.decls.items

@@ -8,7 +8,7 @@ use Rattle.swc_ecma_codegen_tree.specs.declared.stmts.BlockStmt.{BlockStmt}
 use Rattle.swc_ecma_codegen_ast.specs.declared.roles.Role.{Role}
 use Rattle.swc_ecma_codegen_ast.specs.declared.roles.Role.TheVariants.{PlainParameter}
 use Rattle.swc_ecma_codegen_ast.specs.PatPhrases.{pat_at}
-use Rattle.swc_ecma_codegen_ast.specs.FunctionPhrases.{word_if, is_some_listed, param, function_body, function, function_head, method_head, is_never, only_parameter, arrow_parameters, arrow_body, arrow_expr}
+use Rattle.swc_ecma_codegen_ast.specs.FunctionPhrases.{after_async, word_if, is_some_listed, param, function_body, function, function_head, method_head, is_never, only_parameter, arrow_parameters, arrow_body, arrow_expr}
 use Rattle.swc_ecma_codegen_ast.specs.StmtPhrases.{stmt_at, block_stmt}
 use Rattle.swc_ecma_codegen_ast.specs.Phrases.{Phrase, Never, OptionalParentheses, ◌>◌, mark, word, in_order, is_possible}
 use Rattle.swc_ecma_codegen_grammar.specs.Possible.{all_possible}
@@ -24,13 +24,18 @@ unfolding is_possible word_if
 mark_possible true t = refl
 mark_possible false t = refl
 
+pub after_async_possible : (b : Bool) (p : Phrase) → is_possible (after_async b p) ≡ is_possible p
+unfolding is_possible after_async
+after_async_possible true p = refl
+after_async_possible false p = refl
+
 pub method_head_possible : {X : Type 0} (n : functions.Function X) → is_possible (method_head n) ≡ true
 unfolding is_possible method_head
-method_head_possible n = ap (λ b. b && is_possible (word_if n.is_generator (mark (codes "*")))) (word_possible n.is_async (codes "async")) ∙ mark_possible n.is_generator (codes "*")
+method_head_possible n = after_async_possible n.is_async _ ∙ mark_possible n.is_generator (codes "*")
 
 pub function_head_possible : {X : Type 0} (n : functions.Function X) → is_possible (function_head n) ≡ true
 unfolding is_possible function_head
-function_head_possible n = ap (λ b. b && is_possible (word_if n.is_generator (mark (codes "*")))) (word_possible n.is_async (codes "async")) ∙ mark_possible n.is_generator (codes "*")
+function_head_possible n = after_async_possible n.is_async _ ∙ mark_possible n.is_generator (codes "*")
 
 -- what TypeScript adds isn't printed yet
 plain : {A B : Type 0} (type_params : Option A) (return_type : Option B) (decorated : Bool) (p : Phrase) (b : Bool) → is_possible p ≡ b → is_possible (cond (is_some type_params || (is_some return_type || decorated)) Never p) ≡ (is_none type_params && (is_none return_type && (not decorated && b)))
@@ -84,6 +89,6 @@ arrow_plain None None p b e = e
 pub arrow_possible : {X : Type 0} (f : X → Role → Phrase) (n : ArrowExpr X) → is_possible (arrow_expr f n) ≡ (is_none n.type_params && (is_none n.return_type && (all_possible (pat_at f) n.params.items && is_possible (arrow_body f n.body))))
 unfolding is_possible arrow_expr
 arrow_possible f n = arrow_plain n.type_params n.return_type _ _
-    (ap (λ b. b && (is_possible (word_if n.is_generator (mark (codes "*"))) && (is_possible (arrow_parameters f n.params.items) && is_possible (arrow_body f n.body)))) (word_possible n.is_async (codes "async"))
+    (after_async_possible n.is_async _
     ∙ ap (λ b. b && (is_possible (arrow_parameters f n.params.items) && is_possible (arrow_body f n.body))) (mark_possible n.is_generator (codes "*"))
     ∙ ap (λ b. b && is_possible (arrow_body f n.body)) (parameters_possible f n.params.items))

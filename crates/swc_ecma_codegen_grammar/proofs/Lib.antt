@@ -3,11 +3,15 @@ pub mod CallsPossible
 pub mod DigitCounts
 pub mod DigitForms
 pub mod FunctionsPossible
+pub mod Insides
+pub mod TemplatesPossible
+pub mod ClassesPossible
 pub mod DeclsPossible
 pub mod StmtsPossible
 pub mod LastSuffix
 pub mod Lists
 pub mod MantissaLaws
+pub mod ModulesPossible
 pub mod NormalDecimals
 pub mod PatsPossible
 pub mod Possible

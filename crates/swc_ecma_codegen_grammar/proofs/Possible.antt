@@ -1,15 +1,16 @@
 -- When a phrase on a condition is possible.
-use Rattle.std.proofs.Common.{◌≡◌, Bool, true, false, ◌&&◌, if◌then◌else◌, codes, Option, Some, None, ap, refl}
+use Rattle.std.proofs.Common.{◌≡◌, Bool, true, false, ◌&&◌, Option, Some, None, ap, refl}
 use Rattle.swc_ecma_codegen_ast.specs.LitPhrases.{after_sign}
+use Rattle.swc_ecma_codegen_tree.specs.declared.expr_links.ExprBox.{ExprBox}
 use Rattle.swc_ecma_codegen_tree.specs.declared.exprs.MemberExpr.{MemberExpr}
 use Rattle.swc_ecma_codegen_tree.specs.declared.exprs.MemberProp.{MemberProp}
 use Rattle.swc_ecma_codegen_tree.specs.declared.exprs.MemberProp.TheVariants as member_props
 use Rattle.swc_ecma_codegen_tree.specs.declared.exprs.MetaPropKind.{MetaPropKind}
 use Rattle.swc_ecma_codegen_tree.specs.declared.exprs.MetaPropKind.TheVariants as meta_props
 use Rattle.swc_ecma_codegen_ast.specs.CallPhrases.{callee_at}
-use Rattle.swc_ecma_codegen_ast.specs.ExprPhrases.{member_prop, member_expr, chain_mark, chain_prop, chain_member, meta_prop}
+use Rattle.swc_ecma_codegen_ast.specs.ExprPhrases.{yield_arg, yield_rest, member_prop, member_expr, chain_mark, chain_prop, chain_member, meta_prop}
 use Rattle.swc_ecma_codegen_ast.specs.declared.roles.Role.{Role}
-use Rattle.swc_ecma_codegen_ast.specs.Phrases.{Phrase, Nothing, ◌>◌, mark, is_possible, where_}
+use Rattle.swc_ecma_codegen_ast.specs.Phrases.{Phrase, ◌>◌, is_possible, where_}
 
 pub where_possible : (b : Bool) (p : Phrase) → is_possible (where_ b p) ≡ b && is_possible p
 unfolding is_possible where_
@@ -21,11 +22,13 @@ unfolding is_possible after_sign
 sign_possible true p = refl
 sign_possible false p = refl
 
--- a mark that may be missing
-pub star_possible : (b : Bool) → is_possible (if b then mark (codes "*") else Nothing) ≡ true
-unfolding is_possible
-star_possible true = refl
-star_possible false = refl
+-- with `*` or without
+pub yield_possible : {X : Type 0} (f : X → Role → Phrase) (delegate : Bool) (arg : Option (ExprBox X)) → is_possible (yield_rest f delegate arg) ≡ is_possible (yield_arg f arg)
+unfolding is_possible yield_rest yield_arg
+yield_possible f true None = refl
+yield_possible f true (Some n) = refl
+yield_possible f false None = refl
+yield_possible f false (Some n) = refl
 
 pub meta_prop_possible : (kind : MetaPropKind) → is_possible (meta_prop kind) ≡ true
 unfolding is_possible meta_prop

@@ -1,11 +1,14 @@
 -- When the phrase of a statement is possible.
-use Rattle.std.proofs.Common.{◌≡◌, ◌∙◌, ap, Bool, ◌&&◌, List, map, codes}
+use Rattle.std.proofs.Common.{◌≡◌, ◌∙◌, ap, Bool, ◌&&◌, List, map, codes, Option, Some, None, refl}
+use Rattle.swc_ecma_codegen_tree.specs.declared.idents.Ident.{Ident}
 use Rattle.swc_ecma_codegen_tree.specs.declared.stmts.ForOfStmt.{ForOfStmt}
 use Rattle.swc_ecma_codegen_tree.specs.declared.stmts.SwitchCase.{SwitchCase}
 use Rattle.swc_ecma_codegen_tree.specs.declared.stmts.SwitchStmt.{SwitchStmt}
 use Rattle.swc_ecma_codegen_ast.specs.declared.roles.Role.{Role}
 use Rattle.swc_ecma_codegen_ast.specs.PatPhrases.{value_at}
-use Rattle.swc_ecma_codegen_ast.specs.StmtPhrases.{stmt_at, case_test, switch_case, switch_stmt, for_head, for_of_stmt}
+use Rattle.swc_ecma_codegen_ast.specs.NamePhrases.{ident}
+use Rattle.swc_ecma_codegen_ast.specs.FunctionPhrases.{optional_name}
+use Rattle.swc_ecma_codegen_ast.specs.StmtPhrases.{jump_rest, stmt_at, case_test, switch_case, switch_stmt, for_head, for_of_stmt}
 use Rattle.swc_ecma_codegen_ast.specs.Phrases.{Phrase, in_order, is_possible}
 use Rattle.swc_ecma_codegen_grammar.specs.Possible.{all_possible}
 use Rattle.swc_ecma_codegen_grammar.proofs.FunctionsPossible.{word_possible}
@@ -22,3 +25,9 @@ switch_stmt_possible f n = ap (λ b. is_possible (value_at f n.discriminant) && 
 pub for_of_stmt_possible : {X : Type 0} (f : X → Role → Phrase) (n : ForOfStmt X) → is_possible (for_of_stmt f n) ≡ (is_possible (for_head f n.left) && (is_possible (value_at f n.right) && is_possible (stmt_at f n.body)))
 unfolding is_possible for_of_stmt
 for_of_stmt_possible f n = ap (λ b. b && (is_possible (for_head f n.left) && (is_possible (value_at f n.right) && is_possible (stmt_at f n.body)))) (word_possible n.is_await (codes "await"))
+
+-- a label, or none
+pub jump_possible : (n : Option Ident) → is_possible (jump_rest n) ≡ is_possible (optional_name n)
+unfolding is_possible jump_rest optional_name
+jump_possible None = refl
+jump_possible (Some n) = and_true (is_possible (ident n))

@@ -53,14 +53,12 @@ impl<N: Fits> WellFormed for Decl<N> {
     #[tactic(auto, unfolding(swc_ecma_codegen_ast::specs::DeclPhrases::decl, swc_ecma_codegen_ast::specs::Phrases::is_possible))]
     fn is_well_formed(&self) -> bool {
         match self {
+            Decl::Class(node) => node.is_well_formed(),
             Decl::Fn(node) => node.is_well_formed(),
             Decl::Var(node) => node.is_well_formed(),
             Decl::Using(node) => node.is_well_formed(),
-            Decl::Class(_)
-            | Decl::TsInterface(_)
-            | Decl::TsTypeAlias(_)
-            | Decl::TsEnum(_)
-            | Decl::TsModule(_) => false,
+            Decl::TsInterface(_) | Decl::TsTypeAlias(_) | Decl::TsEnum(_) | Decl::TsModule(_) =>
+                false,
         }
     }
 }

@@ -64,7 +64,7 @@ impl<N: Fits> WellFormed for MemberProp<N> {
         match self {
             MemberProp::Ident(name) => name.is_well_formed(),
             MemberProp::Computed(name) => name.is_well_formed(),
-            _ => false,
+            MemberProp::PrivateName(name) => name.is_well_formed(),
         }
     }
 }
@@ -141,7 +141,7 @@ impl<N: Fits> WellFormed for AssignExpr<N> {
 impl<N: Fits> WellFormed for YieldExpr<N> {
     ghost phrase = { yield_expr N.reads };
 
-    #[tactic(auto, using(crate::proofs::Possible::star_possible), unfolding(swc_ecma_codegen_ast::specs::ExprPhrases::yield_expr, swc_ecma_codegen_ast::specs::ExprPhrases::yield_arg, swc_ecma_codegen_ast::specs::Phrases::is_possible))]
+    #[tactic(auto, using(crate::proofs::Possible::yield_possible), unfolding(swc_ecma_codegen_ast::specs::ExprPhrases::yield_expr, swc_ecma_codegen_ast::specs::ExprPhrases::yield_arg, swc_ecma_codegen_ast::specs::Phrases::is_possible))]
     fn is_well_formed(&self) -> bool {
         match &self.arg {
             Some(arg) => arg.is_well_formed(),
@@ -208,16 +208,17 @@ impl<N: Fits> WellFormed for Expr<N> {
             Expr::Seq(node) => node.is_well_formed(),
             Expr::Ident(node) => node.is_well_formed(),
             Expr::Lit(node) => node.is_well_formed(),
+            Expr::Tpl(node) => node.is_well_formed(),
+            Expr::TaggedTpl(node) => node.is_well_formed(),
             Expr::Arrow(node) => node.is_well_formed(),
+            Expr::Class(node) => node.is_well_formed(),
             Expr::Yield(node) => node.is_well_formed(),
             Expr::MetaProp(node) => node.is_well_formed(),
             Expr::Await(node) => node.is_well_formed(),
             Expr::Paren(node) => node.is_well_formed(),
+            Expr::PrivateName(node) => node.is_well_formed(),
             Expr::OptChain(node) => node.is_well_formed(),
-            Expr::Tpl(_)
-            | Expr::TaggedTpl(_)
-            | Expr::Class(_)
-            | Expr::JSXMember(_)
+            Expr::JSXMember(_)
             | Expr::JSXNamespacedName(_)
             | Expr::JSXEmpty(_)
             | Expr::JSXElement(_)
@@ -228,7 +229,6 @@ impl<N: Fits> WellFormed for Expr<N> {
             | Expr::TsAs(_)
             | Expr::TsInstantiation(_)
             | Expr::TsSatisfies(_)
-            | Expr::PrivateName(_)
             | Expr::Invalid(_) => false,
         }
     }

@@ -30,7 +30,7 @@ impl<N: Fits> WellFormed for Param<N> {
 
 /// Whether a body is well-formed, or the semicolon in its place.
 #[tactic(auto, unfolding(swc_ecma_codegen_ast::specs::FunctionPhrases::function_body, swc_ecma_codegen_ast::specs::Phrases::is_possible))]
-fn is_body<N: Fits>(body: &Option<BlockStmtBox<N>>) -> bool
+pub(crate) fn is_body<N: Fits>(body: &Option<BlockStmtBox<N>>) -> bool
     ensures { result ≡ is_possible (function_body N.reads body.now) }
 {
     match body {

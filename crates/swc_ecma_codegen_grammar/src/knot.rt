@@ -1,13 +1,14 @@
 //! The whole tree.
 
 ghost use Rattle.std.specs.Prelude.{◌≡◌};
+ghost use Rattle.swc_ecma_codegen_ast.specs.ModulePhrases.{module_item};
 ghost use Rattle.swc_ecma_codegen_ast.specs.TreePhrases.{phrase, expr_phrase, stmt_phrase, is_well_formed};
 ghost use Rattle.swc_ecma_codegen_ast.specs.Phrases.{is_possible};
 
 use crate::forms::{Fits, WellFormed};
 use crate::parts::{expr_part_fits, stmt_part_fits};
 use swc_ecma_codegen_ast::roles::Role;
-use swc_ecma_codegen_tree::{AnyNode, Expr, Program, Stmt};
+use swc_ecma_codegen_tree::{AnyNode, Expr, ModuleItem, Program, Stmt};
 
 impl Fits for AnyNode {
     ghost reads = { phrase };
@@ -32,6 +33,13 @@ pub fn is_well_formed(program: &Program) -> bool
     ensures { result ≡ is_well_formed program.now }
 {
     program.is_well_formed()
+}
+
+/// Whether an item of a module is well-formed. Takes no memory.
+pub fn is_well_formed_item(item: &ModuleItem) -> bool
+    ensures { result ≡ is_possible (module_item phrase item.now) }
+{
+    item.is_well_formed()
 }
 
 /// Whether a statement is well-formed. Takes no memory.

@@ -3,6 +3,7 @@
 
 mod big_integers;
 mod calls;
+mod classes;
 mod code_units;
 mod decls;
 pub mod exprs;
@@ -10,6 +11,7 @@ pub mod forms;
 mod functions;
 mod knot;
 mod lits;
+mod modules;
 mod names;
 mod numbers;
 mod numerals;
@@ -20,7 +22,10 @@ mod regexes;
 mod stmts;
 mod strings;
 mod targets;
+mod templates;
 mod texts;
 
 pub use crate::forms::{Fits, WellFormed};
-pub use crate::knot::{is_well_formed, is_well_formed_expr, is_well_formed_stmt};
+pub use crate::knot::{
+    is_well_formed, is_well_formed_expr, is_well_formed_item, is_well_formed_stmt,
+};

@@ -4,13 +4,13 @@ ghost use Rattle.std.specs.Prelude.{◌≡◌, ℕ, List, [], ◌∷◌, false, 
 ghost use Rattle.std.specs.Str.{chars};
 ghost use Rattle.swc_ecma_codegen_ast.specs.Names.{IsSmall};
 ghost use Rattle.swc_ecma_codegen_ast.specs.SpelledNames.{is_well_formed_name};
-ghost use Rattle.swc_ecma_codegen_ast.specs.NamePhrases.{ident, ident_name, binding_ident};
+ghost use Rattle.swc_ecma_codegen_ast.specs.NamePhrases.{ident, ident_name, binding_ident, private_name};
 ghost use Rattle.swc_ecma_codegen_grammar.specs.NameStates.{goes_on, IsNext};
 
 use crate::forms::WellFormed;
 use crate::texts::split_first;
 use swc_ecma_codegen_ast::names::{NameTurn, Place, turn};
-use swc_ecma_codegen_tree::{BindingIdent, Ident, IdentName};
+use swc_ecma_codegen_tree::{BindingIdent, Ident, IdentName, PrivateName};
 
 /// Where the reading of a name in a tree stands.
 #[derive(Clone, Copy)]
@@ -105,5 +105,14 @@ impl<N> WellFormed for BindingIdent<N> {
     #[tactic(auto, unfolding(swc_ecma_codegen_ast::specs::NamePhrases::binding_ident, swc_ecma_codegen_ast::specs::Phrases::is_possible))]
     fn is_well_formed(&self) -> bool {
         self.type_ann.is_none() && self.id.is_well_formed()
+    }
+}
+
+impl WellFormed for PrivateName {
+    ghost phrase = { private_name };
+
+    #[tactic(auto, unfolding(swc_ecma_codegen_ast::specs::NamePhrases::private_name, swc_ecma_codegen_ast::specs::Phrases::is_possible))]
+    fn is_well_formed(&self) -> bool {
+        is_name(&self.name)
     }
 }

@@ -2,7 +2,7 @@
 
 ghost use Rattle.std.specs.Prelude.{◌≡◌};
 ghost use Rattle.swc_ecma_codegen_ast.specs.Phrases.{is_possible};
-ghost use Rattle.swc_ecma_codegen_ast.specs.StmtPhrases.{optional_value, block_stmt, empty_stmt, expr_stmt, debugger_stmt, with_stmt, return_arg, return_stmt, labeled_stmt, break_stmt, continue_stmt, else_branch, if_stmt, case_test, switch_case, switch_stmt, throw_stmt, catch_param, catch_clause, handler, finalizer, try_stmt, while_stmt, do_while_stmt, var_decl_or_expr, for_init, for_stmt, for_head, for_in_stmt, for_of_stmt, stmt, script, program};
+ghost use Rattle.swc_ecma_codegen_ast.specs.StmtPhrases.{optional_value, block_stmt, empty_stmt, expr_stmt, debugger_stmt, with_stmt, return_rest, return_stmt, labeled_stmt, break_stmt, continue_stmt, else_branch, if_stmt, case_test, switch_case, switch_stmt, throw_stmt, catch_param, catch_clause, handler, finalizer, try_stmt, while_stmt, do_while_stmt, var_decl_or_expr, for_init, for_stmt, for_head, for_in_stmt, for_of_stmt, stmt, script, program};
 
 use crate::forms::{Fits, WellFormed, all_well_formed};
 use crate::functions::is_optional_name;
@@ -69,10 +69,10 @@ fn is_optional_value<N: Fits>(node: &Option<ExprBox<N>>) -> bool
     }
 }
 
-/// Whether the argument of `return` is well-formed, or there is none.
-#[tactic(auto, unfolding(swc_ecma_codegen_ast::specs::StmtPhrases::return_arg, swc_ecma_codegen_ast::specs::Phrases::is_possible))]
-fn is_return_arg<N: Fits>(node: &Option<ExprBox<N>>) -> bool
-    ensures { result ≡ is_possible (return_arg N.reads node.now) }
+/// Whether what comes after `return` is well-formed: an argument, or none.
+#[tactic(auto, unfolding(swc_ecma_codegen_ast::specs::StmtPhrases::return_rest, swc_ecma_codegen_ast::specs::Phrases::is_possible))]
+fn is_return_rest<N: Fits>(node: &Option<ExprBox<N>>) -> bool
+    ensures { result ≡ is_possible (return_rest N.reads node.now) }
 {
     match node {
         Some(node) => node.is_well_formed(),
@@ -85,7 +85,7 @@ impl<N: Fits> WellFormed for ReturnStmt<N> {
 
     #[tactic(auto, unfolding(swc_ecma_codegen_ast::specs::StmtPhrases::return_stmt, swc_ecma_codegen_ast::specs::Phrases::is_possible))]
     fn is_well_formed(&self) -> bool {
-        is_return_arg(&self.arg)
+        is_return_rest(&self.arg)
     }
 }
 
@@ -101,7 +101,7 @@ impl<N: Fits> WellFormed for LabeledStmt<N> {
 impl WellFormed for BreakStmt {
     ghost phrase = { break_stmt };
 
-    #[tactic(auto, unfolding(swc_ecma_codegen_ast::specs::StmtPhrases::break_stmt, swc_ecma_codegen_ast::specs::Phrases::is_possible))]
+    #[tactic(auto, using(crate::proofs::StmtsPossible::jump_possible), unfolding(swc_ecma_codegen_ast::specs::StmtPhrases::break_stmt, swc_ecma_codegen_ast::specs::Phrases::is_possible))]
     fn is_well_formed(&self) -> bool {
         is_optional_name(&self.label)
     }
@@ -110,7 +110,7 @@ impl WellFormed for BreakStmt {
 impl WellFormed for ContinueStmt {
     ghost phrase = { continue_stmt };
 
-    #[tactic(auto, unfolding(swc_ecma_codegen_ast::specs::StmtPhrases::continue_stmt, swc_ecma_codegen_ast::specs::Phrases::is_possible))]
+    #[tactic(auto, using(crate::proofs::StmtsPossible::jump_possible), unfolding(swc_ecma_codegen_ast::specs::StmtPhrases::continue_stmt, swc_ecma_codegen_ast::specs::Phrases::is_possible))]
     fn is_well_formed(&self) -> bool {
         is_optional_name(&self.label)
     }
@@ -353,8 +353,8 @@ impl<N: Fits> WellFormed for Program<N> {
     #[tactic(auto, unfolding(swc_ecma_codegen_ast::specs::StmtPhrases::program, swc_ecma_codegen_ast::specs::Phrases::is_possible))]
     fn is_well_formed(&self) -> bool {
         match self {
+            Program::Module(node) => node.is_well_formed(),
             Program::Script(node) => node.is_well_formed(),
-            _ => false,
         }
     }
 }

@@ -17,7 +17,7 @@ use swc_ecma_codegen_ast::units::Place;
 
 /// The first character of a text.
 #[tactic(auto, unfolding(swc_ecma_codegen_ast::specs::Turns::ahead))]
-fn first(text: &str) -> Option<char>
+pub(crate) fn first(text: &str) -> Option<char>
     ensures { chars text.now ≡ ahead result (drop 1 (chars text.now)) }
 {
     match split_first(text) {

@@ -33,3 +33,10 @@ pub(crate) fn is_empty(text: &str) -> bool
 {
     split_first(text).is_none()
 }
+
+/// Whether a text begins with this character.
+pub(crate) fn begins_with(text: &str, c: char) -> bool
+    ensures { result ≡ texts.begins (c ∷ []) (chars text.now) }
+{
+    after_first(text, c).is_some()
+}

@@ -29,6 +29,7 @@ fn kind_of(letter: char) -> Kind {
         '{' => Kind::JsxOpen,
         '!' => Kind::Hashbang,
         ';' => Kind::Ending,
+        '^' => Kind::SameLine,
         _ => Kind::Punctuator,
     }
 }

@@ -147,6 +147,10 @@ pieces_scalars d a (p ∷ ps) f =
     let next = spelled_pieces (dollar_after d p) a ps in
     scalars_append (piece_text d a p next) next (piece_scalars d a p next f.0) (pieces_scalars (dollar_after d p) a ps f.1)
 
+pub text_scalars : (a : Bool) (raw : List ℕ) → scalars raw ≡ true → scalars (template_text a raw) ≡ true
+unfolding template_text
+text_scalars a raw s = pieces_scalars false a (pieces raw) (all_fine 0 raw s)
+
 pub text_chars : (a : Bool) (raw bytes : List ℕ) → scalars raw ≡ true → bytes ≡ encodes (template_text a raw) → chars bytes ≡ template_text a raw
 unfolding template_text
 text_chars a raw bytes s e = ap chars e ∙ chars-encodes (template_text a raw) (pieces_scalars false a (pieces raw) (all_fine 0 raw s))

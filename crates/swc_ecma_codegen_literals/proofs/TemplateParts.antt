@@ -156,7 +156,7 @@ all_end (suc n) o (c ∷ cs) l =
     tail_le d ds e m = let k : length cs ≡ suc (length ds) = ap length e in omega (arith, k, m)
 
 -- a text stands before the end that was put after it
-text_before : (part : TemplatePart) (text : List ℕ) → before_end part (text ++ part_end part) ≡ text
+pub text_before : (part : TemplatePart) (text : List ℕ) → before_end part (text ++ part_end part) ≡ text
 unfolding before_end
 text_before part text =
     let l : length (text ++ part_end part) ≡ length text + length (part_end part) = length-append text (part_end part) in

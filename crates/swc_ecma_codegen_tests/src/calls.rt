@@ -1,6 +1,8 @@
 //! Each public call once.
 
-use crate::trees::{DECREMENT, MEMBER, NAME, Tree, expr_of, script_of, settings, statement_of};
+use crate::trees::{
+    DECREMENT, EXPORT, MEMBER, NAME, Tree, expr_of, script_of, settings, statement_of,
+};
 use std::alloc::{AllocError, Global};
 use std::test::Fail;
 use swc_ecma_codegen::operands::{Operand, OperandKind, SpaceBefore};
@@ -136,6 +138,17 @@ pub(crate) fn has_its_text_each_way<N: Tree>(alloc: Global) -> Result<bool, Fail
     )
 }
 
+/// Whether a module, its item and what that exports have their texts.
+pub(crate) fn prints_a_module<N: Tree>(alloc: Global) -> Result<bool, Fail> {
+    let tree = N::read(alloc, EXPORT)?;
+    let Program::Module(module) = &tree else {
+        return Ok(false);
+    };
+    let bytes = N::bytes_of_module(alloc, module)?;
+    let twice = br#"export{a}from"b"with{c:"d"};export{a}from"b"with{c:"d"};a"#.as_slice();
+    Ok(bytes.as_slice() == twice)
+}
+
 /// What the expression of `--a` tells those above it.
 fn tells<N: Tree>(expr: &Expr<N>) -> bool {
     expr.operand_kind() == OperandKind::Prefix(UpdateOp::MinusMinus)
@@ -160,13 +173,13 @@ fn is_unsupported<N: Tree>(alloc: Global, program: &Program<N>) -> bool {
     matches!(to_code(alloc, program), Err(Error::UnsupportedNode)) && !program.is_well_formed()
 }
 
-/// Whether an empty module and a script with a hashbang are refused.
+/// Whether a module and a script with a hashbang are refused.
 pub(crate) fn are_unsupported<N: Tree>(alloc: Global) -> Result<bool, Fail> {
     let span = DUMMY_SP;
     let module = Module {
         span,
         body: Vec::new(alloc),
-        shebang: None,
+        shebang: Some(String::from_str(alloc, "a")?),
     };
     let script = Script {
         span,

@@ -1,24 +1,29 @@
 //! Trees for the tests.
 
 use std::alloc::Global;
-use swc_ecma_codegen::laws::{
-    emitted_boxed_stmt_reads, emitted_expr_box_reads, emitted_expr_reads,
-    emitted_member_expr_box_reads, emitted_optional_stmt_reads, emitted_program_reads,
-    emitted_script_reads, emitted_stmt_box_reads, emitted_stmt_reads, emitted_stmt_ref_reads,
-    links_write_their_roots, new_emitter_reads,
-};
 use swc_ecma_codegen::nodes::Held;
 use swc_ecma_codegen::operands::SpaceBefore;
 use swc_ecma_codegen::util::{EndsWithAlphaNum, StartsWithAlphaNum};
-use swc_ecma_codegen::{Config, Emitter, is_well_formed, is_well_formed_expr, is_well_formed_stmt};
+use swc_ecma_codegen::{
+    Config, Emitter, Node, is_well_formed, is_well_formed_expr, is_well_formed_item,
+    is_well_formed_stmt,
+};
 use swc_ecma_codegen_ast::comments::CommentMaps;
 use swc_ecma_codegen_ast::mapper::NoSource;
 use swc_ecma_codegen_common::{Error, EsVersion};
 use swc_ecma_codegen_grammar::Fits;
 use swc_ecma_codegen_json::{ReadError, program_from_slice};
+use swc_ecma_codegen_laws::{
+    emitted_box_reads, emitted_expr_box_reads, emitted_expr_reads, emitted_member_expr_box_reads,
+    emitted_option_reads, emitted_ref_reads, emitted_stmt_box_reads, emitted_stmt_reads,
+    links_write_members, links_write_targets, links_write_their_roots, new_emitter_reads,
+};
 use swc_ecma_codegen_spans::Spanned;
 use swc_ecma_codegen_text_writer::JsWriter;
-use swc_ecma_codegen_tree::{AnyNode, Expr, Holds, MemberExpr, Program, Script, Stmt};
+use swc_ecma_codegen_tree::{
+    AnyNode, ExportSpecifier, Expr, Holds, MemberExpr, Module, ModuleDecl, ModuleExportName,
+    ModuleItem, Program, Script, Stmt, StmtPart,
+};
 
 /// `a`
 pub(crate) const NAME: &str =
@@ -39,6 +44,10 @@ pub(crate) const DECREMENT: &str =
 /// `é, "é</script>", 0b11, 𝒫`, at no place; the string has no raw
 pub(crate) const LITERALS: &str =
     r#"{"Script":{"span":{"lo":0,"hi":0},"body":[{"Expr":{"span":{"lo":0,"hi":0},"expr":{"Seq":{"span":{"lo":0,"hi":0},"exprs":[{"Ident":{"span":{"lo":0,"hi":0},"sym":"é","optional":false}},{"Lit":{"Str":{"span":{"lo":0,"hi":0},"value":"é</script>","raw":null}}},{"Lit":{"Num":{"span":{"lo":0,"hi":0},"value":{"Finite":{"negative":false,"digits":"3","exponent":0}},"raw":"0b11"}}},{"Ident":{"span":{"lo":0,"hi":0},"sym":"𝒫","optional":false}}]}}}}],"shebang":null}}"#;
+
+/// `export { a } from "b" with { c: "d" }`, at no place
+pub(crate) const EXPORT: &str =
+    r#"{"Module":{"span":{"lo":0,"hi":0},"body":[{"ModuleDecl":{"ExportNamed":{"span":{"lo":0,"hi":0},"specifiers":[{"Named":{"span":{"lo":0,"hi":0},"orig":{"Ident":{"span":{"lo":0,"hi":0},"sym":"a","optional":false}},"exported":null,"is_type_only":false}}],"src":{"span":{"lo":0,"hi":0},"value":"b","raw":null},"type_only":false,"with":{"span":{"lo":0,"hi":0},"props":[{"Prop":{"KeyValue":{"key":{"Ident":{"span":{"lo":0,"hi":0},"sym":"c"}},"value":{"Lit":{"Str":{"span":{"lo":0,"hi":0},"value":"d","raw":null}}}}}}]}}}}],"shebang":null}}"#;
 
 /// What links hold. A test is made for any of it, which costs a check less than to make it for `AnyNode`.
 pub(crate) trait Tree: Holds<Expr<Self>>
@@ -68,6 +77,9 @@ pub(crate) trait Tree: Holds<Expr<Self>>
 
     /// The bytes of a well-formed expression, by the function that says how it reads.
     fn bytes_of_expr(alloc: Global, expr: &Expr<Self>) -> Result<Vec<u8>, Error>;
+
+    /// The bytes of a module, of its first item, which is well-formed, and of the name that this one exports first.
+    fn bytes_of_module(alloc: Global, module: &Module<Self>) -> Result<Vec<u8>, Error>;
 }
 
 impl Tree for AnyNode {
@@ -77,16 +89,18 @@ impl Tree for AnyNode {
 
     fn bytes_of_whole(alloc: Global, tree: &Program) -> Result<Vec<u8>, Error> {
         links_write_their_roots();
+        links_write_members();
+        links_write_targets();
         new_emitter_reads();
         let wr = JsWriter::new(alloc, &NoSource, "\r\n", Vec::new(alloc), None);
         let mut emitter = Emitter::new(alloc, settings(false), &NoSource, None::<CommentMaps>, wr);
         if is_well_formed(tree) {
             emitter.emit_program(tree)?;
-            emitted_program_reads(tree, &mut emitter)?;
+            tree.emit_with(&mut emitter)?;
         }
         if let Some(script) = script_of(tree) {
             emitter.emit_script(script)?;
-            emitted_script_reads(script, &mut emitter)?;
+            script.emit_with(&mut emitter)?;
             if let Some(link) = script.body.first() {
                 emitted_stmt_box_reads(link, &mut emitter)?;
             }
@@ -106,14 +120,14 @@ impl Tree for AnyNode {
         let mut emitter = Emitter::new(alloc, settings(true), &NoSource, None::<CommentMaps>, wr);
         if is_well_formed_stmt(stmt) {
             emitted_stmt_reads(stmt, &mut emitter)?;
-            emitted_stmt_ref_reads(&stmt, &mut emitter)?;
+            emitted_ref_reads(&stmt, &mut emitter)?;
         }
         if let Stmt::Expr(node) = stmt {
             emitted_expr_box_reads(&node.expr, &mut emitter)?;
         }
-        emitted_boxed_stmt_reads(boxed, &mut emitter)?;
-        emitted_optional_stmt_reads(some, &mut emitter)?;
-        emitted_optional_stmt_reads(none, &mut emitter)?;
+        emitted_box_reads(boxed, &mut emitter)?;
+        emitted_option_reads(some, &mut emitter)?;
+        emitted_option_reads(none, &mut emitter)?;
         Ok(emitter.wr.into_inner())
     }
 
@@ -124,6 +138,43 @@ impl Tree for AnyNode {
             emitted_expr_reads(expr, &mut emitter)?;
         }
         Ok(emitter.wr.into_inner())
+    }
+
+    fn bytes_of_module(alloc: Global, module: &Module) -> Result<Vec<u8>, Error> {
+        let wr = JsWriter::new(alloc, &NoSource, "\n", Vec::new(alloc), None);
+        let mut emitter = Emitter::new(alloc, settings(true), &NoSource, None::<CommentMaps>, wr);
+        emitter.emit_module(module)?;
+        if let Some(item) = item_of(module) {
+            if is_well_formed_item(item) {
+                emitter.emit_module_item(item)?;
+            }
+            if let Some(name) = exported_name(item) {
+                emitter.emit_module_export_name(name)?;
+            }
+        }
+        Ok(emitter.wr.into_inner())
+    }
+}
+
+/// The first item.
+fn item_of<N: Holds<StmtPart<N>> + Drop>(module: &Module<N>) -> Option<&ModuleItem<N>> {
+    match module.body.first() {
+        Some(link) => link.get(),
+        None => None,
+    }
+}
+
+/// The first name that an item exports.
+fn exported_name<N: Holds<StmtPart<N>> + Drop>(item: &ModuleItem<N>) -> Option<&ModuleExportName> {
+    match item {
+        ModuleItem::ModuleDecl(link) => match link.get() {
+            Some(ModuleDecl::ExportNamed(node)) => match node.specifiers.first() {
+                Some(ExportSpecifier::Named(node)) => Some(&node.orig),
+                _ => None,
+            },
+            _ => None,
+        },
+        ModuleItem::Stmt(_) => None,
     }
 }
 

@@ -35,9 +35,10 @@ is_option word =
     bytes_eq word (codes "--minify")
     || (bytes_eq word (codes "--omit-last-semi")
     || (bytes_eq word (codes "--ascii-only")
+    || (bytes_eq word (codes "--assert")
     || (bytes_eq word (codes "--inline-script")
     || (bytes_eq word (codes "--positions")
-    || is_target word))))
+    || is_target word)))))
 
 -- each word is an option, and the name of a version comes after each `--target` and nowhere else; it is due at first, or isn't
 abbrev pub are_options_from : {Z : Type 0} → Bool → List (String Z) → Bool
@@ -66,6 +67,7 @@ options_of words =
       minify = is_given (codes "--minify") words;
       omit_last_semi = is_given (codes "--omit-last-semi") words;
       ascii_only = is_given (codes "--ascii-only") words;
+      assert_for_attributes = is_given (codes "--assert") words;
       inline_script = is_given (codes "--inline-script") words;
       target = last_version EsNext words;
       positions = is_given (codes "--positions") words;
@@ -79,5 +81,6 @@ settings_of options =
       minify = options.minify;
       omit_last_semi = options.omit_last_semi;
       ascii_only = options.ascii_only;
+      emit_assert_for_import_attributes = options.assert_for_attributes;
       inline_script = options.inline_script;
     }

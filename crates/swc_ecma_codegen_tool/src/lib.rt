@@ -24,7 +24,7 @@ use swc_ecma_codegen_tree::Program;
 /// A run of the program: `words` are those after its name. Standard input is one program as JSON, and its text goes to
 /// `out`, whole, after it was made in memory. The answer is the status.
 ///
-/// The words are `--minify`, `--omit-last-semi`, `--ascii-only`, `--inline-script`, `--positions` and `--target` with a
+/// The words are `--minify`, `--omit-last-semi`, `--ascii-only`, `--assert`, `--inline-script`, `--positions` and `--target` with a
 /// version after it (`es3`, `es5`, `es2015` to `es2022`, `esnext`), in any order; one that is given again counts once, and of
 /// targets the last. With `--positions`, after the text, `err` gets a line for each position of the source that was recorded: `4 0 2`
 /// says that what stands at 4 there was written in line 0, column 2.

@@ -24,6 +24,8 @@ pub struct Options {
     pub omit_last_semi: bool,
     /// `--ascii-only`: names and strings are written in ASCII.
     pub ascii_only: bool,
+    /// `--assert`: `assert` stands before import attributes, and not `with`.
+    pub assert_for_attributes: bool,
     /// `--inline-script`: strings hold neither `</script` nor `<!--` nor `-->`.
     pub inline_script: bool,
     /// `--target es5`: literals are spelled for this version. The last one counts.
@@ -45,6 +47,7 @@ impl Options {
             minify: is_given(words, "--minify"),
             omit_last_semi: is_given(words, "--omit-last-semi"),
             ascii_only: is_given(words, "--ascii-only"),
+            assert_for_attributes: is_given(words, "--assert"),
             inline_script: is_given(words, "--inline-script"),
             target: last_version(words),
             positions: is_given(words, "--positions"),
@@ -60,6 +63,7 @@ impl Options {
             .with_minify(self.minify)
             .with_omit_last_semi(self.omit_last_semi)
             .with_ascii_only(self.ascii_only)
+            .with_emit_assert_for_import_attributes(self.assert_for_attributes)
             .with_inline_script(self.inline_script)
     }
 }
@@ -93,6 +97,7 @@ fn is_option(word: &str) -> bool
         "--minify"
             | "--omit-last-semi"
             | "--ascii-only"
+            | "--assert"
             | "--inline-script"
             | "--positions"
             | "--target"

@@ -1,20 +1,27 @@
-use Rattle.std.proofs.Common.{sym, subst, ◌∙◌, take}
-use Rattle.std.proofs.lemmas.Bool.{true≢false}
-use Rattle.swc_ecma_codegen_ast.specs.Reading.{ReadsOne}
-use Rattle.swc_ecma_codegen_ast.proofs.ReadOne.{read_one_sound, read_one_complete, rest_all}
+use Rattle.std.proofs.Common.{sym, subst, not, length, ◌∙◌, ◌||◌, ◌-◌, take, Bool, List, ℕ}
+use Rattle.std.proofs.lemmas.Bool.{and_from, and_parts, true≢false}
+use Rattle.swc_ecma_codegen_ast.specs.Chars.{is_one_line}
+use Rattle.swc_ecma_codegen_ast.specs.Reading.{ReadsOne, fits}
+use Rattle.swc_ecma_codegen_ast.proofs.ReadOne.{read_one_sound, read_one_complete, rest_all, in_line_from, in_line_to}
 use Rattle.swc_ecma_codegen_ast.proofs.reader.read_one.Goals as goal
 
-pub returns-then-fits-clause-found : goal.returns-then-fits-clause-found
-returns-then-fits-clause-found c =
-    let text = c.start-text.result.now in
+pub returns-then-takes-clause-found : goal.returns-then-takes-clause-found
+returns-then-takes-clause-found c =
+    let text = c.args.text.now in
+    let begin = c.start-begin.result.now in
     let n = c.longest-n.result in
     let most = c.longest-n.ensures in
-    subst (λ z. ReadsOne c.args.first c.args.kind c.args.text.now (take n text) z) (sym (rest_all n text))
-    (read_one_sound c.args.first c.args.kind c.args.text.now text n c.start-text.ensures most.within most.stands most.longest (sym c.fits.ensures ∙ c.if-fits.true))
+    let gap : List ℕ = take (length text - length begin) text in
+    let both = and_parts (not c.args.joined || is_one_line gap) (fits c.args.first c.args.kind begin n) (sym c.takes.ensures ∙ c.if-takes.true) in
+    subst (λ z. ReadsOne c.args.first c.args.joined c.args.kind text (take n begin) z) (sym (rest_all n begin))
+    (read_one_sound c.args.first c.args.joined c.args.kind text begin n c.start-begin.ensures most.within most.stands most.longest both.1 (in_line_from c.args.joined gap both.0))
 
-pub returns-else-fits-clause-none : goal.returns-else-fits-clause-none
-returns-else-fits-clause-none c = λ own rest h.
-    let text = c.start-text.result.now in
+pub returns-else-takes-clause-none : goal.returns-else-takes-clause-none
+returns-else-takes-clause-none c = λ own rest h.
+    let text = c.args.text.now in
+    let begin = c.start-begin.result.now in
+    let n = c.longest-n.result in
     let most = c.longest-n.ensures in
-    let r = read_one_complete c.args.first c.args.kind c.args.text.now text c.longest-n.result c.start-text.ensures most.within most.stands most.longest own rest h in
-    true≢false (sym r.2 ∙ sym c.fits.ensures ∙ c.if-fits.false)
+    let gap : List ℕ = take (length text - length begin) text in
+    let r = read_one_complete c.args.first c.args.joined c.args.kind text begin n c.start-begin.ensures most.within most.stands most.longest own rest h in
+    true≢false (sym (and_from (not c.args.joined || is_one_line gap) (fits c.args.first c.args.kind begin n) (in_line_to c.args.joined gap r.3) r.2) ∙ sym c.takes.ensures ∙ c.if-takes.false)

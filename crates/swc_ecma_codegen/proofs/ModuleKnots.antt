@@ -1,0 +1,69 @@
+-- What is written of modules sees what links hold through `asks` and `items` alone.
+use Rattle.std.proofs.Common.{◌≡◌, refl, ap, Option, Some, None, Box, Global}
+use Rattle.swc_ecma_codegen_tree.specs.declared.expr_links.ObjectLitBox.{ObjectLitBox}
+use Rattle.swc_ecma_codegen_tree.specs.declared.lits.Str.{Str}
+use Rattle.swc_ecma_codegen_tree.specs.declared.links.AnyNode.{AnyNode-F, map-AnyNode}
+use Rattle.swc_ecma_codegen_tree.specs.declared.links.AnyNode.TheOpen as nodes
+use Rattle.swc_ecma_codegen_tree.specs.declared.parts.StmtPart.TheVariants as stmt_parts
+use Rattle.swc_ecma_codegen_tree.specs.declared.modules.DefaultDecl.{DefaultDecl}
+use Rattle.swc_ecma_codegen_tree.specs.declared.modules.DefaultDecl.TheVariants as default_decls
+use Rattle.swc_ecma_codegen_tree.specs.declared.modules.ExportAll.{ExportAll}
+use Rattle.swc_ecma_codegen_tree.specs.declared.modules.ExportDefaultDecl.{ExportDefaultDecl}
+use Rattle.swc_ecma_codegen_tree.specs.declared.modules.ImportDecl.{ImportDecl}
+use Rattle.swc_ecma_codegen_tree.specs.declared.modules.NamedExport.{NamedExport}
+use Rattle.swc_ecma_codegen_tree.specs.declared.programs.ModuleDecl.{ModuleDecl}
+use Rattle.swc_ecma_codegen_tree.specs.declared.programs.ModuleDecl.TheVariants as module_decls
+use Rattle.swc_ecma_codegen_tree.specs.declared.programs.ModuleItem.{ModuleItem}
+use Rattle.swc_ecma_codegen_tree.specs.declared.programs.ModuleItem.TheVariants as module_items
+use Rattle.swc_ecma_codegen_spans.specs.Spans.{module_item_span, module_decl_span}
+use Rattle.swc_ecma_codegen_base.specs.Run.{Plan, Part, refuse}
+use Rattle.swc_ecma_codegen.specs.declared.nodes.Place.{Place}
+use Rattle.swc_ecma_codegen.specs.Answers.{Answers}
+use Rattle.swc_ecma_codegen.specs.ClassExprs.{class_expr}
+use Rattle.swc_ecma_codegen.specs.Functions.{fn_expr, optional_name}
+use Rattle.swc_ecma_codegen.specs.Lists.{unsupported}
+use Rattle.swc_ecma_codegen.specs.Modules.{attributes, source_end, from_clause, import_tail, import_parts, import_decl, export_tail, export_parts, export_named, all_tail, all_parts, export_all, export_decl, default_decl, export_default_decl, export_default_expr, module_decl_by, module_decl, module_item_by, module_item}
+use Rattle.swc_ecma_codegen.specs.Parts.{stmt_part}
+use Rattle.swc_ecma_codegen.specs.Tree.{node_items}
+
+abbrev as_decl : {X : Type 0} → Box (ModuleDecl X) Global → ModuleDecl X → AnyNode-F X
+as_decl b n = nodes.StmtPart (stmt_parts.ModuleDecl (record b { value = n }))
+
+import_by : {X Y : Type 0} (g : X → Y) (asks : Y → Answers) (items : Y → Place → Part) (b : Box (ModuleDecl X) Global) (n : ImportDecl X) (with_ : Option (ObjectLitBox X)) (place : Place) (rest : Plan) → node_items asks items (map-AnyNode X Y g (as_decl b (module_decls.Import (record n { with_ = with_ })))) place rest ≡ module_decl (λ x. asks (g x)) (λ x. items (g x)) (module_decls.Import (record n { with_ = with_ })) rest
+unfolding node_items stmt_part module_decl module_decl_by module_decl_span import_decl import_parts import_tail source_end attributes
+import_by g asks items b n None place rest = refl
+import_by g asks items b n (Some w) place rest = refl
+
+named_by : {X Y : Type 0} (g : X → Y) (asks : Y → Answers) (items : Y → Place → Part) (b : Box (ModuleDecl X) Global) (n : NamedExport X) (src : Option Str) (with_ : Option (ObjectLitBox X)) (place : Place) (rest : Plan) → node_items asks items (map-AnyNode X Y g (as_decl b (module_decls.ExportNamed (record n { src = src; with_ = with_ })))) place rest ≡ module_decl (λ x. asks (g x)) (λ x. items (g x)) (module_decls.ExportNamed (record n { src = src; with_ = with_ })) rest
+unfolding node_items stmt_part module_decl module_decl_by module_decl_span export_named export_parts export_tail from_clause attributes
+named_by g asks items b n None None place rest = refl
+named_by g asks items b n None (Some w) place rest = refl
+named_by g asks items b n (Some s) None place rest = refl
+named_by g asks items b n (Some s) (Some w) place rest = refl
+
+all_by : {X Y : Type 0} (g : X → Y) (asks : Y → Answers) (items : Y → Place → Part) (b : Box (ModuleDecl X) Global) (n : ExportAll X) (with_ : Option (ObjectLitBox X)) (place : Place) (rest : Plan) → node_items asks items (map-AnyNode X Y g (as_decl b (module_decls.ExportAll (record n { with_ = with_ })))) place rest ≡ module_decl (λ x. asks (g x)) (λ x. items (g x)) (module_decls.ExportAll (record n { with_ = with_ })) rest
+unfolding node_items stmt_part module_decl module_decl_by module_decl_span export_all all_parts all_tail source_end attributes
+all_by g asks items b n None place rest = refl
+all_by g asks items b n (Some w) place rest = refl
+
+default_by : {X Y : Type 0} (g : X → Y) (asks : Y → Answers) (items : Y → Place → Part) (b : Box (ModuleDecl X) Global) (n : ExportDefaultDecl X) (decl : DefaultDecl X) (place : Place) (rest : Plan) → node_items asks items (map-AnyNode X Y g (as_decl b (module_decls.ExportDefaultDecl (record n { decl = decl })))) place rest ≡ module_decl (λ x. asks (g x)) (λ x. items (g x)) (module_decls.ExportDefaultDecl (record n { decl = decl })) rest
+unfolding node_items stmt_part module_decl module_decl_by module_decl_span export_default_decl default_decl class_expr fn_expr optional_name unsupported refuse
+default_by g asks items b n (default_decls.Class c) place rest = refl
+default_by g asks items b n (default_decls.Fn c) place rest = refl
+default_by g asks items b n (default_decls.TsInterfaceDecl c) place rest = refl
+
+decl_by : {X Y : Type 0} (g : X → Y) (asks : Y → Answers) (items : Y → Place → Part) (b : Box (ModuleDecl X) Global) (n : ModuleDecl X) (place : Place) (rest : Plan) → node_items asks items (map-AnyNode X Y g (as_decl b n)) place rest ≡ module_decl (λ x. asks (g x)) (λ x. items (g x)) n rest
+unfolding node_items stmt_part module_decl module_decl_by module_decl_span export_decl export_default_expr unsupported refuse
+decl_by g asks items b (module_decls.Import n) place rest = import_by g asks items b n n.with_ place rest
+decl_by g asks items b (module_decls.ExportNamed n) place rest = named_by g asks items b n n.src n.with_ place rest
+decl_by g asks items b (module_decls.ExportAll n) place rest = all_by g asks items b n n.with_ place rest
+decl_by g asks items b (module_decls.ExportDefaultDecl n) place rest = default_by g asks items b n n.decl place rest
+decl_by g asks items b n place rest = refl
+
+pub module_decl_mapped : {X Y : Type 0} (g : X → Y) (asks : Y → Answers) (items : Y → Place → Part) (b : Box (ModuleDecl X) Global) (place : Place) (rest : Plan) → node_items asks items (map-AnyNode X Y g (nodes.StmtPart (stmt_parts.ModuleDecl b))) place rest ≡ module_decl (λ x. asks (g x)) (λ x. items (g x)) b.value rest
+module_decl_mapped g asks items b place rest = decl_by g asks items b b.value place rest
+
+pub module_item_mapped : {X Y : Type 0} (g : X → Y) (asks : Y → Answers) (items : Y → Place → Part) (n : ModuleItem X) (place : Place) (rest : Plan) → node_items asks items (map-AnyNode X Y g (nodes.StmtPart (stmt_parts.ModuleItem n))) place rest ≡ module_item (λ x. asks (g x)) (λ x. items (g x)) n rest
+unfolding node_items stmt_part module_item module_item_by module_item_span
+module_item_mapped g asks items (module_items.ModuleDecl n) place rest = refl
+module_item_mapped g asks items (module_items.Stmt n) place rest = refl

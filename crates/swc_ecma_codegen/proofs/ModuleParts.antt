@@ -1,0 +1,272 @@
+-- What is written of imports and exports is what they read as.
+use Rattle.std.proofs.Common.{Bool, true, false, List, [], ◌∷◌, map, codes, Option, Some, None, refl}
+use Rattle.swc_ecma_codegen_common.specs.declared.positions.Span.{Span}
+use Rattle.swc_ecma_codegen_tree.specs.declared.expr_links.ObjectLitBox.{ObjectLitBox}
+use Rattle.swc_ecma_codegen_tree.specs.declared.lits.Str.{Str}
+use Rattle.swc_ecma_codegen_tree.specs.declared.modules.DefaultDecl.{DefaultDecl}
+use Rattle.swc_ecma_codegen_tree.specs.declared.modules.DefaultDecl.TheVariants as default_decls
+use Rattle.swc_ecma_codegen_tree.specs.declared.modules.ExportAll.{ExportAll}
+use Rattle.swc_ecma_codegen_tree.specs.declared.modules.ExportDecl.{ExportDecl}
+use Rattle.swc_ecma_codegen_tree.specs.declared.modules.ExportDefaultDecl.{ExportDefaultDecl}
+use Rattle.swc_ecma_codegen_tree.specs.declared.modules.ExportDefaultExpr.{ExportDefaultExpr}
+use Rattle.swc_ecma_codegen_tree.specs.declared.modules.ExportNamedSpecifier.{ExportNamedSpecifier}
+use Rattle.swc_ecma_codegen_tree.specs.declared.modules.ExportNamespaceSpecifier.{ExportNamespaceSpecifier}
+use Rattle.swc_ecma_codegen_tree.specs.declared.modules.ExportSpecifier.{ExportSpecifier}
+use Rattle.swc_ecma_codegen_tree.specs.declared.modules.ExportSpecifier.TheVariants as exported
+use Rattle.swc_ecma_codegen_tree.specs.declared.modules.ImportDecl.{ImportDecl}
+use Rattle.swc_ecma_codegen_tree.specs.declared.modules.ImportNamedSpecifier.{ImportNamedSpecifier}
+use Rattle.swc_ecma_codegen_tree.specs.declared.modules.ImportPhase.{ImportPhase}
+use Rattle.swc_ecma_codegen_tree.specs.declared.modules.ImportPhase.TheVariants.{Evaluation, Source, Defer}
+use Rattle.swc_ecma_codegen_tree.specs.declared.modules.ImportSpecifier.{ImportSpecifier}
+use Rattle.swc_ecma_codegen_tree.specs.declared.modules.ImportSpecifier.TheVariants as imported
+use Rattle.swc_ecma_codegen_tree.specs.declared.modules.ModuleExportName.{ModuleExportName}
+use Rattle.swc_ecma_codegen_tree.specs.declared.modules.ModuleExportName.TheVariants as export_names
+use Rattle.swc_ecma_codegen_tree.specs.declared.modules.NamedExport.{NamedExport}
+use Rattle.swc_ecma_codegen_tree.specs.declared.programs.ModuleDecl.{ModuleDecl}
+use Rattle.swc_ecma_codegen_tree.specs.declared.programs.ModuleDecl.TheVariants as module_decls
+use Rattle.swc_ecma_codegen_tree.specs.declared.programs.ModuleItem.{ModuleItem}
+use Rattle.swc_ecma_codegen_tree.specs.declared.programs.ModuleItem.TheVariants as module_items
+use Rattle.swc_ecma_codegen_spans.specs.Spans.{import_specifier_span, export_specifier_span, module_item_span, module_decl_span}
+use Rattle.swc_ecma_codegen_ast.specs.ElementPhrases.{trailing_comma}
+use Rattle.swc_ecma_codegen_ast.specs.ModulePhrases as lists
+use Rattle.swc_ecma_codegen_ast.specs.Phrases as phrases
+use Rattle.swc_ecma_codegen_ast.specs.Phrases.{Phrase, OptionalComma, ◌>◌, mark, word, ending}
+use Rattle.swc_ecma_codegen_ast.specs.LitPhrases.{str_lit}
+use Rattle.swc_ecma_codegen_ast.specs.declared.roles.Role.TheVariants.{Statement, ObjectLiteral, ModuleDeclaration, ExportedHead as HeadOfExported, ExportedTail as TailOfExported}
+use Rattle.swc_ecma_codegen_base.specs.Lists.{list}
+use Rattle.swc_ecma_codegen_base.specs.Run.{Env, Part}
+use Rattle.swc_ecma_codegen_base.specs.Words.{punct}
+use Rattle.swc_ecma_codegen_base.proofs.ListLaws.{children_of, writes_no_list, prints_some, prints_optional_closing}
+use Rattle.swc_ecma_codegen_base.proofs.Choices.{prints_attributes_word}
+use Rattle.swc_ecma_codegen_base.proofs.Shapes.{open_, closed, ended}
+use Rattle.swc_ecma_codegen_base.proofs.Phrased.{Prints, PrintsAt, prints_wider, loosened, then, after, before, prints_nothing, prints_never, prints_keyword, prints_punct, prints_semi}
+use Rattle.swc_ecma_codegen_base.proofs.Printed.{Writes, writes_then, writes_nothing, writes_space, writes_formatting_space, writes_formatting_line, writes_position, writes_leading, writes_trailing}
+use Rattle.swc_ecma_codegen_base.proofs.StringPrints.{prints_str}
+use Rattle.swc_ecma_codegen.specs.declared.nodes.Place.TheVariants.{Plain}
+use Rattle.swc_ecma_codegen.specs.Answers.{place_of}
+use Rattle.swc_ecma_codegen.specs.Modules as words
+use Rattle.swc_ecma_codegen.proofs.ExprParts.{ident_prints, writes_blank}
+use Rattle.swc_ecma_codegen.proofs.FunctionParts.{class_expr_prints, fn_expr_prints}
+use Rattle.swc_ecma_codegen.proofs.Impossible.{refused_or}
+use Rattle.swc_ecma_codegen.proofs.Linked.{Linked, expr_at}
+use Rattle.swc_ecma_codegen.proofs.MarkWords as marks
+
+-- ---- what imports and exports share
+
+name_prints : {X : Type 0} (l : Linked X) (n : ModuleExportName) → Prints l.env (words.module_export_name n) (lists.module_export_name n)
+unfolding words.module_export_name lists.module_export_name
+name_prints l (export_names.Ident n) = ident_prints l n
+name_prints l (export_names.Str n) = prints_str l.env n
+
+from_prints : (env : Env) → Prints env words.from_word (word (codes "from"))
+unfolding words.from_word
+from_prints env = before (prints_keyword env None (codes "from") marks.from_word) (writes_formatting_space env)
+
+as_prints : (env : Env) → Prints env words.as_word (word (codes "as"))
+unfolding words.as_word
+as_prints env = after (writes_space env) (before (prints_keyword env None (codes "as") marks.as_word) (writes_space env))
+
+star_prints : (env : Env) {p : Part} {f : Phrase} → Prints env p f → Prints env (λ rest. words.star_as (p rest)) (mark (codes "*") > word (codes "as") > f)
+unfolding words.star_as
+star_prints env h =
+    then (prints_punct env (codes "*") marks.star)
+    (after (writes_formatting_space env) (then (prints_keyword env None (codes "as") marks.as_word) (after (writes_space env) h)))
+
+-- ---- imports
+
+imported_prints : {X : Type 0} (l : Linked X) (n : Option ModuleExportName) → PrintsAt open_ l.env (words.imported_as n) (lists.imported_as n)
+unfolding words.imported_as lists.imported_as
+imported_prints l None = prints_nothing
+imported_prints l (Some n) = prints_wider open_ refl (then (name_prints l n) (as_prints l.env))
+
+import_named_prints : {X : Type 0} (l : Linked X) (n : ImportNamedSpecifier) → Prints l.env (words.import_named n) (lists.import_named n)
+unfolding words.import_named words.import_named_parts lists.import_named
+import_named_prints l n = refused_or n.is_type_only
+    (after (writes_position l.env n.span.lo) (then (imported_prints l n.imported) (before (ident_prints l n.local) (writes_position l.env n.span.hi))))
+
+import_specifier_prints : {X : Type 0} (l : Linked X) (n : ImportSpecifier) → Prints l.env (words.import_specifier n) (lists.import_specifier n)
+unfolding words.import_specifier lists.import_specifier
+import_specifier_prints l (imported.Named n) = import_named_prints l n
+import_specifier_prints l n = prints_never
+
+import_list_prints : {X : Type 0} (l : Linked X) (parent : Span) (close : Part) (after_list : Phrase) → Prints l.env close after_list → (ns : List ImportSpecifier) → PrintsAt closed l.env (λ rest. words.import_list parent ns (close rest)) (phrases.listed (codes ",") (map lists.import_specifier ns) > trailing_comma ns > after_list)
+unfolding phrases.listed trailing_comma
+import_list_prints l parent close after_list closed [] = after (writes_no_list l.env words.named_format parent) (then prints_nothing (then prints_nothing closed))
+import_list_prints l parent close after_list closed (n ∷ ns) =
+    prints_some l.env words.named_format parent import_specifier_span words.import_specifier lists.import_specifier OptionalComma after_list close
+    (λ n. loosened (import_specifier_prints l n)) refl refl (λ last. prints_optional_closing l.env words.named_format parent last refl refl) closed n ns
+
+import_braces_print : {X : Type 0} (l : Linked X) (parent : Span) (ns : List ImportSpecifier) → Prints l.env (λ rest. punct (codes "{") (words.import_list parent ns (punct (codes "}") rest))) (mark (codes "{") > phrases.listed (codes ",") (map lists.import_specifier ns) > trailing_comma ns > mark (codes "}"))
+import_braces_print l parent ns = then (prints_punct l.env (codes "{") marks.left_brace) (import_list_prints l parent (punct (codes "}")) (mark (codes "}")) (prints_punct l.env (codes "}") marks.right_brace) ns)
+
+bindings_print : {X : Type 0} (l : Linked X) (parent : Span) (ns : List ImportSpecifier) → Prints l.env (words.import_bindings parent ns) (lists.import_bindings ns)
+unfolding words.import_bindings words.is_star words.star_import words.imported_star words.import_braces lists.import_bindings
+bindings_print l parent [] = before (import_braces_print l parent []) (writes_formatting_space l.env)
+bindings_print l parent (imported.Namespace n ∷ []) = star_prints l.env (before (ident_prints l n.local) (writes_space l.env))
+bindings_print l parent (imported.Namespace n ∷ m ∷ ns) = before (import_braces_print l parent (imported.Namespace n ∷ m ∷ ns)) (writes_formatting_space l.env)
+bindings_print l parent (imported.Named n ∷ ns) = before (import_braces_print l parent (imported.Named n ∷ ns)) (writes_formatting_space l.env)
+bindings_print l parent (imported.Default n ∷ ns) = before (import_braces_print l parent (imported.Default n ∷ ns)) (writes_formatting_space l.env)
+
+after_default_prints : {X : Type 0} (l : Linked X) (parent : Span) (ns : List ImportSpecifier) → PrintsAt open_ l.env (words.after_default parent ns) (lists.after_default ns)
+unfolding words.after_default lists.after_default
+after_default_prints l parent [] = after (writes_space l.env) prints_nothing
+after_default_prints l parent (n ∷ ns) = prints_wider open_ refl (then (prints_punct l.env (codes ",") marks.comma) (after (writes_formatting_space l.env) (bindings_print l parent (n ∷ ns))))
+
+import_clause_prints : {X : Type 0} (l : Linked X) (parent : Span) (ns : List ImportSpecifier) → PrintsAt open_ l.env (words.import_clause parent ns) (lists.import_clause ns)
+unfolding words.import_clause words.some_imports words.begins_default words.default_clause words.default_name words.bindings_clause lists.import_clause
+import_clause_prints l parent [] = prints_nothing
+import_clause_prints l parent (imported.Default n ∷ ns) = prints_wider open_ refl (then (ident_prints l n.local) (then (after_default_prints l parent ns) (from_prints l.env)))
+import_clause_prints l parent (imported.Named n ∷ ns) = prints_wider open_ refl (then (bindings_print l parent (imported.Named n ∷ ns)) (from_prints l.env))
+import_clause_prints l parent (imported.Namespace n ∷ ns) = prints_wider open_ refl (then (bindings_print l parent (imported.Namespace n ∷ ns)) (from_prints l.env))
+
+phase_prints : (env : Env) (phase : ImportPhase) → PrintsAt open_ env (words.phase_word phase) (lists.import_phase phase)
+unfolding words.phase_word lists.import_phase
+phase_prints env Evaluation = prints_nothing
+phase_prints env Source = prints_wider open_ refl (after (writes_space env) (prints_keyword env None (codes "source") marks.source_word))
+phase_prints env Defer = prints_wider open_ refl (after (writes_space env) (prints_keyword env None (codes "defer") marks.defer_word))
+
+attributes_print : {X : Type 0} (l : Linked X) (n : Option (ObjectLitBox X)) → PrintsAt open_ l.env (words.attributes l.items n) (lists.attributes l.reads n)
+unfolding words.attributes lists.attributes
+attributes_print l None = prints_nothing
+attributes_print l (Some n) =
+    prints_wider open_ refl
+    (after (writes_formatting_space l.env) (then prints_attributes_word (after (writes_formatting_space l.env) (l.law n.node.value Plain ObjectLiteral))))
+
+source_end_prints : {X : Type 0} (l : Linked X) (src : Str) (with_ : Option (ObjectLitBox X)) (span : Span) → Prints l.env (words.source_end l.items src with_ span) (str_lit src > lists.attributes l.reads with_ > ending)
+unfolding words.source_end
+source_end_prints l src with_ span = then (prints_str l.env src) (then (attributes_print l with_) (before (prints_semi l.env) (writes_position l.env span.hi)))
+
+import_prints : {X : Type 0} (l : Linked X) (n : ImportDecl X) → Prints l.env (words.import_decl l.items n) (lists.import_decl l.reads n)
+unfolding words.import_decl words.import_parts words.import_tail lists.import_decl
+import_prints l n = refused_or n.type_only
+    (after (writes_leading l.env n.span.lo)
+    (after (writes_position l.env n.span.lo)
+    (then (prints_keyword l.env None (codes "import") marks.import_word)
+    (then (phase_prints l.env n.phase)
+    (after (writes_blank l.env (words.begins_default n.specifiers.items))
+    (then (import_clause_prints l n.span n.specifiers.items) (source_end_prints l n.src n.with_ n.span)))))))
+
+-- ---- exports
+
+exported_as_prints : {X : Type 0} (l : Linked X) (n : Option ModuleExportName) → PrintsAt open_ l.env (words.exported_as n) (lists.exported_as n)
+unfolding words.exported_as lists.exported_as
+exported_as_prints l None = prints_nothing
+exported_as_prints l (Some n) = prints_wider open_ refl (then (as_prints l.env) (name_prints l n))
+
+export_named_specifier_prints : {X : Type 0} (l : Linked X) (n : ExportNamedSpecifier) → Prints l.env (words.export_named_specifier n) (lists.export_named_specifier n)
+unfolding words.export_named_specifier words.export_named_parts lists.export_named_specifier
+export_named_specifier_prints l n = refused_or n.is_type_only
+    (after (writes_leading l.env n.span.lo)
+    (after (writes_position l.env n.span.lo) (then (name_prints l n.orig) (before (exported_as_prints l n.exported) (writes_position l.env n.span.hi)))))
+
+export_specifier_prints : {X : Type 0} (l : Linked X) (n : ExportSpecifier) → Prints l.env (words.export_specifier n) (lists.export_specifier n)
+unfolding words.export_specifier lists.export_specifier
+export_specifier_prints l (exported.Named n) = export_named_specifier_prints l n
+export_specifier_prints l n = prints_never
+
+export_list_prints : {X : Type 0} (l : Linked X) (parent : Span) (close : Part) (after_list : Phrase) → Prints l.env close after_list → (ns : List ExportSpecifier) → PrintsAt closed l.env (λ rest. words.export_list parent ns (close rest)) (phrases.listed (codes ",") (map lists.export_specifier ns) > trailing_comma ns > after_list)
+unfolding phrases.listed trailing_comma
+export_list_prints l parent close after_list closed [] = after (writes_no_list l.env words.named_format parent) (then prints_nothing (then prints_nothing closed))
+export_list_prints l parent close after_list closed (n ∷ ns) =
+    prints_some l.env words.named_format parent export_specifier_span words.export_specifier lists.export_specifier OptionalComma after_list close
+    (λ n. loosened (export_specifier_prints l n)) refl refl (λ last. prints_optional_closing l.env words.named_format parent last refl refl) closed n ns
+
+export_braces_print : {X : Type 0} (l : Linked X) (parent : Span) (ns : List ExportSpecifier) → Prints l.env (words.export_braces parent ns) (lists.export_braces ns)
+unfolding words.export_braces lists.export_braces
+export_braces_print l parent ns = then (prints_punct l.env (codes "{") marks.left_brace) (export_list_prints l parent (punct (codes "}")) (mark (codes "}")) (prints_punct l.env (codes "}") marks.right_brace) ns)
+
+namespace_prints : {X : Type 0} (l : Linked X) (n : ExportNamespaceSpecifier) → Prints l.env (words.export_namespace n) (lists.export_namespace n)
+unfolding words.export_namespace lists.export_namespace
+namespace_prints l n = after (writes_leading l.env n.span.lo) (after (writes_position l.env n.span.lo) (star_prints l.env (before (name_prints l n.name) (writes_position l.env n.span.hi))))
+
+export_clause_prints : {X : Type 0} (l : Linked X) (parent : Span) (ns : List ExportSpecifier) → Prints l.env (words.export_clause parent ns) (lists.export_clause ns)
+unfolding words.export_clause words.begins_star words.star_exports words.exported_star words.more_exports lists.export_clause
+export_clause_prints l parent [] = export_braces_print l parent []
+export_clause_prints l parent (exported.Namespace n ∷ []) = namespace_prints l n
+export_clause_prints l parent (exported.Namespace n ∷ m ∷ ns) =
+    then (namespace_prints l n) (then (prints_punct l.env (codes ",") marks.comma) (after (writes_formatting_space l.env) (export_braces_print l parent (m ∷ ns))))
+export_clause_prints l parent (exported.Named n ∷ ns) = export_braces_print l parent (exported.Named n ∷ ns)
+export_clause_prints l parent (exported.Default n ∷ ns) = export_braces_print l parent (exported.Default n ∷ ns)
+
+from_clause_prints : {X : Type 0} (l : Linked X) (with_ : Option (ObjectLitBox X)) (needed : Bool) (n : Option Str) → PrintsAt open_ l.env (words.from_clause l.items with_ needed n) (lists.from_clause l.reads with_ n)
+unfolding words.from_clause lists.from_clause
+from_clause_prints l with_ needed None = prints_nothing
+from_clause_prints l with_ needed (Some n) = prints_wider open_ refl (after (writes_blank l.env needed) (then (from_prints l.env) (then (prints_str l.env n) (attributes_print l with_))))
+
+export_named_prints : {X : Type 0} (l : Linked X) (n : NamedExport X) → Prints l.env (words.export_named l.items n) (lists.export_named l.reads n)
+unfolding words.export_named words.export_parts words.export_tail lists.export_named
+export_named_prints l n = refused_or n.type_only
+    (after (writes_leading l.env n.span.lo)
+    (after (writes_position l.env n.span.lo)
+    (then (prints_keyword l.env None (codes "export") marks.export_word)
+    (after (writes_formatting_space l.env)
+    (then (export_clause_prints l n.span n.specifiers.items)
+    (then (from_clause_prints l n.with_ (words.ends_with_name n.specifiers.items) n.src) (before (prints_semi l.env) (writes_position l.env n.span.hi))))))))
+
+export_all_prints : {X : Type 0} (l : Linked X) (n : ExportAll X) → Prints l.env (words.export_all l.items n) (lists.export_all l.reads n)
+unfolding words.export_all words.all_parts words.all_tail lists.export_all
+export_all_prints l n = refused_or n.type_only
+    (after (writes_leading l.env n.span.lo)
+    (after (writes_position l.env n.span.lo)
+    (then (prints_keyword l.env None (codes "export") marks.export_word)
+    (after (writes_formatting_space l.env)
+    (then (prints_punct l.env (codes "*") marks.star)
+    (after (writes_formatting_space l.env)
+    (then (from_prints l.env) (source_end_prints l n.src n.with_ n.span))))))))
+
+export_decl_prints : {X : Type 0} (l : Linked X) (n : ExportDecl X) → Prints l.env (words.export_decl l.items n) (lists.export_decl l.reads n)
+unfolding words.export_decl lists.export_decl
+export_decl_prints l n =
+    after (writes_position l.env n.span.lo)
+    (then (l.law n.decl.node.value Plain HeadOfExported)
+    (then (prints_keyword l.env None (codes "export") marks.export_word) (after (writes_space l.env) (l.law n.decl.node.value Plain TailOfExported))))
+
+default_decl_prints : {X : Type 0} (l : Linked X) (n : DefaultDecl X) → Prints l.env (words.default_decl l.asks l.items n) (lists.default_decl l.reads n)
+unfolding words.default_decl lists.default_decl
+default_decl_prints l (default_decls.Class n) = class_expr_prints l n
+default_decl_prints l (default_decls.Fn n) = fn_expr_prints l n
+default_decl_prints l (default_decls.TsInterfaceDecl n) = prints_never
+
+default_prints : (env : Env) {p : Part} {f : Phrase} → Prints env p f → Prints env (λ rest. words.export_default (p rest)) (word (codes "export") > word (codes "default") > f)
+unfolding words.export_default
+default_prints env h = then (prints_keyword env None (codes "export") marks.export_word) (after (writes_space env) (then (prints_keyword env None (codes "default") marks.default_word) h))
+
+export_default_decl_prints : {X : Type 0} (l : Linked X) (n : ExportDefaultDecl X) → Prints l.env (words.export_default_decl l.asks l.items n) (lists.export_default_decl l.reads n)
+unfolding words.export_default_decl lists.export_default_decl
+export_default_decl_prints l n =
+    after (writes_leading l.env n.span.lo) (after (writes_position l.env n.span.lo) (default_prints l.env (after (writes_space l.env) (default_decl_prints l n.decl))))
+
+export_default_expr_prints : {X : Type 0} (l : Linked X) (n : ExportDefaultExpr X) → Prints l.env (words.export_default_expr l.asks l.items n) (lists.export_default_expr l.reads n)
+unfolding words.export_default_expr lists.export_default_expr
+export_default_expr_prints l n =
+    after (writes_position l.env n.span.lo)
+    (default_prints l.env
+    (after (writes_blank l.env (l.asks n.expr.node.value).starts) (then (expr_at l n.expr Plain) (before (prints_semi l.env) (writes_position l.env n.span.hi)))))
+
+-- ---- all of them
+
+decl_by_prints : {X : Type 0} (l : Linked X) (n : ModuleDecl X) → Prints l.env (words.module_decl_by l.asks l.items n) (lists.module_decl l.reads n)
+unfolding words.module_decl_by lists.module_decl
+decl_by_prints l (module_decls.Import n) = import_prints l n
+decl_by_prints l (module_decls.ExportDecl n) = export_decl_prints l n
+decl_by_prints l (module_decls.ExportNamed n) = export_named_prints l n
+decl_by_prints l (module_decls.ExportDefaultDecl n) = export_default_decl_prints l n
+decl_by_prints l (module_decls.ExportDefaultExpr n) = export_default_expr_prints l n
+decl_by_prints l (module_decls.ExportAll n) = export_all_prints l n
+decl_by_prints l n = prints_never
+
+pub module_decl_prints : {X : Type 0} (l : Linked X) (n : ModuleDecl X) → PrintsAt ended l.env (words.module_decl l.asks l.items n) (lists.module_decl l.reads n)
+unfolding words.module_decl
+module_decl_prints l n =
+    after (writes_leading l.env (module_decl_span n).lo)
+    (before (before (decl_by_prints l n) (writes_trailing l.env true (module_decl_span n).hi)) (writes_formatting_line l.env))
+
+item_by_prints : {X : Type 0} (l : Linked X) (n : ModuleItem X) → PrintsAt ended l.env (words.module_item_by l.items n) (lists.module_item l.reads n)
+unfolding words.module_item_by lists.module_item
+item_by_prints l (module_items.ModuleDecl n) = l.law n.node.value Plain ModuleDeclaration
+item_by_prints l (module_items.Stmt n) = l.law n.node.value Plain Statement
+
+pub module_item_prints : {X : Type 0} (l : Linked X) (n : ModuleItem X) → PrintsAt ended l.env (words.module_item l.asks l.items n) (lists.module_item l.reads n)
+unfolding words.module_item
+module_item_prints l n =
+    after (writes_leading l.env (module_item_span (place_of l.asks) n).lo) (before (item_by_prints l n) (writes_trailing l.env true (module_item_span (place_of l.asks) n).hi))

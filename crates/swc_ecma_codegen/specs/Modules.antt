@@ -1,0 +1,297 @@
+-- What is written of imports and exports. What TypeScript adds isn't printed yet, nor are attributes.
+use Rattle.std.specs.Prelude.{ℕ, Bool, true, false, if◌then◌else◌, List, [], ◌∷◌, map, codes, Option, Some, None}
+use Rattle.swc_ecma_codegen_common.specs.declared.positions.Span.{Span}
+use Rattle.swc_ecma_codegen_tree.specs.declared.decls.Decl.{Decl}
+use Rattle.swc_ecma_codegen_tree.specs.declared.decls.Decl.TheVariants as decls
+use Rattle.swc_ecma_codegen_tree.specs.declared.decls.ClassDecl.{ClassDecl}
+use Rattle.swc_ecma_codegen_tree.specs.declared.expr_links.ObjectLitBox.{ObjectLitBox}
+use Rattle.swc_ecma_codegen_tree.specs.declared.lits.Str.{Str}
+use Rattle.swc_ecma_codegen_tree.specs.declared.modules.DefaultDecl.{DefaultDecl}
+use Rattle.swc_ecma_codegen_tree.specs.declared.modules.DefaultDecl.TheVariants as default_decls
+use Rattle.swc_ecma_codegen_tree.specs.declared.modules.ExportAll.{ExportAll}
+use Rattle.swc_ecma_codegen_tree.specs.declared.modules.ExportDecl.{ExportDecl}
+use Rattle.swc_ecma_codegen_tree.specs.declared.modules.ExportDefaultDecl.{ExportDefaultDecl}
+use Rattle.swc_ecma_codegen_tree.specs.declared.modules.ExportDefaultExpr.{ExportDefaultExpr}
+use Rattle.swc_ecma_codegen_tree.specs.declared.modules.ExportNamedSpecifier.{ExportNamedSpecifier}
+use Rattle.swc_ecma_codegen_tree.specs.declared.modules.ExportNamespaceSpecifier.{ExportNamespaceSpecifier}
+use Rattle.swc_ecma_codegen_tree.specs.declared.modules.ExportSpecifier.{ExportSpecifier}
+use Rattle.swc_ecma_codegen_tree.specs.declared.modules.ExportSpecifier.TheVariants as exported
+use Rattle.swc_ecma_codegen_tree.specs.declared.modules.ImportDecl.{ImportDecl}
+use Rattle.swc_ecma_codegen_tree.specs.declared.modules.ImportNamedSpecifier.{ImportNamedSpecifier}
+use Rattle.swc_ecma_codegen_tree.specs.declared.modules.ImportPhase.{ImportPhase}
+use Rattle.swc_ecma_codegen_tree.specs.declared.modules.ImportPhase.TheVariants.{Evaluation, Source, Defer}
+use Rattle.swc_ecma_codegen_tree.specs.declared.modules.ImportSpecifier.{ImportSpecifier}
+use Rattle.swc_ecma_codegen_tree.specs.declared.modules.ImportSpecifier.TheVariants as imported
+use Rattle.swc_ecma_codegen_tree.specs.declared.modules.ModuleExportName.{ModuleExportName}
+use Rattle.swc_ecma_codegen_tree.specs.declared.modules.ModuleExportName.TheVariants as export_names
+use Rattle.swc_ecma_codegen_tree.specs.declared.modules.NamedExport.{NamedExport}
+use Rattle.swc_ecma_codegen_tree.specs.declared.programs.ModuleDecl.{ModuleDecl}
+use Rattle.swc_ecma_codegen_tree.specs.declared.programs.ModuleDecl.TheVariants as module_decls
+use Rattle.swc_ecma_codegen_tree.specs.declared.programs.ModuleItem.{ModuleItem}
+use Rattle.swc_ecma_codegen_tree.specs.declared.programs.ModuleItem.TheVariants as module_items
+use Rattle.swc_ecma_codegen_spans.specs.Spans.{import_specifier_span, export_specifier_span, module_item_span, module_decl_span}
+use Rattle.swc_ecma_codegen_base.specs.Choices.{attributes_word}
+use Rattle.swc_ecma_codegen_base.specs.Run.{Part}
+use Rattle.swc_ecma_codegen_base.specs.Lists.{list}
+use Rattle.swc_ecma_codegen_base.specs.Lits.{str_lit}
+use Rattle.swc_ecma_codegen_base.specs.Words.{keyword, punct, semi, space, formatting_space, formatting_line, start_of, end_of, leading_comments, trailing_comments}
+use Rattle.swc_ecma_codegen.specs.declared.nodes.Place.{Place}
+use Rattle.swc_ecma_codegen.specs.declared.nodes.Place.TheVariants.{Plain, ClassHead, ExportedHead, ExportedTail}
+use Rattle.swc_ecma_codegen.specs.Answers.{Answers, place_of}
+use Rattle.swc_ecma_codegen.specs.ClassExprs.{class_expr}
+use Rattle.swc_ecma_codegen.specs.Exprs.{blank, ident}
+use Rattle.swc_ecma_codegen.specs.Functions.{fn_expr}
+use Rattle.swc_ecma_codegen.specs.Lists.{child_of, unsupported}
+use Rattle.swc_ecma_codegen.specs.Templates.{bad_shape}
+
+-- `a` or `'b c'`
+unfoldable pub module_export_name : ModuleExportName → Part
+module_export_name (export_names.Ident n) rest = ident n rest
+module_export_name (export_names.Str n) rest = str_lit n rest
+
+-- `NamedImportsOrExportsElements`
+abbrev pub named_format : ℕ
+named_format = 432
+
+-- `from` and a blank
+unfoldable pub from_word : Part
+from_word rest = keyword None (codes "from") (formatting_space rest)
+
+-- ` as `
+unfoldable pub as_word : Part
+as_word rest = space (keyword None (codes "as") (space rest))
+
+-- `* as `
+unfoldable pub star_as : Part
+star_as rest = punct (codes "*") (formatting_space (keyword None (codes "as") (space rest)))
+
+-- ---- imports
+
+-- `a as ` of `import { a as b } from 'c'`
+unfoldable pub imported_as : Option ModuleExportName → Part
+imported_as None rest = rest
+imported_as (Some n) rest = module_export_name n (as_word rest)
+
+-- `a as b`
+unfoldable pub import_named_parts : ImportNamedSpecifier → Part
+import_named_parts n rest = start_of n.span (imported_as n.imported (ident n.local (end_of n.span rest)))
+
+unfoldable pub import_named : ImportNamedSpecifier → Part
+import_named n rest = if n.is_type_only then unsupported rest else import_named_parts n rest
+
+-- among braces only such stand
+unfoldable pub import_specifier : ImportSpecifier → Part
+import_specifier (imported.Named n) rest = import_named n rest
+import_specifier n rest = bad_shape rest
+
+abbrev pub import_list : Span → List ImportSpecifier → Part
+import_list parent ns = list named_format parent (map (child_of import_specifier_span (λ n place. import_specifier n)) ns)
+
+-- `* as a `
+unfoldable pub imported_star : ImportSpecifier → Part
+imported_star (imported.Namespace n) rest = star_as (ident n.local (space rest))
+imported_star n rest = bad_shape rest
+
+-- it is the only one
+unfoldable pub is_star : List ImportSpecifier → Bool
+is_star (imported.Namespace n ∷ []) = true
+is_star ns = false
+
+unfoldable pub star_import : List ImportSpecifier → Part
+star_import [] rest = rest
+star_import (n ∷ ns) rest = imported_star n rest
+
+-- `{ a, b as c } `
+unfoldable pub import_braces : Span → List ImportSpecifier → Part
+import_braces parent ns rest = punct (codes "{") (import_list parent ns (punct (codes "}") (formatting_space rest)))
+
+unfoldable pub import_bindings : Span → List ImportSpecifier → Part
+import_bindings parent ns rest = if is_star ns then star_import ns rest else import_braces parent ns rest
+
+-- what stands after the default one: `, { b } `
+unfoldable pub after_default : Span → List ImportSpecifier → Part
+after_default parent [] rest = space rest
+after_default parent (n ∷ ns) rest = punct (codes ",") (formatting_space (import_bindings parent (n ∷ ns) rest))
+
+-- a blank before the default one is needed: `import a`, minified `import{a}`
+unfoldable pub begins_default : List ImportSpecifier → Bool
+begins_default (imported.Default n ∷ ns) = true
+begins_default ns = false
+
+-- `a` of `import a from 'b'`
+unfoldable pub default_name : ImportSpecifier → Part
+default_name (imported.Default n) rest = ident n.local rest
+default_name n rest = bad_shape rest
+
+-- `a, { b } from `
+unfoldable pub default_clause : Span → List ImportSpecifier → Part
+default_clause parent [] rest = rest
+default_clause parent (n ∷ ns) rest = default_name n (after_default parent ns (from_word rest))
+
+-- `{ b } from `
+unfoldable pub bindings_clause : Span → List ImportSpecifier → Part
+bindings_clause parent ns rest = import_bindings parent ns (from_word rest)
+
+unfoldable pub some_imports : Span → List ImportSpecifier → Part
+some_imports parent ns rest = if begins_default ns then default_clause parent ns rest else bindings_clause parent ns rest
+
+unfoldable pub import_clause : Span → List ImportSpecifier → Part
+import_clause parent [] rest = rest
+import_clause parent (n ∷ ns) rest = some_imports parent (n ∷ ns) rest
+
+unfoldable pub phase_word : ImportPhase → Part
+phase_word Evaluation rest = rest
+phase_word Source rest = space (keyword None (codes "source") rest)
+phase_word Defer rest = space (keyword None (codes "defer") rest)
+
+-- ` with { type: 'json' }`, minified `with{type:"json"}`, where there is such
+unfoldable pub attributes : {X : Type 0} → (X → Place → Part) → Option (ObjectLitBox X) → Part
+attributes items None rest = rest
+attributes items (Some n) rest = formatting_space (attributes_word (formatting_space (items n.node.value Plain rest)))
+
+-- `'b' with { type: 'json' };`, the end of an import or an export
+unfoldable pub source_end : {X : Type 0} → (X → Place → Part) → Str → Option (ObjectLitBox X) → Span → Part
+source_end items src with_ span rest = str_lit src (attributes items with_ (semi (end_of span rest)))
+
+-- `{ a } from 'b';`
+unfoldable pub import_tail : {X : Type 0} → (X → Place → Part) → ImportDecl X → Part
+import_tail items n rest = import_clause n.span n.specifiers.items (source_end items n.src n.with_ n.span rest)
+
+-- `import { a } from 'b';`
+unfoldable pub import_parts : {X : Type 0} → (X → Place → Part) → ImportDecl X → Part
+import_parts items n rest =
+    leading_comments n.span.lo
+    (start_of n.span
+    (keyword None (codes "import") (phase_word n.phase (blank (begins_default n.specifiers.items) (import_tail items n rest)))))
+
+unfoldable pub import_decl : {X : Type 0} → (X → Place → Part) → ImportDecl X → Part
+import_decl items n rest = if n.type_only then unsupported rest else import_parts items n rest
+
+-- ---- exports
+
+-- ` as b` of `export { a as b }`
+unfoldable pub exported_as : Option ModuleExportName → Part
+exported_as None rest = rest
+exported_as (Some n) rest = as_word (module_export_name n rest)
+
+unfoldable pub export_named_parts : ExportNamedSpecifier → Part
+export_named_parts n rest = leading_comments n.span.lo (start_of n.span (module_export_name n.orig (exported_as n.exported (end_of n.span rest))))
+
+-- `a as b`
+unfoldable pub export_named_specifier : ExportNamedSpecifier → Part
+export_named_specifier n rest = if n.is_type_only then unsupported rest else export_named_parts n rest
+
+-- among braces only such stand; one for a default isn't supported by swc either
+unfoldable pub export_specifier : ExportSpecifier → Part
+export_specifier (exported.Named n) rest = export_named_specifier n rest
+export_specifier (exported.Namespace n) rest = bad_shape rest
+export_specifier (exported.Default n) rest = unsupported rest
+
+abbrev pub export_list : Span → List ExportSpecifier → Part
+export_list parent ns = list named_format parent (map (child_of export_specifier_span (λ n place. export_specifier n)) ns)
+
+-- `{ a, b as c }`
+unfoldable pub export_braces : Span → List ExportSpecifier → Part
+export_braces parent ns rest = punct (codes "{") (export_list parent ns (punct (codes "}") rest))
+
+-- `* as a`
+unfoldable pub export_namespace : ExportNamespaceSpecifier → Part
+export_namespace n rest = leading_comments n.span.lo (start_of n.span (star_as (module_export_name n.name (end_of n.span rest))))
+
+-- what stands after it: `, { b }`
+unfoldable pub more_exports : Span → List ExportSpecifier → Part
+more_exports parent [] rest = rest
+more_exports parent (n ∷ ns) rest = punct (codes ",") (formatting_space (export_braces parent (n ∷ ns) rest))
+
+unfoldable pub exported_star : ExportSpecifier → Part
+exported_star (exported.Namespace n) rest = export_namespace n rest
+exported_star n rest = bad_shape rest
+
+-- it is first
+unfoldable pub begins_star : List ExportSpecifier → Bool
+begins_star (exported.Namespace n ∷ ns) = true
+begins_star ns = false
+
+unfoldable pub star_exports : Span → List ExportSpecifier → Part
+star_exports parent [] rest = rest
+star_exports parent (n ∷ ns) rest = exported_star n (more_exports parent ns rest)
+
+unfoldable pub export_clause : Span → List ExportSpecifier → Part
+export_clause parent ns rest = if begins_star ns then star_exports parent ns rest else export_braces parent ns rest
+
+-- it ends with a name: `export * as a from 'b'`, minified `export*as a from"b"`
+unfoldable pub ends_with_name : List ExportSpecifier → Bool
+ends_with_name (exported.Namespace n ∷ []) = true
+ends_with_name ns = false
+
+-- ` from 'a'` with its attributes, where it is so
+unfoldable pub from_clause : {X : Type 0} → (X → Place → Part) → Option (ObjectLitBox X) → Bool → Option Str → Part
+from_clause items with_ needed None rest = rest
+from_clause items with_ needed (Some n) rest = blank needed (from_word (str_lit n (attributes items with_ rest)))
+
+unfoldable pub export_tail : {X : Type 0} → (X → Place → Part) → NamedExport X → Part
+export_tail items n rest = export_clause n.span n.specifiers.items (from_clause items n.with_ (ends_with_name n.specifiers.items) n.src (semi (end_of n.span rest)))
+
+-- `export { a, b as c } from 'd';`
+unfoldable pub export_parts : {X : Type 0} → (X → Place → Part) → NamedExport X → Part
+export_parts items n rest = leading_comments n.span.lo (start_of n.span (keyword None (codes "export") (formatting_space (export_tail items n rest))))
+
+unfoldable pub export_named : {X : Type 0} → (X → Place → Part) → NamedExport X → Part
+export_named items n rest = if n.type_only then unsupported rest else export_parts items n rest
+
+-- `* from 'a';`
+unfoldable pub all_tail : {X : Type 0} → (X → Place → Part) → ExportAll X → Part
+all_tail items n rest = punct (codes "*") (formatting_space (from_word (source_end items n.src n.with_ n.span rest)))
+
+unfoldable pub all_parts : {X : Type 0} → (X → Place → Part) → ExportAll X → Part
+all_parts items n rest = leading_comments n.span.lo (start_of n.span (keyword None (codes "export") (formatting_space (all_tail items n rest))))
+
+-- `export * from 'a';`
+unfoldable pub export_all : {X : Type 0} → (X → Place → Part) → ExportAll X → Part
+export_all items n rest = if n.type_only then unsupported rest else all_parts items n rest
+
+-- `export let a = b;`; decorators of a class stand before the word
+unfoldable pub export_decl : {X : Type 0} → (X → Place → Part) → ExportDecl X → Part
+export_decl items n rest = start_of n.span (items n.decl.node.value ExportedHead (keyword None (codes "export") (space (items n.decl.node.value ExportedTail rest))))
+
+-- `class {}` of `export default class {}`
+unfoldable pub default_decl : {X : Type 0} → (X → Answers) → (X → Place → Part) → DefaultDecl X → Part
+default_decl asks items (default_decls.Class n) rest = class_expr asks items n rest
+default_decl asks items (default_decls.Fn n) rest = fn_expr asks items n rest
+default_decl asks items (default_decls.TsInterfaceDecl n) rest = unsupported rest
+
+-- `export default`
+unfoldable pub export_default : Part
+export_default rest = keyword None (codes "export") (space (keyword None (codes "default") rest))
+
+unfoldable pub export_default_decl : {X : Type 0} → (X → Answers) → (X → Place → Part) → ExportDefaultDecl X → Part
+export_default_decl asks items n rest = leading_comments n.span.lo (start_of n.span (export_default (space (default_decl asks items n.decl rest))))
+
+-- `export default a;`, minified `export default[a]`
+unfoldable pub export_default_expr : {X : Type 0} → (X → Answers) → (X → Place → Part) → ExportDefaultExpr X → Part
+export_default_expr asks items n rest = start_of n.span (export_default (blank (asks n.expr.node.value).starts (items n.expr.node.value Plain (semi (end_of n.span rest)))))
+
+-- ---- all of them
+
+unfoldable pub module_decl_by : {X : Type 0} → (X → Answers) → (X → Place → Part) → ModuleDecl X → Part
+module_decl_by asks items (module_decls.Import n) rest = import_decl items n rest
+module_decl_by asks items (module_decls.ExportDecl n) rest = export_decl items n rest
+module_decl_by asks items (module_decls.ExportNamed n) rest = export_named items n rest
+module_decl_by asks items (module_decls.ExportDefaultDecl n) rest = export_default_decl asks items n rest
+module_decl_by asks items (module_decls.ExportDefaultExpr n) rest = export_default_expr asks items n rest
+module_decl_by asks items (module_decls.ExportAll n) rest = export_all items n rest
+-- what TypeScript adds
+module_decl_by asks items n rest = unsupported rest
+
+-- each on a line of its own
+unfoldable pub module_decl : {X : Type 0} → (X → Answers) → (X → Place → Part) → ModuleDecl X → Part
+module_decl asks items n rest =
+    leading_comments (module_decl_span n).lo (module_decl_by asks items n (trailing_comments true (module_decl_span n).hi (formatting_line rest)))
+
+unfoldable pub module_item_by : {X : Type 0} → (X → Place → Part) → ModuleItem X → Part
+module_item_by items (module_items.ModuleDecl n) rest = items n.node.value Plain rest
+module_item_by items (module_items.Stmt n) rest = items n.node.value Plain rest
+
+unfoldable pub module_item : {X : Type 0} → (X → Answers) → (X → Place → Part) → ModuleItem X → Part
+module_item asks items n rest =
+    leading_comments (module_item_span (place_of asks) n).lo (module_item_by items n (trailing_comments true (module_item_span (place_of asks) n).hi rest))

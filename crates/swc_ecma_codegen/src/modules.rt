@@ -1,0 +1,231 @@
+//! Modules: their items, and what imports and exports share.
+
+ghost use Rattle.std.specs.Prelude.{◌≡◌, OnOk};
+ghost use Rattle.swc_ecma_codegen_base.specs.Run.{Emits};
+ghost use Rattle.swc_ecma_codegen_base.specs.Choices.{attributes_word};
+ghost use Rattle.swc_ecma_codegen.specs.Modules.{named_format, module_export_name, from_word, as_word, star_as, module_decl_by, module_decl, module_item_by, module_item, attributes, source_end};
+ghost use Rattle.swc_ecma_codegen.specs.Lists.{in_order};
+ghost use Rattle.swc_ecma_codegen.specs.Programs.{held_item, whole_module};
+ghost use Rattle.swc_ecma_codegen.specs.View.{state_of};
+
+use crate::emitter::Emitter;
+use crate::nodes::{EmitAt, Held, Place};
+use crate::places::module_item_place;
+use swc_ecma_codegen_ast::ListFormat;
+use swc_ecma_codegen_ast::comments::Comments;
+use swc_ecma_codegen_ast::mapper::SourceMapper;
+use swc_ecma_codegen_common::{Answer, Span};
+use swc_ecma_codegen_literals::Punctuator;
+use swc_ecma_codegen_spans::Spanned;
+use swc_ecma_codegen_text_writer::WriteJs;
+use swc_ecma_codegen_tree::{
+    ExportAll, ExportDecl, ExportDefaultDecl, ExportDefaultExpr, Module, ModuleDecl,
+    ModuleExportName, ModuleItem, ModuleItemBox, ObjectLitBox, Str,
+};
+
+/// The format of the names of imports and exports.
+pub(crate) fn named_format() -> ListFormat
+    ensures { result.0 ≡ named_format }
+{
+    ListFormat::NamedImportsOrExportsElements
+}
+
+impl EmitAt for ModuleExportName {
+    ghost items = { λ n _. module_export_name n };
+
+    #[tactic(auto, unfolding(crate::specs::Modules::module_export_name))]
+    fn emit_at<W: WriteJs, S: SourceMapper, C: Comments>(
+        &self,
+        e: &mut Emitter<'_, W, S, C>,
+        place: Place,
+    ) -> Answer {
+        match self {
+            ModuleExportName::Ident(node) => node.emit_at(e, Place::Plain),
+            ModuleExportName::Str(node) => node.emit_at(e, Place::Plain),
+        }
+    }
+}
+
+impl<N: Held> EmitAt for ModuleDecl<N> {
+    ghost items = { λ n _. module_decl N.answers N.items n };
+
+    #[tactic(auto, unfolding(crate::specs::Modules::module_decl))]
+    fn emit_at<W: WriteJs, S: SourceMapper, C: Comments>(
+        &self,
+        e: &mut Emitter<'_, W, S, C>,
+        place: Place,
+    ) -> Answer {
+        let span = self.span();
+        e.leading_comments(span.lo)?;
+        e.module_decl_by(self)?;
+        e.trailing_comments(span.hi, true)?;
+        e.formatting_line()?;
+        Ok(())
+    }
+}
+
+impl<N: Held> EmitAt for ModuleItem<N> {
+    ghost items = { λ n _. module_item N.answers N.items n };
+
+    #[tactic(auto, unfolding(crate::specs::Modules::module_item))]
+    fn emit_at<W: WriteJs, S: SourceMapper, C: Comments>(
+        &self,
+        e: &mut Emitter<'_, W, S, C>,
+        place: Place,
+    ) -> Answer {
+        let span = module_item_place(self);
+        e.leading_comments(span.lo)?;
+        e.module_item_by(self)?;
+        e.trailing_comments(span.hi, true)?;
+        Ok(())
+    }
+}
+
+impl<N: Held> EmitAt for Module<N> {
+    ghost items = { λ n _. whole_module N.items n };
+
+    #[tactic(auto, unfolding(crate::specs::Programs::whole_module, crate::specs::Programs::module_body))]
+    fn emit_at<W: WriteJs, S: SourceMapper, C: Comments>(
+        &self,
+        e: &mut Emitter<'_, W, S, C>,
+        place: Place,
+    ) -> Answer {
+        if self.shebang.is_some() {
+            return e.unsupported();
+        }
+        e.leading_comments(self.span.lo)?;
+        e.start_if_empty(&self.body, self.span)?;
+        e.module_items(&self.body)?;
+        e.trailing_comments(self.span.hi, true)?;
+        e.last_semi()?;
+        Ok(())
+    }
+}
+
+impl<W: WriteJs, S: SourceMapper, C: Comments> Emitter<'_, W, S, C> {
+    /// Writes items, one after another.
+    #[tactic(auto, using(crate::proofs::Steps::in_order_next), unfolding(crate::specs::Lists::in_order))]
+    fn module_items<N: EmitAt>(&mut self, nodes: &[ModuleItemBox<N>]) -> Answer
+        ensures items { Emits (in_order (held_item N.items) nodes.now) (state_of S.lines W.sheet self.old) (state_of S.lines W.sheet self.new) result }
+        ensures level { OnOk result ((W.sheet self.new.wr).indentation ≡ (W.sheet self.old.wr).indentation) }
+    {
+        for node in nodes {
+            node.held().emit_at(self, Place::Plain)?;
+        }
+        Ok(())
+    }
+
+    /// Writes `from` and a blank.
+    #[tactic(auto, unfolding(crate::specs::Modules::from_word))]
+    pub(crate) fn from_word(&mut self) -> Answer
+        ensures items { Emits (from_word) (state_of S.lines W.sheet self.old) (state_of S.lines W.sheet self.new) result }
+        ensures level { OnOk result ((W.sheet self.new.wr).indentation ≡ (W.sheet self.old.wr).indentation) }
+    {
+        self.keyword(None, "from")?;
+        self.formatting_space()?;
+        Ok(())
+    }
+
+    /// Writes `as` between blanks.
+    #[tactic(auto, unfolding(crate::specs::Modules::as_word))]
+    pub(crate) fn as_word(&mut self) -> Answer
+        ensures items { Emits (as_word) (state_of S.lines W.sheet self.old) (state_of S.lines W.sheet self.new) result }
+        ensures level { OnOk result ((W.sheet self.new.wr).indentation ≡ (W.sheet self.old.wr).indentation) }
+    {
+        self.space()?;
+        self.keyword(None, "as")?;
+        self.space()?;
+        Ok(())
+    }
+
+    /// Writes `* as` and a blank.
+    #[tactic(auto, unfolding(crate::specs::Modules::star_as))]
+    pub(crate) fn star_as(&mut self) -> Answer
+        ensures items { Emits (star_as) (state_of S.lines W.sheet self.old) (state_of S.lines W.sheet self.new) result }
+        ensures level { OnOk result ((W.sheet self.new.wr).indentation ≡ (W.sheet self.old.wr).indentation) }
+    {
+        self.punct(Punctuator::Star)?;
+        self.formatting_space()?;
+        self.keyword(None, "as")?;
+        self.space()?;
+        Ok(())
+    }
+
+    /// Writes the word before import attributes, by the settings.
+    #[tactic(auto, using(crate::proofs::Asked::attributes_by_assert, crate::proofs::Asked::attributes_by_with))]
+    fn attributes_word(&mut self) -> Answer
+        ensures items { Emits (attributes_word) (state_of S.lines W.sheet self.old) (state_of S.lines W.sheet self.new) result }
+        ensures level { OnOk result ((W.sheet self.new.wr).indentation ≡ (W.sheet self.old.wr).indentation) }
+    {
+        if self.cfg.emit_assert_for_import_attributes {
+            return self.keyword(None, "assert");
+        }
+        self.keyword(None, "with")
+    }
+
+    /// Writes `with { type: 'json' }` behind a blank, where there is such.
+    #[tactic(auto, unfolding(crate::specs::Modules::attributes))]
+    pub(crate) fn attributes<N: Held>(&mut self, with_: &Option<ObjectLitBox<N>>) -> Answer
+        ensures items { Emits (attributes N.items with_.now) (state_of S.lines W.sheet self.old) (state_of S.lines W.sheet self.new) result }
+        ensures level { OnOk result ((W.sheet self.new.wr).indentation ≡ (W.sheet self.old.wr).indentation) }
+    {
+        match with_ {
+            Some(with_) => {
+                self.formatting_space()?;
+                self.attributes_word()?;
+                self.formatting_space()?;
+                with_.held().emit_at(self, Place::Plain)
+            }
+            None => Ok(()),
+        }
+    }
+
+    /// Writes `'b' with { type: 'json' };`, the end of an import or an export.
+    #[tactic(auto, unfolding(crate::specs::Modules::source_end))]
+    pub(crate) fn source_end<N: Held>(
+        &mut self,
+        src: &Str,
+        with_: &Option<ObjectLitBox<N>>,
+        span: Span,
+    ) -> Answer
+        ensures items { Emits (source_end N.items src.now with_.now span) (state_of S.lines W.sheet self.old) (state_of S.lines W.sheet self.new) result }
+        ensures level { OnOk result ((W.sheet self.new.wr).indentation ≡ (W.sheet self.old.wr).indentation) }
+    {
+        src.emit_at(self, Place::Plain)?;
+        self.attributes(with_)?;
+        self.semi()?;
+        self.end_of(span)?;
+        Ok(())
+    }
+
+    /// Writes an import or an export by its variant.
+    #[tactic(auto, unfolding(crate::specs::Modules::module_decl_by))]
+    fn module_decl_by<N: Held>(&mut self, node: &ModuleDecl<N>) -> Answer
+        ensures items { Emits (module_decl_by N.answers N.items node.now) (state_of S.lines W.sheet self.old) (state_of S.lines W.sheet self.new) result }
+        ensures level { OnOk result ((W.sheet self.new.wr).indentation ≡ (W.sheet self.old.wr).indentation) }
+    {
+        match node {
+            ModuleDecl::Import(node) => node.emit_at(self, Place::Plain),
+            ModuleDecl::ExportDecl(node) => node.emit_at(self, Place::Plain),
+            ModuleDecl::ExportNamed(node) => node.emit_at(self, Place::Plain),
+            ModuleDecl::ExportDefaultDecl(node) => node.emit_at(self, Place::Plain),
+            ModuleDecl::ExportDefaultExpr(node) => node.emit_at(self, Place::Plain),
+            ModuleDecl::ExportAll(node) => node.emit_at(self, Place::Plain),
+            ModuleDecl::TsImportEquals(_)
+            | ModuleDecl::TsExportAssignment(_)
+            | ModuleDecl::TsNamespaceExport(_) => self.unsupported(),
+        }
+    }
+
+    /// Writes an item by its variant.
+    #[tactic(auto, unfolding(crate::specs::Modules::module_item_by))]
+    fn module_item_by<N: Held>(&mut self, node: &ModuleItem<N>) -> Answer
+        ensures items { Emits (module_item_by N.items node.now) (state_of S.lines W.sheet self.old) (state_of S.lines W.sheet self.new) result }
+        ensures level { OnOk result ((W.sheet self.new.wr).indentation ≡ (W.sheet self.old.wr).indentation) }
+    {
+        match node {
+            ModuleItem::ModuleDecl(node) => node.held().emit_at(self, Place::Plain),
+            ModuleItem::Stmt(node) => node.held().emit_at(self, Place::Plain),
+        }
+    }
+}

@@ -1,0 +1,79 @@
+-- What is written of what a link holds, by its sort, and what it reads as.
+use Rattle.std.proofs.Common.{◌≡◌, sym, ap, ◌∙◌, subst, Option, Some, None, Result}
+use Rattle.swc_ecma_codegen_common.specs.declared.errors.Refusal.{Refusal}
+use Rattle.swc_ecma_codegen_tree.specs.declared.links.AnyNode.{AnyNode}
+use Rattle.swc_ecma_codegen_tree.specs.declared.links.AnyNode.TheVariants as whole
+use Rattle.swc_ecma_codegen_tree.specs.declared.exprs.MemberExpr.{MemberExpr}
+use Rattle.swc_ecma_codegen_tree.specs.declared.parts.ExprPart.{ExprPart}
+use Rattle.swc_ecma_codegen_tree.specs.declared.parts.ExprPart.TheVariants as expr_parts
+use Rattle.swc_ecma_codegen_tree.specs.declared.parts.StmtPart.TheVariants as stmt_parts
+use Rattle.swc_ecma_codegen_tree.specs.declared.pats.AssignTarget.{AssignTarget}
+use Rattle.swc_ecma_codegen_tree.specs.declared.programs.ModuleItem.{ModuleItem}
+use Rattle.swc_ecma_codegen_ast.specs.ExprPhrases.{member_expr}
+use Rattle.swc_ecma_codegen_ast.specs.AssignPhrases as target_lists
+use Rattle.swc_ecma_codegen_ast.specs.PartPhrases as part_lists
+use Rattle.swc_ecma_codegen_ast.specs.TreePhrases.{node_phrase, phrase}
+use Rattle.swc_ecma_codegen_ast.specs.declared.roles.Role.TheVariants.{MemberExpression, AssignmentTarget}
+use Rattle.swc_ecma_codegen_ast.proofs.TreeLaws.{phrase_member_expr, phrase_expr_part}
+use Rattle.swc_ecma_codegen_base.specs.Run.{Part, State, Follows, nothing}
+use Rattle.swc_ecma_codegen.specs.declared.nodes.Place.{Place}
+use Rattle.swc_ecma_codegen.specs.declared.nodes.Place.TheVariants.{Plain}
+use Rattle.swc_ecma_codegen.specs.Exprs.{member, member_at}
+use Rattle.swc_ecma_codegen.specs.Answers.{any_answers}
+use Rattle.swc_ecma_codegen.specs.Targets.{assign_target}
+use Rattle.swc_ecma_codegen.specs.Modules.{module_item}
+use Rattle.swc_ecma_codegen.specs.Parts.{expr_part, stmt_part}
+use Rattle.swc_ecma_codegen.specs.Lists.{if_some_at}
+use Rattle.swc_ecma_codegen.specs.Roots.{Root, OfExpr, OfStmt, OfItem, OfModule, OfScript, OfProgram, OfLink, root_items}
+use Rattle.swc_ecma_codegen_laws.specs.HeldRoots.{IsHeld}
+use Rattle.swc_ecma_codegen.specs.Tree.{any_items}
+use Rattle.swc_ecma_codegen.proofs.Knots.{any_items_expr, any_items_stmt, any_items_member_expr, any_items_expr_part, any_items_stmt_part}
+
+-- ---- what is written
+
+item_written : (n : AnyNode) (i : ModuleItem AnyNode) → n ≡ whole.StmtPart (stmt_parts.ModuleItem i) → any_items n Plain ≡ module_item any_answers any_items i
+unfolding stmt_part
+item_written n i h = ap (λ z. any_items z Plain) h ∙ any_items_stmt_part (stmt_parts.ModuleItem i) Plain
+
+-- a link writes what it holds
+pub held_written : (n : AnyNode) (root : Root) → IsHeld n root → any_items n Plain ≡ root_items root
+held_written n (OfExpr e) h = ap (λ z. any_items z Plain) h ∙ any_items_expr e Plain
+held_written n (OfStmt s) h = ap (λ z. any_items z Plain) h ∙ any_items_stmt s Plain
+held_written n (OfLink m role) h = ap (λ z. any_items z Plain) h.0 ∙ ap (any_items m) (sym h.1)
+held_written n (OfItem i) h = item_written n i h
+held_written n (OfModule m) h = absurd h
+held_written n (OfScript s) h = absurd h
+held_written n (OfProgram p) h = absurd h
+
+pub member_written : (n : AnyNode) (m : MemberExpr AnyNode) → n ≡ whole.MemberExpr m → any_items n Plain ≡ member any_items m
+unfolding member_at
+member_written n m h = ap (λ z. any_items z Plain) h ∙ any_items_member_expr m Plain
+
+part_written : (n : AnyNode) (m : ExprPart AnyNode) → n ≡ whole.ExprPart m → any_items n Plain ≡ expr_part any_answers any_items m Plain
+part_written n m h = ap (λ z. any_items z Plain) h ∙ any_items_expr_part m Plain
+
+pub assign_target_written : (n : AnyNode) (m : AssignTarget AnyNode) → n ≡ whole.ExprPart (expr_parts.AssignTarget m) → any_items n Plain ≡ assign_target any_answers any_items m
+unfolding expr_part
+assign_target_written n m h = part_written n (expr_parts.AssignTarget m) h
+
+pub some_written : {A : Type 0} (items : A → Place → Part) (o : Option A) (x : A) → o ≡ Some x → if_some_at items o Plain ≡ items x Plain
+unfolding if_some_at
+some_written items o x h = ap (λ z. if_some_at items z Plain) h ∙ (λ i. λ rest. items x Plain rest)
+
+pub none_written : {A : Type 0} (items : A → Place → Part) (o : Option A) → o ≡ None → if_some_at items o Plain ≡ (λ rest. rest)
+unfolding if_some_at
+none_written items o h = ap (λ z. if_some_at items z Plain) h ∙ (λ i. λ rest. rest)
+
+-- what is done of one is done of the other
+pub follows_part : (p q : Part) (a b : State) (r : Result (Unit {0}) Refusal) → p ≡ q → Follows (p nothing) a b r → Follows (q nothing) a b r
+follows_part p q a b r e h = subst (λ z. Follows (z nothing) a b r) e h
+
+-- ---- what it reads as
+
+pub member_read : (n : AnyNode) (m : MemberExpr AnyNode) → n ≡ whole.MemberExpr m → phrase n MemberExpression ≡ member_expr phrase m
+unfolding node_phrase
+member_read n m h = ap (λ z. phrase z MemberExpression) h ∙ phrase_member_expr m MemberExpression
+
+pub assign_target_read : (n : AnyNode) (m : AssignTarget AnyNode) → n ≡ whole.ExprPart (expr_parts.AssignTarget m) → phrase n AssignmentTarget ≡ target_lists.assign_target phrase m
+unfolding node_phrase part_lists.expr_part
+assign_target_read n m h = ap (λ z. phrase z AssignmentTarget) h ∙ phrase_expr_part (expr_parts.AssignTarget m) AssignmentTarget

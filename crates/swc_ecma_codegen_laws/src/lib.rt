@@ -1,0 +1,148 @@
+//! Laws for callers. Each is the contract of a function that does nothing, or no more than call what it speaks of, and
+//! takes no memory: a proof cites the function, and a program has no need to call it.
+//!
+//! What is printed of a well-formed tree reads back as the tree's tokens, by longest match: `a < !--b` isn't printed as
+//! the start of a comment, nor `a - -b` as a decrement.
+#![tactic(auto)]
+
+ghost use Rattle.std.specs.Prelude.{◌≡◌, ℕ, Bool, true, false, if◌then◌else◌, List, [], ◌∷◌, OnOk, Ok, Err, Some, None};
+ghost use Rattle.swc_ecma_codegen_common.specs.declared.errors.Refusal.TheVariants as refusals;
+ghost use Rattle.swc_ecma_codegen_common.specs.Refusals.{in_short};
+ghost use Rattle.std.specs.String.{string_bytes};
+ghost use Rattle.swc_ecma_codegen_tree.specs.declared.lits.Str.{Str};
+ghost use Rattle.swc_ecma_codegen_util.specs.declared.config.Config.{Config};
+ghost use Rattle.swc_ecma_codegen_ast.specs.Tokens.{Token};
+ghost use Rattle.swc_ecma_codegen_ast.specs.Phrases.{Phrase, Generates, is_possible};
+ghost use Rattle.swc_ecma_codegen_ast.specs.Settings.{Settings};
+ghost use Rattle.swc_ecma_codegen_ast.specs.Layouts.{AreAlike, AreSameBut, IsWritten};
+ghost use Rattle.swc_ecma_codegen_ast.specs.TreePhrases.{expr_phrase, stmt_phrase};
+ghost use Rattle.swc_ecma_codegen_text_writer.specs.Sheet.{HoldsNone};
+ghost use Rattle.swc_ecma_codegen_text_writer.specs.View.{new_sheet};
+ghost use Rattle.swc_ecma_codegen_base.specs.declared.refusals.Unprintable.TheVariants.{NameOutOfTarget};
+ghost use Rattle.swc_ecma_codegen_ast.specs.SourceLines.{Lines};
+ghost use Rattle.swc_ecma_codegen_base.specs.Run.{Env, Follows, State, nothing, makes_text, start, steps_in, steps_of, unprintable_in};
+ghost use Rattle.swc_ecma_codegen_base.specs.Lits.{prints_raw, string_at, value_text};
+ghost use Rattle.swc_ecma_codegen_base.specs.Scripts.{value_strings};
+ghost use Rattle.swc_ecma_codegen_base.specs.Targets.{is_out};
+ghost use Rattle.swc_ecma_codegen_base.specs.Written.{IsLineEnd, IsNew, AddsReading, all_indent};
+ghost use Rattle.swc_ecma_codegen_base.specs.Ready.{IsReady};
+ghost use Rattle.swc_ecma_codegen_util.specs.Starts.{expr_starts, any_starts};
+ghost use Rattle.swc_ecma_codegen.specs.declared.nodes.Place.TheVariants.{Plain};
+ghost use Rattle.swc_ecma_codegen.specs.Answers.{any_answers};
+ghost use Rattle.swc_ecma_codegen.specs.Exprs.{expr as expr_items};
+ghost use Rattle.swc_ecma_codegen.specs.Stmts.{stmt as stmt_items};
+ghost use Rattle.swc_ecma_codegen.specs.Tree.{any_items};
+ghost use Rattle.swc_ecma_codegen_base.specs.Escapes.{may_make_text};
+ghost use Rattle.swc_ecma_codegen_base.specs.Ascii.{keeps_other, may_keep_other, WantsAscii};
+ghost use Rattle.swc_ecma_codegen.specs.Roots.{Root, root_items, root_phrase, is_well_formed_root};
+ghost use Rattle.swc_ecma_codegen_laws.specs.FirstTokens.{joins_a_word};
+ghost use Rattle.swc_ecma_codegen.specs.View.{state_of};
+
+mod links;
+
+pub use crate::links::{
+    emitted_assign_target_box_reads, emitted_block_stmt_box_reads, emitted_box_reads,
+    emitted_decl_box_reads, emitted_expr_box_reads, emitted_function_box_reads,
+    emitted_member_expr_box_reads, emitted_object_lit_box_reads, emitted_option_reads,
+    emitted_pat_box_reads, emitted_prop_box_reads, emitted_prop_name_box_reads, emitted_ref_reads,
+    emitted_stmt_box_reads, emitted_var_decl_box_reads, links_write_members, links_write_targets,
+    links_write_their_roots,
+};
+use swc_ecma_codegen::{Emitter, Node};
+use swc_ecma_codegen_ast::comments::Comments;
+use swc_ecma_codegen_ast::mapper::SourceMapper;
+pub use swc_ecma_codegen_ast::reading_laws::{
+    one_reading, reduced_tokens_read, spaced_tokens_read,
+};
+use swc_ecma_codegen_common::Result;
+use swc_ecma_codegen_text_writer::WriteJs;
+use swc_ecma_codegen_tree::{Expr, Stmt};
+use swc_ecma_codegen_util::util::StartsWithAlphaNum;
+
+/// What `emit_with` of an expression adds to the text reads as one of the expression's token lists.
+pub fn emitted_expr_reads<W: WriteJs, S: SourceMapper, C: Comments>(
+    expr: &Expr,
+    e: &mut Emitter<'_, W, S, C>,
+) -> Result
+    // It is what `emit_with` does.
+    ensures items { Follows (expr_items any_answers any_items expr.now Plain nothing) (state_of S.lines W.sheet e.old) (state_of S.lines W.sheet e.new) (in_short result) }
+    ensures reads { is_possible (expr_phrase expr.now) ≡ true → IsNew (state_of S.lines W.sheet e.old) → OnOk result (AddsReading e.old.cfg (expr_phrase expr.now) (W.sheet e.old.wr) (W.sheet e.new.wr)) }
+{
+    expr.emit_with(e)
+}
+
+/// What `emit_with` of a statement adds to the text reads as one of the statement's token lists.
+pub fn emitted_stmt_reads<W: WriteJs, S: SourceMapper, C: Comments>(
+    stmt: &Stmt,
+    e: &mut Emitter<'_, W, S, C>,
+) -> Result
+    // It is what `emit_with` does.
+    ensures items { Follows (stmt_items any_answers any_items stmt.now nothing) (state_of S.lines W.sheet e.old) (state_of S.lines W.sheet e.new) (in_short result) }
+    ensures reads { is_possible (stmt_phrase stmt.now) ≡ true → IsNew (state_of S.lines W.sheet e.old) → OnOk result (AddsReading e.old.cfg (stmt_phrase stmt.now) (W.sheet e.old.wr) (W.sheet e.new.wr)) }
+{
+    stmt.emit_with(e)
+}
+
+/// A new emitter over a new `JsWriter`, whose lines end with LF or with CR and LF, is one that these laws speak of; and
+/// after `set_indent_str` of blanks and tabs, and inside `omit_trailing_semi`. It is ready, whatever its lines end with. Under
+/// `ascii_only` it is one that is to write ASCII.
+pub fn new_emitter_reads()
+    ensures new { (lines : Lines) (config : Config) (bytes line_end : List ℕ) → IsLineEnd line_end → IsNew (start lines config (new_sheet bytes line_end)) }
+    ensures holding { (lines : Lines) (config : Config) (bytes line_end : List ℕ) → IsLineEnd line_end → IsNew (start lines config (record (new_sheet bytes line_end) { semicolons = HoldsNone })) }
+    ensures ready { (lines : Lines) (config : Config) (bytes line_end : List ℕ) → IsReady (start lines config (new_sheet bytes line_end)) }
+    ensures ascii { (lines : Lines) (config : Config) (bytes line_end : List ℕ) → config.ascii_only ≡ true → IsLineEnd line_end → WantsAscii (start lines config (new_sheet bytes line_end)) }
+    ensures indented { (lines : Lines) (config : Config) (bytes line_end indent : List ℕ) → IsLineEnd line_end → all_indent indent ≡ true → IsNew (start lines config (record (new_sheet bytes line_end) { indent_text = indent })) }
+{}
+
+/// Where an expression begins with a word, a name or a number, by the first token of a list that
+/// syntax gives it, `starts_with_alpha_num` is true: of `a + b`, `typeof a` and `this.a`, but not only of these.
+#[tactic(auto, using(crate::proofs::FirstTokens::first_told))]
+pub fn first_token_is_told(expr: &Expr) -> bool
+    // It is what `starts_with_alpha_num` answers.
+    ensures answer { result ≡ expr_starts any_starts expr.now }
+    ensures told { (settings : Settings) (first : Token) (rest : List Token) → Generates settings (expr_phrase expr.now) (first ∷ rest) → joins_a_word first.kind ≡ true → result ≡ true }
+{
+    expr.starts_with_alpha_num()
+}
+
+/// No step of an emission of a well-formed tree makes a text anew, in memory, where no name of the tree holds a backslash, or
+/// isn't ASCII under `ascii_only`, and no number, no big integer and no string stands in it, over a writer that leaves out
+/// U+0000 after a backslash: what the clauses `cause`, `no_memory` and `succeeds` of `emit_with` ask of memory. Of a tree with
+/// such, these clauses speak of its steps: one takes memory where the text of a literal isn't its raw.
+#[tactic(auto, using(swc_ecma_codegen::proofs::TreeReads::root_remakes))]
+pub fn plain_trees_take_no_memory()
+    ensures { (root : Root) (s : State) → is_well_formed_root root ≡ true → s.env.keeps_invalid ≡ false → may_make_text s.env.config (root_phrase root) ≡ false → makes_text (steps_of (steps_in (root_items root) s)) ≡ false }
+{}
+
+/// No text stands as it is in the tree and isn't ASCII, among the steps of an emission of a well-formed tree whose names can
+/// all be written, where each regular expression of the tree is ASCII and no string of it reads `use strict`: what the
+/// clause `ascii` of `emit_with` asks. With such a string it asks that this one has no backslash, or is ASCII.
+#[tactic(auto, using(swc_ecma_codegen::proofs::TreeReads::root_keeps))]
+pub fn plain_trees_keep_no_other_text()
+    ensures { (root : Root) (s : State) → is_well_formed_root root ≡ true → s.env.keeps_invalid ≡ false → is_out s.env.config (root_phrase root) ≡ false → may_keep_other (root_phrase root) ≡ false → keeps_other (steps_of (steps_in (root_items root) s)) ≡ false }
+{}
+
+/// A string literal is printed by its value exactly where its raw isn't printed: it is one of the strings that the clause
+/// `inline` of `emit_with` speaks of.
+#[tactic(auto, using(swc_ecma_codegen_base::proofs::StringPrints::value_strings_told))]
+pub fn strings_by_value_are_told()
+    ensures { (env : Env) (in_lit : Bool) (n : Str) → value_strings (steps_of (string_at in_lit n nothing env)) ≡ (if prints_raw env.config n then [] else value_text env.config (string_bytes n.value) ∷ []) }
+{}
+
+/// An emission of a well-formed tree comes to a node that can't be printed exactly where some name of the tree is to be
+/// written in ASCII and can't be for the target. So it answers `NameOutOfTarget` for no other cause, and a tree that holds
+/// such a name is never printed as a whole.
+#[tactic(auto, using(swc_ecma_codegen::proofs::TreeReads::root_ends, swc_ecma_codegen::proofs::TreeReads::root_in_target, swc_ecma_codegen::proofs::TreeReads::root_out_of_target))]
+pub fn names_out_of_target_are_refused()
+    ensures steps { (root : Root) (s : State) → is_well_formed_root root ≡ true → s.env.keeps_invalid ≡ false → unprintable_in (steps_in (root_items root) s) ≡ (if is_out s.env.config (root_phrase root) then Some NameOutOfTarget else None) }
+    ensures printed { (root : Root) (a b : State) → is_well_formed_root root ≡ true → a.env.keeps_invalid ≡ false → Follows (root_items root nothing) a b (Ok tt) → is_out a.env.config (root_phrase root) ≡ false }
+    ensures refused { (root : Root) (a b : State) → is_well_formed_root root ≡ true → a.env.keeps_invalid ≡ false → Follows (root_items root nothing) a b (Err refusals.NameOutOfTarget) → is_out a.env.config (root_phrase root) ≡ true }
+{}
+
+/// The lists of a tree under settings that differ in whether they minify are the same but for semicolons that end a
+/// statement, commas and pairs of parentheses: `(a) => new B();` and minified `a=>new B`. So are those that are written of
+/// it, where a writer leaves semicolons out.
+pub fn layouts_keep_the_tokens()
+    ensures lists { (s t : Settings) (phrase : Phrase) (xs ys : List Token) → AreAlike s t → Generates s phrase xs → Generates t phrase ys → AreSameBut xs ys }
+    ensures written { (s t : Settings) (phrase : Phrase) (xs ys : List Token) → AreAlike s t → IsWritten s phrase xs → IsWritten t phrase ys → AreSameBut xs ys }
+{}

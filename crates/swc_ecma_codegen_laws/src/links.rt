@@ -1,0 +1,223 @@
+//! Laws of links, references, boxes and options, whatever links hold: `emit_with` of one writes what is written of what it
+//! holds, and where that is what is written of a root, what it adds to the text reads as that root.
+
+ghost use Rattle.std.specs.Prelude.{◌≡◌, true, false, Some, None, OnOk, IsOk};
+ghost use Rattle.swc_ecma_codegen_common.specs.Refusals.{in_short};
+ghost use Rattle.swc_ecma_codegen_tree.specs.declared.exprs.MemberExpr.{MemberExpr};
+ghost use Rattle.swc_ecma_codegen_tree.specs.declared.pats.AssignTarget.{AssignTarget};
+ghost use Rattle.swc_ecma_codegen_ast.specs.AssignPhrases.{assign_target};
+ghost use Rattle.swc_ecma_codegen_ast.specs.ExprPhrases.{member_expr};
+ghost use Rattle.swc_ecma_codegen_ast.specs.TreePhrases.{phrase};
+ghost use Rattle.swc_ecma_codegen_ast.specs.declared.roles.Role.TheVariants.{MemberExpression, AssignmentTarget};
+ghost use Rattle.swc_ecma_codegen_base.specs.Run.{Follows, nothing};
+ghost use Rattle.swc_ecma_codegen_base.specs.Written.{IsNew, AddsReading};
+ghost use Rattle.swc_ecma_codegen.specs.declared.nodes.Place.TheVariants.{Plain};
+ghost use Rattle.swc_ecma_codegen.specs.Answers.{any_answers};
+ghost use Rattle.swc_ecma_codegen.specs.Exprs.{member as member_items};
+ghost use Rattle.swc_ecma_codegen.specs.Targets.{assign_target as target_items};
+ghost use Rattle.swc_ecma_codegen.specs.Tree.{any_items};
+ghost use Rattle.swc_ecma_codegen.specs.Roots.{Root, root_items, root_phrase, is_well_formed_root};
+ghost use Rattle.swc_ecma_codegen_laws.specs.HeldRoots.{IsHeld};
+ghost use Rattle.swc_ecma_codegen.specs.View.{state_of};
+
+use swc_ecma_codegen::nodes::EmitAt;
+use swc_ecma_codegen::{Emitter, Node};
+use swc_ecma_codegen_ast::comments::Comments;
+use swc_ecma_codegen_ast::mapper::SourceMapper;
+use swc_ecma_codegen_common::Result;
+use swc_ecma_codegen_spans::Spanned;
+use swc_ecma_codegen_text_writer::WriteJs;
+use swc_ecma_codegen_tree::{
+    AnyNode, AssignTargetBox, BlockStmtBox, DeclBox, ExprBox, ExprPart, FunctionBox, MemberExprBox,
+    ObjectLitBox, PatBox, PropBox, PropNameBox, StmtBox, VarDeclBox,
+};
+
+/// What is written of what a link holds is what is written of the root that it is. So the clauses of `emit_with`, `to_code` and the
+/// laws here that speak of roots speak of links.
+#[tactic(auto, using(crate::proofs::LinkLaws::held_written))]
+pub fn links_write_their_roots()
+    ensures { (node : AnyNode) (root : Root) → IsHeld node root → any_items node Plain ≡ root_items root }
+{}
+
+/// A link that holds a member expression, in the role of one, is written and read as that.
+#[tactic(auto, using(crate::proofs::LinkLaws::member_written, crate::proofs::LinkLaws::member_read))]
+pub fn links_write_members()
+    ensures items { (node : AnyNode) (member : MemberExpr AnyNode) → node ≡ AnyNode.MemberExpr member → any_items node Plain ≡ member_items any_items member }
+    ensures reads { (node : AnyNode) (member : MemberExpr AnyNode) → node ≡ AnyNode.MemberExpr member → phrase node MemberExpression ≡ member_expr phrase member }
+{}
+
+/// A link that holds what is assigned to, in the role of such, is written and read as that.
+#[tactic(auto, using(crate::proofs::LinkLaws::assign_target_written, crate::proofs::LinkLaws::assign_target_read))]
+pub fn links_write_targets()
+    ensures items { (node : AnyNode) (target : AssignTarget AnyNode) → node ≡ AnyNode.ExprPart (ExprPart.AssignTarget target) → any_items node Plain ≡ target_items any_answers any_items target }
+    ensures reads { (node : AnyNode) (target : AssignTarget AnyNode) → node ≡ AnyNode.ExprPart (ExprPart.AssignTarget target) → phrase node AssignmentTarget ≡ assign_target phrase target }
+{}
+
+/// A link to an expression: what is written of what it holds, which reads as that.
+pub fn emitted_expr_box_reads<N: EmitAt + Spanned, W: WriteJs, S: SourceMapper, C: Comments>(
+    link: &ExprBox<N>,
+    e: &mut Emitter<'_, W, S, C>,
+) -> Result
+    ensures items { Follows (N.items link.now.node.value Plain nothing) (state_of S.lines W.sheet e.old) (state_of S.lines W.sheet e.new) (in_short result) }
+    ensures reads { (root : Root) → N.items link.now.node.value Plain ≡ root_items root → is_well_formed_root root ≡ true → IsNew (state_of S.lines W.sheet e.old) → OnOk result (AddsReading e.old.cfg (root_phrase root) (W.sheet e.old.wr) (W.sheet e.new.wr)) }
+{
+    link.emit_with(e)
+}
+
+/// A link to a statement.
+pub fn emitted_stmt_box_reads<N: EmitAt + Spanned, W: WriteJs, S: SourceMapper, C: Comments>(
+    link: &StmtBox<N>,
+    e: &mut Emitter<'_, W, S, C>,
+) -> Result
+    ensures items { Follows (N.items link.now.node.value Plain nothing) (state_of S.lines W.sheet e.old) (state_of S.lines W.sheet e.new) (in_short result) }
+    ensures reads { (root : Root) → N.items link.now.node.value Plain ≡ root_items root → is_well_formed_root root ≡ true → IsNew (state_of S.lines W.sheet e.old) → OnOk result (AddsReading e.old.cfg (root_phrase root) (W.sheet e.old.wr) (W.sheet e.new.wr)) }
+{
+    link.emit_with(e)
+}
+
+/// A link to a member expression.
+pub fn emitted_member_expr_box_reads<N: EmitAt + Spanned, W: WriteJs, S: SourceMapper, C: Comments>(
+    link: &MemberExprBox<N>,
+    e: &mut Emitter<'_, W, S, C>,
+) -> Result
+    ensures items { Follows (N.items link.now.node.value Plain nothing) (state_of S.lines W.sheet e.old) (state_of S.lines W.sheet e.new) (in_short result) }
+    ensures reads { (root : Root) → N.items link.now.node.value Plain ≡ root_items root → is_well_formed_root root ≡ true → IsNew (state_of S.lines W.sheet e.old) → OnOk result (AddsReading e.old.cfg (root_phrase root) (W.sheet e.old.wr) (W.sheet e.new.wr)) }
+{
+    link.emit_with(e)
+}
+
+/// A link to what is assigned to.
+pub fn emitted_assign_target_box_reads<
+    N: EmitAt + Spanned,
+    W: WriteJs,
+    S: SourceMapper,
+    C: Comments,
+>(link: &AssignTargetBox<N>, e: &mut Emitter<'_, W, S, C>) -> Result
+    ensures items { Follows (N.items link.now.node.value Plain nothing) (state_of S.lines W.sheet e.old) (state_of S.lines W.sheet e.new) (in_short result) }
+    ensures reads { (root : Root) → N.items link.now.node.value Plain ≡ root_items root → is_well_formed_root root ≡ true → IsNew (state_of S.lines W.sheet e.old) → OnOk result (AddsReading e.old.cfg (root_phrase root) (W.sheet e.old.wr) (W.sheet e.new.wr)) }
+{
+    link.emit_with(e)
+}
+
+/// A link to a pattern.
+pub fn emitted_pat_box_reads<N: EmitAt + Spanned, W: WriteJs, S: SourceMapper, C: Comments>(
+    link: &PatBox<N>,
+    e: &mut Emitter<'_, W, S, C>,
+) -> Result
+    ensures items { Follows (N.items link.now.node.value Plain nothing) (state_of S.lines W.sheet e.old) (state_of S.lines W.sheet e.new) (in_short result) }
+    ensures reads { (root : Root) → N.items link.now.node.value Plain ≡ root_items root → is_well_formed_root root ≡ true → IsNew (state_of S.lines W.sheet e.old) → OnOk result (AddsReading e.old.cfg (root_phrase root) (W.sheet e.old.wr) (W.sheet e.new.wr)) }
+{
+    link.emit_with(e)
+}
+
+/// A link to an object.
+pub fn emitted_object_lit_box_reads<N: EmitAt + Spanned, W: WriteJs, S: SourceMapper, C: Comments>(
+    link: &ObjectLitBox<N>,
+    e: &mut Emitter<'_, W, S, C>,
+) -> Result
+    ensures items { Follows (N.items link.now.node.value Plain nothing) (state_of S.lines W.sheet e.old) (state_of S.lines W.sheet e.new) (in_short result) }
+    ensures reads { (root : Root) → N.items link.now.node.value Plain ≡ root_items root → is_well_formed_root root ≡ true → IsNew (state_of S.lines W.sheet e.old) → OnOk result (AddsReading e.old.cfg (root_phrase root) (W.sheet e.old.wr) (W.sheet e.new.wr)) }
+{
+    link.emit_with(e)
+}
+
+/// A link to the name of a property.
+pub fn emitted_prop_name_box_reads<N: EmitAt + Spanned, W: WriteJs, S: SourceMapper, C: Comments>(
+    link: &PropNameBox<N>,
+    e: &mut Emitter<'_, W, S, C>,
+) -> Result
+    ensures items { Follows (N.items link.now.node.value Plain nothing) (state_of S.lines W.sheet e.old) (state_of S.lines W.sheet e.new) (in_short result) }
+    ensures reads { (root : Root) → N.items link.now.node.value Plain ≡ root_items root → is_well_formed_root root ≡ true → IsNew (state_of S.lines W.sheet e.old) → OnOk result (AddsReading e.old.cfg (root_phrase root) (W.sheet e.old.wr) (W.sheet e.new.wr)) }
+{
+    link.emit_with(e)
+}
+
+/// A link to a property.
+pub fn emitted_prop_box_reads<N: EmitAt + Spanned, W: WriteJs, S: SourceMapper, C: Comments>(
+    link: &PropBox<N>,
+    e: &mut Emitter<'_, W, S, C>,
+) -> Result
+    ensures items { Follows (N.items link.now.node.value Plain nothing) (state_of S.lines W.sheet e.old) (state_of S.lines W.sheet e.new) (in_short result) }
+    ensures reads { (root : Root) → N.items link.now.node.value Plain ≡ root_items root → is_well_formed_root root ≡ true → IsNew (state_of S.lines W.sheet e.old) → OnOk result (AddsReading e.old.cfg (root_phrase root) (W.sheet e.old.wr) (W.sheet e.new.wr)) }
+{
+    link.emit_with(e)
+}
+
+/// A link to a function, without what stands before its name.
+pub fn emitted_function_box_reads<N: EmitAt + Spanned, W: WriteJs, S: SourceMapper, C: Comments>(
+    link: &FunctionBox<N>,
+    e: &mut Emitter<'_, W, S, C>,
+) -> Result
+    ensures items { Follows (N.items link.now.node.value Plain nothing) (state_of S.lines W.sheet e.old) (state_of S.lines W.sheet e.new) (in_short result) }
+    ensures reads { (root : Root) → N.items link.now.node.value Plain ≡ root_items root → is_well_formed_root root ≡ true → IsNew (state_of S.lines W.sheet e.old) → OnOk result (AddsReading e.old.cfg (root_phrase root) (W.sheet e.old.wr) (W.sheet e.new.wr)) }
+{
+    link.emit_with(e)
+}
+
+/// A link to a block.
+pub fn emitted_block_stmt_box_reads<N: EmitAt + Spanned, W: WriteJs, S: SourceMapper, C: Comments>(
+    link: &BlockStmtBox<N>,
+    e: &mut Emitter<'_, W, S, C>,
+) -> Result
+    ensures items { Follows (N.items link.now.node.value Plain nothing) (state_of S.lines W.sheet e.old) (state_of S.lines W.sheet e.new) (in_short result) }
+    ensures reads { (root : Root) → N.items link.now.node.value Plain ≡ root_items root → is_well_formed_root root ≡ true → IsNew (state_of S.lines W.sheet e.old) → OnOk result (AddsReading e.old.cfg (root_phrase root) (W.sheet e.old.wr) (W.sheet e.new.wr)) }
+{
+    link.emit_with(e)
+}
+
+/// A link to a declaration.
+pub fn emitted_decl_box_reads<N: EmitAt + Spanned, W: WriteJs, S: SourceMapper, C: Comments>(
+    link: &DeclBox<N>,
+    e: &mut Emitter<'_, W, S, C>,
+) -> Result
+    ensures items { Follows (N.items link.now.node.value Plain nothing) (state_of S.lines W.sheet e.old) (state_of S.lines W.sheet e.new) (in_short result) }
+    ensures reads { (root : Root) → N.items link.now.node.value Plain ≡ root_items root → is_well_formed_root root ≡ true → IsNew (state_of S.lines W.sheet e.old) → OnOk result (AddsReading e.old.cfg (root_phrase root) (W.sheet e.old.wr) (W.sheet e.new.wr)) }
+{
+    link.emit_with(e)
+}
+
+/// A link to a declaration of variables, which has no semicolon.
+pub fn emitted_var_decl_box_reads<N: EmitAt + Spanned, W: WriteJs, S: SourceMapper, C: Comments>(
+    link: &VarDeclBox<N>,
+    e: &mut Emitter<'_, W, S, C>,
+) -> Result
+    ensures items { Follows (N.items link.now.node.value Plain nothing) (state_of S.lines W.sheet e.old) (state_of S.lines W.sheet e.new) (in_short result) }
+    ensures reads { (root : Root) → N.items link.now.node.value Plain ≡ root_items root → is_well_formed_root root ≡ true → IsNew (state_of S.lines W.sheet e.old) → OnOk result (AddsReading e.old.cfg (root_phrase root) (W.sheet e.old.wr) (W.sheet e.new.wr)) }
+{
+    link.emit_with(e)
+}
+
+/// A reference.
+pub fn emitted_ref_reads<T: EmitAt + Spanned, W: WriteJs, S: SourceMapper, C: Comments>(
+    node: &&T,
+    e: &mut Emitter<'_, W, S, C>,
+) -> Result
+    ensures items { Follows (T.items node.now.now Plain nothing) (state_of S.lines W.sheet e.old) (state_of S.lines W.sheet e.new) (in_short result) }
+    ensures reads { (root : Root) → T.items node.now.now Plain ≡ root_items root → is_well_formed_root root ≡ true → IsNew (state_of S.lines W.sheet e.old) → OnOk result (AddsReading e.old.cfg (root_phrase root) (W.sheet e.old.wr) (W.sheet e.new.wr)) }
+{
+    node.emit_with(e)
+}
+
+/// A box.
+pub fn emitted_box_reads<T: EmitAt + Spanned, W: WriteJs, S: SourceMapper, C: Comments>(
+    node: &Box<T>,
+    e: &mut Emitter<'_, W, S, C>,
+) -> Result
+    ensures items { Follows (T.items node.now.value Plain nothing) (state_of S.lines W.sheet e.old) (state_of S.lines W.sheet e.new) (in_short result) }
+    ensures reads { (root : Root) → T.items node.now.value Plain ≡ root_items root → is_well_formed_root root ≡ true → IsNew (state_of S.lines W.sheet e.old) → OnOk result (AddsReading e.old.cfg (root_phrase root) (W.sheet e.old.wr) (W.sheet e.new.wr)) }
+{
+    node.emit_with(e)
+}
+
+/// What may be missing: where it is, nothing is written, and nothing is refused but for an earlier refusal.
+pub fn emitted_option_reads<T: EmitAt + Spanned, W: WriteJs, S: SourceMapper, C: Comments>(
+    node: &Option<T>,
+    e: &mut Emitter<'_, W, S, C>,
+) -> Result
+    ensures items { (some : T) → node.now ≡ Some some → Follows (T.items some Plain nothing) (state_of S.lines W.sheet e.old) (state_of S.lines W.sheet e.new) (in_short result) }
+    ensures reads { (some : T) (root : Root) → node.now ≡ Some some → T.items some Plain ≡ root_items root → is_well_formed_root root ≡ true → IsNew (state_of S.lines W.sheet e.old) → OnOk result (AddsReading e.old.cfg (root_phrase root) (W.sheet e.old.wr) (W.sheet e.new.wr)) }
+    ensures none { node.now ≡ None → state_of S.lines W.sheet e.new ≡ state_of S.lines W.sheet e.old }
+    ensures none_made { node.now ≡ None → (state_of S.lines W.sheet e.old).failed ≡ false → IsOk result }
+{
+    node.emit_with(e)
+}
