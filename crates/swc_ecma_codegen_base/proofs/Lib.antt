@@ -19,6 +19,7 @@ pub mod Entries
 pub mod Afters
 pub mod Marks
 pub mod Indented
+pub mod HashbangPrints
 pub mod Held
 pub mod Written
 pub mod Texts

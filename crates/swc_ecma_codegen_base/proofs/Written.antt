@@ -186,7 +186,7 @@ unfolding fuses
 apart_alone [] = refl
 apart_alone (c ∷ n) = refl
 
-start_alone : (t : List ℕ) → fuses Start t ≡ false
+pub start_alone : (t : List ℕ) → fuses Start t ≡ false
 unfolding fuses
 start_alone [] = refl
 start_alone (c ∷ n) = refl
