@@ -1,5 +1,6 @@
 -- What an emission of a well-formed tree adds to a text reads as one of the tree's token lists.
-use Rattle.std.proofs.Common.{◌≡◌, ℕ, true, false, if◌then◌else◌, List, refl, sym, ap, subst, inl, inr, Option, Some, None, Result, Ok, Err, OnOk}
+use Rattle.std.proofs.Common.{◌≡◌, ℕ, Bool, true, false, not, if◌then◌else◌, List, refl, sym, ap, ◌∙◌, subst, inl, inr, Option, Some, None, Result, Ok, Err, OnOk}
+use Rattle.std.proofs.lemmas.Bool.{not-false, true≢false}
 use Rattle.swc_ecma_codegen_common.specs.declared.errors.Error.{Error}
 use Rattle.swc_ecma_codegen_common.specs.Refusals.{in_short}
 use Rattle.swc_ecma_codegen_tree.specs.declared.links.AnyNode.{AnyNode}
@@ -26,7 +27,7 @@ use Rattle.swc_ecma_codegen_base.specs.Scripts.{value_strings, AddsSafe}
 use Rattle.swc_ecma_codegen_base.proofs.AsciiTexts.{printed_ascii, printed_keeps}
 use Rattle.swc_ecma_codegen_base.proofs.ScriptTexts.{printed_safe}
 use Rattle.swc_ecma_codegen_text_writer.specs.Recorded.{RecordsTruly}
-use Rattle.swc_ecma_codegen_ast.specs.Phrases.{is_possible, names_in}
+use Rattle.swc_ecma_codegen_ast.specs.Phrases.{Phrase, is_possible, names_in}
 use Rattle.swc_ecma_codegen_text_writer.specs.Sheet.{HoldsNone}
 use Rattle.swc_ecma_codegen_base.specs.Written.{IsLineEnd, IsNew, AddsReading, all_indent, is_indent, holds_one}
 use Rattle.swc_ecma_codegen_base.proofs.Short.{on_ok_in_short}
@@ -37,12 +38,12 @@ use Rattle.swc_ecma_codegen.specs.Answers.{any_answers}
 use Rattle.swc_ecma_codegen.specs.Modules.{module_item}
 use Rattle.swc_ecma_codegen.specs.Programs as programs
 use Rattle.swc_ecma_codegen.specs.Tree.{any_items}
-use Rattle.swc_ecma_codegen.specs.Roots.{Root, OfExpr, OfStmt, OfItem, OfModule, OfScript, OfProgram, OfLink, root_items, root_phrase, is_well_formed_root}
+use Rattle.swc_ecma_codegen.specs.Roots.{Root, OfExpr, OfStmt, OfItem, OfModule, OfScript, OfProgram, OfLink, root_items, root_phrase, is_well_formed_root, root_hashbang, MayBegin}
 use Rattle.swc_ecma_codegen.proofs.ExprParts.{plain_expr_prints}
 use Rattle.swc_ecma_codegen.proofs.ModuleParts.{module_item_prints}
 use Rattle.swc_ecma_codegen.proofs.StmtParts.{stmt_prints, module_prints, script_prints, program_prints}
 use Rattle.swc_ecma_codegen.proofs.TreeLaw.{prints, known}
-use Rattle.swc_ecma_codegen_base.proofs.Shapes.{unbroken, is_within}
+use Rattle.swc_ecma_codegen_base.proofs.Shapes.{Shape, unbroken, unbroken_at, loose_at, is_within}
 use Rattle.swc_ecma_codegen.proofs.Linked.{role_shape}
 use Rattle.swc_ecma_codegen_ast.specs.declared.roles.Role.{Role}
 use Rattle.swc_ecma_codegen_ast.specs.declared.roles.Role.TheVariants.{Statement, VariableDeclaration, MethodHead, MethodDecorators, ClassHead, ExportedHead, Member, Item, ModuleDeclaration}
@@ -59,30 +60,45 @@ role_within Item = refl
 role_within ModuleDeclaration = refl
 role_within role = refl
 
-pub root_prints : (env : Env) → env.keeps_invalid ≡ false → (n : Root) → PrintsAt unbroken env (root_items n) (root_phrase n)
-unfolding stmt_lists.program
+-- a program stands anywhere, or only where nothing was written
+loose_within : (anywhere : Bool) → is_within (loose_at anywhere) (unbroken_at anywhere) ≡ true
+loose_within true = refl
+loose_within false = refl
+
+program_unbroken : {env : Env} {p : Part} {f : Phrase} (anywhere : Bool) → PrintsAt (loose_at anywhere) env p f → PrintsAt (unbroken_at anywhere) env p f
+program_unbroken anywhere h = prints_wider (unbroken_at anywhere) (loose_within anywhere) h
+
+abbrev pub root_shape : Root → Shape
+root_shape n = unbroken_at (not (root_hashbang n))
+
+pub root_prints : (env : Env) → env.keeps_invalid ≡ false → (n : Root) → PrintsAt (root_shape n) env (root_items n) (root_phrase n)
+unfolding stmt_lists.program root_hashbang
 root_prints env e (OfExpr n) = prints_wider unbroken refl (plain_expr_prints (known env e) n Plain refl)
 root_prints env e (OfStmt n) = prints_wider unbroken refl (stmt_prints (known env e) n)
 root_prints env e (OfItem n) = prints_wider unbroken refl (module_item_prints (known env e) n)
-root_prints env e (OfModule n) = prints_wider unbroken refl (module_prints (known env e) n)
-root_prints env e (OfScript n) = prints_wider unbroken refl (script_prints (known env e) n)
-root_prints env e (OfProgram n) = prints_wider unbroken refl (program_prints (known env e) n)
+root_prints env e (OfModule n) = program_unbroken _ (module_prints (known env e) n)
+root_prints env e (OfScript n) = program_unbroken _ (script_prints (known env e) n)
+root_prints env e (OfProgram n) = program_unbroken _ (program_prints (known env e) n)
 root_prints env e (OfLink n role) = prints_wider unbroken (role_within role) (prints env e n Plain role)
 
 -- whatever the root is, and whatever refers to it
-pub root_reads : (n : Root) (p : Part) (a b : State) (r : Result (Unit {0}) Error) → p ≡ root_items n → is_well_formed_root n ≡ true → IsNew a → Follows (p nothing) a b (in_short r) → OnOk r (AddsReading a.env.config (root_phrase n) a.sheet b.sheet)
-root_reads n p a b r same w s h = on_ok_in_short _ r (printed_reads p (root_phrase n) a b (in_short r) s (subst (λ z. PrintsAt unbroken a.env z (root_phrase n)) (sym same) (root_prints a.env s.leaves_out n)) w h)
+pub root_reads : (n : Root) (p : Part) (a b : State) (r : Result (Unit {0}) Error) → p ≡ root_items n → is_well_formed_root n ≡ true → MayBegin n a → Follows (p nothing) a b (in_short r) → OnOk r (AddsReading a.env.config (root_phrase n) a.sheet b.sheet)
+root_reads n p a b r same w s h = on_ok_in_short _ r (printed_reads (not (root_hashbang n)) p (root_phrase n) a b (in_short r) s.is_new (λ e. s.at_margin (not-false (root_hashbang n) e)) (subst (λ z. PrintsAt (root_shape n) a.env z (root_phrase n)) (sym same) (root_prints a.env s.is_new.leaves_out n)) w h)
+
+-- what begins with no hashbang may stand anywhere
+pub may_begin : (n : Root) (a : State) → root_hashbang n ≡ false → IsNew a → MayBegin n a
+may_begin n a h s = record { is_new = s; at_margin = λ e. absurd (true≢false (sym e ∙ h)) }
 
 pub item_reads : (n : ModuleItem AnyNode) (a b : State) (r : Result (Unit {0}) Error) → is_possible (module_lists.module_item phrase n) ≡ true → IsNew a → Follows (module_item any_answers any_items n nothing) a b (in_short r) → OnOk r (AddsReading a.env.config (module_lists.module_item phrase n) a.sheet b.sheet)
-item_reads n a b r w s h = root_reads (OfItem n) _ a b r refl w s h
+item_reads n a b r w s h = root_reads (OfItem n) _ a b r refl w (may_begin (OfItem n) a (unfold root_hashbang in refl) s) h
 
-pub module_reads : (n : Module AnyNode) (a b : State) (r : Result (Unit {0}) Error) → is_well_formed (a_module n) ≡ true → IsNew a → Follows (programs.whole_module any_items n nothing) a b (in_short r) → OnOk r (AddsReading a.env.config (program_phrase (a_module n)) a.sheet b.sheet)
+pub module_reads : (n : Module AnyNode) (a b : State) (r : Result (Unit {0}) Error) → is_well_formed (a_module n) ≡ true → MayBegin (OfModule n) a → Follows (programs.whole_module any_items n nothing) a b (in_short r) → OnOk r (AddsReading a.env.config (program_phrase (a_module n)) a.sheet b.sheet)
 module_reads n a b r w s h = root_reads (OfModule n) _ a b r refl w s h
 
-pub script_reads : (n : Script AnyNode) (a b : State) (r : Result (Unit {0}) Error) → is_well_formed (a_script n) ≡ true → IsNew a → Follows (programs.script any_items n nothing) a b (in_short r) → OnOk r (AddsReading a.env.config (program_phrase (a_script n)) a.sheet b.sheet)
+pub script_reads : (n : Script AnyNode) (a b : State) (r : Result (Unit {0}) Error) → is_well_formed (a_script n) ≡ true → MayBegin (OfScript n) a → Follows (programs.script any_items n nothing) a b (in_short r) → OnOk r (AddsReading a.env.config (program_phrase (a_script n)) a.sheet b.sheet)
 script_reads n a b r w s h = root_reads (OfScript n) _ a b r refl w s h
 
-pub program_reads : (n : Program AnyNode) (a b : State) (r : Result (Unit {0}) Error) → is_well_formed n ≡ true → IsNew a → Follows (programs.program any_items n nothing) a b (in_short r) → OnOk r (AddsReading a.env.config (program_phrase n) a.sheet b.sheet)
+pub program_reads : (n : Program AnyNode) (a b : State) (r : Result (Unit {0}) Error) → is_well_formed n ≡ true → MayBegin (OfProgram n) a → Follows (programs.program any_items n nothing) a b (in_short r) → OnOk r (AddsReading a.env.config (program_phrase n) a.sheet b.sheet)
 program_reads n a b r w s h = root_reads (OfProgram n) _ a b r refl w s h
 
 -- what is recorded is true
@@ -91,7 +107,7 @@ steps_recorded p a b r h = on_ok_in_short _ r (follows_records p a b (in_short r
 
 -- where positions are kept, each name has its own where it begins
 pub root_names : (n : Root) (p : Part) (a b : State) (r : Result (Unit {0}) Error) → p ≡ root_items n → is_well_formed_root n ≡ true → a.sheet.keeps_positions ≡ true → a.env.keeps_invalid ≡ false → Follows (p nothing) a b (in_short r) → OnOk r (RecordsNames a.env.config (names_in (root_phrase n)) a.sheet b.sheet)
-root_names n p a b r same w k e h = on_ok_in_short _ r (printed_names p (root_phrase n) a b (in_short r) (subst (λ z. PrintsAt unbroken a.env z (root_phrase n)) (sym same) (root_prints a.env e n)) w k h)
+root_names n p a b r same w k e h = on_ok_in_short _ r (printed_names p (root_phrase n) a b (in_short r) (subst (λ z. PrintsAt (root_shape n) a.env z (root_phrase n)) (sym same) (root_prints a.env e n)) w k h)
 
 pub item_names : (n : ModuleItem AnyNode) (a b : State) (r : Result (Unit {0}) Error) → is_possible (module_lists.module_item phrase n) ≡ true → a.sheet.keeps_positions ≡ true → a.env.keeps_invalid ≡ false → Follows (module_item any_answers any_items n nothing) a b (in_short r) → OnOk r (RecordsNames a.env.config (names_in (module_lists.module_item phrase n)) a.sheet b.sheet)
 item_names n a b r w k e h = root_names (OfItem n) _ a b r refl w k e h
@@ -107,7 +123,7 @@ program_names n a b r w k e h = root_names (OfProgram n) _ a b r refl w k e h
 
 -- under ASCII only what is added is ASCII, save what stands as it is
 pub root_ascii : (n : Root) (p : Part) (a b : State) (r : Result (Unit {0}) Error) → p ≡ root_items n → is_well_formed_root n ≡ true → WantsAscii a → keeps_other (steps_of (p nothing a.env)) ≡ false → Follows (p nothing) a b (in_short r) → OnOk r (AddsAscii a.sheet.text b.sheet.text)
-root_ascii n p a b r same w s k h = on_ok_in_short _ r (printed_ascii p (root_phrase n) a b (in_short r) (subst (λ z. PrintsAt unbroken a.env z (root_phrase n)) (sym same) (root_prints a.env s.leaves_out n)) w s k h)
+root_ascii n p a b r same w s k h = on_ok_in_short _ r (printed_ascii p (root_phrase n) a b (in_short r) (subst (λ z. PrintsAt (root_shape n) a.env z (root_phrase n)) (sym same) (root_prints a.env s.leaves_out n)) w s k h)
 
 pub item_ascii : (n : ModuleItem AnyNode) (a b : State) (r : Result (Unit {0}) Error) → is_possible (module_lists.module_item phrase n) ≡ true → WantsAscii a → keeps_other (steps_of (module_item any_answers any_items n nothing a.env)) ≡ false → Follows (module_item any_answers any_items n nothing) a b (in_short r) → OnOk r (AddsAscii a.sheet.text b.sheet.text)
 item_ascii n a b r w s k h = root_ascii (OfItem n) _ a b r refl w s k h
@@ -123,7 +139,7 @@ program_ascii n a b r w s k h = root_ascii (OfProgram n) _ a b r refl w s k h
 
 -- under `inline_script` each string that is printed by its value is safe inside a script
 pub root_safe : (n : Root) (p : Part) (a b : State) (r : Result (Unit {0}) Error) → p ≡ root_items n → is_well_formed_root n ≡ true → a.env.config.inline_script ≡ true → a.env.keeps_invalid ≡ false → Follows (p nothing) a b (in_short r) → OnOk r (AddsSafe (value_strings (steps_of (p nothing a.env))) a.sheet.text b.sheet.text)
-root_safe n p a b r same w i e h = on_ok_in_short _ r (printed_safe p (root_phrase n) a b (in_short r) (subst (λ z. PrintsAt unbroken a.env z (root_phrase n)) (sym same) (root_prints a.env e n)) w i h)
+root_safe n p a b r same w i e h = on_ok_in_short _ r (printed_safe p (root_phrase n) a b (in_short r) (subst (λ z. PrintsAt (root_shape n) a.env z (root_phrase n)) (sym same) (root_prints a.env e n)) w i h)
 
 pub item_safe : (n : ModuleItem AnyNode) (a b : State) (r : Result (Unit {0}) Error) → is_possible (module_lists.module_item phrase n) ≡ true → a.env.config.inline_script ≡ true → a.env.keeps_invalid ≡ false → Follows (module_item any_answers any_items n nothing) a b (in_short r) → OnOk r (AddsSafe (value_strings (steps_of (module_item any_answers any_items n nothing a.env))) a.sheet.text b.sheet.text)
 item_safe n a b r w i e h = root_safe (OfItem n) _ a b r refl w i e h
@@ -171,3 +187,7 @@ indented_is_new lines config bytes line_end indent h k = record { nothing_writte
 pub holding_is_new : (lines : Lines) (config : Config) (bytes line_end : List ℕ) → IsLineEnd line_end → IsNew (start lines config (record (new_sheet bytes line_end) { semicolons = HoldsNone }))
 unfolding all_indent is_indent holds_one
 holding_is_new lines config bytes line_end h = record { nothing_written = refl; nothing_held = refl; indent_text = refl; line_end = h; leaves_out = refl }
+
+-- what a new emitter over a new writer begins may be any root
+pub new_begins : (n : Root) (lines : Lines) (config : Config) (bytes line_end : List ℕ) → IsLineEnd line_end → MayBegin n (start lines config (new_sheet bytes line_end))
+new_begins n lines config bytes line_end h = record { is_new = new_is_new lines config bytes line_end h; at_margin = λ e at. refl }
