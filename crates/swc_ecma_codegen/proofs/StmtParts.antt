@@ -230,8 +230,8 @@ writes_program_end : (env : Env) (span : Span) → Fills env (λ rest. trailing_
 writes_program_end env span = writes_then env (trailing_comments true span.hi) programs.last_semi [] [] (writes_trailing env true span.hi) (writes_last_semi env)
 
 -- behind a hashbang, or without one
-opened_prints : {A Z : Type 0} (env : Env) (shebang : Option (String Z)) (xs : List A) (span : Span) {p : Part} {f : Phrase} → PrintsAt loose env p f → PrintsAt (loose_at (not (is_some shebang))) env (λ rest. programs.opening shebang xs span (p rest)) (lists.shebang shebang > f)
-unfolding programs.opening lists.shebang
+opened_prints : {A Z : Type 0} (env : Env) (shebang : Option (String Z)) (xs : List A) (span : Span) {p : Part} {f : Phrase} → PrintsAt loose env p f → PrintsAt (loose_at (not (is_some shebang))) env (λ rest. programs.program_start shebang xs span (p rest)) (lists.shebang shebang > f)
+unfolding programs.program_start lists.shebang
 opened_prints env None xs span h = then prints_nothing (after (writes_leading env span.lo) (after (writes_start_if_empty env xs span) h))
 opened_prints env (Some text) xs span h =
     prints_wider (loose_at false) refl

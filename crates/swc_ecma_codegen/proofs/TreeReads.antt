@@ -72,7 +72,7 @@ abbrev pub root_shape : Root → Shape
 root_shape n = unbroken_at (not (root_hashbang n))
 
 pub root_prints : (env : Env) → env.keeps_invalid ≡ false → (n : Root) → PrintsAt (root_shape n) env (root_items n) (root_phrase n)
-unfolding stmt_lists.program root_hashbang
+unfolding stmt_lists.program
 root_prints env e (OfExpr n) = prints_wider unbroken refl (plain_expr_prints (known env e) n Plain refl)
 root_prints env e (OfStmt n) = prints_wider unbroken refl (stmt_prints (known env e) n)
 root_prints env e (OfItem n) = prints_wider unbroken refl (module_item_prints (known env e) n)
@@ -90,7 +90,7 @@ pub may_begin : (n : Root) (a : State) → root_hashbang n ≡ false → IsNew a
 may_begin n a h s = record { is_new = s; at_margin = λ e. absurd (true≢false (sym e ∙ h)) }
 
 pub item_reads : (n : ModuleItem AnyNode) (a b : State) (r : Result (Unit {0}) Error) → is_possible (module_lists.module_item phrase n) ≡ true → IsNew a → Follows (module_item any_answers any_items n nothing) a b (in_short r) → OnOk r (AddsReading a.env.config (module_lists.module_item phrase n) a.sheet b.sheet)
-item_reads n a b r w s h = root_reads (OfItem n) _ a b r refl w (may_begin (OfItem n) a (unfold root_hashbang in refl) s) h
+item_reads n a b r w s h = root_reads (OfItem n) _ a b r refl w (may_begin (OfItem n) a refl s) h
 
 pub module_reads : (n : Module AnyNode) (a b : State) (r : Result (Unit {0}) Error) → is_well_formed (a_module n) ≡ true → MayBegin (OfModule n) a → Follows (programs.whole_module any_items n nothing) a b (in_short r) → OnOk r (AddsReading a.env.config (program_phrase (a_module n)) a.sheet b.sheet)
 module_reads n a b r w s h = root_reads (OfModule n) _ a b r refl w s h
@@ -176,18 +176,24 @@ root_in_target n a b w e h = follows_in_target (root_items n) (root_phrase n) a 
 pub root_out_of_target : (n : Root) (a b : State) → is_well_formed_root n ≡ true → a.env.keeps_invalid ≡ false → Follows (root_items n nothing) a b (Err refusals.NameOutOfTarget) → is_out a.env.config (root_phrase n) ≡ true
 root_out_of_target n a b w e h = follows_out_of_target (root_items n) (root_phrase n) a b (root_prints a.env e n) w h
 
-pub new_is_new : (lines : Lines) (config : Config) (bytes line_end : List ℕ) → IsLineEnd line_end → IsNew (start lines config (new_sheet bytes line_end))
+new_is_new : (lines : Lines) (config : Config) (bytes line_end : List ℕ) → IsLineEnd line_end → IsNew (start lines config (new_sheet bytes line_end))
 unfolding all_indent is_indent holds_one
 new_is_new lines config bytes line_end h = record { nothing_written = refl; nothing_held = refl; indent_text = refl; line_end = h; leaves_out = refl }
 
-pub indented_is_new : (lines : Lines) (config : Config) (bytes line_end indent : List ℕ) → IsLineEnd line_end → all_indent indent ≡ true → IsNew (start lines config (record (new_sheet bytes line_end) { indent_text = indent }))
+indented_is_new : (lines : Lines) (config : Config) (bytes line_end indent : List ℕ) → IsLineEnd line_end → all_indent indent ≡ true → IsNew (start lines config (record (new_sheet bytes line_end) { indent_text = indent }))
 unfolding holds_one
 indented_is_new lines config bytes line_end indent h k = record { nothing_written = refl; nothing_held = refl; indent_text = k; line_end = h; leaves_out = refl }
 
-pub holding_is_new : (lines : Lines) (config : Config) (bytes line_end : List ℕ) → IsLineEnd line_end → IsNew (start lines config (record (new_sheet bytes line_end) { semicolons = HoldsNone }))
+holding_is_new : (lines : Lines) (config : Config) (bytes line_end : List ℕ) → IsLineEnd line_end → IsNew (start lines config (record (new_sheet bytes line_end) { semicolons = HoldsNone }))
 unfolding all_indent is_indent holds_one
 holding_is_new lines config bytes line_end h = record { nothing_written = refl; nothing_held = refl; indent_text = refl; line_end = h; leaves_out = refl }
 
 -- what a new emitter over a new writer begins may be any root
 pub new_begins : (n : Root) (lines : Lines) (config : Config) (bytes line_end : List ℕ) → IsLineEnd line_end → MayBegin n (start lines config (new_sheet bytes line_end))
 new_begins n lines config bytes line_end h = record { is_new = new_is_new lines config bytes line_end h; at_margin = λ e at. refl }
+
+pub indented_begins : (n : Root) (lines : Lines) (config : Config) (bytes line_end indent : List ℕ) → IsLineEnd line_end → all_indent indent ≡ true → MayBegin n (start lines config (record (new_sheet bytes line_end) { indent_text = indent }))
+indented_begins n lines config bytes line_end indent h k = record { is_new = indented_is_new lines config bytes line_end indent h k; at_margin = λ e at. refl }
+
+pub holding_begins : (n : Root) (lines : Lines) (config : Config) (bytes line_end : List ℕ) → IsLineEnd line_end → MayBegin n (start lines config (record (new_sheet bytes line_end) { semicolons = HoldsNone }))
+holding_begins n lines config bytes line_end h = record { is_new = holding_is_new lines config bytes line_end h; at_margin = λ e at. refl }

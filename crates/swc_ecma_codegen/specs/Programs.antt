@@ -29,19 +29,19 @@ unfoldable pub last_semi : Part
 last_semi rest env = if env.config.omit_last_semi then rest env else commit_pending_semi rest env
 
 -- What stands before the statements of a program: the comments before it, but a hashbang stands first of all in a text.
-unfoldable pub opening : {A Z : Type 0} → Option (String Z) → List A → Span → Part
-opening None body span rest = leading_comments span.lo (start_if_empty body span rest)
-opening (Some text) body span rest = start_if_empty body span (hashbang (string_bytes text) (leading_comments span.lo rest))
+unfoldable pub program_start : {A Z : Type 0} → Option (String Z) → List A → Span → Part
+program_start None body span rest = leading_comments span.lo (start_if_empty body span rest)
+program_start (Some text) body span rest = start_if_empty body span (hashbang (string_bytes text) (leading_comments span.lo rest))
 
 unfoldable pub script : {X : Type 0} → (X → Place → Part) → Script X → Part
-script items n rest = opening n.shebang n.body.items n.span (in_order (held items) n.body.items (trailing_comments true n.span.hi (last_semi rest)))
+script items n rest = program_start n.shebang n.body.items n.span (in_order (held items) n.body.items (trailing_comments true n.span.hi (last_semi rest)))
 
 -- an item that a link holds
 abbrev pub held_item : {X : Type 0} → (X → Place → Part) → ModuleItemBox X → Part
 held_item items n = items n.node.value Plain
 
 unfoldable pub whole_module : {X : Type 0} → (X → Place → Part) → Module X → Part
-whole_module items n rest = opening n.shebang n.body.items n.span (in_order (held_item items) n.body.items (trailing_comments true n.span.hi (last_semi rest)))
+whole_module items n rest = program_start n.shebang n.body.items n.span (in_order (held_item items) n.body.items (trailing_comments true n.span.hi (last_semi rest)))
 
 unfoldable pub program : {X : Type 0} → (X → Place → Part) → Program X → Part
 program items (programs.Module n) rest = whole_module items n rest

@@ -58,7 +58,7 @@ abbrev pub is_well_formed_root : Root → Bool
 is_well_formed_root n = is_possible (root_phrase n)
 
 -- it begins with a hashbang
-unfoldable pub root_hashbang : Root → Bool
+abbrev pub root_hashbang : Root → Bool
 root_hashbang (OfModule n) = is_some n.shebang
 root_hashbang (OfScript n) = is_some n.shebang
 root_hashbang (OfProgram n) = has_hashbang n

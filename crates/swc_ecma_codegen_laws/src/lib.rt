@@ -34,7 +34,7 @@ ghost use Rattle.swc_ecma_codegen.specs.Stmts.{stmt as stmt_items};
 ghost use Rattle.swc_ecma_codegen.specs.Tree.{any_items};
 ghost use Rattle.swc_ecma_codegen_base.specs.Escapes.{may_make_text};
 ghost use Rattle.swc_ecma_codegen_base.specs.Ascii.{keeps_other, may_keep_other, WantsAscii};
-ghost use Rattle.swc_ecma_codegen.specs.Roots.{Root, root_items, root_phrase, is_well_formed_root};
+ghost use Rattle.swc_ecma_codegen.specs.Roots.{Root, root_items, root_phrase, is_well_formed_root, MayBegin};
 ghost use Rattle.swc_ecma_codegen_laws.specs.FirstTokens.{joins_a_word};
 ghost use Rattle.swc_ecma_codegen.specs.View.{state_of};
 
@@ -83,15 +83,15 @@ pub fn emitted_stmt_reads<W: WriteJs, S: SourceMapper, C: Comments>(
     stmt.emit_with(e)
 }
 
-/// A new emitter over a new `JsWriter`, whose lines end with LF or with CR and LF, is one that these laws speak of; and
+/// A new emitter over a new `JsWriter`, whose lines end with LF or with CR and LF, is one that these laws speak of, whatever the root; and
 /// after `set_indent_str` of blanks and tabs, and inside `omit_trailing_semi`. It is ready, whatever its lines end with. Under
 /// `ascii_only` it is one that is to write ASCII.
 pub fn new_emitter_reads()
-    ensures new { (lines : Lines) (config : Config) (bytes line_end : List ℕ) → IsLineEnd line_end → IsNew (start lines config (new_sheet bytes line_end)) }
-    ensures holding { (lines : Lines) (config : Config) (bytes line_end : List ℕ) → IsLineEnd line_end → IsNew (start lines config (record (new_sheet bytes line_end) { semicolons = HoldsNone })) }
+    ensures new { (root : Root) (lines : Lines) (config : Config) (bytes line_end : List ℕ) → IsLineEnd line_end → MayBegin root (start lines config (new_sheet bytes line_end)) }
+    ensures holding { (root : Root) (lines : Lines) (config : Config) (bytes line_end : List ℕ) → IsLineEnd line_end → MayBegin root (start lines config (record (new_sheet bytes line_end) { semicolons = HoldsNone })) }
     ensures ready { (lines : Lines) (config : Config) (bytes line_end : List ℕ) → IsReady (start lines config (new_sheet bytes line_end)) }
     ensures ascii { (lines : Lines) (config : Config) (bytes line_end : List ℕ) → config.ascii_only ≡ true → IsLineEnd line_end → WantsAscii (start lines config (new_sheet bytes line_end)) }
-    ensures indented { (lines : Lines) (config : Config) (bytes line_end indent : List ℕ) → IsLineEnd line_end → all_indent indent ≡ true → IsNew (start lines config (record (new_sheet bytes line_end) { indent_text = indent })) }
+    ensures indented { (root : Root) (lines : Lines) (config : Config) (bytes line_end indent : List ℕ) → IsLineEnd line_end → all_indent indent ≡ true → MayBegin root (start lines config (record (new_sheet bytes line_end) { indent_text = indent })) }
 {}
 
 /// Where an expression begins with a word, a name or a number, by the first token of a list that
@@ -115,7 +115,7 @@ pub fn plain_trees_take_no_memory()
 {}
 
 /// No text stands as it is in the tree and isn't ASCII, among the steps of an emission of a well-formed tree whose names can
-/// all be written, where each regular expression of the tree is ASCII and no string of it reads `use strict`: what the
+/// all be written, where each regular expression and hashbang of the tree is ASCII and no string of it reads `use strict`: what the
 /// clause `ascii` of `emit_with` asks. With such a string it asks that this one has no backslash, or is ASCII.
 #[tactic(auto, using(swc_ecma_codegen::proofs::TreeReads::root_keeps))]
 pub fn plain_trees_keep_no_other_text()
