@@ -196,11 +196,14 @@ writes_hashbang env t u h = record {
 
 pointed_enters : (i : Shape) (pos : BytePos) (s : State) → Enters i s → Enters i (record s { sheet = pointed pos s.sheet })
 pointed_enters i pos s (inl e) = inl e
-pointed_enters i pos s (inr k) = inr (k.0, record {
-  nothing_written = k.1.nothing_written;
-  nothing_held = pointed_keeps (λ z. holds_one z.semicolons) (λ z x. refl) (λ z x. refl) pos s.sheet ∙ k.1.nothing_held;
-  at_margin = pointed_keeps (λ z. front z) (λ z x. refl) (λ z x. refl) pos s.sheet ∙ k.1.at_margin;
-})
+pointed_enters i pos s (inr k) = inr (
+  k.0,
+  record {
+    nothing_written = k.1.nothing_written;
+    nothing_held = pointed_keeps (λ z. holds_one z.semicolons) (λ z x. refl) (λ z x. refl) pos s.sheet ∙ k.1.nothing_held;
+    at_margin = pointed_keeps (λ z. front z) (λ z x. refl) (λ z x. refl) pos s.sheet ∙ k.1.at_margin;
+  },
+)
 
 lays_pointed : {i : Shape} (pos : BytePos) (s b : State) (ts : List lexical.Token) → LaysAt i ts (record s { sheet = pointed pos s.sheet }) b → LaysAt i ts s b
 lays_pointed {i} pos s b ts l =
