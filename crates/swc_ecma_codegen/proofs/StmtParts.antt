@@ -1,5 +1,5 @@
 -- What is written of each statement and program is what it reads as.
-use Rattle.std.proofs.Common.{ℕ, Bool, true, false, not, is_some, List, [], ◌∷◌, map, codes, string_bytes, refl, inl, inr, Option, Some, None}
+use Rattle.std.proofs.Common.{ℕ, Bool, true, false, not, is_some, List, [], ◌∷◌, codes, string_bytes, refl, inl, inr, Option, Some, None}
 use Rattle.std.specs.declared.string.String.{String}
 use Rattle.std.proofs.lemmas.Bool.{cases_Bool}
 use Rattle.std.proofs.lemmas.Str.{IsUtf8-string_bytes}
@@ -38,7 +38,7 @@ use Rattle.swc_ecma_codegen_base.specs.Run.{Env, Part}
 use Rattle.swc_ecma_codegen_base.specs.Words.{formatting_space, formatting_line, commit_pending_semi, trailing_comments, semi}
 use Rattle.swc_ecma_codegen_base.proofs.Choices.{prints_bare}
 use Rattle.swc_ecma_codegen_base.proofs.Phrased.{Prints, then, after, before, prints_nothing, prints_keyword, prints_punct, prints_semi, PrintsAt, prints_wider, joined_then, prints_ident}
-use Rattle.swc_ecma_codegen_base.proofs.Printed.{Writes, writes_then, writes_same, writes_if, writes_nothing, writes_formatting_space, writes_formatting_line, writes_commit, writes_position, writes_leading, writes_trailing, Fills, makes_wider, MakesAt, EndsLines, writes_space}
+use Rattle.swc_ecma_codegen_base.proofs.Printed.{writes_then, writes_same, writes_if, writes_nothing, writes_formatting_space, writes_formatting_line, writes_commit, writes_position, writes_leading, writes_trailing, Fills, makes_wider, MakesAt, EndsLines, writes_space}
 use Rattle.swc_ecma_codegen_ast.specs.declared.roles.Role.TheVariants.{Item}
 use Rattle.swc_ecma_codegen.specs.declared.nodes.Place.TheVariants.{Plain, Statement}
 use Rattle.swc_ecma_codegen.specs.Answers.{place_of}
@@ -47,7 +47,6 @@ use Rattle.swc_ecma_codegen.specs.Stmts as words
 use Rattle.swc_ecma_codegen.specs.Programs as programs
 use Rattle.swc_ecma_codegen.proofs.Asked.{kept_same, committed_same}
 use Rattle.swc_ecma_codegen.proofs.ExprParts.{writes_opened, ident_prints}
-use Rattle.swc_ecma_codegen.proofs.FunctionParts.{name_prints}
 use Rattle.swc_ecma_codegen.proofs.Linked.{Linked, expr_at, stmt_at, pat_at, block_at, decl_at}
 use Rattle.swc_ecma_codegen.proofs.ListParts.{in_order_prints}
 use Rattle.swc_ecma_codegen.proofs.LoopParts.{begun, begun_joined, enclosed_then, spaced_expr, spaced_stmt, switch_prints, while_prints, do_while_prints, for_prints, for_in_prints, for_of_prints}

@@ -13,7 +13,7 @@ use Rattle.swc_ecma_codegen_ast.specs.Tokens as lexical
 use Rattle.swc_ecma_codegen_ast.specs.Tokens.{token_of, value_of, has_shape}
 use Rattle.swc_ecma_codegen_ast.specs.Reads.{is_child, is_hashbang_kind}
 use Rattle.swc_ecma_codegen_ast.specs.Trivia.{Piece, Blank, is_piece, piece_text, all_pieces, pieces_text, remarks_of}
-use Rattle.swc_ecma_codegen_ast.specs.GapRules.{Last, Start, Apart, LineEnd, fuses, allows, ends_line, last_after, last_after_gap, holds_child, MayBegin}
+use Rattle.swc_ecma_codegen_ast.specs.GapRules.{Last, Start, Apart, LineEnd, fuses, allows, ends_line, last_after, last_after_gap}
 use Rattle.swc_ecma_codegen_ast.specs.Parts as parts
 use Rattle.swc_ecma_codegen_ast.specs.Parts.{Gap, Own, tokens_of, remarks_in, NoneFuse, Reduced}
 use Rattle.swc_ecma_codegen_ast.specs.Phrases.{One, where_}
@@ -22,10 +22,11 @@ use Rattle.swc_ecma_codegen_text_writer.proofs.Sheets.{pointed_alike, alike_same
 use Rattle.swc_ecma_codegen_literals.specs.AsciiNames.{is_ascii_text}
 use Rattle.swc_ecma_codegen_base.specs.Ascii.{is_kept_piece, is_other_piece, is_kept_end, is_other_end, is_other_value, keeps_other, are_ascii, keeps_tokens}
 use Rattle.swc_ecma_codegen_base.specs.Literals.{hashbang}
-use Rattle.swc_ecma_codegen_base.specs.Run.{Env, Part, State, Step, Plain, Ends, put, run, step, next, text_of, after_plain, after_tokens, after_token, spelling, makes_text}
+use Rattle.swc_ecma_codegen_base.specs.Run.{Env, Part, State, Step, Plain, Ends, put, run, step, next, text_of, after_plain, makes_text}
 use Rattle.swc_ecma_codegen_base.specs.Scripts.{is_str, is_string_call}
 use Rattle.swc_ecma_codegen_base.specs.Words.{line_end, position}
 use Rattle.swc_ecma_codegen_base.specs.Written.{IsLineEnd, AtRest, all_indent, holds_one, is_free}
+use Rattle.swc_ecma_codegen_base.proofs.Behind.{start_alone}
 use Rattle.swc_ecma_codegen_base.proofs.Hands.{Hands, has_string, hands_ascii, hands_then}
 use Rattle.swc_ecma_codegen_base.proofs.Held.{front, pointed_keeps, settled_none}
 use Rattle.swc_ecma_codegen_base.proofs.Indented.{blanks, blanks_text, blanks_remarks, indent_utf8, indent_chars}
@@ -34,9 +35,9 @@ use Rattle.swc_ecma_codegen_base.proofs.LiteralParts.{still_settled}
 use Rattle.swc_ecma_codegen_base.proofs.NumeralTexts.{ascii_by_chars}
 use Rattle.swc_ecma_codegen_base.proofs.Phrased.{PrintsAt, prints_one, prints_where}
 use Rattle.swc_ecma_codegen_base.proofs.Printed.{MakesAt, chain, no_text}
-use Rattle.swc_ecma_codegen_base.proofs.Shapes.{Shape, first_line, loose, Fits, fits_then, fits_wider, fits_text, fits_end, whole}
+use Rattle.swc_ecma_codegen_base.proofs.Shapes.{Shape, first_line, Fits, fits_then, fits_wider, fits_text, fits_end, whole}
 use Rattle.swc_ecma_codegen_base.proofs.Texts.{Adds, adds_written, adds_literal, adds_more}
-use Rattle.swc_ecma_codegen_base.proofs.Written.{LaysAt, IsFirst, Enters, held, laid_out, front_indent, apart_open, start_alone, settle, settle_rest, lays_settled, lays_position}
+use Rattle.swc_ecma_codegen_base.proofs.Written.{LaysAt, IsFirst, Enters, held, laid_out, front_indent, apart_open, settle, settle_rest, lays_settled, lays_position}
 
 -- ---- the end of a line
 

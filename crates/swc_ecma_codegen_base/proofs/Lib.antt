@@ -46,6 +46,7 @@ pub mod TemplateLaws
 pub mod PrivatePrints
 pub mod StringPrints
 pub mod NumberPrints
+pub mod Behind
 pub mod BigPrints
 pub mod TemplatePrints
 pub mod EachLit

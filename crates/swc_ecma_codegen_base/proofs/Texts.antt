@@ -17,11 +17,12 @@ use Rattle.swc_ecma_codegen_text_writer.specs.Sheet.{Sheet, holds_semicolons, re
 use Rattle.swc_ecma_codegen_text_writer.proofs.Sheets.{written_same}
 use Rattle.swc_ecma_codegen_base.specs.Run.{State, spelling, after_token, after_tokens}
 use Rattle.swc_ecma_codegen_base.specs.Written.{IsLineEnd, all_indent, is_free, holds_one, AtRest}
+use Rattle.swc_ecma_codegen_base.proofs.Behind.{apart_alone, after_indent, in_a_line}
 use Rattle.swc_ecma_codegen_base.proofs.Held.{front, front_of, recorded_keeps, written_text, written_semicolons, in_line}
 use Rattle.swc_ecma_codegen_base.proofs.Indented.{indent_repeat, indent_utf8, indent_chars, blanks, blanks_text, blanks_remarks}
 use Rattle.swc_ecma_codegen_base.proofs.Strangers.{dash_same}
 use Rattle.swc_ecma_codegen_base.proofs.Shapes.{whole, Fits, fits_indent, fits_then, fits_own as fits_one_own}
-use Rattle.swc_ecma_codegen_base.proofs.Written.{Lays, Spelled, spelled_mark, laid_out, front_indent, apart_alone, after_indent, in_a_line, apart_open, mark_allows, free_last, own_fits}
+use Rattle.swc_ecma_codegen_base.proofs.Written.{Lays, Spelled, spelled_mark, laid_out, front_indent, apart_open, mark_allows, free_last, own_fits}
 
 -- ---- what calls add to a sheet
 

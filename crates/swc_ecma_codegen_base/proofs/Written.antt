@@ -14,7 +14,7 @@ use Rattle.swc_ecma_codegen_ast.specs.Texts.{begins, is_same, is_among}
 use Rattle.swc_ecma_codegen_ast.specs.Chars.{is_blank}
 use Rattle.swc_ecma_codegen_ast.specs.Trivia.{Blank, is_piece, piece_text, pieces_text, all_pieces, remarks_of}
 use Rattle.swc_ecma_codegen_ast.specs.Reads.{is_child, is_hashbang_kind}
-use Rattle.swc_ecma_codegen_ast.specs.GapRules.{Last, Start, Apart, Mark, LessBang, fuses, allows, mark_after, last_after, last_after_gap, holds_child}
+use Rattle.swc_ecma_codegen_ast.specs.GapRules.{Last, Start, Apart, Mark, LessBang, fuses, allows, mark_after, last_after, last_after_gap}
 use Rattle.swc_ecma_codegen_ast.specs.Parts as parts
 use Rattle.swc_ecma_codegen_ast.specs.Parts.{Gap, Own, Joint, tokens_of, remarks_in, NoneFuse}
 use Rattle.swc_ecma_codegen_ast.proofs.Reading.{blank_fuses}
@@ -27,9 +27,10 @@ use Rattle.swc_ecma_codegen_text_writer.proofs.Sheets.{written_same, pointed_ali
 use Rattle.swc_ecma_codegen_base.specs.Run.{State, Guard, put, spelling}
 use Rattle.swc_ecma_codegen_base.specs.Written.{IsLineEnd, is_indent, all_indent, is_free, holds_one, AtRest}
 use Rattle.swc_ecma_codegen_base.proofs.Held.{front_of, front, written_text, in_line, written_semicolons, pointed_keeps, settled_none}
+use Rattle.swc_ecma_codegen_base.proofs.Behind.{apart_alone, same_after, free_apart, after_indent, in_a_line, blank_apart}
 use Rattle.swc_ecma_codegen_base.proofs.Appended.{text_append, tokens_append, remarks_append}
 use Rattle.swc_ecma_codegen_base.proofs.Shapes.{Shape, whole, open_, loose, joining, joined, join, is_within, within_stands, Fits, fits_then, fits_wider, fits_nothing, fits_joint, fits_own, fits_indent, fits_text, fits_end}
-use Rattle.swc_ecma_codegen_base.proofs.Indented.{indent_append, indent_repeat, indent_utf8, indent_chars, blanks, blanks_text, indent_blank, blanks_pieces, blanks_remarks}
+use Rattle.swc_ecma_codegen_base.proofs.Indented.{indent_append, indent_repeat, indent_utf8, indent_chars, blanks, blanks_text, blanks_remarks}
 
 -- what is asked for and isn't out yet: a semicolon that is held back, where it would stand
 abbrev pub held_of : Bool → Sheet → List parts.Part
@@ -178,63 +179,6 @@ still_none span t s h = ap holds_one (written_semicolons span t s) ∙ h
 
 still_holds : (span : Option Span) (t : List ℕ) (s : Sheet) → holds_semicolons (written span t s).semicolons ≡ holds_semicolons s.semicolons
 still_holds span t s = ap holds_semicolons (written_semicolons span t s)
-
--- ---- blanks and line ends
-
-pub apart_alone : (t : List ℕ) → fuses Apart t ≡ false
-unfolding fuses
-apart_alone [] = refl
-apart_alone (c ∷ n) = refl
-
-pub start_alone : (t : List ℕ) → fuses Start t ≡ false
-unfolding fuses
-start_alone [] = refl
-start_alone (c ∷ n) = refl
-
-same_after : (x : Kind) (t : List ℕ) → last_after Apart x t ≡ last_after Start x t
-unfolding last_after mark_after
-same_after Word t = refl
-same_after x t = refl
-
--- what may stand after a blank may stand first of all
-first_of_all : (xs : List parts.Part) → NoneFuse Apart xs → NoneFuse Start xs
-unfolding NoneFuse allows last_after_gap holds_child
-first_of_all [] h = refl
-first_of_all (Gap [] ∷ xs) h = (h.0, start_alone (pieces_text []), refl, first_of_all xs h.3)
-first_of_all (Gap (p ∷ ps) ∷ xs) h = (h.0, start_alone (pieces_text (p ∷ ps)), refl, h.3)
-first_of_all (Joint ∷ xs) h = first_of_all xs h
-first_of_all (Own x t ∷ xs) h = (h.0, start_alone t, record { child = λ e. absurd (true≢false (sym (h.2.child e))); first = λ e. refl }, refl, subst (λ k. NoneFuse k xs) (same_after x t) h.4)
-
-free_apart : (k : Last) → is_free k ≡ true → (xs : List parts.Part) → NoneFuse Apart xs → NoneFuse k xs
-unfolding is_free
-free_apart Start e xs h = first_of_all xs h
-free_apart Apart e xs h = h
-free_apart k e xs h = absurd (true≢false (sym e))
-
-nothing_fuses : (k : Last) → fuses k [] ≡ false
-unfolding fuses
-nothing_fuses k = refl
-
--- indentation before what may stand first, and nothing before what stands in a line
-pub after_indent : (k : Last) (u : List ℕ) (xs : List parts.Part) → all_indent u ≡ true → is_free k ≡ true → ((t : List ℕ) → allows k t ≡ true) → NoneFuse Apart xs → NoneFuse k (Gap (blanks u) ∷ xs)
-unfolding NoneFuse blanks last_after_gap pieces_text piece_text all_indent all_pieces
-after_indent k [] xs h e a n = (refl, nothing_fuses k, a [], free_apart k e xs n)
-after_indent k (c ∷ cs) xs h e a n =
-    let p = and_parts (is_indent c) (all_indent cs) h in
-    (blanks_pieces (c ∷ cs) h, blank_fuses k c (pieces_text (blanks cs)) (indent_blank c p.0), a (c ∷ pieces_text (blanks cs)), n)
-
-pub in_a_line : (k : Last) (xs : List parts.Part) → ((t : List ℕ) → allows k t ≡ true) → NoneFuse k xs → NoneFuse k (Gap (blanks []) ∷ xs)
-unfolding NoneFuse blanks last_after_gap pieces_text all_pieces
-in_a_line k xs a n = (refl, nothing_fuses k, a [], n)
-
-blank_apart : (k : Last) (u : List ℕ) (xs : List parts.Part) → all_indent (u ++ codes " ") ≡ true → ((t : List ℕ) → allows k t ≡ true) → NoneFuse Apart xs → NoneFuse k (Gap (blanks (u ++ codes " ")) ∷ xs)
-unfolding NoneFuse blanks last_after_gap pieces_text piece_text all_indent
-blank_apart k [] xs h a n =
-    let p = and_parts (is_indent 32) (all_indent []) h in
-    (blanks_pieces (codes " ") h, blank_fuses k 32 [] (indent_blank 32 p.0), a (codes " "), n)
-blank_apart k (c ∷ cs) xs h a n =
-    let p = and_parts (is_indent c) (all_indent (cs ++ codes " ")) h in
-    (blanks_pieces (c ∷ (cs ++ codes " ")) h, blank_fuses k c (pieces_text (blanks (cs ++ codes " "))) (indent_blank c p.0), a (c ∷ pieces_text (blanks (cs ++ codes " "))), n)
 
 -- ---- a semicolon that is held back goes out
 
