@@ -1,0 +1,167 @@
+//! Callers of the printer: how a project makes a tree or reads one, prints it, and what it may say of the text. Each is proved
+//! from the clauses of what it calls; docs/CALLING.md quotes them.
+#![tactic(auto)]
+
+ghost use Rattle.std.specs.Prelude.{◌≡◌, ◌<◌, ◌^◌, ℕ, List, true, false, IfOk, IfErr, IsErrOf, OnOk, string_bytes};
+ghost use Rattle.std.specs.Io.KnownBytes.{Appends};
+ghost use Rattle.swc_ecma_codegen_tree.specs.declared.programs.Program.{Program as ProgramOf};
+ghost use Rattle.swc_ecma_codegen_ast.specs.SourceLines.{no_lines};
+ghost use Rattle.swc_ecma_codegen_ast.specs.TreePhrases.{program_phrase, is_well_formed};
+ghost use Rattle.swc_ecma_codegen_util.specs.Defaults.{default_config};
+ghost use Rattle.swc_ecma_codegen_text_writer.specs.Recorded.{RecordsTruly};
+ghost use Rattle.swc_ecma_codegen_text_writer.specs.View.{sheet_of, keeping};
+ghost use Rattle.swc_ecma_codegen_base.specs.Ready.{token_count};
+ghost use Rattle.swc_ecma_codegen_base.specs.Run.{start};
+ghost use Rattle.swc_ecma_codegen_base.specs.Written.{AddsReading, IsNew, ReadsAs};
+ghost use Rattle.swc_ecma_codegen.specs.Roots.{Root, root_items, root_phrase, is_well_formed_root};
+ghost use Rattle.swc_ecma_codegen.specs.Texts.{blank_sheet};
+
+use std::alloc::{AllocError, Global};
+use std::io::Write;
+use swc_ecma_codegen::{Config, Emitter, Node, is_well_formed, to_code};
+use swc_ecma_codegen_ast::comments::CommentMaps;
+use swc_ecma_codegen_ast::mapper::NoSource;
+use swc_ecma_codegen_common::{BytePos, DUMMY_SP, Error, LineCol, UnaryOp};
+use swc_ecma_codegen_json::{ReadError, program_from_slice};
+use swc_ecma_codegen_laws::new_emitter_reads;
+use swc_ecma_codegen_text_writer::{JsWriter, WriteJs, omit_trailing_semi};
+use swc_ecma_codegen_tree::{AnyNode, Expr, ExprBox, ExprStmt, Holds, Ident, Program, UnaryExpr};
+use thiserror::Error as ThisError;
+
+/// Why there is no text.
+#[derive(Debug, Drop, ThisError)]
+pub enum NoText {
+    /// The bytes are no program.
+    #[error("no program: {0}")]
+    Unread(ReadError),
+    /// The program isn't well-formed.
+    #[error("not well-formed")]
+    NotWellFormed,
+    /// The printer refused it.
+    #[error("refused: {0}")]
+    Refused(Error),
+}
+
+/// `-a;` of the name `a`, in a tree whose links hold `N`.
+fn negation<N: Holds<Expr<N>> + Drop>(
+    alloc: Global,
+    name: &str,
+) -> Result<ExprStmt<N>, AllocError> {
+    let span = DUMMY_SP;
+    let sym = String::from_str(alloc, name)?;
+    let name = Ident {
+        span,
+        sym,
+        optional: false,
+    };
+    let arg = ExprBox::new(alloc, Expr::Ident(name))?;
+    let op = UnaryOp::Minus;
+    let expr = ExprBox::new(alloc, Expr::Unary(UnaryExpr { span, op, arg }))?;
+    Ok(ExprStmt { span, expr })
+}
+
+/// The text of `-a;`, a tree made by hand.
+pub fn negation_text(alloc: Global, name: &str) -> Result<String, Error> {
+    let statement: ExprStmt = negation(alloc, name)?;
+    to_code(alloc, &statement)
+}
+
+/// The text of a program, where it is well-formed: UTF-8 that reads, by longest match, as one of the program's token lists.
+pub fn checked_text(alloc: Global, program: &Program) -> Result<String, NoText>
+    ensures reads { IfOk result (λ text. ReadsAs default_config false (program_phrase program.now) (string_bytes text)) }
+    ensures not_well_formed { is_well_formed program.now ≡ false → IsErrOf result NoText.NotWellFormed }
+    // A well-formed program of fewer than 2 ^ 32 tokens is refused for want of memory alone.
+    ensures made { is_well_formed program.now ≡ true → token_count (program_phrase program.now) < 2 ^ 32 → IfErr result (λ error. error ≡ NoText.Refused Error.OutOfMemory) }
+{
+    if !is_well_formed(program) {
+        return Err(NoText::NotWellFormed);
+    }
+    match to_code(alloc, program) {
+        Ok(text) => Ok(text),
+        Err(error) => Err(NoText::Refused(error)),
+    }
+}
+
+/// Prints a program to any writer of bytes by way of memory, so that nothing is out unless the whole text was made. A writer that
+/// tells its bytes, as a `Vec` does, tells more by a text that reads as the program.
+pub fn append_checked<W: Write>(alloc: Global, program: &Program, out: &mut W) -> Result<(), NoText>
+    ensures { OnOk result ((text : List ℕ) × ReadsAs default_config false (program_phrase program.now) text × Appends (W.contents out.old) (W.contents out.new) text) }
+{
+    let text = checked_text(alloc, program)?;
+    match out.write_all(text.as_bytes()) {
+        Ok(()) => Ok(()),
+        Err(error) => Err(NoText::Refused(Error::Writer(error))),
+    }
+}
+
+/// Prints a node to a writer of tokens, and gives the writer back.
+fn printed_on<P: Node, W: WriteJs + Drop>(
+    alloc: Global,
+    config: Config,
+    node: &P,
+    wr: W,
+) -> Result<W, Error>
+    // What it adds to the text reads as the root that `node` prints, where that is well-formed.
+    ensures reads { (root : Root) → P.part node.now ≡ root_items root → is_well_formed_root root ≡ true → IsNew (start no_lines config (W.sheet wr)) → IfOk result (λ w. AddsReading config (root_phrase root) (W.sheet wr) (W.sheet w)) }
+    // Each position that it records holds the line and column that the text had reached.
+    ensures recorded { IfOk result (λ w. RecordsTruly (W.sheet wr) (W.sheet w)) }
+{
+    let mut emitter = Emitter::new(alloc, config, &NoSource, None::<CommentMaps>, wr);
+    node.emit_with(&mut emitter)?;
+    Ok(emitter.wr)
+}
+
+/// Prints a node to any writer of bytes, as a file, and gives that back. A `&mut` of one is one too.
+pub fn print_into<P: Node, W: Write + Drop>(alloc: Global, node: &P, out: W) -> Result<W, Error> {
+    let writer = JsWriter::new(alloc, &NoSource, "\n", out, None);
+    let printed = printed_on(alloc, Config::default(), node, writer)?;
+    Ok(printed.into_inner())
+}
+
+/// Prints a node, and records in `pairs`, after those that stand there, where its parts were written: `into_inner` of the
+/// writer is the text.
+pub fn print_with_positions<'a, P: Node>(
+    alloc: Global,
+    node: &P,
+    pairs: &'a mut Vec<(BytePos, LineCol)>,
+) -> Result<JsWriter<'a, Vec<u8>>, Error>
+    ensures { IfOk result (λ writer. RecordsTruly (keeping pairs.old.items blank_sheet) (sheet_of writer)) }
+{
+    let writer = JsWriter::new(alloc, &NoSource, "\n", Vec::new(alloc), Some(pairs));
+    printed_on(alloc, Config::default(), node, writer)
+}
+
+/// The text of a node, minified, without semicolons that aren't needed: `{a;}` is `{a}`.
+pub fn minified<P: Node>(alloc: Global, node: &P) -> Result<Vec<u8>, Error>
+    ensures { (root : Root) → P.part node.now ≡ root_items root → is_well_formed_root root ≡ true → IfOk result (λ text. ReadsAs (record default_config { minify = true }) true (root_phrase root) text.items) }
+{
+    new_emitter_reads();
+    let config = Config::default().with_minify(true);
+    let writer = JsWriter::new(alloc, &NoSource, "\n", Vec::new(alloc), None);
+    let printed = printed_on(alloc, config, node, omit_trailing_semi(writer))?;
+    let plain = printed.into_inner();
+    Ok(plain.into_inner())
+}
+
+/// The same of a program, where it is well-formed.
+fn checked_minified(alloc: Global, program: &Program) -> Result<Vec<u8>, NoText>
+    ensures { IfOk result (λ text. (is_well_formed program.now ≡ true) × ReadsAs (record default_config { minify = true }) true (program_phrase program.now) text.items) }
+{
+    if !is_well_formed(program) {
+        return Err(NoText::NotWellFormed);
+    }
+    match minified(alloc, program) {
+        Ok(text) => Ok(text),
+        Err(error) => Err(NoText::Refused(error)),
+    }
+}
+
+/// The minified text of a program in JSON: it reads as some well-formed program.
+pub fn minified_json(alloc: Global, json: &[u8]) -> Result<Vec<u8>, NoText>
+    ensures { IfOk result (λ text. (program : ProgramOf AnyNode) × (is_well_formed program ≡ true) × ReadsAs (record default_config { minify = true }) true (program_phrase program) text.items) }
+{
+    match program_from_slice(alloc, json) {
+        Ok(program) => checked_minified(alloc, &program),
+        Err(error) => Err(NoText::Unread(error)),
+    }
+}
