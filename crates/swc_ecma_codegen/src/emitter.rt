@@ -138,8 +138,8 @@ impl<'a, W: WriteJs, S: SourceMapper, C: Comments> Emitter<'a, W, S, C> {
         self.emit(node)
     }
 
-    /// Prints a module: the text of each item, and then a semicolon that is held back, unless the settings leave it out.
-    /// swc's `emit_module`.
+    /// Prints a module: its hashbang, the text of each item, and then a semicolon that is held back, unless the settings leave
+    /// it out. swc's `emit_module`.
     #[tactic(auto, using(crate::proofs::TreeReads::module_reads, crate::proofs::TreeReads::steps_recorded, crate::proofs::TreeReads::module_names, crate::proofs::TreeReads::module_ascii, crate::proofs::TreeReads::module_safe, crate::proofs::TreeMade::module_made, swc_ecma_codegen_base::proofs::Made::ready_after, swc_ecma_codegen_base::proofs::Phrased::never_out_of_memory))]
     pub fn emit_module(&mut self, node: &Module) -> Result
         // The steps of the tree are made, and it comes to no node that can't be printed; or it halts.
@@ -177,8 +177,8 @@ impl<'a, W: WriteJs, S: SourceMapper, C: Comments> Emitter<'a, W, S, C> {
         self.emit(node)
     }
 
-    /// Prints a script: the text of each statement, and then a semicolon that is held back, unless the settings leave
-    /// it out. swc's `emit_script`.
+    /// Prints a script: its hashbang, the text of each statement, and then a semicolon that is held back, unless the settings
+    /// leave it out. swc's `emit_script`.
     #[tactic(auto, using(crate::proofs::TreeReads::script_reads, crate::proofs::TreeReads::steps_recorded, crate::proofs::TreeReads::script_names, crate::proofs::TreeReads::script_ascii, crate::proofs::TreeReads::script_safe, crate::proofs::TreeMade::script_made, swc_ecma_codegen_base::proofs::Made::ready_after, swc_ecma_codegen_base::proofs::Phrased::never_out_of_memory))]
     pub fn emit_script(&mut self, node: &Script) -> Result
         // The steps of the tree are made, and it comes to no node that can't be printed; or it halts.
