@@ -145,9 +145,10 @@ unfoldable pub exported_head : {X : Type 0} → (X → Role → Phrase) → Decl
 exported_head f (decls.Class n) = f n.class.node.value ClassHead
 exported_head f n = Nothing
 
--- and what stands after it
+-- And what stands after it. One by `using` isn't exported in the proposal.
 unfoldable pub exported_tail : {X : Type 0} → (X → Role → Phrase) → Decl X → Phrase
 exported_tail f (decls.Class n) = if n.declare then Never else (word (codes "class") > ident n.ident > f n.class.node.value ClassTail)
+exported_tail f (decls.Using n) = Never
 exported_tail f n = decl f n
 
 -- `export let a = b;`

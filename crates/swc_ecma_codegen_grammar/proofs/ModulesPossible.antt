@@ -2,6 +2,7 @@
 use Rattle.std.proofs.Common.{◌≡◌, Bool, true, false, not, ◌&&◌, List, [], ◌∷◌, map, codes, Option, Some, None, refl, ap, ◌∙◌}
 use Rattle.swc_ecma_codegen_tree.specs.declared.decls.ClassDecl.{ClassDecl}
 use Rattle.swc_ecma_codegen_tree.specs.declared.decls.Decl.TheVariants as decls
+use Rattle.swc_ecma_codegen_tree.specs.declared.decls.UsingDecl.{UsingDecl}
 use Rattle.swc_ecma_codegen_tree.specs.declared.modules.ExportAll.{ExportAll}
 use Rattle.swc_ecma_codegen_tree.specs.declared.modules.ExportNamedSpecifier.{ExportNamedSpecifier}
 use Rattle.swc_ecma_codegen_tree.specs.declared.modules.ExportSpecifier.{ExportSpecifier}
@@ -109,3 +110,7 @@ export_all_possible f n = typed n.type_only _ _ (ap (λ b. is_possible (str_lit 
 pub exported_class_possible : {X : Type 0} (f : X → Role → Phrase) (n : ClassDecl X) → is_possible (exported_tail f (decls.Class n)) ≡ (not n.declare && (is_possible (ident n.ident) && is_possible (f n.class.node.value ClassTail)))
 unfolding is_possible exported_tail
 exported_class_possible f n = typed n.declare _ _ refl
+
+pub no_exported_using : {X : Type 0} (f : X → Role → Phrase) (n : UsingDecl X) → is_possible (exported_tail f (decls.Using n)) ≡ false
+unfolding is_possible exported_tail
+no_exported_using f n = refl
