@@ -68,7 +68,6 @@ impl<W: WriteJs, S: SourceMapper, C: Comments> Emitter<'_, W, S, C> {
         requires { indented format.0 ≡ false }
         ensures items { Emits (braced_child format.0 parent previous (child_of T.stands T.items child.now)) (state_of S.lines W.sheet self.old) (state_of S.lines W.sheet self.new) result }
         ensures level { OnOk result ((W.sheet self.new.wr).indentation ≡ (W.sheet self.old.wr).indentation) }
-        ensures settings { OnOk result (self.new.cfg ≡ self.old.cfg) }
     {
         match previous {
             None => {
