@@ -81,6 +81,7 @@ impl Child for ExportSpecifier {
 
 impl Specifier for ExportSpecifier {
     ghost braced = { is_braced };
+
     ghost stars = { is_namespace };
 
     #[tactic(auto, unfolding(crate::specs::Modules::is_braced, crate::specs::Modules::is_namespace))]

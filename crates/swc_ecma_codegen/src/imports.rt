@@ -108,6 +108,7 @@ impl Child for ImportSpecifier {
 
 impl Specifier for ImportSpecifier {
     ghost braced = { is_named };
+
     ghost stars = { is_star };
 
     #[tactic(auto, unfolding(crate::specs::Modules::is_named))]

@@ -131,7 +131,12 @@ impl<W: WriteJs, S: SourceMapper, C: Comments> Emitter<'_, W, S, C> {
     }
 
     /// Writes the first child, and what stands before it.
-    pub(crate) fn first_child<T: Child>(&mut self, format: ListFormat, parent: Span, child: &T) -> Answer
+    pub(crate) fn first_child<T: Child>(
+        &mut self,
+        format: ListFormat,
+        parent: Span,
+        child: &T,
+    ) -> Answer
         ensures items { Emits (first_child format.0 parent (child_of T.stands T.items child.now)) (state_of S.lines W.sheet self.old) (state_of S.lines W.sheet self.new) result }
         ensures level { OnOk result ((W.sheet self.new.wr).indentation ≡ (W.sheet self.old.wr).indentation + list_levels format.0 self.old.cfg) }
         ensures settings { OnOk result (self.new.cfg ≡ self.old.cfg) }
@@ -153,7 +158,12 @@ impl<W: WriteJs, S: SourceMapper, C: Comments> Emitter<'_, W, S, C> {
     }
 
     /// Writes a child after one that stands at `previous`, and what stands between them.
-    pub(crate) fn next_child<T: Child>(&mut self, format: ListFormat, previous: Span, child: &T) -> Answer
+    pub(crate) fn next_child<T: Child>(
+        &mut self,
+        format: ListFormat,
+        previous: Span,
+        child: &T,
+    ) -> Answer
         ensures items { Emits (next_child format.0 previous (child_of T.stands T.items child.now)) (state_of S.lines W.sheet self.old) (state_of S.lines W.sheet self.new) result }
         ensures level { OnOk result ((W.sheet self.new.wr).indentation ≡ (W.sheet self.old.wr).indentation) }
         ensures settings { OnOk result (self.new.cfg ≡ self.old.cfg) }

@@ -18,6 +18,7 @@ use swc_ecma_codegen_text_writer::WriteJs;
 /// What is imported or exported.
 pub trait Specifier: Child {
     ghost braced: { Self → Bool };
+
     ghost stars: { Self → Bool };
 
     /// Whether it stands among the braces.

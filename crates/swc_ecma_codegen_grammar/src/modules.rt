@@ -206,7 +206,7 @@ pub(crate) fn is_exported_head<N: Fits>(node: &Decl<N>) -> bool
 }
 
 /// Whether what stands after it is well-formed.
-#[tactic(auto, using(crate::proofs::ModulesPossible::exported_class_possible, crate::proofs::ModulesPossible::no_exported_using), unfolding(swc_ecma_codegen_ast::specs::ModulePhrases::exported_tail))]
+#[tactic(auto, using(crate::proofs::ModulesPossible::exported_class_possible, crate::proofs::ModulesPossible::never_possible), unfolding(swc_ecma_codegen_ast::specs::ModulePhrases::exported_tail))]
 pub(crate) fn is_exported_tail<N: Fits>(node: &Decl<N>) -> bool
     ensures { result ≡ is_possible (exported_tail N.reads node.now) }
 {
