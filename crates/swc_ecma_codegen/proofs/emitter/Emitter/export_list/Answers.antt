@@ -9,8 +9,8 @@ use Rattle.swc_ecma_codegen.specs.Lists.{child_of}
 use Rattle.swc_ecma_codegen.specs.Modules.{named_format, export_specifier, is_braced}
 use Rattle.swc_ecma_codegen.proofs.emitter.Emitter.export_list.Goals as goal
 
-pub requires-braced_list : goal.requires-braced_list
-requires-braced_list g c =
+pub braced_list-requires : goal.braced_list-requires
+braced_list-requires g c =
     let format : c.named_format.result.0 ≡ named_format = c.named_format.ensures in
     let P : ℕ → Type 0 = λ z. indented z ≡ false in
     subst P (sym format) refl
