@@ -1,4 +1,4 @@
-use Rattle.std.proofs.Common.{◌≡◌, ◌<◌, ◌+◌, ℕ, true, length, get_or, drop, map, sym, subst, rules, Err, Some, Result}
+use Rattle.std.proofs.Common.{◌≡◌, ◌<◌, ◌+◌, ℕ, true, length, drop, map, sym, subst, rules, Err, Some, Result}
 use Rattle.std.specs.List.{filter}
 use Rattle.swc_ecma_codegen_common.specs.declared.errors.Refusal.{Refusal}
 use Rattle.swc_ecma_codegen_base.specs.Run.{Plan, State, Emits, Follows}
