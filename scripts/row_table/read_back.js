@@ -44,12 +44,16 @@ function tokensByAcorn(text) {
   }
 }
 
+// As a script, or else as a module, which alone has `import.meta`.
 function parsed(text) {
-  try {
-    return babel.parse(OPEN + text + CLOSE, { sourceType: 'script', plugins: PLUGINS, tokens: true, allowSuperOutsideMethod: true, allowImportExportEverywhere: true });
-  } catch (error) {
-    return null;
+  for (const sourceType of ['script', 'module']) {
+    try {
+      return babel.parse(OPEN + text + CLOSE, { sourceType, plugins: PLUGINS, tokens: true, allowSuperOutsideMethod: true, allowImportExportEverywhere: true });
+    } catch (error) {
+      // (the other may have it)
+    }
   }
+  return null;
 }
 
 function tokensByBabel(text, file) {
@@ -81,22 +85,23 @@ function tokensByKinds(text, wanted) {
   return rest === '' ? found : null;
 }
 
-// A tree without places, spellings, parentheses, and marks that the parser leaves.
-function bare(node) {
-  if (Array.isArray(node)) return node.map(bare);
+// A tree without places, spellings, parentheses, and marks that the parser leaves. A part of a template is its units, unless there is a tag.
+function bare(node, tagged = false) {
+  if (Array.isArray(node)) return node.map((held) => bare(held, tagged));
   if (node === null || typeof node !== 'object') return node;
   if (node.type === 'NumericLiteral') return { type: node.type, value: node.value };
+  if (node.type === 'TemplateElement' && !tagged) return { type: node.type, value: node.value.cooked };
   const made = {};
   for (const [name, held] of Object.entries(node)) {
-    if (!['start', 'end', 'loc', 'extra', 'tokens', 'errors', 'comments', 'range', 'trailingComma'].includes(name)) made[name] = bare(held);
+    if (!['start', 'end', 'loc', 'extra', 'tokens', 'errors', 'comments', 'range', 'trailingComma'].includes(name)) made[name] = bare(held, node.type === 'TaggedTemplateExpression' || (tagged && node.type === 'TemplateLiteral' && name === 'quasis'));
   }
   return made;
 }
 
 const isSame = (one, two) => JSON.stringify(bare(one)) === JSON.stringify(bare(two));
 
-// Literals are spelled otherwise without blanks.
-const spelled = (token) => (/^(?:\.?[0-9]|["'])/.test(token) ? 'literal' : token);
+// Literals are spelled otherwise without blanks, and so are parts of templates.
+const spelled = (token) => (/^(?:\.?[0-9]|["'])|[\n\\]/.test(token) ? 'literal' : token);
 
 // What is left of tokens when all goes that may be there or not.
 function core(tokens) {
