@@ -1,7 +1,7 @@
 //! Laws of links, references, boxes and options, whatever links hold: `emit_with` of one writes what is written of what it
 //! holds, and where that is what is written of a root, what it adds to the text reads as that root.
 
-ghost use Rattle.std.specs.Prelude.{◌≡◌, true, Some, None, OnOk, IsOk};
+ghost use Rattle.std.specs.Prelude.{◌≡◌, true, false, Some, None, OnOk, IsOk};
 ghost use Rattle.swc_ecma_codegen_common.specs.Refusals.{in_short};
 ghost use Rattle.swc_ecma_codegen_tree.specs.declared.exprs.MemberExpr.{MemberExpr};
 ghost use Rattle.swc_ecma_codegen_tree.specs.declared.pats.AssignTarget.{AssignTarget};
