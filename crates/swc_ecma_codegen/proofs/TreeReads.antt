@@ -1,23 +1,26 @@
 -- What an emission of a well-formed tree adds to a text reads as one of the tree's token lists.
-use Rattle.std.proofs.Common.{◌≡◌, ℕ, Bool, true, false, not, if◌then◌else◌, List, refl, sym, ap, ◌∙◌, subst, inl, inr, Some, None, Result, Ok, Err, OnOk}
+use Rattle.std.proofs.Common.{◌≡◌, ℕ, Bool, true, false, not, cond, if◌then◌else◌, List, refl, sym, ap, ◌∙◌, subst, inl, inr, Option, Some, None, Result, Ok, Err, OnOk}
 use Rattle.std.proofs.lemmas.Bool.{not-false, true≢false}
 use Rattle.swc_ecma_codegen_common.specs.declared.errors.Error.{Error}
 use Rattle.swc_ecma_codegen_common.specs.Refusals.{in_short}
 use Rattle.swc_ecma_codegen_tree.specs.declared.links.AnyNode.{AnyNode}
+use Rattle.swc_ecma_codegen_tree.specs.declared.exprs.Tpl.{Tpl}
+use Rattle.swc_ecma_codegen_tree.specs.declared.modules.ImportDecl.{ImportDecl}
 use Rattle.swc_ecma_codegen_tree.specs.declared.programs.Program.{Program}
 use Rattle.swc_ecma_codegen_tree.specs.declared.programs.Program.TheVariants.{Module as a_module, Script as a_script}
 use Rattle.swc_ecma_codegen_tree.specs.declared.programs.Module.{Module}
 use Rattle.swc_ecma_codegen_tree.specs.declared.programs.ModuleItem.{ModuleItem}
 use Rattle.swc_ecma_codegen_tree.specs.declared.programs.Script.{Script}
 use Rattle.swc_ecma_codegen_ast.specs.StmtPhrases as stmt_lists
+use Rattle.swc_ecma_codegen_ast.specs.TemplatePhrases.{is_counted}
 use Rattle.swc_ecma_codegen_ast.specs.TreePhrases.{phrase, program_phrase, is_well_formed}
 use Rattle.swc_ecma_codegen_ast.specs.ModulePhrases as module_lists
 use Rattle.swc_ecma_codegen_util.specs.declared.config.Config.{Config}
 use Rattle.swc_ecma_codegen_text_writer.specs.View.{new_sheet}
 use Rattle.swc_ecma_codegen_common.specs.declared.errors.Refusal.TheVariants as refusals
-use Rattle.swc_ecma_codegen_base.specs.declared.refusals.Unprintable.TheVariants.{NameOutOfTarget}
+use Rattle.swc_ecma_codegen_base.specs.declared.refusals.Unprintable.TheVariants.{BadShape, NameOutOfTarget}
 use Rattle.swc_ecma_codegen_ast.specs.SourceLines.{Lines}
-use Rattle.swc_ecma_codegen_base.specs.Run.{Env, Plan, Part, State, nothing, Follows, start, makes_text, steps_of, steps_in, unprintable_in}
+use Rattle.swc_ecma_codegen_base.specs.Run.{Env, Plan, Part, State, refuse, refused, nothing, Follows, start, makes_text, steps_of, steps_in, unprintable_in}
 use Rattle.swc_ecma_codegen_base.specs.Targets.{is_out}
 use Rattle.swc_ecma_codegen_base.specs.Escapes.{may_make_text}
 use Rattle.swc_ecma_codegen_base.specs.Named.{RecordsNames}
@@ -32,11 +35,13 @@ use Rattle.swc_ecma_codegen_text_writer.specs.Sheet.{HoldsNone}
 use Rattle.swc_ecma_codegen_base.specs.Written.{IsLineEnd, IsNew, AddsReading, all_indent, is_indent, holds_one}
 use Rattle.swc_ecma_codegen_base.proofs.Short.{on_ok_in_short}
 use Rattle.swc_ecma_codegen_base.proofs.Phrased.{printed_reads, printed_remakes, printed_names, follows_records, PrintsAt, prints_wider}
-use Rattle.swc_ecma_codegen_base.proofs.Made.{ends_where_out, follows_in_target, follows_out_of_target}
+use Rattle.swc_ecma_codegen_base.proofs.Made.{ends_where_out, follows_in_target, follows_out_of_target, follows_shaped, follows_supported}
 use Rattle.swc_ecma_codegen.specs.declared.nodes.Place.TheVariants.{Plain}
 use Rattle.swc_ecma_codegen.specs.Answers.{any_answers}
-use Rattle.swc_ecma_codegen.specs.Modules.{module_item}
+use Rattle.swc_ecma_codegen.specs.Lists.{unsupported}
+use Rattle.swc_ecma_codegen.specs.Modules.{is_crowded, import_parts, import_decl, module_item}
 use Rattle.swc_ecma_codegen.specs.Programs as programs
+use Rattle.swc_ecma_codegen.specs.Templates.{tpl_placed, bad_shape, tpl}
 use Rattle.swc_ecma_codegen.specs.Tree.{any_items}
 use Rattle.swc_ecma_codegen.specs.Roots.{Root, OfExpr, OfStmt, OfItem, OfModule, OfScript, OfProgram, OfLink, root_items, root_phrase, is_well_formed_root, root_hashbang, MayBegin}
 use Rattle.swc_ecma_codegen.proofs.ExprParts.{plain_expr_prints}
@@ -175,6 +180,22 @@ root_in_target n a b w e h = follows_in_target (root_items n) (root_phrase n) a 
 
 pub root_out_of_target : (n : Root) (a b : State) → is_well_formed_root n ≡ true → a.env.keeps_invalid ≡ false → Follows (root_items n nothing) a b (Err refusals.NameOutOfTarget) → is_out a.env.config (root_phrase n) ≡ true
 root_out_of_target n a b w e h = follows_out_of_target (root_items n) (root_phrase n) a b (root_prints a.env e n) w h
+
+-- it comes to no other node that can't be printed
+pub root_shaped : (n : Root) (a b : State) → is_well_formed_root n ≡ true → a.env.keeps_invalid ≡ false → Follows (root_items n nothing) a b (Err refusals.BadShape) → ⊥
+root_shaped n a b w e h = follows_shaped (root_items n) (root_phrase n) a b (root_prints a.env e n) w h
+
+pub root_supported : (n : Root) (a b : State) → is_well_formed_root n ≡ true → a.env.keeps_invalid ≡ false → Follows (root_items n nothing) a b (Err refusals.UnsupportedNode) → ⊥
+root_supported n a b w e h = follows_supported (root_items n) (root_phrase n) a b (root_prints a.env e n) w h
+
+-- a shape of which no text is written
+pub crowded_refused : (n : ImportDecl AnyNode) (rest : Plan) (env : Env) → is_crowded n.specifiers.items ≡ true → import_decl any_items n rest env ≡ refused BadShape
+unfolding import_decl bad_shape refuse
+crowded_refused n rest env h = ap (λ b. cond b (bad_shape rest) (cond n.type_only (unsupported rest) (import_parts any_items n rest)) env) h
+
+pub uncounted_refused : (n : Tpl AnyNode) (tagged : Bool) (rest : Plan) (env : Env) → is_counted n.exprs.items n.quasis.items ≡ false → tpl any_items tagged n rest env ≡ refused BadShape
+unfolding tpl bad_shape refuse
+uncounted_refused n tagged rest env h = ap (λ b. cond b (tpl_placed any_items tagged n rest) (bad_shape rest) env) h
 
 new_is_new : (lines : Lines) (config : Config) (bytes line_end : List ℕ) → IsLineEnd line_end → IsNew (start lines config (new_sheet bytes line_end))
 unfolding all_indent is_indent holds_one

@@ -207,7 +207,7 @@ pub(crate) fn is_exported_head<N: Fits>(node: &Decl<N>) -> bool
 }
 
 /// Whether what stands after it is well-formed.
-#[tactic(auto, using(crate::proofs::ModulesPossible::exported_class_possible), unfolding(swc_ecma_codegen_ast::specs::ModulePhrases::exported_tail))]
+#[tactic(auto, using(crate::proofs::ModulesPossible::exported_class_possible, crate::proofs::ModulesPossible::never_possible), unfolding(swc_ecma_codegen_ast::specs::ModulePhrases::exported_tail))]
 pub(crate) fn is_exported_tail<N: Fits>(node: &Decl<N>) -> bool
     ensures { result ≡ is_possible (exported_tail N.reads node.now) }
 {
@@ -217,6 +217,7 @@ pub(crate) fn is_exported_tail<N: Fits>(node: &Decl<N>) -> bool
                 && class.ident.is_well_formed()
                 && class.class.held().fits(Role::ClassTail)
         }
+        Decl::Using(_) => false,
         _ => node.is_well_formed(),
     }
 }

@@ -7,7 +7,7 @@ use crate::calls::{
 };
 use crate::faults::{
     fails_after_each_byte, gives_the_writers_error, goes_out_in_single_bytes,
-    stops_when_interrupted,
+    stops_when_interrupted, writes_no_bad_shape,
 };
 use crate::links::all_come_back;
 use crate::settings::{act_one_by_one, leave_out_the_last_semicolon, refuse_a_name};
@@ -58,6 +58,10 @@ fn failing<N: Tree>(alloc: Global) -> Result<Vec<&'static str>, Fail> {
         (
             "the error of the writer comes out",
             gives_the_writers_error::<N>(alloc)?,
+        ),
+        (
+            "nothing is written of a bad shape",
+            writes_no_bad_shape::<N>(alloc)?,
         ),
         ("links give back what they hold", all_come_back::<N>(alloc)?),
         (
