@@ -16,6 +16,9 @@ ghost use Rattle.swc_ecma_codegen_base.specs.Written.{AddsReading, ReadsAs};
 ghost use Rattle.swc_ecma_codegen.specs.Roots.{Root, root_items, root_phrase, is_well_formed_root, MayBegin};
 ghost use Rattle.swc_ecma_codegen.specs.Texts.{blank_sheet};
 
+#[cfg(test)]
+mod tests;
+
 use std::alloc::{AllocError, Global};
 use std::io::Write;
 use swc_ecma_codegen::{Config, Emitter, Node, is_well_formed, to_code};
@@ -23,7 +26,6 @@ use swc_ecma_codegen_ast::comments::CommentMaps;
 use swc_ecma_codegen_ast::mapper::NoSource;
 use swc_ecma_codegen_common::{BytePos, DUMMY_SP, Error, LineCol, UnaryOp};
 use swc_ecma_codegen_json::{ReadError, program_from_slice};
-use swc_ecma_codegen_laws::new_emitter_reads;
 use swc_ecma_codegen_text_writer::{JsWriter, WriteJs, omit_trailing_semi};
 use swc_ecma_codegen_tree::{AnyNode, Expr, ExprBox, ExprStmt, Holds, Ident, Program, UnaryExpr};
 use thiserror::Error as ThisError;
@@ -135,7 +137,6 @@ pub fn print_with_positions<'a, P: Node>(
 pub fn minified<P: Node>(alloc: Global, node: &P) -> Result<Vec<u8>, Error>
     ensures { (root : Root) → P.part node.now ≡ root_items root → is_well_formed_root root ≡ true → IfOk result (λ text. ReadsAs (record default_config { minify = true }) true (root_phrase root) text.items) }
 {
-    new_emitter_reads();
     let config = Config::default().with_minify(true);
     let writer = JsWriter::new(alloc, &NoSource, "\n", Vec::new(alloc), None);
     let printed = printed_on(alloc, config, node, omit_trailing_semi(writer))?;

@@ -1,4 +1,4 @@
-use Rattle.std.proofs.Common.{◌≡◌, List, ℕ, string_bytes, rules, subst}
+use Rattle.std.proofs.Common.{List, ℕ, string_bytes, subst}
 use Rattle.std.specs.Io.KnownBytes.{Appends}
 use Rattle.swc_ecma_codegen_uses.proofs.append_checked.Goals as goal
 
@@ -6,5 +6,5 @@ use Rattle.swc_ecma_codegen_uses.proofs.append_checked.Goals as goal
 pub returns-in-Ok : goal.returns-in-Ok
 returns-in-Ok g c =
     let text = string_bytes c.in_ok-text.text in
-    let Sent : List ℕ → Type 0 = λ t. Appends (g.W.Write.contents c.args.out.now) (g.W.Write.contents c.write_all.new.out) t in
-    (text, c.in_ok-text.ensures.reads, subst Sent c.as_bytes.ensures.value c.in-Ok.ensures)
+    let Sent : List ℕ → Type 0 = λ t. Appends (g.W.Write.contents c.args.out.now) (g.W.Write.contents c.write_all.new.self) t in
+    (text, c.in_ok-text.ensures.reads, subst Sent c.as_bytes.ensures.value c.in-Ok.ensures.bytes)

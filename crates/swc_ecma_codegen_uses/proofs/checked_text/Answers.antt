@@ -1,5 +1,4 @@
-use Rattle.std.proofs.Common.{◌≡◌, ◌∙◌, refl, rules, sym, true, ap}
-use Rattle.swc_ecma_codegen_tree.specs.declared.links.AnyNode.{AnyNode}
+use Rattle.std.proofs.Common.{◌≡◌, refl, rules, true, ap}
 use Rattle.swc_ecma_codegen_ast.specs.TreePhrases.{is_well_formed}
 use Rattle.swc_ecma_codegen_common.specs.declared.errors.Error.{Error}
 use Rattle.swc_ecma_codegen.specs.Roots.{OfProgram}

@@ -1,5 +1,4 @@
 use Rattle.std.proofs.Common.{[], ◌∷◌, ◌∙◌, ap, refl, subst, IfOk}
-use Rattle.swc_ecma_codegen_text_writer.specs.Told.{told}
 use Rattle.swc_ecma_codegen_text_writer.specs.Recorded.{RecordsTruly}
 use Rattle.swc_ecma_codegen_text_writer.specs.View.{sheet_of, new_sheet, keeping}
 use Rattle.swc_ecma_codegen_uses.proofs.print_with_positions.Goals as goal
