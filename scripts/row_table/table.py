@@ -136,6 +136,8 @@ class Table:
             return [self.case(row, rest[0].split(), *rest[1:], word == "script_prints")]
         if word in ("program", "expr"):
             return [Case(row, [], tree(rest[0]) if word == "program" else script(rest[0]), rest[1], "", None)]
+        if word == "malformed_program":
+            return [Case(row, words, tree(rest[0]), text, "", None) for words, text in (([], rest[1]), (["--minify"], rest[2]))]
         if word == "run" and rest[2] == "0":
             return [Case(row, rest[0].split(), tree(rest[1]), rest[3], rest[4], None)]
         if word in ("over", "script_over"):

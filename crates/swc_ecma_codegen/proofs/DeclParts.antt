@@ -17,8 +17,8 @@ use Rattle.swc_ecma_codegen_ast.specs.NamePhrases.{ident as ident_list}
 use Rattle.swc_ecma_codegen_ast.specs.ModulePhrases as module_lists
 use Rattle.swc_ecma_codegen_ast.specs.DeclPhrases as lists
 use Rattle.swc_ecma_codegen_base.specs.Run.{Env, Part}
-use Rattle.swc_ecma_codegen_base.proofs.ListLaws.{prints_list}
-use Rattle.swc_ecma_codegen_base.proofs.Phrased.{Prints, then, after, before, prints_nothing, prints_never, prints_keyword, prints_semi, PrintsAt, prints_wider, loosened, joined_then}
+use Rattle.swc_ecma_codegen_base.proofs.ListLaws.{prints_list_on_line}
+use Rattle.swc_ecma_codegen_base.proofs.Phrased.{Prints, then, after, before, prints_nothing, prints_never, prints_keyword, prints_semi, PrintsAt, prints_wider, joined_then}
 use Rattle.swc_ecma_codegen_base.proofs.Printed.{writes_nothing, writes_space, writes_commit, writes_position, writes_leading, Fills}
 use Rattle.swc_ecma_codegen.specs.declared.nodes.Place.{Place}
 use Rattle.swc_ecma_codegen.specs.declared.nodes.Place.TheVariants.{Plain, DeclarationHead, ExportedHead, ExportedTail, Statement}
@@ -31,7 +31,7 @@ use Rattle.swc_ecma_codegen.proofs.Impossible.{refused_or}
 use Rattle.swc_ecma_codegen.proofs.Linked.{Linked, pat_at, var_decl_at}
 use Rattle.swc_ecma_codegen.proofs.MarkWords as marks
 use Rattle.swc_ecma_codegen.proofs.PatParts.{initializer_prints}
-use Rattle.swc_ecma_codegen_base.proofs.Shapes.{loose, ended, ended_if_any}
+use Rattle.swc_ecma_codegen_base.proofs.Shapes.{ended, ended_if_any}
 
 fn_decl_prints : {X : Type 0} (l : Linked X) (n : FnDecl X) → Prints l.env (words.fn_decl l.asks l.items n) (lists.fn_decl l.reads n)
 unfolding words.fn_decl words.fn_decl_parts lists.fn_decl
@@ -48,10 +48,11 @@ declarator_prints : {X : Type 0} (l : Linked X) (n : VarDeclarator X) → Prints
 unfolding words.var_declarator words.var_declarator_parts lists.var_declarator
 declarator_prints l n = refused_or n.definite (after (writes_opened l.env n.span) (then (pat_at l n.name) (initializer_prints l n.init)))
 
-declarators_print : {X : Type 0} (l : Linked X) (span : Span) (ns : List (VarDeclarator X)) → PrintsAt loose l.env (words.declarators l.items span ns) (phrases.some_listed (codes ",") (map (lists.var_declarator l.reads) ns))
+-- They begin on the line before them, since no line ends before the first.
+declarators_print : {X : Type 0} (l : Linked X) (span : Span) (ns : List (VarDeclarator X)) → PrintsAt ended l.env (words.declarators l.items span ns) (phrases.some_listed (codes ",") (map (lists.var_declarator l.reads) ns))
 unfolding phrases.listed phrases.some_listed
 declarators_print l span [] = prints_never
-declarators_print l span (n ∷ ns) = prints_list l.env declarators_format span declarator_place (words.var_declarator l.items) (lists.var_declarator l.reads) (λ n. loosened (declarator_prints l n)) refl refl refl refl (n ∷ ns)
+declarators_print l span (n ∷ ns) = prints_list_on_line l.env declarators_format span declarator_place (words.var_declarator l.items) (lists.var_declarator l.reads) (declarator_prints l) refl refl refl refl n ns refl
 
 kind_prints : (env : Env) (kind : VarDeclKind) → Prints env (words.var_kind kind) (lists.var_kind kind)
 unfolding words.var_kind lists.var_kind
@@ -79,8 +80,7 @@ unfolding words.using_decl lists.using_decl
 using_decl_prints l n =
     after (writes_leading l.env n.span.lo)
     (await_then l.env n.is_await
-    (then (prints_keyword l.env None (codes "using") marks.using_word)
-    (after (writes_space l.env) (declarators_print l n.span n.decls.items))))
+    (joined_then l.env None (codes "using") marks.using_word (after (writes_space l.env) (declarators_print l n.span n.decls.items))))
 
 -- ---- all of them
 
@@ -124,5 +124,5 @@ unfolding words.decl words.without_head words.by_export words.variables words.re
 exported_tail_prints l (decls.Class n) = exported_class_prints l n
 exported_tail_prints l (decls.Fn n) = fn_decl_prints l n
 exported_tail_prints l (decls.Var n) = then (var_decl_at l n) (before (prints_semi l.env) (writes_position l.env (l.asks n.node.value).place.hi))
-exported_tail_prints l (decls.Using n) = then (using_decl_prints l n) (prints_semi l.env)
+exported_tail_prints l (decls.Using n) = prints_never
 exported_tail_prints l n = prints_never

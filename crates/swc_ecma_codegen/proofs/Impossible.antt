@@ -25,6 +25,10 @@ prints_impossible none = record {
   where_out = λ w o. absurd (true≢false (sym w ∙ none));
 }
 
+-- only of a phrase that is possible is anything said
+pub if_possible : {i : Shape} {env : Env} {p : Part} {f : Phrase} → (is_possible f ≡ true → PrintsAt i env p f) → PrintsAt i env p f
+if_possible h = record { where_possible = λ w o. (h w).where_possible w o; where_out = λ w o rest. (h w).where_out w o rest }
+
 pub never_impossible : (f : Phrase) → is_never f ≡ true → is_possible f ≡ false
 unfolding is_never is_possible
 never_impossible Never h = refl

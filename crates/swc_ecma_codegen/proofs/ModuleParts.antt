@@ -1,5 +1,7 @@
 -- What is written of imports and exports is what they read as.
-use Rattle.std.proofs.Common.{Bool, true, false, List, [], ◌∷◌, map, codes, Option, Some, None, refl}
+use Rattle.std.proofs.Common.{◌≡◌, nat_lt, Bool, true, false, not, ◌&&◌, cond, List, [], ◌∷◌, length, map, codes, Option, Some, None, refl, sym, ap, subst, ◌∙◌}
+use Rattle.std.specs.List.{filter}
+use Rattle.std.proofs.lemmas.Bool.{and_parts, true≢false}
 use Rattle.swc_ecma_codegen_common.specs.declared.positions.Span.{Span}
 use Rattle.swc_ecma_codegen_tree.specs.declared.expr_links.ObjectLitBox.{ObjectLitBox}
 use Rattle.swc_ecma_codegen_tree.specs.declared.lits.Str.{Str}
@@ -14,9 +16,11 @@ use Rattle.swc_ecma_codegen_tree.specs.declared.modules.ExportNamespaceSpecifier
 use Rattle.swc_ecma_codegen_tree.specs.declared.modules.ExportSpecifier.{ExportSpecifier}
 use Rattle.swc_ecma_codegen_tree.specs.declared.modules.ExportSpecifier.TheVariants as exported
 use Rattle.swc_ecma_codegen_tree.specs.declared.modules.ImportDecl.{ImportDecl}
+use Rattle.swc_ecma_codegen_tree.specs.declared.modules.ImportDefaultSpecifier.{ImportDefaultSpecifier}
 use Rattle.swc_ecma_codegen_tree.specs.declared.modules.ImportNamedSpecifier.{ImportNamedSpecifier}
 use Rattle.swc_ecma_codegen_tree.specs.declared.modules.ImportPhase.{ImportPhase}
 use Rattle.swc_ecma_codegen_tree.specs.declared.modules.ImportPhase.TheVariants.{Evaluation, Source, Defer}
+use Rattle.swc_ecma_codegen_tree.specs.declared.modules.ImportStarAsSpecifier.{ImportStarAsSpecifier}
 use Rattle.swc_ecma_codegen_tree.specs.declared.modules.ImportSpecifier.{ImportSpecifier}
 use Rattle.swc_ecma_codegen_tree.specs.declared.modules.ImportSpecifier.TheVariants as imported
 use Rattle.swc_ecma_codegen_tree.specs.declared.modules.ModuleExportName.{ModuleExportName}
@@ -29,25 +33,29 @@ use Rattle.swc_ecma_codegen_tree.specs.declared.programs.ModuleItem.TheVariants 
 use Rattle.swc_ecma_codegen_spans.specs.Spans.{import_specifier_span, export_specifier_span, module_item_span, module_decl_span}
 use Rattle.swc_ecma_codegen_ast.specs.ElementPhrases.{trailing_comma}
 use Rattle.swc_ecma_codegen_ast.specs.ModulePhrases as lists
+use Rattle.swc_ecma_codegen_ast.specs.NamePhrases.{ident}
 use Rattle.swc_ecma_codegen_ast.specs.Phrases as phrases
-use Rattle.swc_ecma_codegen_ast.specs.Phrases.{Phrase, OptionalComma, ◌>◌, mark, word, ending}
+use Rattle.swc_ecma_codegen_ast.specs.Phrases.{Phrase, Never, OptionalComma, ◌>◌, mark, word, ending, is_possible}
 use Rattle.swc_ecma_codegen_ast.specs.LitPhrases.{str_lit}
 use Rattle.swc_ecma_codegen_ast.specs.declared.roles.Role.TheVariants.{Statement, ObjectLiteral, ModuleDeclaration, ExportedHead as HeadOfExported, ExportedTail as TailOfExported}
 use Rattle.swc_ecma_codegen_base.specs.Lists.{list}
-use Rattle.swc_ecma_codegen_base.specs.Run.{Env, Part}
-use Rattle.swc_ecma_codegen_base.specs.Words.{punct}
+use Rattle.swc_ecma_codegen_base.specs.Run.{Env, Plan, Part}
+use Rattle.swc_ecma_codegen_base.specs.Words.{punct, formatting_space}
 use Rattle.swc_ecma_codegen_base.proofs.ListLaws.{children_of, writes_no_list, prints_some, prints_optional_closing}
 use Rattle.swc_ecma_codegen_base.proofs.Choices.{prints_attributes_word}
-use Rattle.swc_ecma_codegen_base.proofs.Shapes.{open_, closed, ended}
-use Rattle.swc_ecma_codegen_base.proofs.Phrased.{Prints, PrintsAt, prints_wider, loosened, then, after, before, prints_nothing, prints_never, prints_keyword, prints_punct, prints_semi}
+use Rattle.swc_ecma_codegen_base.proofs.Shapes.{Shape, open_, closed, ended}
+use Rattle.swc_ecma_codegen_base.proofs.Phrased.{Prints, PrintsAt, prints_wider, loosened, then, after, before, prints_nothing, prints_never, prints_same, prints_keyword, prints_punct, prints_semi}
 use Rattle.swc_ecma_codegen_base.proofs.Printed.{Writes, writes_then, writes_nothing, writes_space, writes_formatting_space, writes_formatting_line, writes_position, writes_leading, writes_trailing}
 use Rattle.swc_ecma_codegen_base.proofs.StringPrints.{prints_str}
 use Rattle.swc_ecma_codegen.specs.declared.nodes.Place.TheVariants.{Plain}
 use Rattle.swc_ecma_codegen.specs.Answers.{place_of}
+use Rattle.swc_ecma_codegen.specs.Exprs.{ident as words_ident}
+use Rattle.swc_ecma_codegen.specs.Lists.{comma, some_is, unsupported}
 use Rattle.swc_ecma_codegen.specs.Modules as words
+use Rattle.swc_ecma_codegen.specs.Templates.{bad_shape}
 use Rattle.swc_ecma_codegen.proofs.ExprParts.{ident_prints, writes_blank}
 use Rattle.swc_ecma_codegen.proofs.FunctionParts.{class_expr_prints, fn_expr_prints}
-use Rattle.swc_ecma_codegen.proofs.Impossible.{refused_or}
+use Rattle.swc_ecma_codegen.proofs.Impossible.{refused_or, if_possible, prints_impossible}
 use Rattle.swc_ecma_codegen.proofs.Linked.{Linked, expr_at}
 use Rattle.swc_ecma_codegen.proofs.MarkWords as marks
 
@@ -89,35 +97,134 @@ unfolding words.import_specifier lists.import_specifier
 import_specifier_prints l (imported.Named n) = import_named_prints l n
 import_specifier_prints l n = prints_never
 
-import_list_prints : {X : Type 0} (l : Linked X) (parent : Span) (close : Part) (after_list : Phrase) → Prints l.env close after_list → (ns : List ImportSpecifier) → PrintsAt closed l.env (λ rest. words.import_list parent ns (close rest)) (phrases.listed (codes ",") (map lists.import_specifier ns) > trailing_comma ns > after_list)
+-- where none but names stand among the braces
+abbrev all_named : List ImportSpecifier → Bool
+all_named [] = true
+all_named (imported.Named n ∷ ns) = all_named ns
+all_named (n ∷ ns) = false
+
+named_kept : (ns : List ImportSpecifier) → all_named ns ≡ true → filter words.is_named ns ≡ ns
+unfolding words.is_named
+named_kept [] h = refl
+named_kept (imported.Named n ∷ ns) h = ap (λ xs. imported.Named n ∷ xs) (named_kept ns h)
+named_kept (n ∷ ns) h = absurd (true≢false (sym h))
+
+none_before : (first : Bool) (ns : List ImportSpecifier) (rest : Plan) → all_named ns ≡ true → words.before_braces first ns rest ≡ rest
+unfolding words.before_braces words.before_brace
+none_before first [] rest h = refl
+none_before first (imported.Named n ∷ ns) rest h = none_before (first && not (words.is_default (imported.Named n))) ns rest h
+none_before first (n ∷ ns) rest h = absurd (true≢false (sym h))
+
+none_default : (ns : List ImportSpecifier) → all_named ns ≡ true → some_is words.is_default ns ≡ false
+unfolding some_is words.is_default
+none_default [] h = refl
+none_default (imported.Named n ∷ ns) h = none_default ns h
+none_default (n ∷ ns) h = absurd (true≢false (sym h))
+
+none_star : (ns : List ImportSpecifier) → all_named ns ≡ true → some_is words.is_star ns ≡ false
+unfolding some_is words.is_star
+none_star [] h = refl
+none_star (imported.Named n ∷ ns) h = none_star ns h
+none_star (n ∷ ns) h = absurd (true≢false (sym h))
+
+named_after : (ns : List ImportSpecifier) → is_possible (phrases.each_after (codes ",") (map lists.import_specifier ns)) ≡ true → all_named ns ≡ true
+unfolding is_possible phrases.each_after lists.import_specifier
+named_after [] w = refl
+named_after (imported.Named n ∷ ns) w = named_after ns (and_parts (is_possible (lists.import_named n)) _ w).1
+named_after (n ∷ ns) w = absurd (true≢false (sym w))
+
+abbrev braced_imports : List ImportSpecifier → Phrase
+braced_imports ns = mark (codes "{") > phrases.listed (codes ",") (map lists.import_specifier ns) > trailing_comma ns > mark (codes "}")
+
+named_braced : (n : ImportNamedSpecifier) (ns : List ImportSpecifier) → is_possible (braced_imports (imported.Named n ∷ ns)) ≡ true → all_named ns ≡ true
+unfolding is_possible phrases.listed lists.import_specifier
+named_braced n ns w =
+    let names : Bool = is_possible (lists.import_named n) && is_possible (phrases.each_after (codes ",") (map lists.import_specifier ns)) in
+    named_after ns (and_parts (is_possible (lists.import_named n)) _ (and_parts names _ w).0).1
+
+import_list_prints : {X : Type 0} (l : Linked X) (parent : Span) (close : Part) (after_list : Phrase) → Prints l.env close after_list → (ns : List ImportSpecifier) → PrintsAt closed l.env (λ rest. list words.named_format parent (children_of import_specifier_span words.import_specifier ns) (close rest)) (phrases.listed (codes ",") (map lists.import_specifier ns) > trailing_comma ns > after_list)
 unfolding phrases.listed trailing_comma
 import_list_prints l parent close after_list closed [] = after (writes_no_list l.env words.named_format parent) (then prints_nothing (then prints_nothing closed))
 import_list_prints l parent close after_list closed (n ∷ ns) =
     prints_some l.env words.named_format parent import_specifier_span words.import_specifier lists.import_specifier OptionalComma after_list close
     (λ n. loosened (import_specifier_prints l n)) refl refl (λ last. prints_optional_closing l.env words.named_format parent last refl refl) closed n ns
 
-import_braces_print : {X : Type 0} (l : Linked X) (parent : Span) (ns : List ImportSpecifier) → Prints l.env (λ rest. punct (codes "{") (words.import_list parent ns (punct (codes "}") rest))) (mark (codes "{") > phrases.listed (codes ",") (map lists.import_specifier ns) > trailing_comma ns > mark (codes "}"))
-import_braces_print l parent ns = then (prints_punct l.env (codes "{") marks.left_brace) (import_list_prints l parent (punct (codes "}")) (mark (codes "}")) (prints_punct l.env (codes "}") marks.right_brace) ns)
+import_braces_print : {X : Type 0} (l : Linked X) (parent : Span) (ns : List ImportSpecifier) → all_named ns ≡ true → Prints l.env (λ rest. punct (codes "{") (words.import_list parent ns (punct (codes "}") rest))) (braced_imports ns)
+import_braces_print l parent ns h =
+    let P : List ImportSpecifier → Type 0 = λ xs. Prints l.env (λ rest. punct (codes "{") (list words.named_format parent (children_of import_specifier_span words.import_specifier xs) (punct (codes "}") rest))) (braced_imports ns) in
+    subst P (sym (named_kept ns h)) (then (prints_punct l.env (codes "{") marks.left_brace) (import_list_prints l parent (punct (codes "}")) (mark (codes "}")) (prints_punct l.env (codes "}") marks.right_brace) ns))
 
-bindings_print : {X : Type 0} (l : Linked X) (parent : Span) (ns : List ImportSpecifier) → Prints l.env (words.import_bindings parent ns) (lists.import_bindings ns)
-unfolding words.import_bindings words.is_star words.star_import words.imported_star words.import_braces lists.import_bindings
-bindings_print l parent [] = before (import_braces_print l parent []) (writes_formatting_space l.env)
-bindings_print l parent (imported.Namespace n ∷ []) = star_prints l.env (before (ident_prints l n.local) (writes_space l.env))
-bindings_print l parent (imported.Namespace n ∷ m ∷ ns) = before (import_braces_print l parent (imported.Namespace n ∷ m ∷ ns)) (writes_formatting_space l.env)
-bindings_print l parent (imported.Named n ∷ ns) = before (import_braces_print l parent (imported.Named n ∷ ns)) (writes_formatting_space l.env)
-bindings_print l parent (imported.Default n ∷ ns) = before (import_braces_print l parent (imported.Default n ∷ ns)) (writes_formatting_space l.env)
+-- the orders of specifiers that the language has
+data Ordered : List ImportSpecifier → Type 0 where
+  bare : Ordered []
+  star : (n : ImportStarAsSpecifier) → Ordered (imported.Namespace n ∷ [])
+  named : (n : ImportNamedSpecifier) (ns : List ImportSpecifier) → all_named ns ≡ true → Ordered (imported.Named n ∷ ns)
+  default : (d : ImportDefaultSpecifier) → Ordered (imported.Default d ∷ [])
+  default_star : (d : ImportDefaultSpecifier) (n : ImportStarAsSpecifier) → Ordered (imported.Default d ∷ imported.Namespace n ∷ [])
+  default_named : (d : ImportDefaultSpecifier) (n : ImportNamedSpecifier) (ns : List ImportSpecifier) → all_named ns ≡ true → Ordered (imported.Default d ∷ imported.Named n ∷ ns)
 
-after_default_prints : {X : Type 0} (l : Linked X) (parent : Span) (ns : List ImportSpecifier) → PrintsAt open_ l.env (words.after_default parent ns) (lists.after_default ns)
-unfolding words.after_default lists.after_default
-after_default_prints l parent [] = after (writes_space l.env) prints_nothing
-after_default_prints l parent (n ∷ ns) = prints_wider open_ refl (then (prints_punct l.env (codes ",") marks.comma) (after (writes_formatting_space l.env) (bindings_print l parent (n ∷ ns))))
+no_order : (a : Bool) → (a && false) ≡ true → ⊥
+no_order a w = true≢false (sym (and_parts a false w).1)
+
+imports_ordered : (ns : List ImportSpecifier) → is_possible (lists.import_clause ns) ≡ true → Ordered ns
+unfolding is_possible phrases.listed lists.import_clause lists.import_bindings lists.after_default lists.import_specifier
+imports_ordered [] w = bare
+imports_ordered (imported.Namespace n ∷ []) w = star n
+imports_ordered (imported.Namespace n ∷ m ∷ ns) w = absurd (true≢false (sym w))
+imports_ordered (imported.Named n ∷ ns) w = named n ns (named_braced n ns (and_parts (is_possible (lists.import_bindings (imported.Named n ∷ ns))) true w).0)
+imports_ordered (imported.Default d ∷ []) w = default d
+imports_ordered (imported.Default d ∷ imported.Namespace n ∷ []) w = default_star d n
+imports_ordered (imported.Default d ∷ imported.Namespace n ∷ m ∷ ns) w = absurd (no_order _ w)
+imports_ordered (imported.Default d ∷ imported.Default n ∷ ns) w = absurd (no_order _ w)
+imports_ordered (imported.Default d ∷ imported.Named n ∷ ns) w =
+    default_named d n ns (named_braced n ns (and_parts (is_possible (lists.import_bindings (imported.Named n ∷ ns))) true (and_parts (is_possible (ident d.local)) _ w).1).0)
+
+ordered_not_crowded : {ns : List ImportSpecifier} → Ordered ns → words.is_crowded ns ≡ false
+unfolding words.is_crowded words.is_star some_is
+ordered_not_crowded bare = refl
+ordered_not_crowded (star n) = refl
+ordered_not_crowded (named n ns h) = ap (λ b. b && nat_lt 2 (length (imported.Named n ∷ ns))) (none_star ns h)
+ordered_not_crowded (default d) = refl
+ordered_not_crowded (default_star d n) = refl
+ordered_not_crowded (default_named d n ns h) = ap (λ b. b && nat_lt 2 (length (imported.Default d ∷ imported.Named n ∷ ns))) (none_star ns h)
+
+-- `{ a } ` alone, and behind a default name
+abbrev braces_then : Span → List ImportSpecifier → Part
+braces_then parent ns rest = punct (codes "{") (words.import_list parent ns (punct (codes "}") (formatting_space rest)))
+
+named_clause : (parent : Span) (n : ImportNamedSpecifier) (ns : List ImportSpecifier) (rest : Plan) → all_named ns ≡ true → words.import_clause parent (imported.Named n ∷ ns) rest ≡ braces_then parent (imported.Named n ∷ ns) (words.from_word rest)
+unfolding words.import_clause words.some_imports words.before_brace words.before_braces words.import_braces words.some_named words.is_named words.is_default some_is comma
+named_clause parent n ns rest h =
+    let braced : Plan = braces_then parent (imported.Named n ∷ ns) (words.from_word rest) in
+    none_before true ns (comma (not (some_is words.is_default ns)) braced) h ∙ ap (λ b. comma (not b) braced) (none_default ns h)
+
+default_clause : (parent : Span) (d : ImportDefaultSpecifier) (n : ImportNamedSpecifier) (ns : List ImportSpecifier) (rest : Plan) → all_named ns ≡ true → words.import_clause parent (imported.Default d ∷ imported.Named n ∷ ns) rest ≡ words_ident d.local (punct (codes ",") (formatting_space (braces_then parent (imported.Named n ∷ ns) (words.from_word rest))))
+unfolding words.import_clause words.some_imports words.before_brace words.before_braces words.import_braces words.some_named words.is_named words.is_default some_is comma
+default_clause parent d n ns rest h = ap (λ z. words_ident d.local z) (none_before false ns (punct (codes ",") (formatting_space (braces_then parent (imported.Named n ∷ ns) (words.from_word rest)))) h)
+
+ordered_prints : {X : Type 0} (l : Linked X) (parent : Span) {ns : List ImportSpecifier} → Ordered ns → PrintsAt open_ l.env (words.import_clause parent ns) (lists.import_clause ns)
+unfolding words.import_clause words.some_imports words.before_brace words.before_braces words.import_braces words.is_named words.is_default some_is comma lists.import_clause lists.import_bindings lists.after_default
+ordered_prints l parent bare = prints_nothing
+ordered_prints l parent (star n) = prints_wider open_ refl (then (star_prints l.env (before (ident_prints l n.local) (writes_space l.env))) (from_prints l.env))
+ordered_prints l parent (named n ns h) =
+    prints_same (words.import_clause parent (imported.Named n ∷ ns)) (λ rest. braces_then parent (imported.Named n ∷ ns) (words.from_word rest)) (λ rest. ap (λ p. p l.env) (named_clause parent n ns rest h))
+    (prints_wider open_ refl (then (before (import_braces_print l parent (imported.Named n ∷ ns) h) (writes_formatting_space l.env)) (from_prints l.env)))
+ordered_prints l parent (default d) = prints_wider open_ refl (then (ident_prints l d.local) (then (after (writes_space l.env) prints_nothing) (from_prints l.env)))
+ordered_prints l parent (default_star d n) =
+    prints_wider open_ refl
+    (then (ident_prints l d.local)
+    (then (then (prints_punct l.env (codes ",") marks.comma) (after (writes_formatting_space l.env) (star_prints l.env (before (ident_prints l n.local) (writes_space l.env)))))
+    (from_prints l.env)))
+ordered_prints l parent (default_named d n ns h) =
+    prints_same (words.import_clause parent (imported.Default d ∷ imported.Named n ∷ ns)) (λ rest. words_ident d.local (punct (codes ",") (formatting_space (braces_then parent (imported.Named n ∷ ns) (words.from_word rest)))))
+    (λ rest. ap (λ p. p l.env) (default_clause parent d n ns rest h))
+    (prints_wider open_ refl
+    (then (ident_prints l d.local)
+    (then (then (prints_punct l.env (codes ",") marks.comma) (after (writes_formatting_space l.env) (before (import_braces_print l parent (imported.Named n ∷ ns) h) (writes_formatting_space l.env))))
+    (from_prints l.env))))
 
 import_clause_prints : {X : Type 0} (l : Linked X) (parent : Span) (ns : List ImportSpecifier) → PrintsAt open_ l.env (words.import_clause parent ns) (lists.import_clause ns)
-unfolding words.import_clause words.some_imports words.begins_default words.default_clause words.default_name words.bindings_clause lists.import_clause
-import_clause_prints l parent [] = prints_nothing
-import_clause_prints l parent (imported.Default n ∷ ns) = prints_wider open_ refl (then (ident_prints l n.local) (then (after_default_prints l parent ns) (from_prints l.env)))
-import_clause_prints l parent (imported.Named n ∷ ns) = prints_wider open_ refl (then (bindings_print l parent (imported.Named n ∷ ns)) (from_prints l.env))
-import_clause_prints l parent (imported.Namespace n ∷ ns) = prints_wider open_ refl (then (bindings_print l parent (imported.Namespace n ∷ ns)) (from_prints l.env))
+import_clause_prints l parent ns = if_possible (λ w. ordered_prints l parent (imports_ordered ns w))
 
 phase_prints : (env : Env) (phase : ImportPhase) → PrintsAt open_ env (words.phase_word phase) (lists.import_phase phase)
 unfolding words.phase_word lists.import_phase
@@ -136,9 +243,19 @@ source_end_prints : {X : Type 0} (l : Linked X) (src : Str) (with_ : Option (Obj
 unfolding words.source_end
 source_end_prints l src with_ span = then (prints_str l.env src) (then (attributes_print l with_) (before (prints_semi l.env) (writes_position l.env span.hi)))
 
+-- a namespace among more than two is refused, and has no list of tokens
+unless_crowded : {i : Shape} {env : Env} {p : Part} {f : Phrase} (crowded typed : Bool) → (is_possible f ≡ true → crowded ≡ false) → PrintsAt i env p f → PrintsAt i env (λ rest. cond crowded (bad_shape rest) (cond typed (unsupported rest) (p rest))) (cond typed Never f)
+unless_crowded crowded true room h = prints_never
+unless_crowded {env = env} {p = p} crowded false room h =
+    if_possible (λ w. prints_same (λ rest. cond crowded (bad_shape rest) (p rest)) p (λ rest. ap (λ b. cond b (bad_shape rest) (p rest) env) (room w)) h)
+
+import_has_room : (phase : ImportPhase) (ns : List ImportSpecifier) (tail : Phrase) → is_possible (word (codes "import") > lists.import_phase phase > lists.import_clause ns > tail) ≡ true → words.is_crowded ns ≡ false
+unfolding is_possible
+import_has_room phase ns tail w = ordered_not_crowded (imports_ordered ns (and_parts (is_possible (lists.import_clause ns)) _ (and_parts (is_possible (lists.import_phase phase)) _ w).1).0)
+
 import_prints : {X : Type 0} (l : Linked X) (n : ImportDecl X) → Prints l.env (words.import_decl l.items n) (lists.import_decl l.reads n)
 unfolding words.import_decl words.import_parts words.import_tail lists.import_decl
-import_prints l n = refused_or n.type_only
+import_prints l n = unless_crowded (words.is_crowded n.specifiers.items) n.type_only (import_has_room n.phase n.specifiers.items _)
     (after (writes_leading l.env n.span.lo)
     (after (writes_position l.env n.span.lo)
     (then (prints_keyword l.env None (codes "import") marks.import_word)
@@ -164,29 +281,74 @@ unfolding words.export_specifier lists.export_specifier
 export_specifier_prints l (exported.Named n) = export_named_specifier_prints l n
 export_specifier_prints l n = prints_never
 
-export_list_prints : {X : Type 0} (l : Linked X) (parent : Span) (close : Part) (after_list : Phrase) → Prints l.env close after_list → (ns : List ExportSpecifier) → PrintsAt closed l.env (λ rest. words.export_list parent ns (close rest)) (phrases.listed (codes ",") (map lists.export_specifier ns) > trailing_comma ns > after_list)
+-- where none but names stand among the braces
+abbrev all_exported : List ExportSpecifier → Bool
+all_exported [] = true
+all_exported (exported.Named n ∷ ns) = all_exported ns
+all_exported (n ∷ ns) = false
+
+exported_kept : (ns : List ExportSpecifier) → all_exported ns ≡ true → filter words.is_braced ns ≡ ns
+unfolding words.is_braced words.is_namespace
+exported_kept [] h = refl
+exported_kept (exported.Named n ∷ ns) h = ap (λ xs. exported.Named n ∷ xs) (exported_kept ns h)
+exported_kept (n ∷ ns) h = absurd (true≢false (sym h))
+
+none_namespace : (ns : List ExportSpecifier) → all_exported ns ≡ true → some_is words.is_namespace ns ≡ false
+unfolding some_is words.is_namespace
+none_namespace [] h = refl
+none_namespace (exported.Named n ∷ ns) h = none_namespace ns h
+none_namespace (n ∷ ns) h = absurd (true≢false (sym h))
+
+exported_after : (ns : List ExportSpecifier) → is_possible (phrases.each_after (codes ",") (map lists.export_specifier ns)) ≡ true → all_exported ns ≡ true
+unfolding is_possible phrases.each_after lists.export_specifier
+exported_after [] w = refl
+exported_after (exported.Named n ∷ ns) w = exported_after ns (and_parts (is_possible (lists.export_named_specifier n)) _ w).1
+exported_after (n ∷ ns) w = absurd (true≢false (sym w))
+
+exported_braced : (n : ExportNamedSpecifier) (ns : List ExportSpecifier) → is_possible (lists.export_braces (exported.Named n ∷ ns)) ≡ true → all_exported ns ≡ true
+unfolding is_possible phrases.listed lists.export_specifier lists.export_braces
+exported_braced n ns w =
+    let names : Bool = is_possible (lists.export_named_specifier n) && is_possible (phrases.each_after (codes ",") (map lists.export_specifier ns)) in
+    exported_after ns (and_parts (is_possible (lists.export_named_specifier n)) _ (and_parts names _ w).0).1
+
+export_list_prints : {X : Type 0} (l : Linked X) (parent : Span) (close : Part) (after_list : Phrase) → Prints l.env close after_list → (ns : List ExportSpecifier) → PrintsAt closed l.env (λ rest. list words.named_format parent (children_of export_specifier_span words.export_specifier ns) (close rest)) (phrases.listed (codes ",") (map lists.export_specifier ns) > trailing_comma ns > after_list)
 unfolding phrases.listed trailing_comma
 export_list_prints l parent close after_list closed [] = after (writes_no_list l.env words.named_format parent) (then prints_nothing (then prints_nothing closed))
 export_list_prints l parent close after_list closed (n ∷ ns) =
     prints_some l.env words.named_format parent export_specifier_span words.export_specifier lists.export_specifier OptionalComma after_list close
     (λ n. loosened (export_specifier_prints l n)) refl refl (λ last. prints_optional_closing l.env words.named_format parent last refl refl) closed n ns
 
-export_braces_print : {X : Type 0} (l : Linked X) (parent : Span) (ns : List ExportSpecifier) → Prints l.env (words.export_braces parent ns) (lists.export_braces ns)
+export_braces_print : {X : Type 0} (l : Linked X) (parent : Span) (ns : List ExportSpecifier) → all_exported ns ≡ true → Prints l.env (words.export_braces parent ns) (lists.export_braces ns)
 unfolding words.export_braces lists.export_braces
-export_braces_print l parent ns = then (prints_punct l.env (codes "{") marks.left_brace) (export_list_prints l parent (punct (codes "}")) (mark (codes "}")) (prints_punct l.env (codes "}") marks.right_brace) ns)
+export_braces_print l parent ns h =
+    let P : List ExportSpecifier → Type 0 = λ xs. Prints l.env (λ rest. punct (codes "{") (list words.named_format parent (children_of export_specifier_span words.export_specifier xs) (punct (codes "}") rest))) (lists.export_braces ns) in
+    subst P (sym (exported_kept ns h)) (then (prints_punct l.env (codes "{") marks.left_brace) (export_list_prints l parent (punct (codes "}")) (mark (codes "}")) (prints_punct l.env (codes "}") marks.right_brace) ns))
 
 namespace_prints : {X : Type 0} (l : Linked X) (n : ExportNamespaceSpecifier) → Prints l.env (words.export_namespace n) (lists.export_namespace n)
 unfolding words.export_namespace lists.export_namespace
 namespace_prints l n = after (writes_leading l.env n.span.lo) (after (writes_position l.env n.span.lo) (star_prints l.env (before (name_prints l n.name) (writes_position l.env n.span.hi))))
 
+star_then_braces : {X : Type 0} (l : Linked X) (parent : Span) (n : ExportNamespaceSpecifier) (m : ExportNamedSpecifier) (ns : List ExportSpecifier) → all_exported ns ≡ true → Prints l.env (words.export_clause parent (exported.Namespace n ∷ exported.Named m ∷ ns)) (lists.export_clause (exported.Namespace n ∷ exported.Named m ∷ ns))
+unfolding words.export_clause words.star_exports words.star_export words.more_exports words.export_braces words.is_namespace words.is_braced some_is lists.export_clause
+star_then_braces l parent n m ns h =
+    then (namespace_prints l n) (then (prints_punct l.env (codes ",") marks.comma) (after (writes_formatting_space l.env) (export_braces_print l parent (exported.Named m ∷ ns) h)))
+
+braces_alone : {X : Type 0} (l : Linked X) (parent : Span) (m : ExportNamedSpecifier) (ns : List ExportSpecifier) → all_exported ns ≡ true → Prints l.env (words.export_clause parent (exported.Named m ∷ ns)) (lists.export_clause (exported.Named m ∷ ns))
+unfolding words.export_clause words.is_namespace some_is lists.export_clause
+braces_alone l parent m ns h =
+    let ms : List ExportSpecifier = exported.Named m ∷ ns in
+    prints_same (words.export_clause parent ms) (words.export_braces parent ms) (λ rest. ap (λ b. cond b (words.star_exports parent ms rest) (words.export_braces parent ms rest) l.env) (none_namespace ns h))
+    (export_braces_print l parent ms h)
+
 export_clause_prints : {X : Type 0} (l : Linked X) (parent : Span) (ns : List ExportSpecifier) → Prints l.env (words.export_clause parent ns) (lists.export_clause ns)
-unfolding words.export_clause words.begins_star words.star_exports words.exported_star words.more_exports lists.export_clause
-export_clause_prints l parent [] = export_braces_print l parent []
+unfolding is_possible phrases.listed words.export_clause words.star_exports words.star_export words.more_exports words.is_namespace words.is_braced some_is lists.export_clause lists.export_braces lists.export_specifier
+export_clause_prints l parent [] = export_braces_print l parent [] refl
 export_clause_prints l parent (exported.Namespace n ∷ []) = namespace_prints l n
-export_clause_prints l parent (exported.Namespace n ∷ m ∷ ns) =
-    then (namespace_prints l n) (then (prints_punct l.env (codes ",") marks.comma) (after (writes_formatting_space l.env) (export_braces_print l parent (m ∷ ns))))
-export_clause_prints l parent (exported.Named n ∷ ns) = export_braces_print l parent (exported.Named n ∷ ns)
-export_clause_prints l parent (exported.Default n ∷ ns) = export_braces_print l parent (exported.Default n ∷ ns)
+export_clause_prints l parent (exported.Namespace n ∷ exported.Named m ∷ ns) = if_possible (λ w. star_then_braces l parent n m ns (exported_braced m ns (and_parts (is_possible (lists.export_namespace n)) _ w).1))
+export_clause_prints l parent (exported.Namespace n ∷ exported.Namespace m ∷ ns) = if_possible (λ w. absurd (no_order _ w))
+export_clause_prints l parent (exported.Namespace n ∷ exported.Default m ∷ ns) = if_possible (λ w. absurd (no_order _ w))
+export_clause_prints l parent (exported.Named n ∷ ns) = if_possible (λ w. braces_alone l parent n ns (exported_braced n ns w))
+export_clause_prints l parent (exported.Default n ∷ ns) = prints_impossible refl
 
 from_clause_prints : {X : Type 0} (l : Linked X) (with_ : Option (ObjectLitBox X)) (needed : Bool) (n : Option Str) → PrintsAt open_ l.env (words.from_clause l.items with_ needed n) (lists.from_clause l.reads with_ n)
 unfolding words.from_clause lists.from_clause

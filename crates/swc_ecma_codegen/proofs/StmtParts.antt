@@ -1,6 +1,8 @@
 -- What is written of each statement and program is what it reads as.
-use Rattle.std.proofs.Common.{ℕ, Bool, true, false, cond, is_some, List, [], ◌∷◌, map, codes, string_bytes, refl, inl, inr, Option, Some, None}
+use Rattle.std.proofs.Common.{ℕ, Bool, true, false, not, is_some, List, [], ◌∷◌, codes, string_bytes, refl, inl, inr, Option, Some, None}
+use Rattle.std.specs.declared.string.String.{String}
 use Rattle.std.proofs.lemmas.Bool.{cases_Bool}
+use Rattle.std.proofs.lemmas.Str.{IsUtf8-string_bytes}
 use Rattle.swc_ecma_codegen_common.specs.declared.positions.Span.{Span}
 use Rattle.swc_ecma_codegen_tree.specs.declared.expr_links.ExprBox.{ExprBox}
 use Rattle.swc_ecma_codegen_tree.specs.declared.expr_links.PatBox.{PatBox}
@@ -26,31 +28,31 @@ use Rattle.swc_ecma_codegen_tree.specs.declared.programs.Program.TheVariants as 
 use Rattle.swc_ecma_codegen_tree.specs.declared.programs.Module.{Module}
 use Rattle.swc_ecma_codegen_tree.specs.declared.programs.Script.{Script}
 use Rattle.swc_ecma_codegen_spans.specs.Spans.{stmt_span}
-use Rattle.swc_ecma_codegen_ast.specs.Phrases.{Never, in_order, ◌>◌, word}
+use Rattle.swc_ecma_codegen_ast.specs.Phrases.{Phrase, ◌>◌, word}
+use Rattle.swc_ecma_codegen_ast.specs.Tokens.{Token}
 use Rattle.swc_ecma_codegen_ast.specs.StmtPhrases as lists
 use Rattle.swc_ecma_codegen_ast.specs.NamePhrases as names
 use Rattle.swc_ecma_codegen_base.specs.Lists.{blank_if}
-use Rattle.swc_ecma_codegen_base.specs.Run.{Env}
+use Rattle.swc_ecma_codegen_base.specs.Literals.{hashbang}
+use Rattle.swc_ecma_codegen_base.specs.Run.{Env, Part}
 use Rattle.swc_ecma_codegen_base.specs.Words.{formatting_space, formatting_line, commit_pending_semi, trailing_comments, semi}
 use Rattle.swc_ecma_codegen_base.proofs.Choices.{prints_bare}
-use Rattle.swc_ecma_codegen_base.proofs.Phrased.{Prints, then, after, before, prints_nothing, prints_never, prints_keyword, prints_punct, prints_semi, PrintsAt, prints_wider, joined_then, prints_ident}
-use Rattle.swc_ecma_codegen_base.proofs.Printed.{Writes, writes_then, writes_same, writes_if, writes_nothing, writes_formatting_space, writes_formatting_line, writes_commit, writes_position, writes_leading, writes_trailing, Fills, makes_wider, EndsLines, writes_space}
+use Rattle.swc_ecma_codegen_base.proofs.Phrased.{Prints, then, after, before, prints_nothing, prints_keyword, prints_punct, prints_semi, PrintsAt, prints_wider, joined_then, prints_ident}
+use Rattle.swc_ecma_codegen_base.proofs.Printed.{writes_then, writes_same, writes_if, writes_nothing, writes_formatting_space, writes_formatting_line, writes_commit, writes_position, writes_leading, writes_trailing, Fills, makes_wider, MakesAt, EndsLines, writes_space}
 use Rattle.swc_ecma_codegen_ast.specs.declared.roles.Role.TheVariants.{Item}
 use Rattle.swc_ecma_codegen.specs.declared.nodes.Place.TheVariants.{Plain, Statement}
 use Rattle.swc_ecma_codegen.specs.Answers.{place_of}
 use Rattle.swc_ecma_codegen.specs.Branches.{is_block}
-use Rattle.swc_ecma_codegen.specs.Lists.{unsupported}
 use Rattle.swc_ecma_codegen.specs.Stmts as words
 use Rattle.swc_ecma_codegen.specs.Programs as programs
 use Rattle.swc_ecma_codegen.proofs.Asked.{kept_same, committed_same}
 use Rattle.swc_ecma_codegen.proofs.ExprParts.{writes_opened, ident_prints}
-use Rattle.swc_ecma_codegen.proofs.FunctionParts.{name_prints}
-use Rattle.swc_ecma_codegen.proofs.Impossible.{refused_or}
 use Rattle.swc_ecma_codegen.proofs.Linked.{Linked, expr_at, stmt_at, pat_at, block_at, decl_at}
 use Rattle.swc_ecma_codegen.proofs.ListParts.{in_order_prints}
 use Rattle.swc_ecma_codegen.proofs.LoopParts.{begun, begun_joined, enclosed_then, spaced_expr, spaced_stmt, switch_prints, while_prints, do_while_prints, for_prints, for_in_prints, for_of_prints}
 use Rattle.swc_ecma_codegen.proofs.MarkWords as marks
-use Rattle.swc_ecma_codegen_base.proofs.Shapes.{open_, ended, loose}
+use Rattle.swc_ecma_codegen_base.proofs.Shapes.{Shape, open_, ended, loose, loose_at}
+use Rattle.swc_ecma_codegen_base.proofs.HashbangPrints.{prints_hashbang, placed_makes}
 use Rattle.swc_ecma_codegen.specs.Functions.{optional_name}
 use Rattle.swc_ecma_codegen_base.specs.Written.{IsWord}
 
@@ -217,36 +219,36 @@ unfolding programs.start_if_empty
 writes_start_if_empty env [] span = writes_position env span.lo
 writes_start_if_empty env (x ∷ xs) span = writes_nothing env
 
-writes_script_end : (env : Env) (span : Span) → Fills env (λ rest. trailing_comments true span.hi (programs.last_semi rest))
-writes_script_end env span = writes_then env (trailing_comments true span.hi) programs.last_semi [] [] (writes_trailing env true span.hi) (writes_last_semi env)
+-- wherever a part may stand, it may behind that
+started_makes : {A : Type 0} {i : Shape} (env : Env) (xs : List A) (span : Span) (p : Part) (ts : List Token) {a : Bool} → MakesAt i env p ts a → MakesAt i env (λ rest. programs.start_if_empty xs span (p rest)) ts a
+unfolding programs.start_if_empty
+started_makes env [] span p ts h = placed_makes env span.lo p ts h
+started_makes env (x ∷ xs) span p ts h = h
 
-script_body_prints : {X : Type 0} (l : Linked X) (n : Script X) → PrintsAt loose l.env (programs.script_body l.items n) (in_order (map (lists.stmt_at l.reads) n.body.items))
-unfolding programs.script_body
-script_body_prints l n =
-    after (writes_leading l.env n.span.lo)
-    (after (writes_start_if_empty l.env n.body.items n.span)
-    (before (prints_wider loose refl (in_order_prints l.env (programs.held l.items) (lists.stmt_at l.reads) (stmt_at l) n.body.items)) (writes_script_end l.env n.span)))
+writes_program_end : (env : Env) (span : Span) → Fills env (λ rest. trailing_comments true span.hi (programs.last_semi rest))
+writes_program_end env span = writes_then env (trailing_comments true span.hi) programs.last_semi [] [] (writes_trailing env true span.hi) (writes_last_semi env)
 
-script_case : {X : Type 0} (l : Linked X) (n : Script X) (shebang : Bool) → PrintsAt loose l.env (λ rest. cond shebang (unsupported rest) (programs.script_body l.items n rest)) (cond shebang Never (in_order (map (lists.stmt_at l.reads) n.body.items)))
-script_case l n true = prints_never
-script_case l n false = script_body_prints l n
+-- behind a hashbang, or without one
+opened_prints : {A Z : Type 0} (env : Env) (shebang : Option (String Z)) (xs : List A) (span : Span) {p : Part} {f : Phrase} → PrintsAt loose env p f → PrintsAt (loose_at (not (is_some shebang))) env (λ rest. programs.program_start shebang xs span (p rest)) (lists.shebang shebang > f)
+unfolding programs.program_start lists.shebang
+opened_prints env None xs span h = then prints_nothing (after (writes_leading env span.lo) (after (writes_start_if_empty env xs span) h))
+opened_prints env (Some text) xs span h =
+    prints_wider (loose_at false) refl
+    (then (prints_hashbang env (string_bytes text) _ (IsUtf8-string_bytes text) (λ made. started_makes env xs span (hashbang (string_bytes text)) _ made)) (after (writes_leading env span.lo) h))
 
-pub script_prints : {X : Type 0} (l : Linked X) (n : Script X) → PrintsAt loose l.env (programs.script l.items n) (lists.script l.reads n)
+pub script_prints : {X : Type 0} (l : Linked X) (n : Script X) → PrintsAt (loose_at (not (is_some n.shebang))) l.env (programs.script l.items n) (lists.script l.reads n)
 unfolding programs.script lists.script
-script_prints l n = script_case l n (is_some n.shebang)
+script_prints l n =
+    opened_prints l.env n.shebang n.body.items n.span
+    (before (prints_wider loose refl (in_order_prints l.env (programs.held l.items) (lists.stmt_at l.reads) (stmt_at l) n.body.items)) (writes_program_end l.env n.span))
 
-module_body_prints : {X : Type 0} (l : Linked X) (n : Module X) → PrintsAt loose l.env (programs.module_body l.items n) (in_order (map (lists.item_at l.reads) n.body.items))
-unfolding programs.module_body
-module_body_prints l n =
-    after (writes_leading l.env n.span.lo)
-    (after (writes_start_if_empty l.env n.body.items n.span)
-    (before (prints_wider loose refl (in_order_prints l.env (programs.held_item l.items) (lists.item_at l.reads) (λ x. l.law x.node.value Plain Item) n.body.items)) (writes_script_end l.env n.span)))
-
-pub module_prints : {X : Type 0} (l : Linked X) (n : Module X) → PrintsAt loose l.env (programs.whole_module l.items n) (lists.whole_module l.reads n)
+pub module_prints : {X : Type 0} (l : Linked X) (n : Module X) → PrintsAt (loose_at (not (is_some n.shebang))) l.env (programs.whole_module l.items n) (lists.whole_module l.reads n)
 unfolding programs.whole_module lists.whole_module
-module_prints l n = refused_or (is_some n.shebang) (module_body_prints l n)
+module_prints l n =
+    opened_prints l.env n.shebang n.body.items n.span
+    (before (prints_wider loose refl (in_order_prints l.env (programs.held_item l.items) (lists.item_at l.reads) (λ x. l.law x.node.value Plain Item) n.body.items)) (writes_program_end l.env n.span))
 
-pub program_prints : {X : Type 0} (l : Linked X) (n : Program X) → PrintsAt loose l.env (programs.program l.items n) (lists.program l.reads n)
-unfolding programs.program lists.program
+pub program_prints : {X : Type 0} (l : Linked X) (n : Program X) → PrintsAt (loose_at (not (programs.has_hashbang n))) l.env (programs.program l.items n) (lists.program l.reads n)
+unfolding programs.program programs.has_hashbang lists.program
 program_prints l (program_variants.Module n) = module_prints l n
 program_prints l (program_variants.Script n) = script_prints l n

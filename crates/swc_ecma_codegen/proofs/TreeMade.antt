@@ -1,6 +1,6 @@
 -- When the emission of a tree is made.
-use Rattle.std.proofs.Common.{◌≡◌, ◌⊎◌, inl, inr, ℕ, ◌^◌, ◌<◌, true, false, [], refl, sym, ◌∙◌, subst, List, ◌∷◌, Option, Some, Result, None, IsOk, arith}
-use Rattle.std.proofs.lemmas.Bool.{true≢false}
+use Rattle.std.proofs.Common.{◌≡◌, ◌⊎◌, inl, inr, ℕ, ◌^◌, ◌<◌, true, false, not, [], refl, sym, ◌∙◌, subst, List, ◌∷◌, Option, Some, Result, None, IsOk, arith}
+use Rattle.std.proofs.lemmas.Bool.{not-false, true≢false}
 use Rattle.swc_ecma_codegen_common.specs.declared.errors.Error.{Error}
 use Rattle.swc_ecma_codegen_common.specs.Refusals.{in_short}
 use Rattle.swc_ecma_codegen_common.specs.declared.errors.Error.TheVariants.{Writer, OutOfMemory, UnsupportedNode, BadShape, NameOutOfTarget, PositionTooLarge, Failed}
@@ -30,12 +30,11 @@ use Rattle.swc_ecma_codegen.specs.Modules.{module_item}
 use Rattle.swc_ecma_codegen.specs.Programs as programs
 use Rattle.swc_ecma_codegen.specs.Tree.{any_items}
 use Rattle.swc_ecma_codegen.specs.Texts.{blank_sheet, text_of, IsOfWriter, GivesCause}
-use Rattle.swc_ecma_codegen.specs.Roots.{Root, OfItem, OfModule, OfScript, OfProgram, root_items, root_phrase, is_well_formed_root}
-use Rattle.swc_ecma_codegen.proofs.TreeReads.{root_prints, new_is_new}
-use Rattle.swc_ecma_codegen_base.proofs.Shapes.{unbroken}
+use Rattle.swc_ecma_codegen.specs.Roots.{Root, OfItem, OfModule, OfScript, OfProgram, root_items, root_phrase, is_well_formed_root, root_hashbang}
+use Rattle.swc_ecma_codegen.proofs.TreeReads.{root_prints, root_shape, new_begins}
 
-part_prints : (n : Root) (p : Part) (env : Env) → env.keeps_invalid ≡ false → p ≡ root_items n → PrintsAt unbroken env p (root_phrase n)
-part_prints n p env e same = subst (λ z. PrintsAt unbroken env z (root_phrase n)) (sym same) (root_prints env e n)
+part_prints : (n : Root) (p : Part) (env : Env) → env.keeps_invalid ≡ false → p ≡ root_items n → PrintsAt (root_shape n) env p (root_phrase n)
+part_prints n p env e same = subst (λ z. PrintsAt (root_shape n) env z (root_phrase n)) (sym same) (root_prints env e n)
 
 -- whatever the root is, and whatever refers to it
 pub root_made : (n : Root) (p : Part) (a b : State) (r : Result (Unit {0}) Error) → p ≡ root_items n → IsPlainTree a.env.config (root_phrase n) a.sheet.indentation → IsReady a → b.sheet.faults ≡ a.sheet.faults → Follows (p nothing) a b (in_short r) → IsOk r
@@ -66,7 +65,8 @@ default_not_out n = bare_not_out default_config (root_phrase n) refl
 pub code_reads : (n : Root) (p : Part) → p ≡ root_items n → is_well_formed_root n ≡ true → ReadsAs default_config false (root_phrase n) (text_of p)
 code_reads n p same w =
     let a : State = start no_lines default_config blank_sheet in
-    whole_reads default_config false (root_phrase n) (text_of p) (steps_read p (root_phrase n) a (new_is_new no_lines default_config [] (10 ∷ []) (inl refl)) (part_prints n p a.env refl same) w (default_not_out n))
+    let s = new_begins n no_lines default_config [] (10 ∷ []) (inl refl) in
+    whole_reads default_config false (root_phrase n) (text_of p) (steps_read (not (root_hashbang n)) p (root_phrase n) a s.is_new (λ e. s.at_margin (not-false (root_hashbang n) e)) (part_prints n p a.env refl same) w (default_not_out n))
 
 root_printable : (n : Root) (p : Part) → p ≡ root_items n → is_well_formed_root n ≡ true → unprintable_in (steps_in p (start no_lines default_config blank_sheet)) ≡ None
 root_printable n p same w = let a : State = start no_lines default_config blank_sheet in printable p (root_phrase n) a.env (part_prints n p a.env refl same) w (default_not_out n)

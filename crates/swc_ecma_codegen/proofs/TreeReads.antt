@@ -1,22 +1,26 @@
 -- What an emission of a well-formed tree adds to a text reads as one of the tree's token lists.
-use Rattle.std.proofs.Common.{◌≡◌, ℕ, true, false, if◌then◌else◌, List, refl, sym, ap, subst, inl, inr, Option, Some, None, Result, Ok, Err, OnOk}
+use Rattle.std.proofs.Common.{◌≡◌, ℕ, Bool, true, false, not, cond, if◌then◌else◌, List, refl, sym, ap, ◌∙◌, subst, inl, inr, Option, Some, None, Result, Ok, Err, OnOk}
+use Rattle.std.proofs.lemmas.Bool.{not-false, true≢false}
 use Rattle.swc_ecma_codegen_common.specs.declared.errors.Error.{Error}
 use Rattle.swc_ecma_codegen_common.specs.Refusals.{in_short}
 use Rattle.swc_ecma_codegen_tree.specs.declared.links.AnyNode.{AnyNode}
+use Rattle.swc_ecma_codegen_tree.specs.declared.exprs.Tpl.{Tpl}
+use Rattle.swc_ecma_codegen_tree.specs.declared.modules.ImportDecl.{ImportDecl}
 use Rattle.swc_ecma_codegen_tree.specs.declared.programs.Program.{Program}
 use Rattle.swc_ecma_codegen_tree.specs.declared.programs.Program.TheVariants.{Module as a_module, Script as a_script}
 use Rattle.swc_ecma_codegen_tree.specs.declared.programs.Module.{Module}
 use Rattle.swc_ecma_codegen_tree.specs.declared.programs.ModuleItem.{ModuleItem}
 use Rattle.swc_ecma_codegen_tree.specs.declared.programs.Script.{Script}
 use Rattle.swc_ecma_codegen_ast.specs.StmtPhrases as stmt_lists
+use Rattle.swc_ecma_codegen_ast.specs.TemplatePhrases.{is_counted}
 use Rattle.swc_ecma_codegen_ast.specs.TreePhrases.{phrase, program_phrase, is_well_formed}
 use Rattle.swc_ecma_codegen_ast.specs.ModulePhrases as module_lists
 use Rattle.swc_ecma_codegen_util.specs.declared.config.Config.{Config}
 use Rattle.swc_ecma_codegen_text_writer.specs.View.{new_sheet}
 use Rattle.swc_ecma_codegen_common.specs.declared.errors.Refusal.TheVariants as refusals
-use Rattle.swc_ecma_codegen_base.specs.declared.refusals.Unprintable.TheVariants.{NameOutOfTarget}
+use Rattle.swc_ecma_codegen_base.specs.declared.refusals.Unprintable.TheVariants.{BadShape, NameOutOfTarget}
 use Rattle.swc_ecma_codegen_ast.specs.SourceLines.{Lines}
-use Rattle.swc_ecma_codegen_base.specs.Run.{Env, Plan, Part, State, nothing, Follows, start, makes_text, steps_of, steps_in, unprintable_in}
+use Rattle.swc_ecma_codegen_base.specs.Run.{Env, Plan, Part, State, refuse, refused, nothing, Follows, start, makes_text, steps_of, steps_in, unprintable_in}
 use Rattle.swc_ecma_codegen_base.specs.Targets.{is_out}
 use Rattle.swc_ecma_codegen_base.specs.Escapes.{may_make_text}
 use Rattle.swc_ecma_codegen_base.specs.Named.{RecordsNames}
@@ -26,23 +30,25 @@ use Rattle.swc_ecma_codegen_base.specs.Scripts.{value_strings, AddsSafe}
 use Rattle.swc_ecma_codegen_base.proofs.AsciiTexts.{printed_ascii, printed_keeps}
 use Rattle.swc_ecma_codegen_base.proofs.ScriptTexts.{printed_safe}
 use Rattle.swc_ecma_codegen_text_writer.specs.Recorded.{RecordsTruly}
-use Rattle.swc_ecma_codegen_ast.specs.Phrases.{is_possible, names_in}
+use Rattle.swc_ecma_codegen_ast.specs.Phrases.{Phrase, is_possible, names_in}
 use Rattle.swc_ecma_codegen_text_writer.specs.Sheet.{HoldsNone}
 use Rattle.swc_ecma_codegen_base.specs.Written.{IsLineEnd, IsNew, AddsReading, all_indent, is_indent, holds_one}
 use Rattle.swc_ecma_codegen_base.proofs.Short.{on_ok_in_short}
 use Rattle.swc_ecma_codegen_base.proofs.Phrased.{printed_reads, printed_remakes, printed_names, follows_records, PrintsAt, prints_wider}
-use Rattle.swc_ecma_codegen_base.proofs.Made.{ends_where_out, follows_in_target, follows_out_of_target}
+use Rattle.swc_ecma_codegen_base.proofs.Made.{ends_where_out, follows_in_target, follows_out_of_target, follows_shaped, follows_supported}
 use Rattle.swc_ecma_codegen.specs.declared.nodes.Place.TheVariants.{Plain}
 use Rattle.swc_ecma_codegen.specs.Answers.{any_answers}
-use Rattle.swc_ecma_codegen.specs.Modules.{module_item}
+use Rattle.swc_ecma_codegen.specs.Lists.{unsupported}
+use Rattle.swc_ecma_codegen.specs.Modules.{is_crowded, import_parts, import_decl, module_item}
 use Rattle.swc_ecma_codegen.specs.Programs as programs
+use Rattle.swc_ecma_codegen.specs.Templates.{tpl_placed, bad_shape, tpl}
 use Rattle.swc_ecma_codegen.specs.Tree.{any_items}
-use Rattle.swc_ecma_codegen.specs.Roots.{Root, OfExpr, OfStmt, OfItem, OfModule, OfScript, OfProgram, OfLink, root_items, root_phrase, is_well_formed_root}
+use Rattle.swc_ecma_codegen.specs.Roots.{Root, OfExpr, OfStmt, OfItem, OfModule, OfScript, OfProgram, OfLink, root_items, root_phrase, is_well_formed_root, root_hashbang, MayBegin}
 use Rattle.swc_ecma_codegen.proofs.ExprParts.{plain_expr_prints}
 use Rattle.swc_ecma_codegen.proofs.ModuleParts.{module_item_prints}
 use Rattle.swc_ecma_codegen.proofs.StmtParts.{stmt_prints, module_prints, script_prints, program_prints}
 use Rattle.swc_ecma_codegen.proofs.TreeLaw.{prints, known}
-use Rattle.swc_ecma_codegen_base.proofs.Shapes.{unbroken, is_within}
+use Rattle.swc_ecma_codegen_base.proofs.Shapes.{Shape, unbroken, unbroken_at, loose_at, is_within}
 use Rattle.swc_ecma_codegen.proofs.Linked.{role_shape}
 use Rattle.swc_ecma_codegen_ast.specs.declared.roles.Role.{Role}
 use Rattle.swc_ecma_codegen_ast.specs.declared.roles.Role.TheVariants.{Statement, VariableDeclaration, MethodHead, MethodDecorators, ClassHead, ExportedHead, Member, Item, ModuleDeclaration}
@@ -59,30 +65,45 @@ role_within Item = refl
 role_within ModuleDeclaration = refl
 role_within role = refl
 
-pub root_prints : (env : Env) → env.keeps_invalid ≡ false → (n : Root) → PrintsAt unbroken env (root_items n) (root_phrase n)
+-- a program stands anywhere, or only where nothing was written
+loose_within : (anywhere : Bool) → is_within (loose_at anywhere) (unbroken_at anywhere) ≡ true
+loose_within true = refl
+loose_within false = refl
+
+program_unbroken : {env : Env} {p : Part} {f : Phrase} (anywhere : Bool) → PrintsAt (loose_at anywhere) env p f → PrintsAt (unbroken_at anywhere) env p f
+program_unbroken anywhere h = prints_wider (unbroken_at anywhere) (loose_within anywhere) h
+
+abbrev pub root_shape : Root → Shape
+root_shape n = unbroken_at (not (root_hashbang n))
+
+pub root_prints : (env : Env) → env.keeps_invalid ≡ false → (n : Root) → PrintsAt (root_shape n) env (root_items n) (root_phrase n)
 unfolding stmt_lists.program
 root_prints env e (OfExpr n) = prints_wider unbroken refl (plain_expr_prints (known env e) n Plain refl)
 root_prints env e (OfStmt n) = prints_wider unbroken refl (stmt_prints (known env e) n)
 root_prints env e (OfItem n) = prints_wider unbroken refl (module_item_prints (known env e) n)
-root_prints env e (OfModule n) = prints_wider unbroken refl (module_prints (known env e) n)
-root_prints env e (OfScript n) = prints_wider unbroken refl (script_prints (known env e) n)
-root_prints env e (OfProgram n) = prints_wider unbroken refl (program_prints (known env e) n)
+root_prints env e (OfModule n) = program_unbroken _ (module_prints (known env e) n)
+root_prints env e (OfScript n) = program_unbroken _ (script_prints (known env e) n)
+root_prints env e (OfProgram n) = program_unbroken _ (program_prints (known env e) n)
 root_prints env e (OfLink n role) = prints_wider unbroken (role_within role) (prints env e n Plain role)
 
 -- whatever the root is, and whatever refers to it
-pub root_reads : (n : Root) (p : Part) (a b : State) (r : Result (Unit {0}) Error) → p ≡ root_items n → is_well_formed_root n ≡ true → IsNew a → Follows (p nothing) a b (in_short r) → OnOk r (AddsReading a.env.config (root_phrase n) a.sheet b.sheet)
-root_reads n p a b r same w s h = on_ok_in_short _ r (printed_reads p (root_phrase n) a b (in_short r) s (subst (λ z. PrintsAt unbroken a.env z (root_phrase n)) (sym same) (root_prints a.env s.leaves_out n)) w h)
+pub root_reads : (n : Root) (p : Part) (a b : State) (r : Result (Unit {0}) Error) → p ≡ root_items n → is_well_formed_root n ≡ true → MayBegin n a → Follows (p nothing) a b (in_short r) → OnOk r (AddsReading a.env.config (root_phrase n) a.sheet b.sheet)
+root_reads n p a b r same w s h = on_ok_in_short _ r (printed_reads (not (root_hashbang n)) p (root_phrase n) a b (in_short r) s.is_new (λ e. s.at_margin (not-false (root_hashbang n) e)) (subst (λ z. PrintsAt (root_shape n) a.env z (root_phrase n)) (sym same) (root_prints a.env s.is_new.leaves_out n)) w h)
+
+-- what begins with no hashbang may stand anywhere
+pub may_begin : (n : Root) (a : State) → root_hashbang n ≡ false → IsNew a → MayBegin n a
+may_begin n a h s = record { is_new = s; at_margin = λ e. absurd (true≢false (sym e ∙ h)) }
 
 pub item_reads : (n : ModuleItem AnyNode) (a b : State) (r : Result (Unit {0}) Error) → is_possible (module_lists.module_item phrase n) ≡ true → IsNew a → Follows (module_item any_answers any_items n nothing) a b (in_short r) → OnOk r (AddsReading a.env.config (module_lists.module_item phrase n) a.sheet b.sheet)
-item_reads n a b r w s h = root_reads (OfItem n) _ a b r refl w s h
+item_reads n a b r w s h = root_reads (OfItem n) _ a b r refl w (may_begin (OfItem n) a refl s) h
 
-pub module_reads : (n : Module AnyNode) (a b : State) (r : Result (Unit {0}) Error) → is_well_formed (a_module n) ≡ true → IsNew a → Follows (programs.whole_module any_items n nothing) a b (in_short r) → OnOk r (AddsReading a.env.config (program_phrase (a_module n)) a.sheet b.sheet)
+pub module_reads : (n : Module AnyNode) (a b : State) (r : Result (Unit {0}) Error) → is_well_formed (a_module n) ≡ true → MayBegin (OfModule n) a → Follows (programs.whole_module any_items n nothing) a b (in_short r) → OnOk r (AddsReading a.env.config (program_phrase (a_module n)) a.sheet b.sheet)
 module_reads n a b r w s h = root_reads (OfModule n) _ a b r refl w s h
 
-pub script_reads : (n : Script AnyNode) (a b : State) (r : Result (Unit {0}) Error) → is_well_formed (a_script n) ≡ true → IsNew a → Follows (programs.script any_items n nothing) a b (in_short r) → OnOk r (AddsReading a.env.config (program_phrase (a_script n)) a.sheet b.sheet)
+pub script_reads : (n : Script AnyNode) (a b : State) (r : Result (Unit {0}) Error) → is_well_formed (a_script n) ≡ true → MayBegin (OfScript n) a → Follows (programs.script any_items n nothing) a b (in_short r) → OnOk r (AddsReading a.env.config (program_phrase (a_script n)) a.sheet b.sheet)
 script_reads n a b r w s h = root_reads (OfScript n) _ a b r refl w s h
 
-pub program_reads : (n : Program AnyNode) (a b : State) (r : Result (Unit {0}) Error) → is_well_formed n ≡ true → IsNew a → Follows (programs.program any_items n nothing) a b (in_short r) → OnOk r (AddsReading a.env.config (program_phrase n) a.sheet b.sheet)
+pub program_reads : (n : Program AnyNode) (a b : State) (r : Result (Unit {0}) Error) → is_well_formed n ≡ true → MayBegin (OfProgram n) a → Follows (programs.program any_items n nothing) a b (in_short r) → OnOk r (AddsReading a.env.config (program_phrase n) a.sheet b.sheet)
 program_reads n a b r w s h = root_reads (OfProgram n) _ a b r refl w s h
 
 -- what is recorded is true
@@ -91,7 +112,7 @@ steps_recorded p a b r h = on_ok_in_short _ r (follows_records p a b (in_short r
 
 -- where positions are kept, each name has its own where it begins
 pub root_names : (n : Root) (p : Part) (a b : State) (r : Result (Unit {0}) Error) → p ≡ root_items n → is_well_formed_root n ≡ true → a.sheet.keeps_positions ≡ true → a.env.keeps_invalid ≡ false → Follows (p nothing) a b (in_short r) → OnOk r (RecordsNames a.env.config (names_in (root_phrase n)) a.sheet b.sheet)
-root_names n p a b r same w k e h = on_ok_in_short _ r (printed_names p (root_phrase n) a b (in_short r) (subst (λ z. PrintsAt unbroken a.env z (root_phrase n)) (sym same) (root_prints a.env e n)) w k h)
+root_names n p a b r same w k e h = on_ok_in_short _ r (printed_names p (root_phrase n) a b (in_short r) (subst (λ z. PrintsAt (root_shape n) a.env z (root_phrase n)) (sym same) (root_prints a.env e n)) w k h)
 
 pub item_names : (n : ModuleItem AnyNode) (a b : State) (r : Result (Unit {0}) Error) → is_possible (module_lists.module_item phrase n) ≡ true → a.sheet.keeps_positions ≡ true → a.env.keeps_invalid ≡ false → Follows (module_item any_answers any_items n nothing) a b (in_short r) → OnOk r (RecordsNames a.env.config (names_in (module_lists.module_item phrase n)) a.sheet b.sheet)
 item_names n a b r w k e h = root_names (OfItem n) _ a b r refl w k e h
@@ -107,7 +128,7 @@ program_names n a b r w k e h = root_names (OfProgram n) _ a b r refl w k e h
 
 -- under ASCII only what is added is ASCII, save what stands as it is
 pub root_ascii : (n : Root) (p : Part) (a b : State) (r : Result (Unit {0}) Error) → p ≡ root_items n → is_well_formed_root n ≡ true → WantsAscii a → keeps_other (steps_of (p nothing a.env)) ≡ false → Follows (p nothing) a b (in_short r) → OnOk r (AddsAscii a.sheet.text b.sheet.text)
-root_ascii n p a b r same w s k h = on_ok_in_short _ r (printed_ascii p (root_phrase n) a b (in_short r) (subst (λ z. PrintsAt unbroken a.env z (root_phrase n)) (sym same) (root_prints a.env s.leaves_out n)) w s k h)
+root_ascii n p a b r same w s k h = on_ok_in_short _ r (printed_ascii p (root_phrase n) a b (in_short r) (subst (λ z. PrintsAt (root_shape n) a.env z (root_phrase n)) (sym same) (root_prints a.env s.leaves_out n)) w s k h)
 
 pub item_ascii : (n : ModuleItem AnyNode) (a b : State) (r : Result (Unit {0}) Error) → is_possible (module_lists.module_item phrase n) ≡ true → WantsAscii a → keeps_other (steps_of (module_item any_answers any_items n nothing a.env)) ≡ false → Follows (module_item any_answers any_items n nothing) a b (in_short r) → OnOk r (AddsAscii a.sheet.text b.sheet.text)
 item_ascii n a b r w s k h = root_ascii (OfItem n) _ a b r refl w s k h
@@ -123,7 +144,7 @@ program_ascii n a b r w s k h = root_ascii (OfProgram n) _ a b r refl w s k h
 
 -- under `inline_script` each string that is printed by its value is safe inside a script
 pub root_safe : (n : Root) (p : Part) (a b : State) (r : Result (Unit {0}) Error) → p ≡ root_items n → is_well_formed_root n ≡ true → a.env.config.inline_script ≡ true → a.env.keeps_invalid ≡ false → Follows (p nothing) a b (in_short r) → OnOk r (AddsSafe (value_strings (steps_of (p nothing a.env))) a.sheet.text b.sheet.text)
-root_safe n p a b r same w i e h = on_ok_in_short _ r (printed_safe p (root_phrase n) a b (in_short r) (subst (λ z. PrintsAt unbroken a.env z (root_phrase n)) (sym same) (root_prints a.env e n)) w i h)
+root_safe n p a b r same w i e h = on_ok_in_short _ r (printed_safe p (root_phrase n) a b (in_short r) (subst (λ z. PrintsAt (root_shape n) a.env z (root_phrase n)) (sym same) (root_prints a.env e n)) w i h)
 
 pub item_safe : (n : ModuleItem AnyNode) (a b : State) (r : Result (Unit {0}) Error) → is_possible (module_lists.module_item phrase n) ≡ true → a.env.config.inline_script ≡ true → a.env.keeps_invalid ≡ false → Follows (module_item any_answers any_items n nothing) a b (in_short r) → OnOk r (AddsSafe (value_strings (steps_of (module_item any_answers any_items n nothing a.env))) a.sheet.text b.sheet.text)
 item_safe n a b r w i e h = root_safe (OfItem n) _ a b r refl w i e h
@@ -160,14 +181,40 @@ root_in_target n a b w e h = follows_in_target (root_items n) (root_phrase n) a 
 pub root_out_of_target : (n : Root) (a b : State) → is_well_formed_root n ≡ true → a.env.keeps_invalid ≡ false → Follows (root_items n nothing) a b (Err refusals.NameOutOfTarget) → is_out a.env.config (root_phrase n) ≡ true
 root_out_of_target n a b w e h = follows_out_of_target (root_items n) (root_phrase n) a b (root_prints a.env e n) w h
 
-pub new_is_new : (lines : Lines) (config : Config) (bytes line_end : List ℕ) → IsLineEnd line_end → IsNew (start lines config (new_sheet bytes line_end))
+-- it comes to no other node that can't be printed
+pub root_shaped : (n : Root) (a b : State) → is_well_formed_root n ≡ true → a.env.keeps_invalid ≡ false → Follows (root_items n nothing) a b (Err refusals.BadShape) → ⊥
+root_shaped n a b w e h = follows_shaped (root_items n) (root_phrase n) a b (root_prints a.env e n) w h
+
+pub root_supported : (n : Root) (a b : State) → is_well_formed_root n ≡ true → a.env.keeps_invalid ≡ false → Follows (root_items n nothing) a b (Err refusals.UnsupportedNode) → ⊥
+root_supported n a b w e h = follows_supported (root_items n) (root_phrase n) a b (root_prints a.env e n) w h
+
+-- a shape of which no text is written
+pub crowded_refused : (n : ImportDecl AnyNode) (rest : Plan) (env : Env) → is_crowded n.specifiers.items ≡ true → import_decl any_items n rest env ≡ refused BadShape
+unfolding import_decl bad_shape refuse
+crowded_refused n rest env h = ap (λ b. cond b (bad_shape rest) (cond n.type_only (unsupported rest) (import_parts any_items n rest)) env) h
+
+pub uncounted_refused : (n : Tpl AnyNode) (tagged : Bool) (rest : Plan) (env : Env) → is_counted n.exprs.items n.quasis.items ≡ false → tpl any_items tagged n rest env ≡ refused BadShape
+unfolding tpl bad_shape refuse
+uncounted_refused n tagged rest env h = ap (λ b. cond b (tpl_placed any_items tagged n rest) (bad_shape rest) env) h
+
+new_is_new : (lines : Lines) (config : Config) (bytes line_end : List ℕ) → IsLineEnd line_end → IsNew (start lines config (new_sheet bytes line_end))
 unfolding all_indent is_indent holds_one
 new_is_new lines config bytes line_end h = record { nothing_written = refl; nothing_held = refl; indent_text = refl; line_end = h; leaves_out = refl }
 
-pub indented_is_new : (lines : Lines) (config : Config) (bytes line_end indent : List ℕ) → IsLineEnd line_end → all_indent indent ≡ true → IsNew (start lines config (record (new_sheet bytes line_end) { indent_text = indent }))
+indented_is_new : (lines : Lines) (config : Config) (bytes line_end indent : List ℕ) → IsLineEnd line_end → all_indent indent ≡ true → IsNew (start lines config (record (new_sheet bytes line_end) { indent_text = indent }))
 unfolding holds_one
 indented_is_new lines config bytes line_end indent h k = record { nothing_written = refl; nothing_held = refl; indent_text = k; line_end = h; leaves_out = refl }
 
-pub holding_is_new : (lines : Lines) (config : Config) (bytes line_end : List ℕ) → IsLineEnd line_end → IsNew (start lines config (record (new_sheet bytes line_end) { semicolons = HoldsNone }))
+holding_is_new : (lines : Lines) (config : Config) (bytes line_end : List ℕ) → IsLineEnd line_end → IsNew (start lines config (record (new_sheet bytes line_end) { semicolons = HoldsNone }))
 unfolding all_indent is_indent holds_one
 holding_is_new lines config bytes line_end h = record { nothing_written = refl; nothing_held = refl; indent_text = refl; line_end = h; leaves_out = refl }
+
+-- what a new emitter over a new writer begins may be any root
+pub new_begins : (n : Root) (lines : Lines) (config : Config) (bytes line_end : List ℕ) → IsLineEnd line_end → MayBegin n (start lines config (new_sheet bytes line_end))
+new_begins n lines config bytes line_end h = record { is_new = new_is_new lines config bytes line_end h; at_margin = λ e at. refl }
+
+pub indented_begins : (n : Root) (lines : Lines) (config : Config) (bytes line_end indent : List ℕ) → IsLineEnd line_end → all_indent indent ≡ true → MayBegin n (start lines config (record (new_sheet bytes line_end) { indent_text = indent }))
+indented_begins n lines config bytes line_end indent h k = record { is_new = indented_is_new lines config bytes line_end indent h k; at_margin = λ e at. refl }
+
+pub holding_begins : (n : Root) (lines : Lines) (config : Config) (bytes line_end : List ℕ) → IsLineEnd line_end → MayBegin n (start lines config (record (new_sheet bytes line_end) { semicolons = HoldsNone }))
+holding_begins n lines config bytes line_end h = record { is_new = holding_is_new lines config bytes line_end h; at_margin = λ e at. refl }

@@ -1,16 +1,21 @@
 -- Lists of nodes.
-use Rattle.std.specs.Prelude.{Bool, false, if◌then◌else◌, List, [], ◌∷◌, Option, Some, None, codes}
+use Rattle.std.specs.Prelude.{ℕ, Bool, false, ◌||◌, if◌then◌else◌, List, [], ◌∷◌, Option, Some, None, codes}
 use Rattle.swc_ecma_codegen_base.specs.Run.{Part, refuse}
 use Rattle.swc_ecma_codegen_base.specs.declared.refusals.Unprintable.TheVariants as unprintable
 use Rattle.swc_ecma_codegen_common.specs.declared.positions.Span.{Span}
 use Rattle.swc_ecma_codegen.specs.declared.nodes.Place.{Place}
 use Rattle.swc_ecma_codegen.specs.declared.nodes.Place.TheVariants.{Plain}
-use Rattle.swc_ecma_codegen_base.specs.Lists.{ListChild}
+use Rattle.swc_ecma_codegen_base.specs.Lists.{ListChild, first_child, next_child, list_after, list}
 use Rattle.swc_ecma_codegen_base.specs.Words.{punct, formatting_space}
 
 -- a node that isn't printed yet
 unfoldable pub unsupported : Part
 unsupported rest = refuse unprintable.UnsupportedNode rest
+
+-- some node of a list is such
+unfoldable pub some_is : {A : Type 0} → (A → Bool) → List A → Bool
+some_is test [] = false
+some_is test (n ∷ ns) = test n || some_is test ns
 
 -- a comma and a blank, except before the first
 unfoldable pub comma : Bool → Part
@@ -34,3 +39,13 @@ if_some_at items (Some x) place rest = items x place rest
 -- a child of a list, by where it stands and what is written of it
 abbrev pub child_of : {A : Type 0} → (A → Span) → (A → Place → Part) → A → ListChild
 child_of place items x = record { place = place x; part = items x Plain }
+
+-- A child among those that stand in braces, after one that stands at `previous` where there is one.
+unfoldable pub braced_child : ℕ → Span → Option Span → ListChild → Part
+braced_child format parent None x rest = first_child format parent x rest
+braced_child format parent (Some previous) x rest = next_child format previous x rest
+
+-- the rest of them, and what closes the list
+unfoldable pub braced_rest : ℕ → Span → Option Span → List ListChild → Part
+braced_rest format parent None xs rest = list format parent xs rest
+braced_rest format parent (Some previous) xs rest = list_after format parent previous xs rest

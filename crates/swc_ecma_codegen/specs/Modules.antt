@@ -1,5 +1,6 @@
--- What is written of imports and exports. What TypeScript adds isn't printed yet, nor are attributes.
-use Rattle.std.specs.Prelude.{ℕ, Bool, true, false, if◌then◌else◌, List, [], ◌∷◌, map, codes, Option, Some, None}
+-- What is written of imports and exports. What TypeScript adds isn't printed yet. Specifiers that stand in no order of the language are
+-- written as swc writes them.
+use Rattle.std.specs.Prelude.{ℕ, nat_lt, Bool, true, false, not, ◌&&◌, if◌then◌else◌, List, [], ◌∷◌, length, map, filter, codes, Option, Some, None}
 use Rattle.swc_ecma_codegen_common.specs.declared.positions.Span.{Span}
 use Rattle.swc_ecma_codegen_tree.specs.declared.decls.Decl.{Decl}
 use Rattle.swc_ecma_codegen_tree.specs.declared.decls.Decl.TheVariants as decls
@@ -41,7 +42,7 @@ use Rattle.swc_ecma_codegen.specs.Answers.{Answers, place_of}
 use Rattle.swc_ecma_codegen.specs.ClassExprs.{class_expr}
 use Rattle.swc_ecma_codegen.specs.Exprs.{blank, ident}
 use Rattle.swc_ecma_codegen.specs.Functions.{fn_expr}
-use Rattle.swc_ecma_codegen.specs.Lists.{child_of, unsupported}
+use Rattle.swc_ecma_codegen.specs.Lists.{child_of, comma, some_is, unsupported}
 use Rattle.swc_ecma_codegen.specs.Templates.{bad_shape}
 
 -- `a` or `'b c'`
@@ -79,61 +80,56 @@ import_named_parts n rest = start_of n.span (imported_as n.imported (ident n.loc
 unfoldable pub import_named : ImportNamedSpecifier → Part
 import_named n rest = if n.is_type_only then unsupported rest else import_named_parts n rest
 
--- among braces only such stand
+-- such stand among braces, and others before them
 unfoldable pub import_specifier : ImportSpecifier → Part
 import_specifier (imported.Named n) rest = import_named n rest
-import_specifier n rest = bad_shape rest
+import_specifier n rest = rest
+
+unfoldable pub is_named : ImportSpecifier → Bool
+is_named (imported.Named n) = true
+is_named n = false
+
+unfoldable pub is_default : ImportSpecifier → Bool
+is_default (imported.Default n) = true
+is_default n = false
+
+unfoldable pub is_star : ImportSpecifier → Bool
+is_star (imported.Namespace n) = true
+is_star n = false
+
+-- A namespace stands among more than two: swc stops there.
+unfoldable pub is_crowded : List ImportSpecifier → Bool
+is_crowded ns = some_is is_star ns && nat_lt 2 (length ns)
 
 abbrev pub import_list : Span → List ImportSpecifier → Part
-import_list parent ns = list named_format parent (map (child_of import_specifier_span (λ n place. import_specifier n)) ns)
+import_list parent ns = list named_format parent (map (child_of import_specifier_span (λ n place. import_specifier n)) (filter is_named ns))
 
--- `* as a `
-unfoldable pub imported_star : ImportSpecifier → Part
-imported_star (imported.Namespace n) rest = star_as (ident n.local (space rest))
-imported_star n rest = bad_shape rest
+-- What of one specifier stands before the braces: `a`, `* as a`. `first` says that no default name stands before it.
+unfoldable pub before_brace : Bool → ImportSpecifier → Part
+before_brace first (imported.Named n) rest = rest
+before_brace first (imported.Default n) rest = ident n.local rest
+before_brace first (imported.Namespace n) rest = comma first (star_as (ident n.local rest))
 
--- it is the only one
-unfoldable pub is_star : List ImportSpecifier → Bool
-is_star (imported.Namespace n ∷ []) = true
-is_star ns = false
+-- `a, * as b`, in whatever order
+unfoldable pub before_braces : Bool → List ImportSpecifier → Part
+before_braces first [] rest = rest
+before_braces first (n ∷ ns) rest = before_brace first n (before_braces (first && not (is_default n)) ns rest)
 
-unfoldable pub star_import : List ImportSpecifier → Part
-star_import [] rest = rest
-star_import (n ∷ ns) rest = imported_star n rest
+-- `{ a, b as c } `, and a comma after a default name
+unfoldable pub some_named : Span → List ImportSpecifier → Part
+some_named parent ns rest = comma (not (some_is is_default ns)) (punct (codes "{") (import_list parent ns (punct (codes "}") (formatting_space rest))))
 
--- `{ a, b as c } `
 unfoldable pub import_braces : Span → List ImportSpecifier → Part
-import_braces parent ns rest = punct (codes "{") (import_list parent ns (punct (codes "}") (formatting_space rest)))
+import_braces parent ns rest = if some_is is_named ns then some_named parent ns rest else space rest
 
-unfoldable pub import_bindings : Span → List ImportSpecifier → Part
-import_bindings parent ns rest = if is_star ns then star_import ns rest else import_braces parent ns rest
-
--- what stands after the default one: `, { b } `
-unfoldable pub after_default : Span → List ImportSpecifier → Part
-after_default parent [] rest = space rest
-after_default parent (n ∷ ns) rest = punct (codes ",") (formatting_space (import_bindings parent (n ∷ ns) rest))
-
--- a blank before the default one is needed: `import a`, minified `import{a}`
+-- a blank before the default one is needed, where it is first: `import a`, minified `import{a}`
 unfoldable pub begins_default : List ImportSpecifier → Bool
 begins_default (imported.Default n ∷ ns) = true
 begins_default ns = false
 
--- `a` of `import a from 'b'`
-unfoldable pub default_name : ImportSpecifier → Part
-default_name (imported.Default n) rest = ident n.local rest
-default_name n rest = bad_shape rest
-
 -- `a, { b } from `
-unfoldable pub default_clause : Span → List ImportSpecifier → Part
-default_clause parent [] rest = rest
-default_clause parent (n ∷ ns) rest = default_name n (after_default parent ns (from_word rest))
-
--- `{ b } from `
-unfoldable pub bindings_clause : Span → List ImportSpecifier → Part
-bindings_clause parent ns rest = import_bindings parent ns (from_word rest)
-
 unfoldable pub some_imports : Span → List ImportSpecifier → Part
-some_imports parent ns rest = if begins_default ns then default_clause parent ns rest else bindings_clause parent ns rest
+some_imports parent ns rest = before_braces true ns (import_braces parent ns (from_word rest))
 
 unfoldable pub import_clause : Span → List ImportSpecifier → Part
 import_clause parent [] rest = rest
@@ -165,7 +161,7 @@ import_parts items n rest =
     (keyword None (codes "import") (phase_word n.phase (blank (begins_default n.specifiers.items) (import_tail items n rest)))))
 
 unfoldable pub import_decl : {X : Type 0} → (X → Place → Part) → ImportDecl X → Part
-import_decl items n rest = if n.type_only then unsupported rest else import_parts items n rest
+import_decl items n rest = if is_crowded n.specifiers.items then bad_shape rest else (if n.type_only then unsupported rest else import_parts items n rest)
 
 -- ---- exports
 
@@ -181,48 +177,50 @@ export_named_parts n rest = leading_comments n.span.lo (start_of n.span (module_
 unfoldable pub export_named_specifier : ExportNamedSpecifier → Part
 export_named_specifier n rest = if n.is_type_only then unsupported rest else export_named_parts n rest
 
--- among braces only such stand; one for a default isn't supported by swc either
+-- `* as a`
+unfoldable pub export_namespace : ExportNamespaceSpecifier → Part
+export_namespace n rest = leading_comments n.span.lo (start_of n.span (star_as (module_export_name n.name (end_of n.span rest))))
+
+-- one for a default isn't supported by swc either
 unfoldable pub export_specifier : ExportSpecifier → Part
 export_specifier (exported.Named n) rest = export_named_specifier n rest
-export_specifier (exported.Namespace n) rest = bad_shape rest
+export_specifier (exported.Namespace n) rest = export_namespace n rest
 export_specifier (exported.Default n) rest = unsupported rest
 
+-- it stands before the braces
+unfoldable pub is_namespace : ExportSpecifier → Bool
+is_namespace (exported.Namespace n) = true
+is_namespace n = false
+
+unfoldable pub is_braced : ExportSpecifier → Bool
+is_braced n = not (is_namespace n)
+
 abbrev pub export_list : Span → List ExportSpecifier → Part
-export_list parent ns = list named_format parent (map (child_of export_specifier_span (λ n place. export_specifier n)) ns)
+export_list parent ns = list named_format parent (map (child_of export_specifier_span (λ n place. export_specifier n)) (filter is_braced ns))
 
 -- `{ a, b as c }`
 unfoldable pub export_braces : Span → List ExportSpecifier → Part
 export_braces parent ns rest = punct (codes "{") (export_list parent ns (punct (codes "}") rest))
 
--- `* as a`
-unfoldable pub export_namespace : ExportNamespaceSpecifier → Part
-export_namespace n rest = leading_comments n.span.lo (start_of n.span (star_as (module_export_name n.name (end_of n.span rest))))
+-- The first of a namespace, wherever it stands; swc passes by others.
+unfoldable pub star_export : List ExportSpecifier → Part
+star_export [] rest = rest
+star_export (exported.Namespace n ∷ ns) rest = export_namespace n rest
+star_export (n ∷ ns) rest = star_export ns rest
 
 -- what stands after it: `, { b }`
 unfoldable pub more_exports : Span → List ExportSpecifier → Part
-more_exports parent [] rest = rest
-more_exports parent (n ∷ ns) rest = punct (codes ",") (formatting_space (export_braces parent (n ∷ ns) rest))
-
-unfoldable pub exported_star : ExportSpecifier → Part
-exported_star (exported.Namespace n) rest = export_namespace n rest
-exported_star n rest = bad_shape rest
-
--- it is first
-unfoldable pub begins_star : List ExportSpecifier → Bool
-begins_star (exported.Namespace n ∷ ns) = true
-begins_star ns = false
+more_exports parent ns rest = if some_is is_braced ns then punct (codes ",") (formatting_space (export_braces parent ns rest)) else rest
 
 unfoldable pub star_exports : Span → List ExportSpecifier → Part
-star_exports parent [] rest = rest
-star_exports parent (n ∷ ns) rest = exported_star n (more_exports parent ns rest)
+star_exports parent ns rest = star_export ns (more_exports parent ns rest)
 
 unfoldable pub export_clause : Span → List ExportSpecifier → Part
-export_clause parent ns rest = if begins_star ns then star_exports parent ns rest else export_braces parent ns rest
+export_clause parent ns rest = if some_is is_namespace ns then star_exports parent ns rest else export_braces parent ns rest
 
 -- it ends with a name: `export * as a from 'b'`, minified `export*as a from"b"`
 unfoldable pub ends_with_name : List ExportSpecifier → Bool
-ends_with_name (exported.Namespace n ∷ []) = true
-ends_with_name ns = false
+ends_with_name ns = some_is is_namespace ns && not (some_is is_braced ns)
 
 -- ` from 'a'` with its attributes, where it is so
 unfoldable pub from_clause : {X : Type 0} → (X → Place → Part) → Option (ObjectLitBox X) → Bool → Option Str → Part

@@ -1,5 +1,5 @@
 -- What can be printed as a whole, by its root.
-use Rattle.std.specs.Prelude.{Bool}
+use Rattle.std.specs.Prelude.{◌≡◌, Bool, true, false, is_some}
 use Rattle.swc_ecma_codegen_tree.specs.declared.links.AnyNode.{AnyNode}
 use Rattle.swc_ecma_codegen_tree.specs.declared.exprs.Expr.{Expr}
 use Rattle.swc_ecma_codegen_tree.specs.declared.stmts.Stmt.{Stmt}
@@ -12,14 +12,15 @@ use Rattle.swc_ecma_codegen_ast.specs.ModulePhrases as lists
 use Rattle.swc_ecma_codegen_ast.specs.Phrases.{Phrase, is_possible}
 use Rattle.swc_ecma_codegen_ast.specs.declared.roles.Role.{Role}
 use Rattle.swc_ecma_codegen_ast.specs.TreePhrases.{phrase, expr_phrase, stmt_phrase, program_phrase}
-use Rattle.swc_ecma_codegen_base.specs.Run.{Part}
+use Rattle.swc_ecma_codegen_base.specs.Run.{Part, State}
+use Rattle.swc_ecma_codegen_base.specs.Written.{IsNew, IsAtMargin}
 use Rattle.swc_ecma_codegen.specs.declared.nodes.Place.TheVariants.{Plain}
 use Rattle.swc_ecma_codegen.specs.Answers.{any_answers}
 use Rattle.swc_ecma_codegen.specs.Places.{placed}
 use Rattle.swc_ecma_codegen.specs.Exprs.{expr}
 use Rattle.swc_ecma_codegen.specs.Stmts.{stmt}
 use Rattle.swc_ecma_codegen.specs.Modules.{module_item}
-use Rattle.swc_ecma_codegen.specs.Programs.{whole_module, script, program}
+use Rattle.swc_ecma_codegen.specs.Programs.{whole_module, script, program, has_hashbang}
 use Rattle.swc_ecma_codegen.specs.Tree.{any_items}
 
 -- an expression, a statement, an item of a module, a module, a script, a program, or what a link holds, in a role
@@ -55,3 +56,15 @@ root_phrase (OfLink n role) = phrase n role
 -- it is well-formed
 abbrev pub is_well_formed_root : Root → Bool
 is_well_formed_root n = is_possible (root_phrase n)
+
+-- it begins with a hashbang
+abbrev pub root_hashbang : Root → Bool
+root_hashbang (OfModule n) = is_some n.shebang
+root_hashbang (OfScript n) = is_some n.shebang
+root_hashbang (OfProgram n) = has_hashbang n
+root_hashbang n = false
+
+-- An emission begins where the root may stand: one with a hashbang stands first of all in a text.
+pub record MayBegin (n : Root) (s : State) : Type 0 where
+  pub is_new : IsNew s
+  pub at_margin : root_hashbang n ≡ true → IsAtMargin s

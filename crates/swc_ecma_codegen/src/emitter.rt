@@ -38,6 +38,7 @@ impl<'a, W: WriteJs, S: SourceMapper, C: Comments> Emitter<'a, W, S, C> {
     ghost use Rattle.swc_ecma_codegen.specs.Answers.{any_answers};
     ghost use Rattle.swc_ecma_codegen.specs.Modules.{module_export_name, module_item};
     ghost use Rattle.swc_ecma_codegen.specs.Programs.{program, script, whole_module};
+    ghost use Rattle.swc_ecma_codegen.specs.Roots.{MayBegin, OfModule, OfProgram, OfScript};
     ghost use Rattle.swc_ecma_codegen.specs.declared.nodes.Place.TheVariants.{Plain};
     ghost use Rattle.swc_ecma_codegen_ast.specs.TreePhrases.{phrase, program_phrase, is_well_formed};
     ghost use Rattle.swc_ecma_codegen_ast.specs.ModulePhrases.{module_item as item_phrase};
@@ -104,14 +105,15 @@ impl<'a, W: WriteJs, S: SourceMapper, C: Comments> Emitter<'a, W, S, C> {
     pub fn emit_program(&mut self, node: &Program) -> Result
         // The steps of the tree are made, and it comes to no node that can't be printed; or it halts.
         ensures items { Follows (program any_items node.now nothing) (state_of S.lines W.sheet self.old) (state_of S.lines W.sheet self.new) (in_short result) }
-        // What a new emitter adds to the text, of a well-formed tree, reads as one of the tree's token lists.
-        ensures reads { is_well_formed node.now ≡ true → IsNew (state_of S.lines W.sheet self.old) → OnOk result (AddsReading self.old.cfg (program_phrase node.now) (W.sheet self.old.wr) (W.sheet self.new.wr)) }
+        // What a new emitter adds to the text, of a well-formed tree, reads as one of the tree's token lists; with a hashbang, where
+        // no indentation is due before it.
+        ensures reads { is_well_formed node.now ≡ true → MayBegin (OfProgram node.now) (state_of S.lines W.sheet self.old) → OnOk result (AddsReading self.old.cfg (program_phrase node.now) (W.sheet self.old.wr) (W.sheet self.new.wr)) }
         // Each position that is recorded holds the place that the text had reached, and none is recorded twice.
         ensures recorded { OnOk result (RecordsTruly (W.sheet self.old.wr) (W.sheet self.new.wr)) }
         // Where positions are kept, each name of a well-formed tree has its own where it begins, unless that is 0.
         ensures names { is_well_formed node.now ≡ true → (W.sheet self.old.wr).keeps_positions ≡ true → (W.sheet self.old.wr).keeps_invalid ≡ false → OnOk result (RecordsNames self.old.cfg (names_in (program_phrase node.now)) (W.sheet self.old.wr) (W.sheet self.new.wr)) }
         // Where the settings ask for ASCII, what is added is, unless a text that stands as it is in the tree isn't: a regular
-        // expression, a template with a tag, or a directive with a backslash.
+        // expression, a template with a tag, a hashbang, or a directive with a backslash.
         ensures ascii { is_well_formed node.now ≡ true → WantsAscii (state_of S.lines W.sheet self.old) → keeps_other (steps_of (steps_in (program any_items node.now) (state_of S.lines W.sheet self.old))) ≡ false → OnOk result (AddsAscii (W.sheet self.old.wr).text (W.sheet self.new.wr).text) }
         // Under `inline_script` no string of a well-formed tree that is printed by its value ends a script of an HTML page, or
         // opens or closes a comment there: it holds no `<!--`, no `-->`, and no `</script` before `>` or ASCII whitespace.
@@ -136,20 +138,21 @@ impl<'a, W: WriteJs, S: SourceMapper, C: Comments> Emitter<'a, W, S, C> {
         self.emit(node)
     }
 
-    /// Prints a module: the text of each item, and then a semicolon that is held back, unless the settings leave it out.
-    /// swc's `emit_module`.
+    /// Prints a module: its hashbang, the text of each item, and then a semicolon that is held back, unless the settings leave
+    /// it out. swc's `emit_module`.
     #[tactic(auto, using(crate::proofs::TreeReads::module_reads, crate::proofs::TreeReads::steps_recorded, crate::proofs::TreeReads::module_names, crate::proofs::TreeReads::module_ascii, crate::proofs::TreeReads::module_safe, crate::proofs::TreeMade::module_made, swc_ecma_codegen_base::proofs::Made::ready_after, swc_ecma_codegen_base::proofs::Phrased::never_out_of_memory))]
     pub fn emit_module(&mut self, node: &Module) -> Result
         // The steps of the tree are made, and it comes to no node that can't be printed; or it halts.
         ensures items { Follows (whole_module any_items node.now nothing) (state_of S.lines W.sheet self.old) (state_of S.lines W.sheet self.new) (in_short result) }
-        // What a new emitter adds to the text, of a well-formed tree, reads as one of the tree's token lists.
-        ensures reads { is_well_formed (Program.Module node.now) ≡ true → IsNew (state_of S.lines W.sheet self.old) → OnOk result (AddsReading self.old.cfg (program_phrase (Program.Module node.now)) (W.sheet self.old.wr) (W.sheet self.new.wr)) }
+        // What a new emitter adds to the text, of a well-formed tree, reads as one of the tree's token lists; with a hashbang, where
+        // no indentation is due before it.
+        ensures reads { is_well_formed (Program.Module node.now) ≡ true → MayBegin (OfModule node.now) (state_of S.lines W.sheet self.old) → OnOk result (AddsReading self.old.cfg (program_phrase (Program.Module node.now)) (W.sheet self.old.wr) (W.sheet self.new.wr)) }
         // Each position that is recorded holds the place that the text had reached, and none is recorded twice.
         ensures recorded { OnOk result (RecordsTruly (W.sheet self.old.wr) (W.sheet self.new.wr)) }
         // Where positions are kept, each name of a well-formed tree has its own where it begins, unless that is 0.
         ensures names { is_well_formed (Program.Module node.now) ≡ true → (W.sheet self.old.wr).keeps_positions ≡ true → (W.sheet self.old.wr).keeps_invalid ≡ false → OnOk result (RecordsNames self.old.cfg (names_in (program_phrase (Program.Module node.now))) (W.sheet self.old.wr) (W.sheet self.new.wr)) }
         // Where the settings ask for ASCII, what is added is, unless a text that stands as it is in the tree isn't: a regular
-        // expression, a template with a tag, or a directive with a backslash.
+        // expression, a template with a tag, a hashbang, or a directive with a backslash.
         ensures ascii { is_well_formed (Program.Module node.now) ≡ true → WantsAscii (state_of S.lines W.sheet self.old) → keeps_other (steps_of (steps_in (whole_module any_items node.now) (state_of S.lines W.sheet self.old))) ≡ false → OnOk result (AddsAscii (W.sheet self.old.wr).text (W.sheet self.new.wr).text) }
         // Under `inline_script` no string of a well-formed tree that is printed by its value ends a script of an HTML page, or
         // opens or closes a comment there: it holds no `<!--`, no `-->`, and no `</script` before `>` or ASCII whitespace.
@@ -174,20 +177,21 @@ impl<'a, W: WriteJs, S: SourceMapper, C: Comments> Emitter<'a, W, S, C> {
         self.emit(node)
     }
 
-    /// Prints a script: the text of each statement, and then a semicolon that is held back, unless the settings leave
-    /// it out. swc's `emit_script`.
+    /// Prints a script: its hashbang, the text of each statement, and then a semicolon that is held back, unless the settings
+    /// leave it out. swc's `emit_script`.
     #[tactic(auto, using(crate::proofs::TreeReads::script_reads, crate::proofs::TreeReads::steps_recorded, crate::proofs::TreeReads::script_names, crate::proofs::TreeReads::script_ascii, crate::proofs::TreeReads::script_safe, crate::proofs::TreeMade::script_made, swc_ecma_codegen_base::proofs::Made::ready_after, swc_ecma_codegen_base::proofs::Phrased::never_out_of_memory))]
     pub fn emit_script(&mut self, node: &Script) -> Result
         // The steps of the tree are made, and it comes to no node that can't be printed; or it halts.
         ensures items { Follows (script any_items node.now nothing) (state_of S.lines W.sheet self.old) (state_of S.lines W.sheet self.new) (in_short result) }
-        // What a new emitter adds to the text, of a well-formed tree, reads as one of the tree's token lists.
-        ensures reads { is_well_formed (Program.Script node.now) ≡ true → IsNew (state_of S.lines W.sheet self.old) → OnOk result (AddsReading self.old.cfg (program_phrase (Program.Script node.now)) (W.sheet self.old.wr) (W.sheet self.new.wr)) }
+        // What a new emitter adds to the text, of a well-formed tree, reads as one of the tree's token lists; with a hashbang, where
+        // no indentation is due before it.
+        ensures reads { is_well_formed (Program.Script node.now) ≡ true → MayBegin (OfScript node.now) (state_of S.lines W.sheet self.old) → OnOk result (AddsReading self.old.cfg (program_phrase (Program.Script node.now)) (W.sheet self.old.wr) (W.sheet self.new.wr)) }
         // Each position that is recorded holds the place that the text had reached, and none is recorded twice.
         ensures recorded { OnOk result (RecordsTruly (W.sheet self.old.wr) (W.sheet self.new.wr)) }
         // Where positions are kept, each name of a well-formed tree has its own where it begins, unless that is 0.
         ensures names { is_well_formed (Program.Script node.now) ≡ true → (W.sheet self.old.wr).keeps_positions ≡ true → (W.sheet self.old.wr).keeps_invalid ≡ false → OnOk result (RecordsNames self.old.cfg (names_in (program_phrase (Program.Script node.now))) (W.sheet self.old.wr) (W.sheet self.new.wr)) }
         // Where the settings ask for ASCII, what is added is, unless a text that stands as it is in the tree isn't: a regular
-        // expression, a template with a tag, or a directive with a backslash.
+        // expression, a template with a tag, a hashbang, or a directive with a backslash.
         ensures ascii { is_well_formed (Program.Script node.now) ≡ true → WantsAscii (state_of S.lines W.sheet self.old) → keeps_other (steps_of (steps_in (script any_items node.now) (state_of S.lines W.sheet self.old))) ≡ false → OnOk result (AddsAscii (W.sheet self.old.wr).text (W.sheet self.new.wr).text) }
         // Under `inline_script` no string of a well-formed tree that is printed by its value ends a script of an HTML page, or
         // opens or closes a comment there: it holds no `<!--`, no `-->`, and no `</script` before `>` or ASCII whitespace.
@@ -224,7 +228,7 @@ impl<'a, W: WriteJs, S: SourceMapper, C: Comments> Emitter<'a, W, S, C> {
         // Where positions are kept, each name of a well-formed tree has its own where it begins, unless that is 0.
         ensures names { is_possible (item_phrase phrase node.now) ≡ true → (W.sheet self.old.wr).keeps_positions ≡ true → (W.sheet self.old.wr).keeps_invalid ≡ false → OnOk result (RecordsNames self.old.cfg (names_in (item_phrase phrase node.now)) (W.sheet self.old.wr) (W.sheet self.new.wr)) }
         // Where the settings ask for ASCII, what is added is, unless a text that stands as it is in the tree isn't: a regular
-        // expression, a template with a tag, or a directive with a backslash.
+        // expression, a template with a tag, a hashbang, or a directive with a backslash.
         ensures ascii { is_possible (item_phrase phrase node.now) ≡ true → WantsAscii (state_of S.lines W.sheet self.old) → keeps_other (steps_of (steps_in (module_item any_answers any_items node.now) (state_of S.lines W.sheet self.old))) ≡ false → OnOk result (AddsAscii (W.sheet self.old.wr).text (W.sheet self.new.wr).text) }
         // Under `inline_script` no string of a well-formed tree that is printed by its value ends a script of an HTML page, or
         // opens or closes a comment there: it holds no `<!--`, no `-->`, and no `</script` before `>` or ASCII whitespace.

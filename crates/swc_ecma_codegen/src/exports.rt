@@ -3,12 +3,13 @@
 ghost use Rattle.std.specs.Prelude.{◌≡◌, OnOk};
 ghost use Rattle.swc_ecma_codegen_base.specs.Run.{Emits};
 ghost use Rattle.swc_ecma_codegen_spans.specs.Spans.{export_specifier_span};
-ghost use Rattle.swc_ecma_codegen.specs.Modules.{named_format, from_word, as_word, star_as, exported_as, export_named_specifier, export_specifier, export_list, export_braces, export_namespace, more_exports, export_clause, ends_with_name, from_clause, export_tail, export_named, all_tail, export_all, export_decl, default_decl, export_default, export_default_decl, export_default_expr, exported_star, begins_star, star_exports, attributes, source_end};
+ghost use Rattle.swc_ecma_codegen.specs.Modules.{named_format, from_word, as_word, star_as, exported_as, export_named_specifier, export_specifier, is_braced, is_namespace, export_list, export_braces, export_namespace, star_export, more_exports, star_exports, export_clause, ends_with_name, from_clause, export_tail, export_named, all_tail, export_all, export_decl, default_decl, export_default, export_default_decl, export_default_expr, attributes, source_end};
 ghost use Rattle.swc_ecma_codegen.specs.View.{state_of};
 
 use crate::emitter::Emitter;
 use crate::modules::named_format;
 use crate::nodes::{Child, EmitAt, Held, Place};
+use crate::specifiers::{Specifier, has_braced, has_star};
 use swc_ecma_codegen_ast::comments::Comments;
 use swc_ecma_codegen_ast::mapper::SourceMapper;
 use swc_ecma_codegen_common::{Answer, Span};
@@ -19,20 +20,12 @@ use swc_ecma_codegen_tree::{
     ExportNamespaceSpecifier, ExportSpecifier, ModuleExportName, NamedExport, ObjectLitBox, Str,
 };
 
-/// Whether the first specifier is one of a namespace.
-#[tactic(auto, unfolding(crate::specs::Modules::begins_star))]
-fn begins_star(specifiers: &[ExportSpecifier]) -> bool
-    ensures { result ≡ begins_star specifiers.now }
-{
-    matches!(specifiers, [ExportSpecifier::Namespace(_), ..])
-}
-
-/// Whether there is one specifier, of a namespace.
+/// Whether what is exported ends with the name of a namespace.
 #[tactic(auto, unfolding(crate::specs::Modules::ends_with_name))]
 fn ends_with_name(specifiers: &[ExportSpecifier]) -> bool
     ensures { result ≡ ends_with_name specifiers.now }
 {
-    matches!(specifiers, [ExportSpecifier::Namespace(_)])
+    has_star(specifiers) && !has_braced(specifiers)
 }
 
 impl EmitAt for ExportNamedSpecifier {
@@ -67,7 +60,7 @@ impl EmitAt for ExportSpecifier {
     ) -> Answer {
         match self {
             ExportSpecifier::Named(node) => node.emit_at(e, Place::Plain),
-            ExportSpecifier::Namespace(_) => e.bad_shape(),
+            ExportSpecifier::Namespace(node) => node.emit_at(e, Place::Plain),
             ExportSpecifier::Default(_) => e.unsupported(),
         }
     }
@@ -83,6 +76,22 @@ impl Child for ExportSpecifier {
             ExportSpecifier::Default(node) => node.span,
             ExportSpecifier::Named(node) => node.span,
         }
+    }
+}
+
+impl Specifier for ExportSpecifier {
+    ghost braced = { is_braced };
+
+    ghost stars = { is_namespace };
+
+    #[tactic(auto, unfolding(crate::specs::Modules::is_braced, crate::specs::Modules::is_namespace))]
+    fn is_braced(&self) -> bool {
+        !matches!(self, ExportSpecifier::Namespace(_))
+    }
+
+    #[tactic(auto, unfolding(crate::specs::Modules::is_namespace))]
+    fn is_star(&self) -> bool {
+        matches!(self, ExportSpecifier::Namespace(_))
     }
 }
 
@@ -239,7 +248,7 @@ impl<W: WriteJs, S: SourceMapper, C: Comments> Emitter<'_, W, S, C> {
         ensures items { Emits (export_list parent specifiers.now) (state_of S.lines W.sheet self.old) (state_of S.lines W.sheet self.new) result }
         ensures level { OnOk result ((W.sheet self.new.wr).indentation ≡ (W.sheet self.old.wr).indentation) }
     {
-        self.list(named_format(), parent, specifiers)
+        self.braced_list(named_format(), parent, specifiers)
     }
 
     /// Writes `{ a, b as c }`.
@@ -254,30 +263,32 @@ impl<W: WriteJs, S: SourceMapper, C: Comments> Emitter<'_, W, S, C> {
         Ok(())
     }
 
-    /// Writes what stands after `* as a`.
+    /// Writes `* as a`, of the first of a namespace.
+    #[tactic(auto, unfolding(crate::specs::Modules::star_export))]
+    fn star_export(&mut self, specifiers: &[ExportSpecifier]) -> Answer
+        ensures items { Emits (star_export specifiers.now) (state_of S.lines W.sheet self.old) (state_of S.lines W.sheet self.new) result }
+        ensures level { OnOk result ((W.sheet self.new.wr).indentation ≡ (W.sheet self.old.wr).indentation) }
+    {
+        for specifier in specifiers {
+            if let ExportSpecifier::Namespace(node) = specifier {
+                return node.emit_at(self, Place::Plain);
+            }
+        }
+        Ok(())
+    }
+
+    /// Writes what stands after it.
     #[tactic(auto, unfolding(crate::specs::Modules::more_exports))]
     fn more_exports(&mut self, parent: Span, specifiers: &[ExportSpecifier]) -> Answer
         ensures items { Emits (more_exports parent specifiers.now) (state_of S.lines W.sheet self.old) (state_of S.lines W.sheet self.new) result }
         ensures level { OnOk result ((W.sheet self.new.wr).indentation ≡ (W.sheet self.old.wr).indentation) }
     {
-        if specifiers.is_empty() {
+        if !has_braced(specifiers) {
             return Ok(());
         }
         self.punct(Punctuator::Comma)?;
         self.formatting_space()?;
         self.export_braces(parent, specifiers)
-    }
-
-    /// Writes `* as a`.
-    #[tactic(auto, unfolding(crate::specs::Modules::exported_star))]
-    fn exported_star(&mut self, node: &ExportSpecifier) -> Answer
-        ensures items { Emits (exported_star node.now) (state_of S.lines W.sheet self.old) (state_of S.lines W.sheet self.new) result }
-        ensures level { OnOk result ((W.sheet self.new.wr).indentation ≡ (W.sheet self.old.wr).indentation) }
-    {
-        match node {
-            ExportSpecifier::Namespace(node) => node.emit_at(self, Place::Plain),
-            _ => self.bad_shape(),
-        }
     }
 
     /// Writes `* as a, { b }`.
@@ -286,13 +297,8 @@ impl<W: WriteJs, S: SourceMapper, C: Comments> Emitter<'_, W, S, C> {
         ensures items { Emits (star_exports parent specifiers.now) (state_of S.lines W.sheet self.old) (state_of S.lines W.sheet self.new) result }
         ensures level { OnOk result ((W.sheet self.new.wr).indentation ≡ (W.sheet self.old.wr).indentation) }
     {
-        match specifiers.split_first() {
-            Some((first, others)) => {
-                self.exported_star(first)?;
-                self.more_exports(parent, others)
-            }
-            None => Ok(()),
-        }
+        self.star_export(specifiers)?;
+        self.more_exports(parent, specifiers)
     }
 
     /// Writes `{ a }` or `* as a`, or both.
@@ -301,7 +307,7 @@ impl<W: WriteJs, S: SourceMapper, C: Comments> Emitter<'_, W, S, C> {
         ensures items { Emits (export_clause parent specifiers.now) (state_of S.lines W.sheet self.old) (state_of S.lines W.sheet self.new) result }
         ensures level { OnOk result ((W.sheet self.new.wr).indentation ≡ (W.sheet self.old.wr).indentation) }
     {
-        if begins_star(specifiers) {
+        if has_star(specifiers) {
             return self.star_exports(parent, specifiers);
         }
         self.export_braces(parent, specifiers)

@@ -1,14 +1,16 @@
 //! Imports.
 
-ghost use Rattle.std.specs.Prelude.{◌≡◌, OnOk};
+ghost use Rattle.std.specs.Prelude.{◌≡◌, true, OnOk};
 ghost use Rattle.swc_ecma_codegen_base.specs.Run.{Emits};
 ghost use Rattle.swc_ecma_codegen_spans.specs.Spans.{import_specifier_span};
-ghost use Rattle.swc_ecma_codegen.specs.Modules.{named_format, from_word, as_word, star_as, imported_as, import_named, import_specifier, import_list, imported_star, import_braces, import_bindings, after_default, default_clause, import_clause, begins_default, phase_word, import_tail, import_decl, is_star, star_import, default_name, bindings_clause, some_imports, source_end};
+ghost use Rattle.swc_ecma_codegen.specs.Lists.{comma, some_is};
+ghost use Rattle.swc_ecma_codegen.specs.Modules.{named_format, from_word, as_word, star_as, imported_as, import_named, import_specifier, is_named, is_default, is_star, is_crowded, import_list, before_brace, before_braces, some_named, import_braces, begins_default, some_imports, import_clause, phase_word, import_tail, import_decl, source_end};
 ghost use Rattle.swc_ecma_codegen.specs.View.{state_of};
 
 use crate::emitter::Emitter;
 use crate::modules::named_format;
 use crate::nodes::{Child, EmitAt, Held, Place};
+use crate::specifiers::{Specifier, has_braced, has_star};
 use swc_ecma_codegen_ast::comments::Comments;
 use swc_ecma_codegen_ast::mapper::SourceMapper;
 use swc_ecma_codegen_common::{Answer, Span};
@@ -26,12 +28,33 @@ fn begins_default(specifiers: &[ImportSpecifier]) -> bool
     matches!(specifiers, [ImportSpecifier::Default(_), ..])
 }
 
-/// Whether the only specifier is one of a namespace.
-#[tactic(auto, unfolding(crate::specs::Modules::is_star))]
-fn is_star(specifiers: &[ImportSpecifier]) -> bool
-    ensures { result ≡ is_star specifiers.now }
+/// Whether it is the default one.
+#[tactic(auto, unfolding(crate::specs::Modules::is_default))]
+fn is_default(specifier: &ImportSpecifier) -> bool
+    ensures { result ≡ is_default specifier.now }
 {
-    matches!(specifiers, [ImportSpecifier::Namespace(_)])
+    matches!(specifier, ImportSpecifier::Default(_))
+}
+
+/// Whether one among them is.
+#[tactic(auto, unfolding(crate::specs::Lists::some_is))]
+fn has_default(specifiers: &[ImportSpecifier]) -> bool
+    ensures { result ≡ some_is is_default specifiers.now }
+{
+    for specifier in specifiers {
+        if is_default(specifier) {
+            return true;
+        }
+    }
+    false
+}
+
+/// Whether one of a namespace stands among more than two.
+#[tactic(auto, unfolding(crate::specs::Modules::is_crowded))]
+fn is_crowded(specifiers: &[ImportSpecifier]) -> bool
+    ensures { result ≡ is_crowded specifiers.now }
+{
+    has_star(specifiers) && specifiers.len() > 2
 }
 
 impl EmitAt for ImportNamedSpecifier {
@@ -65,7 +88,7 @@ impl EmitAt for ImportSpecifier {
     ) -> Answer {
         match self {
             ImportSpecifier::Named(node) => node.emit_at(e, Place::Plain),
-            ImportSpecifier::Default(_) | ImportSpecifier::Namespace(_) => e.bad_shape(),
+            ImportSpecifier::Default(_) | ImportSpecifier::Namespace(_) => Ok(()),
         }
     }
 }
@@ -83,6 +106,22 @@ impl Child for ImportSpecifier {
     }
 }
 
+impl Specifier for ImportSpecifier {
+    ghost braced = { is_named };
+
+    ghost stars = { is_star };
+
+    #[tactic(auto, unfolding(crate::specs::Modules::is_named))]
+    fn is_braced(&self) -> bool {
+        matches!(self, ImportSpecifier::Named(_))
+    }
+
+    #[tactic(auto, unfolding(crate::specs::Modules::is_star))]
+    fn is_star(&self) -> bool {
+        matches!(self, ImportSpecifier::Namespace(_))
+    }
+}
+
 impl<N: Held> EmitAt for ImportDecl<N> {
     ghost items = { λ n _. import_decl N.items n };
 
@@ -92,6 +131,9 @@ impl<N: Held> EmitAt for ImportDecl<N> {
         e: &mut Emitter<'_, W, S, C>,
         place: Place,
     ) -> Answer {
+        if is_crowded(&self.specifiers) {
+            return e.bad_shape();
+        }
         if self.type_only {
             return e.unsupported();
         }
@@ -126,43 +168,47 @@ impl<W: WriteJs, S: SourceMapper, C: Comments> Emitter<'_, W, S, C> {
         ensures items { Emits (import_list parent specifiers.now) (state_of S.lines W.sheet self.old) (state_of S.lines W.sheet self.new) result }
         ensures level { OnOk result ((W.sheet self.new.wr).indentation ≡ (W.sheet self.old.wr).indentation) }
     {
-        self.list(named_format(), parent, specifiers)
+        self.braced_list(named_format(), parent, specifiers)
     }
 
-    /// Writes `* as a` and a blank.
-    #[tactic(auto, unfolding(crate::specs::Modules::imported_star))]
-    fn imported_star(&mut self, node: &ImportSpecifier) -> Answer
-        ensures items { Emits (imported_star node.now) (state_of S.lines W.sheet self.old) (state_of S.lines W.sheet self.new) result }
+    /// Writes what of a specifier stands before the braces.
+    #[tactic(auto, unfolding(crate::specs::Modules::before_brace))]
+    fn before_brace(&mut self, first: bool, specifier: &ImportSpecifier) -> Answer
+        ensures items { Emits (before_brace first specifier.now) (state_of S.lines W.sheet self.old) (state_of S.lines W.sheet self.new) result }
         ensures level { OnOk result ((W.sheet self.new.wr).indentation ≡ (W.sheet self.old.wr).indentation) }
     {
-        match node {
+        match specifier {
+            ImportSpecifier::Named(_) => Ok(()),
+            ImportSpecifier::Default(node) => node.local.emit_at(self, Place::Plain),
             ImportSpecifier::Namespace(node) => {
+                self.comma(first)?;
                 self.star_as()?;
-                node.local.emit_at(self, Place::Plain)?;
-                self.space()
+                node.local.emit_at(self, Place::Plain)
             }
-            _ => self.bad_shape(),
         }
     }
 
-    /// Writes the only one.
-    #[tactic(auto, unfolding(crate::specs::Modules::star_import))]
-    fn star_import(&mut self, specifiers: &[ImportSpecifier]) -> Answer
-        ensures items { Emits (star_import specifiers.now) (state_of S.lines W.sheet self.old) (state_of S.lines W.sheet self.new) result }
+    /// Writes `a, * as b`, as they stand in the list.
+    #[tactic(auto, using(crate::proofs::Steps::before_next), unfolding(crate::specs::Modules::before_braces))]
+    fn before_braces(&mut self, specifiers: &[ImportSpecifier]) -> Answer
+        ensures items { Emits (before_braces true specifiers.now) (state_of S.lines W.sheet self.old) (state_of S.lines W.sheet self.new) result }
         ensures level { OnOk result ((W.sheet self.new.wr).indentation ≡ (W.sheet self.old.wr).indentation) }
     {
-        match specifiers.split_first() {
-            Some((first, _)) => self.imported_star(first),
-            None => Ok(()),
+        let mut first = true;
+        for specifier in specifiers {
+            self.before_brace(first, specifier)?;
+            first = first && !is_default(specifier);
         }
+        Ok(())
     }
 
-    /// Writes `{ a, b as c }` and a blank.
-    #[tactic(auto, unfolding(crate::specs::Modules::import_braces))]
-    fn import_braces(&mut self, parent: Span, specifiers: &[ImportSpecifier]) -> Answer
-        ensures items { Emits (import_braces parent specifiers.now) (state_of S.lines W.sheet self.old) (state_of S.lines W.sheet self.new) result }
+    /// Writes `{ a, b as c }` and a blank, behind a comma where a default name is written.
+    #[tactic(auto, unfolding(crate::specs::Modules::some_named))]
+    fn some_named(&mut self, parent: Span, specifiers: &[ImportSpecifier]) -> Answer
+        ensures items { Emits (some_named parent specifiers.now) (state_of S.lines W.sheet self.old) (state_of S.lines W.sheet self.new) result }
         ensures level { OnOk result ((W.sheet self.new.wr).indentation ≡ (W.sheet self.old.wr).indentation) }
     {
+        self.comma(!has_default(specifiers))?;
         self.punct(Punctuator::LeftBrace)?;
         self.import_list(parent, specifiers)?;
         self.punct(Punctuator::RightBrace)?;
@@ -170,81 +216,28 @@ impl<W: WriteJs, S: SourceMapper, C: Comments> Emitter<'_, W, S, C> {
         Ok(())
     }
 
-    /// Writes either of them.
-    #[tactic(auto, unfolding(crate::specs::Modules::import_bindings))]
-    fn import_bindings(&mut self, parent: Span, specifiers: &[ImportSpecifier]) -> Answer
-        ensures items { Emits (import_bindings parent specifiers.now) (state_of S.lines W.sheet self.old) (state_of S.lines W.sheet self.new) result }
+    /// Writes that, or the blank that stands there without braces.
+    #[tactic(auto, unfolding(crate::specs::Modules::import_braces))]
+    fn import_braces(&mut self, parent: Span, specifiers: &[ImportSpecifier]) -> Answer
+        ensures items { Emits (import_braces parent specifiers.now) (state_of S.lines W.sheet self.old) (state_of S.lines W.sheet self.new) result }
         ensures level { OnOk result ((W.sheet self.new.wr).indentation ≡ (W.sheet self.old.wr).indentation) }
     {
-        if is_star(specifiers) {
-            return self.star_import(specifiers);
+        if has_braced(specifiers) {
+            return self.some_named(parent, specifiers);
         }
-        self.import_braces(parent, specifiers)
-    }
-
-    /// Writes what stands after the default name.
-    #[tactic(auto, unfolding(crate::specs::Modules::after_default))]
-    fn after_default(&mut self, parent: Span, specifiers: &[ImportSpecifier]) -> Answer
-        ensures items { Emits (after_default parent specifiers.now) (state_of S.lines W.sheet self.old) (state_of S.lines W.sheet self.new) result }
-        ensures level { OnOk result ((W.sheet self.new.wr).indentation ≡ (W.sheet self.old.wr).indentation) }
-    {
-        if specifiers.is_empty() {
-            return self.space();
-        }
-        self.punct(Punctuator::Comma)?;
-        self.formatting_space()?;
-        self.import_bindings(parent, specifiers)
-    }
-
-    /// Writes the default name.
-    #[tactic(auto, unfolding(crate::specs::Modules::default_name))]
-    fn default_name(&mut self, node: &ImportSpecifier) -> Answer
-        ensures items { Emits (default_name node.now) (state_of S.lines W.sheet self.old) (state_of S.lines W.sheet self.new) result }
-        ensures level { OnOk result ((W.sheet self.new.wr).indentation ≡ (W.sheet self.old.wr).indentation) }
-    {
-        match node {
-            ImportSpecifier::Default(node) => node.local.emit_at(self, Place::Plain),
-            _ => self.bad_shape(),
-        }
+        self.space()
     }
 
     /// Writes `a, { b } from` and a blank.
-    #[tactic(auto, unfolding(crate::specs::Modules::default_clause))]
-    fn default_clause(&mut self, parent: Span, specifiers: &[ImportSpecifier]) -> Answer
-        ensures items { Emits (default_clause parent specifiers.now) (state_of S.lines W.sheet self.old) (state_of S.lines W.sheet self.new) result }
-        ensures level { OnOk result ((W.sheet self.new.wr).indentation ≡ (W.sheet self.old.wr).indentation) }
-    {
-        match specifiers.split_first() {
-            Some((first, others)) => {
-                self.default_name(first)?;
-                self.after_default(parent, others)?;
-                self.from_word()
-            }
-            None => Ok(()),
-        }
-    }
-
-    /// Writes `{ b } from` and a blank.
-    #[tactic(auto, unfolding(crate::specs::Modules::bindings_clause))]
-    fn bindings_clause(&mut self, parent: Span, specifiers: &[ImportSpecifier]) -> Answer
-        ensures items { Emits (bindings_clause parent specifiers.now) (state_of S.lines W.sheet self.old) (state_of S.lines W.sheet self.new) result }
-        ensures level { OnOk result ((W.sheet self.new.wr).indentation ≡ (W.sheet self.old.wr).indentation) }
-    {
-        self.import_bindings(parent, specifiers)?;
-        self.from_word()?;
-        Ok(())
-    }
-
-    /// Writes either of them.
     #[tactic(auto, unfolding(crate::specs::Modules::some_imports))]
     fn some_imports(&mut self, parent: Span, specifiers: &[ImportSpecifier]) -> Answer
         ensures items { Emits (some_imports parent specifiers.now) (state_of S.lines W.sheet self.old) (state_of S.lines W.sheet self.new) result }
         ensures level { OnOk result ((W.sheet self.new.wr).indentation ≡ (W.sheet self.old.wr).indentation) }
     {
-        if begins_default(specifiers) {
-            return self.default_clause(parent, specifiers);
-        }
-        self.bindings_clause(parent, specifiers)
+        self.before_braces(specifiers)?;
+        self.import_braces(parent, specifiers)?;
+        self.from_word()?;
+        Ok(())
     }
 
     /// Writes what is imported, then `from` and a blank.

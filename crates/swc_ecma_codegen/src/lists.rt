@@ -22,7 +22,7 @@ use swc_ecma_codegen_tree::{ExprBox, StmtBox};
 impl<W: WriteJs, S: SourceMapper, C: Comments> Emitter<'_, W, S, C> {
     /// Writes a comma and a blank, except before the first.
     #[tactic(auto, unfolding(crate::specs::Lists::comma))]
-    fn comma(&mut self, first: bool) -> Answer
+    pub(crate) fn comma(&mut self, first: bool) -> Answer
         ensures items { Emits (comma first) (state_of S.lines W.sheet self.old) (state_of S.lines W.sheet self.new) result }
         ensures level { OnOk result ((W.sheet self.new.wr).indentation ≡ (W.sheet self.old.wr).indentation) }
     {
@@ -131,7 +131,12 @@ impl<W: WriteJs, S: SourceMapper, C: Comments> Emitter<'_, W, S, C> {
     }
 
     /// Writes the first child, and what stands before it.
-    fn first_child<T: Child>(&mut self, format: ListFormat, parent: Span, child: &T) -> Answer
+    pub(crate) fn first_child<T: Child>(
+        &mut self,
+        format: ListFormat,
+        parent: Span,
+        child: &T,
+    ) -> Answer
         ensures items { Emits (first_child format.0 parent (child_of T.stands T.items child.now)) (state_of S.lines W.sheet self.old) (state_of S.lines W.sheet self.new) result }
         ensures level { OnOk result ((W.sheet self.new.wr).indentation ≡ (W.sheet self.old.wr).indentation + list_levels format.0 self.old.cfg) }
         ensures settings { OnOk result (self.new.cfg ≡ self.old.cfg) }
@@ -153,7 +158,12 @@ impl<W: WriteJs, S: SourceMapper, C: Comments> Emitter<'_, W, S, C> {
     }
 
     /// Writes a child after one that stands at `previous`, and what stands between them.
-    fn next_child<T: Child>(&mut self, format: ListFormat, previous: Span, child: &T) -> Answer
+    pub(crate) fn next_child<T: Child>(
+        &mut self,
+        format: ListFormat,
+        previous: Span,
+        child: &T,
+    ) -> Answer
         ensures items { Emits (next_child format.0 previous (child_of T.stands T.items child.now)) (state_of S.lines W.sheet self.old) (state_of S.lines W.sheet self.new) result }
         ensures level { OnOk result ((W.sheet self.new.wr).indentation ≡ (W.sheet self.old.wr).indentation) }
         ensures settings { OnOk result (self.new.cfg ≡ self.old.cfg) }
@@ -164,7 +174,7 @@ impl<W: WriteJs, S: SourceMapper, C: Comments> Emitter<'_, W, S, C> {
 
     /// Writes what stands after the last child.
     #[tactic(auto, unfolding(swc_ecma_codegen_base::specs::Lists::list_closing))]
-    fn list_closing(&mut self, format: ListFormat, parent: Span, last: Span) -> Answer
+    pub(crate) fn list_closing(&mut self, format: ListFormat, parent: Span, last: Span) -> Answer
         requires { list_levels format.0 self.old.cfg ≤ (W.sheet self.old.wr).indentation }
         ensures items { Emits (list_closing format.0 parent last) (state_of S.lines W.sheet self.old) (state_of S.lines W.sheet self.new) result }
         ensures level { OnOk result ((W.sheet self.new.wr).indentation + list_levels format.0 self.old.cfg ≡ (W.sheet self.old.wr).indentation) }
@@ -215,7 +225,7 @@ impl<W: WriteJs, S: SourceMapper, C: Comments> Emitter<'_, W, S, C> {
 
     /// Writes a list without children.
     #[tactic(auto, unfolding(swc_ecma_codegen_base::specs::Lists::list))]
-    fn no_list(&mut self, format: ListFormat, parent: Span) -> Answer
+    pub(crate) fn no_list(&mut self, format: ListFormat, parent: Span) -> Answer
         ensures items { Emits (list format.0 parent []) (state_of S.lines W.sheet self.old) (state_of S.lines W.sheet self.new) result }
         ensures level { OnOk result ((W.sheet self.new.wr).indentation ≡ (W.sheet self.old.wr).indentation) }
     {

@@ -84,17 +84,13 @@ impl<N: Held> EmitAt for ModuleItem<N> {
 impl<N: Held> EmitAt for Module<N> {
     ghost items = { λ n _. whole_module N.items n };
 
-    #[tactic(auto, unfolding(crate::specs::Programs::whole_module, crate::specs::Programs::module_body))]
+    #[tactic(auto, unfolding(crate::specs::Programs::whole_module))]
     fn emit_at<W: WriteJs, S: SourceMapper, C: Comments>(
         &self,
         e: &mut Emitter<'_, W, S, C>,
         place: Place,
     ) -> Answer {
-        if self.shebang.is_some() {
-            return e.unsupported();
-        }
-        e.leading_comments(self.span.lo)?;
-        e.start_if_empty(&self.body, self.span)?;
+        e.program_start(&self.shebang, &self.body, self.span)?;
         e.module_items(&self.body)?;
         e.trailing_comments(self.span.hi, true)?;
         e.last_semi()?;

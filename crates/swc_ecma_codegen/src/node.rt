@@ -9,10 +9,10 @@ ghost use Rattle.swc_ecma_codegen_text_writer.specs.Recorded.{RecordsTruly};
 ghost use Rattle.swc_ecma_codegen_base.specs.Named.{RecordsNames};
 ghost use Rattle.swc_ecma_codegen_base.specs.Ascii.{keeps_other, AddsAscii, WantsAscii};
 ghost use Rattle.swc_ecma_codegen_base.specs.Scripts.{value_strings, AddsSafe};
-ghost use Rattle.swc_ecma_codegen_base.specs.Written.{IsNew, AddsReading};
+ghost use Rattle.swc_ecma_codegen_base.specs.Written.{AddsReading};
 ghost use Rattle.swc_ecma_codegen_base.specs.Ready.{IsPlainTree, IsReady};
 ghost use Rattle.swc_ecma_codegen.specs.View.{state_of};
-ghost use Rattle.swc_ecma_codegen.specs.Roots.{Root, root_items, root_phrase, is_well_formed_root};
+ghost use Rattle.swc_ecma_codegen.specs.Roots.{Root, root_items, root_phrase, is_well_formed_root, MayBegin};
 ghost use Rattle.swc_ecma_codegen.specs.Lists.{if_some_at};
 ghost use Rattle.swc_ecma_codegen.specs.declared.nodes.Place.TheVariants.{Plain};
 
@@ -39,14 +39,15 @@ pub trait Node: Spanned {
     ) -> Result
         // The steps of the tree are made, and it comes to no node that can't be printed; or it halts.
         ensures items { Follows (part self.now nothing) (state_of S.lines W.sheet e.old) (state_of S.lines W.sheet e.new) (in_short result) }
-        // What a new emitter adds to the text, of a well-formed tree, reads as one of the tree's token lists.
-        ensures reads { (root : Root) → part self.now ≡ root_items root → is_well_formed_root root ≡ true → IsNew (state_of S.lines W.sheet e.old) → OnOk result (AddsReading e.old.cfg (root_phrase root) (W.sheet e.old.wr) (W.sheet e.new.wr)) }
+        // What a new emitter adds to the text, of a well-formed tree, reads as one of the tree's token lists; with a hashbang, where
+        // no indentation is due before it.
+        ensures reads { (root : Root) → part self.now ≡ root_items root → is_well_formed_root root ≡ true → MayBegin root (state_of S.lines W.sheet e.old) → OnOk result (AddsReading e.old.cfg (root_phrase root) (W.sheet e.old.wr) (W.sheet e.new.wr)) }
         // Each position that is recorded holds the place that the text had reached, and none is recorded twice.
         ensures recorded { OnOk result (RecordsTruly (W.sheet e.old.wr) (W.sheet e.new.wr)) }
         // Where positions are kept, each name of a well-formed tree has its own where it begins, unless that is 0.
         ensures names { (root : Root) → part self.now ≡ root_items root → is_well_formed_root root ≡ true → (W.sheet e.old.wr).keeps_positions ≡ true → (W.sheet e.old.wr).keeps_invalid ≡ false → OnOk result (RecordsNames e.old.cfg (names_in (root_phrase root)) (W.sheet e.old.wr) (W.sheet e.new.wr)) }
         // Where the settings ask for ASCII, what is added is, unless a text that stands as it is in the tree isn't: a regular
-        // expression, a template with a tag, or a directive with a backslash.
+        // expression, a template with a tag, a hashbang, or a directive with a backslash.
         ensures ascii { (root : Root) → part self.now ≡ root_items root → is_well_formed_root root ≡ true → WantsAscii (state_of S.lines W.sheet e.old) → keeps_other (steps_of (steps_in (part self.now) (state_of S.lines W.sheet e.old))) ≡ false → OnOk result (AddsAscii (W.sheet e.old.wr).text (W.sheet e.new.wr).text) }
         // Under `inline_script` no string of a well-formed tree that is printed by its value ends a script of an HTML page, or
         // opens or closes a comment there: it holds no `<!--`, no `-->`, and no `</script` before `>` or ASCII whitespace.

@@ -5,7 +5,7 @@ ghost use Rattle.swc_ecma_codegen_base.specs.Lists.{blank_if};
 ghost use Rattle.swc_ecma_codegen_base.specs.Run.{Emits};
 ghost use Rattle.swc_ecma_codegen_base.specs.Starts.{begins_letter};
 ghost use Rattle.swc_ecma_codegen.specs.Stmts.{enclosed, spaced, stmt_word, spaced_word, jump, empty_stmt, expr_stmt, debugger_stmt, with_stmt, return_arg, return_stmt, labeled_stmt, break_stmt, continue_stmt, else_branch, if_stmt, catch_param, catch_clause, handler, finalizer, try_stmt, throw_stmt, stmt_parts, stmt_closed, stmt};
-ghost use Rattle.swc_ecma_codegen.specs.Programs.{start_if_empty, script, program};
+ghost use Rattle.swc_ecma_codegen.specs.Programs.{start_if_empty, program_start, script, program};
 ghost use Rattle.swc_ecma_codegen.specs.View.{state_of};
 
 use crate::branches::is_block;
@@ -274,17 +274,13 @@ impl<N: Held> EmitAt for TryStmt<N> {
 impl<N: Held> EmitAt for Script<N> {
     ghost items = { λ n _. script N.items n };
 
-    #[tactic(auto, unfolding(crate::specs::Programs::script, crate::specs::Programs::script_body))]
+    #[tactic(auto, unfolding(crate::specs::Programs::script))]
     fn emit_at<W: WriteJs, S: SourceMapper, C: Comments>(
         &self,
         e: &mut Emitter<'_, W, S, C>,
         place: Place,
     ) -> Answer {
-        if self.shebang.is_some() {
-            return e.unsupported();
-        }
-        e.leading_comments(self.span.lo)?;
-        e.start_if_empty(&self.body, self.span)?;
+        e.program_start(&self.shebang, &self.body, self.span)?;
         e.stmts(&self.body)?;
         e.trailing_comments(self.span.hi, true)?;
         e.last_semi()?;
@@ -475,9 +471,33 @@ impl<W: WriteJs, S: SourceMapper, C: Comments> Emitter<'_, W, S, C> {
         }
     }
 
+    /// Writes what stands before the statements of a program.
+    #[tactic(auto, unfolding(crate::specs::Programs::program_start))]
+    pub(crate) fn program_start<T>(
+        &mut self,
+        shebang: &Option<String>,
+        body: &[T],
+        span: Span,
+    ) -> Answer
+        ensures items { Emits (program_start shebang.now body.now span) (state_of S.lines W.sheet self.old) (state_of S.lines W.sheet self.new) result }
+        ensures level { OnOk result ((W.sheet self.new.wr).indentation ≡ (W.sheet self.old.wr).indentation) }
+    {
+        match shebang {
+            Some(text) => {
+                self.start_if_empty(body, span)?;
+                self.hashbang(text.as_str())?;
+                self.leading_comments(span.lo)
+            }
+            None => {
+                self.leading_comments(span.lo)?;
+                self.start_if_empty(body, span)
+            }
+        }
+    }
+
     /// Records the start of a program without statements.
     #[tactic(auto, unfolding(crate::specs::Programs::start_if_empty))]
-    pub(crate) fn start_if_empty<T>(&mut self, body: &[T], span: Span) -> Answer
+    fn start_if_empty<T>(&mut self, body: &[T], span: Span) -> Answer
         ensures items { Emits (start_if_empty body.now span) (state_of S.lines W.sheet self.old) (state_of S.lines W.sheet self.new) result }
         ensures level { OnOk result ((W.sheet self.new.wr).indentation ≡ (W.sheet self.old.wr).indentation) }
     {

@@ -10,6 +10,7 @@ ghost use Rattle.swc_ecma_codegen_base.specs.PrivateNames.{private_name};
 ghost use Rattle.swc_ecma_codegen_base.specs.Run.{Emits};
 ghost use Rattle.swc_ecma_codegen_base.specs.Words.{keyword, operator, word_operator, punct, placed_punct, semi, space, formatting_space, formatting_line, line_end, commit_pending_semi, position, position_before, start_of, end_of, last_of, leading_comments, trailing_comments, name};
 ghost use Rattle.swc_ecma_codegen_base.specs.Keys.{key};
+ghost use Rattle.swc_ecma_codegen_base.specs.Literals.{hashbang};
 ghost use Rattle.swc_ecma_codegen_base.specs.Lists.{deeper, shallower};
 ghost use Rattle.swc_ecma_codegen.specs.Exprs.{blank, space_if, spaced_punct, opened, comments_before};
 ghost use Rattle.swc_ecma_codegen.specs.Lists.{unsupported};
@@ -86,6 +87,14 @@ impl<W: WriteJs, S: SourceMapper, C: Comments> Emitter<'_, W, S, C> {
     {
         self.lower
             .key(&self.cfg, &self.comments, &mut self.wr, span, sym)
+    }
+
+    /// Writes a hashbang by what stands behind `#!`, and ends its line.
+    pub(crate) fn hashbang(&mut self, text: &str) -> Answer
+        ensures items { Emits (hashbang text.now) (state_of S.lines W.sheet self.old) (state_of S.lines W.sheet self.new) result }
+        ensures level { OnOk result ((W.sheet self.new.wr).indentation ≡ (W.sheet self.old.wr).indentation) }
+    {
+        self.lower.hashbang(&self.cfg, &mut self.wr, text)
     }
 
     /// Ends the line.

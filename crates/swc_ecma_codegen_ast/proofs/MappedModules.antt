@@ -80,6 +80,7 @@ exported_head_mapped g f b = head_by g f b b.value
 tail_by : {X Y : Type 0} (g : X → Y) (f : Y → Role → Phrase) (b : Box (Decl X) Global) (n : Decl X) → node_phrase f (map-AnyNode X Y g (nodes.StmtPart (stmt_parts.Decl (record b { value = n })))) ExportedTail ≡ exported_tail (λ x. f (g x)) n
 unfolding node_phrase stmt_part exported_tail
 tail_by g f b (decls.Class n) = refl
+tail_by g f b (decls.Using n) = refl
 tail_by g f b n = decl_mapped g f (record b { value = n })
 
 pub exported_tail_mapped : {X Y : Type 0} (g : X → Y) (f : Y → Role → Phrase) (b : Box (Decl X) Global) → node_phrase f (map-AnyNode X Y g (nodes.StmtPart (stmt_parts.Decl b))) ExportedTail ≡ exported_tail (λ x. f (g x)) b.value

@@ -27,7 +27,7 @@ use Rattle.swc_ecma_codegen_tree.specs.declared.stmts.SwitchStmt.{SwitchStmt}
 use Rattle.swc_ecma_codegen_tree.specs.declared.stmts.TryStmt.{TryStmt}
 use Rattle.swc_ecma_codegen_tree.specs.declared.stmts.VarDeclOrExpr.{VarDeclOrExpr}
 use Rattle.swc_ecma_codegen_tree.specs.declared.stmts.VarDeclOrExpr.TheVariants as inits
-use Rattle.swc_ecma_codegen_ast.specs.Phrases.{Phrase, ◌>◌, mark, word, ending, in_order, some_listed}
+use Rattle.swc_ecma_codegen_ast.specs.Phrases.{Phrase, ◌>◌, mark, word, same_line, ending, in_order, some_listed}
 use Rattle.swc_ecma_codegen_ast.specs.declared.roles.Role.{Role}
 use Rattle.swc_ecma_codegen_ast.specs.declared.roles.Role.TheVariants.{Statement, Declaration, VariableDeclaration}
 use Rattle.swc_ecma_codegen_ast.specs.PatPhrases.{value_at, initializer}
@@ -61,7 +61,7 @@ var_decl_mapped g f n = var_by g f n n.declare
 
 decl_by : {X Y : Type 0} (g : X → Y) (f : Y → Role → Phrase) (b : Box (Decl X) Global) (n : Decl X) → node_phrase f (map-AnyNode X Y g (nodes.StmtPart (stmt_parts.Decl (record b { value = n })))) Declaration ≡ decl (λ x. f (g x)) n
 unfolding node_phrase stmt_part decl fn_decl using_decl var_declarator initializer class_decl
-decl_by {X} {Y} g f b (decls.Using n) = ap (λ p. after_await n.is_await (word (codes "using") > p) > ending) (declarators_mapped {X = X} {Y = Y} _ f (λ x. f (g x)) (by_init {X = X} _ (λ span name definite. refl) (λ span name init definite. refl)) n.decls.items)
+decl_by {X} {Y} g f b (decls.Using n) = ap (λ p. after_await n.is_await (word (codes "using") > same_line > p) > ending) (declarators_mapped {X = X} {Y = Y} _ f (λ x. f (g x)) (by_init {X = X} _ (λ span name definite. refl) (λ span name init definite. refl)) n.decls.items)
 decl_by g f b (decls.Fn n) = refl
 decl_by g f b (decls.Var n) = refl
 decl_by g f b n = refl
@@ -128,7 +128,7 @@ for_by g f n (Some (inits.Expr i)) (Some t) (Some u) = refl
 
 -- the head of a `for` that declares by `using`
 abbrev using_head : Bool → Phrase → Phrase
-using_head is_await declarators = after_await is_await (word (codes "using") > declarators)
+using_head is_await declarators = after_await is_await (word (codes "using") > same_line > declarators)
 
 for_in_by : {X Y : Type 0} (g : X → Y) (f : Y → Role → Phrase) (n : ForInStmt X) (left : ForHead X) → node_phrase f (map-AnyNode X Y g (nodes.Stmt (stmts.ForIn (record n { left = left })))) Statement ≡ for_in_stmt (λ x. f (g x)) (record n { left = left })
 unfolding node_phrase stmt for_in_stmt for_head using_decl var_declarator initializer

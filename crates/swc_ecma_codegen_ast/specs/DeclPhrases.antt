@@ -48,9 +48,9 @@ unfoldable pub after_await : Bool → Phrase → Phrase
 after_await true phrase = word (codes "await") > same_line > phrase
 after_await false phrase = phrase
 
--- a proposal: `await using a = b, c = d`, of one declarator at least
+-- A proposal: `await using a = b, c = d`, of one declarator at least. No line ends right after `using`, which would be a name then.
 unfoldable pub using_decl : {X : Type 0} → (X → Role → Phrase) → UsingDecl X → Phrase
-using_decl f n = after_await n.is_await (word (codes "using") > some_listed (codes ",") (map (var_declarator f) n.decls.items))
+using_decl f n = after_await n.is_await (word (codes "using") > same_line > some_listed (codes ",") (map (var_declarator f) n.decls.items))
 
 -- one of variables ends with a semicolon here, and has none in the head of a `for`
 unfoldable pub decl : {X : Type 0} → (X → Role → Phrase) → Decl X → Phrase

@@ -1,5 +1,5 @@
 -- Imports and exports: one production a node. `f` says what is read of what a link holds, in its role. What TypeScript adds isn't printed
--- yet, nor are attributes. ECMA-262, section 16.2.
+-- yet. ECMA-262, section 16.2.
 use Rattle.std.specs.Prelude.{if◌then◌else◌, List, [], ◌∷◌, map, codes, Option, Some, None}
 use Rattle.swc_ecma_codegen_tree.specs.declared.expr_links.ObjectLitBox.{ObjectLitBox}
 use Rattle.swc_ecma_codegen_tree.specs.declared.decls.Decl.{Decl}
@@ -145,9 +145,10 @@ unfoldable pub exported_head : {X : Type 0} → (X → Role → Phrase) → Decl
 exported_head f (decls.Class n) = f n.class.node.value ClassHead
 exported_head f n = Nothing
 
--- and what stands after it
+-- And what stands after it. One by `using` isn't exported in the proposal.
 unfoldable pub exported_tail : {X : Type 0} → (X → Role → Phrase) → Decl X → Phrase
 exported_tail f (decls.Class n) = if n.declare then Never else (word (codes "class") > ident n.ident > f n.class.node.value ClassTail)
+exported_tail f (decls.Using n) = Never
 exported_tail f n = decl f n
 
 -- `export let a = b;`

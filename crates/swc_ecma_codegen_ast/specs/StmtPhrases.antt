@@ -1,5 +1,6 @@
 -- Statements and programs: one production a node. `f` says what is read of what a link holds, in its role.
-use Rattle.std.specs.Prelude.{if◌then◌else◌, is_some, map, codes, Option, Some, None}
+use Rattle.std.specs.Prelude.{map, codes, ◌++◌, Option, Some, None}
+use Rattle.std.specs.declared.string.String.{String}
 use Rattle.swc_ecma_codegen_tree.specs.declared.idents.Ident.{Ident}
 use Rattle.swc_ecma_codegen_tree.specs.declared.expr_links.ExprBox.{ExprBox}
 use Rattle.swc_ecma_codegen_tree.specs.declared.expr_links.PatBox.{PatBox}
@@ -36,7 +37,11 @@ use Rattle.swc_ecma_codegen_tree.specs.declared.programs.Program.{Program}
 use Rattle.swc_ecma_codegen_tree.specs.declared.programs.Program.TheVariants as programs
 use Rattle.swc_ecma_codegen_tree.specs.declared.programs.Module.{Module}
 use Rattle.swc_ecma_codegen_tree.specs.declared.programs.Script.{Script}
-use Rattle.swc_ecma_codegen_ast.specs.Phrases.{Phrase, Never, Nothing, OptionalParentheses, Chosen, LoopEnding, ◌>◌, word, mark, ending, in_order, same_line}
+use Rattle.swc_ecma_codegen_ast.specs.declared.kinds.Kind.TheVariants.{Hashbang}
+use Rattle.swc_ecma_codegen_ast.specs.Chars.{is_one_line}
+use Rattle.swc_ecma_codegen_ast.specs.LitPhrases.{characters}
+use Rattle.swc_ecma_codegen_ast.specs.Tokens.{token_of}
+use Rattle.swc_ecma_codegen_ast.specs.Phrases.{Phrase, Nothing, One, OptionalParentheses, Chosen, LoopEnding, ◌>◌, where_, word, mark, ending, in_order, same_line}
 use Rattle.swc_ecma_codegen_ast.specs.declared.roles.Role.{Role}
 use Rattle.swc_ecma_codegen_ast.specs.declared.roles.Role.TheVariants.{Statement, Block, Item}
 use Rattle.swc_ecma_codegen_ast.specs.NamePhrases.{ident}
@@ -198,9 +203,14 @@ stmt f (stmts.ForOf n) = for_of_stmt f n
 stmt f (stmts.Decl n) = decl_at f n
 stmt f (stmts.Expr n) = expr_stmt f n
 
--- section 16.1: without a hashbang, which isn't printed yet
+-- section 12.5: what stands behind `#!`, in one line, where there is such
+unfoldable pub shebang : {Z : Type 0} → Option (String Z) → Phrase
+shebang None = Nothing
+shebang (Some text) = where_ (is_one_line (characters text)) (One (token_of Hashbang (codes "#!" ++ characters text)))
+
+-- section 16.1
 unfoldable pub script : {X : Type 0} → (X → Role → Phrase) → Script X → Phrase
-script f n = if is_some n.shebang then Never else in_order (map (stmt_at f) n.body.items)
+script f n = shebang n.shebang > in_order (map (stmt_at f) n.body.items)
 
 -- an item of a module that a link holds
 abbrev pub item_at : {X : Type 0} → (X → Role → Phrase) → ModuleItemBox X → Phrase
@@ -208,7 +218,7 @@ item_at f n = f n.node.value Item
 
 -- section 16.2
 unfoldable pub whole_module : {X : Type 0} → (X → Role → Phrase) → Module X → Phrase
-whole_module f n = if is_some n.shebang then Never else in_order (map (item_at f) n.body.items)
+whole_module f n = shebang n.shebang > in_order (map (item_at f) n.body.items)
 
 unfoldable pub program : {X : Type 0} → (X → Role → Phrase) → Program X → Phrase
 program f (programs.Module n) = whole_module f n

@@ -38,6 +38,8 @@ same_token (last.Mark p) t = ap (λ x. fuses x t) (at_place p)
 same_token last.LessBang t = refl
 same_token last.Closing t = refl
 same_token last.Whole t = refl
+same_token last.LineEnd [] = refl
+same_token last.LineEnd (c ∷ n) = refl
 
 rows : length tokens ≡ 63
 unfolding tokens punctuators

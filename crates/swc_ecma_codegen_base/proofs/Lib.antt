@@ -19,6 +19,7 @@ pub mod Entries
 pub mod Afters
 pub mod Marks
 pub mod Indented
+pub mod HashbangPrints
 pub mod Held
 pub mod Written
 pub mod Texts
@@ -45,6 +46,7 @@ pub mod TemplateLaws
 pub mod PrivatePrints
 pub mod StringPrints
 pub mod NumberPrints
+pub mod Behind
 pub mod BigPrints
 pub mod TemplatePrints
 pub mod EachLit

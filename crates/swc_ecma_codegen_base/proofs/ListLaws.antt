@@ -24,7 +24,7 @@ use Rattle.swc_ecma_codegen_base.specs.Targets.{is_out}
 use Rattle.swc_ecma_codegen_base.proofs.Hands.{holds_string}
 use Rattle.swc_ecma_codegen_base.proofs.Choices.{IsAmong, comma_among, no_comma_among, prints_no_comma}
 use Rattle.swc_ecma_codegen_base.proofs.Shapes.{Shape, open_, ended, loose, closed, past_line, join}
-use Rattle.swc_ecma_codegen_base.proofs.Phrased.{Prints, PrintsAt, prints_wider, NamedBy, names_then, no_names, safe_then, no_strings, then, after as behind, before, prints_nothing, prints_same, prints_punct, prints_mark, mark_spelled}
+use Rattle.swc_ecma_codegen_base.proofs.Phrased.{Prints, PrintsAt, prints_wider, loosened, NamedBy, names_then, no_names, safe_then, no_strings, then, after as behind, before, prints_nothing, prints_same, prints_punct, prints_mark, mark_spelled}
 
 -- ---- parts
 
@@ -249,6 +249,19 @@ blank_closing env format = writes_then env (shallower_if (indented format)) (bla
 
 blank_end : (env : Env) (format : ℕ) (parent last : Span) → closing_line env.lines format parent last ≡ false → Fills env (list_end format parent last)
 blank_end env format parent last e = writes_by_lines env (λ lines. closing format (closing_line lines format parent last)) [] (let P : Bool → Type 0 = λ b. Fills env (closing format b) in subst P (sym e) (blank_closing env format))
+
+-- One that isn't indented, has no trailing comma, and begins on the line before it, with its first child: `a = b, c` of `using a = b, c`.
+pub prints_list_on_line : {A : Type 0} (env : Env) (format : ℕ) (parent : Span) (place : A → Span) (part : A → Part) (e : A → Phrase) → ((x : A) → Prints env (part x) (e x)) → comma_delimited format ≡ true → indented format ≡ false → forces_trailing_comma format ≡ false → allows_trailing_comma format ≡ false → (x : A) (xs : List A) → leading_line env.lines format parent (place x) ≡ false → PrintsAt ended env (list format parent (children_of place part (x ∷ xs))) (phrases.listed (codes ",") (map e (x ∷ xs)))
+unfolding phrases.listed
+prints_list_on_line env format parent place part e law c i f a x xs l =
+    let line : Bool = leading_line env.lines format parent (place x) in
+    let last : Span = last_place (place x) (children_of place part xs) in
+    let children : Part = children_after format line place part x xs in
+    let ending : Part = list_closing format parent last in
+    prints_same (list format parent (children_of place part (x ∷ xs))) (λ rest. opening format line (children (ending rest))) (λ rest. list_in_parts (writes_nothing env) format parent place part x xs rest)
+    (behind (let P : Bool → Type 0 = λ b. Fills env (opening format b) in subst P (sym l) (blank_opening env format i))
+    (before (then (prints_child env format line (record { place = place x; part = part x }) (law x)) (prints_more env format place part e (λ y. loosened (law y)) c (place x) xs))
+    (writes_closing env format parent last f a)))
 
 pub prints_one_child : {A : Type 0} {i : Shape} (env : Env) (format : ℕ) (parent : Span) (place : A → Span) (part : A → Part) (x : A) {f : Phrase} → PrintsAt i env (part x) f → leading_line env.lines format parent (place x) ≡ false → closing_line env.lines format parent (place x) ≡ false → indented format ≡ false → forces_trailing_comma format ≡ false → allows_trailing_comma format ≡ false
     → PrintsAt (join open_ (join (join i open_) open_)) env (list format parent (children_of place part (x ∷ []))) f

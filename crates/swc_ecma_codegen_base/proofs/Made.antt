@@ -10,7 +10,7 @@ use Rattle.swc_ecma_codegen_text_writer.proofs.Sheets.{effect_refused, effect_fa
 use Rattle.swc_ecma_codegen_ast.specs.Tokens.{Token as LexicalToken, ending}
 use Rattle.swc_ecma_codegen_ast.specs.Settings.{Settings, is_up_to_es5}
 use Rattle.swc_ecma_codegen_ast.specs.Phrases.{Phrase, Never, Nothing, One, NameOf, KeyOf, PrivateOf, Then, OptionalComma, OptionalParentheses, Chosen, EmptyArguments, LoopEnding, AttributesWord, in_parentheses, close_parenthesis, Generates, chosen, is_possible}
-use Rattle.swc_ecma_codegen_base.specs.declared.refusals.Unprintable.TheVariants.{NameOutOfTarget}
+use Rattle.swc_ecma_codegen_base.specs.declared.refusals.Unprintable.TheVariants.{UnsupportedNode, BadShape, NameOutOfTarget}
 use Rattle.swc_ecma_codegen_base.specs.Targets.{is_out}
 use Rattle.swc_ecma_codegen_base.specs.Run.{Env, Plan, Part, Step, State, run, steps_of, unprintable_in, nothing, Follows, HasCause, PassesLimit, IsUnhindered, earlier, stopped, reached}
 use Rattle.swc_ecma_codegen_base.specs.Settings.{settings_of}
@@ -79,6 +79,21 @@ unfolding HasCause
 follows_out_of_target p f a b prints w h =
     let k = (follows_cause (p nothing) a b (Err refusals.NameOutOfTarget) h).refusal in
     true_from_ne_false (is_out a.env.config f) (λ o. let z = sym k ∙ printable p f a.env prints w o in absurd (cc))
+
+-- and no other node of a well-formed tree can't be printed
+pub only_out : {i : Shape} (p : Part) (f : Phrase) (env : Env) (r : Unprintable) → PrintsAt i env p f → is_possible f ≡ true → unprintable_in (p nothing env) ≡ Some r → r ≡ NameOutOfTarget
+only_out p f env r prints w k = elim (cases_Bool (is_out env.config f)) [
+  | inl o ↦ let z = sym k ∙ prints.where_out w o nothing in cc
+  | inr o ↦ let z = sym k ∙ printable p f env prints w o in absurd (cc)
+]
+
+pub follows_shaped : {i : Shape} (p : Part) (f : Phrase) (a b : State) → PrintsAt i a.env p f → is_possible f ≡ true → Follows (p nothing) a b (Err refusals.BadShape) → ⊥
+unfolding HasCause
+follows_shaped p f a b prints w h = let z = only_out p f a.env BadShape prints w (follows_cause (p nothing) a b (Err refusals.BadShape) h).refusal in cc
+
+pub follows_supported : {i : Shape} (p : Part) (f : Phrase) (a b : State) → PrintsAt i a.env p f → is_possible f ≡ true → Follows (p nothing) a b (Err refusals.UnsupportedNode) → ⊥
+unfolding HasCause
+follows_supported p f a b prints w h = let z = only_out p f a.env UnsupportedNode prints w (follows_cause (p nothing) a b (Err refusals.UnsupportedNode) h).refusal in cc
 
 -- and with room for as many levels as tokens it comes to no limit
 pub within : {i : Shape} (p : Part) (f : Phrase) (a : State) → PrintsAt i a.env p f → is_possible f ≡ true → is_out a.env.config f ≡ false → a.sheet.indentation + token_count f < 2 ^ 32 → PassesLimit (steps_of (p nothing a.env)) a → ⊥

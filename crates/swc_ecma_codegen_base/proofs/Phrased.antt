@@ -1,5 +1,6 @@
 -- What each word writes is one of the token lists of a phrase.
 use Rattle.std.proofs.Common.{◌≡◌, ◌≢◌, ℕ, Bool, true, false, cond, List, [], ◌∷◌, ◌++◌, ◌&&◌, ◌||◌, ◌==◌, codes, refl, sym, ap, ◌∙◌, subst, append_assoc, append-nil, inl, inr, Option, Some, None, Result, Ok, Err, OnOk, IfErr}
+use Rattle.std.specs.List.{repeat}
 use Rattle.std.specs.Str.{chars, is_utf8}
 use Rattle.std.proofs.lemmas.Bool.{and_parts, or_from, or_parts, false_from_ne_true, true≢false}
 use Rattle.swc_ecma_codegen_common.specs.declared.errors.Error.{Error}
@@ -39,21 +40,21 @@ use Rattle.swc_ecma_codegen_base.specs.Run.{Env, Plan, Part, State, Step, Guard,
 use Rattle.swc_ecma_codegen_base.specs.Settings.{settings_of}
 use Rattle.swc_ecma_codegen_base.specs.Targets.{written_as, wants_escapes, is_out_name, written_name, is_out}
 use Rattle.swc_ecma_codegen_base.specs.Words.{keyword, operator, word_operator, punct, placed_punct, semi, commit_pending_semi, position, symbol, valid_symbol, name_text, question, name}
-use Rattle.swc_ecma_codegen_base.specs.Written.{AtRest, is_free, holds_one, IsNew, ReadsAs, AddsText, AddsReading, IsWord, IsMark}
+use Rattle.swc_ecma_codegen_base.specs.Written.{AtRest, is_free, holds_one, IsNew, IsAtMargin, ReadsAs, AddsText, AddsReading, IsWord, IsMark}
 use Rattle.swc_ecma_codegen_base.specs.Escapes.{may_make_text}
 use Rattle.swc_ecma_codegen_base.specs.Named.{RecordsNames}
 use Rattle.swc_ecma_codegen_base.specs.Scripts.{is_str, strings_after, AreSafe}
 use Rattle.swc_ecma_codegen_base.proofs.Fronts.{follows_cause, run_append, run_sheet}
 use Rattle.swc_ecma_codegen_base.proofs.Hands.{has_string, holds_string}
-use Rattle.swc_ecma_codegen_base.proofs.Held.{front}
+use Rattle.swc_ecma_codegen_base.proofs.Held.{front, front_of}
 use Rattle.swc_ecma_codegen_base.proofs.Indented.{blanks}
 use Rattle.swc_ecma_codegen_base.proofs.Spelled.{valid_same, spelled_same, out_same}
 use Rattle.swc_ecma_codegen_base.proofs.Positions.{Named, named_none, named_then, named_records, name_named, name_steps, name_call, run_records}
 use Rattle.swc_ecma_codegen_base.proofs.ValueStrings.{none_by_value, steps_safe}
 use Rattle.swc_ecma_codegen_base.proofs.Targets.{Names, names_in_ascii, plain_not_out}
-use Rattle.swc_ecma_codegen_base.proofs.Shapes.{Shape, whole, open_, loose, unbroken, joining, joined, at_joint, join, is_within, met_unbroken, broken_from, walk_append}
+use Rattle.swc_ecma_codegen_base.proofs.Shapes.{Shape, whole, open_, loose, unbroken_at, joining, joined, at_joint, join, is_within, met_unbroken, broken_from, walk_append}
 use Rattle.swc_ecma_codegen_base.proofs.Appended.{tokens_append}
-use Rattle.swc_ecma_codegen_base.proofs.Written.{LaysAt, held, held_of, Spelled, spelled_word, spelled_name, spelled_mark}
+use Rattle.swc_ecma_codegen_base.proofs.Written.{LaysAt, Enters, held, held_of, Spelled, spelled_word, spelled_name, spelled_mark}
 use Rattle.swc_ecma_codegen_base.proofs.Printed.{MakesAt, makes_wider, writes_joined_operator, writes_joined_punct, writes_keyword_joint, chain, or_false, Writes, writes_whatever, writes_then, writes_same, writes_nothing, writes_keyword, writes_operator, writes_word_operator, writes_punct, writes_placed_punct, writes_semi, writes_commit, writes_leading, writes_name_text}
 
 and_assoc : (a b c : Bool) → ((a && b) && c) ≡ (a && (b && c))
@@ -459,15 +460,24 @@ kept_front xs ys w h = still_whole ys (walk w xs) (ap is_broken (sym (walk_appen
     still_whole : (ys : List parts.Part) (v : OfLine) → is_broken (walk v ys) ≡ false → is_broken v ≡ false
     still_whole ys v h = false_from_ne_true (is_broken v) (λ b. true≢false (sym (broken_from ys v b) ∙ h))
 
-laid_reads : (config : Config) (f : Phrase) (ts : List lexical.Token) (a b : State) → Generates (settings_of config) f ts → IsNew a → LaysAt unbroken ts a b → AddsReading config f a.sheet b.sheet
+-- no indentation is due
+no_front : (b : Bool) (s : Sheet) → (b ≡ true → s.indentation ≡ 0) → front_of b s ≡ []
+no_front true s m = ap (λ n. repeat n s.indent_text) (m refl)
+no_front false s m = refl
+
+enters_new : (anywhere : Bool) (a : State) → IsNew a → (anywhere ≡ false → IsAtMargin a) → Enters (unbroken_at anywhere) a
+enters_new true a n m = inl refl
+enters_new false a n m = inr (refl, record { nothing_written = n.nothing_written; nothing_held = n.nothing_held; at_margin = no_front a.sheet.at_line_start a.sheet (m refl) })
+
+laid_reads : (anywhere : Bool) (config : Config) (f : Phrase) (ts : List lexical.Token) (a b : State) → Generates (settings_of config) f ts → IsNew a → (anywhere ≡ false → IsAtMargin a) → LaysAt (unbroken_at anywhere) ts a b → AddsReading config f a.sheet b.sheet
 unfolding NoneFuse is_broken
-laid_reads config f ts a b g n l =
+laid_reads anywhere config f ts a b g n m l =
     let last : Bool = holds_one b.sheet.semicolons in
     let end : List parts.Part = end_of last b.sheet in
     let none : held a.sheet ≡ [] = ap (λ z. held_of z a.sheet) n.nothing_held in
     let reduced : Reduced l.out (l.laid ++ end) =
     subst (λ z. Reduced z (l.laid ++ end)) (append-nil l.out) (subst (λ z. Reduced (z ++ (l.out ++ [])) (l.laid ++ end)) none (l.reduces [] end (end_reduced last b.sheet))) in
-    let apart : NoneFuse Start l.out = subst (λ z. NoneFuse z l.out) n.nothing_written (subst (λ z. NoneFuse a.last z) (append-nil l.out) (l.apart [] (l.rest.allowed []))) in
+    let apart : NoneFuse Start l.out = subst (λ z. NoneFuse z l.out) n.nothing_written (subst (λ z. NoneFuse a.last z) (append-nil l.out) (l.apart (enters_new anywhere a n m) [] (l.rest.allowed []))) in
     let laid : NoneFuse Start l.laid = without_end last b.sheet l.laid (none_fuse_reduced l.out (l.laid ++ end) apart reduced) in
     let kept : KeepsLines l.out = met_unbroken _ l.fits.line in
     let lines : KeepsLines l.laid = kept_front l.laid end OnLine (keeps_reduced l.out (l.laid ++ end) OnLine reduced kept) in
@@ -487,13 +497,13 @@ laid_reads config f ts a b g n l =
     }
 
 -- the steps of a part, made from a state where an emission begins
-pub steps_read : (p : Part) (f : Phrase) (a : State) → IsNew a → PrintsAt unbroken a.env p f → is_possible f ≡ true → is_out a.env.config f ≡ false → AddsReading a.env.config f a.sheet (run (steps_of (p nothing a.env)) a).sheet
+pub steps_read : (anywhere : Bool) (p : Part) (f : Phrase) (a : State) → IsNew a → (anywhere ≡ false → IsAtMargin a) → PrintsAt (unbroken_at anywhere) a.env p f → is_possible f ≡ true → is_out a.env.config f ≡ false → AddsReading a.env.config f a.sheet (run (steps_of (p nothing a.env)) a).sheet
 unfolding nothing
-steps_read p f a n prints w o =
+steps_read anywhere p f a n m prints w o =
     let h = prints.where_possible w o in
     let end : run (steps_of (p nothing a.env)) a ≡ run h.writes.steps a = ap (λ z. run (steps_of z) a) (h.writes.is_steps nothing) ∙ ap (λ z. run z a) (steps_of_chain h.writes.steps) in
     let P : State → Type 0 = λ z. AddsReading a.env.config f a.sheet z.sheet in
-    subst P (sym end) (laid_reads a.env.config f h.tokens a (run h.writes.steps a) h.generated n (h.writes.lays a (new_at_rest a n)))
+    subst P (sym end) (laid_reads anywhere a.env.config f h.tokens a (run h.writes.steps a) h.generated n m (h.writes.lays a (new_at_rest a n)))
 
 -- steps that come to their end come to no name that can't be written
 pub made_not_out : {i : Shape} (p : Part) (f : Phrase) (env : Env) → PrintsAt i env p f → is_possible f ≡ true → unprintable_in (p nothing env) ≡ None → is_out env.config f ≡ false
@@ -503,10 +513,10 @@ made_not_out p f env prints w end = false_from_ne_true (is_out env.config f) (λ
 pub whole_reads : (config : Config) (holds : Bool) (f : Phrase) (text : List ℕ) → AddsText config holds f [] text → ReadsAs config holds f text
 whole_reads config holds f text h = subst (λ z. ReadsAs config holds f z) (sym h.is_added) h.reading
 
-pub printed_reads : (p : Part) (f : Phrase) (a b : State) (r : Result (Unit {0}) Refusal) → IsNew a → PrintsAt unbroken a.env p f → is_possible f ≡ true → Follows (p nothing) a b r → OnOk r (AddsReading a.env.config f a.sheet b.sheet)
+pub printed_reads : (anywhere : Bool) (p : Part) (f : Phrase) (a b : State) (r : Result (Unit {0}) Refusal) → IsNew a → (anywhere ≡ false → IsAtMargin a) → PrintsAt (unbroken_at anywhere) a.env p f → is_possible f ≡ true → Follows (p nothing) a b r → OnOk r (AddsReading a.env.config f a.sheet b.sheet)
 unfolding Follows
-printed_reads p f a b (Ok u) n prints w k = let P : State → Type 0 = λ z. AddsReading a.env.config f a.sheet z.sheet in subst P (sym k.1) (steps_read p f a n prints w (made_not_out p f a.env prints w k.0))
-printed_reads p f a b (Err e) n prints w k = tt
+printed_reads anywhere p f a b (Ok u) n m prints w k = let P : State → Type 0 = λ z. AddsReading a.env.config f a.sheet z.sheet in subst P (sym k.1) (steps_read anywhere p f a n m prints w (made_not_out p f a.env prints w k.0))
+printed_reads anywhere p f a b (Err e) n m prints w k = tt
 
 -- no text is made anew where nothing of the phrase may be
 pub printed_remakes : {i : Shape} (p : Part) (f : Phrase) (env : Env) → PrintsAt i env p f → is_possible f ≡ true → may_make_text env.config f ≡ false → makes_text (steps_of (p nothing env)) ≡ false

@@ -215,51 +215,65 @@ second_part ToAny ToEither = refl
 second_part ToAny ToAny = refl
 
 -- The places that parts lead to, from the line of the last token, from past its end, and from right after
--- `[no LineTerminator here]`.
+-- `[no LineTerminator here]`; whether they may stand anywhere, and whether they may where nothing was written: what begins with a
+-- hashbang may stand there alone.
 pub record Shape : Type 0 where
   pub line : Among
   pub past : Among
   pub joint : Among
+  pub anywhere : Bool
+  pub first : Bool
 
 -- what begins and ends with a token, as `a`
 abbrev pub whole : Shape
-whole = record { line = ToLine; past = ToLine; joint = ToLine }
+whole = record { line = ToLine; past = ToLine; joint = ToLine; anywhere = true; first = true }
 
 -- blanks, or nothing at all
 abbrev pub open_ : Shape
-open_ = record { line = ToLine; past = ToPast; joint = ToJoint }
+open_ = record { line = ToLine; past = ToPast; joint = ToJoint; anywhere = true; first = true }
 
 -- what begins with a token, and then a line may end
 abbrev pub ended : Shape
-ended = record { line = ToPast; past = ToPast; joint = ToPast }
+ended = record { line = ToPast; past = ToPast; joint = ToPast; anywhere = true; first = true }
 
 -- that, or nothing at all
 abbrev pub ended_if_any : Shape
-ended_if_any = record { line = ToPast; past = ToPast; joint = ToEither }
+ended_if_any = record { line = ToPast; past = ToPast; joint = ToEither; anywhere = true; first = true }
 
 -- where lines may end anywhere
 abbrev pub loose : Shape
-loose = record { line = ToPast; past = ToPast; joint = ToAny }
+loose = record { line = ToPast; past = ToPast; joint = ToAny; anywhere = true; first = true }
 
 -- what ends with a token, and a line may end before it
 abbrev pub closed : Shape
-closed = record { line = ToLine; past = ToLine; joint = ToAny }
+closed = record { line = ToLine; past = ToLine; joint = ToAny; anywhere = true; first = true }
 
 -- `[no LineTerminator here]`
 abbrev pub joining : Shape
-joining = record { line = ToJoint; past = ToAny; joint = ToJoint }
+joining = record { line = ToJoint; past = ToAny; joint = ToJoint; anywhere = true; first = true }
 
 -- a token behind that
 abbrev pub joined : Shape
-joined = record { line = ToLine; past = ToAny; joint = ToLine }
+joined = record { line = ToLine; past = ToAny; joint = ToLine; anywhere = true; first = true }
 
 -- a word and `[no LineTerminator here]`, or nothing at all
 abbrev pub joining_if_any : Shape
-joining_if_any = record { line = ToJoint; past = ToEither; joint = ToJoint }
+joining_if_any = record { line = ToJoint; past = ToEither; joint = ToJoint; anywhere = true; first = true }
 
--- what keeps the lines of a text that begins with it
+-- what keeps the lines of a text that begins with it: with a hashbang, or, anywhere, with another token
+abbrev pub unbroken_at : Bool → Shape
+unbroken_at anywhere = record { line = ToEither; past = ToAny; joint = ToAny; anywhere = anywhere; first = true }
+
 abbrev pub unbroken : Shape
-unbroken = record { line = ToEither; past = ToAny; joint = ToAny }
+unbroken = unbroken_at true
+
+-- a hashbang and the end of its line
+abbrev pub first_line : Shape
+first_line = record { line = ToPast; past = ToPast; joint = ToPast; anywhere = false; first = true }
+
+-- where lines may end anywhere, behind a hashbang or without one
+abbrev pub loose_at : Bool → Shape
+loose_at anywhere = record { line = ToPast; past = ToPast; joint = ToAny; anywhere = anywhere; first = true }
 
 abbrev pub leads : Shape → Among → Among
 leads i ToLine = i.line
@@ -270,22 +284,26 @@ leads i ToAny = ToAny
 
 -- behind what ends with a token, and a line may end between
 abbrev pub past_line : Shape → Shape
-past_line j = record { line = j.past; past = j.past; joint = j.past }
+past_line j = record { line = j.past; past = j.past; joint = j.past; anywhere = j.anywhere; first = j.anywhere }
 
 -- behind what ends with a token
 abbrev pub on_line : Shape → Shape
-on_line j = record { line = j.line; past = j.line; joint = j.line }
+on_line j = record { line = j.line; past = j.line; joint = j.line; anywhere = j.anywhere; first = j.anywhere }
 
 -- behind a word and `[no LineTerminator here]`
 abbrev pub at_joint : Shape → Shape
-at_joint j = record { line = j.joint; past = j.joint; joint = j.joint }
+at_joint j = record { line = j.joint; past = j.joint; joint = j.joint; anywhere = j.anywhere; first = j.anywhere }
 
 -- one after the other
 abbrev pub join : Shape → Shape → Shape
-join i j = record { line = leads j i.line; past = leads j i.past; joint = leads j i.joint }
+join i j = record { line = leads j i.line; past = leads j i.past; joint = leads j i.joint; anywhere = i.anywhere && j.anywhere; first = i.first && j.anywhere }
+
+-- wherever the second may stand the first may
+abbrev pub stands_within : Shape → Shape → Bool
+stands_within i j = implies j.anywhere i.anywhere && implies j.first i.first
 
 abbrev pub is_within : Shape → Shape → Bool
-is_within i j = is_part i.line j.line && (is_part i.past j.past && is_part i.joint j.joint)
+is_within i j = is_part i.line j.line && (is_part i.past j.past && (is_part i.joint j.joint && stands_within i j))
 
 pub record Fits (i : Shape) (xs : List parts.Part) : Type 0 where
   pub line : meets (walk OnLine xs) i.line ≡ true
@@ -320,8 +338,18 @@ fits_then {i} xs ys h k = record { line = fits_step xs ys OnLine i.line h.line k
 pub fits_wider : {i : Shape} (j : Shape) {xs : List parts.Part} → is_within i j ≡ true → Fits i xs → Fits j xs
 fits_wider {i} j e h =
     let p = and_parts (is_part i.line j.line) _ e in
-    let q = and_parts (is_part i.past j.past) (is_part i.joint j.joint) p.1 in
-    record { line = met_wider _ i.line j.line p.0 h.line; past = met_wider _ i.past j.past q.0 h.past; joint = met_wider _ i.joint j.joint q.1 h.joint }
+    let q = and_parts (is_part i.past j.past) _ p.1 in
+    let r = and_parts (is_part i.joint j.joint) (stands_within i j) q.1 in
+    record { line = met_wider _ i.line j.line p.0 h.line; past = met_wider _ i.past j.past q.0 h.past; joint = met_wider _ i.joint j.joint r.0 h.joint }
+
+-- what is within another stands where that may
+pub within_stands : (i j : Shape) → is_within i j ≡ true → (j.anywhere ≡ true → i.anywhere ≡ true) × (j.first ≡ true → i.first ≡ true)
+within_stands i j e =
+    let p = and_parts (is_part i.line j.line) _ e in
+    let q = and_parts (is_part i.past j.past) _ p.1 in
+    let r = and_parts (is_part i.joint j.joint) (stands_within i j) q.1 in
+    let s = and_parts (implies j.anywhere i.anywhere) (implies j.first i.first) r.1 in
+    (implied j.anywhere i.anywhere s.0, implied j.first i.first s.1)
 
 pub fits_nothing : Fits open_ []
 unfolding walk

@@ -54,7 +54,7 @@ lays_so_far old tokens ts a b l h =
           subst (λ z. Reads z ((tokens ++ ts) ++ tokens_of more) (remarks_in more)) text
           (subst (λ z. Reads (chars h.added ++ parts.text_of (l.out ++ more)) z (remarks_in more)) list
           (subst (λ z. Reads (chars h.added ++ parts.text_of (l.out ++ more)) (tokens ++ tokens_of (l.out ++ more)) z) none
-          (h.reads (l.out ++ more) (l.apart more n) (kept_on l.out more (met_past _ l.fits.past) k))));
+          (h.reads (l.out ++ more) (l.apart (inl refl) more n) (kept_on l.out more (met_past _ l.fits.past) k))));
       rest = l.rest;
     }
 

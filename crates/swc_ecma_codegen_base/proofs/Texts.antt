@@ -17,11 +17,12 @@ use Rattle.swc_ecma_codegen_text_writer.specs.Sheet.{Sheet, holds_semicolons, re
 use Rattle.swc_ecma_codegen_text_writer.proofs.Sheets.{written_same}
 use Rattle.swc_ecma_codegen_base.specs.Run.{State, spelling, after_token, after_tokens}
 use Rattle.swc_ecma_codegen_base.specs.Written.{IsLineEnd, all_indent, is_free, holds_one, AtRest}
+use Rattle.swc_ecma_codegen_base.proofs.Behind.{apart_alone, after_indent, in_a_line}
 use Rattle.swc_ecma_codegen_base.proofs.Held.{front, front_of, recorded_keeps, written_text, written_semicolons, in_line}
 use Rattle.swc_ecma_codegen_base.proofs.Indented.{indent_repeat, indent_utf8, indent_chars, blanks, blanks_text, blanks_remarks}
 use Rattle.swc_ecma_codegen_base.proofs.Strangers.{dash_same}
 use Rattle.swc_ecma_codegen_base.proofs.Shapes.{whole, Fits, fits_indent, fits_then, fits_own as fits_one_own}
-use Rattle.swc_ecma_codegen_base.proofs.Written.{Lays, Spelled, spelled_mark, laid_out, front_indent, apart_alone, after_indent, in_a_line, apart_open, mark_allows, free_last, own_fits}
+use Rattle.swc_ecma_codegen_base.proofs.Written.{Lays, Spelled, spelled_mark, laid_out, front_indent, apart_open, mark_allows, free_last, own_fits}
 
 -- ---- what calls add to a sheet
 
@@ -171,7 +172,7 @@ lays_texts xs t s b p f o r h last =
       spells = chars-append (front s.sheet) t (indent_utf8 _ i) ∙ ap (λ z. z ++ chars t) (indent_chars _ i ∙ sym (blanks_text (front s.sheet))) ∙ ap (λ z. pieces_text (blanks (front s.sheet)) ++ z) p.same;
       tokens = refl;
       remarks = ap (λ z. remarks_of (blanks (front s.sheet)) ++ z) (owns_remarks xs) ∙ append-nil (remarks_of (blanks (front s.sheet))) ∙ blanks_remarks _;
-      apart = λ more n. texts_apart s.sheet.at_line_start xs t s more refl o p f r (subst (λ k. NoneFuse k more) last n);
+      apart = λ e more n. texts_apart s.sheet.at_line_start xs t s more refl o p f r (subst (λ k. NoneFuse k more) last n);
       reduces = λ more ys d. laid_out s b out more ys o (ap holds_one h.semicolons ∙ o) d;
       holds = ap holds_semicolons h.semicolons;
       whole = λ e. refl;

@@ -1,5 +1,5 @@
 -- What steps write: tokens, and blanks between them.
-use Rattle.std.proofs.Common.{◌≡◌, ℕ, Bool, true, false, cond, List, [], ◌∷◌, ◌++◌, Option, None, codes, refl, sym, ap, ◌∙◌, subst, append_assoc, append-nil, inl, inr, ◌==◌, ◌||◌}
+use Rattle.std.proofs.Common.{◌≡◌, ◌⊎◌, ℕ, Bool, true, false, cond, List, [], ◌∷◌, ◌++◌, Option, None, codes, refl, sym, ap, ◌∙◌, subst, append_assoc, append-nil, inl, inr, ◌==◌, ◌||◌}
 use Rattle.std.specs.List.{repeat}
 use Rattle.std.specs.Str.{chars, is_utf8, IsUtf8}
 use Rattle.std.proofs.lemmas.Bool.{and_parts, eqb-true, or_cases, true≢false}
@@ -14,7 +14,7 @@ use Rattle.swc_ecma_codegen_ast.specs.Texts.{begins, is_same, is_among}
 use Rattle.swc_ecma_codegen_ast.specs.Chars.{is_blank}
 use Rattle.swc_ecma_codegen_ast.specs.Trivia.{Blank, is_piece, piece_text, pieces_text, all_pieces, remarks_of}
 use Rattle.swc_ecma_codegen_ast.specs.Reads.{is_child, is_hashbang_kind}
-use Rattle.swc_ecma_codegen_ast.specs.GapRules.{Last, Start, Apart, Mark, LessBang, fuses, allows, mark_after, last_after, last_after_gap, holds_child}
+use Rattle.swc_ecma_codegen_ast.specs.GapRules.{Last, Start, Apart, Mark, LessBang, fuses, allows, mark_after, last_after, last_after_gap}
 use Rattle.swc_ecma_codegen_ast.specs.Parts as parts
 use Rattle.swc_ecma_codegen_ast.specs.Parts.{Gap, Own, Joint, tokens_of, remarks_in, NoneFuse}
 use Rattle.swc_ecma_codegen_ast.proofs.Reading.{blank_fuses}
@@ -27,9 +27,10 @@ use Rattle.swc_ecma_codegen_text_writer.proofs.Sheets.{written_same, pointed_ali
 use Rattle.swc_ecma_codegen_base.specs.Run.{State, Guard, put, spelling}
 use Rattle.swc_ecma_codegen_base.specs.Written.{IsLineEnd, is_indent, all_indent, is_free, holds_one, AtRest}
 use Rattle.swc_ecma_codegen_base.proofs.Held.{front_of, front, written_text, in_line, written_semicolons, pointed_keeps, settled_none}
+use Rattle.swc_ecma_codegen_base.proofs.Behind.{apart_alone, same_after, free_apart, after_indent, in_a_line, blank_apart}
 use Rattle.swc_ecma_codegen_base.proofs.Appended.{text_append, tokens_append, remarks_append}
-use Rattle.swc_ecma_codegen_base.proofs.Shapes.{Shape, whole, open_, loose, joining, joined, join, is_within, Fits, fits_then, fits_wider, fits_nothing, fits_joint, fits_own, fits_indent, fits_text, fits_end}
-use Rattle.swc_ecma_codegen_base.proofs.Indented.{indent_append, indent_repeat, indent_utf8, indent_chars, blanks, blanks_text, indent_blank, blanks_pieces, blanks_remarks}
+use Rattle.swc_ecma_codegen_base.proofs.Shapes.{Shape, whole, open_, loose, joining, joined, join, is_within, within_stands, Fits, fits_then, fits_wider, fits_nothing, fits_joint, fits_own, fits_indent, fits_text, fits_end}
+use Rattle.swc_ecma_codegen_base.proofs.Indented.{indent_append, indent_repeat, indent_utf8, indent_chars, blanks, blanks_text, blanks_remarks}
 
 -- what is asked for and isn't out yet: a semicolon that is held back, where it would stand
 abbrev pub held_of : Bool → Sheet → List parts.Part
@@ -37,6 +38,16 @@ held_of b s = cond b (Gap (blanks (front s)) ∷ Own Ending (codes ";") ∷ []) 
 
 abbrev pub held : Sheet → List parts.Part
 held s = held_of (holds_one s.semicolons) s
+
+-- Nothing was written, and nothing stands before what is written next.
+pub record IsFirst (s : State) : Type 0 where
+  pub nothing_written : s.last ≡ Start
+  pub nothing_held : holds_one s.sheet.semicolons ≡ false
+  pub at_margin : front s.sheet ≡ []
+
+-- parts of a shape may stand here
+abbrev pub Enters : Shape → State → Type 0
+Enters i s = (i.anywhere ≡ true) ⊎ ((i.first ≡ true) × IsFirst s)
 
 -- From one state to another these tokens were asked for, with blanks between them: parts in which no two fuse, and which lead
 -- no further on lines than their shape says. What went out are the same parts without some semicolons that aren't needed, and
@@ -50,7 +61,7 @@ pub record LaysAt (shape : Shape) (ts : List lexical.Token) (a b : State) : Type
   pub spells : chars bytes ≡ parts.text_of laid
   pub tokens : tokens_of out ≡ ts
   pub remarks : remarks_in laid ≡ []
-  pub apart : (more : List parts.Part) → NoneFuse b.last more → NoneFuse a.last (out ++ more)
+  pub apart : Enters shape a → (more : List parts.Part) → NoneFuse b.last more → NoneFuse a.last (out ++ more)
   pub reduces : (more ys : List parts.Part) → Reduced (held b.sheet ++ more) ys → Reduced (held a.sheet ++ (out ++ more)) (laid ++ ys)
   -- a writer that holds nothing back leaves nothing out
   pub holds : holds_semicolons b.sheet.semicolons ≡ holds_semicolons a.sheet.semicolons
@@ -62,9 +73,22 @@ pub record LaysAt (shape : Shape) (ts : List lexical.Token) (a b : State) : Type
 abbrev pub Lays : List lexical.Token → State → State → Type 0
 Lays ts a b = LaysAt whole ts a b
 
+-- what may stand first of all, or anywhere, is one after the other where the second may stand anywhere
+enters_first : (i j : Shape) (a : State) → Enters (join i j) a → Enters i a
+enters_first i j a (inl e) = inl (and_parts i.anywhere j.anywhere e).0
+enters_first i j a (inr k) = inr ((and_parts i.first j.anywhere k.0).0, k.1)
+
+enters_second : (i j : Shape) (a b : State) → Enters (join i j) a → Enters j b
+enters_second i j a b (inl e) = inl (and_parts i.anywhere j.anywhere e).1
+enters_second i j a b (inr k) = inl (and_parts i.first j.anywhere k.0).1
+
+enters_wider : (i j : Shape) (a : State) → is_within i j ≡ true → Enters j a → Enters i a
+enters_wider i j a e (inl k) = inl ((within_stands i j e).0 k)
+enters_wider i j a e (inr k) = inr ((within_stands i j e).1 k.0, k.1)
+
 -- one after the other
 pub lays_then : {i j : Shape} (ts us : List lexical.Token) (a b c : State) → LaysAt i ts a b → LaysAt j us b c → LaysAt (join i j) (ts ++ us) a c
-lays_then ts us a b c h k = record {
+lays_then {i} {j} ts us a b c h k = record {
   out = h.out ++ k.out;
   laid = h.laid ++ k.laid;
   bytes = h.bytes ++ k.bytes;
@@ -73,7 +97,7 @@ lays_then ts us a b c h k = record {
   spells = chars-append h.bytes k.bytes h.utf8 ∙ ap (λ z. z ++ chars k.bytes) h.spells ∙ ap (λ z. parts.text_of h.laid ++ z) k.spells ∙ sym (text_append h.laid k.laid);
   tokens = tokens_append h.out k.out ∙ ap (λ z. z ++ tokens_of k.out) h.tokens ∙ ap (λ z. ts ++ z) k.tokens;
   remarks = remarks_append h.laid k.laid ∙ ap (λ z. z ++ remarks_in k.laid) h.remarks ∙ k.remarks;
-  apart = λ more n. subst (λ z. NoneFuse a.last z) (sym (append_assoc h.out k.out more)) (h.apart (k.out ++ more) (k.apart more n));
+  apart = λ e more n. subst (λ z. NoneFuse a.last z) (sym (append_assoc h.out k.out more)) (h.apart (enters_first i j a e) (k.out ++ more) (k.apart (enters_second i j a b e) more n));
   reduces = λ more ys r.
       subst (λ z. Reduced (held a.sheet ++ z) ((h.laid ++ k.laid) ++ ys)) (sym (append_assoc h.out k.out more))
       (subst (λ z. Reduced (held a.sheet ++ (h.out ++ (k.out ++ more))) z) (sym (append_assoc h.laid k.laid ys)) (h.reduces (k.out ++ more) (k.laid ++ ys) (k.reduces more ys r)));
@@ -85,7 +109,7 @@ lays_then ts us a b c h k = record {
 
 -- what leads less far
 pub lays_wider : {i : Shape} (j : Shape) {ts : List lexical.Token} {a b : State} → is_within i j ≡ true → LaysAt i ts a b → LaysAt j ts a b
-lays_wider j e h = record { out = h.out; laid = h.laid; bytes = h.bytes; text = h.text; utf8 = h.utf8; spells = h.spells; tokens = h.tokens; remarks = h.remarks; apart = h.apart; reduces = h.reduces; holds = h.holds; whole = h.whole; rest = h.rest; fits = fits_wider j e h.fits }
+lays_wider {i} j {a = a} e h = record { out = h.out; laid = h.laid; bytes = h.bytes; text = h.text; utf8 = h.utf8; spells = h.spells; tokens = h.tokens; remarks = h.remarks; apart = λ k. h.apart (enters_wider i j a e k); reduces = h.reduces; holds = h.holds; whole = h.whole; rest = h.rest; fits = fits_wider j e h.fits }
 
 -- the parts that are asked for go out, where no semicolon is held back
 pub laid_out : (a b : State) (out more ys : List parts.Part) → holds_one a.sheet.semicolons ≡ false → holds_one b.sheet.semicolons ≡ false → Reduced (held b.sheet ++ more) ys → Reduced (held a.sheet ++ (out ++ more)) (out ++ ys)
@@ -104,7 +128,7 @@ lays_same a b t l h o r = record {
   spells = chars-nil;
   tokens = refl;
   remarks = refl;
-  apart = λ more n. subst (λ k. NoneFuse k more) l n;
+  apart = λ e more n. subst (λ k. NoneFuse k more) l n;
   reduces = λ more ys d. subst (λ z. Reduced (z ++ more) ys) h d;
   holds = o;
   whole = λ e. refl;
@@ -127,7 +151,7 @@ lays_joint s o r = record {
   spells = chars-nil;
   tokens = refl;
   remarks = refl;
-  apart = λ more n. n;
+  apart = λ e more n. n;
   reduces = λ more ys d. laid_out s s (Joint ∷ []) more ys o o d;
   holds = refl;
   whole = λ e. refl;
@@ -155,63 +179,6 @@ still_none span t s h = ap holds_one (written_semicolons span t s) ∙ h
 
 still_holds : (span : Option Span) (t : List ℕ) (s : Sheet) → holds_semicolons (written span t s).semicolons ≡ holds_semicolons s.semicolons
 still_holds span t s = ap holds_semicolons (written_semicolons span t s)
-
--- ---- blanks and line ends
-
-pub apart_alone : (t : List ℕ) → fuses Apart t ≡ false
-unfolding fuses
-apart_alone [] = refl
-apart_alone (c ∷ n) = refl
-
-start_alone : (t : List ℕ) → fuses Start t ≡ false
-unfolding fuses
-start_alone [] = refl
-start_alone (c ∷ n) = refl
-
-same_after : (x : Kind) (t : List ℕ) → last_after Apart x t ≡ last_after Start x t
-unfolding last_after mark_after
-same_after Word t = refl
-same_after x t = refl
-
--- what may stand after a blank may stand first of all
-first_of_all : (xs : List parts.Part) → NoneFuse Apart xs → NoneFuse Start xs
-unfolding NoneFuse allows last_after_gap holds_child
-first_of_all [] h = refl
-first_of_all (Gap [] ∷ xs) h = (h.0, start_alone (pieces_text []), refl, first_of_all xs h.3)
-first_of_all (Gap (p ∷ ps) ∷ xs) h = (h.0, start_alone (pieces_text (p ∷ ps)), refl, h.3)
-first_of_all (Joint ∷ xs) h = first_of_all xs h
-first_of_all (Own x t ∷ xs) h = (h.0, start_alone t, record { child = λ e. absurd (true≢false (sym (h.2.child e))); first = λ e. refl }, refl, subst (λ k. NoneFuse k xs) (same_after x t) h.4)
-
-free_apart : (k : Last) → is_free k ≡ true → (xs : List parts.Part) → NoneFuse Apart xs → NoneFuse k xs
-unfolding is_free
-free_apart Start e xs h = first_of_all xs h
-free_apart Apart e xs h = h
-free_apart k e xs h = absurd (true≢false (sym e))
-
-nothing_fuses : (k : Last) → fuses k [] ≡ false
-unfolding fuses
-nothing_fuses k = refl
-
--- indentation before what may stand first, and nothing before what stands in a line
-pub after_indent : (k : Last) (u : List ℕ) (xs : List parts.Part) → all_indent u ≡ true → is_free k ≡ true → ((t : List ℕ) → allows k t ≡ true) → NoneFuse Apart xs → NoneFuse k (Gap (blanks u) ∷ xs)
-unfolding NoneFuse blanks last_after_gap pieces_text piece_text all_indent all_pieces
-after_indent k [] xs h e a n = (refl, nothing_fuses k, a [], free_apart k e xs n)
-after_indent k (c ∷ cs) xs h e a n =
-    let p = and_parts (is_indent c) (all_indent cs) h in
-    (blanks_pieces (c ∷ cs) h, blank_fuses k c (pieces_text (blanks cs)) (indent_blank c p.0), a (c ∷ pieces_text (blanks cs)), n)
-
-pub in_a_line : (k : Last) (xs : List parts.Part) → ((t : List ℕ) → allows k t ≡ true) → NoneFuse k xs → NoneFuse k (Gap (blanks []) ∷ xs)
-unfolding NoneFuse blanks last_after_gap pieces_text all_pieces
-in_a_line k xs a n = (refl, nothing_fuses k, a [], n)
-
-blank_apart : (k : Last) (u : List ℕ) (xs : List parts.Part) → all_indent (u ++ codes " ") ≡ true → ((t : List ℕ) → allows k t ≡ true) → NoneFuse Apart xs → NoneFuse k (Gap (blanks (u ++ codes " ")) ∷ xs)
-unfolding NoneFuse blanks last_after_gap pieces_text piece_text all_indent
-blank_apart k [] xs h a n =
-    let p = and_parts (is_indent 32) (all_indent []) h in
-    (blanks_pieces (codes " ") h, blank_fuses k 32 [] (indent_blank 32 p.0), a (codes " "), n)
-blank_apart k (c ∷ cs) xs h a n =
-    let p = and_parts (is_indent c) (all_indent (cs ++ codes " ")) h in
-    (blanks_pieces (c ∷ (cs ++ codes " ")) h, blank_fuses k c (pieces_text (blanks (cs ++ codes " "))) (indent_blank c p.0), a (c ∷ pieces_text (blanks (cs ++ codes " "))), n)
 
 -- ---- a semicolon that is held back goes out
 
@@ -265,12 +232,18 @@ settles_reduces x {span} e u xs ys s f r =
     subst (λ z. Reduced (held_of (holds_one z) s ++ xs) (semicolon_gap u ++ ys)) e
     (subst (λ z. Reduced (semicolon_gap z ++ xs) (semicolon_gap u ++ ys)) f (reduced_after (semicolon_gap u) xs ys r))
 
+-- where one is held back there was something
+settled_enters : {span : Option Span} (i : Shape) (s b : State) → HoldsOne span ≡ s.sheet.semicolons → Enters i s → Enters i b
+unfolding holds_one
+settled_enters i s b e (inl k) = inl k
+settled_enters i s b e (inr k) = absurd (true≢false (ap holds_one e ∙ k.1.nothing_held))
+
 -- it stands before what is laid from there
 settles : {i : Shape} (x : Semicolons) (s b : State) (ts : List lexical.Token) → x ≡ s.sheet.semicolons → AtRest s → LaysAt i ts (settle_by x s) b → LaysAt i ts s b
 unfolding settle_by settled_by holds_one semicolon_gap
 settles AtOnce s b ts e r l = l
 settles HoldsNone s b ts e r l = l
-settles (HoldsOne span) s b ts e r l =
+settles {i} (HoldsOne span) s b ts e r l =
     let there : Sheet = record s.sheet { semicolons = HoldsNone } in
     let h = front_indent there r.indent_text in
     let u : List ℕ = front there ++ codes ";" in
@@ -285,7 +258,7 @@ settles (HoldsOne span) s b ts e r l =
       spells = settles_spells (front there) l.bytes l.laid h l.spells;
       tokens = l.tokens;
       remarks = settles_remarks (front there) l.laid l.remarks;
-      apart = l.apart;
+      apart = λ k. l.apart (settled_enters i s _ e k);
       reduces = λ more ys d. settles_reduces s.sheet.semicolons e (front there) (l.out ++ more) (l.laid ++ ys) s.sheet refl (subst (λ z. Reduced (held_of z (written span (codes ";") there) ++ (l.out ++ more)) (l.laid ++ ys)) q (l.reduces more ys d));
       holds = l.holds ∙ still_holds span (codes ";") there ∙ ap holds_semicolons e;
       whole = λ w. absurd (true≢false (ap holds_semicolons e ∙ w));
@@ -341,7 +314,7 @@ blank_here s o r =
       spells = indent_chars _ h ∙ sym (blanks_text _) ∙ sym (append-nil (pieces_text (blanks (front s.sheet ++ codes " "))));
       tokens = refl;
       remarks = append-nil (remarks_of (blanks (front s.sheet ++ codes " "))) ∙ blanks_remarks _;
-      apart = λ more n. blank_apart s.last (front s.sheet) more h r.allowed n;
+      apart = λ e more n. blank_apart s.last (front s.sheet) more h r.allowed n;
       reduces = λ more ys d. laid_out s there (Gap (blanks (front s.sheet ++ codes " ")) ∷ []) more ys o (still_none None (codes " ") s.sheet o) d;
       holds = still_holds None (codes " ") s.sheet;
       whole = λ e. refl;
@@ -376,7 +349,7 @@ lays_end s o r (inl e) = record {
   spells = refl;
   tokens = refl;
   remarks = refl;
-  apart = λ more n. (refl, blank_fuses s.last 10 [] refl, r.allowed (10 ∷ []), n);
+  apart = λ e more n. (refl, blank_fuses s.last 10 [] refl, r.allowed (10 ∷ []), n);
   reduces = λ more ys d. laid_out s (line_put false s) (Gap (Blank 10 ∷ []) ∷ []) more ys o o d;
   holds = refl;
   whole = λ e. refl;
@@ -392,7 +365,7 @@ lays_end s o r (inr e) = record {
   spells = refl;
   tokens = refl;
   remarks = refl;
-  apart = λ more n. (refl, blank_fuses s.last 13 (10 ∷ []) refl, r.allowed (13 ∷ 10 ∷ []), n);
+  apart = λ e more n. (refl, blank_fuses s.last 13 (10 ∷ []) refl, r.allowed (13 ∷ 10 ∷ []), n);
   reduces = λ more ys d. laid_out s (line_put false s) (Gap (Blank 13 ∷ Blank 10 ∷ []) ∷ []) more ys o o d;
   holds = refl;
   whole = λ e. refl;
@@ -411,7 +384,7 @@ line_case true s e o r = record {
   spells = chars-nil;
   tokens = refl;
   remarks = refl;
-  apart = λ more n. free_apart s.last (r.free o e) more n;
+  apart = λ k more n. free_apart s.last (r.free o e) more n;
   reduces = λ more ys d. laid_out s (line_put true s) [] more ys o o d;
   holds = refl;
   whole = λ e. refl;
@@ -564,7 +537,7 @@ lays_here kind span (c ∷ cs) s p f o r =
       spells = laid_text (front s.sheet) (c ∷ cs) kind h p;
       tokens = refl;
       remarks = append-nil (remarks_of (blanks (front s.sheet))) ∙ blanks_remarks _;
-      apart = λ more n. own_apart s.sheet.at_line_start kind (c ∷ cs) s more refl o p f r n;
+      apart = λ e more n. own_apart s.sheet.at_line_start kind (c ∷ cs) s more refl o p f r n;
       reduces = λ more ys d. laid_out s (own_here kind span (c ∷ cs) s) parts_here more ys o (still_none span (c ∷ cs) s.sheet o) d;
       holds = still_holds span (c ∷ cs) s.sheet;
       whole = λ e. refl;
@@ -622,7 +595,7 @@ lost_here held_span span (c ∷ cs) s e i p f r =
       spells = laid_text (front there) (c ∷ cs) Punctuator h p;
       tokens = refl;
       remarks = append-nil (remarks_of (blanks (front there))) ∙ blanks_remarks _;
-      apart = λ more n. own_fits Punctuator (c ∷ cs) s.last more p f r.allowed n;
+      apart = λ e more n. own_fits Punctuator (c ∷ cs) s.last more p f r.allowed n;
       reduces = λ more ys d. drops_reduces s.sheet.semicolons e (front there) (c ∷ cs) more ys s.sheet refl (ending_begins (c ∷ cs) more i) (subst (λ z. Reduced (held_of z (written span (c ∷ cs) there) ++ more) ys) q d);
       holds = still_holds span (c ∷ cs) there ∙ ap holds_semicolons e;
       whole = λ w. absurd (true≢false (ap holds_semicolons e ∙ w));
@@ -664,7 +637,7 @@ holds_back span s o h f r = record {
   spells = chars-nil;
   tokens = refl;
   remarks = refl;
-  apart = λ more n. own_apart s.sheet.at_line_start Ending (codes ";") s more refl o spelled_ending f r n;
+  apart = λ e more n. own_apart s.sheet.at_line_start Ending (codes ";") s more refl o spelled_ending f r n;
   reduces = λ more ys d. subst (λ z. Reduced (held_of z s.sheet ++ (Gap (blanks (front s.sheet)) ∷ Own Ending (codes ";") ∷ more)) ys) (sym o) d;
   holds = sym h;
   whole = λ w. absurd (true≢false (sym h ∙ w));
@@ -695,7 +668,7 @@ holds_another held_span span s e f r = record {
   spells = chars-nil;
   tokens = refl;
   remarks = refl;
-  apart = λ more n. own_fits Ending (codes ";") s.last more spelled_ending f r.allowed n;
+  apart = λ e more n. own_fits Ending (codes ";") s.last more spelled_ending f r.allowed n;
   reduces = λ more ys d. replaces_reduces s.sheet.semicolons e (front s.sheet) more ys s.sheet refl d;
   holds = ap holds_semicolons e;
   whole = λ w. absurd (true≢false (ap holds_semicolons e ∙ w));

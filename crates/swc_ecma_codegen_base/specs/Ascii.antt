@@ -4,6 +4,7 @@ use Rattle.std.specs.Str.{chars}
 use Rattle.swc_ecma_codegen_ast.specs.declared.kinds.Kind.{Kind}
 use Rattle.swc_ecma_codegen_ast.specs.declared.kinds.Kind.TheVariants as kinds
 use Rattle.swc_ecma_codegen_ast.specs.Phrases.{Phrase, Never, Nothing, One, NameOf, KeyOf, PrivateOf, Then, OptionalComma, OptionalParentheses, Chosen}
+use Rattle.swc_ecma_codegen_ast.specs.Reads.{is_hashbang_kind}
 use Rattle.swc_ecma_codegen_ast.specs.StringValues.{string_value}
 use Rattle.swc_ecma_codegen_ast.specs.Texts.{is_same}
 use Rattle.swc_ecma_codegen_ast.specs.Tokens as lexical
@@ -41,9 +42,10 @@ is_kept_piece x = false
 unfoldable pub is_other_piece : Item → Bool
 is_other_piece x = is_kept_piece x && not (is_ascii_text (text_of x))
 
--- And of a call with which these tokens end: flags. One that ends none is the text of a template with a tag.
+-- And of a call with which these tokens end: flags, and a hashbang. One that ends none is the text of a template with a tag.
 unfoldable pub is_kept_end : List (Kind × List ℕ) → Item → Bool
 is_kept_end [] x = true
+is_kept_end (t ∷ ts) (StrLit span u) = is_hashbang_kind t.0
 is_kept_end (t ∷ ts) x = is_kept_piece x
 
 unfoldable pub is_other_end : List (Kind × List ℕ) → Item → Bool
@@ -67,13 +69,14 @@ are_ascii (Plain x ∷ xs) = is_ascii_text (text_of x) && are_ascii xs
 are_ascii (Ends tokens x ∷ xs) = is_ascii_text (text_of x) && are_ascii xs
 are_ascii (Remake due ∷ xs) = are_ascii xs
 
--- a token that may stand as it is in the tree, and not in ASCII: a regular expression, a part of a template with a tag, or a string
--- that may be a directive
+-- a token that may stand as it is in the tree, and not in ASCII: a regular expression, a part of a template with a tag, a hashbang, or a
+-- string that may be a directive
 unfoldable pub is_other_value : Kind → Value → Bool
 is_other_value kinds.Regex (Characters t) = not (is_ascii_text t)
 is_other_value kinds.Str (Units us) = is_strict us
 is_other_value (kinds.Template part) (Characters t) = not (is_ascii_text t)
 is_other_value (kinds.TemplateRest part) (Characters t) = not (is_ascii_text t)
+is_other_value kinds.Hashbang (Characters t) = not (is_ascii_text t)
 is_other_value kind value = false
 
 unfoldable pub keeps_tokens : List lexical.Token → Bool

@@ -3,11 +3,11 @@ use Rattle.std.specs.Prelude.{ℕ, ◌==◌, Bool, if◌then◌else◌, List, []
 use Rattle.swc_ecma_codegen_common.specs.declared.positions.Span.{Span}
 use Rattle.swc_ecma_codegen_spans.specs.Spans.{dummy_span}
 use Rattle.swc_ecma_codegen_ast.specs.declared.kinds.Kind.{Kind}
-use Rattle.swc_ecma_codegen_ast.specs.declared.kinds.Kind.TheVariants.{Name, Punctuator, Number, BigInt, Str, Regex}
+use Rattle.swc_ecma_codegen_ast.specs.declared.kinds.Kind.TheVariants.{Name, Punctuator, Number, BigInt, Str, Regex, Hashbang}
 use Rattle.swc_ecma_codegen_text_writer.specs.Sheet as calls
 use Rattle.swc_ecma_codegen_text_writer.specs.Sheet.{Lit, StrLit, Punct}
 use Rattle.swc_ecma_codegen_base.specs.Run.{Part, step, Guard, Token, Plain, Ends}
-use Rattle.swc_ecma_codegen_base.specs.Words.{start_of, leading_comments, commit_pending_semi}
+use Rattle.swc_ecma_codegen_base.specs.Words.{start_of, leading_comments, commit_pending_semi, line_end}
 
 -- A literal begins: its position is recorded after the blank that is due before its text.
 unfoldable pub begun : Span → List ℕ → Part
@@ -64,3 +64,7 @@ unfoldable pub regex : List ℕ → List ℕ → Part
 regex exp flags rest =
     step (Guard (codes "/")) (step (Plain (Punct None (codes "/"))) (step (Plain (calls.Str exp)) (step (Plain (Punct None (codes "/")))
     (step (Ends ((Regex, regex_text exp flags) ∷ []) (calls.Str flags)) rest))))
+
+-- `#!/usr/bin/env node`: a hashbang is one token, by two calls, and its line ends behind it.
+unfoldable pub hashbang : List ℕ → Part
+hashbang t rest = step (Plain (Punct None (codes "#!"))) (step (Ends ((Hashbang, codes "#!" ++ t) ∷ []) (StrLit dummy_span t)) (line_end rest))

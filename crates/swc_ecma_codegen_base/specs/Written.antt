@@ -56,6 +56,10 @@ pub record IsNew (s : State) : Type 0 where
   pub line_end : IsLineEnd s.sheet.line_end
   pub leaves_out : s.env.keeps_invalid ≡ false
 
+-- No indentation is due, so that what is written next may be a hashbang, which stands first of all in a text.
+abbrev pub IsAtMargin : State → Type 0
+IsAtMargin s = s.sheet.at_line_start ≡ true → s.sheet.indentation ≡ 0
+
 -- A text is UTF-8, and reads as one of the token lists that a phrase has under some settings, without comments. Where the writer holds semicolons back,
 -- some of those that end a statement are left out, none of which is needed.
 pub record ReadsAs (config : Config) (holds : Bool) (phrase : Phrase) (text : List ℕ) : Type 0 where

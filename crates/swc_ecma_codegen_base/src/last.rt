@@ -23,6 +23,8 @@ pub enum Last {
     Closing,
     /// Another token that ends by itself.
     Whole,
+    /// A hashbang.
+    LineEnd,
 }
 
 impl Last {
@@ -34,7 +36,7 @@ impl Last {
         ensures { result ≡ class_of self }
     {
         match self {
-            Last::Start | Last::Apart | Last::Whole => TokenClass::Rest,
+            Last::Start | Last::Apart | Last::Whole | Last::LineEnd => TokenClass::Rest,
             Last::WordEnd => TokenClass::Word,
             Last::IntegerEnd => TokenClass::Integer,
             Last::Mark(mark) => TokenClass::Punctuator(mark),

@@ -10,13 +10,13 @@ ghost use Rattle.swc_ecma_codegen_text_writer.specs.Sheet as calls;
 ghost use Rattle.swc_ecma_codegen_text_writer.specs.Sheet.{Lit, StrLit, Punct};
 ghost use Rattle.swc_ecma_codegen_base.specs.Last.{last_at};
 ghost use Rattle.swc_ecma_codegen_base.specs.Run.{Does, step, Token, Plain, Ends};
-ghost use Rattle.swc_ecma_codegen_base.specs.Literals.{size_of, signed, string, number, dotted_number, sign, number_name, big_digits, big_integer, regex_text, regex};
+ghost use Rattle.swc_ecma_codegen_base.specs.Literals.{size_of, signed, string, number, dotted_number, sign, number_name, big_digits, big_integer, regex_text, regex, hashbang};
 ghost use Rattle.swc_ecma_codegen_base.specs.View.{state_of};
 
 use crate::LowerEmitter;
 use crate::last::Last;
 use crate::starts::StartClass;
-use swc_ecma_codegen_common::{Answer, DUMMY_SP, Span};
+use swc_ecma_codegen_common::{Answer, DUMMY_SP, Refusal, Span};
 use swc_ecma_codegen_literals::{Punctuator, TokenClass, number_class};
 use swc_ecma_codegen_text_writer::WriteJs;
 use swc_ecma_codegen_util::config::Config;
@@ -206,6 +206,31 @@ impl LowerEmitter {
         self.settle(answer, Last::WordEnd)
     }
 
+    /// The call of the mark of a hashbang, unless a call was refused before.
+    fn put_hashbang_mark<W: WriteJs>(&mut self, cfg: &Config, wr: &mut W) -> Answer
+        ensures items { Does (step (Plain (Punct None (codes "#!")))) (state_of cfg.now (W.sheet wr.old) self.old) (state_of cfg.now (W.sheet wr.new) self.new) result }
+        ensures level { OnOk result ((W.sheet wr.new).indentation ≡ (W.sheet wr.old).indentation) }
+        ensures fresh { OnOk result (self.new.failed ≡ false) }
+    {
+        let _ = cfg;
+        if self.failed {
+            return Err(Refusal::Failed);
+        }
+        let answer = wr.write_punct(None, "#!");
+        self.keep(answer)
+    }
+
+    /// The call of what stands behind the mark, with which it ends.
+    fn put_hashbang_text<W: WriteJs>(&mut self, cfg: &Config, wr: &mut W, text: &str) -> Answer
+        requires { self.old.failed ≡ false }
+        ensures items { Does (step (Ends ((kind.Hashbang, codes "#!" ++ text.now) ∷ []) (StrLit dummy_span text.now))) (state_of cfg.now (W.sheet wr.old) self.old) (state_of cfg.now (W.sheet wr.new) self.new) result }
+        ensures level { OnOk result ((W.sheet wr.new).indentation ≡ (W.sheet wr.old).indentation) }
+    {
+        let _ = cfg;
+        let answer = wr.write_str_lit(DUMMY_SP, text);
+        self.settle(answer, Last::LineEnd)
+    }
+
     /// Writes a string as it is spelled.
     #[tactic(auto, unfolding(crate::specs::Literals::string))]
     pub fn string<W: WriteJs>(&mut self, cfg: &Config, wr: &mut W, text: &str) -> Answer
@@ -323,6 +348,18 @@ impl LowerEmitter {
         self.put_pattern(cfg, wr, exp)?;
         self.put_slash(cfg, wr)?;
         self.put_flags(cfg, wr, exp, flags)?;
+        Ok(())
+    }
+
+    /// Writes a hashbang by what stands behind `#!`, and ends its line.
+    #[tactic(auto, unfolding(crate::specs::Literals::hashbang))]
+    pub fn hashbang<W: WriteJs>(&mut self, cfg: &Config, wr: &mut W, text: &str) -> Answer
+        ensures items { Does (hashbang text.now) (state_of cfg.now (W.sheet wr.old) self.old) (state_of cfg.now (W.sheet wr.new) self.new) result }
+        ensures level { OnOk result ((W.sheet wr.new).indentation ≡ (W.sheet wr.old).indentation) }
+    {
+        self.put_hashbang_mark(cfg, wr)?;
+        self.put_hashbang_text(cfg, wr, text)?;
+        self.line(cfg, wr)?;
         Ok(())
     }
 }

@@ -14,7 +14,7 @@ use Rattle.swc_ecma_codegen_tree.specs.declared.modules.ImportSpecifier.{ImportS
 use Rattle.swc_ecma_codegen_tree.specs.declared.modules.ImportSpecifier.TheVariants as imported
 use Rattle.swc_ecma_codegen_tree.specs.declared.modules.ModuleExportName.{ModuleExportName}
 use Rattle.swc_ecma_codegen_tree.specs.declared.modules.NamedExport.{NamedExport}
-use Rattle.swc_ecma_codegen_ast.specs.Phrases.{Phrase, ◌>◌, mark, listed, is_possible}
+use Rattle.swc_ecma_codegen_ast.specs.Phrases.{Phrase, Never, ◌>◌, mark, listed, is_possible}
 use Rattle.swc_ecma_codegen_ast.specs.ElementPhrases.{trailing_comma}
 use Rattle.swc_ecma_codegen_ast.specs.LitPhrases.{str_lit}
 use Rattle.swc_ecma_codegen_ast.specs.ModulePhrases.{attributes, module_export_name, imported_as, import_named, import_specifier, import_bindings, after_default, import_clause, import_phase, import_decl, exported_as, export_named_specifier, export_specifier, export_namespace, export_braces, export_clause, from_clause, export_named, export_all, exported_tail}
@@ -109,3 +109,8 @@ export_all_possible f n = typed n.type_only _ _ (ap (λ b. is_possible (str_lit 
 pub exported_class_possible : {X : Type 0} (f : X → Role → Phrase) (n : ClassDecl X) → is_possible (exported_tail f (decls.Class n)) ≡ (not n.declare && (is_possible (ident n.ident) && is_possible (f n.class.node.value ClassTail)))
 unfolding is_possible exported_tail
 exported_class_possible f n = typed n.declare _ _ refl
+
+-- one by `using` isn't exported
+pub never_possible : is_possible Never ≡ false
+unfolding is_possible
+never_possible = refl

@@ -8,6 +8,7 @@ ghost use Rattle.swc_ecma_codegen_ast.specs.declared.roles.Role.TheVariants.{Ite
 ghost use Rattle.swc_ecma_codegen_grammar.specs.ModuleForms.{bindings_fit, others_fit, imports_fit, exports_fit};
 
 use crate::forms::{Fits, WellFormed, all_well_formed};
+use crate::stmts::is_shebang;
 use swc_ecma_codegen_ast::roles::Role;
 use swc_ecma_codegen_tree::{
     Decl, DefaultDecl, ExportAll, ExportDecl, ExportDefaultDecl, ExportDefaultExpr,
@@ -206,7 +207,7 @@ pub(crate) fn is_exported_head<N: Fits>(node: &Decl<N>) -> bool
 }
 
 /// Whether what stands after it is well-formed.
-#[tactic(auto, using(crate::proofs::ModulesPossible::exported_class_possible), unfolding(swc_ecma_codegen_ast::specs::ModulePhrases::exported_tail))]
+#[tactic(auto, using(crate::proofs::ModulesPossible::exported_class_possible, crate::proofs::ModulesPossible::never_possible), unfolding(swc_ecma_codegen_ast::specs::ModulePhrases::exported_tail))]
 pub(crate) fn is_exported_tail<N: Fits>(node: &Decl<N>) -> bool
     ensures { result ≡ is_possible (exported_tail N.reads node.now) }
 {
@@ -216,6 +217,7 @@ pub(crate) fn is_exported_tail<N: Fits>(node: &Decl<N>) -> bool
                 && class.ident.is_well_formed()
                 && class.class.held().fits(Role::ClassTail)
         }
+        Decl::Using(_) => false,
         _ => node.is_well_formed(),
     }
 }
@@ -310,6 +312,6 @@ impl<N: Fits> WellFormed for Module<N> {
 
     #[tactic(auto, using(crate::proofs::Lists::in_order_possible), unfolding(swc_ecma_codegen_ast::specs::StmtPhrases::whole_module, swc_ecma_codegen_ast::specs::Phrases::is_possible))]
     fn is_well_formed(&self) -> bool {
-        self.shebang.is_none() && all_well_formed(&self.body)
+        is_shebang(&self.shebang) && all_well_formed(&self.body)
     }
 }

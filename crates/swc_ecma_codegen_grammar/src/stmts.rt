@@ -2,10 +2,11 @@
 
 ghost use Rattle.std.specs.Prelude.{◌≡◌};
 ghost use Rattle.swc_ecma_codegen_ast.specs.Phrases.{is_possible};
-ghost use Rattle.swc_ecma_codegen_ast.specs.StmtPhrases.{optional_value, block_stmt, empty_stmt, expr_stmt, debugger_stmt, with_stmt, return_rest, return_stmt, labeled_stmt, break_stmt, continue_stmt, else_branch, if_stmt, case_test, switch_case, switch_stmt, throw_stmt, catch_param, catch_clause, handler, finalizer, try_stmt, while_stmt, do_while_stmt, var_decl_or_expr, for_init, for_stmt, for_head, for_in_stmt, for_of_stmt, stmt, script, program};
+ghost use Rattle.swc_ecma_codegen_ast.specs.StmtPhrases.{optional_value, block_stmt, empty_stmt, expr_stmt, debugger_stmt, with_stmt, return_rest, return_stmt, labeled_stmt, break_stmt, continue_stmt, else_branch, if_stmt, case_test, switch_case, switch_stmt, throw_stmt, catch_param, catch_clause, handler, finalizer, try_stmt, while_stmt, do_while_stmt, var_decl_or_expr, for_init, for_stmt, for_head, for_in_stmt, for_of_stmt, stmt, shebang, script, program};
 
 use crate::forms::{Fits, WellFormed, all_well_formed};
 use crate::functions::is_optional_name;
+use crate::texts::is_one_line;
 use swc_ecma_codegen_tree::{
     BlockStmt, BlockStmtBox, BreakStmt, CatchClause, ContinueStmt, DebuggerStmt, DoWhileStmt,
     EmptyStmt, ExprBox, ExprStmt, ForHead, ForInStmt, ForOfStmt, ForStmt, IfStmt, LabeledStmt,
@@ -338,12 +339,23 @@ impl<N: Fits> WellFormed for Stmt<N> {
     }
 }
 
+/// Whether what stands behind `#!` is one line, where there is such.
+#[tactic(auto, using(crate::proofs::Possible::where_possible), unfolding(swc_ecma_codegen_ast::specs::StmtPhrases::shebang, swc_ecma_codegen_ast::specs::Phrases::is_possible))]
+pub(crate) fn is_shebang(text: &Option<String>) -> bool
+    ensures { result ≡ is_possible (shebang text.now) }
+{
+    match text {
+        Some(text) => is_one_line(text),
+        None => true,
+    }
+}
+
 impl<N: Fits> WellFormed for Script<N> {
     ghost phrase = { script N.reads };
 
     #[tactic(auto, using(crate::proofs::Lists::in_order_possible), unfolding(swc_ecma_codegen_ast::specs::StmtPhrases::script, swc_ecma_codegen_ast::specs::Phrases::is_possible))]
     fn is_well_formed(&self) -> bool {
-        self.shebang.is_none() && all_well_formed(&self.body)
+        is_shebang(&self.shebang) && all_well_formed(&self.body)
     }
 }
 

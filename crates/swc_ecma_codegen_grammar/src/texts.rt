@@ -2,7 +2,10 @@
 
 ghost use Rattle.std.specs.Prelude.{◌≡◌, [], ◌∷◌, drop, true, false, IfSome, IfNone};
 ghost use Rattle.std.specs.Str.{chars};
+ghost use Rattle.swc_ecma_codegen_ast.specs.Chars as characters;
 ghost use Rattle.swc_ecma_codegen_ast.specs.Texts as texts;
+
+use swc_ecma_codegen_ast::characters::is_line_end;
 
 /// The first character of a text, and what follows it.
 pub(crate) fn split_first(text: &str) -> Option<(char, &str)>
@@ -39,4 +42,19 @@ pub(crate) fn begins_with(text: &str, c: char) -> bool
     ensures { result ≡ texts.begins (c ∷ []) (chars text.now) }
 {
     after_first(text, c).is_some()
+}
+
+/// Whether no line ends in a text.
+#[tactic(auto, unfolding(swc_ecma_codegen_ast::specs::Chars::is_one_line))]
+pub(crate) fn is_one_line(text: &str) -> bool
+    ensures { result ≡ characters.is_one_line (chars text.now) }
+{
+    let mut rest = text;
+    while let Some((c, more)) = split_first(rest) {
+        if is_line_end(c) {
+            return false;
+        }
+        rest = more;
+    }
+    true
 }

@@ -9,18 +9,22 @@ ghost use Rattle.std.specs.Prelude.{◌≡◌, ℕ, Bool, true, false, if◌then
 ghost use Rattle.swc_ecma_codegen_common.specs.declared.errors.Refusal.TheVariants as refusals;
 ghost use Rattle.swc_ecma_codegen_common.specs.Refusals.{in_short};
 ghost use Rattle.std.specs.String.{string_bytes};
+ghost use Rattle.swc_ecma_codegen_tree.specs.declared.exprs.Tpl.{Tpl};
+ghost use Rattle.swc_ecma_codegen_tree.specs.declared.links.AnyNode.{AnyNode};
 ghost use Rattle.swc_ecma_codegen_tree.specs.declared.lits.Str.{Str};
+ghost use Rattle.swc_ecma_codegen_tree.specs.declared.modules.ImportDecl.{ImportDecl};
 ghost use Rattle.swc_ecma_codegen_util.specs.declared.config.Config.{Config};
 ghost use Rattle.swc_ecma_codegen_ast.specs.Tokens.{Token};
 ghost use Rattle.swc_ecma_codegen_ast.specs.Phrases.{Phrase, Generates, is_possible};
 ghost use Rattle.swc_ecma_codegen_ast.specs.Settings.{Settings};
 ghost use Rattle.swc_ecma_codegen_ast.specs.Layouts.{AreAlike, AreSameBut, IsWritten};
+ghost use Rattle.swc_ecma_codegen_ast.specs.TemplatePhrases.{is_counted};
 ghost use Rattle.swc_ecma_codegen_ast.specs.TreePhrases.{expr_phrase, stmt_phrase};
 ghost use Rattle.swc_ecma_codegen_text_writer.specs.Sheet.{HoldsNone};
 ghost use Rattle.swc_ecma_codegen_text_writer.specs.View.{new_sheet};
-ghost use Rattle.swc_ecma_codegen_base.specs.declared.refusals.Unprintable.TheVariants.{NameOutOfTarget};
+ghost use Rattle.swc_ecma_codegen_base.specs.declared.refusals.Unprintable.TheVariants.{BadShape, NameOutOfTarget};
 ghost use Rattle.swc_ecma_codegen_ast.specs.SourceLines.{Lines};
-ghost use Rattle.swc_ecma_codegen_base.specs.Run.{Env, Follows, State, nothing, makes_text, start, steps_in, steps_of, unprintable_in};
+ghost use Rattle.swc_ecma_codegen_base.specs.Run.{Env, Follows, Plan, State, nothing, refused, makes_text, start, steps_in, steps_of, unprintable_in};
 ghost use Rattle.swc_ecma_codegen_base.specs.Lits.{prints_raw, string_at, value_text};
 ghost use Rattle.swc_ecma_codegen_base.specs.Scripts.{value_strings};
 ghost use Rattle.swc_ecma_codegen_base.specs.Targets.{is_out};
@@ -30,11 +34,13 @@ ghost use Rattle.swc_ecma_codegen_util.specs.Starts.{expr_starts, any_starts};
 ghost use Rattle.swc_ecma_codegen.specs.declared.nodes.Place.TheVariants.{Plain};
 ghost use Rattle.swc_ecma_codegen.specs.Answers.{any_answers};
 ghost use Rattle.swc_ecma_codegen.specs.Exprs.{expr as expr_items};
+ghost use Rattle.swc_ecma_codegen.specs.Modules.{is_crowded, import_decl};
 ghost use Rattle.swc_ecma_codegen.specs.Stmts.{stmt as stmt_items};
+ghost use Rattle.swc_ecma_codegen.specs.Templates.{tpl};
 ghost use Rattle.swc_ecma_codegen.specs.Tree.{any_items};
 ghost use Rattle.swc_ecma_codegen_base.specs.Escapes.{may_make_text};
 ghost use Rattle.swc_ecma_codegen_base.specs.Ascii.{keeps_other, may_keep_other, WantsAscii};
-ghost use Rattle.swc_ecma_codegen.specs.Roots.{Root, root_items, root_phrase, is_well_formed_root};
+ghost use Rattle.swc_ecma_codegen.specs.Roots.{Root, root_items, root_phrase, is_well_formed_root, MayBegin};
 ghost use Rattle.swc_ecma_codegen_laws.specs.FirstTokens.{joins_a_word};
 ghost use Rattle.swc_ecma_codegen.specs.View.{state_of};
 
@@ -83,15 +89,15 @@ pub fn emitted_stmt_reads<W: WriteJs, S: SourceMapper, C: Comments>(
     stmt.emit_with(e)
 }
 
-/// A new emitter over a new `JsWriter`, whose lines end with LF or with CR and LF, is one that these laws speak of; and
+/// A new emitter over a new `JsWriter`, whose lines end with LF or with CR and LF, is one that these laws speak of, whatever the root; and
 /// after `set_indent_str` of blanks and tabs, and inside `omit_trailing_semi`. It is ready, whatever its lines end with. Under
 /// `ascii_only` it is one that is to write ASCII.
 pub fn new_emitter_reads()
-    ensures new { (lines : Lines) (config : Config) (bytes line_end : List ℕ) → IsLineEnd line_end → IsNew (start lines config (new_sheet bytes line_end)) }
-    ensures holding { (lines : Lines) (config : Config) (bytes line_end : List ℕ) → IsLineEnd line_end → IsNew (start lines config (record (new_sheet bytes line_end) { semicolons = HoldsNone })) }
+    ensures new { (root : Root) (lines : Lines) (config : Config) (bytes line_end : List ℕ) → IsLineEnd line_end → MayBegin root (start lines config (new_sheet bytes line_end)) }
+    ensures holding { (root : Root) (lines : Lines) (config : Config) (bytes line_end : List ℕ) → IsLineEnd line_end → MayBegin root (start lines config (record (new_sheet bytes line_end) { semicolons = HoldsNone })) }
     ensures ready { (lines : Lines) (config : Config) (bytes line_end : List ℕ) → IsReady (start lines config (new_sheet bytes line_end)) }
     ensures ascii { (lines : Lines) (config : Config) (bytes line_end : List ℕ) → config.ascii_only ≡ true → IsLineEnd line_end → WantsAscii (start lines config (new_sheet bytes line_end)) }
-    ensures indented { (lines : Lines) (config : Config) (bytes line_end indent : List ℕ) → IsLineEnd line_end → all_indent indent ≡ true → IsNew (start lines config (record (new_sheet bytes line_end) { indent_text = indent })) }
+    ensures indented { (root : Root) (lines : Lines) (config : Config) (bytes line_end indent : List ℕ) → IsLineEnd line_end → all_indent indent ≡ true → MayBegin root (start lines config (record (new_sheet bytes line_end) { indent_text = indent })) }
 {}
 
 /// Where an expression begins with a word, a name or a number, by the first token of a list that
@@ -115,7 +121,7 @@ pub fn plain_trees_take_no_memory()
 {}
 
 /// No text stands as it is in the tree and isn't ASCII, among the steps of an emission of a well-formed tree whose names can
-/// all be written, where each regular expression of the tree is ASCII and no string of it reads `use strict`: what the
+/// all be written, where each regular expression and hashbang of the tree is ASCII and no string of it reads `use strict`: what the
 /// clause `ascii` of `emit_with` asks. With such a string it asks that this one has no backslash, or is ASCII.
 #[tactic(auto, using(swc_ecma_codegen::proofs::TreeReads::root_keeps))]
 pub fn plain_trees_keep_no_other_text()
@@ -137,6 +143,22 @@ pub fn names_out_of_target_are_refused()
     ensures steps { (root : Root) (s : State) → is_well_formed_root root ≡ true → s.env.keeps_invalid ≡ false → unprintable_in (steps_in (root_items root) s) ≡ (if is_out s.env.config (root_phrase root) then Some NameOutOfTarget else None) }
     ensures printed { (root : Root) (a b : State) → is_well_formed_root root ≡ true → a.env.keeps_invalid ≡ false → Follows (root_items root nothing) a b (Ok tt) → is_out a.env.config (root_phrase root) ≡ false }
     ensures refused { (root : Root) (a b : State) → is_well_formed_root root ≡ true → a.env.keeps_invalid ≡ false → Follows (root_items root nothing) a b (Err refusals.NameOutOfTarget) → is_out a.env.config (root_phrase root) ≡ true }
+{}
+
+/// An emission of a well-formed tree is refused neither for a shape of which no text is written nor for a node that isn't
+/// supported.
+#[tactic(auto, using(swc_ecma_codegen::proofs::TreeReads::root_shaped, swc_ecma_codegen::proofs::TreeReads::root_supported))]
+pub fn well_formed_trees_are_supported()
+    ensures shape { (root : Root) (a b : State) → is_well_formed_root root ≡ true → a.env.keeps_invalid ≡ false → Follows (root_items root nothing) a b (Err refusals.BadShape) → ⊥ }
+    ensures node { (root : Root) (a b : State) → is_well_formed_root root ≡ true → a.env.keeps_invalid ≡ false → Follows (root_items root nothing) a b (Err refusals.UnsupportedNode) → ⊥ }
+{}
+
+/// The shapes of which no text is written, and no step is made before the refusal: an import of a namespace among more than
+/// two specifiers, and a template without one part more than expressions. A plan comes to `BadShape` in no other words.
+#[tactic(auto, using(swc_ecma_codegen::proofs::TreeReads::crowded_refused, swc_ecma_codegen::proofs::TreeReads::uncounted_refused))]
+pub fn bad_shapes_are_refused_first()
+    ensures import_ { (n : ImportDecl AnyNode) (rest : Plan) (env : Env) → is_crowded n.specifiers.items ≡ true → import_decl any_items n rest env ≡ refused BadShape }
+    ensures template { (n : Tpl AnyNode) (tagged : Bool) (rest : Plan) (env : Env) → is_counted n.exprs.items n.quasis.items ≡ false → tpl any_items tagged n rest env ≡ refused BadShape }
 {}
 
 /// The lists of a tree under settings that differ in whether they minify are the same but for semicolons that end a

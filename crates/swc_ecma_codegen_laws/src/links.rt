@@ -10,13 +10,13 @@ ghost use Rattle.swc_ecma_codegen_ast.specs.ExprPhrases.{member_expr};
 ghost use Rattle.swc_ecma_codegen_ast.specs.TreePhrases.{phrase};
 ghost use Rattle.swc_ecma_codegen_ast.specs.declared.roles.Role.TheVariants.{MemberExpression, AssignmentTarget};
 ghost use Rattle.swc_ecma_codegen_base.specs.Run.{Follows, nothing};
-ghost use Rattle.swc_ecma_codegen_base.specs.Written.{IsNew, AddsReading};
+ghost use Rattle.swc_ecma_codegen_base.specs.Written.{AddsReading};
 ghost use Rattle.swc_ecma_codegen.specs.declared.nodes.Place.TheVariants.{Plain};
 ghost use Rattle.swc_ecma_codegen.specs.Answers.{any_answers};
 ghost use Rattle.swc_ecma_codegen.specs.Exprs.{member as member_items};
 ghost use Rattle.swc_ecma_codegen.specs.Targets.{assign_target as target_items};
 ghost use Rattle.swc_ecma_codegen.specs.Tree.{any_items};
-ghost use Rattle.swc_ecma_codegen.specs.Roots.{Root, root_items, root_phrase, is_well_formed_root};
+ghost use Rattle.swc_ecma_codegen.specs.Roots.{Root, root_items, root_phrase, is_well_formed_root, MayBegin};
 ghost use Rattle.swc_ecma_codegen_laws.specs.HeldRoots.{IsHeld};
 ghost use Rattle.swc_ecma_codegen.specs.View.{state_of};
 
@@ -59,7 +59,7 @@ pub fn emitted_expr_box_reads<N: EmitAt + Spanned, W: WriteJs, S: SourceMapper, 
     e: &mut Emitter<'_, W, S, C>,
 ) -> Result
     ensures items { Follows (N.items link.now.node.value Plain nothing) (state_of S.lines W.sheet e.old) (state_of S.lines W.sheet e.new) (in_short result) }
-    ensures reads { (root : Root) → N.items link.now.node.value Plain ≡ root_items root → is_well_formed_root root ≡ true → IsNew (state_of S.lines W.sheet e.old) → OnOk result (AddsReading e.old.cfg (root_phrase root) (W.sheet e.old.wr) (W.sheet e.new.wr)) }
+    ensures reads { (root : Root) → N.items link.now.node.value Plain ≡ root_items root → is_well_formed_root root ≡ true → MayBegin root (state_of S.lines W.sheet e.old) → OnOk result (AddsReading e.old.cfg (root_phrase root) (W.sheet e.old.wr) (W.sheet e.new.wr)) }
 {
     link.emit_with(e)
 }
@@ -70,7 +70,7 @@ pub fn emitted_stmt_box_reads<N: EmitAt + Spanned, W: WriteJs, S: SourceMapper, 
     e: &mut Emitter<'_, W, S, C>,
 ) -> Result
     ensures items { Follows (N.items link.now.node.value Plain nothing) (state_of S.lines W.sheet e.old) (state_of S.lines W.sheet e.new) (in_short result) }
-    ensures reads { (root : Root) → N.items link.now.node.value Plain ≡ root_items root → is_well_formed_root root ≡ true → IsNew (state_of S.lines W.sheet e.old) → OnOk result (AddsReading e.old.cfg (root_phrase root) (W.sheet e.old.wr) (W.sheet e.new.wr)) }
+    ensures reads { (root : Root) → N.items link.now.node.value Plain ≡ root_items root → is_well_formed_root root ≡ true → MayBegin root (state_of S.lines W.sheet e.old) → OnOk result (AddsReading e.old.cfg (root_phrase root) (W.sheet e.old.wr) (W.sheet e.new.wr)) }
 {
     link.emit_with(e)
 }
@@ -81,7 +81,7 @@ pub fn emitted_member_expr_box_reads<N: EmitAt + Spanned, W: WriteJs, S: SourceM
     e: &mut Emitter<'_, W, S, C>,
 ) -> Result
     ensures items { Follows (N.items link.now.node.value Plain nothing) (state_of S.lines W.sheet e.old) (state_of S.lines W.sheet e.new) (in_short result) }
-    ensures reads { (root : Root) → N.items link.now.node.value Plain ≡ root_items root → is_well_formed_root root ≡ true → IsNew (state_of S.lines W.sheet e.old) → OnOk result (AddsReading e.old.cfg (root_phrase root) (W.sheet e.old.wr) (W.sheet e.new.wr)) }
+    ensures reads { (root : Root) → N.items link.now.node.value Plain ≡ root_items root → is_well_formed_root root ≡ true → MayBegin root (state_of S.lines W.sheet e.old) → OnOk result (AddsReading e.old.cfg (root_phrase root) (W.sheet e.old.wr) (W.sheet e.new.wr)) }
 {
     link.emit_with(e)
 }
@@ -94,7 +94,7 @@ pub fn emitted_assign_target_box_reads<
     C: Comments,
 >(link: &AssignTargetBox<N>, e: &mut Emitter<'_, W, S, C>) -> Result
     ensures items { Follows (N.items link.now.node.value Plain nothing) (state_of S.lines W.sheet e.old) (state_of S.lines W.sheet e.new) (in_short result) }
-    ensures reads { (root : Root) → N.items link.now.node.value Plain ≡ root_items root → is_well_formed_root root ≡ true → IsNew (state_of S.lines W.sheet e.old) → OnOk result (AddsReading e.old.cfg (root_phrase root) (W.sheet e.old.wr) (W.sheet e.new.wr)) }
+    ensures reads { (root : Root) → N.items link.now.node.value Plain ≡ root_items root → is_well_formed_root root ≡ true → MayBegin root (state_of S.lines W.sheet e.old) → OnOk result (AddsReading e.old.cfg (root_phrase root) (W.sheet e.old.wr) (W.sheet e.new.wr)) }
 {
     link.emit_with(e)
 }
@@ -105,7 +105,7 @@ pub fn emitted_pat_box_reads<N: EmitAt + Spanned, W: WriteJs, S: SourceMapper, C
     e: &mut Emitter<'_, W, S, C>,
 ) -> Result
     ensures items { Follows (N.items link.now.node.value Plain nothing) (state_of S.lines W.sheet e.old) (state_of S.lines W.sheet e.new) (in_short result) }
-    ensures reads { (root : Root) → N.items link.now.node.value Plain ≡ root_items root → is_well_formed_root root ≡ true → IsNew (state_of S.lines W.sheet e.old) → OnOk result (AddsReading e.old.cfg (root_phrase root) (W.sheet e.old.wr) (W.sheet e.new.wr)) }
+    ensures reads { (root : Root) → N.items link.now.node.value Plain ≡ root_items root → is_well_formed_root root ≡ true → MayBegin root (state_of S.lines W.sheet e.old) → OnOk result (AddsReading e.old.cfg (root_phrase root) (W.sheet e.old.wr) (W.sheet e.new.wr)) }
 {
     link.emit_with(e)
 }
@@ -116,7 +116,7 @@ pub fn emitted_object_lit_box_reads<N: EmitAt + Spanned, W: WriteJs, S: SourceMa
     e: &mut Emitter<'_, W, S, C>,
 ) -> Result
     ensures items { Follows (N.items link.now.node.value Plain nothing) (state_of S.lines W.sheet e.old) (state_of S.lines W.sheet e.new) (in_short result) }
-    ensures reads { (root : Root) → N.items link.now.node.value Plain ≡ root_items root → is_well_formed_root root ≡ true → IsNew (state_of S.lines W.sheet e.old) → OnOk result (AddsReading e.old.cfg (root_phrase root) (W.sheet e.old.wr) (W.sheet e.new.wr)) }
+    ensures reads { (root : Root) → N.items link.now.node.value Plain ≡ root_items root → is_well_formed_root root ≡ true → MayBegin root (state_of S.lines W.sheet e.old) → OnOk result (AddsReading e.old.cfg (root_phrase root) (W.sheet e.old.wr) (W.sheet e.new.wr)) }
 {
     link.emit_with(e)
 }
@@ -127,7 +127,7 @@ pub fn emitted_prop_name_box_reads<N: EmitAt + Spanned, W: WriteJs, S: SourceMap
     e: &mut Emitter<'_, W, S, C>,
 ) -> Result
     ensures items { Follows (N.items link.now.node.value Plain nothing) (state_of S.lines W.sheet e.old) (state_of S.lines W.sheet e.new) (in_short result) }
-    ensures reads { (root : Root) → N.items link.now.node.value Plain ≡ root_items root → is_well_formed_root root ≡ true → IsNew (state_of S.lines W.sheet e.old) → OnOk result (AddsReading e.old.cfg (root_phrase root) (W.sheet e.old.wr) (W.sheet e.new.wr)) }
+    ensures reads { (root : Root) → N.items link.now.node.value Plain ≡ root_items root → is_well_formed_root root ≡ true → MayBegin root (state_of S.lines W.sheet e.old) → OnOk result (AddsReading e.old.cfg (root_phrase root) (W.sheet e.old.wr) (W.sheet e.new.wr)) }
 {
     link.emit_with(e)
 }
@@ -138,7 +138,7 @@ pub fn emitted_prop_box_reads<N: EmitAt + Spanned, W: WriteJs, S: SourceMapper, 
     e: &mut Emitter<'_, W, S, C>,
 ) -> Result
     ensures items { Follows (N.items link.now.node.value Plain nothing) (state_of S.lines W.sheet e.old) (state_of S.lines W.sheet e.new) (in_short result) }
-    ensures reads { (root : Root) → N.items link.now.node.value Plain ≡ root_items root → is_well_formed_root root ≡ true → IsNew (state_of S.lines W.sheet e.old) → OnOk result (AddsReading e.old.cfg (root_phrase root) (W.sheet e.old.wr) (W.sheet e.new.wr)) }
+    ensures reads { (root : Root) → N.items link.now.node.value Plain ≡ root_items root → is_well_formed_root root ≡ true → MayBegin root (state_of S.lines W.sheet e.old) → OnOk result (AddsReading e.old.cfg (root_phrase root) (W.sheet e.old.wr) (W.sheet e.new.wr)) }
 {
     link.emit_with(e)
 }
@@ -149,7 +149,7 @@ pub fn emitted_function_box_reads<N: EmitAt + Spanned, W: WriteJs, S: SourceMapp
     e: &mut Emitter<'_, W, S, C>,
 ) -> Result
     ensures items { Follows (N.items link.now.node.value Plain nothing) (state_of S.lines W.sheet e.old) (state_of S.lines W.sheet e.new) (in_short result) }
-    ensures reads { (root : Root) → N.items link.now.node.value Plain ≡ root_items root → is_well_formed_root root ≡ true → IsNew (state_of S.lines W.sheet e.old) → OnOk result (AddsReading e.old.cfg (root_phrase root) (W.sheet e.old.wr) (W.sheet e.new.wr)) }
+    ensures reads { (root : Root) → N.items link.now.node.value Plain ≡ root_items root → is_well_formed_root root ≡ true → MayBegin root (state_of S.lines W.sheet e.old) → OnOk result (AddsReading e.old.cfg (root_phrase root) (W.sheet e.old.wr) (W.sheet e.new.wr)) }
 {
     link.emit_with(e)
 }
@@ -160,7 +160,7 @@ pub fn emitted_block_stmt_box_reads<N: EmitAt + Spanned, W: WriteJs, S: SourceMa
     e: &mut Emitter<'_, W, S, C>,
 ) -> Result
     ensures items { Follows (N.items link.now.node.value Plain nothing) (state_of S.lines W.sheet e.old) (state_of S.lines W.sheet e.new) (in_short result) }
-    ensures reads { (root : Root) → N.items link.now.node.value Plain ≡ root_items root → is_well_formed_root root ≡ true → IsNew (state_of S.lines W.sheet e.old) → OnOk result (AddsReading e.old.cfg (root_phrase root) (W.sheet e.old.wr) (W.sheet e.new.wr)) }
+    ensures reads { (root : Root) → N.items link.now.node.value Plain ≡ root_items root → is_well_formed_root root ≡ true → MayBegin root (state_of S.lines W.sheet e.old) → OnOk result (AddsReading e.old.cfg (root_phrase root) (W.sheet e.old.wr) (W.sheet e.new.wr)) }
 {
     link.emit_with(e)
 }
@@ -171,7 +171,7 @@ pub fn emitted_decl_box_reads<N: EmitAt + Spanned, W: WriteJs, S: SourceMapper, 
     e: &mut Emitter<'_, W, S, C>,
 ) -> Result
     ensures items { Follows (N.items link.now.node.value Plain nothing) (state_of S.lines W.sheet e.old) (state_of S.lines W.sheet e.new) (in_short result) }
-    ensures reads { (root : Root) → N.items link.now.node.value Plain ≡ root_items root → is_well_formed_root root ≡ true → IsNew (state_of S.lines W.sheet e.old) → OnOk result (AddsReading e.old.cfg (root_phrase root) (W.sheet e.old.wr) (W.sheet e.new.wr)) }
+    ensures reads { (root : Root) → N.items link.now.node.value Plain ≡ root_items root → is_well_formed_root root ≡ true → MayBegin root (state_of S.lines W.sheet e.old) → OnOk result (AddsReading e.old.cfg (root_phrase root) (W.sheet e.old.wr) (W.sheet e.new.wr)) }
 {
     link.emit_with(e)
 }
@@ -182,7 +182,7 @@ pub fn emitted_var_decl_box_reads<N: EmitAt + Spanned, W: WriteJs, S: SourceMapp
     e: &mut Emitter<'_, W, S, C>,
 ) -> Result
     ensures items { Follows (N.items link.now.node.value Plain nothing) (state_of S.lines W.sheet e.old) (state_of S.lines W.sheet e.new) (in_short result) }
-    ensures reads { (root : Root) → N.items link.now.node.value Plain ≡ root_items root → is_well_formed_root root ≡ true → IsNew (state_of S.lines W.sheet e.old) → OnOk result (AddsReading e.old.cfg (root_phrase root) (W.sheet e.old.wr) (W.sheet e.new.wr)) }
+    ensures reads { (root : Root) → N.items link.now.node.value Plain ≡ root_items root → is_well_formed_root root ≡ true → MayBegin root (state_of S.lines W.sheet e.old) → OnOk result (AddsReading e.old.cfg (root_phrase root) (W.sheet e.old.wr) (W.sheet e.new.wr)) }
 {
     link.emit_with(e)
 }
@@ -193,7 +193,7 @@ pub fn emitted_ref_reads<T: EmitAt + Spanned, W: WriteJs, S: SourceMapper, C: Co
     e: &mut Emitter<'_, W, S, C>,
 ) -> Result
     ensures items { Follows (T.items node.now.now Plain nothing) (state_of S.lines W.sheet e.old) (state_of S.lines W.sheet e.new) (in_short result) }
-    ensures reads { (root : Root) → T.items node.now.now Plain ≡ root_items root → is_well_formed_root root ≡ true → IsNew (state_of S.lines W.sheet e.old) → OnOk result (AddsReading e.old.cfg (root_phrase root) (W.sheet e.old.wr) (W.sheet e.new.wr)) }
+    ensures reads { (root : Root) → T.items node.now.now Plain ≡ root_items root → is_well_formed_root root ≡ true → MayBegin root (state_of S.lines W.sheet e.old) → OnOk result (AddsReading e.old.cfg (root_phrase root) (W.sheet e.old.wr) (W.sheet e.new.wr)) }
 {
     node.emit_with(e)
 }
@@ -204,7 +204,7 @@ pub fn emitted_box_reads<T: EmitAt + Spanned, W: WriteJs, S: SourceMapper, C: Co
     e: &mut Emitter<'_, W, S, C>,
 ) -> Result
     ensures items { Follows (T.items node.now.value Plain nothing) (state_of S.lines W.sheet e.old) (state_of S.lines W.sheet e.new) (in_short result) }
-    ensures reads { (root : Root) → T.items node.now.value Plain ≡ root_items root → is_well_formed_root root ≡ true → IsNew (state_of S.lines W.sheet e.old) → OnOk result (AddsReading e.old.cfg (root_phrase root) (W.sheet e.old.wr) (W.sheet e.new.wr)) }
+    ensures reads { (root : Root) → T.items node.now.value Plain ≡ root_items root → is_well_formed_root root ≡ true → MayBegin root (state_of S.lines W.sheet e.old) → OnOk result (AddsReading e.old.cfg (root_phrase root) (W.sheet e.old.wr) (W.sheet e.new.wr)) }
 {
     node.emit_with(e)
 }
@@ -215,7 +215,7 @@ pub fn emitted_option_reads<T: EmitAt + Spanned, W: WriteJs, S: SourceMapper, C:
     e: &mut Emitter<'_, W, S, C>,
 ) -> Result
     ensures items { (some : T) → node.now ≡ Some some → Follows (T.items some Plain nothing) (state_of S.lines W.sheet e.old) (state_of S.lines W.sheet e.new) (in_short result) }
-    ensures reads { (some : T) (root : Root) → node.now ≡ Some some → T.items some Plain ≡ root_items root → is_well_formed_root root ≡ true → IsNew (state_of S.lines W.sheet e.old) → OnOk result (AddsReading e.old.cfg (root_phrase root) (W.sheet e.old.wr) (W.sheet e.new.wr)) }
+    ensures reads { (some : T) (root : Root) → node.now ≡ Some some → T.items some Plain ≡ root_items root → is_well_formed_root root ≡ true → MayBegin root (state_of S.lines W.sheet e.old) → OnOk result (AddsReading e.old.cfg (root_phrase root) (W.sheet e.old.wr) (W.sheet e.new.wr)) }
     ensures none { node.now ≡ None → state_of S.lines W.sheet e.new ≡ state_of S.lines W.sheet e.old }
     ensures none_made { node.now ≡ None → (state_of S.lines W.sheet e.old).failed ≡ false → IsOk result }
 {

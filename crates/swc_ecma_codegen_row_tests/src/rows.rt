@@ -6,7 +6,7 @@ use crate::literals;
 use crate::looks::look;
 use crate::nestings::are_printed;
 use crate::over::{has_commas, has_texts_over};
-use crate::runs::{answers, given, prints, refuses};
+use crate::runs::{answers, given, prints, prints_with, refuses};
 use crate::steps::{
     Sort, Step, Tree, all_named, expression, expression_in_places, is_step, statements,
     statements_in_places,
@@ -35,6 +35,9 @@ fn answer(alloc: Global, steps: &[Step], line: &str) -> Result<bool, AllocError>
         [word, _, _, _] if is_step(word) => Ok(true),
         [word, kind, levels, text] if word.as_str() == "deep" => {
             Ok(have_text(alloc, kind, levels, text))
+        }
+        [word, short, pretty, minified] if word.as_str() == "malformed_program" => {
+            is_malformed(alloc, short, [pretty, minified])
         }
         [word, words, made_of, text] if matches!(word.as_str(), "prints" | "script_prints") => {
             with_words(alloc, steps, word, [words, made_of, text])
@@ -221,6 +224,18 @@ fn is_unprinted(alloc: Global, short: &str) -> Result<bool, AllocError> {
                 && matches!(&look.texts, Err(Error::UnsupportedNode))
                 && refuses(alloc, json.as_bytes(), "refused: unsupported node\n"),
         ),
+        Err(_) => Ok(false),
+    }
+}
+
+/// Whether a program isn't well-formed, and prints these texts, with blanks and without.
+fn is_malformed(alloc: Global, short: &str, texts: [&str; 2]) -> Result<bool, AllocError> {
+    let [pretty, minified] = texts;
+    let json = json(alloc, short)?;
+    let has_texts = prints(alloc, json.as_bytes(), pretty)
+        && prints_with(alloc, "--minify", json.as_bytes(), minified)?;
+    match look(alloc, json.as_bytes()) {
+        Ok(look) => Ok(look.well_formed == Some(false) && has_texts),
         Err(_) => Ok(false),
     }
 }

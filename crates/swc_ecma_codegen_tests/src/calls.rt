@@ -168,27 +168,48 @@ pub(crate) fn tells_of_itself<N: Tree>(alloc: Global) -> Result<bool, Fail> {
     Ok(is_told && tree.span().is_dummy() && tree.span_lo().is_dummy())
 }
 
-/// Whether a program isn't well-formed and is refused as one that isn't printed yet.
-fn is_unsupported<N: Tree>(alloc: Global, program: &Program<N>) -> bool {
-    matches!(to_code(alloc, program), Err(Error::UnsupportedNode)) && !program.is_well_formed()
+/// Whether a program has this text, and is well-formed or not.
+fn is_printed_as<N: Tree>(
+    alloc: Global,
+    program: &Program<N>,
+    text: &str,
+    well_formed: bool,
+) -> bool {
+    match to_code(alloc, program) {
+        Ok(code) => code.as_str() == text && program.is_well_formed() == well_formed,
+        Err(_) => false,
+    }
 }
 
-/// Whether a module and a script with a hashbang are refused.
-pub(crate) fn are_unsupported<N: Tree>(alloc: Global) -> Result<bool, Fail> {
+/// Whether a module and a script with this hashbang alone have this text, and are well-formed or not.
+fn prints_hashbang<N: Tree>(
+    alloc: Global,
+    hashbang: &str,
+    text: &str,
+    well_formed: bool,
+) -> Result<bool, Fail> {
     let span = DUMMY_SP;
     let module = Module {
         span,
         body: Vec::new(alloc),
-        shebang: Some(String::from_str(alloc, "a")?),
+        shebang: Some(String::from_str(alloc, hashbang)?),
     };
     let script = Script {
         span,
         body: Vec::new(alloc),
-        shebang: Some(String::from_str(alloc, "a")?),
+        shebang: Some(String::from_str(alloc, hashbang)?),
     };
     Ok(
-        is_unsupported(alloc, &Program::<N>::Module(module))
-            && is_unsupported(alloc, &Program::<N>::Script(script)),
+        is_printed_as(alloc, &Program::<N>::Module(module), text, well_formed)
+            && is_printed_as(alloc, &Program::<N>::Script(script), text, well_formed),
+    )
+}
+
+/// Whether hashbangs are printed, and one that goes on in another line isn't well-formed.
+pub(crate) fn prints_hashbangs<N: Tree>(alloc: Global) -> Result<bool, Fail> {
+    Ok(
+        prints_hashbang::<N>(alloc, "a", "#!a\n", true)?
+            && prints_hashbang::<N>(alloc, "a\nb", "#!a\nb\n", false)?,
     )
 }
 

@@ -2,12 +2,12 @@
 //! that, so one test makes all of them.
 
 use crate::calls::{
-    are_unsupported, has_its_text_each_way, prints_a_module, prints_each_way, stops_before_invalid,
-    tells_of_itself,
+    has_its_text_each_way, prints_a_module, prints_each_way, prints_hashbangs,
+    stops_before_invalid, tells_of_itself,
 };
 use crate::faults::{
     fails_after_each_byte, gives_the_writers_error, goes_out_in_single_bytes,
-    stops_when_interrupted,
+    stops_when_interrupted, writes_no_bad_shape,
 };
 use crate::links::all_come_back;
 use crate::settings::{act_one_by_one, leave_out_the_last_semicolon, refuse_a_name};
@@ -35,7 +35,10 @@ fn failing<N: Tree>(alloc: Global) -> Result<Vec<&'static str>, Fail> {
             "an expression tells of itself",
             tells_of_itself::<N>(alloc)?,
         ),
-        ("hashbangs are refused", are_unsupported::<N>(alloc)?),
+        (
+            "hashbangs are printed, and go on in no other line",
+            prints_hashbangs::<N>(alloc)?,
+        ),
         (
             "what can't be printed is refused before its first token",
             stops_before_invalid::<N>(alloc)?,
@@ -55,6 +58,10 @@ fn failing<N: Tree>(alloc: Global) -> Result<Vec<&'static str>, Fail> {
         (
             "the error of the writer comes out",
             gives_the_writers_error::<N>(alloc)?,
+        ),
+        (
+            "nothing is written of a bad shape",
+            writes_no_bad_shape::<N>(alloc)?,
         ),
         ("links give back what they hold", all_come_back::<N>(alloc)?),
         (

@@ -2,7 +2,7 @@
 
 ghost use Rattle.std.specs.Prelude.{Some};
 
-use crate::trees::{DIFFERENCE, Tree, settings};
+use crate::trees::{CROWDED, DIFFERENCE, Tree, UNCOUNTED, settings};
 use std::alloc::Global;
 use std::io;
 use std::io::{ErrorKind, Write};
@@ -215,6 +215,19 @@ pub(crate) fn gives_the_writers_error<N: Tree>(alloc: Global) -> Result<bool, Fa
         let kind = io::Error::from_raw_os_error(code).kind();
         all = all && code_of(&answers.first) == Some(code);
         all = all && kind_of(&answers.first) == Some(kind) && are_failed(&answers);
+    }
+    Ok(all)
+}
+
+/// Whether nothing is written of an import of a namespace among more than two, nor of a template without one part more than
+/// expressions.
+pub(crate) fn writes_no_bad_shape<N: Tree>(alloc: Global) -> Result<bool, Fail> {
+    let mut all = true;
+    for text in [CROWDED, UNCOUNTED] {
+        let tree = N::read(alloc, text)?;
+        let (answers, taken) = in_single_bytes(alloc, &tree, 100, None);
+        let refused = matches!(&answers.first, Err(Error::BadShape));
+        all = all && refused && are_failed(&answers) && taken.is_empty();
     }
     Ok(all)
 }

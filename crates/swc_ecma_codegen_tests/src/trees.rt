@@ -49,6 +49,14 @@ pub(crate) const LITERALS: &str =
 pub(crate) const EXPORT: &str =
     r#"{"Module":{"span":{"lo":0,"hi":0},"body":[{"ModuleDecl":{"ExportNamed":{"span":{"lo":0,"hi":0},"specifiers":[{"Named":{"span":{"lo":0,"hi":0},"orig":{"Ident":{"span":{"lo":0,"hi":0},"sym":"a","optional":false}},"exported":null,"is_type_only":false}}],"src":{"span":{"lo":0,"hi":0},"value":"b","raw":null},"type_only":false,"with":{"span":{"lo":0,"hi":0},"props":[{"Prop":{"KeyValue":{"key":{"Ident":{"span":{"lo":0,"hi":0},"sym":"c"}},"value":{"Lit":{"Str":{"span":{"lo":0,"hi":0},"value":"d","raw":null}}}}}}]}}}}],"shebang":null}}"#;
 
+/// An import from `"d"` of `b`, of `c`, and of a namespace `a`
+pub(crate) const CROWDED: &str =
+    r#"{"Module":{"span":{"lo":0,"hi":0},"body":[{"ModuleDecl":{"Import":{"span":{"lo":0,"hi":0},"specifiers":[{"Named":{"span":{"lo":0,"hi":0},"local":{"span":{"lo":0,"hi":0},"sym":"b","optional":false},"imported":null,"is_type_only":false}},{"Named":{"span":{"lo":0,"hi":0},"local":{"span":{"lo":0,"hi":0},"sym":"c","optional":false},"imported":null,"is_type_only":false}},{"Namespace":{"span":{"lo":0,"hi":0},"local":{"span":{"lo":0,"hi":0},"sym":"a","optional":false}}}],"src":{"span":{"lo":0,"hi":0},"value":"d","raw":null},"type_only":false,"with":null,"phase":"Evaluation"}}}],"shebang":null}}"#;
+
+/// A template of one part and one expression, `a`
+pub(crate) const UNCOUNTED: &str =
+    r#"{"Script":{"span":{"lo":0,"hi":0},"body":[{"Expr":{"span":{"lo":0,"hi":0},"expr":{"Tpl":{"span":{"lo":0,"hi":0},"exprs":[{"Ident":{"span":{"lo":0,"hi":0},"sym":"a","optional":false}}],"quasis":[{"span":{"lo":0,"hi":0},"raw":"b"}]}}}}],"shebang":null}}"#;
+
 /// What links hold. A test is made for any of it, which costs a check less than to make it for `AnyNode`.
 pub(crate) trait Tree: Holds<Expr<Self>>
     + Holds<MemberExpr<Self>>

@@ -12,8 +12,8 @@ ghost use Rattle.swc_ecma_codegen_text_writer.specs.Recorded.{RecordsTruly};
 ghost use Rattle.swc_ecma_codegen_text_writer.specs.View.{sheet_of, keeping};
 ghost use Rattle.swc_ecma_codegen_base.specs.Ready.{token_count};
 ghost use Rattle.swc_ecma_codegen_base.specs.Run.{start};
-ghost use Rattle.swc_ecma_codegen_base.specs.Written.{AddsReading, IsNew, ReadsAs};
-ghost use Rattle.swc_ecma_codegen.specs.Roots.{Root, root_items, root_phrase, is_well_formed_root};
+ghost use Rattle.swc_ecma_codegen_base.specs.Written.{AddsReading, ReadsAs};
+ghost use Rattle.swc_ecma_codegen.specs.Roots.{Root, root_items, root_phrase, is_well_formed_root, MayBegin};
 ghost use Rattle.swc_ecma_codegen.specs.Texts.{blank_sheet};
 
 #[cfg(test)]
@@ -104,7 +104,7 @@ fn printed_on<P: Node, W: WriteJs + Drop>(
     wr: W,
 ) -> Result<W, Error>
     // What it adds to the text reads as the root that `node` prints, where that is well-formed.
-    ensures reads { (root : Root) → P.part node.now ≡ root_items root → is_well_formed_root root ≡ true → IsNew (start no_lines config (W.sheet wr)) → IfOk result (λ w. AddsReading config (root_phrase root) (W.sheet wr) (W.sheet w)) }
+    ensures reads { (root : Root) → P.part node.now ≡ root_items root → is_well_formed_root root ≡ true → MayBegin root (start no_lines config (W.sheet wr)) → IfOk result (λ w. AddsReading config (root_phrase root) (W.sheet wr) (W.sheet w)) }
     // Each position that it records holds the line and column that the text had reached.
     ensures recorded { IfOk result (λ w. RecordsTruly (W.sheet wr) (W.sheet w)) }
 {

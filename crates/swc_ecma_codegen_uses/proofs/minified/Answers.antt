@@ -7,8 +7,8 @@ use Rattle.swc_ecma_codegen_text_writer.specs.Sheet.{Sheet, HoldsNone}
 use Rattle.swc_ecma_codegen_text_writer.specs.Held.{with_held}
 use Rattle.swc_ecma_codegen_text_writer.specs.View.{sheet_of, new_sheet}
 use Rattle.swc_ecma_codegen_base.specs.Run.{start}
-use Rattle.swc_ecma_codegen_base.specs.Written.{IsNew, AddsReading, ReadsAs, all_indent, is_indent, holds_one}
-use Rattle.swc_ecma_codegen.specs.Roots.{root_phrase}
+use Rattle.swc_ecma_codegen_base.specs.Written.{AddsReading, ReadsAs, all_indent, is_indent, holds_one}
+use Rattle.swc_ecma_codegen.specs.Roots.{root_phrase, MayBegin}
 use Rattle.swc_ecma_codegen_uses.proofs.minified.Goals as goal
 
 -- the sheet that holds no semicolon yet is one of a new emitter, and the vector has what was added to it
@@ -22,7 +22,8 @@ returns g c = λ root same well.
     let end : Sheet = with_held c.in_ok-printed.printed.pending (sheet_of c.in_ok-printed.printed.inner) in
     let begun : held ≡ blank =
     c.omit_trailing_semi.ensures ∙ ap (λ (s : Sheet). record s { semicolons = HoldsNone }) (c.new-writer.ensures.sheet refl ∙ ap (λ t. new_sheet t (10 ∷ [])) c.new.ensures.items) in
-    let fresh : IsNew (start no_lines config held) = subst (λ s. IsNew (start no_lines config s)) (sym begun) (record { nothing_written = refl; nothing_held = refl; indent_text = refl; line_end = inl refl; leaves_out = refl }) in
+    let fresh : MayBegin root (start no_lines config held) =
+    subst (λ s. MayBegin root (start no_lines config s)) (sym begun) (record { is_new = record { nothing_written = refl; nothing_held = refl; indent_text = refl; line_end = inl refl; leaves_out = refl }; at_margin = λ hashbang line. refl }) in
     let added : AddsReading config phrase blank end = subst (λ s. AddsReading config phrase s end) begun (c.in_ok-printed.ensures.reads root same well fresh) in
     let all : c.into_inner.result.items ≡ end.text = ap told (c.into_inner.ensures.text refl) ∙ ap (λ (s : Sheet). s.text) c.into_inner-plain.ensures.sheet in
     let reading = subst (λ t. ReadsAs config true phrase t) (sym (all ∙ added.is_added)) added.reading in

@@ -1,8 +1,8 @@
 use Rattle.std.proofs.Common.{ap, subst, sym}
 use Rattle.swc_ecma_codegen_base.specs.Run.{State}
-use Rattle.swc_ecma_codegen_base.specs.Written.{IsNew, AddsReading}
+use Rattle.swc_ecma_codegen_base.specs.Written.{AddsReading}
 use Rattle.swc_ecma_codegen_text_writer.specs.Recorded.{RecordsTruly}
-use Rattle.swc_ecma_codegen.specs.Roots.{root_phrase}
+use Rattle.swc_ecma_codegen.specs.Roots.{root_phrase, MayBegin}
 use Rattle.swc_ecma_codegen_uses.proofs.printed_on.Goals as goal
 
 -- a new emitter stands at the start, over the sheet that was handed in and under these settings
@@ -10,7 +10,7 @@ pub returns-clause-reads : goal.returns-clause-reads
 returns-clause-reads g c = λ root same well fresh.
     let begun = c.new-emitter.ensures.state in
     let end = g.W.WriteJs.sheet c.emit_with.new.e.wr in
-    let reads = c.in_ok-emit_with.ensures.reads root same well (subst IsNew (sym begun) fresh) in
+    let reads = c.in_ok-emit_with.ensures.reads root same well (subst (MayBegin root) (sym begun) fresh) in
     let over = subst (λ s. AddsReading c.new-emitter.result.cfg (root_phrase root) s end) (ap (λ (s : State). s.sheet) begun) reads in
     subst (λ config. AddsReading config (root_phrase root) (g.W.WriteJs.sheet c.args.wr) end) (ap (λ (s : State). s.env.config) begun) over
 

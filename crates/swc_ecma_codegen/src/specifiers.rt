@@ -1,0 +1,127 @@
+//! Specifiers of imports and exports: some stand among braces, others before them.
+
+ghost use Rattle.std.specs.Prelude.{◌≡◌, Bool, false, [], map, filter, OnOk};
+ghost use Rattle.swc_ecma_codegen_ast.specs.ListFormats.{indented};
+ghost use Rattle.swc_ecma_codegen_base.specs.Run.{Emits};
+ghost use Rattle.swc_ecma_codegen_base.specs.Lists.{list};
+ghost use Rattle.swc_ecma_codegen.specs.Lists.{child_of, some_is, braced_child, braced_rest};
+ghost use Rattle.swc_ecma_codegen.specs.View.{state_of};
+
+use crate::emitter::Emitter;
+use crate::nodes::Child;
+use swc_ecma_codegen_ast::ListFormat;
+use swc_ecma_codegen_ast::comments::Comments;
+use swc_ecma_codegen_ast::mapper::SourceMapper;
+use swc_ecma_codegen_common::{Answer, Span};
+use swc_ecma_codegen_text_writer::WriteJs;
+
+/// What is imported or exported.
+pub trait Specifier: Child {
+    ghost braced: { Self → Bool };
+
+    ghost stars: { Self → Bool };
+
+    /// Whether it stands among the braces.
+    fn is_braced(&self) -> bool
+        ensures { result ≡ braced self.now };
+
+    /// Whether it is one of a namespace.
+    fn is_star(&self) -> bool
+        ensures { result ≡ stars self.now };
+}
+
+/// Whether some specifier stands among the braces.
+#[tactic(auto, unfolding(crate::specs::Lists::some_is))]
+pub(crate) fn has_braced<T: Specifier>(specifiers: &[T]) -> bool
+    ensures { result ≡ some_is T.braced specifiers.now }
+{
+    for specifier in specifiers {
+        if specifier.is_braced() {
+            return true;
+        }
+    }
+    false
+}
+
+/// Whether some specifier is one of a namespace.
+#[tactic(auto, unfolding(crate::specs::Lists::some_is))]
+pub(crate) fn has_star<T: Specifier>(specifiers: &[T]) -> bool
+    ensures { result ≡ some_is T.stars specifiers.now }
+{
+    for specifier in specifiers {
+        if specifier.is_star() {
+            return true;
+        }
+    }
+    false
+}
+
+impl<W: WriteJs, S: SourceMapper, C: Comments> Emitter<'_, W, S, C> {
+    /// Writes one among the braces, after one that stands at `previous` where there is one.
+    #[tactic(auto, using(crate::proofs::Steps::no_levels), unfolding(crate::specs::Lists::braced_child))]
+    fn braced_child<T: Child>(
+        &mut self,
+        format: ListFormat,
+        parent: Span,
+        previous: Option<Span>,
+        child: &T,
+    ) -> Answer
+        requires { indented format.0 ≡ false }
+        ensures items { Emits (braced_child format.0 parent previous (child_of T.stands T.items child.now)) (state_of S.lines W.sheet self.old) (state_of S.lines W.sheet self.new) result }
+        ensures level { OnOk result ((W.sheet self.new.wr).indentation ≡ (W.sheet self.old.wr).indentation) }
+    {
+        match previous {
+            None => {
+                self.first_child(format, parent, child)?;
+                Ok(())
+            }
+            Some(previous) => {
+                self.next_child(format, previous, child)?;
+                Ok(())
+            }
+        }
+    }
+
+    /// Writes what closes the list, after one that stands at `previous` where there is one.
+    #[tactic(auto, using(crate::proofs::Steps::no_levels), unfolding(crate::specs::Lists::braced_rest, swc_ecma_codegen_base::specs::Lists::more_children, swc_ecma_codegen_base::specs::Lists::last_place))]
+    fn braced_end(&mut self, format: ListFormat, parent: Span, previous: Option<Span>) -> Answer
+        requires { indented format.0 ≡ false }
+        ensures items { Emits (braced_rest format.0 parent previous []) (state_of S.lines W.sheet self.old) (state_of S.lines W.sheet self.new) result }
+        ensures level { OnOk result ((W.sheet self.new.wr).indentation ≡ (W.sheet self.old.wr).indentation) }
+    {
+        match previous {
+            None => {
+                self.no_list(format, parent)?;
+                Ok(())
+            }
+            Some(last) => {
+                self.list_closing(format, parent, last)?;
+                Ok(())
+            }
+        }
+    }
+
+    /// Writes the specifiers that stand among the braces.
+    #[tactic(auto, using(crate::proofs::Steps::braced_next, crate::proofs::Steps::braced_passed), unfolding(crate::specs::Lists::braced_rest))]
+    pub(crate) fn braced_list<T: Specifier>(
+        &mut self,
+        format: ListFormat,
+        parent: Span,
+        specifiers: &[T],
+    ) -> Answer
+        requires { indented format.0 ≡ false }
+        ensures items { Emits (list format.0 parent (map (child_of T.stands T.items) (filter T.braced specifiers.now))) (state_of S.lines W.sheet self.old) (state_of S.lines W.sheet self.new) result }
+        ensures level { OnOk result ((W.sheet self.new.wr).indentation ≡ (W.sheet self.old.wr).indentation) }
+    {
+        let mut previous = None;
+        for specifier in specifiers {
+            if !specifier.is_braced() {
+                continue;
+            }
+            self.braced_child(format, parent, previous, specifier)?;
+            previous = Some(specifier.place());
+        }
+        self.braced_end(format, parent, previous)?;
+        Ok(())
+    }
+}
