@@ -1,8 +1,6 @@
 -- What is written of classes is what they read as.
 use Rattle.std.proofs.Common.{Bool, true, false, cond, ◌||◌, is_some, List, map, codes, Option, Some, None, refl}
-use Rattle.swc_ecma_codegen_tree.specs.declared.expr_links.ExprBox.{ExprBox}
-use Rattle.swc_ecma_codegen_tree.specs.declared.stmt_links.BlockStmtBox.{BlockStmtBox}
-use Rattle.swc_ecma_codegen_tree.specs.declared.stmt_links.ClassMemberBox.{ClassMemberBox}
+use Rattle.swc_ecma_codegen_tree.specs.Links.{BlockStmtBox, ClassMemberBox, ExprBox}
 use Rattle.swc_ecma_codegen_tree.specs.declared.classes.Class as class_nodes
 use Rattle.swc_ecma_codegen_tree.specs.declared.classes.ClassMember as class_members
 use Rattle.swc_ecma_codegen_tree.specs.declared.classes.ClassMember.TheVariants as members

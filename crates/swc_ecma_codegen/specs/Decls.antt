@@ -10,7 +10,7 @@ use Rattle.swc_ecma_codegen_tree.specs.declared.decls.VarDecl.{VarDecl}
 use Rattle.swc_ecma_codegen_tree.specs.declared.decls.VarDeclKind.{VarDeclKind}
 use Rattle.swc_ecma_codegen_tree.specs.declared.decls.VarDeclKind.TheVariants.{Var, Let, Const}
 use Rattle.swc_ecma_codegen_tree.specs.declared.decls.VarDeclarator.{VarDeclarator}
-use Rattle.swc_ecma_codegen_tree.specs.declared.stmt_links.VarDeclBox.{VarDeclBox}
+use Rattle.swc_ecma_codegen_tree.specs.Links.{VarDeclBox}
 use Rattle.swc_ecma_codegen_base.specs.Run.{Part}
 use Rattle.swc_ecma_codegen_base.specs.Lists.{list}
 use Rattle.swc_ecma_codegen_base.specs.Words.{keyword, semi, space, commit_pending_semi, start_of, end_of, leading_comments}

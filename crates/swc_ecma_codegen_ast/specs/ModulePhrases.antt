@@ -1,7 +1,7 @@
 -- Imports and exports: one production a node. `f` says what is read of what a link holds, in its role. What TypeScript adds isn't printed
 -- yet. ECMA-262, section 16.2.
 use Rattle.std.specs.Prelude.{if◌then◌else◌, List, [], ◌∷◌, map, codes, Option, Some, None}
-use Rattle.swc_ecma_codegen_tree.specs.declared.expr_links.ObjectLitBox.{ObjectLitBox}
+use Rattle.swc_ecma_codegen_tree.specs.Links.{ObjectLitBox}
 use Rattle.swc_ecma_codegen_tree.specs.declared.decls.Decl.{Decl}
 use Rattle.swc_ecma_codegen_tree.specs.declared.decls.Decl.TheVariants as decls
 use Rattle.swc_ecma_codegen_tree.specs.declared.lits.Str.{Str}

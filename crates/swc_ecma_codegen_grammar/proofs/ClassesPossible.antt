@@ -10,7 +10,7 @@ use Rattle.swc_ecma_codegen_tree.specs.declared.classes.MethodKind.{MethodKind}
 use Rattle.swc_ecma_codegen_tree.specs.declared.classes.PrivateMethod.{PrivateMethod}
 use Rattle.swc_ecma_codegen_tree.specs.declared.classes.PrivateProp.{PrivateProp}
 use Rattle.swc_ecma_codegen_tree.specs.declared.decls.ClassDecl.{ClassDecl}
-use Rattle.swc_ecma_codegen_tree.specs.declared.stmt_links.FunctionBox.{FunctionBox}
+use Rattle.swc_ecma_codegen_tree.specs.Links.{FunctionBox}
 use Rattle.swc_ecma_codegen_tree.specs.declared.decls.Decorator.{Decorator}
 use Rattle.swc_ecma_codegen_tree.specs.declared.decls.Function as functions
 use Rattle.swc_ecma_codegen_ast.specs.Phrases.{Phrase, Never, ◌>◌, mark, word, listed, in_order, is_possible}
