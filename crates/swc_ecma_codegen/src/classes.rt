@@ -18,9 +18,9 @@ use swc_ecma_codegen_common::{Answer, Span};
 use swc_ecma_codegen_literals::Punctuator;
 use swc_ecma_codegen_text_writer::WriteJs;
 use swc_ecma_codegen_tree::{
-    AutoAccessor, BlockStmtBox, Class, ClassDecl, ClassExpr, ClassMember,
-    ClassMethod, ClassProp, Constructor, EmptyStmt, ExprBox, Key, MethodKind, ParamOrTsParamProp,
-    PrivateMethod, PrivateProp, StaticBlock,
+    AutoAccessor, BlockStmtBox, Class, ClassDecl, ClassExpr, ClassMember, ClassMethod, ClassProp,
+    Constructor, EmptyStmt, ExprBox, Key, MethodKind, ParamOrTsParamProp, PrivateMethod,
+    PrivateProp, StaticBlock,
 };
 
 /// The format of members.
