@@ -16,9 +16,6 @@ ghost use Rattle.swc_ecma_codegen_base.specs.Written.{AddsReading, ReadsAs};
 ghost use Rattle.swc_ecma_codegen.specs.Roots.{Root, root_items, root_phrase, is_well_formed_root, MayBegin};
 ghost use Rattle.swc_ecma_codegen.specs.Texts.{blank_sheet};
 
-#[cfg(test)]
-mod tests;
-
 use std::alloc::{AllocError, Global};
 use std::io::Write;
 use swc_ecma_codegen::{Config, Emitter, Node, is_well_formed, to_code};

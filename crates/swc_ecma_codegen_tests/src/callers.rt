@@ -1,15 +1,12 @@
-//! Each caller once.
+//! Each caller of `swc_ecma_codegen_uses` once.
 
-use crate::{
+use crate::trees::MEMBER;
+use std::test::Fail;
+use swc_ecma_codegen_json::program_from_slice;
+use swc_ecma_codegen_uses::{
     append_checked, checked_text, minified, minified_json, negation_text, print_into,
     print_with_positions,
 };
-use std::test::Fail;
-use swc_ecma_codegen_json::program_from_slice;
-
-/// `a.b`
-const MEMBER: &str =
-    r#"{"Script":{"span":{"lo":1,"hi":4},"body":[{"Expr":{"span":{"lo":1,"hi":4},"expr":{"Member":{"span":{"lo":1,"hi":4},"obj":{"Ident":{"span":{"lo":1,"hi":2},"sym":"a","optional":false}},"prop":{"Ident":{"span":{"lo":3,"hi":4},"sym":"b"}}}}}}],"shebang":null}}"#;
 
 #[test]
 fn callers_give_the_texts_of_swc(rt: HostRuntime) -> Result<(), Fail> {
