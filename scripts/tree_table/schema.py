@@ -53,11 +53,8 @@ def all_types():
 
 def sorts():
     """What links link to: `Expr` for `ExprBox`."""
-    found = []
-    for file in sorted(glob.glob(f"{CRATES}tree/src/*_links.rt")):
-        with open(file, encoding="utf-8") as source:
-            found += re.findall(r"pub struct (\w+)Box<", source.read())
-    return found
+    with open(f"{CRATES}tree/src/sorts.rt", encoding="utf-8") as source:
+        return re.findall(r"pub type (\w+)Box<", source.read())
 
 
 def implementors(crate, trait):

@@ -1,8 +1,6 @@
 -- What is written of classes is what they read as.
 use Rattle.std.proofs.Common.{Bool, true, false, cond, ◌||◌, is_some, List, map, codes, Option, Some, None, refl}
-use Rattle.swc_ecma_codegen_tree.specs.declared.expr_links.ExprBox.{ExprBox}
-use Rattle.swc_ecma_codegen_tree.specs.declared.stmt_links.BlockStmtBox.{BlockStmtBox}
-use Rattle.swc_ecma_codegen_tree.specs.declared.stmt_links.ClassMemberBox.{ClassMemberBox}
+use Rattle.swc_ecma_codegen_tree.specs.Links.{BlockStmtBox, ClassMemberBox, ExprBox}
 use Rattle.swc_ecma_codegen_tree.specs.declared.classes.Class as class_nodes
 use Rattle.swc_ecma_codegen_tree.specs.declared.classes.ClassMember as class_members
 use Rattle.swc_ecma_codegen_tree.specs.declared.classes.ClassMember.TheVariants as members
@@ -20,18 +18,16 @@ use Rattle.swc_ecma_codegen_tree.specs.declared.classes.Key.{Key}
 use Rattle.swc_ecma_codegen_tree.specs.declared.classes.Key.TheVariants as keys
 use Rattle.swc_ecma_codegen_tree.specs.declared.classes.StaticBlock.{StaticBlock}
 use Rattle.swc_ecma_codegen_tree.specs.declared.decls.ClassDecl.{ClassDecl}
-use Rattle.swc_ecma_codegen_tree.specs.declared.exprs.ClassExpr.{ClassExpr}
 use Rattle.swc_ecma_codegen_tree.specs.declared.stmts.EmptyStmt.{EmptyStmt}
 use Rattle.swc_ecma_codegen_ast.specs.ClassPhrases as lists
 use Rattle.swc_ecma_codegen_ast.specs.ClassPhrases.{is_typed_class, is_typed_prop, is_typed_private, is_typed_accessor}
 use Rattle.swc_ecma_codegen_ast.specs.FunctionPhrases.{word_if}
 use Rattle.swc_ecma_codegen_ast.specs.FunctionPhrases as function_lists
-use Rattle.swc_ecma_codegen_ast.specs.PatPhrases as pats
 use Rattle.swc_ecma_codegen_ast.specs.Phrases as phrases
-use Rattle.swc_ecma_codegen_ast.specs.Phrases.{Phrase, OptionalParentheses, ◌>◌, mark, word}
+use Rattle.swc_ecma_codegen_ast.specs.Phrases.{◌>◌, mark, word}
 use Rattle.swc_ecma_codegen_ast.specs.declared.roles.Role.TheVariants.{ClassHead as HeadOfClass, ClassTail, Member, MethodHead as HeadOfMethod, MethodDecorators as DecoratorsOfMethod, MethodTail as TailOfMethod, PrivateTail as TailOfPrivate}
 use Rattle.swc_ecma_codegen_base.specs.Choices.{optional_parentheses}
-use Rattle.swc_ecma_codegen_base.specs.Run.{Env, Part}
+use Rattle.swc_ecma_codegen_base.specs.Run.{Env}
 use Rattle.swc_ecma_codegen_base.specs.Words.{keyword, punct, last_of}
 use Rattle.swc_ecma_codegen_base.proofs.ListLaws.{IsUndelimited, prints_list, prints_in_order, prints_bracketed_in_order}
 use Rattle.swc_ecma_codegen_base.proofs.Choices.{prints_optional_parentheses}
@@ -40,11 +36,10 @@ use Rattle.swc_ecma_codegen_base.proofs.Printed.{makes_wider, writes_nothing, wr
 use Rattle.swc_ecma_codegen_base.proofs.Shapes.{open_, ended_if_any, closed, loose, joining_if_any}
 use Rattle.swc_ecma_codegen.specs.declared.nodes.Place.{Place}
 use Rattle.swc_ecma_codegen.specs.declared.nodes.Place.TheVariants.{Plain, MethodHead, StaticHead}
-use Rattle.swc_ecma_codegen.specs.ClassExprs as expr_words
 use Rattle.swc_ecma_codegen.specs.Classes as words
 use Rattle.swc_ecma_codegen.specs.Functions.{comma_list_format, decorators_format, decorator, decorator_lines, decorator_place}
 use Rattle.swc_ecma_codegen.proofs.ExprParts.{ident_prints, private_name_prints, writes_blank}
-use Rattle.swc_ecma_codegen.proofs.FunctionParts.{body_prints, decorator_prints, decorators_print, name_prints, param_prints, undelimited}
+use Rattle.swc_ecma_codegen.proofs.FunctionParts.{decorator_prints, decorators_print, param_prints, undelimited}
 use Rattle.swc_ecma_codegen.proofs.Impossible.{refused_or}
 use Rattle.swc_ecma_codegen.proofs.Linked.{Linked, expr_at, prop_name_at, block_at}
 use Rattle.swc_ecma_codegen.proofs.MarkWords as marks

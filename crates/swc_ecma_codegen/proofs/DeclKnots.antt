@@ -14,7 +14,7 @@ use Rattle.swc_ecma_codegen_base.specs.Run.{Plan, Part, refuse}
 use Rattle.swc_ecma_codegen_base.specs.Words.{keyword, semi, space, commit_pending_semi, start_of, leading_comments}
 use Rattle.swc_ecma_codegen.specs.declared.nodes.Place.{Place}
 use Rattle.swc_ecma_codegen.specs.Answers.{Answers}
-use Rattle.swc_ecma_codegen.specs.Decls.{declarators_format, fn_decl_parts, fn_decl, var_declarator_parts, var_declarator, declarator_place, var_kind, is_unmarked, first_is_unmarked, var_decl_parts, var_decl, await_word, using_decl, by_export, without_head, exported_class_parts, exported_class, variables, resources, decl}
+use Rattle.swc_ecma_codegen.specs.Decls.{declarators_format, fn_decl_parts, fn_decl, var_declarator_parts, var_declarator, declarator_place, var_kind, is_unmarked, first_is_unmarked, var_decl_parts, var_decl, await_word, using_decl, without_head, exported_class_parts, exported_class, variables, resources, decl}
 use Rattle.swc_ecma_codegen.specs.Classes.{class_decl, class_decl_parts}
 use Rattle.swc_ecma_codegen.specs.Exprs.{blank}
 use Rattle.swc_ecma_codegen.specs.Lists.{child_of, unsupported}

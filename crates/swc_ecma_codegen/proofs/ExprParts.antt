@@ -20,7 +20,7 @@ use Rattle.swc_ecma_codegen_tree.specs.declared.exprs.UpdateExpr.{UpdateExpr}
 use Rattle.swc_ecma_codegen_tree.specs.declared.exprs.BinExpr.{BinExpr}
 use Rattle.swc_ecma_codegen_tree.specs.declared.exprs.MemberExpr.{MemberExpr}
 use Rattle.swc_ecma_codegen_tree.specs.declared.exprs.ComputedPropName.{ComputedPropName}
-use Rattle.swc_ecma_codegen_tree.specs.declared.expr_links.ExprBox.{ExprBox}
+use Rattle.swc_ecma_codegen_tree.specs.Links.{ExprBox}
 use Rattle.swc_ecma_codegen_tree.specs.declared.exprs.AssignExpr.{AssignExpr}
 use Rattle.swc_ecma_codegen_tree.specs.declared.exprs.SuperPropExpr.{SuperPropExpr}
 use Rattle.swc_ecma_codegen_tree.specs.declared.exprs.SuperProp.{SuperProp}
@@ -50,7 +50,7 @@ use Rattle.swc_ecma_codegen_ast.specs.Chars.{is_start, is_part, is_letter, is_di
 use Rattle.swc_ecma_codegen_ast.specs.Names.{is_word, all_part}
 use Rattle.swc_ecma_codegen_ast.specs.Punctuators.{is_punctuator, punctuators}
 use Rattle.swc_ecma_codegen_ast.specs.Texts.{is_same, is_among}
-use Rattle.swc_ecma_codegen_ast.specs.Phrases.{Phrase, Nothing, One, ◌>◌, mark, word}
+use Rattle.swc_ecma_codegen_ast.specs.Phrases.{Phrase, One, ◌>◌, mark, word}
 use Rattle.swc_ecma_codegen_ast.specs.NamePhrases as names
 use Rattle.swc_ecma_codegen_ast.specs.ExprPhrases as lists
 use Rattle.swc_ecma_codegen_ast.specs.CallPhrases.{callee_at}
@@ -60,7 +60,7 @@ use Rattle.swc_ecma_codegen_ast.specs.declared.roles.Role.{Role}
 use Rattle.swc_ecma_codegen_base.specs.Run.{Env, Part}
 use Rattle.swc_ecma_codegen_base.specs.Words.{operator, space, formatting_space, position, leading_comments, trailing_comments, keyword}
 use Rattle.swc_ecma_codegen_base.proofs.PrivatePrints.{prints_private}
-use Rattle.swc_ecma_codegen_base.proofs.Printed.{Writes, writes_then, writes_if, writes_nothing, writes_space, writes_formatting_space, writes_commit, writes_position, writes_position_before, writes_leading, writes_trailing, Fills}
+use Rattle.swc_ecma_codegen_base.proofs.Printed.{writes_then, writes_if, writes_nothing, writes_space, writes_formatting_space, writes_commit, writes_position, writes_position_before, writes_leading, writes_trailing, Fills}
 use Rattle.swc_ecma_codegen_base.specs.Written.{IsWord, IsMark}
 use Rattle.swc_ecma_codegen_base.proofs.Choices.{prints_bare}
 use Rattle.swc_ecma_codegen_base.proofs.EachLit.{prints_lit}

@@ -1,9 +1,8 @@
 -- What is written of functions and blocks is what it reads as.
-use Rattle.std.proofs.Common.{◌≡◌, ℕ, ◌+◌, ◌≤◌, arith, refl, sym, subst, Bool, true, false, cond, ◌||◌, ◌&&◌, is_some, List, [], ◌∷◌, length, map, codes, string_bytes, Option, Some, None, inl, inr}
+use Rattle.std.proofs.Common.{◌≡◌, ℕ, ◌+◌, arith, refl, sym, subst, Bool, true, false, cond, ◌||◌, ◌&&◌, is_some, List, [], ◌∷◌, map, codes, string_bytes, Option, Some, None, inl, inr}
 use Rattle.std.proofs.lemmas.Bool.{cases_Bool}
 use Rattle.swc_ecma_codegen_common.specs.declared.positions.Span.{Span}
-use Rattle.swc_ecma_codegen_tree.specs.declared.expr_links.PatBox.{PatBox}
-use Rattle.swc_ecma_codegen_tree.specs.declared.stmt_links.BlockStmtBox.{BlockStmtBox}
+use Rattle.swc_ecma_codegen_tree.specs.Links.{BlockStmtBox, PatBox}
 use Rattle.swc_ecma_codegen_tree.specs.declared.decls.Decorator.{Decorator}
 use Rattle.swc_ecma_codegen_tree.specs.declared.decls.Param.{Param}
 use Rattle.swc_ecma_codegen_tree.specs.declared.decls.Function as functions
@@ -43,7 +42,7 @@ use Rattle.swc_ecma_codegen.proofs.Impossible.{refused_or, prints_impossible, ne
 use Rattle.swc_ecma_codegen.proofs.Linked.{Linked, expr_at, pat_at, block_at}
 use Rattle.swc_ecma_codegen.proofs.ListParts.{in_order_prints}
 use Rattle.swc_ecma_codegen.proofs.MarkWords as marks
-use Rattle.swc_ecma_codegen_base.proofs.Shapes.{open_, loose, ended, ended_if_any, closed, joined, at_joint, joining_if_any}
+use Rattle.swc_ecma_codegen_base.proofs.Shapes.{open_, loose, ended, ended_if_any, closed, joined, joining_if_any}
 use Rattle.swc_ecma_codegen_text_writer.specs.Sheet.{is_ending}
 
 -- ---- parameters

@@ -1,8 +1,7 @@
 -- What is written of loops and `switch` is what it reads as.
 use Rattle.std.proofs.Common.{ℕ, Bool, true, false, List, map, codes, refl, Option, Some, None}
 use Rattle.swc_ecma_codegen_common.specs.declared.positions.Span.{Span}
-use Rattle.swc_ecma_codegen_tree.specs.declared.expr_links.ExprBox.{ExprBox}
-use Rattle.swc_ecma_codegen_tree.specs.declared.stmt_links.StmtBox.{StmtBox}
+use Rattle.swc_ecma_codegen_tree.specs.Links.{ExprBox, StmtBox}
 use Rattle.swc_ecma_codegen_tree.specs.declared.stmts.DoWhileStmt.{DoWhileStmt}
 use Rattle.swc_ecma_codegen_tree.specs.declared.stmts.ForHead.{ForHead}
 use Rattle.swc_ecma_codegen_tree.specs.declared.stmts.ForHead.TheVariants as heads

@@ -1,9 +1,9 @@
 -- What is written of imports and exports is what they read as.
 use Rattle.std.proofs.Common.{◌≡◌, nat_lt, Bool, true, false, not, ◌&&◌, cond, List, [], ◌∷◌, length, map, codes, Option, Some, None, refl, sym, ap, subst, ◌∙◌}
-use Rattle.std.specs.List.{filter}
+use Rattle.std.specs.List.{filter, list_any}
 use Rattle.std.proofs.lemmas.Bool.{and_parts, true≢false}
 use Rattle.swc_ecma_codegen_common.specs.declared.positions.Span.{Span}
-use Rattle.swc_ecma_codegen_tree.specs.declared.expr_links.ObjectLitBox.{ObjectLitBox}
+use Rattle.swc_ecma_codegen_tree.specs.Links.{ObjectLitBox}
 use Rattle.swc_ecma_codegen_tree.specs.declared.lits.Str.{Str}
 use Rattle.swc_ecma_codegen_tree.specs.declared.modules.DefaultDecl.{DefaultDecl}
 use Rattle.swc_ecma_codegen_tree.specs.declared.modules.DefaultDecl.TheVariants as default_decls
@@ -45,12 +45,12 @@ use Rattle.swc_ecma_codegen_base.proofs.ListLaws.{children_of, writes_no_list, p
 use Rattle.swc_ecma_codegen_base.proofs.Choices.{prints_attributes_word}
 use Rattle.swc_ecma_codegen_base.proofs.Shapes.{Shape, open_, closed, ended}
 use Rattle.swc_ecma_codegen_base.proofs.Phrased.{Prints, PrintsAt, prints_wider, loosened, then, after, before, prints_nothing, prints_never, prints_same, prints_keyword, prints_punct, prints_semi}
-use Rattle.swc_ecma_codegen_base.proofs.Printed.{Writes, writes_then, writes_nothing, writes_space, writes_formatting_space, writes_formatting_line, writes_position, writes_leading, writes_trailing}
+use Rattle.swc_ecma_codegen_base.proofs.Printed.{writes_space, writes_formatting_space, writes_formatting_line, writes_position, writes_leading, writes_trailing}
 use Rattle.swc_ecma_codegen_base.proofs.StringPrints.{prints_str}
 use Rattle.swc_ecma_codegen.specs.declared.nodes.Place.TheVariants.{Plain}
 use Rattle.swc_ecma_codegen.specs.Answers.{place_of}
 use Rattle.swc_ecma_codegen.specs.Exprs.{ident as words_ident}
-use Rattle.swc_ecma_codegen.specs.Lists.{comma, some_is, unsupported}
+use Rattle.swc_ecma_codegen.specs.Lists.{comma, unsupported}
 use Rattle.swc_ecma_codegen.specs.Modules as words
 use Rattle.swc_ecma_codegen.specs.Templates.{bad_shape}
 use Rattle.swc_ecma_codegen.proofs.ExprParts.{ident_prints, writes_blank}
@@ -115,14 +115,14 @@ none_before first [] rest h = refl
 none_before first (imported.Named n ∷ ns) rest h = none_before (first && not (words.is_default (imported.Named n))) ns rest h
 none_before first (n ∷ ns) rest h = absurd (true≢false (sym h))
 
-none_default : (ns : List ImportSpecifier) → all_named ns ≡ true → some_is words.is_default ns ≡ false
-unfolding some_is words.is_default
+none_default : (ns : List ImportSpecifier) → all_named ns ≡ true → list_any words.is_default ns ≡ false
+unfolding words.is_default
 none_default [] h = refl
 none_default (imported.Named n ∷ ns) h = none_default ns h
 none_default (n ∷ ns) h = absurd (true≢false (sym h))
 
-none_star : (ns : List ImportSpecifier) → all_named ns ≡ true → some_is words.is_star ns ≡ false
-unfolding some_is words.is_star
+none_star : (ns : List ImportSpecifier) → all_named ns ≡ true → list_any words.is_star ns ≡ false
+unfolding words.is_star
 none_star [] h = refl
 none_star (imported.Named n ∷ ns) h = none_star ns h
 none_star (n ∷ ns) h = absurd (true≢false (sym h))
@@ -180,7 +180,7 @@ imports_ordered (imported.Default d ∷ imported.Named n ∷ ns) w =
     default_named d n ns (named_braced n ns (and_parts (is_possible (lists.import_bindings (imported.Named n ∷ ns))) true (and_parts (is_possible (ident d.local)) _ w).1).0)
 
 ordered_not_crowded : {ns : List ImportSpecifier} → Ordered ns → words.is_crowded ns ≡ false
-unfolding words.is_crowded words.is_star some_is
+unfolding words.is_crowded words.is_star
 ordered_not_crowded bare = refl
 ordered_not_crowded (star n) = refl
 ordered_not_crowded (named n ns h) = ap (λ b. b && nat_lt 2 (length (imported.Named n ∷ ns))) (none_star ns h)
@@ -193,17 +193,17 @@ abbrev braces_then : Span → List ImportSpecifier → Part
 braces_then parent ns rest = punct (codes "{") (words.import_list parent ns (punct (codes "}") (formatting_space rest)))
 
 named_clause : (parent : Span) (n : ImportNamedSpecifier) (ns : List ImportSpecifier) (rest : Plan) → all_named ns ≡ true → words.import_clause parent (imported.Named n ∷ ns) rest ≡ braces_then parent (imported.Named n ∷ ns) (words.from_word rest)
-unfolding words.import_clause words.some_imports words.before_brace words.before_braces words.import_braces words.some_named words.is_named words.is_default some_is comma
+unfolding words.import_clause words.some_imports words.before_brace words.before_braces words.import_braces words.some_named words.is_named words.is_default comma
 named_clause parent n ns rest h =
     let braced : Plan = braces_then parent (imported.Named n ∷ ns) (words.from_word rest) in
-    none_before true ns (comma (not (some_is words.is_default ns)) braced) h ∙ ap (λ b. comma (not b) braced) (none_default ns h)
+    none_before true ns (comma (not (list_any words.is_default ns)) braced) h ∙ ap (λ b. comma (not b) braced) (none_default ns h)
 
 default_clause : (parent : Span) (d : ImportDefaultSpecifier) (n : ImportNamedSpecifier) (ns : List ImportSpecifier) (rest : Plan) → all_named ns ≡ true → words.import_clause parent (imported.Default d ∷ imported.Named n ∷ ns) rest ≡ words_ident d.local (punct (codes ",") (formatting_space (braces_then parent (imported.Named n ∷ ns) (words.from_word rest))))
-unfolding words.import_clause words.some_imports words.before_brace words.before_braces words.import_braces words.some_named words.is_named words.is_default some_is comma
+unfolding words.import_clause words.some_imports words.before_brace words.before_braces words.import_braces words.some_named words.is_named words.is_default comma
 default_clause parent d n ns rest h = ap (λ z. words_ident d.local z) (none_before false ns (punct (codes ",") (formatting_space (braces_then parent (imported.Named n ∷ ns) (words.from_word rest)))) h)
 
 ordered_prints : {X : Type 0} (l : Linked X) (parent : Span) {ns : List ImportSpecifier} → Ordered ns → PrintsAt open_ l.env (words.import_clause parent ns) (lists.import_clause ns)
-unfolding words.import_clause words.some_imports words.before_brace words.before_braces words.import_braces words.is_named words.is_default some_is comma lists.import_clause lists.import_bindings lists.after_default
+unfolding words.import_clause words.some_imports words.before_brace words.before_braces words.import_braces words.is_named words.is_default comma lists.import_clause lists.import_bindings lists.after_default
 ordered_prints l parent bare = prints_nothing
 ordered_prints l parent (star n) = prints_wider open_ refl (then (star_prints l.env (before (ident_prints l n.local) (writes_space l.env))) (from_prints l.env))
 ordered_prints l parent (named n ns h) =
@@ -293,8 +293,8 @@ exported_kept [] h = refl
 exported_kept (exported.Named n ∷ ns) h = ap (λ xs. exported.Named n ∷ xs) (exported_kept ns h)
 exported_kept (n ∷ ns) h = absurd (true≢false (sym h))
 
-none_namespace : (ns : List ExportSpecifier) → all_exported ns ≡ true → some_is words.is_namespace ns ≡ false
-unfolding some_is words.is_namespace
+none_namespace : (ns : List ExportSpecifier) → all_exported ns ≡ true → list_any words.is_namespace ns ≡ false
+unfolding words.is_namespace
 none_namespace [] h = refl
 none_namespace (exported.Named n ∷ ns) h = none_namespace ns h
 none_namespace (n ∷ ns) h = absurd (true≢false (sym h))
@@ -329,19 +329,19 @@ unfolding words.export_namespace lists.export_namespace
 namespace_prints l n = after (writes_leading l.env n.span.lo) (after (writes_position l.env n.span.lo) (star_prints l.env (before (name_prints l n.name) (writes_position l.env n.span.hi))))
 
 star_then_braces : {X : Type 0} (l : Linked X) (parent : Span) (n : ExportNamespaceSpecifier) (m : ExportNamedSpecifier) (ns : List ExportSpecifier) → all_exported ns ≡ true → Prints l.env (words.export_clause parent (exported.Namespace n ∷ exported.Named m ∷ ns)) (lists.export_clause (exported.Namespace n ∷ exported.Named m ∷ ns))
-unfolding words.export_clause words.star_exports words.star_export words.more_exports words.export_braces words.is_namespace words.is_braced some_is lists.export_clause
+unfolding words.export_clause words.star_exports words.star_export words.more_exports words.export_braces words.is_namespace words.is_braced lists.export_clause
 star_then_braces l parent n m ns h =
     then (namespace_prints l n) (then (prints_punct l.env (codes ",") marks.comma) (after (writes_formatting_space l.env) (export_braces_print l parent (exported.Named m ∷ ns) h)))
 
 braces_alone : {X : Type 0} (l : Linked X) (parent : Span) (m : ExportNamedSpecifier) (ns : List ExportSpecifier) → all_exported ns ≡ true → Prints l.env (words.export_clause parent (exported.Named m ∷ ns)) (lists.export_clause (exported.Named m ∷ ns))
-unfolding words.export_clause words.is_namespace some_is lists.export_clause
+unfolding words.export_clause words.is_namespace lists.export_clause
 braces_alone l parent m ns h =
     let ms : List ExportSpecifier = exported.Named m ∷ ns in
     prints_same (words.export_clause parent ms) (words.export_braces parent ms) (λ rest. ap (λ b. cond b (words.star_exports parent ms rest) (words.export_braces parent ms rest) l.env) (none_namespace ns h))
     (export_braces_print l parent ms h)
 
 export_clause_prints : {X : Type 0} (l : Linked X) (parent : Span) (ns : List ExportSpecifier) → Prints l.env (words.export_clause parent ns) (lists.export_clause ns)
-unfolding is_possible phrases.listed words.export_clause words.star_exports words.star_export words.more_exports words.is_namespace words.is_braced some_is lists.export_clause lists.export_braces lists.export_specifier
+unfolding is_possible phrases.listed words.export_clause words.star_exports words.star_export words.more_exports words.is_namespace words.is_braced lists.export_clause lists.export_braces lists.export_specifier
 export_clause_prints l parent [] = export_braces_print l parent [] refl
 export_clause_prints l parent (exported.Namespace n ∷ []) = namespace_prints l n
 export_clause_prints l parent (exported.Namespace n ∷ exported.Named m ∷ ns) = if_possible (λ w. star_then_braces l parent n m ns (exported_braced m ns (and_parts (is_possible (lists.export_namespace n)) _ w).1))

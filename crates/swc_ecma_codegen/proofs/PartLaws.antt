@@ -16,7 +16,7 @@ use Rattle.swc_ecma_codegen.specs.Functions.{function}
 use Rattle.swc_ecma_codegen.proofs.BlockParts.{block_stmt_prints}
 use Rattle.swc_ecma_codegen.proofs.DeclParts.{decl_prints, exported_head_prints, exported_tail_prints, var_decl_prints}
 use Rattle.swc_ecma_codegen.proofs.ClassParts.{class_head_prints, class_tail_prints, class_member_prints}
-use Rattle.swc_ecma_codegen.proofs.FunctionParts.{fn_trailing_prints, head_prints, before_method_prints, method_decorators_print, method_tail_prints, private_tail_prints, method_head_prints}
+use Rattle.swc_ecma_codegen.proofs.FunctionParts.{fn_trailing_prints, head_prints, before_method_prints, method_decorators_print, method_tail_prints, private_tail_prints}
 use Rattle.swc_ecma_codegen.proofs.Linked.{Linked, role_shape}
 use Rattle.swc_ecma_codegen.proofs.ModuleParts.{module_item_prints, module_decl_prints}
 use Rattle.swc_ecma_codegen.proofs.PatParts.{pat_prints, plain_prints}

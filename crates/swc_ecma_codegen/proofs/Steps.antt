@@ -9,7 +9,7 @@ use Rattle.swc_ecma_codegen_base.specs.Run.{Plan, Part}
 use Rattle.swc_ecma_codegen_common.specs.declared.positions.Span.{Span}
 use Rattle.swc_ecma_codegen_base.specs.Lists.{ListChild, more_children, last_place, next_child, list_closing, list_after, list, level_if, list_levels}
 use Rattle.swc_ecma_codegen.specs.declared.nodes.Place.{Place}
-use Rattle.swc_ecma_codegen_tree.specs.declared.expr_links.ExprBox.{ExprBox}
+use Rattle.swc_ecma_codegen_tree.specs.Links.{ExprBox}
 use Rattle.swc_ecma_codegen_tree.specs.declared.exprs.TplElement.{TplElement}
 use Rattle.swc_ecma_codegen_ast.specs.TemplatePhrases.{part_before}
 use Rattle.swc_ecma_codegen_base.specs.Templates.{tpl_element}

@@ -1,6 +1,6 @@
 -- What is written of templates is what they read as.
 use Rattle.std.proofs.Common.{refl, Bool, true, false, cond, is_some, List, [], ◌∷◌}
-use Rattle.swc_ecma_codegen_tree.specs.declared.expr_links.ExprBox.{ExprBox}
+use Rattle.swc_ecma_codegen_tree.specs.Links.{ExprBox}
 use Rattle.swc_ecma_codegen_tree.specs.declared.exprs.Tpl.{Tpl}
 use Rattle.swc_ecma_codegen_tree.specs.declared.exprs.TplElement.{TplElement}
 use Rattle.swc_ecma_codegen_tree.specs.declared.exprs.TaggedTpl.{TaggedTpl}

@@ -1,5 +1,5 @@
 -- What is written of declarations. What TypeScript adds, `declare` and `!` after a name, isn't printed yet.
-use Rattle.std.specs.Prelude.{ℕ, Bool, true, false, if◌then◌else◌, List, [], ◌∷◌, map, codes, Option, Some, None}
+use Rattle.std.specs.Prelude.{ℕ, Bool, true, false, if◌then◌else◌, List, [], ◌∷◌, map, codes, None}
 use Rattle.swc_ecma_codegen_common.specs.declared.positions.Span.{Span}
 use Rattle.swc_ecma_codegen_tree.specs.declared.decls.ClassDecl.{ClassDecl}
 use Rattle.swc_ecma_codegen_tree.specs.declared.decls.Decl.{Decl}
@@ -10,7 +10,7 @@ use Rattle.swc_ecma_codegen_tree.specs.declared.decls.VarDecl.{VarDecl}
 use Rattle.swc_ecma_codegen_tree.specs.declared.decls.VarDeclKind.{VarDeclKind}
 use Rattle.swc_ecma_codegen_tree.specs.declared.decls.VarDeclKind.TheVariants.{Var, Let, Const}
 use Rattle.swc_ecma_codegen_tree.specs.declared.decls.VarDeclarator.{VarDeclarator}
-use Rattle.swc_ecma_codegen_tree.specs.declared.stmt_links.VarDeclBox.{VarDeclBox}
+use Rattle.swc_ecma_codegen_tree.specs.Links.{VarDeclBox}
 use Rattle.swc_ecma_codegen_base.specs.Run.{Part}
 use Rattle.swc_ecma_codegen_base.specs.Lists.{list}
 use Rattle.swc_ecma_codegen_base.specs.Words.{keyword, semi, space, commit_pending_semi, start_of, end_of, leading_comments}

@@ -8,7 +8,7 @@ use Rattle.swc_ecma_codegen_tree.specs.declared.idents.IdentName.{IdentName}
 use Rattle.swc_ecma_codegen_tree.specs.declared.idents.PrivateName.{PrivateName}
 use Rattle.swc_ecma_codegen_common.specs.declared.operators.UnaryOp.{UnaryOp}
 use Rattle.swc_ecma_codegen_common.specs.declared.operators.BinaryOp.{BinaryOp}
-use Rattle.swc_ecma_codegen_tree.specs.declared.expr_links.ExprBox.{ExprBox}
+use Rattle.swc_ecma_codegen_tree.specs.Links.{ExprBox}
 use Rattle.swc_ecma_codegen_tree.specs.declared.exprs.ThisExpr as this_expr
 use Rattle.swc_ecma_codegen_tree.specs.declared.exprs.UnaryExpr.{UnaryExpr}
 use Rattle.swc_ecma_codegen_tree.specs.declared.exprs.UpdateExpr.{UpdateExpr}

@@ -1,5 +1,5 @@
 -- Lists of nodes.
-use Rattle.std.specs.Prelude.{ℕ, Bool, false, ◌||◌, if◌then◌else◌, List, [], ◌∷◌, Option, Some, None, codes}
+use Rattle.std.specs.Prelude.{ℕ, Bool, false, if◌then◌else◌, List, [], ◌∷◌, Option, Some, None, codes}
 use Rattle.swc_ecma_codegen_base.specs.Run.{Part, refuse}
 use Rattle.swc_ecma_codegen_base.specs.declared.refusals.Unprintable.TheVariants as unprintable
 use Rattle.swc_ecma_codegen_common.specs.declared.positions.Span.{Span}
@@ -8,14 +8,9 @@ use Rattle.swc_ecma_codegen.specs.declared.nodes.Place.TheVariants.{Plain}
 use Rattle.swc_ecma_codegen_base.specs.Lists.{ListChild, first_child, next_child, list_after, list}
 use Rattle.swc_ecma_codegen_base.specs.Words.{punct, formatting_space}
 
--- a node that isn't printed yet
+-- a node that has no text here, or none yet
 unfoldable pub unsupported : Part
 unsupported rest = refuse unprintable.UnsupportedNode rest
-
--- some node of a list is such
-unfoldable pub some_is : {A : Type 0} → (A → Bool) → List A → Bool
-some_is test [] = false
-some_is test (n ∷ ns) = test n || some_is test ns
 
 -- a comma and a blank, except before the first
 unfoldable pub comma : Bool → Part

@@ -1,11 +1,11 @@
 -- What is written of imports and exports. What TypeScript adds isn't printed yet. Specifiers that stand in no order of the language are
 -- written as swc writes them.
 use Rattle.std.specs.Prelude.{ℕ, nat_lt, Bool, true, false, not, ◌&&◌, if◌then◌else◌, List, [], ◌∷◌, length, map, filter, codes, Option, Some, None}
+use Rattle.std.specs.List.{list_any}
 use Rattle.swc_ecma_codegen_common.specs.declared.positions.Span.{Span}
 use Rattle.swc_ecma_codegen_tree.specs.declared.decls.Decl.{Decl}
 use Rattle.swc_ecma_codegen_tree.specs.declared.decls.Decl.TheVariants as decls
-use Rattle.swc_ecma_codegen_tree.specs.declared.decls.ClassDecl.{ClassDecl}
-use Rattle.swc_ecma_codegen_tree.specs.declared.expr_links.ObjectLitBox.{ObjectLitBox}
+use Rattle.swc_ecma_codegen_tree.specs.Links.{ObjectLitBox}
 use Rattle.swc_ecma_codegen_tree.specs.declared.lits.Str.{Str}
 use Rattle.swc_ecma_codegen_tree.specs.declared.modules.DefaultDecl.{DefaultDecl}
 use Rattle.swc_ecma_codegen_tree.specs.declared.modules.DefaultDecl.TheVariants as default_decls
@@ -37,12 +37,12 @@ use Rattle.swc_ecma_codegen_base.specs.Lists.{list}
 use Rattle.swc_ecma_codegen_base.specs.Lits.{str_lit}
 use Rattle.swc_ecma_codegen_base.specs.Words.{keyword, punct, semi, space, formatting_space, formatting_line, start_of, end_of, leading_comments, trailing_comments}
 use Rattle.swc_ecma_codegen.specs.declared.nodes.Place.{Place}
-use Rattle.swc_ecma_codegen.specs.declared.nodes.Place.TheVariants.{Plain, ClassHead, ExportedHead, ExportedTail}
+use Rattle.swc_ecma_codegen.specs.declared.nodes.Place.TheVariants.{Plain, ExportedHead, ExportedTail}
 use Rattle.swc_ecma_codegen.specs.Answers.{Answers, place_of}
 use Rattle.swc_ecma_codegen.specs.ClassExprs.{class_expr}
 use Rattle.swc_ecma_codegen.specs.Exprs.{blank, ident}
 use Rattle.swc_ecma_codegen.specs.Functions.{fn_expr}
-use Rattle.swc_ecma_codegen.specs.Lists.{child_of, comma, some_is, unsupported}
+use Rattle.swc_ecma_codegen.specs.Lists.{child_of, comma, unsupported}
 use Rattle.swc_ecma_codegen.specs.Templates.{bad_shape}
 
 -- `a` or `'b c'`
@@ -99,7 +99,7 @@ is_star n = false
 
 -- A namespace stands among more than two: swc stops there.
 unfoldable pub is_crowded : List ImportSpecifier → Bool
-is_crowded ns = some_is is_star ns && nat_lt 2 (length ns)
+is_crowded ns = list_any is_star ns && nat_lt 2 (length ns)
 
 abbrev pub import_list : Span → List ImportSpecifier → Part
 import_list parent ns = list named_format parent (map (child_of import_specifier_span (λ n place. import_specifier n)) (filter is_named ns))
@@ -117,10 +117,10 @@ before_braces first (n ∷ ns) rest = before_brace first n (before_braces (first
 
 -- `{ a, b as c } `, and a comma after a default name
 unfoldable pub some_named : Span → List ImportSpecifier → Part
-some_named parent ns rest = comma (not (some_is is_default ns)) (punct (codes "{") (import_list parent ns (punct (codes "}") (formatting_space rest))))
+some_named parent ns rest = comma (not (list_any is_default ns)) (punct (codes "{") (import_list parent ns (punct (codes "}") (formatting_space rest))))
 
 unfoldable pub import_braces : Span → List ImportSpecifier → Part
-import_braces parent ns rest = if some_is is_named ns then some_named parent ns rest else space rest
+import_braces parent ns rest = if list_any is_named ns then some_named parent ns rest else space rest
 
 -- a blank before the default one is needed, where it is first: `import a`, minified `import{a}`
 unfoldable pub begins_default : List ImportSpecifier → Bool
@@ -210,17 +210,17 @@ star_export (n ∷ ns) rest = star_export ns rest
 
 -- what stands after it: `, { b }`
 unfoldable pub more_exports : Span → List ExportSpecifier → Part
-more_exports parent ns rest = if some_is is_braced ns then punct (codes ",") (formatting_space (export_braces parent ns rest)) else rest
+more_exports parent ns rest = if list_any is_braced ns then punct (codes ",") (formatting_space (export_braces parent ns rest)) else rest
 
 unfoldable pub star_exports : Span → List ExportSpecifier → Part
 star_exports parent ns rest = star_export ns (more_exports parent ns rest)
 
 unfoldable pub export_clause : Span → List ExportSpecifier → Part
-export_clause parent ns rest = if some_is is_namespace ns then star_exports parent ns rest else export_braces parent ns rest
+export_clause parent ns rest = if list_any is_namespace ns then star_exports parent ns rest else export_braces parent ns rest
 
 -- it ends with a name: `export * as a from 'b'`, minified `export*as a from"b"`
 unfoldable pub ends_with_name : List ExportSpecifier → Bool
-ends_with_name ns = some_is is_namespace ns && not (some_is is_braced ns)
+ends_with_name ns = list_any is_namespace ns && not (list_any is_braced ns)
 
 -- ` from 'a'` with its attributes, where it is so
 unfoldable pub from_clause : {X : Type 0} → (X → Place → Part) → Option (ObjectLitBox X) → Bool → Option Str → Part

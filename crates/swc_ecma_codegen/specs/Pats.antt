@@ -1,8 +1,7 @@
 -- What is written of patterns. What TypeScript adds, a type or `?` after a bracket, isn't printed yet.
 use Rattle.std.specs.Prelude.{ℕ, ◌||◌, Bool, true, if◌then◌else◌, is_some, List, map, codes, Option, Some, None}
 use Rattle.swc_ecma_codegen_common.specs.declared.positions.Span.{Span}
-use Rattle.swc_ecma_codegen_tree.specs.declared.expr_links.ExprBox.{ExprBox}
-use Rattle.swc_ecma_codegen_tree.specs.declared.expr_links.PatBox.{PatBox}
+use Rattle.swc_ecma_codegen_tree.specs.Links.{ExprBox, PatBox}
 use Rattle.swc_ecma_codegen_tree.specs.declared.pats.Pat.{Pat}
 use Rattle.swc_ecma_codegen_tree.specs.declared.pats.Pat.TheVariants as pats
 use Rattle.swc_ecma_codegen_tree.specs.declared.pats.ArrayPat.{ArrayPat}

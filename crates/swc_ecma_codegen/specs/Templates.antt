@@ -1,6 +1,6 @@
 -- What is written of templates. What TypeScript adds, types after a tag, isn't printed yet.
 use Rattle.std.specs.Prelude.{Bool, true, false, is_some, if◌then◌else◌, List, [], ◌∷◌}
-use Rattle.swc_ecma_codegen_tree.specs.declared.expr_links.ExprBox.{ExprBox}
+use Rattle.swc_ecma_codegen_tree.specs.Links.{ExprBox}
 use Rattle.swc_ecma_codegen_tree.specs.declared.exprs.Tpl.{Tpl}
 use Rattle.swc_ecma_codegen_tree.specs.declared.exprs.TplElement.{TplElement}
 use Rattle.swc_ecma_codegen_tree.specs.declared.exprs.TaggedTpl.{TaggedTpl}

@@ -8,7 +8,7 @@ ghost use Rattle.swc_ecma_codegen.specs.Blocks.{block_format, flat_block_format,
 ghost use Rattle.swc_ecma_codegen.specs.View.{state_of};
 
 use crate::emitter::Emitter;
-use crate::nodes::{Child, EmitAt, Held, Place};
+use crate::nodes::{EmitAt, Held, Place};
 use bitflags::Flags;
 use swc_ecma_codegen_ast::ListFormat;
 use swc_ecma_codegen_ast::comments::Comments;
@@ -16,7 +16,7 @@ use swc_ecma_codegen_ast::mapper::SourceMapper;
 use swc_ecma_codegen_common::{Answer, Span};
 use swc_ecma_codegen_literals::Punctuator;
 use swc_ecma_codegen_text_writer::WriteJs;
-use swc_ecma_codegen_tree::{BlockStmt, StmtBox};
+use swc_ecma_codegen_tree::BlockStmt;
 
 /// The format of a block over several lines.
 fn block_format() -> ListFormat
@@ -53,14 +53,6 @@ pub(crate) fn is_some_listed<T>(nodes: &[T]) -> bool
     match nodes {
         [] => false,
         [_, ..] => true,
-    }
-}
-
-impl<N: Held> Child for StmtBox<N> {
-    ghost stands = { λ n. (N.answers n.node.value).place };
-
-    fn place(&self) -> Span {
-        self.held().place()
     }
 }
 

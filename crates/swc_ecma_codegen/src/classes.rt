@@ -18,9 +18,9 @@ use swc_ecma_codegen_common::{Answer, Span};
 use swc_ecma_codegen_literals::Punctuator;
 use swc_ecma_codegen_text_writer::WriteJs;
 use swc_ecma_codegen_tree::{
-    AutoAccessor, BlockStmtBox, Class, ClassDecl, ClassExpr, ClassMember, ClassMemberBox,
-    ClassMethod, ClassProp, Constructor, EmptyStmt, ExprBox, Key, MethodKind, ParamOrTsParamProp,
-    PrivateMethod, PrivateProp, StaticBlock,
+    AutoAccessor, BlockStmtBox, Class, ClassDecl, ClassExpr, ClassMember, ClassMethod, ClassProp,
+    Constructor, EmptyStmt, ExprBox, Key, MethodKind, ParamOrTsParamProp, PrivateMethod,
+    PrivateProp, StaticBlock,
 };
 
 /// The format of members.
@@ -134,26 +134,6 @@ impl<N: Held> EmitAt for Class<N> {
             Place::ClassHead => e.decorator_lines(&self.decorators),
             _ => e.class_trailing(self),
         }
-    }
-}
-
-impl<N: Held> EmitAt for ClassMemberBox<N> {
-    ghost items = { λ n place. N.items n.node.value place };
-
-    fn emit_at<W: WriteJs, S: SourceMapper, C: Comments>(
-        &self,
-        e: &mut Emitter<'_, W, S, C>,
-        place: Place,
-    ) -> Answer {
-        self.held().emit_at(e, place)
-    }
-}
-
-impl<N: Held> Child for ClassMemberBox<N> {
-    ghost stands = { λ n. (N.answers n.node.value).place };
-
-    fn place(&self) -> Span {
-        self.held().place()
     }
 }
 

@@ -1,9 +1,10 @@
 //! Imports.
 
 ghost use Rattle.std.specs.Prelude.{◌≡◌, true, OnOk};
+ghost use Rattle.std.specs.List.{list_any};
 ghost use Rattle.swc_ecma_codegen_base.specs.Run.{Emits};
 ghost use Rattle.swc_ecma_codegen_spans.specs.Spans.{import_specifier_span};
-ghost use Rattle.swc_ecma_codegen.specs.Lists.{comma, some_is};
+ghost use Rattle.swc_ecma_codegen.specs.Lists.{comma};
 ghost use Rattle.swc_ecma_codegen.specs.Modules.{named_format, from_word, as_word, star_as, imported_as, import_named, import_specifier, is_named, is_default, is_star, is_crowded, import_list, before_brace, before_braces, some_named, import_braces, begins_default, some_imports, import_clause, phase_word, import_tail, import_decl, source_end};
 ghost use Rattle.swc_ecma_codegen.specs.View.{state_of};
 
@@ -37,16 +38,10 @@ fn is_default(specifier: &ImportSpecifier) -> bool
 }
 
 /// Whether one among them is.
-#[tactic(auto, unfolding(crate::specs::Lists::some_is))]
 fn has_default(specifiers: &[ImportSpecifier]) -> bool
-    ensures { result ≡ some_is is_default specifiers.now }
+    ensures { result ≡ list_any is_default specifiers.now }
 {
-    for specifier in specifiers {
-        if is_default(specifier) {
-            return true;
-        }
-    }
-    false
+    specifiers.iter().any(is_default)
 }
 
 /// Whether one of a namespace stands among more than two.

@@ -23,10 +23,7 @@ use swc_ecma_codegen_ast::mapper::SourceMapper;
 use swc_ecma_codegen_common::{Answer, Error, Result};
 use swc_ecma_codegen_spans::Spanned;
 use swc_ecma_codegen_text_writer::WriteJs;
-use swc_ecma_codegen_tree::{
-    AssignTargetBox, BlockStmtBox, DeclBox, ExprBox, FunctionBox, MemberExprBox, ObjectLitBox,
-    PatBox, PropBox, PropNameBox, StmtBox, VarDeclBox,
-};
+use swc_ecma_codegen_tree::Link;
 
 /// A node that can be printed: each type of node, a link, and a reference, a box or an option of these. swc's `Node`.
 pub trait Node: Spanned {
@@ -122,139 +119,7 @@ impl<T: EmitAt> EmitAt for Option<T> {
     }
 }
 
-impl<N: EmitAt> EmitAt for ExprBox<N> {
-    ghost items = { λ n place. N.items n.node.value place };
-
-    fn emit_at<W: WriteJs, S: SourceMapper, C: Comments>(
-        &self,
-        e: &mut Emitter<'_, W, S, C>,
-        place: Place,
-    ) -> Answer {
-        self.held().emit_at(e, place)
-    }
-}
-
-impl<N: EmitAt> EmitAt for StmtBox<N> {
-    ghost items = { λ n place. N.items n.node.value place };
-
-    fn emit_at<W: WriteJs, S: SourceMapper, C: Comments>(
-        &self,
-        e: &mut Emitter<'_, W, S, C>,
-        place: Place,
-    ) -> Answer {
-        self.held().emit_at(e, place)
-    }
-}
-
-impl<N: EmitAt> EmitAt for MemberExprBox<N> {
-    ghost items = { λ n place. N.items n.node.value place };
-
-    fn emit_at<W: WriteJs, S: SourceMapper, C: Comments>(
-        &self,
-        e: &mut Emitter<'_, W, S, C>,
-        place: Place,
-    ) -> Answer {
-        self.held().emit_at(e, place)
-    }
-}
-
-impl<N: EmitAt> EmitAt for AssignTargetBox<N> {
-    ghost items = { λ n place. N.items n.node.value place };
-
-    fn emit_at<W: WriteJs, S: SourceMapper, C: Comments>(
-        &self,
-        e: &mut Emitter<'_, W, S, C>,
-        place: Place,
-    ) -> Answer {
-        self.held().emit_at(e, place)
-    }
-}
-
-impl<N: EmitAt> EmitAt for PatBox<N> {
-    ghost items = { λ n place. N.items n.node.value place };
-
-    fn emit_at<W: WriteJs, S: SourceMapper, C: Comments>(
-        &self,
-        e: &mut Emitter<'_, W, S, C>,
-        place: Place,
-    ) -> Answer {
-        self.held().emit_at(e, place)
-    }
-}
-
-impl<N: EmitAt> EmitAt for ObjectLitBox<N> {
-    ghost items = { λ n place. N.items n.node.value place };
-
-    fn emit_at<W: WriteJs, S: SourceMapper, C: Comments>(
-        &self,
-        e: &mut Emitter<'_, W, S, C>,
-        place: Place,
-    ) -> Answer {
-        self.held().emit_at(e, place)
-    }
-}
-
-impl<N: EmitAt> EmitAt for PropNameBox<N> {
-    ghost items = { λ n place. N.items n.node.value place };
-
-    fn emit_at<W: WriteJs, S: SourceMapper, C: Comments>(
-        &self,
-        e: &mut Emitter<'_, W, S, C>,
-        place: Place,
-    ) -> Answer {
-        self.held().emit_at(e, place)
-    }
-}
-
-impl<N: EmitAt> EmitAt for PropBox<N> {
-    ghost items = { λ n place. N.items n.node.value place };
-
-    fn emit_at<W: WriteJs, S: SourceMapper, C: Comments>(
-        &self,
-        e: &mut Emitter<'_, W, S, C>,
-        place: Place,
-    ) -> Answer {
-        self.held().emit_at(e, place)
-    }
-}
-
-impl<N: EmitAt> EmitAt for FunctionBox<N> {
-    ghost items = { λ n place. N.items n.node.value place };
-
-    fn emit_at<W: WriteJs, S: SourceMapper, C: Comments>(
-        &self,
-        e: &mut Emitter<'_, W, S, C>,
-        place: Place,
-    ) -> Answer {
-        self.held().emit_at(e, place)
-    }
-}
-
-impl<N: EmitAt> EmitAt for BlockStmtBox<N> {
-    ghost items = { λ n place. N.items n.node.value place };
-
-    fn emit_at<W: WriteJs, S: SourceMapper, C: Comments>(
-        &self,
-        e: &mut Emitter<'_, W, S, C>,
-        place: Place,
-    ) -> Answer {
-        self.held().emit_at(e, place)
-    }
-}
-
-impl<N: EmitAt> EmitAt for DeclBox<N> {
-    ghost items = { λ n place. N.items n.node.value place };
-
-    fn emit_at<W: WriteJs, S: SourceMapper, C: Comments>(
-        &self,
-        e: &mut Emitter<'_, W, S, C>,
-        place: Place,
-    ) -> Answer {
-        self.held().emit_at(e, place)
-    }
-}
-
-impl<N: EmitAt> EmitAt for VarDeclBox<N> {
+impl<K, N: EmitAt> EmitAt for Link<K, N> {
     ghost items = { λ n place. N.items n.node.value place };
 
     fn emit_at<W: WriteJs, S: SourceMapper, C: Comments>(

@@ -15,6 +15,7 @@ use swc_ecma_codegen_ast::comments::Comments;
 use swc_ecma_codegen_ast::mapper::SourceMapper;
 use swc_ecma_codegen_common::{Answer, BinaryOp, BytePos, DUMMY_SP, Span};
 use swc_ecma_codegen_text_writer::WriteJs;
+use swc_ecma_codegen_tree::Link;
 
 /// Where a node stands in the one above it.
 #[derive(Debug, Clone, Copy, PartialEq, Eq)]
@@ -141,6 +142,14 @@ impl<T: Child> Child for Option<T> {
             Some(child) => child.place(),
             None => DUMMY_SP,
         }
+    }
+}
+
+impl<K, N: Held> Child for Link<K, N> {
+    ghost stands = { λ n. (N.answers n.node.value).place };
+
+    fn place(&self) -> Span {
+        self.held().place()
     }
 }
 

@@ -19,7 +19,7 @@ use swc_ecma_codegen_literals::Punctuator;
 use swc_ecma_codegen_text_writer::WriteJs;
 use swc_ecma_codegen_tree::{
     ArrayPat, AssignPat, AssignPatProp, AssignTargetPat, ExprBox, KeyValuePatProp, ObjectPat,
-    ObjectPatProp, Pat, PatBox, RestPat,
+    ObjectPatProp, Pat, RestPat,
 };
 
 /// The format of an array pattern, which ends with a comma where its last element is a hole.
@@ -38,14 +38,6 @@ fn object_pat_format() -> ListFormat
     ensures { result.0 ≡ object_pat_format }
 {
     ListFormat::ObjectBindingPatternElements.union(ListFormat::CanSkipTrailingComma)
-}
-
-impl<N: Held> Child for PatBox<N> {
-    ghost stands = { λ n. (N.answers n.node.value).place };
-
-    fn place(&self) -> Span {
-        self.held().place()
-    }
 }
 
 impl<N: Held> EmitAt for Pat<N> {

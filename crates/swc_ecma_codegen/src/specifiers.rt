@@ -1,10 +1,11 @@
 //! Specifiers of imports and exports: some stand among braces, others before them.
 
 ghost use Rattle.std.specs.Prelude.{◌≡◌, Bool, false, [], map, filter, OnOk};
+ghost use Rattle.std.specs.List.{list_any};
 ghost use Rattle.swc_ecma_codegen_ast.specs.ListFormats.{indented};
 ghost use Rattle.swc_ecma_codegen_base.specs.Run.{Emits};
 ghost use Rattle.swc_ecma_codegen_base.specs.Lists.{list};
-ghost use Rattle.swc_ecma_codegen.specs.Lists.{child_of, some_is, braced_child, braced_rest};
+ghost use Rattle.swc_ecma_codegen.specs.Lists.{child_of, braced_child, braced_rest};
 ghost use Rattle.swc_ecma_codegen.specs.View.{state_of};
 
 use crate::emitter::Emitter;
@@ -31,29 +32,17 @@ pub trait Specifier: Child {
 }
 
 /// Whether some specifier stands among the braces.
-#[tactic(auto, unfolding(crate::specs::Lists::some_is))]
 pub(crate) fn has_braced<T: Specifier>(specifiers: &[T]) -> bool
-    ensures { result ≡ some_is T.braced specifiers.now }
+    ensures { result ≡ list_any T.braced specifiers.now }
 {
-    for specifier in specifiers {
-        if specifier.is_braced() {
-            return true;
-        }
-    }
-    false
+    specifiers.iter().any(T::is_braced)
 }
 
 /// Whether some specifier is one of a namespace.
-#[tactic(auto, unfolding(crate::specs::Lists::some_is))]
 pub(crate) fn has_star<T: Specifier>(specifiers: &[T]) -> bool
-    ensures { result ≡ some_is T.stars specifiers.now }
+    ensures { result ≡ list_any T.stars specifiers.now }
 {
-    for specifier in specifiers {
-        if specifier.is_star() {
-            return true;
-        }
-    }
-    false
+    specifiers.iter().any(T::is_star)
 }
 
 impl<W: WriteJs, S: SourceMapper, C: Comments> Emitter<'_, W, S, C> {

@@ -26,7 +26,7 @@ use swc_ecma_codegen_literals::Punctuator;
 use swc_ecma_codegen_text_writer::WriteJs;
 
 impl<W: WriteJs, S: SourceMapper, C: Comments> Emitter<'_, W, S, C> {
-    /// Comes to a node that isn't printed yet.
+    /// Refuses a node that has no text here, as `Invalid`, or none yet, as what TypeScript adds.
     #[tactic(auto, unfolding(crate::specs::Lists::unsupported))]
     pub(crate) fn unsupported(&mut self) -> Answer
         ensures items { Emits unsupported (state_of S.lines W.sheet self.old) (state_of S.lines W.sheet self.new) result }

@@ -9,7 +9,7 @@ use Rattle.swc_ecma_codegen_ast.specs.Endings.{IsReduced}
 use Rattle.swc_ecma_codegen_ast.specs.Keys.{wants_quotes, is_quoted, key_token}
 use Rattle.swc_ecma_codegen_ast.specs.Layouts.{AreAlike, PutsIn, no_more, token, with_semicolon, with_comma, with_parentheses, AreSameBut, IsWritten}
 use Rattle.swc_ecma_codegen_ast.specs.Names.{name_value}
-use Rattle.swc_ecma_codegen_ast.specs.Phrases.{Phrase, Never, Nothing, One, NameOf, KeyOf, PrivateOf, Then, OptionalComma, OptionalParentheses, Chosen, EmptyArguments, LoopEnding, AttributesWord, Generates, chosen, comma, open_parenthesis, close_parenthesis, in_parentheses}
+use Rattle.swc_ecma_codegen_ast.specs.Phrases.{Phrase, Never, Nothing, One, NameOf, KeyOf, PrivateOf, Then, OptionalComma, OptionalParentheses, Chosen, EmptyArguments, LoopEnding, AttributesWord, Generates, chosen, open_parenthesis, close_parenthesis, in_parentheses}
 use Rattle.swc_ecma_codegen_ast.specs.Settings.{Settings, is_up_to_es5}
 use Rattle.swc_ecma_codegen_ast.specs.SpelledNames.{spelled_name}
 use Rattle.swc_ecma_codegen_ast.specs.Tokens.{Token, Units, ending}

@@ -2,12 +2,7 @@
 use Rattle.std.proofs.Common.{◌≡◌, refl, ◌∙◌, ap, ◌||◌, is_some, List, map, codes, Bool, cond, Option, Some, None, Box, Global}
 use Rattle.swc_ecma_codegen_tree.specs.declared.links.AnyNode.{AnyNode-F, map-AnyNode}
 use Rattle.swc_ecma_codegen_tree.specs.declared.links.AnyNode.TheOpen as nodes
-use Rattle.swc_ecma_codegen_tree.specs.declared.expr_links.ExprBox.{ExprBox}
-use Rattle.swc_ecma_codegen_tree.specs.declared.stmt_links.BlockStmtBox.{BlockStmtBox}
-use Rattle.swc_ecma_codegen_tree.specs.declared.stmt_links.ClassMemberBox.{ClassMemberBox}
-use Rattle.swc_ecma_codegen_tree.specs.declared.ts_links.TsTypeAnnBox.{TsTypeAnnBox}
-use Rattle.swc_ecma_codegen_tree.specs.declared.ts_links.TsTypeParamDeclBox.{TsTypeParamDeclBox}
-use Rattle.swc_ecma_codegen_tree.specs.declared.ts_links.TsTypeParamInstantiationBox.{TsTypeParamInstantiationBox}
+use Rattle.swc_ecma_codegen_tree.specs.Links.{BlockStmtBox, ClassMemberBox, ExprBox, TsTypeAnnBox, TsTypeParamDeclBox, TsTypeParamInstantiationBox}
 use Rattle.swc_ecma_codegen_tree.specs.declared.parts.StmtPart.TheVariants as stmt_parts
 use Rattle.swc_ecma_codegen_tree.specs.declared.classes.Class as classes
 use Rattle.swc_ecma_codegen_tree.specs.declared.classes.ClassMember as class_members
@@ -32,8 +27,8 @@ use Rattle.swc_ecma_codegen_ast.specs.Phrases.{Phrase, Never, ◌>◌, mark, wor
 use Rattle.swc_ecma_codegen_ast.specs.declared.roles.Role.{Role}
 use Rattle.swc_ecma_codegen_ast.specs.declared.roles.Role.TheVariants.{ClassHead, ClassTail, Member, MethodDecorators, MethodTail, PrivateTail}
 use Rattle.swc_ecma_codegen_ast.specs.PatPhrases.{initializer}
-use Rattle.swc_ecma_codegen_ast.specs.FunctionPhrases.{decorator, param, function_body, is_some_listed}
-use Rattle.swc_ecma_codegen_ast.specs.ClassPhrases.{member_at, decorators, class_head, heritage, is_typed_class, class_tail, constructor_param, class_constructor, method_decorators, method_body, method_tail, private_tail, kind_head, method_kind, class_method, private_method, prop_value, is_typed_prop, class_prop, is_typed_private, private_prop, accessor_key, is_typed_accessor, auto_accessor, static_block, class_member}
+use Rattle.swc_ecma_codegen_ast.specs.FunctionPhrases.{decorator, param, function_body}
+use Rattle.swc_ecma_codegen_ast.specs.ClassPhrases.{member_at, decorators, class_head, heritage, class_tail, constructor_param, class_constructor, method_decorators, method_body, method_tail, private_tail, kind_head, method_kind, class_method, private_method, prop_value, class_prop, private_prop, accessor_key, auto_accessor, static_block, class_member}
 use Rattle.swc_ecma_codegen_ast.specs.PartPhrases.{stmt_part}
 use Rattle.swc_ecma_codegen_ast.specs.TreePhrases.{node_phrase}
 use Rattle.swc_ecma_codegen_ast.proofs.Mapped.{list_mapped}

@@ -2,8 +2,7 @@
 use Rattle.std.proofs.Common.{◌≡◌, refl, ◌∙◌, ap, ◌+◌, ◌==◌, ℕ, List, [], ◌∷◌, map, length, suc, Bool, true, false, cond, Option, Some, None}
 use Rattle.swc_ecma_codegen_tree.specs.declared.links.AnyNode.{map-AnyNode}
 use Rattle.swc_ecma_codegen_tree.specs.declared.links.AnyNode.TheOpen as nodes
-use Rattle.swc_ecma_codegen_tree.specs.declared.expr_links.ExprBox.{ExprBox}
-use Rattle.swc_ecma_codegen_tree.specs.declared.ts_links.TsTypeParamInstantiationBox.{TsTypeParamInstantiationBox}
+use Rattle.swc_ecma_codegen_tree.specs.Links.{ExprBox, TsTypeParamInstantiationBox}
 use Rattle.swc_ecma_codegen_tree.specs.declared.parts.ExprPart.TheVariants as expr_parts
 use Rattle.swc_ecma_codegen_tree.specs.declared.exprs.Expr.TheVariants as exprs
 use Rattle.swc_ecma_codegen_tree.specs.declared.exprs.Tpl.{Tpl}

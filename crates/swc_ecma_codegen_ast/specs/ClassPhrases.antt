@@ -1,11 +1,7 @@
 -- Classes: one production a node. `f` says what is read of what a link holds, in its role. What TypeScript adds isn't printed
 -- yet: types and their parameters, modifiers, and index signatures. ECMA-262, section 15.7.
 use Rattle.std.specs.Prelude.{Bool, true, false, ◌||◌, is_some, if◌then◌else◌, List, map, codes, Option, Some, None}
-use Rattle.swc_ecma_codegen_tree.specs.declared.expr_links.ExprBox.{ExprBox}
-use Rattle.swc_ecma_codegen_tree.specs.declared.stmt_links.BlockStmtBox.{BlockStmtBox}
-use Rattle.swc_ecma_codegen_tree.specs.declared.stmt_links.ClassBox.{ClassBox}
-use Rattle.swc_ecma_codegen_tree.specs.declared.stmt_links.ClassMemberBox.{ClassMemberBox}
-use Rattle.swc_ecma_codegen_tree.specs.declared.stmt_links.FunctionBox.{FunctionBox}
+use Rattle.swc_ecma_codegen_tree.specs.Links.{BlockStmtBox, ClassMemberBox, ExprBox, FunctionBox}
 use Rattle.swc_ecma_codegen_tree.specs.declared.classes.Class as classes
 use Rattle.swc_ecma_codegen_tree.specs.declared.classes.ClassMember as class_members
 use Rattle.swc_ecma_codegen_tree.specs.declared.classes.ClassMember.TheVariants as members

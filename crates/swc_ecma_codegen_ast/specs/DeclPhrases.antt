@@ -1,8 +1,7 @@
 -- Declarations: one production a node. `f` says what is read of what a link holds, in its role. What TypeScript adds, `declare` and
 -- `!` after a name, isn't printed yet.
 use Rattle.std.specs.Prelude.{Bool, true, false, if◌then◌else◌, map, codes}
-use Rattle.swc_ecma_codegen_tree.specs.declared.stmt_links.DeclBox.{DeclBox}
-use Rattle.swc_ecma_codegen_tree.specs.declared.stmt_links.VarDeclBox.{VarDeclBox}
+use Rattle.swc_ecma_codegen_tree.specs.Links.{DeclBox, VarDeclBox}
 use Rattle.swc_ecma_codegen_tree.specs.declared.decls.Decl.{Decl}
 use Rattle.swc_ecma_codegen_tree.specs.declared.decls.Decl.TheVariants as decls
 use Rattle.swc_ecma_codegen_tree.specs.declared.decls.FnDecl.{FnDecl}

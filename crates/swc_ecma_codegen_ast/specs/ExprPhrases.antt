@@ -7,8 +7,7 @@ use Rattle.swc_ecma_codegen_common.specs.declared.operators.BinaryOp.TheVariants
 use Rattle.swc_ecma_codegen_common.specs.declared.operators.UnaryOp.{UnaryOp}
 use Rattle.swc_ecma_codegen_common.specs.declared.operators.UnaryOp.TheVariants as unary
 use Rattle.swc_ecma_codegen_common.specs.declared.operators.UpdateOp.{UpdateOp}
-use Rattle.swc_ecma_codegen_common.specs.declared.positions.Span.{Span}
-use Rattle.swc_ecma_codegen_tree.specs.declared.expr_links.ExprBox.{ExprBox}
+use Rattle.swc_ecma_codegen_tree.specs.Links.{ExprBox}
 use Rattle.swc_ecma_codegen_tree.specs.declared.exprs.Expr.{Expr}
 use Rattle.swc_ecma_codegen_tree.specs.declared.exprs.Expr.TheVariants as exprs
 use Rattle.swc_ecma_codegen_tree.specs.declared.exprs.ThisExpr.{ThisExpr}

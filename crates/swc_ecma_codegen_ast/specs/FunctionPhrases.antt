@@ -1,9 +1,7 @@
 -- Functions: one production a node. `f` says what is read of what a link holds, in its role. What TypeScript adds, types and their
 -- parameters, isn't printed yet.
 use Rattle.std.specs.Prelude.{Bool, true, false, ◌||◌, is_some, if◌then◌else◌, List, [], ◌∷◌, map, codes, Option, Some, None}
-use Rattle.swc_ecma_codegen_tree.specs.declared.expr_links.PatBox.{PatBox}
-use Rattle.swc_ecma_codegen_tree.specs.declared.stmt_links.BlockStmtBox.{BlockStmtBox}
-use Rattle.swc_ecma_codegen_tree.specs.declared.stmt_links.FunctionBox.{FunctionBox}
+use Rattle.swc_ecma_codegen_tree.specs.Links.{BlockStmtBox, FunctionBox, PatBox}
 use Rattle.swc_ecma_codegen_tree.specs.declared.decls.Decorator.{Decorator}
 use Rattle.swc_ecma_codegen_tree.specs.declared.decls.Param.{Param}
 use Rattle.swc_ecma_codegen_tree.specs.declared.decls.Function as functions

@@ -26,7 +26,7 @@ use Rattle.swc_ecma_codegen_ast.specs.Phrases.{Phrase, Never, One, ◌>◌, wher
 use Rattle.swc_ecma_codegen_ast.specs.RegularExpressions.{is_regex}
 use Rattle.swc_ecma_codegen_ast.specs.StringValues.{string_value}
 use Rattle.swc_ecma_codegen_ast.specs.Texts.{is_empty, is_same}
-use Rattle.swc_ecma_codegen_ast.specs.Tokens.{Token, Characters, Units, Exactly, Digits, token_of}
+use Rattle.swc_ecma_codegen_ast.specs.Tokens.{Token, Units, Exactly, Digits, token_of}
 use Rattle.swc_ecma_codegen_ast.specs.Tokens as tokens
 
 -- the characters of a text in the tree

@@ -1,7 +1,7 @@
 -- Imports and exports: one production a node. `f` says what is read of what a link holds, in its role. What TypeScript adds isn't printed
 -- yet. ECMA-262, section 16.2.
 use Rattle.std.specs.Prelude.{if◌then◌else◌, List, [], ◌∷◌, map, codes, Option, Some, None}
-use Rattle.swc_ecma_codegen_tree.specs.declared.expr_links.ObjectLitBox.{ObjectLitBox}
+use Rattle.swc_ecma_codegen_tree.specs.Links.{ObjectLitBox}
 use Rattle.swc_ecma_codegen_tree.specs.declared.decls.Decl.{Decl}
 use Rattle.swc_ecma_codegen_tree.specs.declared.decls.Decl.TheVariants as decls
 use Rattle.swc_ecma_codegen_tree.specs.declared.lits.Str.{Str}
@@ -30,7 +30,7 @@ use Rattle.swc_ecma_codegen_tree.specs.declared.programs.ModuleItem.{ModuleItem}
 use Rattle.swc_ecma_codegen_tree.specs.declared.programs.ModuleItem.TheVariants as module_items
 use Rattle.swc_ecma_codegen_ast.specs.Phrases.{Phrase, Never, Nothing, Chosen, AttributesWord, ◌>◌, word, mark, ending, listed}
 use Rattle.swc_ecma_codegen_ast.specs.ClassPhrases.{class_expr}
-use Rattle.swc_ecma_codegen_ast.specs.DeclPhrases.{decl, decl_at}
+use Rattle.swc_ecma_codegen_ast.specs.DeclPhrases.{decl}
 use Rattle.swc_ecma_codegen_ast.specs.ElementPhrases.{trailing_comma}
 use Rattle.swc_ecma_codegen_ast.specs.FunctionPhrases.{fn_expr}
 use Rattle.swc_ecma_codegen_ast.specs.LitPhrases.{str_lit}

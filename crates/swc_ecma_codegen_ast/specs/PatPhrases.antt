@@ -1,9 +1,7 @@
 -- Patterns: one production a node. `f` says what is read of what a link holds, in its role. What TypeScript adds, a type or `?`
 -- after a bracket, isn't printed yet.
 use Rattle.std.specs.Prelude.{◌||◌, is_some, if◌then◌else◌, List, map, codes, Option, Some, None}
-use Rattle.swc_ecma_codegen_tree.specs.declared.expr_links.ExprBox.{ExprBox}
-use Rattle.swc_ecma_codegen_tree.specs.declared.expr_links.PatBox.{PatBox}
-use Rattle.swc_ecma_codegen_tree.specs.declared.expr_links.PropNameBox.{PropNameBox}
+use Rattle.swc_ecma_codegen_tree.specs.Links.{ExprBox, PatBox, PropNameBox}
 use Rattle.swc_ecma_codegen_tree.specs.declared.pats.Pat.{Pat}
 use Rattle.swc_ecma_codegen_tree.specs.declared.pats.Pat.TheVariants as pats
 use Rattle.swc_ecma_codegen_tree.specs.declared.pats.ArrayPat.{ArrayPat}

@@ -2,7 +2,7 @@
 use Rattle.std.proofs.Common.{◌≡◌, ℕ, ◌<◌, Bool, false, List, [], ◌∷◌, ◌++◌, refl, sym, ◌∙◌, ap, get_or, map, length, arith, rules as all}
 use Rattle.std.proofs.lemmas.List.{get_or-map}
 use Rattle.swc_ecma_codegen_ast.specs.GapRules as rules
-use Rattle.swc_ecma_codegen_ast.specs.GapRules.{fuses, grows, is_choice, mark_fuses}
+use Rattle.swc_ecma_codegen_ast.specs.GapRules.{fuses}
 use Rattle.swc_ecma_codegen_ast.specs.Punctuators.{punctuators}
 use Rattle.swc_ecma_codegen_literals.specs.Punctuators.{place, spelling}
 use Rattle.swc_ecma_codegen_base.specs.Starts.{order, start_class}

@@ -11,7 +11,7 @@ use Rattle.swc_ecma_codegen_ast.specs.Tokens.{token_of}
 use Rattle.swc_ecma_codegen_ast.specs.Punctuators.{is_punctuator, punctuators}
 use Rattle.swc_ecma_codegen_ast.specs.Texts.{is_same, is_among}
 use Rattle.swc_ecma_codegen_ast.specs.Phrases as phrases
-use Rattle.swc_ecma_codegen_ast.specs.Phrases.{Phrase, Nothing, Then, OptionalComma, is_possible, names_in, mark, ◌>◌}
+use Rattle.swc_ecma_codegen_ast.specs.Phrases.{Phrase, OptionalComma, is_possible, names_in, mark, ◌>◌}
 use Rattle.swc_ecma_codegen_base.specs.Run.{Env, Plan, Part, Remake, step, spelling, when_minified, no_part}
 use Rattle.swc_ecma_codegen_base.specs.Words.{punct, formatting_space, formatting_line, trailing_comments}
 use Rattle.swc_ecma_codegen_base.specs.Written.{IsMark}

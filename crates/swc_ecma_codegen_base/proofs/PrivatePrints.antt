@@ -11,7 +11,7 @@ use Rattle.swc_ecma_codegen_ast.specs.Names.{is_name, name_rest, name_value, is_
 use Rattle.swc_ecma_codegen_ast.specs.Parts.{tokens_of}
 use Rattle.swc_ecma_codegen_ast.specs.Phrases.{PrivateOf, Generates, is_possible, names_in}
 use Rattle.swc_ecma_codegen_ast.specs.Reads.{is_child, is_hashbang_kind}
-use Rattle.swc_ecma_codegen_ast.specs.SpelledNames.{spelled_name, is_well_formed_name}
+use Rattle.swc_ecma_codegen_ast.specs.SpelledNames.{spelled_name}
 use Rattle.swc_ecma_codegen_ast.specs.Tokens as lexical
 use Rattle.swc_ecma_codegen_ast.specs.Tokens.{has_shape, token_of, value_of}
 use Rattle.swc_ecma_codegen_ast.specs.ValidNames.{turned}
@@ -22,14 +22,14 @@ use Rattle.swc_ecma_codegen_base.specs.declared.refusals.Unprintable.TheVariants
 use Rattle.swc_ecma_codegen_base.specs.Escapes.{may_make_text}
 use Rattle.swc_ecma_codegen_base.specs.PrivateNames as words
 use Rattle.swc_ecma_codegen_base.specs.PrivateNames.{private_spelling}
-use Rattle.swc_ecma_codegen_base.specs.Run.{Env, Plan, State, Step, Guard, Plain, Ends, Remake, put, run, step, refuse, spelling, text_of, after_token, after_tokens, after_plain, makes_text, has_backslash, unprintable_in}
+use Rattle.swc_ecma_codegen_base.specs.Run.{Env, Plan, State, Step, Guard, Plain, Ends, Remake, put, run, step, refuse, spelling, text_of, after_token, after_tokens, makes_text, has_backslash, unprintable_in}
 use Rattle.swc_ecma_codegen_base.specs.Scripts.{is_str}
 use Rattle.swc_ecma_codegen_base.specs.Starts.{start_class}
 use Rattle.swc_ecma_codegen_base.specs.Targets.{is_out, is_out_name, in_ascii, wants_escapes, written_name}
-use Rattle.swc_ecma_codegen_base.specs.Words.{position, leading_comments}
+use Rattle.swc_ecma_codegen_base.specs.Words.{position}
 use Rattle.swc_ecma_codegen_base.specs.Written.{AtRest, holds_one}
 use Rattle.swc_ecma_codegen_base.proofs.Fronts.{run_append}
-use Rattle.swc_ecma_codegen_base.proofs.Hands.{Hands, has_string, has_append, keeps_append, ascii_append, hands_by_settings}
+use Rattle.swc_ecma_codegen_base.proofs.Hands.{has_string, has_append, keeps_append, ascii_append, hands_by_settings}
 use Rattle.swc_ecma_codegen_base.proofs.Held.{settled_none}
 use Rattle.swc_ecma_codegen_base.proofs.Levels.{levels, levels_append, rise}
 use Rattle.swc_ecma_codegen_base.proofs.LiteralParts.{lays_guarded, still_settled, writes_guard}

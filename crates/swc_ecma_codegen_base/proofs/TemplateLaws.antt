@@ -1,9 +1,9 @@
 -- What the calls of a part of a template write: one token.
-use Rattle.std.proofs.Common.{◌≡◌, ℕ, ◌+◌, ◌≤◌, Bool, true, false, cond, not, ◌&&◌, ◌||◌, ◌==◌, List, [], ◌∷◌, ◌++◌, codes, None, refl, sym, ap, ◌∙◌, subst, append_assoc, append-nil, length, arith}
+use Rattle.std.proofs.Common.{◌≡◌, ℕ, ◌+◌, Bool, true, false, cond, not, ◌&&◌, ◌||◌, ◌==◌, List, [], ◌∷◌, ◌++◌, codes, None, refl, sym, ap, ◌∙◌, subst, append_assoc, append-nil, arith}
 use Rattle.std.specs.Str.{chars, is_utf8, IsUtf8}
-use Rattle.std.proofs.lemmas.Bool.{and_from, and_parts, or_from, or_parts, or_left, not_from_false, false_from_ne_true, true≢false}
+use Rattle.std.proofs.lemmas.Bool.{and_from, and_parts, or_from, or_parts, or_left, false_from_ne_true, true≢false}
 use Rattle.std.proofs.lemmas.List.Folds.{list_all-append}
-use Rattle.std.proofs.lemmas.Str.{chars-append, IsUtf8-append, IsUtf8-from_is_utf8}
+use Rattle.std.proofs.lemmas.Str.{chars-append, IsUtf8-from_is_utf8}
 use Rattle.swc_ecma_codegen_common.specs.declared.positions.BytePos.{BytePos}
 use Rattle.swc_ecma_codegen_common.specs.declared.positions.Span.{Span}
 use Rattle.swc_ecma_codegen_spans.specs.Spans.{dummy_span}
@@ -14,7 +14,6 @@ use Rattle.swc_ecma_codegen_ast.specs.Reads.{is_child, is_hashbang_kind}
 use Rattle.swc_ecma_codegen_ast.specs.Parts.{tokens_of}
 use Rattle.swc_ecma_codegen_ast.specs.Templates.{part_end, part_units}
 use Rattle.swc_ecma_codegen_ast.specs.TemplatePhrases.{part_kind, part_begin, part_text}
-use Rattle.swc_ecma_codegen_ast.specs.Tokens as lexical
 use Rattle.swc_ecma_codegen_ast.specs.Tokens.{Characters, Units, has_shape, token_of, value_of, part_value}
 use Rattle.swc_ecma_codegen_text_writer.specs.Sheet.{Sheet, Semicolons, AtOnce, HoldsNone, HoldsOne, Commit, Position, Punct, StrLit, effect, written, literal_written, settled, before_punct, is_ending, dropped, pointed}
 use Rattle.swc_ecma_codegen_literals.specs.AsciiNames.{is_ascii_text}
@@ -26,7 +25,7 @@ use Rattle.swc_ecma_codegen_base.specs.Words.{commit_pending_semi, position}
 use Rattle.swc_ecma_codegen_base.specs.Written.{AtRest, holds_one}
 use Rattle.swc_ecma_codegen_base.proofs.Fronts.{run_append}
 use Rattle.swc_ecma_codegen_base.proofs.Hands.{Hands, has_string, has_append, keeps_append, ascii_append, ascii_keeps}
-use Rattle.swc_ecma_codegen_base.proofs.Held.{pointed_keeps, settled_none, unheld_settled}
+use Rattle.swc_ecma_codegen_base.proofs.Held.{pointed_keeps, settled_none}
 use Rattle.swc_ecma_codegen_base.proofs.NumeralTexts.{ascii_by_chars}
 use Rattle.swc_ecma_codegen_base.proofs.Levels.{levels, levels_append, rise}
 use Rattle.swc_ecma_codegen_base.proofs.LiteralParts.{lays_guarded, still_settled, more_adds}

@@ -1,16 +1,14 @@
 -- What is written of a part of a template is what it reads as.
-use Rattle.std.proofs.Common.{◌≡◌, ℕ, Bool, true, false, cond, not, ◌&&◌, ◌||◌, ◌==◌, List, [], ◌∷◌, ◌++◌, codes, Option, Some, None, refl, sym, ap, ◌∙◌, subst, string_bytes, inl, inr}
+use Rattle.std.proofs.Common.{◌≡◌, ℕ, Bool, true, false, cond, not, ◌&&◌, ◌||◌, ◌==◌, List, [], ◌∷◌, ◌++◌, codes, Option, Some, None, refl, sym, ap, ◌∙◌, subst, string_bytes}
 use Rattle.std.specs.Option.{is_some}
 use Rattle.std.specs.Str.{chars, encode_utf8_all, is_utf8, IsUtf8}
-use Rattle.std.proofs.lemmas.Bool.{and_parts, cases_Bool, or_parts, true≢false}
+use Rattle.std.proofs.lemmas.Bool.{and_parts, or_parts, true≢false}
 use Rattle.std.proofs.lemmas.Str.{chars-append, chars-encodes, scalars-chars, IsUtf8-append, IsUtf8-from_is_utf8, IsUtf8-string_bytes}
 use lib.Utf8.{encodes, scalars}
 use Rattle.swc_ecma_codegen_tree.specs.declared.exprs.TplElement.{TplElement}
 use Rattle.swc_ecma_codegen_util.specs.declared.config.Config.{Config}
-use Rattle.swc_ecma_codegen_ast.specs.declared.kinds.Kind.{Kind}
 use Rattle.swc_ecma_codegen_ast.specs.declared.kinds.TemplatePart.{TemplatePart}
 use Rattle.swc_ecma_codegen_ast.specs.LitPhrases.{characters}
-use Rattle.swc_ecma_codegen_ast.specs.Phrases.{One}
 use Rattle.swc_ecma_codegen_ast.specs.TemplatePhrases as phrases
 use Rattle.swc_ecma_codegen_ast.specs.TemplatePhrases.{part_kind, part_begin, part_text, part_phrase}
 use Rattle.swc_ecma_codegen_ast.specs.Templates.{part_end, before_end, goes_on_as, ends_template, is_template, is_template_rest, part_units, IsInsidePart}
@@ -32,7 +30,7 @@ use Rattle.swc_ecma_codegen_base.specs.Templates.{with_line_feeds, is_respelled,
 use Rattle.swc_ecma_codegen_base.proofs.LineFeeds.{feeds_value, feeds_ascii, feeds_scalars}
 use Rattle.swc_ecma_codegen_base.proofs.NumeralTexts.{ascii_by_chars}
 use Rattle.swc_ecma_codegen_base.proofs.Phrased.{Prints, no_string, prints_one, prints_same, prints_where}
-use Rattle.swc_ecma_codegen_base.proofs.Printed.{Makes, Writes}
+use Rattle.swc_ecma_codegen_base.proofs.Printed.{Writes}
 use Rattle.swc_ecma_codegen_base.proofs.RawTexts.{ascii_is}
 use Rattle.swc_ecma_codegen_base.proofs.Remade.{makes_remade, prints_anew}
 use Rattle.swc_ecma_codegen_base.proofs.TemplateLaws.{part_spelled, part_spelling, writes_part}

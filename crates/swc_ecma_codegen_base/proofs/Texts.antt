@@ -12,7 +12,7 @@ use Rattle.swc_ecma_codegen_ast.specs.Punctuators.{is_punctuator, punctuators}
 use Rattle.swc_ecma_codegen_ast.specs.Trivia.{pieces_text, remarks_of}
 use Rattle.swc_ecma_codegen_ast.specs.GapRules.{Last, Start, Apart, Mark, fuses, allows, last_after, mark_after}
 use Rattle.swc_ecma_codegen_ast.specs.Parts as parts
-use Rattle.swc_ecma_codegen_ast.specs.Parts.{Gap, Own, tokens_of, remarks_in, NoneFuse, Reduced}
+use Rattle.swc_ecma_codegen_ast.specs.Parts.{Gap, Own, tokens_of, remarks_in, NoneFuse}
 use Rattle.swc_ecma_codegen_text_writer.specs.Sheet.{Sheet, holds_semicolons, recorded, written, literal_written}
 use Rattle.swc_ecma_codegen_text_writer.proofs.Sheets.{written_same}
 use Rattle.swc_ecma_codegen_base.specs.Run.{State, spelling, after_token, after_tokens}

@@ -7,7 +7,6 @@ use Rattle.swc_ecma_codegen_spans.specs.Spans.{dummy_span}
 use Rattle.swc_ecma_codegen_ast.specs.declared.kinds.Kind.TheVariants.{Str}
 use Rattle.swc_ecma_codegen_ast.specs.ValidNames.{turned}
 use Rattle.swc_ecma_codegen_text_writer.specs.Sheet.{Symbol}
-use Rattle.swc_ecma_codegen_util.specs.declared.config.Config.{Config}
 use Rattle.swc_ecma_codegen_literals.specs.AsciiNames.{ascii_name, wants_quotes}
 use Rattle.swc_ecma_codegen_base.specs.Run.{Part, step, Guard, Token, Remake, has_backslash}
 use Rattle.swc_ecma_codegen_base.specs.Targets.{wants_escapes}

@@ -12,7 +12,7 @@ use Rattle.swc_ecma_codegen_tree.specs.declared.exprs.CallExpr.{CallExpr}
 use Rattle.swc_ecma_codegen_tree.specs.declared.exprs.Import.{Import}
 use Rattle.swc_ecma_codegen_tree.specs.declared.exprs.NewExpr.{NewExpr}
 use Rattle.swc_ecma_codegen_tree.specs.declared.exprs.OptCall.{OptCall}
-use Rattle.swc_ecma_codegen_ast.specs.Phrases.{Phrase, Never, Nothing, ◌>◌, mark, listed, is_possible}
+use Rattle.swc_ecma_codegen_ast.specs.Phrases.{Phrase, Never, ◌>◌, listed, is_possible}
 use Rattle.swc_ecma_codegen_ast.specs.ElementPhrases.{element, last_is_hole}
 use Rattle.swc_ecma_codegen_ast.specs.CallPhrases.{value_at, callee_at, spread_mark, expr_or_spread, array_elements, array_lit, arguments, import_phase, import_callee, callee, call_expr, listed_arguments, new_arguments, new_expr, call_mark, chain_call}
 use Rattle.swc_ecma_codegen_ast.specs.ExprPhrases.{expr, expr_in}

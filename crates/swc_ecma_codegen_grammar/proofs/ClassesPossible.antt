@@ -1,5 +1,5 @@
 -- When classes and their members are well-formed.
-use Rattle.std.proofs.Common.{◌≡◌, ◌==◌, Bool, true, false, cond, not, ◌&&◌, ◌||◌, is_some, is_none, List, [], ◌∷◌, length, map, suc, codes, Option, Some, None, refl, sym, ap, ◌∙◌, arith}
+use Rattle.std.proofs.Common.{◌≡◌, ◌==◌, Bool, true, false, cond, not, ◌&&◌, ◌||◌, is_some, is_none, List, [], ◌∷◌, length, map, suc, codes, Option, Some, None, refl, ap, ◌∙◌, arith}
 use Rattle.std.proofs.lemmas.Bool.{ne_eqb}
 use Rattle.swc_ecma_codegen_tree.specs.declared.classes.Class as classes
 use Rattle.swc_ecma_codegen_tree.specs.declared.classes.Constructor.{Constructor}
@@ -10,10 +10,10 @@ use Rattle.swc_ecma_codegen_tree.specs.declared.classes.MethodKind.{MethodKind}
 use Rattle.swc_ecma_codegen_tree.specs.declared.classes.PrivateMethod.{PrivateMethod}
 use Rattle.swc_ecma_codegen_tree.specs.declared.classes.PrivateProp.{PrivateProp}
 use Rattle.swc_ecma_codegen_tree.specs.declared.decls.ClassDecl.{ClassDecl}
-use Rattle.swc_ecma_codegen_tree.specs.declared.stmt_links.FunctionBox.{FunctionBox}
+use Rattle.swc_ecma_codegen_tree.specs.Links.{FunctionBox}
 use Rattle.swc_ecma_codegen_tree.specs.declared.decls.Decorator.{Decorator}
 use Rattle.swc_ecma_codegen_tree.specs.declared.decls.Function as functions
-use Rattle.swc_ecma_codegen_ast.specs.Phrases.{Phrase, Never, ◌>◌, mark, word, listed, in_order, is_possible}
+use Rattle.swc_ecma_codegen_ast.specs.Phrases.{Phrase, Never, word, in_order, is_possible}
 use Rattle.swc_ecma_codegen_ast.specs.NamePhrases.{ident, private_name}
 use Rattle.swc_ecma_codegen_ast.specs.PatPhrases.{prop_name_at, initializer}
 use Rattle.swc_ecma_codegen_ast.specs.FunctionPhrases.{word_if, is_some_listed, decorator, param, function_body}

@@ -11,9 +11,9 @@ use Rattle.swc_ecma_codegen_ast.specs.declared.roles.Role.{Role}
 use Rattle.swc_ecma_codegen_ast.specs.declared.roles.Role.TheVariants.{FunctionHead}
 use Rattle.swc_ecma_codegen_ast.specs.NamePhrases.{ident}
 use Rattle.swc_ecma_codegen_ast.specs.PatPhrases.{pat_at, initializer}
-use Rattle.swc_ecma_codegen_ast.specs.FunctionPhrases.{function_at, word_if}
+use Rattle.swc_ecma_codegen_ast.specs.FunctionPhrases.{function_at}
 use Rattle.swc_ecma_codegen_ast.specs.DeclPhrases.{after_await, fn_decl, var_declarator, var_kind, var_decl, using_decl}
-use Rattle.swc_ecma_codegen_ast.specs.Phrases.{Phrase, Never, ◌>◌, word, some_listed, is_possible}
+use Rattle.swc_ecma_codegen_ast.specs.Phrases.{Phrase, Never, ◌>◌, some_listed, is_possible}
 use Rattle.swc_ecma_codegen_grammar.specs.Possible.{all_possible}
 use Rattle.swc_ecma_codegen_grammar.proofs.Lists.{some_possible}
 

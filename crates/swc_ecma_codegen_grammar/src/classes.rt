@@ -3,16 +3,15 @@
 ghost use Rattle.std.specs.Prelude.{◌≡◌};
 ghost use Rattle.swc_ecma_codegen_ast.specs.Phrases.{is_possible};
 ghost use Rattle.swc_ecma_codegen_ast.specs.ClassPhrases.{class_head, heritage, is_typed_class, class_tail, class_decl, class_expr, constructor_param, method_body, class_constructor, method_decorators, method_tail, private_tail, kind_head, class_method, private_method, prop_value, is_typed_prop, class_prop, is_typed_private, private_prop, accessor_key, is_typed_accessor, auto_accessor, static_block, class_member};
-ghost use Rattle.swc_ecma_codegen_ast.specs.declared.roles.Role.TheVariants.{Member};
 
 use crate::forms::{Fits, WellFormed, all_well_formed};
 use crate::functions::{is_body, is_optional_name};
 use crate::pats::is_initializer;
 use swc_ecma_codegen_ast::roles::Role;
 use swc_ecma_codegen_tree::{
-    AutoAccessor, BlockStmtBox, Class, ClassDecl, ClassExpr, ClassMember, ClassMemberBox,
-    ClassMethod, ClassProp, Constructor, ExprBox, Function, FunctionBox, Key, MethodKind,
-    ParamOrTsParamProp, PrivateMethod, PrivateProp, StaticBlock,
+    AutoAccessor, BlockStmtBox, Class, ClassDecl, ClassExpr, ClassMember, ClassMethod, ClassProp,
+    Constructor, ExprBox, Function, FunctionBox, Key, MethodKind, ParamOrTsParamProp,
+    PrivateMethod, PrivateProp, StaticBlock,
 };
 
 /// Whether what stands before the word of a class is well-formed.
@@ -43,14 +42,6 @@ fn is_typed_class<N>(node: &Class<N>) -> bool
         || node.type_params.is_some()
         || node.super_type_params.is_some()
         || !node.implements.is_empty()
-}
-
-impl<N: Fits> WellFormed for ClassMemberBox<N> {
-    ghost phrase = { λ n. N.reads n.node.value Member };
-
-    fn is_well_formed(&self) -> bool {
-        self.held().fits(Role::Member)
-    }
 }
 
 impl<N: Fits> WellFormed for Class<N> {

@@ -2,15 +2,15 @@
 
 ghost use Rattle.std.specs.Prelude.{◌≡◌, Bool, List, true};
 ghost use Rattle.swc_ecma_codegen_ast.specs.declared.roles.Role.{Role as InRole};
-ghost use Rattle.swc_ecma_codegen_ast.specs.declared.roles.Role.TheVariants.{Expression, Statement, MemberExpression, AssignmentTarget, Pattern, PropertyName, PropertyDefinition, ObjectLiteral, Function, Block, Declaration, VariableDeclaration};
+ghost use Rattle.swc_ecma_codegen_ast.specs.declared.roles.Role.TheVariants.{Expression, Statement, MemberExpression, AssignmentTarget, Pattern, PropertyName, PropertyDefinition, ObjectLiteral, Function, Block, Declaration, VariableDeclaration, Member, Template, ModuleDeclaration, Item};
 ghost use Rattle.swc_ecma_codegen_ast.specs.ElementPhrases.{element};
 ghost use Rattle.swc_ecma_codegen_ast.specs.Phrases.{Phrase, is_possible};
 ghost use Rattle.swc_ecma_codegen_grammar.specs.Possible.{all_possible};
 
 use swc_ecma_codegen_ast::roles::Role;
 use swc_ecma_codegen_tree::{
-    AssignTargetBox, BlockStmtBox, DeclBox, ExprBox, FunctionBox, MemberExprBox, ObjectLitBox,
-    PatBox, PropBox, PropNameBox, StmtBox, VarDeclBox,
+    Link, ToAssignTarget, ToBlockStmt, ToClassMember, ToDecl, ToExpr, ToFunction, ToMemberExpr,
+    ToModuleDecl, ToModuleItem, ToObjectLit, ToPat, ToProp, ToPropName, ToStmt, ToTpl, ToVarDecl,
 };
 
 /// A node, or a link to one.
@@ -22,6 +22,13 @@ pub trait WellFormed {
         ensures { result ≡ is_possible (phrase self.now) };
 }
 
+/// What a link is to, as a role: the one that such a node has by itself.
+pub trait LinkRole {
+    const ROLE: Role;
+
+    ghost ROLE: { InRole };
+}
+
 /// What a link holds.
 pub trait Fits {
     ghost reads: { Self → InRole → Phrase };
@@ -31,100 +38,108 @@ pub trait Fits {
         ensures { result ≡ is_possible (reads self.now role) };
 }
 
-impl<N: Fits> WellFormed for ExprBox<N> {
-    ghost phrase = { λ n. N.reads n.node.value Expression };
+impl<K: LinkRole, N: Fits> WellFormed for Link<K, N> {
+    ghost phrase = { λ n. N.reads n.node.value K.ROLE };
 
     fn is_well_formed(&self) -> bool {
-        self.held().fits(Role::Expression)
+        self.held().fits(K::ROLE)
     }
 }
 
-impl<N: Fits> WellFormed for StmtBox<N> {
-    ghost phrase = { λ n. N.reads n.node.value Statement };
+impl LinkRole for ToExpr {
+    const ROLE: Role = Role::Expression;
 
-    fn is_well_formed(&self) -> bool {
-        self.held().fits(Role::Statement)
-    }
+    ghost ROLE = { Expression };
 }
 
-impl<N: Fits> WellFormed for MemberExprBox<N> {
-    ghost phrase = { λ n. N.reads n.node.value MemberExpression };
+impl LinkRole for ToStmt {
+    const ROLE: Role = Role::Statement;
 
-    fn is_well_formed(&self) -> bool {
-        self.held().fits(Role::MemberExpression)
-    }
+    ghost ROLE = { Statement };
 }
 
-impl<N: Fits> WellFormed for AssignTargetBox<N> {
-    ghost phrase = { λ n. N.reads n.node.value AssignmentTarget };
+impl LinkRole for ToMemberExpr {
+    const ROLE: Role = Role::MemberExpression;
 
-    fn is_well_formed(&self) -> bool {
-        self.held().fits(Role::AssignmentTarget)
-    }
+    ghost ROLE = { MemberExpression };
 }
 
-impl<N: Fits> WellFormed for PatBox<N> {
-    ghost phrase = { λ n. N.reads n.node.value Pattern };
+impl LinkRole for ToAssignTarget {
+    const ROLE: Role = Role::AssignmentTarget;
 
-    fn is_well_formed(&self) -> bool {
-        self.held().fits(Role::Pattern)
-    }
+    ghost ROLE = { AssignmentTarget };
 }
 
-impl<N: Fits> WellFormed for PropNameBox<N> {
-    ghost phrase = { λ n. N.reads n.node.value PropertyName };
+impl LinkRole for ToPat {
+    const ROLE: Role = Role::Pattern;
 
-    fn is_well_formed(&self) -> bool {
-        self.held().fits(Role::PropertyName)
-    }
+    ghost ROLE = { Pattern };
 }
 
-impl<N: Fits> WellFormed for PropBox<N> {
-    ghost phrase = { λ n. N.reads n.node.value PropertyDefinition };
+impl LinkRole for ToPropName {
+    const ROLE: Role = Role::PropertyName;
 
-    fn is_well_formed(&self) -> bool {
-        self.held().fits(Role::PropertyDefinition)
-    }
+    ghost ROLE = { PropertyName };
 }
 
-impl<N: Fits> WellFormed for ObjectLitBox<N> {
-    ghost phrase = { λ n. N.reads n.node.value ObjectLiteral };
+impl LinkRole for ToProp {
+    const ROLE: Role = Role::PropertyDefinition;
 
-    fn is_well_formed(&self) -> bool {
-        self.held().fits(Role::ObjectLiteral)
-    }
+    ghost ROLE = { PropertyDefinition };
 }
 
-impl<N: Fits> WellFormed for FunctionBox<N> {
-    ghost phrase = { λ n. N.reads n.node.value Function };
+impl LinkRole for ToObjectLit {
+    const ROLE: Role = Role::ObjectLiteral;
 
-    fn is_well_formed(&self) -> bool {
-        self.held().fits(Role::Function)
-    }
+    ghost ROLE = { ObjectLiteral };
 }
 
-impl<N: Fits> WellFormed for BlockStmtBox<N> {
-    ghost phrase = { λ n. N.reads n.node.value Block };
+impl LinkRole for ToFunction {
+    const ROLE: Role = Role::Function;
 
-    fn is_well_formed(&self) -> bool {
-        self.held().fits(Role::Block)
-    }
+    ghost ROLE = { Function };
 }
 
-impl<N: Fits> WellFormed for DeclBox<N> {
-    ghost phrase = { λ n. N.reads n.node.value Declaration };
+impl LinkRole for ToBlockStmt {
+    const ROLE: Role = Role::Block;
 
-    fn is_well_formed(&self) -> bool {
-        self.held().fits(Role::Declaration)
-    }
+    ghost ROLE = { Block };
 }
 
-impl<N: Fits> WellFormed for VarDeclBox<N> {
-    ghost phrase = { λ n. N.reads n.node.value VariableDeclaration };
+impl LinkRole for ToDecl {
+    const ROLE: Role = Role::Declaration;
 
-    fn is_well_formed(&self) -> bool {
-        self.held().fits(Role::VariableDeclaration)
-    }
+    ghost ROLE = { Declaration };
+}
+
+impl LinkRole for ToVarDecl {
+    const ROLE: Role = Role::VariableDeclaration;
+
+    ghost ROLE = { VariableDeclaration };
+}
+
+impl LinkRole for ToClassMember {
+    const ROLE: Role = Role::Member;
+
+    ghost ROLE = { Member };
+}
+
+impl LinkRole for ToTpl {
+    const ROLE: Role = Role::Template;
+
+    ghost ROLE = { Template };
+}
+
+impl LinkRole for ToModuleDecl {
+    const ROLE: Role = Role::ModuleDeclaration;
+
+    ghost ROLE = { ModuleDeclaration };
+}
+
+impl LinkRole for ToModuleItem {
+    const ROLE: Role = Role::Item;
+
+    ghost ROLE = { Item };
 }
 
 /// A hole among elements is nothing.

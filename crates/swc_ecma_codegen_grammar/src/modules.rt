@@ -4,7 +4,6 @@ ghost use Rattle.std.specs.Prelude.{◌≡◌};
 ghost use Rattle.swc_ecma_codegen_ast.specs.Phrases.{is_possible};
 ghost use Rattle.swc_ecma_codegen_ast.specs.ModulePhrases.{attributes, module_export_name, imported_as, import_named, import_specifier, import_decl, exported_as, export_named_specifier, export_specifier, from_clause, export_named, export_all, exported_head, exported_tail, export_decl, default_decl, export_default_decl, export_default_expr, module_decl, module_item};
 ghost use Rattle.swc_ecma_codegen_ast.specs.StmtPhrases.{whole_module};
-ghost use Rattle.swc_ecma_codegen_ast.specs.declared.roles.Role.TheVariants.{Item, ModuleDeclaration};
 ghost use Rattle.swc_ecma_codegen_grammar.specs.ModuleForms.{bindings_fit, others_fit, imports_fit, exports_fit};
 
 use crate::forms::{Fits, WellFormed, all_well_formed};
@@ -13,8 +12,7 @@ use swc_ecma_codegen_ast::roles::Role;
 use swc_ecma_codegen_tree::{
     Decl, DefaultDecl, ExportAll, ExportDecl, ExportDefaultDecl, ExportDefaultExpr,
     ExportNamedSpecifier, ExportSpecifier, ImportDecl, ImportNamedSpecifier, ImportSpecifier,
-    Module, ModuleDecl, ModuleDeclBox, ModuleExportName, ModuleItem, ModuleItemBox, NamedExport,
-    ObjectLitBox, Str,
+    Module, ModuleDecl, ModuleExportName, ModuleItem, NamedExport, ObjectLitBox, Str,
 };
 
 impl WellFormed for ModuleExportName {
@@ -279,14 +277,6 @@ impl<N: Fits> WellFormed for ModuleDecl<N> {
     }
 }
 
-impl<N: Fits> WellFormed for ModuleDeclBox<N> {
-    ghost phrase = { λ n. N.reads n.node.value ModuleDeclaration };
-
-    fn is_well_formed(&self) -> bool {
-        self.held().fits(Role::ModuleDeclaration)
-    }
-}
-
 impl<N: Fits> WellFormed for ModuleItem<N> {
     ghost phrase = { module_item N.reads };
 
@@ -296,14 +286,6 @@ impl<N: Fits> WellFormed for ModuleItem<N> {
             ModuleItem::ModuleDecl(node) => node.is_well_formed(),
             ModuleItem::Stmt(node) => node.is_well_formed(),
         }
-    }
-}
-
-impl<N: Fits> WellFormed for ModuleItemBox<N> {
-    ghost phrase = { λ n. N.reads n.node.value Item };
-
-    fn is_well_formed(&self) -> bool {
-        self.held().fits(Role::Item)
     }
 }
 

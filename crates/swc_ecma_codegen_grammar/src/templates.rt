@@ -7,7 +7,6 @@ ghost use Rattle.swc_ecma_codegen_ast.specs.Phrases.{is_possible};
 ghost use Rattle.swc_ecma_codegen_ast.specs.TemplatePhrases.{is_counted, tpl, tagged_tpl};
 ghost use Rattle.swc_ecma_codegen_ast.specs.TemplateValues.{cooked_value};
 ghost use Rattle.swc_ecma_codegen_ast.specs.Turns.{IsReached, IsTemplateTurn, ahead};
-ghost use Rattle.swc_ecma_codegen_ast.specs.declared.roles.Role.TheVariants.{Template};
 ghost use Rattle.swc_ecma_codegen_ast.specs.declared.units.Place.TheVariants.{Between, Escaped};
 ghost use Rattle.swc_ecma_codegen_grammar.specs.TemplateStates.{inside, is_element, all_elements};
 
@@ -20,7 +19,7 @@ use swc_ecma_codegen_ast::turns::{
     Turn, braced_turn, due_turn, escape_turn, is_digit_next, unicode_turn,
 };
 use swc_ecma_codegen_ast::units::Place;
-use swc_ecma_codegen_tree::{ExprBox, TaggedTpl, Tpl, TplBox, TplElement};
+use swc_ecma_codegen_tree::{ExprBox, TaggedTpl, Tpl, TplElement};
 
 /// After one more character of a part, or `None` where the part ends before it.
 #[tactic(auto, unfolding(crate::specs::TemplateStates::inside))]
@@ -163,13 +162,5 @@ impl<N: Fits> WellFormed for TaggedTpl<N> {
         self.type_params.is_none()
             && self.tag.held().fits(Role::Callee)
             && self.tpl.held().fits(Role::TaggedTemplate)
-    }
-}
-
-impl<N: Fits> WellFormed for TplBox<N> {
-    ghost phrase = { λ n. N.reads n.node.value Template };
-
-    fn is_well_formed(&self) -> bool {
-        self.held().fits(Role::Template)
     }
 }

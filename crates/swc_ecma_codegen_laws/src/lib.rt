@@ -47,12 +47,8 @@ ghost use Rattle.swc_ecma_codegen.specs.View.{state_of};
 mod links;
 
 pub use crate::links::{
-    emitted_assign_target_box_reads, emitted_block_stmt_box_reads, emitted_box_reads,
-    emitted_decl_box_reads, emitted_expr_box_reads, emitted_function_box_reads,
-    emitted_member_expr_box_reads, emitted_object_lit_box_reads, emitted_option_reads,
-    emitted_pat_box_reads, emitted_prop_box_reads, emitted_prop_name_box_reads, emitted_ref_reads,
-    emitted_stmt_box_reads, emitted_var_decl_box_reads, links_write_members, links_write_targets,
-    links_write_their_roots,
+    emitted_box_reads, emitted_link_reads, emitted_option_reads, emitted_ref_reads,
+    links_write_members, links_write_targets, links_write_their_roots,
 };
 use swc_ecma_codegen::{Emitter, Node};
 use swc_ecma_codegen_ast::comments::Comments;

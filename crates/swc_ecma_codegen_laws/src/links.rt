@@ -27,10 +27,7 @@ use swc_ecma_codegen_ast::mapper::SourceMapper;
 use swc_ecma_codegen_common::Result;
 use swc_ecma_codegen_spans::Spanned;
 use swc_ecma_codegen_text_writer::WriteJs;
-use swc_ecma_codegen_tree::{
-    AnyNode, AssignTargetBox, BlockStmtBox, DeclBox, ExprBox, ExprPart, FunctionBox, MemberExprBox,
-    ObjectLitBox, PatBox, PropBox, PropNameBox, StmtBox, VarDeclBox,
-};
+use swc_ecma_codegen_tree::{AnyNode, ExprPart, Link};
 
 /// What is written of what a link holds is what is written of the root that it is. So the clauses of `emit_with`, `to_code` and the
 /// laws here that speak of roots speak of links.
@@ -53,132 +50,9 @@ pub fn links_write_targets()
     ensures reads { (node : AnyNode) (target : AssignTarget AnyNode) → node ≡ AnyNode.ExprPart (ExprPart.AssignTarget target) → phrase node AssignmentTarget ≡ assign_target phrase target }
 {}
 
-/// A link to an expression: what is written of what it holds, which reads as that.
-pub fn emitted_expr_box_reads<N: EmitAt + Spanned, W: WriteJs, S: SourceMapper, C: Comments>(
-    link: &ExprBox<N>,
-    e: &mut Emitter<'_, W, S, C>,
-) -> Result
-    ensures items { Follows (N.items link.now.node.value Plain nothing) (state_of S.lines W.sheet e.old) (state_of S.lines W.sheet e.new) (in_short result) }
-    ensures reads { (root : Root) → N.items link.now.node.value Plain ≡ root_items root → is_well_formed_root root ≡ true → MayBegin root (state_of S.lines W.sheet e.old) → OnOk result (AddsReading e.old.cfg (root_phrase root) (W.sheet e.old.wr) (W.sheet e.new.wr)) }
-{
-    link.emit_with(e)
-}
-
-/// A link to a statement.
-pub fn emitted_stmt_box_reads<N: EmitAt + Spanned, W: WriteJs, S: SourceMapper, C: Comments>(
-    link: &StmtBox<N>,
-    e: &mut Emitter<'_, W, S, C>,
-) -> Result
-    ensures items { Follows (N.items link.now.node.value Plain nothing) (state_of S.lines W.sheet e.old) (state_of S.lines W.sheet e.new) (in_short result) }
-    ensures reads { (root : Root) → N.items link.now.node.value Plain ≡ root_items root → is_well_formed_root root ≡ true → MayBegin root (state_of S.lines W.sheet e.old) → OnOk result (AddsReading e.old.cfg (root_phrase root) (W.sheet e.old.wr) (W.sheet e.new.wr)) }
-{
-    link.emit_with(e)
-}
-
-/// A link to a member expression.
-pub fn emitted_member_expr_box_reads<N: EmitAt + Spanned, W: WriteJs, S: SourceMapper, C: Comments>(
-    link: &MemberExprBox<N>,
-    e: &mut Emitter<'_, W, S, C>,
-) -> Result
-    ensures items { Follows (N.items link.now.node.value Plain nothing) (state_of S.lines W.sheet e.old) (state_of S.lines W.sheet e.new) (in_short result) }
-    ensures reads { (root : Root) → N.items link.now.node.value Plain ≡ root_items root → is_well_formed_root root ≡ true → MayBegin root (state_of S.lines W.sheet e.old) → OnOk result (AddsReading e.old.cfg (root_phrase root) (W.sheet e.old.wr) (W.sheet e.new.wr)) }
-{
-    link.emit_with(e)
-}
-
-/// A link to what is assigned to.
-pub fn emitted_assign_target_box_reads<
-    N: EmitAt + Spanned,
-    W: WriteJs,
-    S: SourceMapper,
-    C: Comments,
->(link: &AssignTargetBox<N>, e: &mut Emitter<'_, W, S, C>) -> Result
-    ensures items { Follows (N.items link.now.node.value Plain nothing) (state_of S.lines W.sheet e.old) (state_of S.lines W.sheet e.new) (in_short result) }
-    ensures reads { (root : Root) → N.items link.now.node.value Plain ≡ root_items root → is_well_formed_root root ≡ true → MayBegin root (state_of S.lines W.sheet e.old) → OnOk result (AddsReading e.old.cfg (root_phrase root) (W.sheet e.old.wr) (W.sheet e.new.wr)) }
-{
-    link.emit_with(e)
-}
-
-/// A link to a pattern.
-pub fn emitted_pat_box_reads<N: EmitAt + Spanned, W: WriteJs, S: SourceMapper, C: Comments>(
-    link: &PatBox<N>,
-    e: &mut Emitter<'_, W, S, C>,
-) -> Result
-    ensures items { Follows (N.items link.now.node.value Plain nothing) (state_of S.lines W.sheet e.old) (state_of S.lines W.sheet e.new) (in_short result) }
-    ensures reads { (root : Root) → N.items link.now.node.value Plain ≡ root_items root → is_well_formed_root root ≡ true → MayBegin root (state_of S.lines W.sheet e.old) → OnOk result (AddsReading e.old.cfg (root_phrase root) (W.sheet e.old.wr) (W.sheet e.new.wr)) }
-{
-    link.emit_with(e)
-}
-
-/// A link to an object.
-pub fn emitted_object_lit_box_reads<N: EmitAt + Spanned, W: WriteJs, S: SourceMapper, C: Comments>(
-    link: &ObjectLitBox<N>,
-    e: &mut Emitter<'_, W, S, C>,
-) -> Result
-    ensures items { Follows (N.items link.now.node.value Plain nothing) (state_of S.lines W.sheet e.old) (state_of S.lines W.sheet e.new) (in_short result) }
-    ensures reads { (root : Root) → N.items link.now.node.value Plain ≡ root_items root → is_well_formed_root root ≡ true → MayBegin root (state_of S.lines W.sheet e.old) → OnOk result (AddsReading e.old.cfg (root_phrase root) (W.sheet e.old.wr) (W.sheet e.new.wr)) }
-{
-    link.emit_with(e)
-}
-
-/// A link to the name of a property.
-pub fn emitted_prop_name_box_reads<N: EmitAt + Spanned, W: WriteJs, S: SourceMapper, C: Comments>(
-    link: &PropNameBox<N>,
-    e: &mut Emitter<'_, W, S, C>,
-) -> Result
-    ensures items { Follows (N.items link.now.node.value Plain nothing) (state_of S.lines W.sheet e.old) (state_of S.lines W.sheet e.new) (in_short result) }
-    ensures reads { (root : Root) → N.items link.now.node.value Plain ≡ root_items root → is_well_formed_root root ≡ true → MayBegin root (state_of S.lines W.sheet e.old) → OnOk result (AddsReading e.old.cfg (root_phrase root) (W.sheet e.old.wr) (W.sheet e.new.wr)) }
-{
-    link.emit_with(e)
-}
-
-/// A link to a property.
-pub fn emitted_prop_box_reads<N: EmitAt + Spanned, W: WriteJs, S: SourceMapper, C: Comments>(
-    link: &PropBox<N>,
-    e: &mut Emitter<'_, W, S, C>,
-) -> Result
-    ensures items { Follows (N.items link.now.node.value Plain nothing) (state_of S.lines W.sheet e.old) (state_of S.lines W.sheet e.new) (in_short result) }
-    ensures reads { (root : Root) → N.items link.now.node.value Plain ≡ root_items root → is_well_formed_root root ≡ true → MayBegin root (state_of S.lines W.sheet e.old) → OnOk result (AddsReading e.old.cfg (root_phrase root) (W.sheet e.old.wr) (W.sheet e.new.wr)) }
-{
-    link.emit_with(e)
-}
-
-/// A link to a function, without what stands before its name.
-pub fn emitted_function_box_reads<N: EmitAt + Spanned, W: WriteJs, S: SourceMapper, C: Comments>(
-    link: &FunctionBox<N>,
-    e: &mut Emitter<'_, W, S, C>,
-) -> Result
-    ensures items { Follows (N.items link.now.node.value Plain nothing) (state_of S.lines W.sheet e.old) (state_of S.lines W.sheet e.new) (in_short result) }
-    ensures reads { (root : Root) → N.items link.now.node.value Plain ≡ root_items root → is_well_formed_root root ≡ true → MayBegin root (state_of S.lines W.sheet e.old) → OnOk result (AddsReading e.old.cfg (root_phrase root) (W.sheet e.old.wr) (W.sheet e.new.wr)) }
-{
-    link.emit_with(e)
-}
-
-/// A link to a block.
-pub fn emitted_block_stmt_box_reads<N: EmitAt + Spanned, W: WriteJs, S: SourceMapper, C: Comments>(
-    link: &BlockStmtBox<N>,
-    e: &mut Emitter<'_, W, S, C>,
-) -> Result
-    ensures items { Follows (N.items link.now.node.value Plain nothing) (state_of S.lines W.sheet e.old) (state_of S.lines W.sheet e.new) (in_short result) }
-    ensures reads { (root : Root) → N.items link.now.node.value Plain ≡ root_items root → is_well_formed_root root ≡ true → MayBegin root (state_of S.lines W.sheet e.old) → OnOk result (AddsReading e.old.cfg (root_phrase root) (W.sheet e.old.wr) (W.sheet e.new.wr)) }
-{
-    link.emit_with(e)
-}
-
-/// A link to a declaration.
-pub fn emitted_decl_box_reads<N: EmitAt + Spanned, W: WriteJs, S: SourceMapper, C: Comments>(
-    link: &DeclBox<N>,
-    e: &mut Emitter<'_, W, S, C>,
-) -> Result
-    ensures items { Follows (N.items link.now.node.value Plain nothing) (state_of S.lines W.sheet e.old) (state_of S.lines W.sheet e.new) (in_short result) }
-    ensures reads { (root : Root) → N.items link.now.node.value Plain ≡ root_items root → is_well_formed_root root ≡ true → MayBegin root (state_of S.lines W.sheet e.old) → OnOk result (AddsReading e.old.cfg (root_phrase root) (W.sheet e.old.wr) (W.sheet e.new.wr)) }
-{
-    link.emit_with(e)
-}
-
-/// A link to a declaration of variables, which has no semicolon.
-pub fn emitted_var_decl_box_reads<N: EmitAt + Spanned, W: WriteJs, S: SourceMapper, C: Comments>(
-    link: &VarDeclBox<N>,
+/// A link: what is written of what it holds, which reads as that.
+pub fn emitted_link_reads<K, N: EmitAt + Spanned, W: WriteJs, S: SourceMapper, C: Comments>(
+    link: &Link<K, N>,
     e: &mut Emitter<'_, W, S, C>,
 ) -> Result
     ensures items { Follows (N.items link.now.node.value Plain nothing) (state_of S.lines W.sheet e.old) (state_of S.lines W.sheet e.new) (in_short result) }

@@ -14,9 +14,9 @@ use swc_ecma_codegen_common::{Error, EsVersion};
 use swc_ecma_codegen_grammar::Fits;
 use swc_ecma_codegen_json::{ReadError, program_from_slice};
 use swc_ecma_codegen_laws::{
-    emitted_box_reads, emitted_expr_box_reads, emitted_expr_reads, emitted_member_expr_box_reads,
-    emitted_option_reads, emitted_ref_reads, emitted_stmt_box_reads, emitted_stmt_reads,
-    links_write_members, links_write_targets, links_write_their_roots, new_emitter_reads,
+    emitted_box_reads, emitted_expr_reads, emitted_link_reads, emitted_option_reads,
+    emitted_ref_reads, emitted_stmt_reads, links_write_members, links_write_targets,
+    links_write_their_roots, new_emitter_reads,
 };
 use swc_ecma_codegen_spans::Spanned;
 use swc_ecma_codegen_text_writer::JsWriter;
@@ -110,11 +110,11 @@ impl Tree for AnyNode {
             emitter.emit_script(script)?;
             script.emit_with(&mut emitter)?;
             if let Some(link) = script.body.first() {
-                emitted_stmt_box_reads(link, &mut emitter)?;
+                emitted_link_reads(link, &mut emitter)?;
             }
         }
         if let Some(Expr::Member(link)) = expr_of(tree) {
-            emitted_member_expr_box_reads(link, &mut emitter)?;
+            emitted_link_reads(link, &mut emitter)?;
         }
         Ok(emitter.wr.into_inner())
     }
@@ -131,7 +131,7 @@ impl Tree for AnyNode {
             emitted_ref_reads(&stmt, &mut emitter)?;
         }
         if let Stmt::Expr(node) = stmt {
-            emitted_expr_box_reads(&node.expr, &mut emitter)?;
+            emitted_link_reads(&node.expr, &mut emitter)?;
         }
         emitted_box_reads(boxed, &mut emitter)?;
         emitted_option_reads(some, &mut emitter)?;

@@ -61,6 +61,8 @@ impl<W: Write> Outlet<W> {
 
     /// The error that was kept, which is kept no more.
     pub fn take_fault(&mut self) -> Option<io::Error>
+        ensures kept { result ≡ self.old.fault }
+        ensures taken { self.new.fault ≡ None }
         ensures before { self.new.before ≡ self.old.before }
         ensures sent { sent self.new ≡ sent self.old }
         ensures logged { self.new.log.bytes ≡ self.old.log.bytes }
@@ -76,6 +78,7 @@ impl<W: Write> Outlet<W> {
         ensures before { self.new.before ≡ self.old.before }
         ensures log { self.new.log ≡ self.old.log }
         ensures faults { Rises self.old.faults self.new.faults }
+        ensures kept { self.new.fault ≡ Some error }
     {
         self.faults = self.faults.saturating_add(1);
         self.fault = Some(error);

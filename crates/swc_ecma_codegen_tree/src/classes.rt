@@ -1,14 +1,15 @@
 //! Classes. ECMA-262, section 15.7.
 
 use crate::decls::{Decorator, Param};
-use crate::expr_links::{ExprBox, PropNameBox};
 use crate::idents::{BindingIdent, PrivateName};
 use crate::links::AnyNode;
 use crate::pats::AssignPat;
-use crate::stmt_links::{BlockStmtBox, ClassMemberBox, FunctionBox};
+use crate::sorts::{
+    BlockStmtBox, ClassMemberBox, ExprBox, FunctionBox, PropNameBox, TsTypeAnnBox,
+    TsTypeParamDeclBox, TsTypeParamInstantiationBox,
+};
 use crate::stmts::EmptyStmt;
 use crate::ts_decls::TsExprWithTypeArgs;
-use crate::ts_links::{TsTypeAnnBox, TsTypeParamDeclBox, TsTypeParamInstantiationBox};
 use crate::ts_members::TsIndexSignature;
 use swc_ecma_codegen_common::Span;
 

@@ -1,11 +1,12 @@
 //! Declarations and functions.
 
-use crate::expr_links::{ExprBox, PatBox};
 use crate::idents::Ident;
 use crate::links::AnyNode;
-use crate::stmt_links::{BlockStmtBox, ClassBox, FunctionBox, VarDeclBox};
+use crate::sorts::{
+    BlockStmtBox, ClassBox, ExprBox, FunctionBox, PatBox, TsTypeAnnBox, TsTypeParamDeclBox,
+    VarDeclBox,
+};
 use crate::ts_decls::{TsEnumDecl, TsInterfaceDecl, TsModuleDecl, TsTypeAliasDecl};
-use crate::ts_links::{TsTypeAnnBox, TsTypeParamDeclBox};
 use swc_ecma_codegen_common::Span;
 
 /// `let a = 1;` or `class A {}`. ECMA-262, section 14.

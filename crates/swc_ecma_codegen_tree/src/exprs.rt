@@ -1,20 +1,18 @@
 //! Expressions. ECMA-262, section 13.
 
-use crate::expr_links::{
-    AssignTargetBox, ExprBox, MemberExprBox, ObjectLitBox, OptCallBox, PatBox, PropBox,
-    PropNameBox, TplBox,
-};
 use crate::idents::{Ident, IdentName, Invalid, PrivateName};
 use crate::jsx::{JSXEmptyExpr, JSXMemberExpr, JSXNamespacedName};
-use crate::jsx_links::{JSXElementBox, JSXFragmentBox};
 use crate::links::AnyNode;
 use crate::lits::{BigInt, Lit, Number, Str};
 use crate::modules::ImportPhase;
-use crate::stmt_links::{BlockStmtBox, ClassBox, FunctionBox};
+use crate::sorts::{
+    AssignTargetBox, BlockStmtBox, ClassBox, ExprBox, FunctionBox, JSXElementBox, JSXFragmentBox,
+    MemberExprBox, ObjectLitBox, OptCallBox, PatBox, PropBox, PropNameBox, TplBox, TsTypeAnnBox,
+    TsTypeParamDeclBox, TsTypeParamInstantiationBox,
+};
 use crate::ts_exprs::{
     TsAsExpr, TsConstAssertion, TsInstantiation, TsNonNullExpr, TsSatisfiesExpr, TsTypeAssertion,
 };
-use crate::ts_links::{TsTypeAnnBox, TsTypeParamDeclBox, TsTypeParamInstantiationBox};
 use swc_ecma_codegen_common::{AssignOp, BinaryOp, Span, UnaryOp, UpdateOp};
 
 /// `a + b` or `f(a)`: an expression. ECMA-262, section 13.

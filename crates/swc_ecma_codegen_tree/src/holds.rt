@@ -24,6 +24,23 @@ pub trait Holds<T>: Sized {
         ensures holder { IfErr result (λ other. other ≡ self) };
 }
 
+/// A node holds itself.
+impl<T> Holds<T> for T {
+    ghost node_in = { Some };
+
+    fn hold(_: Global, node: T) -> Result<T, AllocError> {
+        Ok(node)
+    }
+
+    fn node(&self) -> Option<&T> {
+        Some(self)
+    }
+
+    fn into_node(self) -> Result<T, T> {
+        Ok(self)
+    }
+}
+
 /// What holds a part that holds `node`. Where memory is refused, `node` is let go.
 pub(crate) fn hold_in_part<P: Holds<T>, T, N: Holds<P>>(
     alloc: Global,

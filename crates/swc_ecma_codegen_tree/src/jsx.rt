@@ -1,14 +1,13 @@
 //! JSX.
 
-use crate::expr_links::ExprBox;
 use crate::exprs::SpreadElement;
 use crate::idents::{Ident, IdentName};
-use crate::jsx_links::{
-    JSXAttrValueBox, JSXElementBox, JSXElementChildBox, JSXFragmentBox, JSXObjectBox,
-};
 use crate::links::AnyNode;
 use crate::lits::{JSXText, Lit};
-use crate::ts_links::TsTypeParamInstantiationBox;
+use crate::sorts::{
+    ExprBox, JSXAttrValueBox, JSXElementBox, JSXElementChildBox, JSXFragmentBox, JSXObjectBox,
+    TsTypeParamInstantiationBox,
+};
 use swc_ecma_codegen_common::Span;
 
 /// `<a b={c}>d</a>`. JSX, section JSX Elements.

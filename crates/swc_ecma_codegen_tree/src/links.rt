@@ -1,5 +1,7 @@
-//! What links hold: the one type that refers to itself.
+//! Links, and what they hold: the one type that refers to itself.
 
+ghost use Rattle.std.specs.Prelude.{◌≡◌, IfOk, Some};
+ghost use Rattle.std.specs.Option.{option_copied};
 ghost use Rattle.swc_ecma_codegen_tree.specs.Held.{expr_in, stmt_in, member_expr_in, expr_part_in, stmt_part_in, jsx_part_in, ts_part_in};
 
 use crate::drops::{
@@ -7,10 +9,70 @@ use crate::drops::{
     let_ts_part_go,
 };
 use crate::exprs::{Expr, MemberExpr};
-use crate::holds::Holds;
+use crate::holds::{Holds, hold_in_part, into_node_in_part, node_in_part};
 use crate::parts::{ExprPart, JSXPart, StmtPart, TsPart};
+use crate::sorts::LinkSort;
 use crate::stmts::Stmt;
 use std::alloc::{AllocError, Global};
+use std::marker::PhantomData;
+
+/// A link to a node of the sort `K`: `Link<ToExpr>`, which is `ExprBox`, is what `Box<Expr>` is in swc.
+pub struct Link<K, N = AnyNode> {
+    node: Box<N>,
+    sort: PhantomData<K>,
+}
+
+impl<K, N: Drop> Drop for Link<K, N> {
+    #[inline(never)]
+    fn drop(self) {
+        let Link { node: _, sort: _ } = self;
+    }
+}
+
+impl<K, N> Link<K, N> {
+    /// What is held, whatever it is.
+    pub fn held(&self) -> &N
+        ensures { result.now ≡ self.now.node.value }
+    {
+        &self.node
+    }
+}
+
+impl<K, N: Drop> Link<K, N> {
+    /// A link that holds `node`, whatever it is. Where memory is refused, `node` is let go.
+    pub fn holding(alloc: Global, node: N) -> Result<Link<K, N>, AllocError>
+        ensures { IfOk result (λ link. link.node.value ≡ node) }
+    {
+        Ok(Link {
+            node: Box::new(alloc, node)?,
+            sort: PhantomData,
+        })
+    }
+}
+
+impl<K: LinkSort<N>, N: Holds<K::Part> + Drop> Link<K, N> {
+    /// A link to `node`. Where memory is refused, `node` is let go.
+    pub fn new(alloc: Global, node: K::Node) -> Result<Link<K, N>, AllocError>
+        ensures { IfOk result (λ link. K.linked (N.node_in link.node.value) ≡ Some node) }
+    {
+        Link::holding(alloc, hold_in_part::<K::Part, K::Node, N>(alloc, node)?)
+    }
+
+    /// The node that is linked to.
+    pub fn get(&self) -> Option<&K::Node>
+        ensures { option_copied result ≡ K.linked (N.node_in self.now.node.value) }
+    {
+        node_in_part::<K::Part, K::Node, N>(&self.node)
+    }
+
+    /// The node that is linked to, taken out. What else is held is let go.
+    pub fn into_inner(self) -> Option<K::Node>
+        ensures { result ≡ K.linked (N.node_in self.node.value) }
+    {
+        let Link { node, sort: _ } = self;
+        into_node_in_part::<K::Part, K::Node, N>(Box::into_inner(node))
+    }
+}
 
 /// What a link can hold: the one type that refers to itself.
 pub enum AnyNode {

@@ -1,11 +1,10 @@
 //! Imports and exports. ECMA-262, section 16.2.
 
-use crate::expr_links::{ExprBox, ObjectLitBox};
 use crate::exprs::{ClassExpr, FnExpr};
 use crate::idents::Ident;
 use crate::links::AnyNode;
 use crate::lits::Str;
-use crate::stmt_links::DeclBox;
+use crate::sorts::{DeclBox, ExprBox, ObjectLitBox};
 use crate::ts_decls::TsInterfaceDecl;
 use swc_ecma_codegen_common::Span;
 

@@ -1,11 +1,10 @@
 //! Patterns, and what is assigned to.
 
-use crate::expr_links::{ExprBox, MemberExprBox, PatBox, PropNameBox};
 use crate::exprs::{OptChainExpr, ParenExpr, SuperPropExpr};
 use crate::idents::{BindingIdent, Invalid};
 use crate::links::AnyNode;
+use crate::sorts::{ExprBox, MemberExprBox, PatBox, PropNameBox, TsTypeAnnBox};
 use crate::ts_exprs::{TsAsExpr, TsInstantiation, TsNonNullExpr, TsSatisfiesExpr, TsTypeAssertion};
-use crate::ts_links::TsTypeAnnBox;
 use swc_ecma_codegen_common::Span;
 
 /// `[a, b]` of `let [a, b] = c;`. ECMA-262, section 14.3.3.

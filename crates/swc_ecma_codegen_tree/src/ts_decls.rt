@@ -1,12 +1,11 @@
 //! Declarations of TypeScript.
 
-use crate::expr_links::ExprBox;
 use crate::idents::Ident;
 use crate::links::AnyNode;
 use crate::lits::Str;
-use crate::stmt_links::ModuleItemBox;
-use crate::ts_links::{
-    TsEntityNameBox, TsNamespaceBodyBox, TsTypeBox, TsTypeParamDeclBox, TsTypeParamInstantiationBox,
+use crate::sorts::{
+    ExprBox, ModuleItemBox, TsEntityNameBox, TsNamespaceBodyBox, TsTypeBox, TsTypeParamDeclBox,
+    TsTypeParamInstantiationBox,
 };
 use crate::ts_members::TsInterfaceBody;
 use swc_ecma_codegen_common::Span;

@@ -1,8 +1,7 @@
 //! Expressions of TypeScript.
 
-use crate::expr_links::ExprBox;
 use crate::links::AnyNode;
-use crate::ts_links::{TsTypeBox, TsTypeParamInstantiationBox};
+use crate::sorts::{ExprBox, TsTypeBox, TsTypeParamInstantiationBox};
 use swc_ecma_codegen_common::Span;
 
 /// `a as B`. TypeScript, Everyday Types.

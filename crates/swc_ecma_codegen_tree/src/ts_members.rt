@@ -1,8 +1,7 @@
 //! What object types and interfaces hold.
 
-use crate::expr_links::ExprBox;
 use crate::links::AnyNode;
-use crate::ts_links::{TsFnParamBox, TsTypeAnnBox, TsTypeElementBox, TsTypeParamDeclBox};
+use crate::sorts::{ExprBox, TsFnParamBox, TsTypeAnnBox, TsTypeElementBox, TsTypeParamDeclBox};
 use swc_ecma_codegen_common::Span;
 
 /// `a: B` or `c(): D` of `{a: B; c(): D}`. TypeScript, Object Types.

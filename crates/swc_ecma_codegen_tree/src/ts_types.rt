@@ -1,14 +1,13 @@
 //! Types of TypeScript.
 
-use crate::expr_links::PatBox;
 use crate::exprs::TplElement;
 use crate::idents::{BindingIdent, Ident, IdentName};
 use crate::links::AnyNode;
 use crate::lits::{BigInt, Bool, Number, Str};
 use crate::pats::{ArrayPat, ObjectPat, RestPat};
-use crate::ts_links::{
-    TsEntityNameBox, TsFnParamBox, TsTypeAnnBox, TsTypeBox, TsTypeElementBox, TsTypeParamDeclBox,
-    TsTypeParamInstantiationBox,
+use crate::sorts::{
+    PatBox, TsEntityNameBox, TsFnParamBox, TsTypeAnnBox, TsTypeBox, TsTypeElementBox,
+    TsTypeParamDeclBox, TsTypeParamInstantiationBox,
 };
 use swc_ecma_codegen_common::Span;
 

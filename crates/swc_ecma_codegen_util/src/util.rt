@@ -2,10 +2,7 @@
 
 ghost use Rattle.std.specs.Prelude.{◌≡◌, Bool};
 
-use swc_ecma_codegen_tree::{
-    AssignTargetBox, DeclBox, ExprBox, MemberExprBox, OptCallBox, PatBox, PropNameBox, StmtBox,
-    VarDeclBox,
-};
+use swc_ecma_codegen_tree::Link;
 
 /// Whether its text begins with a character of a name. swc's `util::StartsWithAlphaNum`.
 pub trait StartsWithAlphaNum {
@@ -41,63 +38,7 @@ impl<T: StartsWithAlphaNum> StartsWithAlphaNum for Box<T> {
     }
 }
 
-impl<N: StartsWithAlphaNum> StartsWithAlphaNum for ExprBox<N> {
-    ghost starts = { λ n. N.starts n.node.value };
-
-    fn starts_with_alpha_num(&self) -> bool {
-        self.held().starts_with_alpha_num()
-    }
-}
-
-impl<N: StartsWithAlphaNum> StartsWithAlphaNum for PatBox<N> {
-    ghost starts = { λ n. N.starts n.node.value };
-
-    fn starts_with_alpha_num(&self) -> bool {
-        self.held().starts_with_alpha_num()
-    }
-}
-
-impl<N: StartsWithAlphaNum> StartsWithAlphaNum for PropNameBox<N> {
-    ghost starts = { λ n. N.starts n.node.value };
-
-    fn starts_with_alpha_num(&self) -> bool {
-        self.held().starts_with_alpha_num()
-    }
-}
-
-impl<N: StartsWithAlphaNum> StartsWithAlphaNum for MemberExprBox<N> {
-    ghost starts = { λ n. N.starts n.node.value };
-
-    fn starts_with_alpha_num(&self) -> bool {
-        self.held().starts_with_alpha_num()
-    }
-}
-
-impl<N: StartsWithAlphaNum> StartsWithAlphaNum for OptCallBox<N> {
-    ghost starts = { λ n. N.starts n.node.value };
-
-    fn starts_with_alpha_num(&self) -> bool {
-        self.held().starts_with_alpha_num()
-    }
-}
-
-impl<N: StartsWithAlphaNum> StartsWithAlphaNum for AssignTargetBox<N> {
-    ghost starts = { λ n. N.starts n.node.value };
-
-    fn starts_with_alpha_num(&self) -> bool {
-        self.held().starts_with_alpha_num()
-    }
-}
-
-impl<N: StartsWithAlphaNum> StartsWithAlphaNum for StmtBox<N> {
-    ghost starts = { λ n. N.starts n.node.value };
-
-    fn starts_with_alpha_num(&self) -> bool {
-        self.held().starts_with_alpha_num()
-    }
-}
-
-impl<N: StartsWithAlphaNum> StartsWithAlphaNum for DeclBox<N> {
+impl<K, N: StartsWithAlphaNum> StartsWithAlphaNum for Link<K, N> {
     ghost starts = { λ n. N.starts n.node.value };
 
     fn starts_with_alpha_num(&self) -> bool {
@@ -121,31 +62,7 @@ impl<T: EndsWithAlphaNum> EndsWithAlphaNum for Box<T> {
     }
 }
 
-impl<N: EndsWithAlphaNum> EndsWithAlphaNum for ExprBox<N> {
-    ghost ends = { λ n. N.ends n.node.value };
-
-    fn ends_with_alpha_num(&self) -> bool {
-        self.held().ends_with_alpha_num()
-    }
-}
-
-impl<N: EndsWithAlphaNum> EndsWithAlphaNum for PatBox<N> {
-    ghost ends = { λ n. N.ends n.node.value };
-
-    fn ends_with_alpha_num(&self) -> bool {
-        self.held().ends_with_alpha_num()
-    }
-}
-
-impl<N: EndsWithAlphaNum> EndsWithAlphaNum for MemberExprBox<N> {
-    ghost ends = { λ n. N.ends n.node.value };
-
-    fn ends_with_alpha_num(&self) -> bool {
-        self.held().ends_with_alpha_num()
-    }
-}
-
-impl<N: EndsWithAlphaNum> EndsWithAlphaNum for VarDeclBox<N> {
+impl<K, N: EndsWithAlphaNum> EndsWithAlphaNum for Link<K, N> {
     ghost ends = { λ n. N.ends n.node.value };
 
     fn ends_with_alpha_num(&self) -> bool {

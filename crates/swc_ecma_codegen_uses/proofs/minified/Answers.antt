@@ -1,5 +1,4 @@
 use Rattle.std.proofs.Common.{◌≡◌, [], ◌∷◌, ◌∙◌, ap, inl, refl, subst, sym, true}
-use Rattle.swc_ecma_codegen_util.specs.Defaults.{default_config}
 use Rattle.swc_ecma_codegen_util.specs.declared.config.Config.{Config}
 use Rattle.swc_ecma_codegen_ast.specs.SourceLines.{no_lines}
 use Rattle.swc_ecma_codegen_text_writer.specs.Told.{told}

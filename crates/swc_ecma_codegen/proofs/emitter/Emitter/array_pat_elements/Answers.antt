@@ -1,5 +1,5 @@
 use Rattle.std.proofs.Common.{◌≡◌, ℕ, List, Option, map, ap, ◌∙◌, subst}
-use Rattle.swc_ecma_codegen_tree.specs.declared.expr_links.PatBox.{PatBox}
+use Rattle.swc_ecma_codegen_tree.specs.Links.{PatBox}
 use Rattle.swc_ecma_codegen_spans.specs.Spans.{option_span}
 use Rattle.swc_ecma_codegen_ast.specs.ElementPhrases.{last_is_hole}
 use Rattle.swc_ecma_codegen_base.specs.Run.{State, Emits}

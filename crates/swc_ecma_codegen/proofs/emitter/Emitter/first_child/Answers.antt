@@ -1,4 +1,4 @@
-use Rattle.std.proofs.Common.{Bool, sym, ap, ◌∙◌, subst}
+use Rattle.std.proofs.Common.{Bool, ap, ◌∙◌, subst}
 use Rattle.swc_ecma_codegen_ast.specs.ListFormats.{leading_line}
 use Rattle.swc_ecma_codegen_base.specs.Run.{Emits}
 use Rattle.swc_ecma_codegen_base.specs.Lists as lists

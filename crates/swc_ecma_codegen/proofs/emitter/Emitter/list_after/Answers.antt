@@ -1,4 +1,4 @@
-use Rattle.std.proofs.Common.{◌≡◌, ◌≤◌, ◌<◌, ◌+◌, ℕ, length, get_or, drop, map, sym, subst, rules, Err, Result}
+use Rattle.std.proofs.Common.{◌≡◌, ◌≤◌, ◌<◌, ◌+◌, ℕ, length, drop, map, sym, subst, rules, Err, Result}
 use Rattle.swc_ecma_codegen_common.specs.declared.errors.Refusal.{Refusal}
 use Rattle.swc_ecma_codegen_base.specs.Run.{Plan, State, Emits, Follows}
 use Rattle.swc_ecma_codegen_base.specs.Lists.{list_after, next_child}

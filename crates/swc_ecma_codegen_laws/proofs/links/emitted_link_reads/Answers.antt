@@ -1,4 +1,4 @@
-use Rattle.swc_ecma_codegen_laws.proofs.links.emitted_member_expr_box_reads.Goals as goal
+use Rattle.swc_ecma_codegen_laws.proofs.links.emitted_link_reads.Goals as goal
 
 pub returns-clause-items : goal.returns-clause-items
 returns-clause-items g c = c.emit_with.ensures.items
