@@ -1,4 +1,4 @@
-//! What ties the readers of the nodes together: they are generic in what links hold, and only here is it `AnyNode`.
+//! What ties the readers of the nodes together: a node of any sort is read by its area, and what its links hold so again.
 
 use std::alloc::{AllocError, Global};
 use swc_ecma_codegen_read::{Failed, Fault, Make, Sort, Source};
@@ -6,7 +6,7 @@ use swc_ecma_codegen_read_expr::read_expr_node;
 use swc_ecma_codegen_read_jsx::read_jsx_node;
 use swc_ecma_codegen_read_stmt::read_stmt_node;
 use swc_ecma_codegen_read_ts::read_ts_node;
-use swc_ecma_codegen_tree::AnyNode;
+use swc_ecma_codegen_tree::{AnyNode, Expr, ExprPart, Holds, JSXPart, MemberExpr, Stmt, StmtPart, TsPart};
 
 /// How many links may still lie below one another. It gets shorter at each link, so that reading ends.
 #[derive(Drop)]
@@ -24,10 +24,22 @@ pub fn all_levels(alloc: Global) -> Result<Levels, AllocError> {
     Ok(levels)
 }
 
-impl Make<AnyNode> for Levels {
+/// What links hold, of each area. The readers are made for any of it, which costs a check less than to make them for `AnyNode`.
+pub trait Nodes: Holds<Expr<Self>>
+    + Holds<MemberExpr<Self>>
+    + Holds<ExprPart<Self>>
+    + Holds<Stmt<Self>>
+    + Holds<StmtPart<Self>>
+    + Holds<JSXPart<Self>>
+    + Holds<TsPart<Self>>
+    + Drop {}
+
+impl Nodes for AnyNode {}
+
+impl<N: Nodes> Make<N> for Levels {
     #[cycle(tie)]
     #[inline(always)]
-    fn make<S: Source>(&self, sort: Sort, source: &mut S) -> Result<AnyNode, Failed> {
+    fn make<S: Source>(&self, sort: Sort, source: &mut S) -> Result<N, Failed> {
         match self {
             Levels::More(fewer) => read_node(sort, source, fewer),
             Levels::Out => Err(source.fail(Fault::TooDeep)),
@@ -37,7 +49,11 @@ impl Make<AnyNode> for Levels {
 
 /// A node of a sort, and all that lies below it, read by its area.
 #[cycle(tie)]
-fn read_node<S: Source>(sort: Sort, source: &mut S, make: &Levels) -> Result<AnyNode, Failed> {
+fn read_node<N: Nodes, S: Source>(
+    sort: Sort,
+    source: &mut S,
+    make: &Levels,
+) -> Result<N, Failed> {
     match sort {
         Sort::Expr(sort) => read_expr_node(sort, source, make),
         Sort::Stmt(sort) => read_stmt_node(sort, source, make),

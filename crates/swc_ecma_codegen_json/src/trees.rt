@@ -1,21 +1,21 @@
 //! Programs as serde reads them.
 
-use crate::levels::{Levels, all_levels};
+use crate::levels::{Levels, Nodes, all_levels};
 use serde::{Deserialize, DeserializeOwned, Deserializer, Format};
 use std::alloc::Global;
 use swc_ecma_codegen_read::Input;
 use swc_ecma_codegen_read_stmt::read_program;
-use swc_ecma_codegen_tree::Program;
+use swc_ecma_codegen_tree::{AnyNode, Program};
 
 /// A program that serde reads, in any of its formats: `let tree: Tree = serde_json::from_slice(alloc, bytes)?`.
 #[derive(Drop)]
-pub struct Tree(pub Program);
+pub struct Tree<N = AnyNode>(pub Program<N>);
 
-impl DeserializeOwned for Tree {
+impl<N: Nodes> DeserializeOwned for Tree<N> {
     fn deserialize_owned<F: Format>(
         alloc: Global,
         from: &mut Deserializer<'_, '_, F>,
-    ) -> Result<Tree, F::Error> {
+    ) -> Result<Tree<N>, F::Error> {
         let Ok(levels) = all_levels(alloc) else {
             return Err(from.no_memory());
         };
@@ -25,21 +25,21 @@ impl DeserializeOwned for Tree {
 
 /// The program that is read, or why there is none. In a function that is lent the input, since the check doesn't follow the
 /// loan of a local that holds a reference to where any `S: Source` is taken.
-fn read_tree<'a, 'de, 's, F: Format>(
+fn read_tree<'a, 'de, 's, N: Nodes, F: Format>(
     input: &mut Input<'a, 'de, 's, F>,
     levels: &Levels,
-) -> Result<Tree, F::Error> {
+) -> Result<Tree<N>, F::Error> {
     match read_program(input, levels) {
         Ok(program) => Ok(Tree(program)),
         Err(_) => Err(input.error()),
     }
 }
 
-impl<'de> Deserialize<'de> for Tree {
+impl<'de, N: Nodes> Deserialize<'de> for Tree<N> {
     fn deserialize<F: Format>(
         alloc: Global,
         from: &mut Deserializer<'de, '_, F>,
-    ) -> Result<Tree, F::Error> {
+    ) -> Result<Tree<N>, F::Error> {
         Tree::deserialize_owned(alloc, from)
     }
 }

@@ -19,7 +19,6 @@ use std::io;
 use std::io::{ErrorKind, Read, Write};
 use swc_ecma_codegen_common::{BytePos, LineCol};
 use swc_ecma_codegen_json::program_from_slice;
-use swc_ecma_codegen_tree::Program;
 
 /// A run of the program: `words` are those after its name. Standard input is one program as JSON, and its text goes to
 /// `out`, whole, after it was made in memory. The answer is the status.
@@ -104,7 +103,8 @@ fn print<R: Read, O: Write>(
     ensures no_usage { result ≢ Err Fault.Usage }
     ensures begun { OnErr result ((out.new ≡ out.old) ⊎ AddsFrontOfText options (O.contents out.old) (O.contents out.new)) }
 {
-    let tree = read_program(alloc, input)?;
+    let bytes = read_bytes(alloc, input)?;
+    let tree = program_from_slice(alloc, &bytes).map_err(Fault::of_reading)?;
     let mut positions = Vec::new(alloc);
     let text = text_of(alloc, options, &tree, &mut positions)?;
     send(&text, out)?;
@@ -143,20 +143,14 @@ fn write_some<O: Write>(bytes: &[u8], out: &mut O) -> Result<usize, Fault>
     }
 }
 
-/// The program that `input` holds.
-fn read_program<R: Read>(alloc: Global, input: &mut R) -> Result<Program, Fault>
+/// All that `input` gives.
+fn read_bytes<R: Read>(alloc: Global, input: &mut R) -> Result<Vec<u8>, Fault>
     ensures no_usage { result ≢ Err Fault.Usage }
 {
     let mut bytes = Vec::new(alloc);
-    if let Err(error) = input.read_to_end(&mut bytes) {
-        return Err(if error.kind() == ErrorKind::OutOfMemory {
-            Fault::Memory
-        } else {
-            Fault::CannotRead
-        });
-    }
-    match program_from_slice(alloc, &bytes) {
-        Ok(program) => Ok(program),
-        Err(error) => Err(Fault::of_reading(error)),
+    match input.read_to_end(&mut bytes) {
+        Ok(_) => Ok(bytes),
+        Err(error) if error.kind() == ErrorKind::OutOfMemory => Err(Fault::Memory),
+        Err(_) => Err(Fault::CannotRead),
     }
 }

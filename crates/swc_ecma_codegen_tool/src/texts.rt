@@ -1,12 +1,10 @@
-//! The text of a program, in memory.
+//! The text of a tree, in memory. A function for whatever can be printed costs a check less than one for a program.
 
 ghost use Rattle.std.specs.Prelude.{◌≡◌, ◌≢◌, [], Err, IfOk};
 ghost use Rattle.swc_ecma_codegen_text_writer.specs.View.{sheet_of};
 ghost use Rattle.swc_ecma_codegen_ast.specs.SourceLines.{no_lines};
 ghost use Rattle.swc_ecma_codegen_base.specs.Run.{printed, start};
-ghost use Rattle.swc_ecma_codegen.specs.Programs.{program};
 ghost use Rattle.swc_ecma_codegen.specs.Texts.{blank_sheet};
-ghost use Rattle.swc_ecma_codegen.specs.Tree.{any_items};
 ghost use Rattle.swc_ecma_codegen_tool.specs.Prints.{text_with, with_positions};
 
 use crate::faults::Fault;
@@ -14,25 +12,24 @@ use crate::words::Options;
 use std::alloc::Global;
 use swc_ecma_codegen::ast::comments::CommentMaps;
 use swc_ecma_codegen::ast::mapper::NoSource;
-use swc_ecma_codegen::{Config, Emitter};
+use swc_ecma_codegen::{Config, Emitter, Node};
 use swc_ecma_codegen_common::{BytePos, LineCol};
 use swc_ecma_codegen_text_writer::{JsWriter, WriteJs, omit_trailing_semi};
-use swc_ecma_codegen_tree::Program;
 
-/// The text of a program as the options ask for it: lines end with LF, and four blanks are a level.
+/// The text of a tree as the options ask for it: lines end with LF, and four blanks are a level.
 ///
 /// Of the two statements `a` and `b` it is `a;` and `b;`, each in a line of its own. With `minify` it is `a;b;`, and
 /// `a;b` with `omit_last_semi` too. With `positions` the list gets the positions of the source: 4 with line 1 and
 /// column 0, where `b` stands at 4 there.
 #[tactic(auto, unfolding(crate::specs::Prints::text_with, crate::specs::Prints::with_semicolons))]
-pub(crate) fn text_of(
+pub(crate) fn text_of<P: Node>(
     alloc: Global,
     options: Options,
-    tree: &Program,
+    tree: &P,
     positions: &mut Vec<(BytePos, LineCol)>,
 ) -> Result<Vec<u8>, Fault>
     requires { positions.old.items ≡ [] }
-    ensures text { IfOk result (λ text. text.items ≡ text_with options (program any_items tree.now)) }
+    ensures text { IfOk result (λ text. text.items ≡ text_with options (P.part tree.now)) }
     ensures no_usage { result ≢ Err Fault.Usage }
 {
     let config = options.settings();
@@ -64,18 +61,18 @@ fn new_writer<'a>(
     JsWriter::new(alloc, &NoSource, "\n", Vec::new(alloc), kept)
 }
 
-/// Prints a program to a writer, whose faults are want of memory, and gives the writer back.
-fn printed_on<W: WriteJs + Drop>(
+/// Prints a tree to a writer, whose faults are want of memory, and gives the writer back.
+fn printed_on<P: Node, W: WriteJs + Drop>(
     alloc: Global,
     config: Config,
-    tree: &Program,
+    tree: &P,
     wr: W,
 ) -> Result<W, Fault>
-    ensures sheet { IfOk result (λ w. W.sheet w ≡ (printed (program any_items tree.now) (start no_lines config (W.sheet wr))).sheet) }
+    ensures sheet { IfOk result (λ w. W.sheet w ≡ (printed (P.part tree.now) (start no_lines config (W.sheet wr))).sheet) }
     ensures no_usage { result ≢ Err Fault.Usage }
 {
     let mut emitter = Emitter::new(alloc, config, &NoSource, None::<CommentMaps>, wr);
-    match emitter.emit_program(tree) {
+    match tree.emit_with(&mut emitter) {
         Ok(()) => Ok(emitter.wr),
         Err(error) => Err(Fault::of_emission(&error)),
     }

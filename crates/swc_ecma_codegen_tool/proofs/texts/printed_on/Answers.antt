@@ -1,10 +1,8 @@
 use Rattle.std.proofs.Common.{ap, ◌∙◌}
 use Rattle.swc_ecma_codegen_base.specs.Run.{State, Follows, printed}
-use Rattle.swc_ecma_codegen.specs.Programs.{program}
-use Rattle.swc_ecma_codegen.specs.Tree.{any_items}
 use Rattle.swc_ecma_codegen_tool.proofs.texts.printed_on.Goals as goal
 
--- the steps that were made are those of the program, from a new emitter's state
+-- the steps that were made are those of the tree, from a new emitter's state
 pub returns-in-Ok-clause-sheet : goal.returns-in-Ok-clause-sheet
 unfolding Follows
-returns-in-Ok-clause-sheet g c = ap (λ (s : State). s.sheet) (c.in-Ok.ensures.items.1 ∙ ap (printed (program any_items c.args.tree.now)) c.new-emitter.ensures.state)
+returns-in-Ok-clause-sheet g c = ap (λ (s : State). s.sheet) (c.in-Ok.ensures.items.1 ∙ ap (printed (g.P.Node.part c.args.tree.now)) c.new-emitter.ensures.state)

@@ -5,9 +5,7 @@ use Rattle.swc_ecma_codegen_text_writer.specs.Held.{with_held}
 use Rattle.swc_ecma_codegen_text_writer.specs.View.{sheet_of}
 use Rattle.swc_ecma_codegen_ast.specs.SourceLines.{no_lines}
 use Rattle.swc_ecma_codegen_base.specs.Run.{printed, start}
-use Rattle.swc_ecma_codegen.specs.Programs.{program}
 use Rattle.swc_ecma_codegen.specs.Texts.{blank_sheet}
-use Rattle.swc_ecma_codegen.specs.Tree.{any_items}
 use Rattle.swc_ecma_codegen_tool.specs.Prints.{sheet_for, text_with, with_positions, with_semicolons}
 use Rattle.swc_ecma_codegen_tool.specs.Words.{settings_of}
 use Rattle.swc_ecma_codegen_tool.proofs.texts.text_of.Goals as goal
@@ -19,13 +17,13 @@ at_once true = refl
 at_once false = refl
 
 pub omit_trailing_semi-requires : goal.omit_trailing_semi-requires
-omit_trailing_semi-requires c = ap (λ (s : Sheet). holds_semicolons s.semicolons) c.new_writer-writer.ensures ∙ at_once c.args.options.positions
+omit_trailing_semi-requires g c = ap (λ (s : Sheet). holds_semicolons s.semicolons) c.new_writer-writer.ensures ∙ at_once c.args.options.positions
 
 -- the vector has the text of the writer under the one that held semicolons, and that is its text too
 pub returns-in_ok-writer-clause-text : goal.returns-in_ok-writer-clause-text
 unfolding with_held with_semicolons text_with
-returns-in_ok-writer-clause-text c =
-    let part = program any_items c.args.tree.now in
+returns-in_ok-writer-clause-text g c =
+    let part = g.P.Node.part c.args.tree.now in
     let options = c.args.options in
     let all : c.into_inner-then-options.result.items ≡ (sheet_of c.into_inner.result).text = ap told (c.into_inner-then-options.ensures.text refl) in
     let under : (sheet_of c.into_inner.result).text ≡ (sheet_of c.in_ok-writer.writer.inner).text = ap (λ (s : Sheet). s.text) c.into_inner.ensures.sheet in
