@@ -1,12 +1,15 @@
 //! What ties the readers of the nodes together: a node of any sort is read by its area, and what its links hold so again.
 
+use crate::expr_nodes::read_expr_node;
+use crate::jsx_nodes::read_jsx_node;
+use crate::reading::{Make, Sort};
+use crate::source::{Failed, Fault, Source};
+use crate::stmt_nodes::read_stmt_node;
+use crate::ts_nodes::read_ts_node;
 use std::alloc::{AllocError, Global};
-use swc_ecma_codegen_read::{Failed, Fault, Make, Sort, Source};
-use swc_ecma_codegen_read_expr::read_expr_node;
-use swc_ecma_codegen_read_jsx::read_jsx_node;
-use swc_ecma_codegen_read_stmt::read_stmt_node;
-use swc_ecma_codegen_read_ts::read_ts_node;
-use swc_ecma_codegen_tree::{AnyNode, Expr, ExprPart, Holds, JSXPart, MemberExpr, Stmt, StmtPart, TsPart};
+use swc_ecma_codegen_tree::{
+    AnyNode, Expr, ExprPart, Holds, JSXPart, MemberExpr, Stmt, StmtPart, TsPart,
+};
 
 /// How many links may still lie below one another. It gets shorter at each link, so that reading ends.
 #[derive(Drop)]
@@ -38,26 +41,16 @@ impl Nodes for AnyNode {}
 
 impl<N: Nodes> Make<N> for Levels {
     #[cycle(tie)]
-    #[inline(always)]
     fn make<S: Source>(&self, sort: Sort, source: &mut S) -> Result<N, Failed> {
-        match self {
-            Levels::More(fewer) => read_node(sort, source, fewer),
-            Levels::Out => Err(source.fail(Fault::TooDeep)),
+        let fewer: &Levels = match self {
+            Levels::More(fewer) => fewer,
+            Levels::Out => return Err(source.fail(Fault::TooDeep)),
+        };
+        match sort {
+            Sort::Expr(sort) => read_expr_node(sort, source, fewer),
+            Sort::Stmt(sort) => read_stmt_node(sort, source, fewer),
+            Sort::Jsx(sort) => read_jsx_node(sort, source, fewer),
+            Sort::Ts(sort) => read_ts_node(sort, source, fewer),
         }
-    }
-}
-
-/// A node of a sort, and all that lies below it, read by its area.
-#[cycle(tie)]
-fn read_node<N: Nodes, S: Source>(
-    sort: Sort,
-    source: &mut S,
-    make: &Levels,
-) -> Result<N, Failed> {
-    match sort {
-        Sort::Expr(sort) => read_expr_node(sort, source, make),
-        Sort::Stmt(sort) => read_stmt_node(sort, source, make),
-        Sort::Jsx(sort) => read_jsx_node(sort, source, make),
-        Sort::Ts(sort) => read_ts_node(sort, source, make),
     }
 }

@@ -1,10 +1,10 @@
 //! Programs as serde reads them.
 
+use crate::input::Input;
 use crate::levels::{Levels, Nodes, all_levels};
+use crate::stmt_nodes::read_program;
 use serde::{Deserialize, DeserializeOwned, Deserializer, Format};
 use std::alloc::Global;
-use swc_ecma_codegen_read::Input;
-use swc_ecma_codegen_read_stmt::read_program;
 use swc_ecma_codegen_tree::{AnyNode, Program};
 
 /// A program that serde reads, in any of its formats: `let tree: Tree = serde_json::from_slice(alloc, bytes)?`.

@@ -1,0 +1,130 @@
+//! The bodies of the readers.
+
+/// Names, as they stand in the input: those of fields or variants, unless they are given.
+#[macro_export]
+macro_rules! names {
+    ($($own:ident $(= $key:literal)?),* $(,)?) => {
+        &[$(serde::Name {
+            name: $crate::name_of!($own $($key)?),
+            kind: serde::NameKind::Field,
+            case: serde::Case::AsIs,
+            aliases: &[],
+            skipped: false,
+        }),*]
+    };
+}
+
+/// The name of a member.
+#[macro_export]
+macro_rules! name_of {
+    ($own:ident) => {
+        stringify!($own)
+    };
+    ($own:ident $key:literal) => {
+        $key
+    };
+}
+
+/// A pattern for values one in another: `(a, (b, ()))`.
+#[macro_export]
+macro_rules! values {
+    () => {
+        ()
+    };
+    ($field:ident $(, $rest:ident)*) => {
+        ($field, $crate::values!($($rest),*))
+    };
+}
+
+/// A pattern for groups of values, one in another: `Both((a, (b, ())), Both((c, ()), (d, ())))`.
+#[macro_export]
+macro_rules! groups {
+    ([$($field:ident),*]) => {
+        $crate::values!($($field),*)
+    };
+    ([$($field:ident),*] $($rest:tt)+) => {
+        $crate::objects::Both($crate::values!($($field),*), $crate::groups!($($rest)+))
+    };
+}
+
+/// A struct of the values of its members: `BinExpr { span, op, left, right }`, or in groups where it is wide, `{ a, b; c, d }`.
+#[macro_export]
+macro_rules! made {
+    ($values:ident => $name:ident { $($($field:ident),* $(,)?);* }) => {{
+        let $crate::groups!($([$($field),*])*) = $values;
+        Ok($name { $($($field),*),* })
+    }};
+}
+
+/// The variant at a place. Past these variants the enum's others are looked for, where they are named: a check of few variants
+/// at a time is cheaper.
+#[macro_export]
+macro_rules! held {
+    ($variant:ident, $source:ident, $make:ident => $name:ident {
+        $($own:ident),* $(,)?
+    } $(else $others:ident)?) => {
+        $crate::held_arms!(
+            $variant $source $make $name [$($others)?] [] [0 1 2 3 4 5 6 7 8 9] $($own)*
+        )
+    };
+}
+
+/// The arms of `held`, each with its place.
+#[macro_export]
+macro_rules! held_arms {
+    (
+        $variant:ident $source:ident $make:ident $name:ident $others:tt
+        [$($arms:tt)*] [$place:literal $($places:literal)*] $own:ident $($rest:ident)*
+    ) => {
+        $crate::held_arms!($variant $source $make $name $others [
+            $($arms)* $place => $name::$own($crate::reading::read($source, $make)?),
+        ] [$($places)*] $($rest)*)
+    };
+    (
+        $variant:ident $source:ident $make:ident $name:ident [$others:ident]
+        [$($arms:tt)*] [$place:literal $($places:literal)*]
+    ) => {
+        Ok(match $variant.0 {
+            $($arms)*
+            _ => return $others($variant.past($place), $source, $make),
+        })
+    };
+    (
+        $variant:ident $source:ident $make:ident $name:ident []
+        [$($arms:tt)*] [$($places:literal)*]
+    ) => {
+        Ok(match $variant.0 {
+            $($arms)*
+            _ => return Err($source.fail($crate::source::Fault::UnknownVariant)),
+        })
+    };
+}
+
+/// The word at a place.
+#[macro_export]
+macro_rules! spelled {
+    ($word:ident, $source:ident => $name:ident { $($variant:ident),* $(,)? }) => {
+        match [$($name::$variant),*].get($word.0) {
+            Some(word) => Ok(*word),
+            None => Err($source.fail($crate::source::Fault::UnknownVariant)),
+        }
+    };
+}
+
+/// A node of a sort that a link holds by itself.
+#[macro_export]
+macro_rules! own {
+    ($sort:ident, $source:ident, $make:ident) => {{
+        let node: $sort<N> = $crate::reading::read($source, $make)?;
+        $crate::reading::held($source, node)
+    }};
+}
+
+/// A node of a sort that a link holds in a part.
+#[macro_export]
+macro_rules! part {
+    ($sort:ident in $part:ident, $source:ident, $make:ident) => {{
+        let node: $sort<N> = $crate::reading::read($source, $make)?;
+        $crate::reading::held_in_part::<$part<N>, $sort<N>, N, S>($source, node)
+    }};
+}

@@ -1,0 +1,220 @@
+//! What can be read: first its parts, and then it is made of them.
+
+use crate::source::{Failed, Fault, Source};
+use serde::Name;
+use swc_ecma_codegen_tree::Holds;
+
+/// The sorts of nodes that links hold, by area.
+#[derive(Debug, Clone, Copy, PartialEq, Eq)]
+pub enum Sort {
+    Expr(ExprSort),
+    Stmt(StmtSort),
+    Jsx(JsxSort),
+    Ts(TsSort),
+}
+
+/// The sorts of expressions, patterns and their parts.
+#[derive(Debug, Clone, Copy, PartialEq, Eq)]
+pub enum ExprSort {
+    Expr,
+    MemberExpr,
+    Pat,
+    Tpl,
+    ObjectLit,
+    PropName,
+    Prop,
+    OptCall,
+    AssignTarget,
+}
+
+/// The sorts of statements, declarations, classes and modules.
+#[derive(Debug, Clone, Copy, PartialEq, Eq)]
+pub enum StmtSort {
+    Stmt,
+    Function,
+    Class,
+    BlockStmt,
+    Decl,
+    ModuleItem,
+    ModuleDecl,
+    VarDecl,
+    ClassMember,
+}
+
+/// The sorts of JSX.
+#[derive(Debug, Clone, Copy, PartialEq, Eq)]
+pub enum JsxSort {
+    JSXElementChild,
+    JSXAttrValue,
+    JSXElement,
+    JSXFragment,
+    JSXObject,
+}
+
+/// The sorts of TypeScript.
+#[derive(Debug, Clone, Copy, PartialEq, Eq)]
+pub enum TsSort {
+    TsType,
+    TsNamespaceBody,
+    TsTypeAnn,
+    TsTypeParamDecl,
+    TsTypeParamInstantiation,
+    TsFnParam,
+    TsTypeElement,
+    TsEntityName,
+}
+
+/// Makes what a link holds.
+pub trait Make<N: Drop> {
+    fn make<S: Source>(&self, sort: Sort, source: &mut S) -> Result<N, Failed>;
+}
+
+/// What can be read, by the readers of the area `A`. What a link holds is made by `make`.
+pub trait ReadFrom<N: Drop>: Sized + Drop {
+    /// What is read of it before it is made.
+    type Parts: Parts<N>;
+
+    /// The names of its members, or of its variants.
+    fn names() -> &'static [Name<'static>] {
+        &[]
+    }
+
+    /// What these parts make. Of some types it reads the rest.
+    fn of<S: Source, M: Make<N>>(
+        parts: Self::Parts,
+        source: &mut S,
+        make: &M,
+    ) -> Result<Self, Failed>;
+
+    final fn read_from<S: Source, M: Make<N>>(source: &mut S, make: &M) -> Result<Self, Failed> {
+        let parts = Self::Parts::begin(Self::names(), source, make)?;
+        let value = Self::of(parts, source, make)?;
+        Self::Parts::end(source)?;
+        Ok(value)
+    }
+}
+
+/// What is read of a value before it is made.
+pub trait Parts<N: Drop>: Sized {
+    fn begin<S: Source, M: Make<N>>(
+        names: &[Name<'_>],
+        source: &mut S,
+        make: &M,
+    ) -> Result<Self, Failed>;
+
+    /// What has to come after the value.
+    fn end<S: Source>(source: &mut S) -> Result<(), Failed>;
+}
+
+/// Nothing: a value reads itself.
+#[derive(Debug, Clone, Copy, PartialEq, Eq)]
+pub struct Whole;
+
+impl<N: Drop> Parts<N> for Whole {
+    #[inline(always)]
+    fn begin<S: Source, M: Make<N>>(
+        _names: &[Name<'_>],
+        _source: &mut S,
+        _make: &M,
+    ) -> Result<Whole, Failed> {
+        Ok(Whole)
+    }
+
+    #[inline(always)]
+    fn end<S: Source>(_source: &mut S) -> Result<(), Failed> {
+        Ok(())
+    }
+}
+
+/// The place of a word among the names of variants that hold nothing, or past them.
+#[derive(Debug, Clone, Copy, PartialEq, Eq)]
+pub struct Word(pub usize);
+
+impl<N: Drop> Parts<N> for Word {
+    #[inline(always)]
+    fn begin<S: Source, M: Make<N>>(
+        names: &[Name<'_>],
+        source: &mut S,
+        _make: &M,
+    ) -> Result<Word, Failed> {
+        Ok(Word(source.word(names)?))
+    }
+
+    #[inline(always)]
+    fn end<S: Source>(_source: &mut S) -> Result<(), Failed> {
+        Ok(())
+    }
+}
+
+/// The place of a variant among their names, or past them: that of the one member of an object.
+#[derive(Debug, Clone, Copy, PartialEq, Eq)]
+pub struct Variant(pub usize);
+
+impl Variant {
+    /// The place among the variants that come after the first `count`.
+    #[inline(always)]
+    pub fn past(self, count: usize) -> Variant {
+        Variant(self.0.wrapping_sub(count))
+    }
+}
+
+impl<N: Drop> Parts<N> for Variant {
+    #[inline(always)]
+    fn begin<S: Source, M: Make<N>>(
+        names: &[Name<'_>],
+        source: &mut S,
+        _make: &M,
+    ) -> Result<Variant, Failed> {
+        source.begin_object()?;
+        match source.next_member(names)? {
+            Some(place) => Ok(Variant(place)),
+            None => Err(source.fail(Fault::Invalid)),
+        }
+    }
+
+    #[inline(always)]
+    fn end<S: Source>(source: &mut S) -> Result<(), Failed> {
+        match source.next_member(&[])? {
+            None => Ok(()),
+            Some(_) => Err(source.fail(Fault::Invalid)),
+        }
+    }
+}
+
+/// What the readers of an area read.
+#[inline(always)]
+pub fn read<N: Drop, T: ReadFrom<N>, S: Source, M: Make<N>>(
+    source: &mut S,
+    make: &M,
+) -> Result<T, Failed> {
+    T::read_from(source, make)
+}
+
+/// The members of an object that stands in place in others, of which the check follows one in another and no further.
+#[inline(always)]
+pub fn members<N: Drop, V: Parts<N>, S: Source, M: Make<N>>(
+    names: &[Name<'_>],
+    source: &mut S,
+    make: &M,
+) -> Result<V, Failed> {
+    V::begin(names, source, make)
+}
+
+/// What a link holds, once it is read.
+#[inline(always)]
+pub fn held<T, N: Holds<T>, S: Source>(source: &mut S, node: T) -> Result<N, Failed> {
+    match N::hold(source.alloc(), node) {
+        Ok(holder) => Ok(holder),
+        Err(_) => Err(source.fail(Fault::NoMemory)),
+    }
+}
+
+/// What a link holds, once a node in one of its parts is read.
+#[inline(always)]
+pub fn held_in_part<P: Holds<T>, T, N: Holds<P>, S: Source>(
+    source: &mut S,
+    node: T,
+) -> Result<N, Failed> {
+    let part: P = held(source, node)?;
+    held(source, part)
+}

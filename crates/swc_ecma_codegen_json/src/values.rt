@@ -1,0 +1,90 @@
+//! Flags, texts, numbers, lists, and what may be left out or stands in a box.
+
+use crate::reading::{Make, ReadFrom, Whole};
+use crate::source::{Failed, Fault, Source};
+
+impl<N: Drop> ReadFrom<N> for bool {
+    type Parts = Whole;
+
+    #[inline(always)]
+    fn of<S: Source, M: Make<N>>(_whole: Whole, source: &mut S, _make: &M) -> Result<bool, Failed> {
+        source.flag()
+    }
+}
+
+impl<N: Drop> ReadFrom<N> for String {
+    type Parts = Whole;
+
+    #[inline(always)]
+    fn of<S: Source, M: Make<N>>(
+        _whole: Whole,
+        source: &mut S,
+        _make: &M,
+    ) -> Result<String, Failed> {
+        source.text()
+    }
+}
+
+impl<N: Drop> ReadFrom<N> for i32 {
+    type Parts = Whole;
+
+    #[inline(always)]
+    fn of<S: Source, M: Make<N>>(_whole: Whole, source: &mut S, _make: &M) -> Result<i32, Failed> {
+        source.signed()
+    }
+}
+
+impl<N: Drop, T: ReadFrom<N>> ReadFrom<N> for Option<T> {
+    type Parts = Whole;
+
+    #[inline(always)]
+    fn of<S: Source, M: Make<N>>(
+        _whole: Whole,
+        source: &mut S,
+        make: &M,
+    ) -> Result<Option<T>, Failed> {
+        if source.takes_null()? {
+            return Ok(None);
+        }
+        Ok(Some(T::read_from(source, make)?))
+    }
+}
+
+impl<N: Drop, T: ReadFrom<N>> ReadFrom<N> for Vec<T> {
+    type Parts = Whole;
+
+    fn of<S: Source, M: Make<N>>(
+        _whole: Whole,
+        source: &mut S,
+        make: &M,
+    ) -> Result<Vec<T>, Failed> {
+        source.begin_list()?;
+        let mut found = Vec::new(source.alloc());
+        for _ in 0..u64::MAX {
+            if !source.next_item()? {
+                break;
+            }
+            let item = T::read_from(source, make)?;
+            if found.push(item).is_err() {
+                return Err(source.fail(Fault::NoMemory));
+            }
+        }
+        Ok(found)
+    }
+}
+
+impl<N: Drop, T: ReadFrom<N>> ReadFrom<N> for Box<T> {
+    type Parts = Whole;
+
+    fn of<S: Source, M: Make<N>>(
+        _whole: Whole,
+        source: &mut S,
+        make: &M,
+    ) -> Result<Box<T>, Failed> {
+        let value = T::read_from(source, make)?;
+        match Box::new(source.alloc(), value) {
+            Ok(held) => Ok(held),
+            Err(_) => Err(source.fail(Fault::NoMemory)),
+        }
+    }
+}
