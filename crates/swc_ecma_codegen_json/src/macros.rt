@@ -69,7 +69,7 @@ macro_rules! held {
     };
 }
 
-/// The arms of `held`, each with its place.
+/// The arms of `held`, each with its place. They match, since a check of as many `?` costs half as much again.
 #[macro_export]
 macro_rules! held_arms {
     (
@@ -77,26 +77,29 @@ macro_rules! held_arms {
         [$($arms:tt)*] [$place:literal $($places:literal)*] $own:ident $($rest:ident)*
     ) => {
         $crate::held_arms!($variant $source $make $name $others [
-            $($arms)* $place => $name::$own($crate::reading::read($source, $make)?),
+            $($arms)* $place => match $crate::reading::read($source, $make) {
+                Ok(node) => Ok($name::$own(node)),
+                Err(failed) => Err(failed),
+            },
         ] [$($places)*] $($rest)*)
     };
     (
         $variant:ident $source:ident $make:ident $name:ident [$others:ident]
         [$($arms:tt)*] [$place:literal $($places:literal)*]
     ) => {
-        Ok(match $variant.0 {
+        match $variant.0 {
             $($arms)*
-            _ => return $others($variant.past($place), $source, $make),
-        })
+            _ => $others($variant.past($place), $source, $make),
+        }
     };
     (
         $variant:ident $source:ident $make:ident $name:ident []
         [$($arms:tt)*] [$($places:literal)*]
     ) => {
-        Ok(match $variant.0 {
+        match $variant.0 {
             $($arms)*
-            _ => return Err($source.fail($crate::source::Fault::UnknownVariant)),
-        })
+            _ => Err($source.fail($crate::source::Fault::UnknownVariant)),
+        }
     };
 }
 
