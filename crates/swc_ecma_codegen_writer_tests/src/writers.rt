@@ -145,9 +145,10 @@ fn is_failed<W: WriteJs>(wr: &mut W) -> bool
         .all(|answer| matches!(answer, Err(Error::Failed)))
 }
 
-/// Whether it keeps no positions, holds no semicolons and drops U+0000 after a backslash.
-fn answers_no<W: WriteJs>(wr: &mut W) -> bool {
-    !wr.care_about_srcmap() && !wr.holds_semi() && !wr.can_ignore_invalid_unicodes()
+/// Makes each call. Whether it keeps no positions, holds no semicolons and drops U+0000 after a backslash.
+fn is_plain<W: WriteJs>(wr: &mut W) -> std::result::Result<bool, Error> {
+    write_each(wr)?;
+    Ok(!wr.care_about_srcmap() && !wr.holds_semi() && !wr.can_ignore_invalid_unicodes())
 }
 
 fn kind_of(answer: &Result) -> Option<ErrorKind> {
@@ -169,38 +170,36 @@ fn tabs(rt: HostRuntime) -> std::result::Result<(), Fail> {
     Ok(())
 }
 
+fn new_writer(alloc: Global) -> JsWriter<'static, Vec<u8>> {
+    JsWriter::new(alloc, &(), "\r\n", Vec::new(alloc), None)
+}
+
+/// Whether the text is that of each call.
+fn has_each(wr: JsWriter<'static, Vec<u8>>) -> bool {
+    wr.into_inner().as_slice() == EACH.as_bytes()
+}
+
 #[test]
 fn each_call(rt: HostRuntime) -> std::result::Result<(), Fail> {
-    let alloc = rt.alloc();
-    let mut wr = JsWriter::new(alloc, &(), "\r\n", Vec::new(alloc), None);
-    write_each(&mut wr)?;
-    assert!(rt; answers_no(&mut wr));
-    assert_eq!(rt; wr.into_inner().as_slice(), EACH.as_bytes());
+    let mut wr = new_writer(rt.alloc());
+    assert!(rt; is_plain(&mut wr)?);
+    assert!(rt; has_each(wr));
     Ok(())
 }
 
 #[test]
 fn behind_a_reference(rt: HostRuntime) -> std::result::Result<(), Fail> {
-    let alloc = rt.alloc();
-    let mut wr = JsWriter::new(alloc, &(), "\r\n", Vec::new(alloc), None);
-    let mut lent = &mut wr;
-    write_each(&mut lent)?;
-    assert!(rt; answers_no(&mut lent));
-    assert_eq!(rt; wr.into_inner().as_slice(), EACH.as_bytes());
+    let mut wr = new_writer(rt.alloc());
+    assert!(rt; is_plain(&mut &mut wr)?);
+    assert!(rt; has_each(wr));
     Ok(())
 }
 
 #[test]
 fn in_a_box(rt: HostRuntime) -> std::result::Result<(), Fail> {
-    let alloc = rt.alloc();
-    let wr = JsWriter::new(alloc, &(), "\r\n", Vec::new(alloc), None);
-    let mut boxed = Box::new(alloc, wr)?;
-    write_each(&mut boxed)?;
-    assert!(rt; answers_no(&mut boxed));
-    assert_eq!(rt;
-        Box::into_inner(boxed).into_inner().as_slice(),
-        EACH.as_bytes()
-    );
+    let mut boxed = Box::new(rt.alloc(), new_writer(rt.alloc()))?;
+    assert!(rt; is_plain(&mut boxed)?);
+    assert!(rt; has_each(Box::into_inner(boxed)));
     Ok(())
 }
 
