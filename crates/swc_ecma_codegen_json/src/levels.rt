@@ -1,4 +1,4 @@
-//! What ties the readers of the nodes together: a node of any sort is read by its area, and what its links hold so again.
+//! What ties the readers of the nodes together: they are generic in what links hold, and only here is it `AnyNode`.
 
 use crate::expr_nodes::read_expr_node;
 use crate::jsx_nodes::read_jsx_node;
@@ -7,9 +7,7 @@ use crate::source::{Failed, Fault, Source};
 use crate::stmt_nodes::read_stmt_node;
 use crate::ts_nodes::read_ts_node;
 use std::alloc::{AllocError, Global};
-use swc_ecma_codegen_tree::{
-    AnyNode, Expr, ExprPart, Holds, JSXPart, MemberExpr, Stmt, StmtPart, TsPart,
-};
+use swc_ecma_codegen_tree::AnyNode;
 
 /// How many links may still lie below one another. It gets shorter at each link, so that reading ends.
 #[derive(Drop)]
@@ -27,30 +25,24 @@ pub fn all_levels(alloc: Global) -> Result<Levels, AllocError> {
     Ok(levels)
 }
 
-/// What links hold, of each area. The readers are made for any of it, which costs a check less than to make them for `AnyNode`.
-pub trait Nodes: Holds<Expr<Self>>
-    + Holds<MemberExpr<Self>>
-    + Holds<ExprPart<Self>>
-    + Holds<Stmt<Self>>
-    + Holds<StmtPart<Self>>
-    + Holds<JSXPart<Self>>
-    + Holds<TsPart<Self>>
-    + Drop {}
-
-impl Nodes for AnyNode {}
-
-impl<N: Nodes> Make<N> for Levels {
+impl Make<AnyNode> for Levels {
     #[cycle(tie)]
-    fn make<S: Source>(&self, sort: Sort, source: &mut S) -> Result<N, Failed> {
-        let fewer: &Levels = match self {
-            Levels::More(fewer) => fewer,
-            Levels::Out => return Err(source.fail(Fault::TooDeep)),
-        };
-        match sort {
-            Sort::Expr(sort) => read_expr_node(sort, source, fewer),
-            Sort::Stmt(sort) => read_stmt_node(sort, source, fewer),
-            Sort::Jsx(sort) => read_jsx_node(sort, source, fewer),
-            Sort::Ts(sort) => read_ts_node(sort, source, fewer),
+    #[inline(always)]
+    fn make<S: Source>(&self, sort: Sort, source: &mut S) -> Result<AnyNode, Failed> {
+        match self {
+            Levels::More(fewer) => read_node(sort, source, fewer),
+            Levels::Out => Err(source.fail(Fault::TooDeep)),
         }
+    }
+}
+
+/// A node of a sort, and all that lies below it, read by its area.
+#[cycle(tie)]
+fn read_node<S: Source>(sort: Sort, source: &mut S, make: &Levels) -> Result<AnyNode, Failed> {
+    match sort {
+        Sort::Expr(sort) => read_expr_node(sort, source, make),
+        Sort::Stmt(sort) => read_stmt_node(sort, source, make),
+        Sort::Jsx(sort) => read_jsx_node(sort, source, make),
+        Sort::Ts(sort) => read_ts_node(sort, source, make),
     }
 }

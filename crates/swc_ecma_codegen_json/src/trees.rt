@@ -1,21 +1,21 @@
 //! Programs as serde reads them.
 
 use crate::input::Input;
-use crate::levels::{Levels, Nodes, all_levels};
+use crate::levels::{Levels, all_levels};
 use crate::stmt_nodes::read_program;
 use serde::{Deserialize, DeserializeOwned, Deserializer, Format};
 use std::alloc::Global;
-use swc_ecma_codegen_tree::{AnyNode, Program};
+use swc_ecma_codegen_tree::Program;
 
 /// A program that serde reads, in any of its formats: `let tree: Tree = serde_json::from_slice(alloc, bytes)?`.
 #[derive(Drop)]
-pub struct Tree<N = AnyNode>(pub Program<N>);
+pub struct Tree(pub Program);
 
-impl<N: Nodes> DeserializeOwned for Tree<N> {
+impl DeserializeOwned for Tree {
     fn deserialize_owned<F: Format>(
         alloc: Global,
         from: &mut Deserializer<'_, '_, F>,
-    ) -> Result<Tree<N>, F::Error> {
+    ) -> Result<Tree, F::Error> {
         let Ok(levels) = all_levels(alloc) else {
             return Err(from.no_memory());
         };
@@ -25,21 +25,21 @@ impl<N: Nodes> DeserializeOwned for Tree<N> {
 
 /// The program that is read, or why there is none. In a function that is lent the input, since the check doesn't follow the
 /// loan of a local that holds a reference to where any `S: Source` is taken.
-fn read_tree<'a, 'de, 's, N: Nodes, F: Format>(
+fn read_tree<'a, 'de, 's, F: Format>(
     input: &mut Input<'a, 'de, 's, F>,
     levels: &Levels,
-) -> Result<Tree<N>, F::Error> {
+) -> Result<Tree, F::Error> {
     match read_program(input, levels) {
         Ok(program) => Ok(Tree(program)),
         Err(_) => Err(input.error()),
     }
 }
 
-impl<'de, N: Nodes> Deserialize<'de> for Tree<N> {
+impl<'de> Deserialize<'de> for Tree {
     fn deserialize<F: Format>(
         alloc: Global,
         from: &mut Deserializer<'de, '_, F>,
-    ) -> Result<Tree<N>, F::Error> {
+    ) -> Result<Tree, F::Error> {
         Tree::deserialize_owned(alloc, from)
     }
 }
