@@ -104,7 +104,7 @@ fn print<R: Read, O: Write>(
     ensures begun { OnErr result ((out.new ≡ out.old) ⊎ AddsFrontOfText options (O.contents out.old) (O.contents out.new)) }
 {
     let bytes = read_bytes(alloc, input)?;
-    let tree = program_from_slice(alloc, &bytes).map_err(Fault::of_reading)?;
+    let tree = program_from_slice(alloc, bytes.as_slice()).map_err(Fault::of_reading)?;
     let mut positions = Vec::new(alloc);
     let text = text_of(alloc, options, &tree, &mut positions)?;
     send(&text, out)?;
