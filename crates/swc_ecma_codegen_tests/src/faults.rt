@@ -26,14 +26,6 @@ enum Fault {
 }
 
 impl Fault {
-    fn answer(self) -> io::Result<usize> {
-        match self {
-            Fault::Kind(kind) => Err(io::Error::from(kind)),
-            Fault::Code(code) => Err(io::Error::from_raw_os_error(code)),
-            Fault::Zero => Ok(0),
-        }
-    }
-
     /// The kind of the error that comes out.
     fn kind(self) -> ErrorKind {
         match self {
@@ -76,7 +68,11 @@ impl Write for Dribble {
             return Err(io::Error::from(ErrorKind::Interrupted));
         }
         if self.taken.len() >= self.room {
-            return self.fault.answer();
+            return match self.fault {
+                Fault::Kind(kind) => Err(io::Error::from(kind)),
+                Fault::Code(code) => Err(io::Error::from_raw_os_error(code)),
+                Fault::Zero => Ok(0),
+            };
         }
         match buf.first() {
             Some(byte) => {
