@@ -1,33 +1,12 @@
 //! Each caller of `swc_ecma_codegen_uses` once.
 
 use crate::trees::MEMBER;
-use std::alloc::Global;
 use std::test::Fail;
-use swc_ecma_codegen::Node;
 use swc_ecma_codegen_json::program_from_slice;
 use swc_ecma_codegen_uses::{
     append_checked, checked_text, minified, minified_json, negation_text, print_into,
     print_with_positions,
 };
-
-/// Whether `a.b` goes out after what stands there, pretty and minified.
-fn is_printed<P: Node>(alloc: Global, node: &P, before: Vec<u8>) -> Result<bool, Fail> {
-    let short = minified(alloc, node)?;
-    let out = print_into(alloc, node, before)?;
-    Ok(short.as_slice() == b"a.b;".as_slice() && out.as_slice() == b"a.b;\na.b;\n".as_slice())
-}
-
-/// Whether the positions of `a.b` are recorded with its text.
-fn has_its_positions<P: Node>(alloc: Global, node: &P) -> Result<bool, Fail> {
-    let mut pairs = Vec::new(alloc);
-    let text = print_with_positions(alloc, node, &mut pairs)?.into_inner();
-    let places = [(1, 0, 0), (3, 0, 2), (4, 0, 3)];
-    let mut all = pairs.len() == places.len();
-    for ((pos, at), place) in pairs.iter().zip(places) {
-        all = all && (pos.0, at.line, at.col) == place;
-    }
-    Ok(all && text.as_slice() == b"a.b;\n".as_slice())
-}
 
 #[test]
 fn callers_give_the_texts_of_swc(rt: HostRuntime) -> Result<(), Fail> {
@@ -36,9 +15,18 @@ fn callers_give_the_texts_of_swc(rt: HostRuntime) -> Result<(), Fail> {
     assert!(rt; minified_json(alloc, MEMBER.as_bytes())?.as_slice() == b"a.b;".as_slice());
     let program = program_from_slice(alloc, MEMBER.as_bytes())?;
     assert!(rt; checked_text(alloc, &program)?.as_str() == "a.b;\n");
+    assert!(rt; minified(alloc, &program)?.as_slice() == b"a.b;".as_slice());
     let mut out = Vec::new(alloc);
     append_checked(alloc, &program, &mut out)?;
-    assert!(rt; is_printed(alloc, &program, out)?);
-    assert!(rt; has_its_positions(alloc, &program)?);
+    let out = print_into(alloc, &program, out)?;
+    assert!(rt; out.as_slice() == b"a.b;\na.b;\n".as_slice());
+    let mut pairs = Vec::new(alloc);
+    let text = print_with_positions(alloc, &program, &mut pairs)?.into_inner();
+    assert!(rt; text.as_slice() == b"a.b;\n".as_slice());
+    let places = [(1, 0, 0), (3, 0, 2), (4, 0, 3)];
+    assert!(rt; pairs.len() == places.len());
+    for ((pos, at), place) in pairs.iter().zip(places) {
+        assert!(rt; (pos.0, at.line, at.col) == place);
+    }
     Ok(())
 }

@@ -70,7 +70,7 @@ fn prints_member<N: Tree>(alloc: Global, tree: &Program<N>) -> Result<bool, Erro
 }
 
 /// Whether `a.b` has its text through whatever holds it.
-fn prints_each_way<N: Tree>(alloc: Global) -> Result<bool, Fail> {
+pub(crate) fn prints_each_way<N: Tree>(alloc: Global) -> Result<bool, Fail> {
     let tree = N::read(alloc, MEMBER)?;
     Ok(prints_through(alloc, &tree)? && prints_member(alloc, &tree)?)
 }
@@ -94,7 +94,7 @@ fn boxed_semicolon<N: Tree>(alloc: Global) -> Result<Box<Stmt<N>>, AllocError> {
     }
 }
 
-/// The bytes of a statement, of `;` in a box, in an option, and of none, and of the expression.
+/// The bytes of a statement, and then of `;` in a box, in an option, and of none.
 fn bytes_of_parts<N: Tree>(alloc: Global, stmt: &Stmt<N>) -> Result<Vec<u8>, Fail> {
     let boxed = boxed_semicolon(alloc)?;
     let some = Some(Stmt::Empty(EmptyStmt { span: DUMMY_SP }));
@@ -111,36 +111,42 @@ fn bytes_of_parts<N: Tree>(alloc: Global, stmt: &Stmt<N>) -> Result<Vec<u8>, Fai
     Ok(bytes?)
 }
 
-/// Whether a tree has this text as often as it is printed.
-fn is_printed_by_each_call<N: Tree>(
-    alloc: Global,
-    tree: &Program<N>,
-    minify: bool,
-    text: &str,
-) -> Result<bool, Error> {
-    let bytes = N::bytes_of_whole(alloc, tree, settings(minify))?;
-    Ok(bytes.as_slice() == text.as_bytes())
-}
-
-/// Whether what holds a node has its text.
-fn has_its_text_each_way<N: Tree>(alloc: Global) -> Result<bool, Fail> {
+/// The bytes of a tree, and of its parts.
+fn bytes_by_each_call<N: Tree>(alloc: Global) -> Result<[Vec<u8>; 3], Fail> {
     let tree = N::read(alloc, MEMBER)?;
-    let is_whole = is_printed_by_each_call(alloc, &tree, false, "a.b;\r\na.b;\r\na.b;\r\n")?;
-    match statement_of(&tree) {
-        Some(stmt) => {
-            let parts = bytes_of_parts(alloc, stmt)?;
-            Ok(is_whole && parts.as_slice() == b"a.b;a.b;;;a.b".as_slice())
+    let whole = N::bytes_of_whole(alloc, &tree)?;
+    match (statement_of(&tree), expr_of(&tree)) {
+        (Some(stmt), Some(expr)) => {
+            Ok([
+                whole,
+                bytes_of_parts(alloc, stmt)?,
+                N::bytes_of_expr(alloc, expr)?,
+            ])
         }
-        None => Ok(false),
+        _ => Ok([whole, Vec::new(alloc), Vec::new(alloc)]),
     }
 }
 
+/// Whether what holds a node has its text.
+pub(crate) fn has_its_text_each_way<N: Tree>(alloc: Global) -> Result<bool, Fail> {
+    let [whole, parts, expr] = bytes_by_each_call::<N>(alloc)?;
+    let six = b"a.b;\r\na.b;\r\na.b;\r\na.b;\r\na.b;\r\na.b".as_slice();
+    Ok(
+        whole.as_slice() == six
+            && parts.as_slice() == b"a.b;a.b;a.b;;".as_slice()
+            && expr.as_slice() == b"a.b".as_slice(),
+    )
+}
+
 /// Whether a module, its item and what that exports have their texts.
-fn prints_a_module<N: Tree>(alloc: Global) -> Result<bool, Fail> {
+pub(crate) fn prints_a_module<N: Tree>(alloc: Global) -> Result<bool, Fail> {
     let tree = N::read(alloc, EXPORT)?;
-    let text =
-        r#"export{a}from"b"with{c:"d"};export{a}from"b"with{c:"d"};export{a}from"b"with{c:"d"};a"#;
-    Ok(is_printed_by_each_call(alloc, &tree, true, text)?)
+    let Program::Module(module) = &tree else {
+        return Ok(false);
+    };
+    let bytes = N::bytes_of_module(alloc, module)?;
+    let twice = br#"export{a}from"b"with{c:"d"};export{a}from"b"with{c:"d"};a"#.as_slice();
+    Ok(bytes.as_slice() == twice)
 }
 
 /// What the expression of `--a` tells those above it.
@@ -153,7 +159,7 @@ fn tells<N: Tree>(expr: &Expr<N>) -> bool {
 }
 
 /// Whether `--a` tells of its operator and its place.
-fn tells_of_itself<N: Tree>(alloc: Global) -> Result<bool, Fail> {
+pub(crate) fn tells_of_itself<N: Tree>(alloc: Global) -> Result<bool, Fail> {
     let tree = N::read(alloc, DECREMENT)?;
     let is_told = match expr_of(&tree) {
         Some(expr) => tells(expr),
@@ -200,7 +206,7 @@ fn prints_hashbang<N: Tree>(
 }
 
 /// Whether hashbangs are printed, and one that goes on in another line isn't well-formed.
-fn prints_hashbangs<N: Tree>(alloc: Global) -> Result<bool, Fail> {
+pub(crate) fn prints_hashbangs<N: Tree>(alloc: Global) -> Result<bool, Fail> {
     Ok(
         prints_hashbang::<N>(alloc, "a", "#!a\n", true)?
             && prints_hashbang::<N>(alloc, "a\nb", "#!a\nb\n", false)?,
@@ -223,37 +229,7 @@ fn text_before_invalid<N: Tree>(alloc: Global) -> Result<(bool, Vec<u8>), Fail> 
 }
 
 /// Whether what can't be printed is refused before its first token.
-fn stops_before_invalid<N: Tree>(alloc: Global) -> Result<bool, Fail> {
+pub(crate) fn stops_before_invalid<N: Tree>(alloc: Global) -> Result<bool, Fail> {
     let (refused, text) = text_before_invalid::<N>(alloc)?;
     Ok(refused && text.as_slice() == b"a;".as_slice())
-}
-
-/// The checks, and whether they hold.
-pub(crate) fn checks<N: Tree>(alloc: Global) -> Result<[(&'static str, bool); 6], Fail> {
-    Ok([
-        (
-            "a node prints through whatever holds it",
-            prints_each_way::<N>(alloc)?,
-        ),
-        (
-            "what holds a node has its text",
-            has_its_text_each_way::<N>(alloc)?,
-        ),
-        (
-            "a module, its item and its name have their texts",
-            prints_a_module::<N>(alloc)?,
-        ),
-        (
-            "an expression tells of itself",
-            tells_of_itself::<N>(alloc)?,
-        ),
-        (
-            "hashbangs are printed, and go on in no other line",
-            prints_hashbangs::<N>(alloc)?,
-        ),
-        (
-            "what can't be printed is refused before its first token",
-            stops_before_invalid::<N>(alloc)?,
-        ),
-    ])
 }

@@ -8,7 +8,7 @@ use swc_ecma_codegen_ast::comments::CommentMaps;
 use swc_ecma_codegen_ast::mapper::NoSource;
 use swc_ecma_codegen_common::{Error, EsVersion, Result as Answer};
 use swc_ecma_codegen_text_writer::{JsWriter, omit_trailing_semi};
-use swc_ecma_codegen_tree::Ident;
+use swc_ecma_codegen_tree::{Ident, Program};
 
 /// What an emission answered, and one of nothing after it, and the text.
 #[derive(Drop)]
@@ -18,11 +18,11 @@ struct Emitted {
     text: Vec<u8>,
 }
 
-/// The emission of a node with some settings.
-fn emission<P: Node>(alloc: Global, node: &P, config: Config) -> Emitted {
+/// The emission of a tree with some settings.
+fn emission<N: Tree>(alloc: Global, tree: &Program<N>, config: Config) -> Emitted {
     let wr = JsWriter::new(alloc, &NoSource, "\n", Vec::new(alloc), None);
     let mut emitter = Emitter::new(alloc, config, &NoSource, None::<CommentMaps>, wr);
-    let answer = node.emit_with(&mut emitter);
+    let answer = tree.emit_with(&mut emitter);
     let nothing = None::<Ident>.emit_with(&mut emitter);
     Emitted {
         answer,
@@ -31,23 +31,28 @@ fn emission<P: Node>(alloc: Global, node: &P, config: Config) -> Emitted {
     }
 }
 
-/// Whether a node has this text with some settings.
-fn has_text<P: Node>(alloc: Global, node: &P, config: Config, text: &str) -> bool {
-    let emitted = emission(alloc, node, config);
+/// Whether a tree has this text with some settings.
+fn has_text<N: Tree>(alloc: Global, tree: &Program<N>, config: Config, text: &str) -> bool {
+    let emitted = emission(alloc, tree, config);
     emitted.answer.is_ok() && emitted.nothing.is_ok() && emitted.text.as_slice() == text.as_bytes()
 }
 
-/// The text of a node whose semicolons are held back.
-fn text_when_held<P: Node>(alloc: Global, node: &P, config: Config) -> Result<Vec<u8>, Error> {
+/// The text of a tree whose semicolons are held back.
+fn text_when_held<N: Tree>(
+    alloc: Global,
+    tree: &Program<N>,
+    config: Config,
+) -> Result<Vec<u8>, Error> {
     let wr = JsWriter::new(alloc, &NoSource, "\n", Vec::new(alloc), None);
     let wr = omit_trailing_semi(wr);
     let mut emitter = Emitter::new(alloc, config, &NoSource, None::<CommentMaps>, wr);
-    node.emit_with(&mut emitter)?;
+    tree.emit_with(&mut emitter)?;
     Ok(emitter.wr.into_inner().into_inner())
 }
 
 /// Whether each setting by itself changes what it is for.
-fn act_one_by_one<P: Node>(alloc: Global, node: &P) -> bool {
+pub(crate) fn act_one_by_one<N: Tree>(alloc: Global) -> Result<bool, Fail> {
+    let tree = N::read(alloc, LITERALS)?;
     let none = Config::default();
     let plain = "é, \"é</script>\", 0b11, 𝒫;\n";
     let rows = [
@@ -70,16 +75,17 @@ fn act_one_by_one<P: Node>(alloc: Global, node: &P) -> bool {
     ];
     let mut all = true;
     for (config, text) in rows {
-        all = all && has_text(alloc, node, config, text);
+        all = all && has_text(alloc, &tree, config, text);
     }
-    all
+    Ok(all)
 }
 
 /// Whether the last semicolon is left out where it is held back and the settings ask for it, and not otherwise.
-fn leaves_out_the_last_semicolon<P: Node>(alloc: Global, node: &P) -> Result<bool, Error> {
+pub(crate) fn leave_out_the_last_semicolon<N: Tree>(alloc: Global) -> Result<bool, Fail> {
+    let tree = N::read(alloc, LITERALS)?;
     let kept = Config::default().with_minify(true);
-    let text = text_when_held(alloc, node, kept)?;
-    let shorter = text_when_held(alloc, node, kept.with_omit_last_semi(true))?;
+    let text = text_when_held(alloc, &tree, kept)?;
+    let shorter = text_when_held(alloc, &tree, kept.with_omit_last_semi(true))?;
     Ok(
         text.as_slice() == "é,\"é</script>\",3,𝒫;".as_bytes()
             && shorter.as_slice() == "é,\"é</script>\",3,𝒫".as_bytes(),
@@ -88,33 +94,15 @@ fn leaves_out_the_last_semicolon<P: Node>(alloc: Global, node: &P) -> Result<boo
 
 /// Whether a name that can't be written in ASCII for a version is refused after what stands before it, and what comes then
 /// fails.
-fn refuses_a_name<P: Node>(alloc: Global, node: &P) -> bool {
+pub(crate) fn refuse_a_name<N: Tree>(alloc: Global) -> Result<bool, Fail> {
+    let tree = N::read(alloc, LITERALS)?;
     let config = Config::default().with_ascii_only(true);
     let mut all = true;
     for target in [EsVersion::Es3, EsVersion::Es5] {
-        let emitted = emission(alloc, node, config.with_target(target));
+        let emitted = emission(alloc, &tree, config.with_target(target));
         all = all && matches!(&emitted.answer, Err(Error::NameOutOfTarget));
         all = all && matches!(&emitted.nothing, Err(Error::Failed));
         all = all && emitted.text.as_slice() == b"\\u00e9, \"\\xe9</script>\", 3, ".as_slice();
     }
-    all
-}
-
-/// The checks, and whether they hold.
-pub(crate) fn checks<N: Tree>(alloc: Global) -> Result<[(&'static str, bool); 3], Fail> {
-    let tree = N::read(alloc, LITERALS)?;
-    Ok([
-        (
-            "each setting changes what it is for",
-            act_one_by_one(alloc, &tree),
-        ),
-        (
-            "the last semicolon is left out where that is asked for",
-            leaves_out_the_last_semicolon(alloc, &tree)?,
-        ),
-        (
-            "a name out of the target is refused after what stands before it",
-            refuses_a_name(alloc, &tree),
-        ),
-    ])
+    Ok(all)
 }

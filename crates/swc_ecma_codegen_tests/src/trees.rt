@@ -5,7 +5,8 @@ use swc_ecma_codegen::nodes::Held;
 use swc_ecma_codegen::operands::SpaceBefore;
 use swc_ecma_codegen::util::{EndsWithAlphaNum, StartsWithAlphaNum};
 use swc_ecma_codegen::{
-    Config, Emitter, is_well_formed, is_well_formed_expr, is_well_formed_item, is_well_formed_stmt,
+    Config, Emitter, Node, is_well_formed, is_well_formed_expr, is_well_formed_item,
+    is_well_formed_stmt,
 };
 use swc_ecma_codegen_ast::comments::CommentMaps;
 use swc_ecma_codegen_ast::mapper::NoSource;
@@ -70,21 +71,23 @@ pub(crate) trait Tree: Holds<Expr<Self>>
     /// Reads a program.
     fn read(alloc: Global, json: &str) -> Result<Program<Self>, ReadError>;
 
-    /// The bytes of a tree that is well-formed, and of its script or its module, by themselves and by the functions that say how
-    /// they read; then of the parts of a script, by those, or of the first item of a module and the name that it exports first.
-    fn bytes_of_whole(
-        alloc: Global,
-        tree: &Program<Self>,
-        config: Config,
-    ) -> Result<Vec<u8>, Error>;
+    /// The bytes of a tree that is well-formed and of its script, by themselves and by the functions that say how they read,
+    /// and then of its parts, by those.
+    fn bytes_of_whole(alloc: Global, tree: &Program<Self>) -> Result<Vec<u8>, Error>;
 
-    /// The bytes of a well-formed statement and of its expression, by the functions that say how they read, then of `;` in
-    /// a box, in an option, and of none, and of the expression again.
+    /// The bytes of a well-formed statement and of its expression, by the functions that say how they read, and then of `;` in
+    /// a box, in an option, and of none.
     fn bytes_of_parts(
         alloc: Global,
         stmt: &Stmt<Self>,
         semicolons: (&Box<Stmt<Self>>, &Option<Stmt<Self>>, &Option<Stmt<Self>>),
     ) -> Result<Vec<u8>, Error>;
+
+    /// The bytes of a well-formed expression, by the function that says how it reads.
+    fn bytes_of_expr(alloc: Global, expr: &Expr<Self>) -> Result<Vec<u8>, Error>;
+
+    /// The bytes of a module, of its first item, which is well-formed, and of the name that this one exports first.
+    fn bytes_of_module(alloc: Global, module: &Module<Self>) -> Result<Vec<u8>, Error>;
 }
 
 impl Tree for AnyNode {
@@ -92,34 +95,26 @@ impl Tree for AnyNode {
         program_from_slice(alloc, json.as_bytes())
     }
 
-    fn bytes_of_whole(alloc: Global, tree: &Program, config: Config) -> Result<Vec<u8>, Error> {
+    fn bytes_of_whole(alloc: Global, tree: &Program) -> Result<Vec<u8>, Error> {
         links_write_their_roots();
         links_write_members();
         links_write_targets();
         new_emitter_reads();
         let wr = JsWriter::new(alloc, &NoSource, "\r\n", Vec::new(alloc), None);
-        let mut emitter = Emitter::new(alloc, config, &NoSource, None::<CommentMaps>, wr);
+        let mut emitter = Emitter::new(alloc, settings(false), &NoSource, None::<CommentMaps>, wr);
         if is_well_formed(tree) {
             emitter.emit_program(tree)?;
+            tree.emit_with(&mut emitter)?;
         }
-        match tree {
-            Program::Script(script) => {
-                emitter.emit_script(script)?;
-                if let Some(link) = script.body.first() {
-                    emitted_link_reads(link, &mut emitter)?;
-                }
+        if let Some(script) = script_of(tree) {
+            emitter.emit_script(script)?;
+            script.emit_with(&mut emitter)?;
+            if let Some(link) = script.body.first() {
+                emitted_link_reads(link, &mut emitter)?;
             }
-            Program::Module(module) => {
-                emitter.emit_module(module)?;
-                if let Some(item) = item_of(module) {
-                    if is_well_formed_item(item) {
-                        emitter.emit_module_item(item)?;
-                    }
-                    if let Some(name) = exported_name(item) {
-                        emitter.emit_module_export_name(name)?;
-                    }
-                }
-            }
+        }
+        if let Some(Expr::Member(link)) = expr_of(tree) {
+            emitted_link_reads(link, &mut emitter)?;
         }
         Ok(emitter.wr.into_inner())
     }
@@ -135,12 +130,34 @@ impl Tree for AnyNode {
             emitted_stmt_reads(stmt, &mut emitter)?;
             emitted_ref_reads(&stmt, &mut emitter)?;
         }
+        if let Stmt::Expr(node) = stmt {
+            emitted_link_reads(&node.expr, &mut emitter)?;
+        }
         emitted_box_reads(boxed, &mut emitter)?;
         emitted_option_reads(some, &mut emitter)?;
         emitted_option_reads(none, &mut emitter)?;
-        if let Some(expr) = expr_in(stmt) {
-            if is_well_formed_expr(expr) {
-                emitted_expr_reads(expr, &mut emitter)?;
+        Ok(emitter.wr.into_inner())
+    }
+
+    fn bytes_of_expr(alloc: Global, expr: &Expr) -> Result<Vec<u8>, Error> {
+        let wr = JsWriter::new(alloc, &NoSource, "\n", Vec::new(alloc), None);
+        let mut emitter = Emitter::new(alloc, settings(true), &NoSource, None::<CommentMaps>, wr);
+        if is_well_formed_expr(expr) {
+            emitted_expr_reads(expr, &mut emitter)?;
+        }
+        Ok(emitter.wr.into_inner())
+    }
+
+    fn bytes_of_module(alloc: Global, module: &Module) -> Result<Vec<u8>, Error> {
+        let wr = JsWriter::new(alloc, &NoSource, "\n", Vec::new(alloc), None);
+        let mut emitter = Emitter::new(alloc, settings(true), &NoSource, None::<CommentMaps>, wr);
+        emitter.emit_module(module)?;
+        if let Some(item) = item_of(module) {
+            if is_well_formed_item(item) {
+                emitter.emit_module_item(item)?;
+            }
+            if let Some(name) = exported_name(item) {
+                emitter.emit_module_export_name(name)?;
             }
         }
         Ok(emitter.wr.into_inner())
@@ -184,19 +201,14 @@ pub(crate) fn statement_of<N: Holds<Stmt<N>> + Drop>(tree: &Program<N>) -> Optio
     }
 }
 
-/// The expression of a statement.
-fn expr_in<N: Holds<Expr<N>> + Drop>(stmt: &Stmt<N>) -> Option<&Expr<N>> {
-    match stmt {
-        Stmt::Expr(node) => node.expr.get(),
-        _ => None,
-    }
-}
-
 /// The expression of the first statement.
 pub(crate) fn expr_of<N: Holds<Stmt<N>> + Holds<Expr<N>> + Drop>(
     tree: &Program<N>,
 ) -> Option<&Expr<N>> {
-    expr_in(statement_of(tree)?)
+    match statement_of(tree) {
+        Some(Stmt::Expr(node)) => node.expr.get(),
+        _ => None,
+    }
 }
 
 /// The settings of these tests.
