@@ -1,12 +1,34 @@
 //! Each caller of `swc_ecma_codegen_uses` once.
 
 use crate::trees::MEMBER;
+use std::alloc::Global;
 use std::test::Fail;
+use swc_ecma_codegen::Node;
+use swc_ecma_codegen_common::Error;
 use swc_ecma_codegen_json::program_from_slice;
 use swc_ecma_codegen_uses::{
     append_checked, checked_text, minified, minified_json, negation_text, print_into,
     print_with_positions,
 };
+
+/// Whether a node is `a.b;` by the callers that take any node.
+fn is_printed<P: Node>(alloc: Global, node: &P) -> Result<bool, Error> {
+    let out = print_into(alloc, node, Vec::new(alloc))?;
+    let text = minified(alloc, node)?;
+    Ok(out.as_slice() == b"a.b;\n".as_slice() && text.as_slice() == b"a.b;".as_slice())
+}
+
+/// Whether a node is `a.b;`, read from the positions 1 to 4, where its positions are recorded.
+fn has_its_positions<P: Node>(alloc: Global, node: &P) -> Result<bool, Error> {
+    let mut pairs = Vec::new(alloc);
+    let text = print_with_positions(alloc, node, &mut pairs)?.into_inner();
+    let places = [(1, 0, 0), (3, 0, 2), (4, 0, 3)];
+    let mut all = text.as_slice() == b"a.b;\n".as_slice() && pairs.len() == places.len();
+    for ((pos, at), place) in pairs.iter().zip(places) {
+        all = all && (pos.0, at.line, at.col) == place;
+    }
+    Ok(all)
+}
 
 #[test]
 fn callers_give_the_texts_of_swc(rt: HostRuntime) -> Result<(), Fail> {
@@ -15,18 +37,10 @@ fn callers_give_the_texts_of_swc(rt: HostRuntime) -> Result<(), Fail> {
     assert!(rt; minified_json(alloc, MEMBER.as_bytes())?.as_slice() == b"a.b;".as_slice());
     let program = program_from_slice(alloc, MEMBER.as_bytes())?;
     assert!(rt; checked_text(alloc, &program)?.as_str() == "a.b;\n");
-    assert!(rt; minified(alloc, &program)?.as_slice() == b"a.b;".as_slice());
     let mut out = Vec::new(alloc);
     append_checked(alloc, &program, &mut out)?;
-    let out = print_into(alloc, &program, out)?;
-    assert!(rt; out.as_slice() == b"a.b;\na.b;\n".as_slice());
-    let mut pairs = Vec::new(alloc);
-    let text = print_with_positions(alloc, &program, &mut pairs)?.into_inner();
-    assert!(rt; text.as_slice() == b"a.b;\n".as_slice());
-    let places = [(1, 0, 0), (3, 0, 2), (4, 0, 3)];
-    assert!(rt; pairs.len() == places.len());
-    for ((pos, at), place) in pairs.iter().zip(places) {
-        assert!(rt; (pos.0, at.line, at.col) == place);
-    }
+    assert!(rt; out.as_slice() == b"a.b;\n".as_slice());
+    assert!(rt; is_printed(alloc, &program)?);
+    assert!(rt; has_its_positions(alloc, &program)?);
     Ok(())
 }

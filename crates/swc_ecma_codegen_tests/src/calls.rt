@@ -1,5 +1,6 @@
 //! Each public call once.
 
+use crate::checks::Failing;
 use crate::trees::{
     DECREMENT, EXPORT, MEMBER, NAME, Tree, expr_of, script_of, settings, statement_of,
 };
@@ -69,12 +70,6 @@ fn prints_member<N: Tree>(alloc: Global, tree: &Program<N>) -> Result<bool, Erro
     }
 }
 
-/// Whether `a.b` has its text through whatever holds it.
-pub(crate) fn prints_each_way<N: Tree>(alloc: Global) -> Result<bool, Fail> {
-    let tree = N::read(alloc, MEMBER)?;
-    Ok(prints_through(alloc, &tree)? && prints_member(alloc, &tree)?)
-}
-
 /// Lets a statement go by a link: what lets go of a statement in place names all that may lie in one, and is dear to check.
 fn let_go<N: Tree>(alloc: Global, held: Option<Stmt<N>>) -> Result<(), AllocError> {
     if let Some(stmt) = held {
@@ -111,42 +106,26 @@ fn bytes_of_parts<N: Tree>(alloc: Global, stmt: &Stmt<N>) -> Result<Vec<u8>, Fai
     Ok(bytes?)
 }
 
-/// The bytes of a tree, and of its parts.
-fn bytes_by_each_call<N: Tree>(alloc: Global) -> Result<[Vec<u8>; 3], Fail> {
-    let tree = N::read(alloc, MEMBER)?;
-    let whole = N::bytes_of_whole(alloc, &tree)?;
-    match (statement_of(&tree), expr_of(&tree)) {
-        (Some(stmt), Some(expr)) => {
-            Ok([
-                whole,
-                bytes_of_parts(alloc, stmt)?,
-                N::bytes_of_expr(alloc, expr)?,
-            ])
-        }
-        _ => Ok([whole, Vec::new(alloc), Vec::new(alloc)]),
-    }
-}
-
-/// Whether what holds a node has its text.
-pub(crate) fn has_its_text_each_way<N: Tree>(alloc: Global) -> Result<bool, Fail> {
-    let [whole, parts, expr] = bytes_by_each_call::<N>(alloc)?;
-    let six = b"a.b;\r\na.b;\r\na.b;\r\na.b;\r\na.b;\r\na.b".as_slice();
+/// Whether what holds a node has its text: a script itself and its first statement, and a statement, what lies in it, and what
+/// holds `;`.
+fn has_its_text_each_way<N: Tree>(alloc: Global, tree: &Program<N>) -> Result<bool, Fail> {
+    let whole = N::bytes_of_whole(alloc, tree, settings(false))?;
+    let parts = match statement_of(tree) {
+        Some(stmt) => bytes_of_parts(alloc, stmt)?,
+        None => Vec::new(alloc),
+    };
     Ok(
-        whole.as_slice() == six
-            && parts.as_slice() == b"a.b;a.b;a.b;;".as_slice()
-            && expr.as_slice() == b"a.b".as_slice(),
+        whole.as_slice() == b"a.b;\r\na.b;\r\na.b;\r\n".as_slice()
+            && parts.as_slice() == b"a.b;a.b;a.b;a.b;a.b".as_slice(),
     )
 }
 
 /// Whether a module, its item and what that exports have their texts.
-pub(crate) fn prints_a_module<N: Tree>(alloc: Global) -> Result<bool, Fail> {
+fn prints_a_module<N: Tree>(alloc: Global) -> Result<bool, Fail> {
     let tree = N::read(alloc, EXPORT)?;
-    let Program::Module(module) = &tree else {
-        return Ok(false);
-    };
-    let bytes = N::bytes_of_module(alloc, module)?;
-    let twice = br#"export{a}from"b"with{c:"d"};export{a}from"b"with{c:"d"};a"#.as_slice();
-    Ok(bytes.as_slice() == twice)
+    let bytes = N::bytes_of_whole(alloc, &tree, settings(true))?;
+    let item = r#"export{a}from"b"with{c:"d"};"#;
+    Ok(bytes.as_slice() == format!(in alloc; "{item}{item}{item}a")?.as_bytes())
 }
 
 /// What the expression of `--a` tells those above it.
@@ -159,7 +138,7 @@ fn tells<N: Tree>(expr: &Expr<N>) -> bool {
 }
 
 /// Whether `--a` tells of its operator and its place.
-pub(crate) fn tells_of_itself<N: Tree>(alloc: Global) -> Result<bool, Fail> {
+fn tells_of_itself<N: Tree>(alloc: Global) -> Result<bool, Fail> {
     let tree = N::read(alloc, DECREMENT)?;
     let is_told = match expr_of(&tree) {
         Some(expr) => tells(expr),
@@ -169,9 +148,9 @@ pub(crate) fn tells_of_itself<N: Tree>(alloc: Global) -> Result<bool, Fail> {
 }
 
 /// Whether a program has this text, and is well-formed or not.
-fn is_printed_as<N: Tree>(
+fn is_printed_as<P: Node + WellFormed>(
     alloc: Global,
-    program: &Program<N>,
+    program: &P,
     text: &str,
     well_formed: bool,
 ) -> bool {
@@ -206,7 +185,7 @@ fn prints_hashbang<N: Tree>(
 }
 
 /// Whether hashbangs are printed, and one that goes on in another line isn't well-formed.
-pub(crate) fn prints_hashbangs<N: Tree>(alloc: Global) -> Result<bool, Fail> {
+fn prints_hashbangs<N: Tree>(alloc: Global) -> Result<bool, Fail> {
     Ok(
         prints_hashbang::<N>(alloc, "a", "#!a\n", true)?
             && prints_hashbang::<N>(alloc, "a\nb", "#!a\nb\n", false)?,
@@ -229,7 +208,36 @@ fn text_before_invalid<N: Tree>(alloc: Global) -> Result<(bool, Vec<u8>), Fail> 
 }
 
 /// Whether what can't be printed is refused before its first token.
-pub(crate) fn stops_before_invalid<N: Tree>(alloc: Global) -> Result<bool, Fail> {
+fn stops_before_invalid<N: Tree>(alloc: Global) -> Result<bool, Fail> {
     let (refused, text) = text_before_invalid::<N>(alloc)?;
     Ok(refused && text.as_slice() == b"a;".as_slice())
+}
+
+pub(crate) fn check<N: Tree>(alloc: Global, failing: &mut Failing) -> Result<(), Fail> {
+    let tree = N::read(alloc, MEMBER)?;
+    failing.unless(
+        prints_through(alloc, &tree)? && prints_member(alloc, &tree)?,
+        "a node prints through whatever holds it",
+    )?;
+    failing.unless(
+        has_its_text_each_way(alloc, &tree)?,
+        "what holds a node has its text",
+    )?;
+    failing.unless(
+        prints_a_module::<N>(alloc)?,
+        "a module, its item and its name have their texts",
+    )?;
+    failing.unless(
+        tells_of_itself::<N>(alloc)?,
+        "an expression tells of itself",
+    )?;
+    failing.unless(
+        prints_hashbangs::<N>(alloc)?,
+        "hashbangs are printed, and go on in no other line",
+    )?;
+    failing.unless(
+        stops_before_invalid::<N>(alloc)?,
+        "what can't be printed is refused before its first token",
+    )?;
+    Ok(())
 }

@@ -1,5 +1,6 @@
 //! Emissions with each of the settings.
 
+use crate::checks::Failing;
 use crate::trees::{LITERALS, Tree};
 use std::alloc::Global;
 use std::test::Fail;
@@ -8,7 +9,7 @@ use swc_ecma_codegen_ast::comments::CommentMaps;
 use swc_ecma_codegen_ast::mapper::NoSource;
 use swc_ecma_codegen_common::{Error, EsVersion, Result as Answer};
 use swc_ecma_codegen_text_writer::{JsWriter, omit_trailing_semi};
-use swc_ecma_codegen_tree::{Ident, Program};
+use swc_ecma_codegen_tree::Ident;
 
 /// What an emission answered, and one of nothing after it, and the text.
 #[derive(Drop)]
@@ -19,7 +20,7 @@ struct Emitted {
 }
 
 /// The emission of a tree with some settings.
-fn emission<N: Tree>(alloc: Global, tree: &Program<N>, config: Config) -> Emitted {
+fn emission<P: Node>(alloc: Global, tree: &P, config: Config) -> Emitted {
     let wr = JsWriter::new(alloc, &NoSource, "\n", Vec::new(alloc), None);
     let mut emitter = Emitter::new(alloc, config, &NoSource, None::<CommentMaps>, wr);
     let answer = tree.emit_with(&mut emitter);
@@ -32,17 +33,13 @@ fn emission<N: Tree>(alloc: Global, tree: &Program<N>, config: Config) -> Emitte
 }
 
 /// Whether a tree has this text with some settings.
-fn has_text<N: Tree>(alloc: Global, tree: &Program<N>, config: Config, text: &str) -> bool {
+fn has_text<P: Node>(alloc: Global, tree: &P, config: Config, text: &str) -> bool {
     let emitted = emission(alloc, tree, config);
     emitted.answer.is_ok() && emitted.nothing.is_ok() && emitted.text.as_slice() == text.as_bytes()
 }
 
 /// The text of a tree whose semicolons are held back.
-fn text_when_held<N: Tree>(
-    alloc: Global,
-    tree: &Program<N>,
-    config: Config,
-) -> Result<Vec<u8>, Error> {
+fn text_when_held<P: Node>(alloc: Global, tree: &P, config: Config) -> Result<Vec<u8>, Error> {
     let wr = JsWriter::new(alloc, &NoSource, "\n", Vec::new(alloc), None);
     let wr = omit_trailing_semi(wr);
     let mut emitter = Emitter::new(alloc, config, &NoSource, None::<CommentMaps>, wr);
@@ -51,8 +48,7 @@ fn text_when_held<N: Tree>(
 }
 
 /// Whether each setting by itself changes what it is for.
-pub(crate) fn act_one_by_one<N: Tree>(alloc: Global) -> Result<bool, Fail> {
-    let tree = N::read(alloc, LITERALS)?;
+fn act_one_by_one<P: Node>(alloc: Global, tree: &P) -> bool {
     let none = Config::default();
     let plain = "é, \"é</script>\", 0b11, 𝒫;\n";
     let rows = [
@@ -75,17 +71,16 @@ pub(crate) fn act_one_by_one<N: Tree>(alloc: Global) -> Result<bool, Fail> {
     ];
     let mut all = true;
     for (config, text) in rows {
-        all = all && has_text(alloc, &tree, config, text);
+        all = all && has_text(alloc, tree, config, text);
     }
-    Ok(all)
+    all
 }
 
 /// Whether the last semicolon is left out where it is held back and the settings ask for it, and not otherwise.
-pub(crate) fn leave_out_the_last_semicolon<N: Tree>(alloc: Global) -> Result<bool, Fail> {
-    let tree = N::read(alloc, LITERALS)?;
+fn leave_out_the_last_semicolon<P: Node>(alloc: Global, tree: &P) -> Result<bool, Error> {
     let kept = Config::default().with_minify(true);
-    let text = text_when_held(alloc, &tree, kept)?;
-    let shorter = text_when_held(alloc, &tree, kept.with_omit_last_semi(true))?;
+    let text = text_when_held(alloc, tree, kept)?;
+    let shorter = text_when_held(alloc, tree, kept.with_omit_last_semi(true))?;
     Ok(
         text.as_slice() == "é,\"é</script>\",3,𝒫;".as_bytes()
             && shorter.as_slice() == "é,\"é</script>\",3,𝒫".as_bytes(),
@@ -94,15 +89,31 @@ pub(crate) fn leave_out_the_last_semicolon<N: Tree>(alloc: Global) -> Result<boo
 
 /// Whether a name that can't be written in ASCII for a version is refused after what stands before it, and what comes then
 /// fails.
-pub(crate) fn refuse_a_name<N: Tree>(alloc: Global) -> Result<bool, Fail> {
-    let tree = N::read(alloc, LITERALS)?;
+fn refuse_a_name<P: Node>(alloc: Global, tree: &P) -> bool {
     let config = Config::default().with_ascii_only(true);
     let mut all = true;
     for target in [EsVersion::Es3, EsVersion::Es5] {
-        let emitted = emission(alloc, &tree, config.with_target(target));
+        let emitted = emission(alloc, tree, config.with_target(target));
         all = all && matches!(&emitted.answer, Err(Error::NameOutOfTarget));
         all = all && matches!(&emitted.nothing, Err(Error::Failed));
         all = all && emitted.text.as_slice() == b"\\u00e9, \"\\xe9</script>\", 3, ".as_slice();
     }
-    Ok(all)
+    all
+}
+
+pub(crate) fn check<N: Tree>(alloc: Global, failing: &mut Failing) -> Result<(), Fail> {
+    let tree = N::read(alloc, LITERALS)?;
+    failing.unless(
+        act_one_by_one(alloc, &tree),
+        "each setting changes what it is for",
+    )?;
+    failing.unless(
+        leave_out_the_last_semicolon(alloc, &tree)?,
+        "the last semicolon is left out where that is asked for",
+    )?;
+    failing.unless(
+        refuse_a_name(alloc, &tree),
+        "a name out of the target is refused after what stands before it",
+    )?;
+    Ok(())
 }

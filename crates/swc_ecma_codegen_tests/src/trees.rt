@@ -71,23 +71,21 @@ pub(crate) trait Tree: Holds<Expr<Self>>
     /// Reads a program.
     fn read(alloc: Global, json: &str) -> Result<Program<Self>, ReadError>;
 
-    /// The bytes of a tree that is well-formed and of its script, by themselves and by the functions that say how they read,
-    /// and then of its parts, by those.
-    fn bytes_of_whole(alloc: Global, tree: &Program<Self>) -> Result<Vec<u8>, Error>;
+    /// The bytes of a tree, by each call that takes it whole and by the functions that say how these read: of a script itself and
+    /// of its first statement, of a module itself, of its first item and of the name that this one exports first.
+    fn bytes_of_whole(
+        alloc: Global,
+        tree: &Program<Self>,
+        config: Config,
+    ) -> Result<Vec<u8>, Error>;
 
-    /// The bytes of a well-formed statement and of its expression, by the functions that say how they read, and then of `;` in
-    /// a box, in an option, and of none.
+    /// The bytes of a statement that is an expression, and of what lies in it, by the functions that say how they read, with `;` in
+    /// a box and in an option between, and an option of none at the end.
     fn bytes_of_parts(
         alloc: Global,
         stmt: &Stmt<Self>,
         semicolons: (&Box<Stmt<Self>>, &Option<Stmt<Self>>, &Option<Stmt<Self>>),
     ) -> Result<Vec<u8>, Error>;
-
-    /// The bytes of a well-formed expression, by the function that says how it reads.
-    fn bytes_of_expr(alloc: Global, expr: &Expr<Self>) -> Result<Vec<u8>, Error>;
-
-    /// The bytes of a module, of its first item, which is well-formed, and of the name that this one exports first.
-    fn bytes_of_module(alloc: Global, module: &Module<Self>) -> Result<Vec<u8>, Error>;
 }
 
 impl Tree for AnyNode {
@@ -95,26 +93,34 @@ impl Tree for AnyNode {
         program_from_slice(alloc, json.as_bytes())
     }
 
-    fn bytes_of_whole(alloc: Global, tree: &Program) -> Result<Vec<u8>, Error> {
+    fn bytes_of_whole(alloc: Global, tree: &Program, config: Config) -> Result<Vec<u8>, Error> {
         links_write_their_roots();
         links_write_members();
         links_write_targets();
         new_emitter_reads();
         let wr = JsWriter::new(alloc, &NoSource, "\r\n", Vec::new(alloc), None);
-        let mut emitter = Emitter::new(alloc, settings(false), &NoSource, None::<CommentMaps>, wr);
+        let mut emitter = Emitter::new(alloc, config, &NoSource, None::<CommentMaps>, wr);
         if is_well_formed(tree) {
             emitter.emit_program(tree)?;
-            tree.emit_with(&mut emitter)?;
         }
-        if let Some(script) = script_of(tree) {
-            emitter.emit_script(script)?;
-            script.emit_with(&mut emitter)?;
-            if let Some(link) = script.body.first() {
-                emitted_link_reads(link, &mut emitter)?;
+        match tree {
+            Program::Script(script) => {
+                emitter.emit_script(script)?;
+                if let Some(link) = script.body.first() {
+                    emitted_link_reads(link, &mut emitter)?;
+                }
             }
-        }
-        if let Some(Expr::Member(link)) = expr_of(tree) {
-            emitted_link_reads(link, &mut emitter)?;
+            Program::Module(module) => {
+                emitter.emit_module(module)?;
+                if let Some(item) = item_of(module) {
+                    if is_well_formed_item(item) {
+                        emitter.emit_module_item(item)?;
+                    }
+                    if let Some(name) = exported_name(item) {
+                        emitter.emit_module_export_name(name)?;
+                    }
+                }
+            }
         }
         Ok(emitter.wr.into_inner())
     }
@@ -132,34 +138,18 @@ impl Tree for AnyNode {
         }
         if let Stmt::Expr(node) = stmt {
             emitted_link_reads(&node.expr, &mut emitter)?;
+            emitted_box_reads(boxed, &mut emitter)?;
+            if let Some(expr) = node.expr.get() {
+                if is_well_formed_expr(expr) {
+                    emitted_expr_reads(expr, &mut emitter)?;
+                }
+                emitted_option_reads(some, &mut emitter)?;
+                if let Expr::Member(link) = expr {
+                    emitted_link_reads(link, &mut emitter)?;
+                }
+            }
         }
-        emitted_box_reads(boxed, &mut emitter)?;
-        emitted_option_reads(some, &mut emitter)?;
         emitted_option_reads(none, &mut emitter)?;
-        Ok(emitter.wr.into_inner())
-    }
-
-    fn bytes_of_expr(alloc: Global, expr: &Expr) -> Result<Vec<u8>, Error> {
-        let wr = JsWriter::new(alloc, &NoSource, "\n", Vec::new(alloc), None);
-        let mut emitter = Emitter::new(alloc, settings(true), &NoSource, None::<CommentMaps>, wr);
-        if is_well_formed_expr(expr) {
-            emitted_expr_reads(expr, &mut emitter)?;
-        }
-        Ok(emitter.wr.into_inner())
-    }
-
-    fn bytes_of_module(alloc: Global, module: &Module) -> Result<Vec<u8>, Error> {
-        let wr = JsWriter::new(alloc, &NoSource, "\n", Vec::new(alloc), None);
-        let mut emitter = Emitter::new(alloc, settings(true), &NoSource, None::<CommentMaps>, wr);
-        emitter.emit_module(module)?;
-        if let Some(item) = item_of(module) {
-            if is_well_formed_item(item) {
-                emitter.emit_module_item(item)?;
-            }
-            if let Some(name) = exported_name(item) {
-                emitter.emit_module_export_name(name)?;
-            }
-        }
         Ok(emitter.wr.into_inner())
     }
 }
