@@ -48,6 +48,7 @@ impl<N: Held> EmitAt for OptChainExpr<N> {
 impl<N: Held> EmitAt for MemberExpr<N> {
     ghost items = { member_at N.items };
 
+    #[inline(never)]
     #[tactic(auto, unfolding(crate::specs::Exprs::member_at, crate::specs::Exprs::member))]
     fn emit_at<W: WriteJs, S: SourceMapper, C: Comments>(
         &self,

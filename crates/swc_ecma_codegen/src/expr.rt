@@ -100,6 +100,7 @@ fn expr_parts<N: Held, W: WriteJs, S: SourceMapper, C: Comments>(
 impl<N: Held> EmitAt for Expr<N> {
     ghost items = { expr N.answers N.items };
 
+    #[inline(always)]
     #[tactic(auto, unfolding(crate::specs::Exprs::expr))]
     fn emit_at<W: WriteJs, S: SourceMapper, C: Comments>(
         &self,

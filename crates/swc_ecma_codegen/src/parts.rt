@@ -13,6 +13,7 @@ use swc_ecma_codegen_tree::{ExprPart, StmtPart};
 impl<N: Held> EmitAt for ExprPart<N> {
     ghost items = { expr_part N.answers N.items };
 
+    #[inline(never)]
     #[tactic(auto, unfolding(crate::specs::Parts::expr_part))]
     fn emit_at<W: WriteJs, S: SourceMapper, C: Comments>(
         &self,
@@ -34,6 +35,7 @@ impl<N: Held> EmitAt for ExprPart<N> {
 impl<N: Held> EmitAt for StmtPart<N> {
     ghost items = { stmt_part N.answers N.items };
 
+    #[inline(never)]
     #[tactic(auto, unfolding(crate::specs::Parts::stmt_part))]
     fn emit_at<W: WriteJs, S: SourceMapper, C: Comments>(
         &self,

@@ -59,6 +59,7 @@ fn stmt_parts<N: Held, W: WriteJs, S: SourceMapper, C: Comments>(
 impl<N: Held> EmitAt for Stmt<N> {
     ghost items = { λ n _. stmt N.answers N.items n };
 
+    #[inline(never)]
     #[tactic(auto, unfolding(crate::specs::Stmts::stmt))]
     fn emit_at<W: WriteJs, S: SourceMapper, C: Comments>(
         &self,

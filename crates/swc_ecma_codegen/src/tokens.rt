@@ -1,7 +1,4 @@
 //! Calls of the lower emitter.
-//!
-//! Three of them are never inlined: each needs more of the stack than others, which would be part of the frames that are there
-//! once for each level of a tree.
 
 ghost use Rattle.std.specs.Prelude.{◌≡◌, ◌+◌, ◌<◌, Option, OnOk, true};
 ghost use Rattle.swc_ecma_codegen_literals.specs.Punctuators.{spelling};
@@ -54,7 +51,6 @@ impl<W: WriteJs, S: SourceMapper, C: Comments> Emitter<'_, W, S, C> {
     }
 
     /// Writes an operator that is a word.
-    #[inline(never)]
     pub(crate) fn word_operator(&mut self, text: &'static str) -> Answer
         requires { begins_letter text.now ≡ true }
         ensures items { Emits (word_operator text.now) (state_of S.lines W.sheet self.old) (state_of S.lines W.sheet self.new) result }
@@ -79,7 +75,8 @@ impl<W: WriteJs, S: SourceMapper, C: Comments> Emitter<'_, W, S, C> {
         self.lower.placed_punct(&self.cfg, &mut self.wr, span, mark)
     }
 
-    /// Writes a name that is the key of a property, with its comments.
+    /// Writes a name that is the key of a property, with its comments. Never inlined: what spells it needs more of the stack than others,
+    /// which would be part of the frames that are there once for each level of a tree.
     #[inline(never)]
     pub(crate) fn key(&mut self, span: Span, sym: &str) -> Answer
         ensures items { Emits (key span sym.now) (state_of S.lines W.sheet self.old) (state_of S.lines W.sheet self.new) result }
@@ -123,7 +120,6 @@ impl<W: WriteJs, S: SourceMapper, C: Comments> Emitter<'_, W, S, C> {
     }
 
     /// Writes a semicolon that may be left out where it isn't needed.
-    #[inline(never)]
     pub(crate) fn semi(&mut self) -> Answer
         ensures items { Emits (semi) (state_of S.lines W.sheet self.old) (state_of S.lines W.sheet self.new) result }
         ensures level { OnOk result ((W.sheet self.new.wr).indentation ≡ (W.sheet self.old.wr).indentation) }
@@ -148,7 +144,6 @@ impl<W: WriteJs, S: SourceMapper, C: Comments> Emitter<'_, W, S, C> {
     }
 
     /// Ends the line, unless the settings are to minify.
-    #[inline(never)]
     pub(crate) fn formatting_line(&mut self) -> Answer
         ensures items { Emits (formatting_line) (state_of S.lines W.sheet self.old) (state_of S.lines W.sheet self.new) result }
         ensures level { OnOk result ((W.sheet self.new.wr).indentation ≡ (W.sheet self.old.wr).indentation) }

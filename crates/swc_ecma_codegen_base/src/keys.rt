@@ -23,6 +23,7 @@ use swc_ecma_codegen_util::config::Config;
 
 impl LowerEmitter {
     /// The call of a key in quotes.
+    #[inline(never)]
     fn put_quoted_key<W: WriteJs>(&mut self, cfg: &Config, wr: &mut W, text: &str) -> Answer
         requires { self.old.failed ≡ false }
         ensures items { Does (step (Token kinds.Str (Symbol dummy_span text.now))) (state_of cfg.now (W.sheet wr.old) self.old) (state_of cfg.now (W.sheet wr.new) self.new) result }

@@ -47,6 +47,7 @@ impl LowerEmitter {
     }
 
     /// One level of indentation more.
+    #[inline(never)]
     pub fn deeper<W: WriteJs>(&mut self, cfg: &Config, wr: &mut W) -> Answer
         ensures items { Does deeper (state_of cfg.now (W.sheet wr.old) self.old) (state_of cfg.now (W.sheet wr.new) self.new) result }
         ensures level { OnOk result ((W.sheet wr.new).indentation ≡ (W.sheet wr.old).indentation + 1) }
@@ -60,6 +61,7 @@ impl LowerEmitter {
     }
 
     /// One level of indentation less.
+    #[inline(never)]
     pub fn shallower<W: WriteJs>(&mut self, cfg: &Config, wr: &mut W) -> Answer
         requires { 0 < (W.sheet wr.old).indentation }
         ensures items { Does shallower (state_of cfg.now (W.sheet wr.old) self.old) (state_of cfg.now (W.sheet wr.new) self.new) result }

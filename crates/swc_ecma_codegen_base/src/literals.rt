@@ -52,6 +52,7 @@ fn number_end(text: &str) -> Last
 
 impl LowerEmitter {
     /// The call of a string.
+    #[inline(never)]
     fn put_string<W: WriteJs>(&mut self, cfg: &Config, wr: &mut W, text: &str) -> Answer
         requires { self.old.failed ≡ false }
         ensures items { Does (step (Token kind.Str (StrLit dummy_span text.now))) (state_of cfg.now (W.sheet wr.old) self.old) (state_of cfg.now (W.sheet wr.new) self.new) result }
@@ -63,6 +64,7 @@ impl LowerEmitter {
     }
 
     /// The call of a number, which may have a sign.
+    #[inline(never)]
     fn put_number<W: WriteJs>(&mut self, cfg: &Config, wr: &mut W, text: &str) -> Answer
         requires { self.old.failed ≡ false }
         ensures items { Does (step (Ends (signed kind.Number text.now) (StrLit dummy_span text.now))) (state_of cfg.now (W.sheet wr.old) self.old) (state_of cfg.now (W.sheet wr.new) self.new) result }
@@ -75,6 +77,7 @@ impl LowerEmitter {
     }
 
     /// The call of a number before its dot.
+    #[inline(never)]
     fn put_before_dot<W: WriteJs>(&mut self, cfg: &Config, wr: &mut W, text: &str) -> Answer
         requires { self.old.failed ≡ false }
         ensures items { Does (step (Plain (StrLit dummy_span text.now))) (state_of cfg.now (W.sheet wr.old) self.old) (state_of cfg.now (W.sheet wr.new) self.new) result }
@@ -87,6 +90,7 @@ impl LowerEmitter {
     }
 
     /// The call of the dot of a number that is spelled so before it.
+    #[inline(never)]
     fn put_dot<W: WriteJs>(&mut self, cfg: &Config, wr: &mut W, text: &str) -> Answer
         requires fresh { self.old.failed ≡ false }
         requires integer { takes_dot (chars (size_of text.now)) ≡ true }
@@ -100,6 +104,7 @@ impl LowerEmitter {
     }
 
     /// The call of the sign before `Infinity`.
+    #[inline(never)]
     fn put_sign<W: WriteJs>(&mut self, cfg: &Config, wr: &mut W, span: Span) -> Answer
         requires { self.old.failed ≡ false }
         ensures items { Does (step (Token kind.Punctuator (StrLit span (codes "-")))) (state_of cfg.now (W.sheet wr.old) self.old) (state_of cfg.now (W.sheet wr.new) self.new) result }
@@ -112,6 +117,7 @@ impl LowerEmitter {
     }
 
     /// The call of `Infinity` or `NaN`.
+    #[inline(never)]
     fn put_number_name<W: WriteJs>(
         &mut self,
         cfg: &Config,
@@ -129,6 +135,7 @@ impl LowerEmitter {
     }
 
     /// The call of the digits of a big integer, before its `n`.
+    #[inline(never)]
     fn put_digits<W: WriteJs>(&mut self, cfg: &Config, wr: &mut W, span: Span, text: &str) -> Answer
         requires { self.old.failed ≡ false }
         ensures items { Does (step (Plain (Lit span text.now))) (state_of cfg.now (W.sheet wr.old) self.old) (state_of cfg.now (W.sheet wr.new) self.new) result }
@@ -141,6 +148,7 @@ impl LowerEmitter {
     }
 
     /// The call of the `n` after these digits.
+    #[inline(never)]
     fn put_suffix<W: WriteJs>(&mut self, cfg: &Config, wr: &mut W, span: Span, text: &str) -> Answer
         requires { self.old.failed ≡ false }
         ensures items { Does (step (Ends (signed kind.BigInt (text.now ++ codes "n")) (Lit span (codes "n")))) (state_of cfg.now (W.sheet wr.old) self.old) (state_of cfg.now (W.sheet wr.new) self.new) result }
@@ -153,6 +161,7 @@ impl LowerEmitter {
     }
 
     /// The call of a big integer by its raw.
+    #[inline(never)]
     fn put_big_integer<W: WriteJs>(
         &mut self,
         cfg: &Config,
@@ -171,6 +180,7 @@ impl LowerEmitter {
     }
 
     /// The call of a slash of a regular expression.
+    #[inline(never)]
     fn put_slash<W: WriteJs>(&mut self, cfg: &Config, wr: &mut W) -> Answer
         requires { self.old.failed ≡ false }
         ensures items { Does (step (Plain (Punct None (codes "/")))) (state_of cfg.now (W.sheet wr.old) self.old) (state_of cfg.now (W.sheet wr.new) self.new) result }
@@ -183,6 +193,7 @@ impl LowerEmitter {
     }
 
     /// The call of what stands between the slashes.
+    #[inline(never)]
     fn put_pattern<W: WriteJs>(&mut self, cfg: &Config, wr: &mut W, text: &str) -> Answer
         requires { self.old.failed ≡ false }
         ensures items { Does (step (Plain (calls.Str text.now))) (state_of cfg.now (W.sheet wr.old) self.old) (state_of cfg.now (W.sheet wr.new) self.new) result }
@@ -195,6 +206,7 @@ impl LowerEmitter {
     }
 
     /// The call of the flags, with which it ends.
+    #[inline(never)]
     fn put_flags<W: WriteJs>(&mut self, cfg: &Config, wr: &mut W, exp: &str, flags: &str) -> Answer
         requires { self.old.failed ≡ false }
         ensures items { Does (step (Ends ((kind.Regex, regex_text exp.now flags.now) ∷ []) (calls.Str flags.now))) (state_of cfg.now (W.sheet wr.old) self.old) (state_of cfg.now (W.sheet wr.new) self.new) result }
@@ -207,6 +219,7 @@ impl LowerEmitter {
     }
 
     /// The call of the mark of a hashbang, unless a call was refused before.
+    #[inline(never)]
     fn put_hashbang_mark<W: WriteJs>(&mut self, cfg: &Config, wr: &mut W) -> Answer
         ensures items { Does (step (Plain (Punct None (codes "#!")))) (state_of cfg.now (W.sheet wr.old) self.old) (state_of cfg.now (W.sheet wr.new) self.new) result }
         ensures level { OnOk result ((W.sheet wr.new).indentation ≡ (W.sheet wr.old).indentation) }
@@ -221,6 +234,7 @@ impl LowerEmitter {
     }
 
     /// The call of what stands behind the mark, with which it ends.
+    #[inline(never)]
     fn put_hashbang_text<W: WriteJs>(&mut self, cfg: &Config, wr: &mut W, text: &str) -> Answer
         requires { self.old.failed ≡ false }
         ensures items { Does (step (Ends ((kind.Hashbang, codes "#!" ++ text.now) ∷ []) (StrLit dummy_span text.now))) (state_of cfg.now (W.sheet wr.old) self.old) (state_of cfg.now (W.sheet wr.new) self.new) result }

@@ -19,6 +19,7 @@ use swc_ecma_codegen_util::config::Config;
 
 impl LowerEmitter {
     /// The call of the mark before a private name.
+    #[inline(never)]
     fn put_hash<W: WriteJs>(&mut self, cfg: &Config, wr: &mut W) -> Answer
         requires { self.old.failed ≡ false }
         ensures items { Does (step (Plain (Punct None (codes "#")))) (state_of cfg.now (W.sheet wr.old) self.old) (state_of cfg.now (W.sheet wr.new) self.new) result }
@@ -31,6 +32,7 @@ impl LowerEmitter {
     }
 
     /// The call of the name behind it.
+    #[inline(never)]
     fn put_hashed<W: WriteJs>(&mut self, cfg: &Config, wr: &mut W, text: &str) -> Answer
         requires { self.old.failed ≡ false }
         ensures items { Does (hashed text.now) (state_of cfg.now (W.sheet wr.old) self.old) (state_of cfg.now (W.sheet wr.new) self.new) result }

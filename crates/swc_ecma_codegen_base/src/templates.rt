@@ -108,6 +108,7 @@ fn part_end(part: TemplatePart) -> &'static str
 
 impl LowerEmitter {
     /// The call of the mark with which a part begins.
+    #[inline(never)]
     fn put_begin<W: WriteJs>(&mut self, cfg: &Config, wr: &mut W, first: bool) -> Answer
         ensures items { Does (step (Plain (Punct None (begin_of_part first)))) (state_of cfg.now (W.sheet wr.old) self.old) (state_of cfg.now (W.sheet wr.new) self.new) result }
         ensures level { OnOk result ((W.sheet wr.new).indentation ≡ (W.sheet wr.old).indentation) }
@@ -122,6 +123,7 @@ impl LowerEmitter {
     }
 
     /// The call of what stands inside of a part of a template without a tag.
+    #[inline(never)]
     fn put_cooked<W: WriteJs>(&mut self, cfg: &Config, wr: &mut W, text: &str) -> Answer
         requires { self.old.failed ≡ false }
         ensures items { Does (step (Plain (StrLit dummy_span text.now))) (state_of cfg.now (W.sheet wr.old) self.old) (state_of cfg.now (W.sheet wr.new) self.new) result }
@@ -134,6 +136,7 @@ impl LowerEmitter {
     }
 
     /// The same of a template with a tag.
+    #[inline(never)]
     fn put_raw<W: WriteJs>(&mut self, cfg: &Config, wr: &mut W, text: &str) -> Answer
         requires { self.old.failed ≡ false }
         ensures items { Does (step (Ends [] (StrLit dummy_span text.now))) (state_of cfg.now (W.sheet wr.old) self.old) (state_of cfg.now (W.sheet wr.new) self.new) result }
@@ -146,6 +149,7 @@ impl LowerEmitter {
     }
 
     /// The call of the mark with which a part ends.
+    #[inline(never)]
     fn put_end<W: WriteJs>(
         &mut self,
         cfg: &Config,

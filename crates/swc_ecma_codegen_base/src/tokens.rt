@@ -1,4 +1,7 @@
 //! One call of the writer, and the blank that is due before it.
+//!
+//! What makes the call is never inlined: the room for the error of a writer would be part of the frames of nodes, which are there
+//! once for each level of a tree.
 
 ghost use Rattle.std.specs.Prelude.{◌≡◌, ℕ, None, OnOk, OnErr, Option, List, [], ◌∷◌, ◌++◌, codes, true, false};
 ghost use Rattle.std.specs.Str.{chars};
@@ -7,8 +10,10 @@ ghost use Rattle.swc_ecma_codegen_literals.specs.Punctuators.{spelling};
 ghost use Rattle.swc_ecma_codegen_base.specs.Starts.{begins_letter, start_class};
 ghost use Rattle.swc_ecma_codegen_spans.specs.Spans.{dummy_span};
 ghost use Rattle.swc_ecma_codegen_text_writer.specs.Sheet.{Semi, Keyword, Operator, Symbol, Punct, Position};
+ghost use Rattle.swc_ecma_codegen_ast.specs.GapRules.{fuses};
 ghost use Rattle.swc_ecma_codegen_ast.specs.declared.kinds.Kind.TheVariants as kind;
 ghost use Rattle.swc_ecma_codegen_ast.specs.Tokens as lexical;
+ghost use Rattle.swc_ecma_codegen_base.specs.Last.{last_at};
 ghost use Rattle.swc_ecma_codegen_base.specs.Run.{Does, step, Guard, Token, Plain};
 ghost use Rattle.swc_ecma_codegen_base.specs.Words.{keyword, operator, word_operator, punct, placed_punct, semi, space, formatting_space, formatting_line, line_end, commit_pending_semi, position, position_before};
 ghost use Rattle.swc_ecma_codegen_base.specs.Written.{IsWord, ReadsSoFar};
@@ -56,7 +61,7 @@ impl LowerEmitter {
     }
 
     /// Writes a blank where the last token and `text`, which begins so, would fuse.
-    #[tactic(auto, using(crate::proofs::Emitting::does_failed, crate::proofs::Calls::level))]
+    #[tactic(auto, using(crate::proofs::Emitting::does_failed))]
     pub(crate) fn guard<W: WriteJs>(
         &mut self,
         cfg: &Config,
@@ -69,14 +74,26 @@ impl LowerEmitter {
         ensures level { OnOk result ((W.sheet wr.new).indentation ≡ (W.sheet wr.old).indentation) }
         ensures fresh { OnOk result (self.new.failed ≡ false) }
     {
-        let _ = cfg;
-        let _ = text;
         if self.failed {
             return Err(Refusal::Failed);
         }
         if !blank_due(self.last, next) {
             return Ok(());
         }
+        self.put_blank(cfg, wr, text)
+    }
+
+    /// The call of the blank between the last token and `text`, which would fuse.
+    #[inline(never)]
+    fn put_blank<W: WriteJs>(&mut self, cfg: &Config, wr: &mut W, text: &str) -> Answer
+        requires unfailed { self.old.failed ≡ false }
+        requires due { fuses (last_at self.old.token.value) (chars text.now) ≡ true }
+        ensures items { Does (step (Guard text.now)) (state_of cfg.now (W.sheet wr.old) self.old) (state_of cfg.now (W.sheet wr.new) self.new) result }
+        ensures level { OnOk result ((W.sheet wr.new).indentation ≡ (W.sheet wr.old).indentation) }
+        ensures fresh { OnOk result (self.new.failed ≡ false) }
+    {
+        let _ = cfg;
+        let _ = text;
         let answer = wr.write_space();
         self.settle(answer, Last::Apart)
     }
@@ -107,6 +124,7 @@ impl LowerEmitter {
     }
 
     /// The call of a keyword.
+    #[inline(never)]
     fn put_keyword<W: WriteJs>(
         &mut self,
         cfg: &Config,
@@ -124,6 +142,7 @@ impl LowerEmitter {
     }
 
     /// The call of an operator that is a punctuator.
+    #[inline(never)]
     fn put_operator<W: WriteJs>(&mut self, cfg: &Config, wr: &mut W, mark: Punctuator) -> Answer
         requires { self.old.failed ≡ false }
         ensures items { Does (step (Token kind.Punctuator (Operator None (spelling mark)))) (state_of cfg.now (W.sheet wr.old) self.old) (state_of cfg.now (W.sheet wr.new) self.new) result }
@@ -136,6 +155,7 @@ impl LowerEmitter {
     }
 
     /// The call of an operator that is a word.
+    #[inline(never)]
     fn put_word_operator<W: WriteJs>(
         &mut self,
         cfg: &Config,
@@ -152,6 +172,7 @@ impl LowerEmitter {
     }
 
     /// The call of a punctuator.
+    #[inline(never)]
     fn put_punct<W: WriteJs>(
         &mut self,
         cfg: &Config,
@@ -170,6 +191,7 @@ impl LowerEmitter {
     }
 
     /// The call of a semicolon.
+    #[inline(never)]
     fn put_semi<W: WriteJs>(&mut self, cfg: &Config, wr: &mut W) -> Answer
         requires { self.old.failed ≡ false }
         ensures items { Does (step (Token kind.Ending (Semi None))) (state_of cfg.now (W.sheet wr.old) self.old) (state_of cfg.now (W.sheet wr.new) self.new) result }
@@ -182,6 +204,7 @@ impl LowerEmitter {
     }
 
     /// The call of a name.
+    #[inline(never)]
     pub(crate) fn put_symbol<W: WriteJs>(&mut self, cfg: &Config, wr: &mut W, text: &str) -> Answer
         requires { self.old.failed ≡ false }
         ensures items { Does (step (Token kind.Name (Symbol dummy_span text.now))) (state_of cfg.now (W.sheet wr.old) self.old) (state_of cfg.now (W.sheet wr.new) self.new) result }
@@ -288,6 +311,7 @@ impl LowerEmitter {
     }
 
     /// Writes a blank.
+    #[inline(never)]
     pub fn space<W: WriteJs>(&mut self, cfg: &Config, wr: &mut W) -> Answer
         ensures items { Does (space) (state_of cfg.now (W.sheet wr.old) self.old) (state_of cfg.now (W.sheet wr.new) self.new) result }
         ensures level { OnOk result ((W.sheet wr.new).indentation ≡ (W.sheet wr.old).indentation) }
@@ -301,6 +325,7 @@ impl LowerEmitter {
     }
 
     /// Ends the line, unless at a line's start.
+    #[inline(never)]
     pub fn line<W: WriteJs>(&mut self, cfg: &Config, wr: &mut W) -> Answer
         ensures items { Does (line_end) (state_of cfg.now (W.sheet wr.old) self.old) (state_of cfg.now (W.sheet wr.new) self.new) result }
         ensures level { OnOk result ((W.sheet wr.new).indentation ≡ (W.sheet wr.old).indentation) }
@@ -332,13 +357,24 @@ impl LowerEmitter {
         ensures level { OnOk result ((W.sheet wr.new).indentation ≡ (W.sheet wr.old).indentation) }
         ensures fresh { OnOk result (self.new.failed ≡ false) }
     {
-        let _ = cfg;
         if self.failed {
             return Err(Refusal::Failed);
         }
         if !wr.care_about_srcmap() {
             return Ok(());
         }
+        self.put_position(cfg, wr, pos)
+    }
+
+    /// The call of a position.
+    #[inline(never)]
+    fn put_position<W: WriteJs>(&mut self, cfg: &Config, wr: &mut W, pos: BytePos) -> Answer
+        requires { self.old.failed ≡ false }
+        ensures items { Does (step (Plain (Position pos))) (state_of cfg.now (W.sheet wr.old) self.old) (state_of cfg.now (W.sheet wr.new) self.new) result }
+        ensures level { OnOk result ((W.sheet wr.new).indentation ≡ (W.sheet wr.old).indentation) }
+        ensures fresh { OnOk result (self.new.failed ≡ false) }
+    {
+        let _ = cfg;
         let answer = wr.add_srcmap(pos);
         self.keep(answer)
     }

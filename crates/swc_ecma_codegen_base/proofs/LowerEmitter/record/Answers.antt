@@ -2,20 +2,11 @@ use Rattle.std.proofs.Common.{◌≡◌, false, ◌&&◌, cond, Some, rules, ref
 use Rattle.swc_ecma_codegen_common.specs.declared.positions.BytePos.{BytePos}
 use Rattle.swc_ecma_codegen_text_writer.specs.Sheet.{Sheet, Position, effect, pointed, recorded, with_pair}
 use Rattle.swc_ecma_codegen_base.specs.Run.{State, Plain, put, after_plain}
-use Rattle.swc_ecma_codegen_base.proofs.Calls.{called_kept, level, is_level}
 use Rattle.swc_ecma_codegen_base.proofs.Emitting.{does_failed, does_step}
 use Rattle.swc_ecma_codegen_base.proofs.LowerEmitter.record.Goals as goal
 
 pub returns-then-self-clause-items : goal.returns-then-self-clause-items
 returns-then-self-clause-items g c = λ lines rest. does_failed _ _ c.if-self.true lines
-
-pub returns-clause-items : goal.returns-clause-items
-unfolding after_plain
-returns-clause-items g c = called_kept (Position c.args.pos) _ c.args.self.now c.keep.new.self _ _ _ _ c.if-self.false c.add_srcmap-answer.ensures c.keep.ensures.token c.keep.ensures.ok c.keep.ensures.err c.keep.ensures.same refl
-
-pub returns-clause-level : goal.returns-clause-level
-unfolding is_level
-returns-clause-level g c = level _ _ _ _ _ c.add_srcmap-answer.ensures c.keep.ensures.same refl
 
 -- without positions its call would change nothing
 unrecorded : (pos : BytePos) (s : Sheet) → s.keeps_positions ≡ false → s ≡ pointed pos s
