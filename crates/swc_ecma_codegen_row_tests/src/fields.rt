@@ -6,34 +6,52 @@ const NOWHERE: &str = r#"{"lo":0,"hi":0}"#;
 
 const A: &str = r#"{"Ident":{"span":{"lo":0,"hi":0},"sym":"a","optional":false}}"#;
 
-/// Adds what a group stands for: a character's code in hexadecimal, or a number of times and a text.
-fn add_group(text: &mut String, group: &str) -> Result<(), AllocError> {
-    match group.split_once('×') {
-        Some((times, part)) => {
-            let times: u32 = times.parse().unwrap_or(0);
-            for _ in 0..times {
-                text.push_str(part)?;
-            }
-            Ok(())
-        }
-        None => match u32::from_str_radix(group, 16).ok().and_then(char::from_u32) {
-            Some(c) => text.push(c),
-            None => Ok(()),
-        },
-    }
-}
+/// What stands before and after a short form in that of a program.
+pub type Frame = [&'static str; 2];
 
-/// The text that a field stands for.
+/// It is a program.
+pub const PROGRAM: Frame = ["", ""];
+
+/// It is the statements of a script.
+pub const STATEMENTS: Frame = [r#"{"Script":{"span":~,"body":["#, r#"],"shebang":null}}"#];
+
+/// It is the expression of a script's statement.
+pub const EXPRESSION: Frame = [
+    r#"{"Script":{"span":~,"body":[{"Expr":{"span":~,"expr":"#,
+    r#"}}],"shebang":null}}"#,
+];
+
+/// It is a literal, which is that expression.
+pub const LITERAL: Frame = [
+    r#"{"Script":{"span":~,"body":[{"Expr":{"span":~,"expr":{"Lit":"#,
+    r#"}}}],"shebang":null}}"#,
+];
+
+/// It is a literal, whose member `x` is that expression.
+pub const LITERAL_X: Frame = [
+    r#"{"Script":{"span":~,"body":[{"Expr":{"span":~,"expr":{"Member":{"span":~,"obj":{"Lit":"#,
+    r#"},"prop":{"Ident":{"span":~,"sym":"x"}}}}}}],"shebang":null}}"#,
+];
+
+/// The text that a field stands for: `aééb` for `a‹2×é›b`, and for `a‹e9›‹e9›b`.
 fn decoded(alloc: Global, field: &str) -> Result<String, AllocError> {
     let mut text = String::new(alloc);
     for part in field.split('‹') {
-        let rest = match part.split_once('›') {
-            Some((group, rest)) => {
-                add_group(&mut text, group)?;
-                rest
+        let (group, rest) = part.split_once('›').unwrap_or(("", part));
+        match (group.split_once('×'), u32::from_str_radix(group, 16)) {
+            (Some((times, part)), _) => {
+                let times: u32 = times.parse().unwrap_or(0);
+                for _ in 0..times {
+                    text.push_str(part)?;
+                }
             }
-            None => part,
-        };
+            (None, Ok(code)) => {
+                if let Some(c) = char::from_u32(code) {
+                    text.push(c)?;
+                }
+            }
+            (None, Err(_)) => {}
+        }
         text.push_str(rest)?;
     }
     Ok(text)
@@ -48,51 +66,36 @@ pub fn fields(alloc: Global, line: &str) -> Result<Vec<String>, AllocError> {
     Ok(found)
 }
 
-/// JSON of its short form.
-pub fn json(alloc: Global, short: &str) -> Result<String, AllocError> {
-    let mut json = String::new(alloc);
-    for letter in short.chars() {
-        match letter {
-            '~' => json.push_str(NOWHERE)?,
-            '@' => json.push_str(A)?,
-            letter => json.push(letter)?,
-        }
-    }
-    Ok(json)
+/// Whether a field that is `yes` or `no` is `yes`.
+pub fn is_yes(field: &str) -> bool {
+    field == "yes"
 }
 
-/// JSON of its short form, where each span is another: from 1 to 2, from 4 to 5, from 7 to 8 and so on.
-pub fn json_in_places(alloc: Global, short: &str) -> Result<String, AllocError> {
+/// JSON of a short form and what stands around it. With `in_places` each span is another: from 1 to 2, from 4 to 5, from 7
+/// to 8 and so on.
+pub fn json(
+    alloc: Global,
+    [before, after]: Frame,
+    short: &str,
+    in_places: bool,
+) -> Result<String, AllocError> {
     let mut json = String::new(alloc);
     let mut lo: u32 = 1;
-    for letter in short.chars() {
-        if letter == '~' {
-            let hi = lo.saturating_add(1);
-            json.push_str(&format!(in alloc; "{{\"lo\":{lo},\"hi\":{hi}}}")?)?;
-            lo = lo.saturating_add(3);
-        } else {
-            json.push(letter)?;
+    for part in [before, short, after] {
+        for letter in part.chars() {
+            match letter {
+                '~' if in_places => {
+                    let hi = lo.saturating_add(1);
+                    write!(json, "{{\"lo\":{lo},\"hi\":{hi}}}")?;
+                    lo = lo.saturating_add(3);
+                }
+                '~' => json.push_str(NOWHERE)?,
+                '@' => json.push_str(A)?,
+                letter => json.push(letter)?,
+            }
         }
     }
     Ok(json)
-}
-
-/// A script of statements, in its short form.
-pub fn script_of(alloc: Global, body: &str) -> Result<String, AllocError> {
-    let mut short = String::new(alloc);
-    short.push_str(r#"{"Script":{"span":~,"body":["#)?;
-    short.push_str(body)?;
-    short.push_str(r#"],"shebang":null}}"#)?;
-    Ok(short)
-}
-
-/// A script of one expression, in its short form.
-pub fn script(alloc: Global, expr: &str) -> Result<String, AllocError> {
-    let mut body = String::new(alloc);
-    body.push_str(r#"{"Expr":{"span":~,"expr":"#)?;
-    body.push_str(expr)?;
-    body.push_str("}}")?;
-    script_of(alloc, &body)
 }
 
 /// Bytes in hexadecimal, with blanks between; `None` where a word is none.

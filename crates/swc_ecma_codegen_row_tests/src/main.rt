@@ -1,5 +1,6 @@
-//! Goes through the table on standard input: what is printed of trees, and what isn't read or printed. Prints the rows
-//! that don't hold, and how many rows there are.
+//! Goes through the table on standard input: what is printed of trees, and what isn't read or printed; then what the
+//! lexical grammar, the spellings and the formats of lists must answer. Prints the rows that don't hold, and how many rows
+//! there are.
 //!
 //! A row is a word and its fields, with a tab between. `‹e9›` stands for the character of that code, `‹3×ab›` for
 //! `ababab`, `‹›` for no text. In JSON `~` stands for a span that stands nowhere, and `@` for the expression `a`. Lines
@@ -7,24 +8,32 @@
 //!
 //! A tree is also written in steps, each after those of its operands: `a b + c *` for `(a + b) * c`. A row `operator`,
 //! `expression` or `step` says what one is: its JSON and its tokens, with `•` for each operand. A token has a letter for its
-//! kind before it: `w` a word, `n` a name, `h` a private name, `p` a punctuator, `P` one that stands only with blanks, `e`
-//! a semicolon that ends a statement, `c` a comma that stands where the source text of its list ends with one, `C` one that
-//! then stands only with blanks, `0` a number, `b` a big integer, `s` a string, `r` a regular expression.
+//! kind before it, as `reading` lists them (`n:a`), or one that says when it stands: `P` for a punctuator that stands only
+//! with blanks, `e` for a semicolon that ends a statement, `c` for a comma that stands where the source text of its list
+//! ends with one, `C` for one that then stands only with blanks.
 //! A row `literal` says of one, in JSON, which tokens it is, and its texts with the words of each column of `literals`.
 #![tactic(auto)]
 
 mod depths;
 mod fields;
+mod formats;
+mod lexical;
 mod literals;
 mod looks;
 mod nestings;
+mod numbers;
 mod over;
+mod patterns;
 mod reading;
 mod rows;
 mod runs;
 mod sources;
+mod spellings;
 mod steps;
+mod sweeps;
+mod templates;
 mod trees;
+mod values;
 
 use crate::rows::holds;
 use crate::steps::steps;
@@ -39,7 +48,7 @@ fn main(rt: HostRuntime) -> io::Result<()> {
     for line in table.lines() {
         if !line.is_empty() && !line.starts_with('#') {
             rows = rows.saturating_add(1);
-            if !holds(alloc, &steps, line) {
+            if !holds(alloc, &steps, line).unwrap_or(false) {
                 failed = failed.saturating_add(1);
                 println!(rt; "{line}")?;
             }

@@ -1,7 +1,8 @@
 //! Every operator, some literals, and an expression of each other type, as operands.
 
-use crate::steps::{Sort, Step, all_named, expression, named};
-use crate::trees::{has_texts, reads_back};
+use crate::sources::source_of;
+use crate::steps::{Step, named, tree_of};
+use crate::trees::{has_texts, texts_read};
 use std::alloc::{AllocError, Global};
 
 const NAMES: [&str; 4] = ["a", "in_", "$", "\u{e9}"];
@@ -42,17 +43,12 @@ fn is_printed(
 ) -> Result<bool, AllocError> {
     let pretty = format!(in alloc; "{pretty};\n")?;
     let minified = format!(in alloc; "{minified};")?;
+    let source = source_of(alloc, "apart", None)?;
     for turn in 0..4 {
         let words = nesting(alloc, operators, place, turn)?;
-        let holds = match all_named(alloc, steps, &words)? {
-            Some(nested) => {
-                let tree = expression(alloc, &nested)?;
-                if turn == 0 {
-                    has_texts(alloc, &tree, true, [&pretty, &minified])?
-                } else {
-                    reads_back(alloc, &tree)?
-                }
-            }
+        let holds = match tree_of(alloc, steps, &words, true, false)? {
+            Some(tree) if turn == 0 => has_texts(alloc, &tree, true, [&pretty, &minified])?,
+            Some(tree) => texts_read(alloc, &source, &tree, false)?.is_some(),
             None => false,
         };
         if !holds {
@@ -62,51 +58,28 @@ fn is_printed(
     Ok(true)
 }
 
-/// The steps of a sort.
-fn of_sort<'a>(alloc: Global, steps: &'a [Step], sort: Sort) -> Result<Vec<&'a Step>, AllocError> {
-    let mut found = Vec::new(alloc);
-    for step in steps {
-        if step.is_of(sort) {
-            found.push(step)?;
-        }
-    }
-    Ok(found)
-}
-
-/// The texts between `¦`.
-fn texts_of<'a>(alloc: Global, texts: &'a str) -> Result<Vec<&'a str>, AllocError> {
-    let mut found = Vec::new(alloc);
-    for text in texts.split('¦') {
-        found.push(text)?;
-    }
-    Ok(found)
-}
-
 /// Whether a step is printed so with each of a sort at a place, with `¦` between the texts.
 pub fn are_printed(
     alloc: Global,
     steps: &[Step],
-    sort: Sort,
+    sort: &str,
     [outer, place]: [&str; 2],
     [pretty, minified]: [&str; 2],
 ) -> Result<bool, AllocError> {
     let (Some(outer), Ok(place)) = (named(steps, outer), place.parse()) else {
         return Ok(false);
     };
-    let sorted = of_sort(alloc, steps, sort)?;
-    let pretty = texts_of(alloc, pretty)?;
-    let minified = texts_of(alloc, minified)?;
-    for at in 0..sorted.len() {
-        let (Some(inner), Some(pretty), Some(minified)) = (
-            sorted.get(at),
-            pretty.get(at),
-            minified.get(at),
-        ) else {
-            return Ok(false);
-        };
-        if !is_printed(alloc, steps, [outer, *inner], place, [*pretty, *minified])? {
-            return Ok(false);
+    let mut pretty = pretty.split('¦');
+    let mut minified = minified.split('¦');
+    for inner in steps {
+        if inner.sort.as_str() == sort {
+            let (Some(pretty), Some(minified)) = (pretty.next(), minified.next()) else {
+                return Ok(false);
+            };
+            if !is_printed(alloc, steps, [outer, inner], place, [pretty, minified])? {
+                return Ok(false);
+            }
         }
     }
-    Ok(pretty.len() == sorted.len() && minified.len() == sorted.len())
+    Ok(pretty.next().is_none() && minified.next().is_none())
 }

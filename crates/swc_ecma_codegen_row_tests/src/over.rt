@@ -1,46 +1,26 @@
 //! What is printed over source texts.
 
-use crate::looks::printed_over;
-use crate::reading::{Manner, reads_as};
 use crate::sources::{Source, source_of};
 use crate::steps::Tree;
+use crate::trees::texts_read;
 use std::alloc::{AllocError, Global};
 
 /// Whether a tree has these texts over a source text, with blanks and without, and they read back. With `comma` the texts
 /// of its lists end with one.
-fn is_printed(
+pub fn has_texts_over(
     alloc: Global,
     source: &Source,
     tree: &Tree,
     comma: bool,
-    texts: [&str; 2],
+    [pretty, minified]: [&str; 2],
 ) -> Result<bool, AllocError> {
-    for (minified, text) in [false, true].into_iter().zip(texts) {
-        let manner = Manner {
-            minified,
-            holds: false,
-            omits_last: false,
-            comma,
-        };
-        let is_text = match printed_over(alloc, source, tree.json.as_bytes(), minified) {
-            Some(found) => found.as_slice() == text.as_bytes(),
-            None => false,
-        };
-        if !is_text || !reads_as(alloc, text, &tree.tokens, manner)? {
-            return Ok(false);
-        }
+    match texts_read(alloc, source, tree, comma)? {
+        Some(texts) => Ok(
+            texts.pretty.as_slice() == pretty.as_bytes()
+                && texts.minified.as_slice() == minified.as_bytes(),
+        ),
+        None => Ok(false),
     }
-    Ok(true)
-}
-
-/// Whether a tree has these texts over a source text whose positions stand so, and whose spans have no text.
-pub fn has_texts_over(
-    alloc: Global,
-    lines: &str,
-    tree: &Tree,
-    texts: [&str; 2],
-) -> Result<bool, AllocError> {
-    is_printed(alloc, &source_of(alloc, lines, None)?, tree, false, texts)
 }
 
 /// Of what the texts of spans are made.
@@ -80,7 +60,7 @@ pub fn has_commas(
         let comma = mark == '1';
         let texts = if comma { with } else { without };
         let source = source_of(alloc, "same", Some(snippet))?;
-        if !is_printed(alloc, &source, tree, comma, texts)? {
+        if !has_texts_over(alloc, &source, tree, comma, texts)? {
             return Ok(false);
         }
     }

@@ -1,7 +1,7 @@
-//! Texts read back.
+//! Texts read back, by the definitions of ECMA-262.
 
 use std::alloc::{AllocError, Global};
-use swc_ecma_codegen_ast::kinds::Kind;
+use swc_ecma_codegen_ast::kinds::{Kind, TemplatePart};
 use swc_ecma_codegen_ast::names::name_value;
 use swc_ecma_codegen_ast::number_values::{HeldNumber, numeric_value};
 use swc_ecma_codegen_ast::reader::{characters, read_tokens};
@@ -28,48 +28,73 @@ pub const PRETTY: Manner = Manner {
     comma: false,
 };
 
-/// Without blanks.
-pub const MINIFIED: Manner = Manner {
-    minified: true,
-    holds: false,
-    omits_last: false,
-    comma: false,
+/// Of a template without a tag, to its end.
+const WHOLE: TemplatePart = TemplatePart {
+    tagged: false,
+    opens: false,
 };
 
-/// A letter for each kind, as in the rows.
-fn kind_of(letter: &str) -> Kind {
+/// The same with a tag.
+const TAGGED: TemplatePart = TemplatePart {
+    tagged: true,
+    opens: false,
+};
+
+/// Of a template without a tag, to an expression.
+const OPENING: TemplatePart = TemplatePart {
+    tagged: false,
+    opens: true,
+};
+
+/// The kind that a letter stands for. What has none is a punctuator, which the rows write as `p`.
+fn kind_of(letter: char) -> Kind {
     match letter {
-        "n" => Kind::Name,
-        "h" => Kind::PrivateName,
-        "w" => Kind::Word,
-        "0" => Kind::Number,
-        "b" => Kind::BigInt,
-        "s" => Kind::Str,
-        "r" => Kind::Regex,
-        "e" => Kind::Ending,
+        'w' => Kind::Word,
+        'n' => Kind::Name,
+        'h' => Kind::PrivateName,
+        '0' => Kind::Number,
+        'b' => Kind::BigInt,
+        's' => Kind::Str,
+        'r' => Kind::Regex,
+        't' => Kind::Template(WHOLE),
+        'g' => Kind::Template(TAGGED),
+        'o' => Kind::Template(OPENING),
+        'm' => Kind::TemplateRest(WHOLE),
+        '>' => Kind::Close,
+        'j' => Kind::JsxName,
+        'q' => Kind::JsxString,
+        'x' => Kind::JsxText,
+        '{' => Kind::JsxOpen,
+        '!' => Kind::Hashbang,
+        'e' => Kind::Ending,
+        '^' => Kind::SameLine,
         _ => Kind::Punctuator,
     }
 }
 
-/// Whether a token is printed before the next one.
-fn is_written(manner: Manner, token: &str, next: Option<&&str>) -> bool {
-    if token.starts_with("P:") {
-        !manner.minified
-    } else if token.starts_with("c:") {
-        manner.comma
-    } else if token.starts_with("C:") {
-        manner.comma && !manner.minified
-    } else if token == "e:;" {
-        match next {
-            Some(next) => !manner.holds || !matches!(*next, "p:}" | "p:;" | "e:;"),
-            None => !manner.omits_last,
-        }
-    } else {
-        true
+/// The tokens of a text of these kinds, with `¦` after each, or `none`: `a¦+¦b¦` of `a + b` and `npn`.
+pub fn tokens(alloc: Global, text: &str, letters: &str) -> Result<String, AllocError> {
+    let text = characters(alloc, text)?;
+    let mut kinds = Vec::new(alloc);
+    for letter in letters.chars() {
+        kinds.push(kind_of(letter))?;
     }
+    let mut joined = String::new(alloc);
+    match read_tokens(alloc, &text, &kinds)? {
+        None => joined.push_str("none")?,
+        Some(tokens) => {
+            for token in &tokens {
+                for c in *token {
+                    joined.push(*c)?;
+                }
+                joined.push('¦')?;
+            }
+        }
+    }
+    Ok(joined)
 }
 
-/// The tokens of a text that is printed so.
+/// The letters and the spellings of the tokens of a text that is printed so.
 fn tokens_of<'a>(
     alloc: Global,
     tokens: &'a str,
@@ -81,9 +106,19 @@ fn tokens_of<'a>(
     }
     let mut found = Vec::new(alloc);
     for at in 0..all.len() {
-        let token = all[at];
-        if is_written(manner, token, all.get(at.saturating_add(1))) {
-            found.push(token.split_once(':').unwrap_or(("", "")))?;
+        let (letter, spelling) = all[at].split_once(':').unwrap_or(("", ""));
+        let is_written = match letter {
+            "P" => !manner.minified,
+            "c" => manner.comma,
+            "C" => manner.comma && !manner.minified,
+            "e" => match all.get(at.saturating_add(1)) {
+                Some(next) => !manner.holds || !matches!(*next, "p:}" | "p:;" | "e:;"),
+                None => !manner.omits_last,
+            },
+            _ => true,
+        };
+        if is_written {
+            found.push((letter, spelling))?;
         }
     }
     Ok(found)
@@ -100,21 +135,13 @@ pub fn reads_as(
     let tokens = tokens_of(alloc, tokens, manner)?;
     let mut kinds = Vec::new(alloc);
     for (letter, _) in &tokens {
-        kinds.push(kind_of(letter))?;
+        kinds.push(kind_of(letter.chars().next().unwrap_or('p')))?;
     }
-    match read_tokens(alloc, &text, &kinds)? {
-        None => Ok(false),
-        Some(found) => are_tokens(alloc, &found, &tokens),
-    }
-}
-
-fn are_tokens(
-    alloc: Global,
-    found: &[&[char]],
-    tokens: &[(&str, &str)],
-) -> Result<bool, AllocError> {
-    let mut left = found;
-    for (letter, spelling) in tokens {
+    let Some(found) = read_tokens(alloc, &text, &kinds)? else {
+        return Ok(false);
+    };
+    let mut left = found.as_slice();
+    for (letter, spelling) in &tokens {
         match left {
             [first, rest @ ..] if is_token(alloc, letter, first, &characters(alloc, spelling)?)? =>
                 { left = rest }
@@ -140,16 +167,24 @@ fn is_token(
     token: &[char],
 ) -> Result<bool, AllocError> {
     match letter {
-        "n" => Ok(is_same_name(name_value(alloc, found)?, name_value(alloc, token)?)),
-        "h" => Ok(is_same_name(
+        "n" | "h" => match (
             name_value(alloc, without_mark(found))?,
             name_value(alloc, without_mark(token))?,
-        )),
-        "0" | "b" => Ok(found == token || is_as_much(value(found), value(token))),
-        "s" => is_alike(
+        ) {
+            (Some(a), Some(b)) => Ok(a.as_slice() == b.as_slice()),
+            _ => Ok(false),
+        },
+        "0" | "b" => {
+            let amount = value(found);
+            Ok(found == token || (amount.is_some() && amount == value(token)))
+        }
+        "s" => match (
             string_value(alloc, true, found)?,
             string_value(alloc, true, token)?,
-        ),
+        ) {
+            (Some(a), Some(b)) => Ok(a.as_slice() == b.as_slice()),
+            _ => Ok(false),
+        },
         _ => Ok(found == token),
     }
 }
@@ -159,38 +194,10 @@ type Value = (u128, u128, u128);
 
 /// The value of a numeric literal; `None` where there is no room for it.
 fn value(text: &[char]) -> Option<Value> {
-    match numeric_value(text) {
-        Some(number) => Some(shortened(number, 0)),
-        None => rounded(text),
-    }
-}
-
-/// A number without a dot at its end: `1000.` in `1000..x`.
-fn without_dot(text: &[char]) -> &[char] {
-    match text {
-        [digits @ .., '.'] => digits,
-        _ => text,
-    }
-}
-
-/// The same of a large integer that ends with zeros.
-fn rounded(text: &[char]) -> Option<Value> {
-    let digits = without_dot(text);
-    if !digits.iter().all(|c| c.is_ascii_digit()) {
-        return None;
-    }
-    let mut end = digits.len();
-    for _ in 1..digits.len() {
-        if digits.get(end.saturating_sub(1)) == Some(&'0') {
-            end = end.saturating_sub(1);
-        }
-    }
-    let zeros = digits.len().saturating_sub(end);
-    Some(shortened(numeric_value(digits.get(..end)?)?, zeros as u128))
-}
-
-/// The value of a number and so many zeros.
-fn shortened(number: HeldNumber, zeros: u128) -> Value {
+    let (number, zeros) = match numeric_value(text) {
+        Some(number) => (number, 0),
+        None => rounded(text)?,
+    };
     let mut whole = number.whole;
     let mut tens = number.tens.saturating_add(zeros);
     for _ in 0..39 {
@@ -200,33 +207,33 @@ fn shortened(number: HeldNumber, zeros: u128) -> Value {
         }
     }
     if whole == 0 {
-        return (0, 0, 0);
+        return Some((0, 0, 0));
     }
     let common = tens.min(number.tenths);
-    (
+    Some((
         whole,
         tens.saturating_sub(common),
         number.tenths.saturating_sub(common),
-    )
+    ))
 }
 
-/// Whether two values are known and the same.
-fn is_as_much(a: Option<Value>, b: Option<Value>) -> bool {
-    a.is_some() && a == b
-}
-
-/// Whether two names have the same characters.
-fn is_same_name(a: Option<Vec<char>>, b: Option<Vec<char>>) -> bool {
-    match (a, b) {
-        (Some(a), Some(b)) => a.as_slice() == b.as_slice(),
-        _ => false,
+/// A large integer without the zeros at its end, and how many these are. It may have a dot there: `1000.` in `1000..x`.
+fn rounded(text: &[char]) -> Option<(HeldNumber, u128)> {
+    let digits = match text {
+        [digits @ .., '.'] => digits,
+        _ => text,
+    };
+    for digit in digits {
+        if !digit.is_ascii_digit() {
+            return None;
+        }
     }
-}
-
-/// Whether two strings have the same code units.
-fn is_alike(a: Option<Vec<u16>>, b: Option<Vec<u16>>) -> Result<bool, AllocError> {
-    match (a, b) {
-        (Some(a), Some(b)) => Ok(a.as_slice() == b.as_slice()),
-        _ => Ok(false),
+    let mut end = digits.len();
+    for _ in 1..digits.len() {
+        if digits.get(end.saturating_sub(1)) == Some(&'0') {
+            end = end.saturating_sub(1);
+        }
     }
+    let zeros = digits.len().saturating_sub(end);
+    Some((numeric_value(digits.get(..end)?)?, zeros as u128))
 }

@@ -42,15 +42,15 @@ impl SourceMapper for Source {
     }
 }
 
-/// A source text by the names of its answers: `same` line, lines `apart`, or one line where the first position is `even`.
+/// A source text by the names of its answers: `same` line, lines `apart`, or one line where the first position is `even`, or
+/// `odd`. With `apart` and no text for spans it answers as if there were none.
 pub fn source_of(alloc: Global, lines: &str, snippet: Option<&str>) -> Result<Source, AllocError> {
-    let snippet = match snippet {
-        Some(text) => Some(String::from_str(alloc, text)?),
-        None => None,
-    };
     Ok(Source {
-        even: lines != "apart",
-        odd: lines == "same",
-        snippet,
+        even: matches!(lines, "same" | "even"),
+        odd: matches!(lines, "same" | "odd"),
+        snippet: match snippet {
+            Some(text) => Some(String::from_str(alloc, text)?),
+            None => None,
+        },
     })
 }

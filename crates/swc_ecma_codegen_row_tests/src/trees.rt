@@ -1,14 +1,15 @@
 //! What is printed of a tree in steps.
 
 use crate::looks::{Answers, Texts, look};
-use crate::reading::{MINIFIED, Manner, PRETTY, reads_as};
-use crate::runs::{prints, prints_with};
+use crate::reading::{Manner, reads_as};
+use crate::runs::answers;
+use crate::sources::{Source, source_of};
 use crate::steps::Tree;
 use std::alloc::{AllocError, Global};
 
-/// The texts of a program that is well-formed, or isn't.
-fn texts_where(alloc: Global, json: &str, well_formed: bool) -> Option<Texts> {
-    match look(alloc, json.as_bytes()) {
+/// The texts of a program over a source text, where it is well-formed, or isn't.
+fn texts_where(alloc: Global, source: &Source, json: &str, well_formed: bool) -> Option<Texts> {
+    match look(alloc, source, json.as_bytes()) {
         Ok(
             Answers {
                 well_formed: Some(answer),
@@ -19,67 +20,87 @@ fn texts_where(alloc: Global, json: &str, well_formed: bool) -> Option<Texts> {
     }
 }
 
-/// Whether texts read as these tokens.
-fn read_as(alloc: Global, texts: &Texts, tokens: &str) -> Result<bool, AllocError> {
-    match std::str::from_utf8(&texts.minified) {
-        Ok(minified) => Ok(
-            reads_as(alloc, &texts.pretty, tokens, PRETTY)?
-                && reads_as(alloc, minified, tokens, MINIFIED)?,
-        ),
-        Err(_) => Ok(false),
+/// The texts of a well-formed tree over a source text, where they read as its tokens. With `comma` those of its lists end
+/// with one.
+pub fn texts_read(
+    alloc: Global,
+    source: &Source,
+    tree: &Tree,
+    comma: bool,
+) -> Result<Option<Texts>, AllocError> {
+    let Some(texts) = texts_where(alloc, source, &tree.json, true) else {
+        return Ok(None);
+    };
+    for (minified, text) in [(false, &texts.pretty), (true, &texts.minified)] {
+        let manner = Manner {
+            minified,
+            holds: false,
+            omits_last: false,
+            comma,
+        };
+        let reads = match std::str::from_utf8(text) {
+            Ok(text) => reads_as(alloc, text, &tree.tokens, manner)?,
+            Err(_) => false,
+        };
+        if !reads {
+            return Ok(None);
+        }
     }
+    Ok(Some(texts))
 }
 
-/// Whether a well-formed tree reads back.
-pub fn reads_back(alloc: Global, tree: &Tree) -> Result<bool, AllocError> {
-    match texts_where(alloc, &tree.json, true) {
-        Some(texts) => read_as(alloc, &texts, &tree.tokens),
-        None => Ok(false),
-    }
+/// Whether a program has this text, by the library and by the tool; where it is one expression, that has it by itself too.
+fn has_text(
+    alloc: Global,
+    texts: &Texts,
+    json: &str,
+    is_expression: bool,
+    text: &str,
+) -> Result<bool, AllocError> {
+    let is_alone = texts.code.strip_suffix(";\n") == Some(texts.node.as_str());
+    Ok(
+        texts.code.as_str() == text
+            && texts.pretty.as_slice() == text.as_bytes()
+            && (!is_expression || is_alone)
+            && answers(alloc, "", json.as_bytes(), (0, text, ""))?,
+    )
 }
 
-/// Whether the first statement's expression has by itself the text of its script.
-fn is_alone(texts: &Texts) -> bool {
-    texts.pretty.strip_suffix(";\n") == Some(texts.node.as_str())
-}
-
-/// Whether a tree has these texts, by the library and by the program; that of one expression has it by itself too. One that
-/// is well-formed reads back.
+/// Whether a tree has these texts, with blanks and without. One that is well-formed reads back.
 pub fn has_texts(
     alloc: Global,
     tree: &Tree,
     well_formed: bool,
     [pretty, minified]: [&str; 2],
 ) -> Result<bool, AllocError> {
-    match texts_where(alloc, &tree.json, well_formed) {
+    let source = source_of(alloc, "apart", None)?;
+    let texts = if well_formed {
+        texts_read(alloc, &source, tree, false)?
+    } else {
+        texts_where(alloc, &source, &tree.json, false)
+    };
+    match texts {
         Some(texts) => Ok(
-            texts.pretty.as_str() == pretty
-                && texts.minified.as_slice() == minified.as_bytes()
-                && (!tree.is_expression || is_alone(&texts))
-                && prints(alloc, tree.json.as_bytes(), pretty)
-                && (!well_formed || read_as(alloc, &texts, &tree.tokens)?),
+            texts.minified.as_slice() == minified.as_bytes()
+                && has_text(alloc, &texts, &tree.json, tree.is_expression, pretty)?,
         ),
         None => Ok(false),
     }
 }
 
-/// Whether a tree answers so when it is asked whether it is well-formed.
-pub fn is_formed(alloc: Global, tree: &Tree, well_formed: bool) -> bool {
-    match look(alloc, tree.json.as_bytes()) {
-        Ok(look) => look.well_formed == Some(well_formed),
-        Err(_) => false,
+/// Whether the JSON of a statement's expression has this text.
+pub fn prints_expr(alloc: Global, json: &str, text: &str) -> Result<bool, AllocError> {
+    match texts_where(alloc, &source_of(alloc, "apart", None)?, json, true) {
+        Some(texts) => has_text(alloc, &texts, json, true, text),
+        None => Ok(false),
     }
 }
 
-/// Whether the JSON of a statement's expression has this text, by the program, and by itself.
-pub fn prints_expr(alloc: Global, json: &str, text: &str) -> bool {
-    match texts_where(alloc, json, true) {
-        Some(texts) => {
-            is_alone(&texts)
-                && texts.pretty.as_str() == text
-                && prints(alloc, json.as_bytes(), text)
-        }
-        None => false,
+/// Whether a program answers so when it is asked whether it is well-formed.
+pub fn is_formed(alloc: Global, json: &str, well_formed: bool) -> Result<bool, AllocError> {
+    match look(alloc, &source_of(alloc, "apart", None)?, json.as_bytes()) {
+        Ok(look) => Ok(look.well_formed == Some(well_formed)),
+        Err(_) => Ok(false),
     }
 }
 
@@ -98,7 +119,7 @@ pub fn is_printed_with(
         comma: false,
     };
     Ok(
-        prints_with(alloc, words, tree.json.as_bytes(), text)?
+        answers(alloc, words, tree.json.as_bytes(), (0, text, ""))?
             && reads_as(alloc, text, &tree.tokens, manner)?,
     )
 }

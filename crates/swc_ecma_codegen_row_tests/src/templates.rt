@@ -8,32 +8,38 @@ use std::alloc::Global;
 use swc_ecma_codegen_common::Error;
 use swc_ecma_codegen_literals::template_from_raw;
 
-/// Whether a raw text gives this text.
-pub fn gives(alloc: Global, raw: &str, ascii_only: bool, text: &str) -> Result<bool, Error> {
-    let found = template_from_raw(alloc, raw, ascii_only)?;
-    Ok(found.as_str() == text)
+/// Whether a raw text gives this text with each of these settings, in ASCII or not.
+pub fn gives(alloc: Global, raw: &str, settings: &[bool], text: &str) -> Result<bool, Error> {
+    for ascii_only in settings {
+        if template_from_raw(alloc, raw, *ascii_only)?.as_str() != text {
+            return Ok(false);
+        }
+    }
+    Ok(true)
 }
 
-/// Whether a raw text gives this text, in ASCII and else.
-pub fn gives_always(alloc: Global, raw: &str, text: &str) -> Result<bool, Error> {
-    Ok(gives(alloc, raw, false, text)? && gives(alloc, raw, true, text)?)
-}
-
-/// Whether a row holds at each character up to U+02FF of its range, and at both of its ends.
+/// Whether a row holds at each character up to U+02FF of its range, and at both of its ends, whose codes are in hexadecimal.
 pub fn gives_each(
     alloc: Global,
-    [first, last]: [u32; 2],
+    [first, last]: [&str; 2],
     [raw, text]: [&str; 2],
-    ascii_only: bool,
+    settings: &[bool],
 ) -> Result<bool, Error> {
-    let mut all = true;
+    let (Ok(first), Ok(last)) = (
+        u32::from_str_radix(first, 16),
+        u32::from_str_radix(last, 16),
+    ) else {
+        return Ok(false);
+    };
     for code in first..=last {
         if code <= 0x2FF || code == first || code == last {
             let c = char::from_u32(code).unwrap_or('\0');
             let raw = expanded(alloc, raw, c)?;
             let text = expanded(alloc, text, c)?;
-            all = all && gives(alloc, &raw, ascii_only, &text)?;
+            if !gives(alloc, &raw, settings, &text)? {
+                return Ok(false);
+            }
         }
     }
-    Ok(all)
+    Ok(true)
 }
