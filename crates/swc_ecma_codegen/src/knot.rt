@@ -5,14 +5,14 @@ ghost use Rattle.std.specs.Prelude.{◌≡◌};
 ghost use Rattle.swc_ecma_codegen.specs.Answers.{any_answers};
 ghost use Rattle.swc_ecma_codegen.specs.Tree.{any_items};
 
-use crate::branches::is_block_node;
+use crate::branches::{is_block, is_sequence};
 use crate::emitter::Emitter;
 use crate::nodes::{
     AskBlock, AskEnds, AskKind, AskPattern, AskPlace, AskSpace, AskStarts, Asked, EmitAt, Held,
     Known, Place,
 };
 use crate::operands::{Operand, OperandKind, SpaceBefore};
-use crate::patterns::{PatternKind, pattern_kind};
+use crate::patterns::{PatternKind, kind_of_part};
 use swc_ecma_codegen_ast::comments::Comments;
 use swc_ecma_codegen_ast::mapper::SourceMapper;
 use swc_ecma_codegen_common::{Answer, BinaryOp, Span};
@@ -61,16 +61,23 @@ impl AskSpace for AnyNode {
 }
 
 impl AskPattern for AnyNode {
-    #[tactic(auto, unfolding(crate::specs::Answers::any_answers))]
+    #[tactic(auto, using(crate::proofs::PatternLaws::any_pattern_of, crate::proofs::PatternLaws::any_pattern_part), unfolding(crate::specs::Answers::any_answers, crate::specs::Patterns::node_pattern))]
     fn pattern(&self) -> PatternKind {
-        pattern_kind(self)
+        match self {
+            AnyNode::ExprPart(part) => kind_of_part(part),
+            _ => PatternKind::Other,
+        }
     }
 }
 
 impl AskBlock for AnyNode {
-    #[tactic(auto, unfolding(crate::specs::Answers::any_answers))]
+    #[tactic(auto, using(crate::proofs::BranchLaws::any_block_of, crate::proofs::BranchLaws::any_block_stmt, crate::proofs::BranchLaws::any_block_expr), unfolding(crate::specs::Answers::any_answers, crate::specs::Branches::node_block))]
     fn block(&self) -> bool {
-        is_block_node(self)
+        match self {
+            AnyNode::Stmt(node) => is_block(node),
+            AnyNode::Expr(node) => is_sequence(node),
+            _ => false,
+        }
     }
 }
 

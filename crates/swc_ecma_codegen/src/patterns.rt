@@ -1,9 +1,9 @@
 //! What an arrow function asks of its parameters.
 
 ghost use Rattle.std.specs.Prelude.{◌≡◌};
-ghost use Rattle.swc_ecma_codegen.specs.Patterns.{pat_kind, part_pattern, any_pattern};
+ghost use Rattle.swc_ecma_codegen.specs.Patterns.{pat_kind, part_pattern};
 
-use swc_ecma_codegen_tree::{AnyNode, ExprPart, Pat};
+use swc_ecma_codegen_tree::{ExprPart, Pat};
 
 /// A pattern, by what it begins with.
 #[derive(Debug, Clone, Copy, PartialEq, Eq)]
@@ -36,23 +36,13 @@ fn kind_of_pat<N>(node: &Pat<N>) -> PatternKind
     }
 }
 
+/// What a pattern among these begins with.
 #[tactic(auto, unfolding(crate::specs::Patterns::part_pattern))]
-fn kind_of_part<N>(node: &ExprPart<N>) -> PatternKind
+pub(crate) fn kind_of_part<N>(node: &ExprPart<N>) -> PatternKind
     ensures { result ≡ part_pattern node.now }
 {
     match node {
         ExprPart::Pat(pat) => kind_of_pat(pat),
-        _ => PatternKind::Other,
-    }
-}
-
-/// What a node begins with, where it is a pattern.
-#[tactic(auto, using(crate::proofs::PatternLaws::any_pattern_of, crate::proofs::PatternLaws::any_pattern_part), unfolding(crate::specs::Patterns::node_pattern))]
-pub(crate) fn pattern_kind(node: &AnyNode) -> PatternKind
-    ensures { result ≡ any_pattern node.now }
-{
-    match node {
-        AnyNode::ExprPart(part) => kind_of_part(part),
         _ => PatternKind::Other,
     }
 }
