@@ -1,6 +1,7 @@
 //! Each public call once.
 
 use crate::checks::Failing;
+use crate::pipes::Page;
 use crate::trees::{
     DECREMENT, EXPORT, MEMBER, NAME, Tree, expr_of, script_of, settings, statement_of,
 };
@@ -89,12 +90,12 @@ fn boxed_semicolon<N: Tree>(alloc: Global) -> Result<Box<Stmt<N>>, AllocError> {
     }
 }
 
-/// The bytes of a statement, and then of `;` in a box, in an option, and of none.
-fn bytes_of_parts<N: Tree>(alloc: Global, stmt: &Stmt<N>) -> Result<Vec<u8>, Fail> {
+/// What is written of a statement and what lies in it, with `;` in a box and in an option between, and of none.
+fn written_parts<N: Tree>(alloc: Global, stmt: &Stmt<N>) -> Result<Page, Fail> {
     let boxed = boxed_semicolon(alloc)?;
     let some = Some(Stmt::Empty(EmptyStmt { span: DUMMY_SP }));
     let none = None;
-    let bytes = N::bytes_of_parts(alloc, stmt, (&boxed, &some, &none));
+    let written = N::written_parts(alloc, stmt, (&boxed, &some, &none));
     let gone = [
         let_go(alloc, Some(Box::into_inner(boxed))),
         let_go(alloc, some),
@@ -103,29 +104,28 @@ fn bytes_of_parts<N: Tree>(alloc: Global, stmt: &Stmt<N>) -> Result<Vec<u8>, Fai
     for answer in gone {
         answer?;
     }
-    Ok(bytes?)
+    Ok(written?)
 }
 
 /// Whether what holds a node has its text: a script itself and its first statement, and a statement, what lies in it, and what
 /// holds `;`.
 fn has_its_text_each_way<N: Tree>(alloc: Global, tree: &Program<N>) -> Result<bool, Fail> {
-    let whole = N::bytes_of_whole(alloc, tree, settings(false))?;
+    let whole = N::written_whole(alloc, tree, settings(false))?;
     let parts = match statement_of(tree) {
-        Some(stmt) => bytes_of_parts(alloc, stmt)?,
-        None => Vec::new(alloc),
+        Some(stmt) => written_parts(alloc, stmt)?,
+        None => Page::new(),
     };
-    Ok(
-        whole.as_slice() == b"a.b;\r\na.b;\r\na.b;\r\n".as_slice()
-            && parts.as_slice() == b"a.b;a.b;a.b;a.b;a.b".as_slice(),
-    )
+    Ok(whole.holds("a.b;\r\na.b;\r\na.b;\r\n") && parts.holds("a.b;a.b;a.b;a.b;a.b"))
 }
 
 /// Whether a module, its item and what that exports have their texts.
 fn prints_a_module<N: Tree>(alloc: Global) -> Result<bool, Fail> {
     let tree = N::read(alloc, EXPORT)?;
-    let bytes = N::bytes_of_whole(alloc, &tree, settings(true))?;
-    let item = r#"export{a}from"b"with{c:"d"};"#;
-    Ok(bytes.as_slice() == format!(in alloc; "{item}{item}{item}a")?.as_bytes())
+    let written = N::written_whole(alloc, &tree, settings(true))?;
+    // Three times `export{a}from"b"with{c:"d"};`, and then the name that the item exports.
+    let three =
+        r#"export{a}from"b"with{c:"d"};export{a}from"b"with{c:"d"};export{a}from"b"with{c:"d"};a"#;
+    Ok(written.holds(three))
 }
 
 /// What the expression of `--a` tells those above it.
@@ -192,8 +192,8 @@ fn prints_hashbangs<N: Tree>(alloc: Global) -> Result<bool, Fail> {
     )
 }
 
-/// The text of `a` and then an expression that can't be printed, as far as it goes.
-fn text_before_invalid<N: Tree>(alloc: Global) -> Result<(bool, Vec<u8>), Fail> {
+/// Whether `a` and then an expression that can't be printed is refused, and what is written of it.
+fn written_before_invalid<N: Tree>(alloc: Global) -> Result<(bool, Page), Fail> {
     let mut tree = N::read(alloc, NAME)?;
     if let Program::Script(script) = &mut tree {
         let span = DUMMY_SP;
@@ -201,7 +201,7 @@ fn text_before_invalid<N: Tree>(alloc: Global) -> Result<(bool, Vec<u8>), Fail> 
         let stmt = Stmt::Expr(ExprStmt { span, expr });
         script.body.push(StmtBox::new(alloc, stmt)?)?;
     }
-    let wr = JsWriter::new(alloc, &NoSource, "\n", Vec::new(alloc), None);
+    let wr = JsWriter::new(alloc, &NoSource, "\n", Page::new(), None);
     let mut emitter = Emitter::new(alloc, settings(true), &NoSource, None::<CommentMaps>, wr);
     let refused = matches!(tree.emit_with(&mut emitter), Err(Error::UnsupportedNode));
     Ok((refused && !tree.is_well_formed(), emitter.wr.into_inner()))
@@ -209,8 +209,8 @@ fn text_before_invalid<N: Tree>(alloc: Global) -> Result<(bool, Vec<u8>), Fail> 
 
 /// Whether what can't be printed is refused before its first token.
 fn stops_before_invalid<N: Tree>(alloc: Global) -> Result<bool, Fail> {
-    let (refused, text) = text_before_invalid::<N>(alloc)?;
-    Ok(refused && text.as_slice() == b"a;".as_slice())
+    let (refused, written) = written_before_invalid::<N>(alloc)?;
+    Ok(refused && written.holds("a;"))
 }
 
 pub(crate) fn check<N: Tree>(alloc: Global, failing: &mut Failing) -> Result<(), Fail> {

@@ -1,12 +1,11 @@
 //! Emissions over writers that fail.
 
-ghost use Rattle.std.specs.Prelude.{Some};
-
 use crate::checks::Failing;
+use crate::pipes::{Fault, Page};
 use crate::trees::{CROWDED, DIFFERENCE, Tree, UNCOUNTED, settings};
 use std::alloc::Global;
 use std::io;
-use std::io::{ErrorKind, Write};
+use std::io::ErrorKind;
 use std::test::Fail;
 use swc_ecma_codegen::{Emitter, Node};
 use swc_ecma_codegen_ast::comments::CommentMaps;
@@ -15,75 +14,25 @@ use swc_ecma_codegen_common::{Error, Result as Answer};
 use swc_ecma_codegen_text_writer::JsWriter;
 use swc_ecma_codegen_tree::Ident;
 
-/// How a writer fails: with a kind of error, with an error code of the operating system, or by taking nothing.
-#[derive(Clone, Copy)]
-enum Fault {
-    Kind(ErrorKind),
-    Code(i32),
-    TakesNothing,
-}
-
-/// Takes one byte a call, up to a number of bytes, and then fails.
-#[derive(Drop)]
-struct Dribble {
-    taken: Vec<u8>,
-    room: usize,
-    fault: Fault,
-    /// How many calls there were.
-    calls: usize,
-}
-
-impl Write for Dribble {
-    ghost contents = { λ w. Some w.taken.items };
-
-    fn write(&mut self, buf: &[u8]) -> io::Result<usize> {
-        self.calls = self.calls.saturating_add(1);
-        if self.taken.len() >= self.room {
-            return match self.fault {
-                Fault::Kind(kind) => Err(io::Error::from(kind)),
-                Fault::Code(code) => Err(io::Error::from_raw_os_error(code)),
-                Fault::TakesNothing => Ok(0),
-            };
-        }
-        match buf.first() {
-            Some(byte) => {
-                self.taken.push(*byte)?;
-                Ok(1)
-            }
-            None => Ok(0),
-        }
-    }
-
-    fn flush(&mut self) -> io::Result<()> {
-        Ok(())
-    }
-}
-
-/// What an emission to a writer answered, what the next one did, and one of nothing after them, and the writer.
+/// What an emission to a writer answered, what the next one did, and one of nothing after them, and what the writer took.
 #[derive(Drop)]
 struct Emissions {
     first: Answer,
     second: Answer,
     nothing: Answer,
-    under: Dribble,
+    page: Page,
 }
 
 impl Emissions {
     /// Three emissions to one writer, the last of nothing.
-    fn of<P: Node>(alloc: Global, tree: &P, room: usize, fault: Fault) -> Emissions {
-        let under = Dribble {
-            taken: Vec::new(alloc),
-            room,
-            fault,
-            calls: 0,
-        };
-        let wr = JsWriter::new(alloc, &NoSource, "\n", under, None);
+    fn of<P: Node>(alloc: Global, tree: &P, page: Page) -> Emissions {
+        let wr = JsWriter::new(alloc, &NoSource, "\n", page, None);
         let mut emitter = Emitter::new(alloc, settings(false), &NoSource, None::<CommentMaps>, wr);
         Emissions {
             first: tree.emit_with(&mut emitter),
             second: tree.emit_with(&mut emitter),
             nothing: None::<Ident>.emit_with(&mut emitter),
-            under: emitter.wr.into_inner(),
+            page: emitter.wr.into_inner(),
         }
     }
 
@@ -108,13 +57,12 @@ fn is_of(answer: &Answer, fault: Fault) -> bool {
 
 /// Whether a writer that takes so many bytes of `a - -b * c` gets these and no further call, and its fault comes out.
 fn fails_after<P: Node>(alloc: Global, tree: &P, room: usize, fault: Fault) -> bool {
-    let text = "a - -b * c;\n".as_bytes();
-    let emissions = Emissions::of(alloc, tree, room, fault);
+    let emissions = Emissions::of(alloc, tree, Page::failing(room, fault));
+    let front = "a - -b * c;\n".get(..room).unwrap_or("");
     is_of(&emissions.first, fault)
         && emissions.go_on_failing()
-        && emissions.under.taken.len() == room
-        && text.starts_with(emissions.under.taken.as_slice())
-        && emissions.under.calls == room.saturating_add(1)
+        && emissions.page.holds(front)
+        && emissions.page.calls() == room.saturating_add(1)
 }
 
 /// Whether a writer that fails after each number of bytes, in each way, makes the emission fail so.
@@ -139,19 +87,19 @@ fn fails_after_each_byte<P: Node>(alloc: Global, tree: &P) -> bool {
 
 /// Whether a writer that takes one byte a call gets `a - -b * c` twice.
 fn goes_out_in_single_bytes<P: Node>(alloc: Global, tree: &P) -> bool {
-    let emissions = Emissions::of(alloc, tree, 100, Fault::TakesNothing);
+    let emissions = Emissions::of(alloc, tree, Page::new());
     emissions.first.is_ok()
         && emissions.second.is_ok()
         && emissions.nothing.is_ok()
-        && emissions.under.taken.as_slice() == b"a - -b * c;\na - -b * c;\n".as_slice()
+        && emissions.page.holds("a - -b * c;\na - -b * c;\n")
 }
 
 /// Whether a tree of a bad shape is refused before anything is written.
 fn is_refused<P: Node>(alloc: Global, tree: &P) -> bool {
-    let emissions = Emissions::of(alloc, tree, 100, Fault::TakesNothing);
+    let emissions = Emissions::of(alloc, tree, Page::new());
     matches!(&emissions.first, Err(Error::BadShape))
         && emissions.go_on_failing()
-        && emissions.under.calls == 0
+        && emissions.page.calls() == 0
 }
 
 pub(crate) fn check<N: Tree>(alloc: Global, failing: &mut Failing) -> Result<(), Fail> {

@@ -14,6 +14,8 @@ mod faults;
 #[cfg(test)]
 mod links;
 #[cfg(test)]
+mod pipes;
+#[cfg(test)]
 mod reading;
 #[cfg(test)]
 mod settings;

@@ -1,6 +1,7 @@
 //! Emissions with each of the settings.
 
 use crate::checks::Failing;
+use crate::pipes::Page;
 use crate::trees::{LITERALS, Tree};
 use std::alloc::Global;
 use std::test::Fail;
@@ -11,36 +12,36 @@ use swc_ecma_codegen_common::{Error, EsVersion, Result as Answer};
 use swc_ecma_codegen_text_writer::{JsWriter, omit_trailing_semi};
 use swc_ecma_codegen_tree::Ident;
 
-/// What an emission answered, and one of nothing after it, and the text.
+/// What an emission answered, and one of nothing after it, and what was written.
 #[derive(Drop)]
 struct Emitted {
     answer: Answer,
     nothing: Answer,
-    text: Vec<u8>,
+    page: Page,
 }
 
 /// The emission of a tree with some settings.
 fn emission<P: Node>(alloc: Global, tree: &P, config: Config) -> Emitted {
-    let wr = JsWriter::new(alloc, &NoSource, "\n", Vec::new(alloc), None);
+    let wr = JsWriter::new(alloc, &NoSource, "\n", Page::new(), None);
     let mut emitter = Emitter::new(alloc, config, &NoSource, None::<CommentMaps>, wr);
     let answer = tree.emit_with(&mut emitter);
     let nothing = None::<Ident>.emit_with(&mut emitter);
     Emitted {
         answer,
         nothing,
-        text: emitter.wr.into_inner(),
+        page: emitter.wr.into_inner(),
     }
 }
 
 /// Whether a tree has this text with some settings.
 fn has_text<P: Node>(alloc: Global, tree: &P, config: Config, text: &str) -> bool {
     let emitted = emission(alloc, tree, config);
-    emitted.answer.is_ok() && emitted.nothing.is_ok() && emitted.text.as_slice() == text.as_bytes()
+    emitted.answer.is_ok() && emitted.nothing.is_ok() && emitted.page.holds(text)
 }
 
-/// The text of a tree whose semicolons are held back.
-fn text_when_held<P: Node>(alloc: Global, tree: &P, config: Config) -> Result<Vec<u8>, Error> {
-    let wr = JsWriter::new(alloc, &NoSource, "\n", Vec::new(alloc), None);
+/// What is written of a tree whose semicolons are held back.
+fn written_when_held<P: Node>(alloc: Global, tree: &P, config: Config) -> Result<Page, Error> {
+    let wr = JsWriter::new(alloc, &NoSource, "\n", Page::new(), None);
     let wr = omit_trailing_semi(wr);
     let mut emitter = Emitter::new(alloc, config, &NoSource, None::<CommentMaps>, wr);
     tree.emit_with(&mut emitter)?;
@@ -79,12 +80,9 @@ fn act_one_by_one<P: Node>(alloc: Global, tree: &P) -> bool {
 /// Whether the last semicolon is left out where it is held back and the settings ask for it, and not otherwise.
 fn leave_out_the_last_semicolon<P: Node>(alloc: Global, tree: &P) -> Result<bool, Error> {
     let kept = Config::default().with_minify(true);
-    let text = text_when_held(alloc, tree, kept)?;
-    let shorter = text_when_held(alloc, tree, kept.with_omit_last_semi(true))?;
-    Ok(
-        text.as_slice() == "é,\"é</script>\",3,𝒫;".as_bytes()
-            && shorter.as_slice() == "é,\"é</script>\",3,𝒫".as_bytes(),
-    )
+    let written = written_when_held(alloc, tree, kept)?;
+    let shorter = written_when_held(alloc, tree, kept.with_omit_last_semi(true))?;
+    Ok(written.holds("é,\"é</script>\",3,𝒫;") && shorter.holds("é,\"é</script>\",3,𝒫"))
 }
 
 /// Whether a name that can't be written in ASCII for a version is refused after what stands before it, and what comes then
@@ -96,7 +94,7 @@ fn refuse_a_name<P: Node>(alloc: Global, tree: &P) -> bool {
         let emitted = emission(alloc, tree, config.with_target(target));
         all = all && matches!(&emitted.answer, Err(Error::NameOutOfTarget));
         all = all && matches!(&emitted.nothing, Err(Error::Failed));
-        all = all && emitted.text.as_slice() == b"\\u00e9, \"\\xe9</script>\", 3, ".as_slice();
+        all = all && emitted.page.holds("\\u00e9, \"\\xe9</script>\", 3, ");
     }
     all
 }

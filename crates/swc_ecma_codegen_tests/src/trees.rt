@@ -1,5 +1,6 @@
 //! Trees for the tests.
 
+use crate::pipes::Page;
 use std::alloc::Global;
 use swc_ecma_codegen::nodes::Held;
 use swc_ecma_codegen::operands::SpaceBefore;
@@ -71,21 +72,17 @@ pub(crate) trait Tree: Holds<Expr<Self>>
     /// Reads a program.
     fn read(alloc: Global, json: &str) -> Result<Program<Self>, ReadError>;
 
-    /// The bytes of a tree, by each call that takes it whole and by the functions that say how these read: of a script itself and
+    /// What is written of a tree by each call that takes it whole and by the functions that say how these read: of a script itself and
     /// of its first statement, of a module itself, of its first item and of the name that this one exports first.
-    fn bytes_of_whole(
-        alloc: Global,
-        tree: &Program<Self>,
-        config: Config,
-    ) -> Result<Vec<u8>, Error>;
+    fn written_whole(alloc: Global, tree: &Program<Self>, config: Config) -> Result<Page, Error>;
 
-    /// The bytes of a statement that is an expression, and of what lies in it, by the functions that say how they read, with `;` in
+    /// What is written of a statement that is an expression, and of what lies in it, by the functions that say how they read, with `;` in
     /// a box and in an option between, and an option of none at the end.
-    fn bytes_of_parts(
+    fn written_parts(
         alloc: Global,
         stmt: &Stmt<Self>,
         semicolons: (&Box<Stmt<Self>>, &Option<Stmt<Self>>, &Option<Stmt<Self>>),
-    ) -> Result<Vec<u8>, Error>;
+    ) -> Result<Page, Error>;
 }
 
 impl Tree for AnyNode {
@@ -93,12 +90,12 @@ impl Tree for AnyNode {
         program_from_slice(alloc, json.as_bytes())
     }
 
-    fn bytes_of_whole(alloc: Global, tree: &Program, config: Config) -> Result<Vec<u8>, Error> {
+    fn written_whole(alloc: Global, tree: &Program, config: Config) -> Result<Page, Error> {
         links_write_their_roots();
         links_write_members();
         links_write_targets();
         new_emitter_reads();
-        let wr = JsWriter::new(alloc, &NoSource, "\r\n", Vec::new(alloc), None);
+        let wr = JsWriter::new(alloc, &NoSource, "\r\n", Page::new(), None);
         let mut emitter = Emitter::new(alloc, config, &NoSource, None::<CommentMaps>, wr);
         if is_well_formed(tree) {
             emitter.emit_program(tree)?;
@@ -125,12 +122,12 @@ impl Tree for AnyNode {
         Ok(emitter.wr.into_inner())
     }
 
-    fn bytes_of_parts(
+    fn written_parts(
         alloc: Global,
         stmt: &Stmt,
         (boxed, some, none): (&Box<Stmt>, &Option<Stmt>, &Option<Stmt>),
-    ) -> Result<Vec<u8>, Error> {
-        let wr = JsWriter::new(alloc, &NoSource, "\n", Vec::new(alloc), None);
+    ) -> Result<Page, Error> {
+        let wr = JsWriter::new(alloc, &NoSource, "\n", Page::new(), None);
         let mut emitter = Emitter::new(alloc, settings(true), &NoSource, None::<CommentMaps>, wr);
         if is_well_formed_stmt(stmt) {
             emitted_stmt_reads(stmt, &mut emitter)?;
