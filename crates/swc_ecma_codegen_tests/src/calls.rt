@@ -1,6 +1,6 @@
 //! Each public call once.
 
-use crate::checks::Failing;
+use crate::checks::Tally;
 use crate::pipes::Page;
 use crate::trees::{
     DECREMENT, EXPORT, MEMBER, NAME, Tree, expr_of, script_of, settings, statement_of,
@@ -213,29 +213,29 @@ fn stops_before_invalid<N: Tree>(alloc: Global) -> Result<bool, Fail> {
     Ok(refused && written.holds("a;"))
 }
 
-pub(crate) fn check<N: Tree>(alloc: Global, failing: &mut Failing) -> Result<(), Fail> {
+pub(crate) fn check<N: Tree>(alloc: Global, tally: &mut Tally) -> Result<(), Fail> {
     let tree = N::read(alloc, MEMBER)?;
-    failing.unless(
+    tally.unless(
         prints_through(alloc, &tree)? && prints_member(alloc, &tree)?,
         "a node prints through whatever holds it",
     )?;
-    failing.unless(
+    tally.unless(
         has_its_text_each_way(alloc, &tree)?,
         "what holds a node has its text",
     )?;
-    failing.unless(
+    tally.unless(
         prints_a_module::<N>(alloc)?,
         "a module, its item and its name have their texts",
     )?;
-    failing.unless(
+    tally.unless(
         tells_of_itself::<N>(alloc)?,
         "an expression tells of itself",
     )?;
-    failing.unless(
+    tally.unless(
         prints_hashbangs::<N>(alloc)?,
         "hashbangs are printed, and go on in no other line",
     )?;
-    failing.unless(
+    tally.unless(
         stops_before_invalid::<N>(alloc)?,
         "what can't be printed is refused before its first token",
     )?;

@@ -9,35 +9,35 @@ use swc_ecma_codegen_tree::AnyNode;
 
 /// The checks that don't hold.
 #[derive(Drop)]
-pub(crate) struct Failing {
-    checks: Vec<&'static str>,
+pub(crate) struct Tally {
+    failing: Vec<&'static str>,
 }
 
-impl Failing {
+impl Tally {
     /// Adds a check unless it holds.
     pub(crate) fn unless(&mut self, holds: bool, check: &'static str) -> Result<(), AllocError> {
         if !holds {
-            self.checks.push(check)?;
+            self.failing.push(check)?;
         }
         Ok(())
     }
 }
 
 /// Makes all checks.
-fn failing<N: Tree>(alloc: Global) -> Result<Failing, Fail> {
-    let mut failing = Failing {
-        checks: Vec::new(alloc),
+fn made<N: Tree>(alloc: Global) -> Result<Tally, Fail> {
+    let mut tally = Tally {
+        failing: Vec::new(alloc),
     };
-    calls::check::<N>(alloc, &mut failing)?;
-    faults::check::<N>(alloc, &mut failing)?;
-    links::check::<N>(alloc, &mut failing)?;
-    settings::check::<N>(alloc, &mut failing)?;
-    Ok(failing)
+    calls::check::<N>(alloc, &mut tally)?;
+    faults::check::<N>(alloc, &mut tally)?;
+    links::check::<N>(alloc, &mut tally)?;
+    settings::check::<N>(alloc, &mut tally)?;
+    Ok(tally)
 }
 
 #[test]
 fn checks_of_trees(rt: HostRuntime) -> Result<(), Fail> {
-    for check in &failing::<AnyNode>(rt.alloc())?.checks {
+    for check in &made::<AnyNode>(rt.alloc())?.failing {
         assert!(rt; false, "{check}");
     }
     Ok(())

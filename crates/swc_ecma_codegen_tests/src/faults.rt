@@ -1,6 +1,6 @@
 //! Emissions over writers that fail.
 
-use crate::checks::Failing;
+use crate::checks::Tally;
 use crate::pipes::{Fault, Page};
 use crate::trees::{CROWDED, DIFFERENCE, Tree, UNCOUNTED, settings};
 use std::alloc::Global;
@@ -102,20 +102,20 @@ fn is_refused<P: Node>(alloc: Global, tree: &P) -> bool {
         && emissions.page.calls() == 0
 }
 
-pub(crate) fn check<N: Tree>(alloc: Global, failing: &mut Failing) -> Result<(), Fail> {
+pub(crate) fn check<N: Tree>(alloc: Global, tally: &mut Tally) -> Result<(), Fail> {
     let tree = N::read(alloc, DIFFERENCE)?;
-    failing.unless(
+    tally.unless(
         fails_after_each_byte(alloc, &tree),
         "a writer's fault comes out, after what it took",
     )?;
-    failing.unless(
+    tally.unless(
         goes_out_in_single_bytes(alloc, &tree),
         "a text goes out in single bytes",
     )?;
     // A namespace among more than two specifiers, and a template without one part more than expressions.
     for text in [CROWDED, UNCOUNTED] {
         let tree = N::read(alloc, text)?;
-        failing.unless(
+        tally.unless(
             is_refused(alloc, &tree),
             "nothing is written of a bad shape",
         )?;

@@ -1,7 +1,7 @@
 //! Links to nodes. What is taken out of one goes by another: what lets go of a node in place names all that may lie in it,
 //! and is dear to check.
 
-use crate::checks::Failing;
+use crate::checks::Tally;
 use crate::trees::Tree;
 use crate::values::place;
 use std::alloc::{AllocError, Global};
@@ -69,11 +69,11 @@ fn member_comes_back<N: Tree>(alloc: Global) -> Result<bool, AllocError> {
     }
 }
 
-pub(crate) fn check<N: Tree>(alloc: Global, failing: &mut Failing) -> Result<(), AllocError> {
+pub(crate) fn check<N: Tree>(alloc: Global, tally: &mut Tally) -> Result<(), AllocError> {
     let come_back = expr_comes_back::<N>(alloc)?
         && stmt_comes_back::<N>(alloc)?
         && member_comes_back::<N>(alloc)?;
-    failing.unless(come_back, "links give back what they hold")
+    tally.unless(come_back, "links give back what they hold")
 }
 
 /// Whether links hold a value that is no node.

@@ -1,6 +1,6 @@
 //! Emissions with each of the settings.
 
-use crate::checks::Failing;
+use crate::checks::Tally;
 use crate::pipes::Page;
 use crate::trees::{LITERALS, Tree};
 use std::alloc::Global;
@@ -99,17 +99,17 @@ fn refuse_a_name<P: Node>(alloc: Global, tree: &P) -> bool {
     all
 }
 
-pub(crate) fn check<N: Tree>(alloc: Global, failing: &mut Failing) -> Result<(), Fail> {
+pub(crate) fn check<N: Tree>(alloc: Global, tally: &mut Tally) -> Result<(), Fail> {
     let tree = N::read(alloc, LITERALS)?;
-    failing.unless(
+    tally.unless(
         act_one_by_one(alloc, &tree),
         "each setting changes what it is for",
     )?;
-    failing.unless(
+    tally.unless(
         leave_out_the_last_semicolon(alloc, &tree)?,
         "the last semicolon is left out where that is asked for",
     )?;
-    failing.unless(
+    tally.unless(
         refuse_a_name(alloc, &tree),
         "a name out of the target is refused after what stands before it",
     )?;
