@@ -79,20 +79,19 @@ pub fn json(
     short: &str,
     in_places: bool,
 ) -> Result<String, AllocError> {
+    let short = format!(in alloc; "{before}{short}{after}")?;
     let mut json = String::new(alloc);
     let mut lo: u32 = 1;
-    for part in [before, short, after] {
-        for letter in part.chars() {
-            match letter {
-                '~' if in_places => {
-                    let hi = lo.saturating_add(1);
-                    write!(json, "{{\"lo\":{lo},\"hi\":{hi}}}")?;
-                    lo = lo.saturating_add(3);
-                }
-                '~' => json.push_str(NOWHERE)?,
-                '@' => json.push_str(A)?,
-                letter => json.push(letter)?,
+    for letter in short.chars() {
+        match letter {
+            '~' if in_places => {
+                let hi = lo.saturating_add(1);
+                write!(json, "{{\"lo\":{lo},\"hi\":{hi}}}")?;
+                lo = lo.saturating_add(3);
             }
+            '~' => json.push_str(NOWHERE)?,
+            '@' => json.push_str(A)?,
+            letter => json.push(letter)?,
         }
     }
     Ok(json)

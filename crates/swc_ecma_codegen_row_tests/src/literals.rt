@@ -24,17 +24,24 @@ const COLUMNS: [&str; 14] = [
     "--ascii-only --target es2015",
 ];
 
+/// The texts of the columns, with `¦` between. An empty one is that of the column before.
+fn in_columns<'a>(alloc: Global, texts: &'a str) -> Result<Vec<&'a str>, AllocError> {
+    let mut found: Vec<&str> = Vec::new(alloc);
+    for text in texts.split('¦') {
+        let text = match found.last() {
+            Some(last) if text.is_empty() => *last,
+            _ => text,
+        };
+        found.push(text)?;
+    }
+    Ok(found)
+}
+
 /// Whether runs with the words of the columns print these texts of a script, and what ends the statement, and they read as
-/// these tokens. There is `¦` between the texts, and an empty one is that of the column before.
+/// these tokens.
 fn are_printed(alloc: Global, json: &str, texts: &str, tokens: &str) -> Result<bool, AllocError> {
-    let mut texts = texts.split('¦');
-    let mut text = "";
-    for words in COLUMNS {
-        match texts.next() {
-            Some("") => {}
-            Some(next) => text = next,
-            None => return Ok(false),
-        }
+    let texts = in_columns(alloc, texts)?;
+    for (words, text) in COLUMNS.into_iter().zip(&texts) {
         let end = if words.starts_with("--minify") {
             ";"
         } else {
@@ -47,7 +54,7 @@ fn are_printed(alloc: Global, json: &str, texts: &str, tokens: &str) -> Result<b
             return Ok(false);
         }
     }
-    Ok(texts.next().is_none())
+    Ok(texts.len() == COLUMNS.len())
 }
 
 /// Whether a literal is well-formed and has these texts in the columns, by itself and as the object of its member `x`.
