@@ -1,6 +1,7 @@
 //! Each public call once.
 
 use crate::checks::Tally;
+use crate::emissions::Emission;
 use crate::pipes::Page;
 use crate::trees::{
     DECREMENT, EXPORT, MEMBER, NAME, Tree, expr_of, script_of, settings, statement_of,
@@ -9,13 +10,10 @@ use std::alloc::{AllocError, Global};
 use std::test::Fail;
 use swc_ecma_codegen::operands::{Operand, OperandKind, SpaceBefore};
 use swc_ecma_codegen::util::{EndsWithAlphaNum, StartsWithAlphaNum};
-use swc_ecma_codegen::{Emitter, Node, to_code};
-use swc_ecma_codegen_ast::comments::CommentMaps;
-use swc_ecma_codegen_ast::mapper::NoSource;
+use swc_ecma_codegen::{Node, to_code};
 use swc_ecma_codegen_common::{BinaryOp, DUMMY_SP, Error, UpdateOp};
 use swc_ecma_codegen_grammar::WellFormed;
 use swc_ecma_codegen_spans::{SpanEnds, Spanned};
-use swc_ecma_codegen_text_writer::JsWriter;
 use swc_ecma_codegen_tree::{
     EmptyStmt, Expr, ExprBox, ExprStmt, Ident, Invalid, MemberExpr, MemberProp, Module, Program,
     Script, Stmt, StmtBox,
@@ -192,8 +190,8 @@ fn prints_hashbangs<N: Tree>(alloc: Global) -> Result<bool, Fail> {
     )
 }
 
-/// Whether `a` and then an expression that can't be printed is refused, and what is written of it.
-fn written_before_invalid<N: Tree>(alloc: Global) -> Result<(bool, Page), Fail> {
+/// Whether `a` and then an expression that can't be printed isn't well-formed, and is refused before that one's first token.
+fn stops_before_invalid<N: Tree>(alloc: Global) -> Result<bool, Fail> {
     let mut tree = N::read(alloc, NAME)?;
     if let Program::Script(script) = &mut tree {
         let span = DUMMY_SP;
@@ -201,16 +199,12 @@ fn written_before_invalid<N: Tree>(alloc: Global) -> Result<(bool, Page), Fail> 
         let stmt = Stmt::Expr(ExprStmt { span, expr });
         script.body.push(StmtBox::new(alloc, stmt)?)?;
     }
-    let wr = JsWriter::new(alloc, &NoSource, "\n", Page::new(), None);
-    let mut emitter = Emitter::new(alloc, settings(true), &NoSource, None::<CommentMaps>, wr);
-    let refused = matches!(tree.emit_with(&mut emitter), Err(Error::UnsupportedNode));
-    Ok((refused && !tree.is_well_formed(), emitter.wr.into_inner()))
-}
-
-/// Whether what can't be printed is refused before its first token.
-fn stops_before_invalid<N: Tree>(alloc: Global) -> Result<bool, Fail> {
-    let (refused, written) = written_before_invalid::<N>(alloc)?;
-    Ok(refused && written.holds("a;"))
+    let emission = Emission::of(alloc, &tree, settings(true), Page::new());
+    Ok(
+        matches!(&emission.answer, Err(Error::UnsupportedNode))
+            && emission.stopped_after("a;")
+            && !tree.is_well_formed(),
+    )
 }
 
 pub(crate) fn check<N: Tree>(alloc: Global, tally: &mut Tally) -> Result<(), Fail> {

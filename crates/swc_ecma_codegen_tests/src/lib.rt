@@ -10,6 +10,8 @@ mod calls;
 #[cfg(test)]
 mod checks;
 #[cfg(test)]
+mod emissions;
+#[cfg(test)]
 mod faults;
 #[cfg(test)]
 mod links;

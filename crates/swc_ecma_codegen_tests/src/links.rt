@@ -55,9 +55,10 @@ fn member_comes_back<N: Tree>(alloc: Global) -> Result<bool, AllocError> {
     });
     let obj = ExprBox::new(alloc, Expr::This(ThisExpr { span: place(3, 7) }))?;
     let link: MemberExprBox<N> = MemberExprBox::new(alloc, MemberExpr { span, obj, prop })?;
-    let seen = link
-        .get()
-        .is_some_and(|node| node.prop.span() == place(8, 9));
+    let seen = match link.get() {
+        Some(node) => node.prop.span() == place(8, 9),
+        None => false,
+    };
     let seen = seen && link.held().span() == span && link.span() == span;
     match link.into_inner() {
         Some(member) => {

@@ -1,6 +1,7 @@
 //! Emissions with each of the settings.
 
 use crate::checks::Tally;
+use crate::emissions::Emission;
 use crate::pipes::Page;
 use crate::trees::{LITERALS, Tree};
 use std::alloc::Global;
@@ -8,36 +9,8 @@ use std::test::Fail;
 use swc_ecma_codegen::{Config, Emitter, Node};
 use swc_ecma_codegen_ast::comments::CommentMaps;
 use swc_ecma_codegen_ast::mapper::NoSource;
-use swc_ecma_codegen_common::{Error, EsVersion, Result as Answer};
+use swc_ecma_codegen_common::{Error, EsVersion};
 use swc_ecma_codegen_text_writer::{JsWriter, omit_trailing_semi};
-use swc_ecma_codegen_tree::Ident;
-
-/// What an emission answered, and one of nothing after it, and what was written.
-#[derive(Drop)]
-struct Emitted {
-    answer: Answer,
-    nothing: Answer,
-    page: Page,
-}
-
-/// The emission of a tree with some settings.
-fn emission<P: Node>(alloc: Global, tree: &P, config: Config) -> Emitted {
-    let wr = JsWriter::new(alloc, &NoSource, "\n", Page::new(), None);
-    let mut emitter = Emitter::new(alloc, config, &NoSource, None::<CommentMaps>, wr);
-    let answer = tree.emit_with(&mut emitter);
-    let nothing = None::<Ident>.emit_with(&mut emitter);
-    Emitted {
-        answer,
-        nothing,
-        page: emitter.wr.into_inner(),
-    }
-}
-
-/// Whether a tree has this text with some settings.
-fn has_text<P: Node>(alloc: Global, tree: &P, config: Config, text: &str) -> bool {
-    let emitted = emission(alloc, tree, config);
-    emitted.answer.is_ok() && emitted.nothing.is_ok() && emitted.page.holds(text)
-}
 
 /// What is written of a tree whose semicolons are held back.
 fn written_when_held<P: Node>(alloc: Global, tree: &P, config: Config) -> Result<Page, Error> {
@@ -72,7 +45,7 @@ fn act_one_by_one<P: Node>(alloc: Global, tree: &P) -> bool {
     ];
     let mut all = true;
     for (config, text) in rows {
-        all = all && has_text(alloc, tree, config, text);
+        all = all && Emission::of(alloc, tree, config, Page::new()).is(text);
     }
     all
 }
@@ -91,10 +64,9 @@ fn refuse_a_name<P: Node>(alloc: Global, tree: &P) -> bool {
     let config = Config::default().with_ascii_only(true);
     let mut all = true;
     for target in [EsVersion::Es3, EsVersion::Es5] {
-        let emitted = emission(alloc, tree, config.with_target(target));
-        all = all && matches!(&emitted.answer, Err(Error::NameOutOfTarget));
-        all = all && matches!(&emitted.nothing, Err(Error::Failed));
-        all = all && emitted.page.holds("\\u00e9, \"\\xe9</script>\", 3, ");
+        let emission = Emission::of(alloc, tree, config.with_target(target), Page::new());
+        all = all && matches!(&emission.answer, Err(Error::NameOutOfTarget));
+        all = all && emission.stopped_after("\\u00e9, \"\\xe9</script>\", 3, ");
     }
     all
 }

@@ -1,7 +1,7 @@
 //! The program over streams that fail, or give and take one byte a call.
 
 use crate::pipes::{Fault, Feed, Page};
-use crate::trees::DIFFERENCE;
+use crate::trees::{DIFFERENCE, DIFFERENCE_TEXT};
 use std::alloc::Global;
 use std::io;
 use std::io::ErrorKind;
@@ -10,9 +10,6 @@ use swc_ecma_codegen_tool::{refuse_words, run};
 
 const EMPTY: &str =
     r#"{"Script":{"span":{"lo":0,"hi":0},"body":[{"Empty":{"span":{"lo":0,"hi":0}}}],"shebang":null}}"#;
-
-/// The text of `a - -b * c`.
-const TEXT: &str = "a - -b * c;\n";
 
 /// A stream that fails at its first call.
 fn broken() -> Page {
@@ -71,8 +68,16 @@ fn input_that_fails_midway(rt: HostRuntime) {
 
 #[test]
 fn input_of_single_bytes(rt: HostRuntime) {
-    assert!(rt; answers(rt.alloc(), Feed::of(DIFFERENCE), 0, TEXT, ""));
-    assert!(rt; answers(rt.alloc(), Feed::stuttering(DIFFERENCE), 0, TEXT, ""));
+    assert!(rt; answers(rt.alloc(), Feed::of(DIFFERENCE), 0, DIFFERENCE_TEXT, ""));
+    assert!(rt;
+        answers(
+            rt.alloc(),
+            Feed::stuttering(DIFFERENCE),
+            0,
+            DIFFERENCE_TEXT,
+            ""
+        )
+    );
 }
 
 #[test]
@@ -110,7 +115,7 @@ fn a_refused_growth_is_told(rt: HostRuntime) {
         &mut err,
     ) == 0
     {
-        assert!(rt; out.holds(TEXT) && err.holds(""));
+        assert!(rt; out.holds(DIFFERENCE_TEXT) && err.holds(""));
     } else {
         assert!(rt; out.holds("") && err.holds("refused: memory\n"));
     }

@@ -34,6 +34,9 @@ pub(crate) const NAME: &str =
 pub(crate) const DIFFERENCE: &str =
     r#"{"Script":{"span":{"lo":1,"hi":11},"body":[{"Expr":{"span":{"lo":1,"hi":11},"expr":{"Bin":{"span":{"lo":1,"hi":11},"op":"Sub","left":{"Ident":{"span":{"lo":1,"hi":2},"sym":"a","optional":false}},"right":{"Bin":{"span":{"lo":5,"hi":11},"op":"Mul","left":{"Unary":{"span":{"lo":5,"hi":7},"op":"Minus","arg":{"Ident":{"span":{"lo":6,"hi":7},"sym":"b","optional":false}}}},"right":{"Ident":{"span":{"lo":10,"hi":11},"sym":"c","optional":false}}}}}}}}],"shebang":null}}"#;
 
+/// The text of that script.
+pub(crate) const DIFFERENCE_TEXT: &str = "a - -b * c;\n";
+
 /// `a.b`
 pub(crate) const MEMBER: &str =
     r#"{"Script":{"span":{"lo":1,"hi":4},"body":[{"Expr":{"span":{"lo":1,"hi":4},"expr":{"Member":{"span":{"lo":1,"hi":4},"obj":{"Ident":{"span":{"lo":1,"hi":2},"sym":"a","optional":false}},"prop":{"Ident":{"span":{"lo":3,"hi":4},"sym":"b"}}}}}}],"shebang":null}}"#;
