@@ -217,7 +217,8 @@ impl<W: WriteJs, S: SourceMapper, C: Comments> Emitter<'_, W, S, C> {
             .trailing_comments(&self.cfg, &self.comments, &mut self.wr, pos, prefix_space)
     }
 
-    /// Writes a name with its comments.
+    /// Writes a name with its comments. Never inlined, since what it calls is: so a name takes one call.
+    #[inline(never)]
     pub(crate) fn name(&mut self, span: Span, sym: &str, optional: bool) -> Answer
         ensures items { Emits (name span sym.now optional) (state_of S.lines W.sheet self.old) (state_of S.lines W.sheet self.new) result }
         ensures level { OnOk result ((W.sheet self.new.wr).indentation ≡ (W.sheet self.old.wr).indentation) }

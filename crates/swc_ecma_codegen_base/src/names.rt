@@ -28,6 +28,7 @@ pub(crate) fn wants_escapes(cfg: &Config, text: &str) -> bool
 
 impl LowerEmitter {
     /// Writes a name by a text, and records its position.
+    #[inline(always)]
     #[tactic(auto, unfolding(crate::specs::Words::symbol))]
     pub(crate) fn symbol<W: WriteJs>(
         &mut self,
@@ -46,6 +47,7 @@ impl LowerEmitter {
     }
 
     /// Writes a name by a text that isn't ASCII, in ASCII.
+    #[inline(never)]
     fn ascii_symbol<W: WriteJs>(
         &mut self,
         cfg: &Config,
@@ -70,6 +72,7 @@ impl LowerEmitter {
     }
 
     /// Writes a name by a text, which is escaped where the settings ask for ASCII.
+    #[inline(always)]
     fn spelled_symbol<W: WriteJs>(
         &mut self,
         cfg: &Config,
@@ -87,8 +90,28 @@ impl LowerEmitter {
     }
 
     /// Writes a name in which U+0000 after a backslash is left out.
+    #[inline(always)]
     #[tactic(auto, unfolding(crate::specs::Words::valid_symbol))]
     fn valid_symbol<W: WriteJs>(
+        &mut self,
+        cfg: &Config,
+        wr: &mut W,
+        span: Span,
+        name: &str,
+    ) -> Answer
+        ensures items { Does (valid_symbol span name.now) (state_of cfg.now (W.sheet wr.old) self.old) (state_of cfg.now (W.sheet wr.new) self.new) result }
+        ensures level { OnOk result ((W.sheet wr.new).indentation ≡ (W.sheet wr.old).indentation) }
+    {
+        if !holds_backslash(name) {
+            return self.spelled_symbol(cfg, wr, span, name);
+        }
+        self.mended_symbol(cfg, wr, span, name)
+    }
+
+    /// The same of a name that may hold a backslash.
+    #[inline(never)]
+    #[tactic(auto, unfolding(crate::specs::Words::valid_symbol))]
+    fn mended_symbol<W: WriteJs>(
         &mut self,
         cfg: &Config,
         wr: &mut W,
@@ -101,9 +124,6 @@ impl LowerEmitter {
         if self.failed {
             return Err(Refusal::Failed);
         }
-        if !holds_backslash(name) {
-            return self.spelled_symbol(cfg, wr, span, name);
-        }
         match valid_name(self.alloc, name) {
             Ok(text) => self.spelled_symbol(cfg, wr, span, &text),
             Err(error) => {
@@ -114,6 +134,7 @@ impl LowerEmitter {
     }
 
     /// Writes the text of a name, as the writer takes names.
+    #[inline(always)]
     #[tactic(auto, unfolding(crate::specs::Words::name_text))]
     fn name_text<W: WriteJs>(&mut self, cfg: &Config, wr: &mut W, span: Span, sym: &str) -> Answer
         ensures items { Does (name_text span sym.now) (state_of cfg.now (W.sheet wr.old) self.old) (state_of cfg.now (W.sheet wr.new) self.new) result }
@@ -138,6 +159,7 @@ impl LowerEmitter {
     }
 
     /// Writes a name with its comments, and `?` after an optional one. swc's `emit_ident_like`.
+    #[inline(always)]
     #[tactic(auto, unfolding(crate::specs::Words::name))]
     pub fn name<W: WriteJs, C: Comments>(
         &mut self,

@@ -19,7 +19,6 @@ use swc_ecma_codegen_util::config::Config;
 
 impl LowerEmitter {
     /// The call of the mark before a private name.
-    #[inline(never)]
     fn put_hash<W: WriteJs>(&mut self, cfg: &Config, wr: &mut W) -> Answer
         requires { self.old.failed ≡ false }
         ensures items { Does (step (Plain (Punct None (codes "#")))) (state_of cfg.now (W.sheet wr.old) self.old) (state_of cfg.now (W.sheet wr.new) self.new) result }
@@ -32,7 +31,6 @@ impl LowerEmitter {
     }
 
     /// The call of the name behind it.
-    #[inline(never)]
     fn put_hashed<W: WriteJs>(&mut self, cfg: &Config, wr: &mut W, text: &str) -> Answer
         requires { self.old.failed ≡ false }
         ensures items { Does (hashed text.now) (state_of cfg.now (W.sheet wr.old) self.old) (state_of cfg.now (W.sheet wr.new) self.new) result }
@@ -44,6 +42,7 @@ impl LowerEmitter {
     }
 
     /// Writes a private name by a text: one token.
+    #[inline(never)]
     #[tactic(auto, unfolding(crate::specs::PrivateNames::private_token))]
     fn private_token<W: WriteJs>(
         &mut self,
@@ -63,6 +62,7 @@ impl LowerEmitter {
     }
 
     /// The same with its position.
+    #[inline(never)]
     #[tactic(auto, unfolding(crate::specs::PrivateNames::private_symbol))]
     fn private_symbol<W: WriteJs>(
         &mut self,
@@ -81,6 +81,7 @@ impl LowerEmitter {
     }
 
     /// Writes a private name by a text that isn't ASCII, in ASCII.
+    #[inline(never)]
     fn ascii_private<W: WriteJs>(
         &mut self,
         cfg: &Config,
@@ -137,6 +138,25 @@ impl LowerEmitter {
         }
         if !holds_backslash(name) {
             return self.spelled_private(cfg, wr, span, name);
+        }
+        self.mended_private(cfg, wr, span, name)
+    }
+
+    /// The same of a private name that may hold a backslash.
+    #[inline(never)]
+    #[tactic(auto, unfolding(crate::specs::PrivateNames::valid_private))]
+    fn mended_private<W: WriteJs>(
+        &mut self,
+        cfg: &Config,
+        wr: &mut W,
+        span: Span,
+        name: &str,
+    ) -> Answer
+        ensures items { Does (valid_private span name.now) (state_of cfg.now (W.sheet wr.old) self.old) (state_of cfg.now (W.sheet wr.new) self.new) result }
+        ensures level { OnOk result ((W.sheet wr.new).indentation ≡ (W.sheet wr.old).indentation) }
+    {
+        if self.failed {
+            return Err(Refusal::Failed);
         }
         match valid_name(self.alloc, name) {
             Ok(text) => self.spelled_private(cfg, wr, span, &text),

@@ -36,6 +36,7 @@ pub(crate) fn is_escaped(raw: &Option<String>) -> bool
 }
 
 /// Whether a text is ASCII.
+#[inline(never)]
 pub(crate) fn is_ascii(text: &str) -> bool
     ensures { result ≡ is_ascii_text text.now }
 {

@@ -1,11 +1,11 @@
 //! One call of the writer, and the blank that is due before it.
 //!
-//! What makes the call is never inlined: the room for the error of a writer would be part of the frames of nodes, which are there
-//! once for each level of a tree.
+//! What writes a token is never inlined: the room for the error of a writer would be part of the frames of nodes, which are there
+//! once for each level of a tree. What it calls for that is inlined, so that a token takes one call or two.
 
 ghost use Rattle.std.specs.Prelude.{◌≡◌, ℕ, None, OnOk, OnErr, Option, List, [], ◌∷◌, ◌++◌, codes, true, false};
 ghost use Rattle.std.specs.Str.{chars};
-ghost use Rattle.swc_ecma_codegen_common.specs.Refusals.{in_short};
+ghost use Rattle.swc_ecma_codegen_common.specs.Refusals.{in_short, reason_of};
 ghost use Rattle.swc_ecma_codegen_literals.specs.Punctuators.{spelling};
 ghost use Rattle.swc_ecma_codegen_base.specs.Starts.{begins_letter, start_class};
 ghost use Rattle.swc_ecma_codegen_spans.specs.Spans.{dummy_span};
@@ -24,7 +24,7 @@ use crate::guard::blank_due;
 use crate::last::Last;
 use crate::starts::StartClass;
 use std::snapshot::Snapshot;
-use swc_ecma_codegen_common::{Answer, BytePos, DUMMY_SP, Refusal, Result, Span};
+use swc_ecma_codegen_common::{Answer, BytePos, DUMMY_SP, Error, Refusal, Result, Span};
 use swc_ecma_codegen_literals::Punctuator;
 use swc_ecma_codegen_text_writer::WriteJs;
 use swc_ecma_codegen_util::config::Config;
@@ -39,13 +39,22 @@ impl LowerEmitter {
     {
         match answer {
             Ok(()) => Ok(()),
-            Err(error) => {
-                let refusal = error.refusal();
-                self.failed = true;
-                self.fault = error.into_fault();
-                Err(refusal)
-            }
+            Err(error) => Err(self.give_up(error)),
         }
+    }
+
+    /// Notes the error that a call of the writer was refused with, and says it in short.
+    #[cold]
+    #[inline(never)]
+    fn give_up(&mut self, error: Error) -> Refusal
+        ensures same { result ≡ reason_of error }
+        ensures token { self.new.token.value ≡ self.old.token.value }
+        ensures failed { self.new.failed ≡ true }
+    {
+        let refusal = error.refusal();
+        self.failed = true;
+        self.fault = error.into_fault();
+        refusal
     }
 
     /// What a call of the writer answered is noted, with the last token, and passed on in short.
@@ -124,7 +133,7 @@ impl LowerEmitter {
     }
 
     /// The call of a keyword.
-    #[inline(never)]
+    #[inline(always)]
     fn put_keyword<W: WriteJs>(
         &mut self,
         cfg: &Config,
@@ -142,7 +151,7 @@ impl LowerEmitter {
     }
 
     /// The call of an operator that is a punctuator.
-    #[inline(never)]
+    #[inline(always)]
     fn put_operator<W: WriteJs>(&mut self, cfg: &Config, wr: &mut W, mark: Punctuator) -> Answer
         requires { self.old.failed ≡ false }
         ensures items { Does (step (Token kind.Punctuator (Operator None (spelling mark)))) (state_of cfg.now (W.sheet wr.old) self.old) (state_of cfg.now (W.sheet wr.new) self.new) result }
@@ -155,7 +164,7 @@ impl LowerEmitter {
     }
 
     /// The call of an operator that is a word.
-    #[inline(never)]
+    #[inline(always)]
     fn put_word_operator<W: WriteJs>(
         &mut self,
         cfg: &Config,
@@ -172,7 +181,7 @@ impl LowerEmitter {
     }
 
     /// The call of a punctuator.
-    #[inline(never)]
+    #[inline(always)]
     fn put_punct<W: WriteJs>(
         &mut self,
         cfg: &Config,
@@ -191,7 +200,7 @@ impl LowerEmitter {
     }
 
     /// The call of a semicolon.
-    #[inline(never)]
+    #[inline(always)]
     fn put_semi<W: WriteJs>(&mut self, cfg: &Config, wr: &mut W) -> Answer
         requires { self.old.failed ≡ false }
         ensures items { Does (step (Token kind.Ending (Semi None))) (state_of cfg.now (W.sheet wr.old) self.old) (state_of cfg.now (W.sheet wr.new) self.new) result }
@@ -204,7 +213,7 @@ impl LowerEmitter {
     }
 
     /// The call of a name.
-    #[inline(never)]
+    #[inline(always)]
     pub(crate) fn put_symbol<W: WriteJs>(&mut self, cfg: &Config, wr: &mut W, text: &str) -> Answer
         requires { self.old.failed ≡ false }
         ensures items { Does (step (Token kind.Name (Symbol dummy_span text.now))) (state_of cfg.now (W.sheet wr.old) self.old) (state_of cfg.now (W.sheet wr.new) self.new) result }
@@ -216,6 +225,7 @@ impl LowerEmitter {
     }
 
     /// Writes a keyword.
+    #[inline(never)]
     #[tactic(auto, unfolding(crate::specs::Words::keyword))]
     pub fn keyword<W: WriteJs>(
         &mut self,
@@ -236,6 +246,7 @@ impl LowerEmitter {
     }
 
     /// Writes an operator that is a punctuator.
+    #[inline(never)]
     #[tactic(auto, unfolding(crate::specs::Words::operator))]
     pub fn operator<W: WriteJs>(&mut self, cfg: &Config, wr: &mut W, mark: Punctuator) -> Answer
         ensures items { Does (operator (spelling mark)) (state_of cfg.now (W.sheet wr.old) self.old) (state_of cfg.now (W.sheet wr.new) self.new) result }
@@ -249,6 +260,7 @@ impl LowerEmitter {
     }
 
     /// Writes an operator that is a word, as `in`.
+    #[inline(never)]
     #[tactic(auto, unfolding(crate::specs::Words::word_operator))]
     pub fn word_operator<W: WriteJs>(
         &mut self,
@@ -268,6 +280,7 @@ impl LowerEmitter {
     }
 
     /// Writes a punctuator.
+    #[inline(never)]
     #[tactic(auto, unfolding(crate::specs::Words::punct))]
     pub fn punct<W: WriteJs>(&mut self, cfg: &Config, wr: &mut W, mark: Punctuator) -> Answer
         ensures items { Does (punct (spelling mark)) (state_of cfg.now (W.sheet wr.old) self.old) (state_of cfg.now (W.sheet wr.new) self.new) result }
@@ -281,6 +294,7 @@ impl LowerEmitter {
     }
 
     /// Writes a punctuator, and records where it begins and ends.
+    #[inline(never)]
     #[tactic(auto, unfolding(crate::specs::Words::placed_punct))]
     pub fn placed_punct<W: WriteJs>(
         &mut self,
@@ -298,6 +312,7 @@ impl LowerEmitter {
     }
 
     /// Writes a semicolon that may be left out where it isn't needed.
+    #[inline(never)]
     #[tactic(auto, unfolding(crate::specs::Words::semi))]
     pub fn semi<W: WriteJs>(&mut self, cfg: &Config, wr: &mut W) -> Answer
         ensures items { Does (semi) (state_of cfg.now (W.sheet wr.old) self.old) (state_of cfg.now (W.sheet wr.new) self.new) result }
@@ -339,6 +354,7 @@ impl LowerEmitter {
     }
 
     /// Writes a semicolon that is held back.
+    #[inline(never)]
     pub fn commit_pending_semi<W: WriteJs>(&mut self, cfg: &Config, wr: &mut W) -> Answer
         ensures items { Does (commit_pending_semi) (state_of cfg.now (W.sheet wr.old) self.old) (state_of cfg.now (W.sheet wr.new) self.new) result }
         ensures level { OnOk result ((W.sheet wr.new).indentation ≡ (W.sheet wr.old).indentation) }

@@ -155,21 +155,17 @@ impl<'a, W: Write, K: KeepsPositions> Lines<'a, W, K> {
         requires { (sheet_of self.old).refused ≡ false }
         ensures { Reaches (appended text.now (sheet_of self.old)) (sheet_of self.old) (sheet_of self.new) result }
     {
-        self.hand_on(text, true)
+        self.hand_on(text)
     }
 
-    /// The same, where it is called. A text needs to be counted only where positions are kept.
+    /// The same, where it is called.
     #[inline(always)]
-    fn hand_on(&mut self, text: &str, counts: bool) -> Answer
-        requires fresh { (sheet_of self.old).refused ≡ false }
-        requires counted { counts ≡ false → (sheet_of self.old).keeps_positions ≡ false }
+    fn hand_on(&mut self, text: &str) -> Answer
+        requires { (sheet_of self.old).refused ≡ false }
         ensures { Reaches (appended text.now (sheet_of self.old)) (sheet_of self.old) (sheet_of self.new) result }
     {
         match self.outlet.write_text(text) {
             Ok(()) => {
-                if !counts {
-                    return Ok(());
-                }
                 self.kept.pass(text);
                 Ok(())
             }
@@ -283,7 +279,7 @@ impl<'a, W: Write, K: KeepsPositions> Lines<'a, W, K> {
         ensures { Reaches (end_recorded span (appended text.now (start_recorded span (sheet_of self.old)))) (sheet_of self.old) (sheet_of self.new) result }
     {
         self.record_start(span)?;
-        self.hand_on(text, true)?;
+        self.hand_on(text)?;
         self.record_end(span)
     }
 
@@ -344,23 +340,23 @@ impl<'a, W: Write, K: KeepsPositions> Lines<'a, W, K> {
     }
 
     /// Writes a text of one byte: in most calls it is only sent.
-    #[inline(never)]
+    #[inline(always)]
     fn write_byte(&mut self, text: &str) -> Answer
         requires { length text.now ≡ 1 }
         ensures { WritesText None text.now (sheet_of self.old) (sheet_of self.new) result }
     {
-        if self.failed || self.line_start || self.kept.is_kept() {
-            return self.write_counted_byte(text);
+        if self.failed || self.line_start {
+            return self.write_first_byte(text);
         }
         if text.len() != 1 {
             unreachable!();
         }
-        self.hand_on(text, false)
+        self.hand_on(text)
     }
 
-    /// The same where positions are kept, or at a line's start.
+    /// The same at a line's start.
     #[inline(never)]
-    fn write_counted_byte(&mut self, text: &str) -> Answer
+    fn write_first_byte(&mut self, text: &str) -> Answer
         requires { length text.now ≡ 1 }
         ensures { WritesText None text.now (sheet_of self.old) (sheet_of self.new) result }
     {
@@ -485,7 +481,7 @@ impl<'a, W: Write, K: KeepsPositions> Lines<'a, W, K> {
     }
 
     /// The answer of a call, with the error that the writer under it gave.
-    #[inline]
+    #[inline(always)]
     fn answer(&mut self, answer: Answer) -> Result
         ensures answer { in_short result ≡ answer }
         ensures same { sheet_of self.new ≡ sheet_of self.old }
@@ -523,28 +519,28 @@ impl<W: Write, K: KeepsPositions> WriteJs for Lines<'_, W, K> {
         self.answer(answer)
     }
 
-    #[inline]
+    #[inline(always)]
     #[tactic(auto, unfolding(crate::specs::Sheet::effect), using(crate::proofs::Steps::semicolon_at_once))]
     fn write_semi(&mut self, span: Option<Span>) -> Result {
         let answer = self.write(span, ";");
         self.answer(answer)
     }
 
-    #[inline]
+    #[inline(always)]
     #[tactic(auto, unfolding(crate::specs::Sheet::effect), using(crate::proofs::Steps::text_at_once))]
     fn write_space(&mut self) -> Result {
         let answer = self.write(None, " ");
         self.answer(answer)
     }
 
-    #[inline]
+    #[inline(always)]
     #[tactic(auto, unfolding(crate::specs::Sheet::effect), using(crate::proofs::Steps::text_at_once))]
     fn write_keyword(&mut self, span: Option<Span>, s: &'static str) -> Result {
         let answer = self.write(span, s);
         self.answer(answer)
     }
 
-    #[inline]
+    #[inline(always)]
     #[tactic(auto, unfolding(crate::specs::Sheet::effect), using(crate::proofs::Steps::text_at_once))]
     fn write_operator(&mut self, span: Option<Span>, s: &str) -> Result {
         let answer = self.write(span, s);
@@ -563,7 +559,7 @@ impl<W: Write, K: KeepsPositions> WriteJs for Lines<'_, W, K> {
         self.answer(answer)
     }
 
-    #[inline]
+    #[inline(always)]
     #[tactic(auto, unfolding(crate::specs::Sheet::effect), using(crate::proofs::Steps::line_at_once))]
     fn write_line(&mut self) -> Result {
         let answer = self.end_line();
@@ -594,14 +590,14 @@ impl<W: Write, K: KeepsPositions> WriteJs for Lines<'_, W, K> {
         self.answer(answer)
     }
 
-    #[inline]
+    #[inline(always)]
     #[tactic(auto, unfolding(crate::specs::Sheet::effect), using(crate::proofs::Steps::text_at_once))]
     fn write_symbol(&mut self, span: Span, s: &str) -> Result {
         let answer = self.write(Some(span), s);
         self.answer(answer)
     }
 
-    #[inline]
+    #[inline(always)]
     #[tactic(auto, unfolding(crate::specs::Sheet::effect), using(crate::proofs::Steps::punct_at_once))]
     fn write_punct(&mut self, span: Option<Span>, s: &'static str) -> Result {
         let answer = self.write(span, s);
@@ -620,7 +616,7 @@ impl<W: Write, K: KeepsPositions> WriteJs for Lines<'_, W, K> {
         self.answer(answer)
     }
 
-    #[inline]
+    #[inline(always)]
     #[tactic(auto, unfolding(crate::specs::Sheet::effect), using(crate::proofs::Steps::settled_at_once))]
     fn commit_pending_semi(&mut self) -> Result {
         let answer = self.nothing();

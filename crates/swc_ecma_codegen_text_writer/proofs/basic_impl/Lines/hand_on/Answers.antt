@@ -1,5 +1,4 @@
-use Rattle.std.proofs.Common.{refl, sym, subst, ◌∙◌}
-use Rattle.std.proofs.lemmas.Bool.{true≢false}
+use Rattle.std.proofs.Common.{refl, sym, subst}
 use Rattle.swc_ecma_codegen_text_writer.specs.Sheet.{appended}
 use Rattle.swc_ecma_codegen_text_writer.specs.Reach.{Shows}
 use Rattle.swc_ecma_codegen_text_writer.specs.View.{sheet_of, Reaches, HasReason}
@@ -7,14 +6,9 @@ use Rattle.swc_ecma_codegen_text_writer.proofs.Sheets.{front_refl}
 use Rattle.swc_ecma_codegen_text_writer.proofs.Steps.{sent_sheet, place_on}
 use Rattle.swc_ecma_codegen_text_writer.proofs.basic_impl.Lines.hand_on.Goals as goal
 
-pub returns-then-not-counts : goal.returns-then-not-counts
+pub returns-in-Ok : goal.returns-in-Ok
 unfolding sheet_of Reaches
-returns-then-not-counts g c =
-    sent_sheet c.args.text.now (sheet_of c.args.self.now) _ _ _ _ _ _ _ _ c.in-Ok.ensures.sent c.in-Ok.ensures.whole c.in-Ok.ensures.faults (place_on _ _ _ c.in-Ok.ensures.logged) refl refl refl refl
-
-pub returns-else-not-counts : goal.returns-else-not-counts
-unfolding sheet_of Reaches
-returns-else-not-counts g c =
+returns-in-Ok g c =
     sent_sheet c.args.text.now (sheet_of c.args.self.now) _ _ _ _ _ _ _ _ c.in-Ok.ensures.sent c.in-Ok.ensures.whole c.in-Ok.ensures.faults (place_on _ _ _ c.in-Ok.ensures.logged) c.pass.ensures.keeps c.pass.ensures.keeps c.pass.ensures.pairs c.pass.ensures.pending
 
 pub returns-in-Err : goal.returns-in-Err
@@ -28,11 +22,6 @@ returns-in-Err g c = record {
   same = refl;
 }
 
--- no positions are kept
-pub invariant_of-self : goal.invariant_of-self
-unfolding sheet_of
-invariant_of-self g c = record { counted = λ f e. absurd (true≢false (sym e ∙ c.requires.counted c.if-not-counts.true)) }
-
 -- the place is that after what went out before and the text
-pub invariant_of-self-in-Ok : goal.invariant_of-self-in-Ok
-invariant_of-self-in-Ok g c = record { counted = λ f e. subst (λ z. Shows (g.K.KeepsPositions.reached c.pass.new.self) z) (sym (place_on _ _ _ c.in-Ok.ensures.logged)) (c.pass.ensures.counted _ (c.args.self.now.counted f) e) }
+pub invariant_of-self : goal.invariant_of-self
+invariant_of-self g c = record { counted = λ f e. subst (λ z. Shows (g.K.KeepsPositions.reached c.pass.new.self) z) (sym (place_on _ _ _ c.in-Ok.ensures.logged)) (c.pass.ensures.counted _ (c.args.self.now.counted f) e) }

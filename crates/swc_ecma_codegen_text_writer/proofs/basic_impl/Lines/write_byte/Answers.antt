@@ -1,15 +1,11 @@
-use Rattle.std.proofs.Common.{◌≡◌, ◌<◌, length, false, refl, sym, ◌∙◌, arith}
+use Rattle.std.proofs.Common.{◌≡◌, ◌<◌, length, false, refl, sym, arith}
 use Rattle.swc_ecma_codegen_text_writer.specs.View.{sheet_of}
 use Rattle.swc_ecma_codegen_text_writer.proofs.Steps.{reaches_to, writes_way, written_in_line}
 use Rattle.swc_ecma_codegen_text_writer.proofs.basic_impl.Lines.write_byte.Goals as goal
 
-pub hand_on-requires-clause-fresh : goal.hand_on-requires-clause-fresh
+pub hand_on-requires : goal.hand_on-requires
 unfolding sheet_of
-hand_on-requires-clause-fresh g c = c.if-self.false
-
-pub hand_on-requires-clause-counted : goal.hand_on-requires-clause-counted
-unfolding sheet_of
-hand_on-requires-clause-counted g c e = sym c.is_kept.ensures ∙ c.if-is_kept.false
+hand_on-requires g c = c.if-self.false
 
 pub returns : goal.returns
 returns g c x e =
