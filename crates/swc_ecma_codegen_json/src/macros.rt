@@ -69,7 +69,7 @@ macro_rules! held {
     };
 }
 
-/// The arms of `held`, each with its place. They match, since a check of as many `?` costs half as much again.
+/// The arms of `held`, each with its place. They match, since a check of as many `?` costs a twelfth more.
 #[macro_export]
 macro_rules! held_arms {
     (

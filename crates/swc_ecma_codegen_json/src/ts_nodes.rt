@@ -1,4 +1,4 @@
-//! Nodes of this area's sorts, as links hold them. A function each, since a check of one that names the readers of many
+//! Nodes of the sorts of TypeScript, as links hold them. A function each, since a check of one that names the readers of many
 //! sorts is dear.
 
 use crate::part;

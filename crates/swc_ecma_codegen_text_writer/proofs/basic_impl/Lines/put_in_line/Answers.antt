@@ -1,5 +1,4 @@
 use Rattle.std.proofs.Common.{sym, ◌∙◌, ap, subst, Err}
-use Rattle.std.proofs.lemmas.Bool.{true≢false}
 use Rattle.std.proofs.lemmas.Result.{err_from_is_err_and}
 use Rattle.swc_ecma_codegen_text_writer.specs.Sheet.{Sheet, appended, start_recorded, end_recorded}
 use Rattle.swc_ecma_codegen_text_writer.specs.View.{sheet_of, Reaches}
@@ -13,12 +12,9 @@ returns-in_err-record_start g c =
     let p = err_from_is_err_and c.from_residual.result c.from_residual.ensures.1 in
     rw (p.1, p.2) (first_halted _ _ _ _ _ (alike_trans _ _ _ (appended_alike c.args.text.now _) (end_alike c.args.span _)) c.in_err-record_start.ensures)
 
-pub hand_on-requires-clause-fresh : goal.hand_on-requires-clause-fresh
+pub hand_on-requires : goal.hand_on-requires
 unfolding Reaches
-hand_on-requires-clause-fresh g c = ap (λ (s : Sheet). s.refused) c.in_ok-record_start.ensures ∙ (alike_same _ _ (start_alike c.args.span (sheet_of c.args.self.now))).refused ∙ c.requires
-
-pub hand_on-requires-clause-counted : goal.hand_on-requires-clause-counted
-hand_on-requires-clause-counted g c e = absurd (true≢false e)
+hand_on-requires g c = ap (λ (s : Sheet). s.refused) c.in_ok-record_start.ensures ∙ (alike_same _ _ (start_alike c.args.span (sheet_of c.args.self.now))).refused ∙ c.requires
 
 pub returns-in_err-hand_on : goal.returns-in_err-hand_on
 unfolding Reaches
