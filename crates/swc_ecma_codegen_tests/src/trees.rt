@@ -9,9 +9,9 @@ use swc_ecma_codegen::{
     Config, Emitter, Node, is_well_formed, is_well_formed_expr, is_well_formed_item,
     is_well_formed_stmt,
 };
-use swc_ecma_codegen_ast::comments::CommentMaps;
-use swc_ecma_codegen_ast::mapper::NoSource;
-use swc_ecma_codegen_common::{Error, EsVersion};
+use swc_ecma_codegen_ast::comments::{CommentMaps, Comments};
+use swc_ecma_codegen_ast::mapper::{NoSource, SourceMapper};
+use swc_ecma_codegen_common::{Error, EsVersion, Result as Answer};
 use swc_ecma_codegen_grammar::Fits;
 use swc_ecma_codegen_json::{ReadError, program_from_slice};
 use swc_ecma_codegen_laws::{
@@ -20,10 +20,10 @@ use swc_ecma_codegen_laws::{
     links_write_their_roots, new_emitter_reads,
 };
 use swc_ecma_codegen_spans::Spanned;
-use swc_ecma_codegen_text_writer::JsWriter;
+use swc_ecma_codegen_text_writer::{JsWriter, WriteJs};
 use swc_ecma_codegen_tree::{
-    AnyNode, ExportSpecifier, Expr, Holds, MemberExpr, Module, ModuleDecl, ModuleExportName,
-    ModuleItem, Program, Script, Stmt, StmtPart,
+    AnyNode, ExportSpecifier, Expr, ExprStmt, Holds, MemberExpr, Module, ModuleDecl,
+    ModuleExportName, ModuleItem, Program, Script, Stmt, StmtPart,
 };
 
 /// `a`
@@ -94,33 +94,15 @@ impl Tree for AnyNode {
     }
 
     fn written_whole(alloc: Global, tree: &Program, config: Config) -> Result<Page, Error> {
-        links_write_their_roots();
-        links_write_members();
-        links_write_targets();
-        new_emitter_reads();
+        laws_of_links();
         let wr = JsWriter::new(alloc, &NoSource, "\r\n", Page::new(), None);
         let mut emitter = Emitter::new(alloc, config, &NoSource, None::<CommentMaps>, wr);
         if is_well_formed(tree) {
             emitter.emit_program(tree)?;
         }
         match tree {
-            Program::Script(script) => {
-                emitter.emit_script(script)?;
-                if let Some(link) = script.body.first() {
-                    emitted_link_reads(link, &mut emitter)?;
-                }
-            }
-            Program::Module(module) => {
-                emitter.emit_module(module)?;
-                if let Some(item) = item_of(module) {
-                    if is_well_formed_item(item) {
-                        emitter.emit_module_item(item)?;
-                    }
-                    if let Some(name) = exported_name(item) {
-                        emitter.emit_module_export_name(name)?;
-                    }
-                }
-            }
+            Program::Script(script) => write_script(script, &mut emitter)?,
+            Program::Module(module) => write_module(module, &mut emitter)?,
         }
         Ok(emitter.wr.into_inner())
     }
@@ -132,25 +114,99 @@ impl Tree for AnyNode {
     ) -> Result<Page, Error> {
         let wr = JsWriter::new(alloc, &NoSource, "\n", Page::new(), None);
         let mut emitter = Emitter::new(alloc, settings(true), &NoSource, None::<CommentMaps>, wr);
-        if is_well_formed_stmt(stmt) {
-            emitted_stmt_reads(stmt, &mut emitter)?;
-            emitted_ref_reads(&stmt, &mut emitter)?;
-        }
+        write_stmt(stmt, &mut emitter)?;
         if let Stmt::Expr(node) = stmt {
-            emitted_link_reads(&node.expr, &mut emitter)?;
-            emitted_box_reads(boxed, &mut emitter)?;
+            write_held(node, boxed, &mut emitter)?;
             if let Some(expr) = node.expr.get() {
-                if is_well_formed_expr(expr) {
-                    emitted_expr_reads(expr, &mut emitter)?;
-                }
-                emitted_option_reads(some, &mut emitter)?;
-                if let Expr::Member(link) = expr {
-                    emitted_link_reads(link, &mut emitter)?;
-                }
+                write_expr(expr, some, &mut emitter)?;
             }
         }
         emitted_option_reads(none, &mut emitter)?;
         Ok(emitter.wr.into_inner())
+    }
+}
+
+/// The laws of links, and of a new emitter: they do nothing.
+fn laws_of_links() {
+    links_write_their_roots();
+    links_write_members();
+    links_write_targets();
+    new_emitter_reads();
+}
+
+/// Writes a script, and its first statement by its link.
+fn write_script<W: WriteJs, S: SourceMapper, C: Comments>(
+    script: &Script,
+    e: &mut Emitter<'_, W, S, C>,
+) -> Answer {
+    e.emit_script(script)?;
+    match script.body.first() {
+        Some(link) => emitted_link_reads(link, e),
+        None => Ok(()),
+    }
+}
+
+/// Writes a module, its first item, and the name that this one exports first.
+fn write_module<W: WriteJs, S: SourceMapper, C: Comments>(
+    module: &Module,
+    e: &mut Emitter<'_, W, S, C>,
+) -> Answer {
+    e.emit_module(module)?;
+    match item_of(module) {
+        Some(item) => write_item(item, e),
+        None => Ok(()),
+    }
+}
+
+/// Writes an item, and the name that it exports first.
+fn write_item<W: WriteJs, S: SourceMapper, C: Comments>(
+    item: &ModuleItem,
+    e: &mut Emitter<'_, W, S, C>,
+) -> Answer {
+    if is_well_formed_item(item) {
+        e.emit_module_item(item)?;
+    }
+    match exported_name(item) {
+        Some(name) => e.emit_module_export_name(name),
+        None => Ok(()),
+    }
+}
+
+/// Writes a statement, and the same as it is lent.
+fn write_stmt<W: WriteJs, S: SourceMapper, C: Comments>(
+    stmt: &Stmt,
+    e: &mut Emitter<'_, W, S, C>,
+) -> Answer {
+    if is_well_formed_stmt(stmt) {
+        emitted_stmt_reads(stmt, e)?;
+        emitted_ref_reads(&stmt, e)?;
+    }
+    Ok(())
+}
+
+/// Writes the expression of a statement by its link, and what a box holds.
+fn write_held<W: WriteJs, S: SourceMapper, C: Comments>(
+    node: &ExprStmt,
+    boxed: &Box<Stmt>,
+    e: &mut Emitter<'_, W, S, C>,
+) -> Answer {
+    emitted_link_reads(&node.expr, e)?;
+    emitted_box_reads(boxed, e)
+}
+
+/// Writes an expression, what an option holds, and a member by its link.
+fn write_expr<W: WriteJs, S: SourceMapper, C: Comments>(
+    expr: &Expr,
+    some: &Option<Stmt>,
+    e: &mut Emitter<'_, W, S, C>,
+) -> Answer {
+    if is_well_formed_expr(expr) {
+        emitted_expr_reads(expr, e)?;
+    }
+    emitted_option_reads(some, e)?;
+    match expr {
+        Expr::Member(link) => emitted_link_reads(link, e),
+        _ => Ok(()),
     }
 }
 
