@@ -132,6 +132,7 @@ fn tells<N: Tree>(expr: &Expr<N>) -> bool {
         && expr.require_space_before(BinaryOp::Sub)
         && !expr.require_space_before(BinaryOp::Add)
         && !expr.starts_with_alpha_num()
+        && !N::is_told_to_start_so(expr)
         && expr.ends_with_alpha_num()
 }
 

@@ -11,13 +11,17 @@ use swc_ecma_codegen::{
 };
 use swc_ecma_codegen_ast::comments::{CommentMaps, Comments};
 use swc_ecma_codegen_ast::mapper::{NoSource, SourceMapper};
+use swc_ecma_codegen_ast::reading_laws;
 use swc_ecma_codegen_common::{Error, EsVersion, Result as Answer};
 use swc_ecma_codegen_grammar::Fits;
 use swc_ecma_codegen_json::{ReadError, program_from_slice};
 use swc_ecma_codegen_laws::{
-    emitted_box_reads, emitted_expr_reads, emitted_link_reads, emitted_option_reads,
-    emitted_ref_reads, emitted_stmt_reads, links_write_members, links_write_targets,
-    links_write_their_roots, new_emitter_reads,
+    bad_shapes_are_refused_first, emitted_box_reads, emitted_expr_reads, emitted_link_reads,
+    emitted_option_reads, emitted_ref_reads, emitted_stmt_reads, first_token_is_told,
+    layouts_keep_the_tokens, links_write_members, links_write_targets, links_write_their_roots,
+    names_out_of_target_are_refused, new_emitter_reads, one_reading,
+    plain_trees_keep_no_other_text, plain_trees_take_no_memory, reduced_tokens_read,
+    spaced_tokens_read, strings_by_value_are_told, well_formed_trees_are_supported,
 };
 use swc_ecma_codegen_spans::Spanned;
 use swc_ecma_codegen_text_writer::{JsWriter, WriteJs};
@@ -75,6 +79,9 @@ pub(crate) trait Tree: Holds<Expr<Self>>
     /// Reads a program.
     fn read(alloc: Global, json: &str) -> Result<Program<Self>, ReadError>;
 
+    /// Whether an expression begins with a letter, a digit or the like, by the function that says what this tells.
+    fn is_told_to_start_so(expr: &Expr<Self>) -> bool;
+
     /// What is written of a tree by each call that takes it whole and by the functions that say how these read: of a script itself and
     /// of its first statement, of a module itself, of its first item and of the name that this one exports first.
     fn written_whole(alloc: Global, tree: &Program<Self>, config: Config) -> Result<Page, Error>;
@@ -93,8 +100,13 @@ impl Tree for AnyNode {
         program_from_slice(alloc, json.as_bytes())
     }
 
+    fn is_told_to_start_so(expr: &Expr) -> bool {
+        first_token_is_told(expr)
+    }
+
     fn written_whole(alloc: Global, tree: &Program, config: Config) -> Result<Page, Error> {
         laws_of_links();
+        laws_of_trees();
         let wr = JsWriter::new(alloc, &NoSource, "\r\n", Page::new(), None);
         let mut emitter = Emitter::new(alloc, config, &NoSource, None::<CommentMaps>, wr);
         if is_well_formed(tree) {
@@ -126,12 +138,27 @@ impl Tree for AnyNode {
     }
 }
 
-/// The laws of links, and of a new emitter: they do nothing.
+/// The laws of links, of a new emitter, and of token lists: they do nothing.
 fn laws_of_links() {
     links_write_their_roots();
     links_write_members();
     links_write_targets();
     new_emitter_reads();
+    one_reading();
+    reading_laws::layouts_keep_the_tokens();
+    reduced_tokens_read();
+    spaced_tokens_read();
+}
+
+/// The laws of trees: they do nothing.
+fn laws_of_trees() {
+    plain_trees_take_no_memory();
+    plain_trees_keep_no_other_text();
+    strings_by_value_are_told();
+    names_out_of_target_are_refused();
+    well_formed_trees_are_supported();
+    bad_shapes_are_refused_first();
+    layouts_keep_the_tokens();
 }
 
 /// Writes a script, and its first statement by its link.

@@ -1,10 +1,19 @@
 //! Where a blank is due between two tokens.
 
+use swc_ecma_codegen_base::laws::{gaps_leave_the_tokens, nothing_so_far, so_far_reads};
 use swc_ecma_codegen_base::{Last, StartClass, blank_due};
 use swc_ecma_codegen_literals::{Punctuator, TokenClass, number_class};
 
+/// The laws of what was written so far: they do nothing.
+fn laws_of_gaps() {
+    nothing_so_far();
+    so_far_reads();
+    gaps_leave_the_tokens();
+}
+
 #[test]
 fn a_blank_is_due_where_neighbours_fuse(rt: HostRuntime) {
+    laws_of_gaps();
     for (last, next, due) in NEIGHBOURS {
         assert!(rt; blank_due(last, StartClass::of_text(next)) == due, "{next}");
     }
