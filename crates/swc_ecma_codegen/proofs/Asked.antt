@@ -3,13 +3,15 @@ use Rattle.std.proofs.Common.{◌≡◌, ℕ, List, Bool, true, false, ◌&&◌,
 use Rattle.std.proofs.lemmas.Bool.{true≢false}
 use Rattle.swc_ecma_codegen_common.specs.declared.errors.Refusal.{Refusal}
 use Rattle.swc_ecma_codegen_base.specs.Run.{Env, Plan, Part, State, Emits, when_minified, no_part}
-use Rattle.swc_ecma_codegen_base.specs.Words.{commit_pending_semi, keyword, punct, semi}
+use Rattle.swc_ecma_codegen_base.specs.Words.{commit_pending_semi, keyword, punct, semi, trailing_comments}
 use Rattle.swc_ecma_codegen_base.proofs.Emitting.{follows_same, minified_same, pretty_same}
 use Rattle.swc_ecma_codegen.specs.Functions.{parenthesis}
 use Rattle.swc_ecma_codegen_ast.specs.Settings.{is_up_to_es5}
 use Rattle.swc_ecma_codegen_base.specs.Choices.{empty_arguments, loop_ending, attributes_word}
 use Rattle.swc_ecma_codegen_base.proofs.Choices.{ended_same, not_ended_same, assert_same, with_same}
+use Rattle.swc_ecma_codegen_common.specs.declared.positions.Span.{Span}
 use Rattle.swc_ecma_codegen.specs.Calls.{parentheses}
+use Rattle.swc_ecma_codegen.specs.Exprs.{expr_closed}
 use Rattle.swc_ecma_codegen.specs.Programs.{last_semi}
 
 pub kept_same : (rest : Plan) (env : Env) → env.config.omit_last_semi ≡ true → last_semi rest env ≡ rest env
@@ -80,3 +82,16 @@ attributes_by_assert a b (Err e) h k = λ rest. follows_same (attributes_word re
 pub attributes_by_with : (a b : State) (r : Result (Unit {0}) Refusal) → a.env.config.emit_assert_for_import_attributes ≡ false → Emits (keyword None (codes "with")) a b r → Emits attributes_word a b r
 attributes_by_with a b (Ok u) h k = λ rest c r f. follows_same (attributes_word rest) (keyword None (codes "with") rest) a c r (with_same rest a.env h) (k rest c r f)
 attributes_by_with a b (Err e) h k = λ rest. follows_same (attributes_word rest) (keyword None (codes "with") rest) a b (Err e) (with_same rest a.env h) (k rest)
+
+-- no comments are written after an expression
+pub closed_bare : (left : Bool) (span : Span) (a : State) → Emits (expr_closed left span) a a (Ok tt)
+unfolding expr_closed trailing_comments
+closed_bare true span a = λ rest c r k. k
+closed_bare false span a = λ rest c r k. k
+
+-- they are, unless they are left where they are
+pub closed_commented : (left : Bool) (span : Span) (a b : State) (r : Result (Unit {0}) Refusal) → left ≡ false → Emits (trailing_comments true span.hi) a b r → Emits (expr_closed left span) a b r
+unfolding expr_closed
+closed_commented true span a b r h k = absurd (true≢false h)
+closed_commented false span a b (Ok u) h k = λ rest c r f. k rest c r f
+closed_commented false span a b (Err e) h k = λ rest. k rest

@@ -3,6 +3,8 @@
 ghost use Rattle.std.specs.Prelude.{◌≡◌, Some, None, OnOk};
 ghost use Rattle.swc_ecma_codegen_base.specs.Run.{Emits};
 ghost use Rattle.swc_ecma_codegen.specs.Exprs.{ident, ident_name, private_name, this, unary_op, unary_gap, unary, update_parts, update, binary_op, before_op, after_op, bin_trailing, bin_opened, bin, computed_prop_name, choice, meta_prop_expr, assign, yield_star, yield_arg, yield_expr, spread_element, await_expr, seq, paren, expr_parts, is_left_operand, leaves_comments, expr_closed, expr};
+ghost use Rattle.swc_ecma_codegen_spans.specs.Spans.{expr_span};
+ghost use Rattle.swc_ecma_codegen.specs.Answers.{place_of};
 ghost use Rattle.swc_ecma_codegen_util.specs.Starts.{is_word_op as is_word_unary};
 ghost use Rattle.swc_ecma_codegen.specs.View.{state_of};
 
@@ -108,7 +110,7 @@ impl<N: Held> EmitAt for Expr<N> {
         place: Place,
     ) -> Answer {
         expr_parts(self, e, place)?;
-        e.expr_closed(leaves_comments(self, place), expr_place(self))?;
+        e.expr_closed(self, place)?;
         Ok(())
     }
 }
@@ -390,16 +392,19 @@ impl<N: Held> EmitAt for SpreadElement<N> {
 }
 
 impl<W: WriteJs, S: SourceMapper, C: Comments> Emitter<'_, W, S, C> {
-    /// Writes the comments after an expression, unless they are left where they are.
-    #[tactic(auto, unfolding(crate::specs::Exprs::expr_closed))]
-    fn expr_closed(&mut self, left: bool, span: Span) -> Answer
-        ensures items { Emits (expr_closed left span) (state_of S.lines W.sheet self.old) (state_of S.lines W.sheet self.new) result }
+    /// Writes the comments after an expression, unless they are left where they are. Where it stands is asked only where there are comments.
+    #[tactic(auto, unfolding(crate::specs::Exprs::expr_closed), using(crate::proofs::Asked::closed_bare, crate::proofs::Asked::closed_commented))]
+    fn expr_closed<N: Held>(&mut self, node: &Expr<N>, place: Place) -> Answer
+        ensures items { Emits (expr_closed (leaves_comments node.now place) (expr_span (place_of N.answers) node.now)) (state_of S.lines W.sheet self.old) (state_of S.lines W.sheet self.new) result }
         ensures level { OnOk result ((W.sheet self.new.wr).indentation ≡ (W.sheet self.old.wr).indentation) }
     {
-        if left {
+        if self.comments.is_none() {
             return Ok(());
         }
-        self.trailing_comments(span.hi, true)
+        if leaves_comments(node, place) {
+            return Ok(());
+        }
+        self.trailing_comments(expr_place(node).hi, true)
     }
 
     /// Writes the comments before a binary expression and its start, unless it is an inner left operand.

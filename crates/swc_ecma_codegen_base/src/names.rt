@@ -177,7 +177,7 @@ impl LowerEmitter {
         ensures level { OnOk result ((W.sheet wr.new).indentation ≡ (W.sheet wr.old).indentation) }
     {
         self.leading_comments(cfg, comments, wr, span.lo)?;
-        self.commit_pending_semi(cfg, wr)?;
+        self.put_pending_semi(cfg, wr)?;
         self.name_text(cfg, wr, span, sym)?;
         self.question(cfg, wr, optional)?;
         Ok(())

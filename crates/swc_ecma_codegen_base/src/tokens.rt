@@ -359,6 +359,15 @@ impl LowerEmitter {
         ensures items { Does (commit_pending_semi) (state_of cfg.now (W.sheet wr.old) self.old) (state_of cfg.now (W.sheet wr.new) self.new) result }
         ensures level { OnOk result ((W.sheet wr.new).indentation ≡ (W.sheet wr.old).indentation) }
     {
+        self.put_pending_semi(cfg, wr)
+    }
+
+    /// The same, where it is called.
+    #[inline(always)]
+    pub(crate) fn put_pending_semi<W: WriteJs>(&mut self, cfg: &Config, wr: &mut W) -> Answer
+        ensures items { Does (commit_pending_semi) (state_of cfg.now (W.sheet wr.old) self.old) (state_of cfg.now (W.sheet wr.new) self.new) result }
+        ensures level { OnOk result ((W.sheet wr.new).indentation ≡ (W.sheet wr.old).indentation) }
+    {
         let _ = cfg;
         if self.failed {
             return Err(Refusal::Failed);

@@ -4,7 +4,7 @@ use Rattle.swc_ecma_codegen_base.specs.Run.{after_plain}
 use Rattle.swc_ecma_codegen_base.specs.Words.{commit_pending_semi}
 use Rattle.swc_ecma_codegen_base.proofs.Calls.{called_kept, level, is_level}
 use Rattle.swc_ecma_codegen_base.proofs.Emitting.{does_failed}
-use Rattle.swc_ecma_codegen_base.proofs.LowerEmitter.commit_pending_semi.Goals as goal
+use Rattle.swc_ecma_codegen_base.proofs.LowerEmitter.put_pending_semi.Goals as goal
 
 pub returns-then-self-clause-items : goal.returns-then-self-clause-items
 returns-then-self-clause-items g c = λ lines rest. does_failed _ _ c.if-self.true lines
