@@ -21,6 +21,10 @@ impl<'a, 'de, 's, F: Format> Input<'a, 'de, 's, F> {
         }
     }
 
+    pub fn has_failed(&self) -> bool {
+        self.error.is_some()
+    }
+
     /// Why it failed.
     pub fn error(&mut self) -> F::Error {
         match self.error.take() {
@@ -29,9 +33,12 @@ impl<'a, 'de, 's, F: Format> Input<'a, 'de, 's, F> {
         }
     }
 
-    /// What was read, or the error is kept.
+    /// What was read, or the error is kept: the first.
     #[inline(always)]
     fn keep<T: Drop>(&mut self, read: Result<T, F::Error>) -> Result<T, Failed> {
+        if self.has_failed() {
+            return Err(Failed);
+        }
         match read {
             Ok(value) => Ok(value),
             Err(error) => {
@@ -113,6 +120,13 @@ impl<'a, 'de, 's, F: Format> Source for Input<'a, 'de, 's, F> {
     }
 
     #[inline(always)]
+    fn end_object(&mut self) {
+        if let Ok(Some(_)) = self.next_member(&[]) {
+            self.fail(Fault::Invalid);
+        }
+    }
+
+    #[inline(always)]
     fn word(&mut self, names: &[Name<'_>]) -> Result<usize, Failed> {
         let read = self.from.variant(names);
         self.keep(read)
@@ -125,6 +139,9 @@ impl<'a, 'de, 's, F: Format> Source for Input<'a, 'de, 's, F> {
     }
 
     fn fail(&mut self, fault: Fault<'_>) -> Failed {
+        if self.has_failed() {
+            return Failed;
+        }
         self.error = Some(match fault {
             Fault::Missing(name) => self.from.missing(name),
             Fault::Duplicate(name) => self.from.duplicate(name),

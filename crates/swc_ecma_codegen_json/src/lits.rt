@@ -164,7 +164,7 @@ impl<N: Drop> ReadFrom<N> for NumberValue {
             return Err(source.fail(Fault::UnknownVariant));
         }
         let number = read(source, make)?;
-        <Variant as Parts<N>>::end(source)?;
+        <Variant as Parts<N>>::end(source);
         Ok(NumberValue::Finite(number))
     }
 }

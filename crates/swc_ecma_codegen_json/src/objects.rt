@@ -65,7 +65,7 @@ impl<N: Drop> Wanted<N> for () {
     }
 }
 
-impl<N: Drop, T: ReadFrom<N>, R: Wanted<N>> Wanted<N> for (T, R) {
+impl<N: Drop, T: ReadFrom<N> + Drop, R: Wanted<N>> Wanted<N> for (T, R) {
     type Slots = (Option<T>, R::Slots);
 
     #[inline(always)]
@@ -175,7 +175,7 @@ fn gathered<N: Drop, P: Wanted<N>, S: Source, M: Make<N>>(
     P::finish(slots, names, 0, source)
 }
 
-impl<N: Drop, T: ReadFrom<N>, R: Wanted<N>> Parts<N> for (T, R) {
+impl<N: Drop, T: ReadFrom<N> + Drop, R: Wanted<N>> Parts<N> for (T, R) {
     #[inline(always)]
     fn begin<S: Source, M: Make<N>>(
         names: &[Name<'_>],
@@ -186,9 +186,7 @@ impl<N: Drop, T: ReadFrom<N>, R: Wanted<N>> Parts<N> for (T, R) {
     }
 
     #[inline(always)]
-    fn end<S: Source>(_source: &mut S) -> Result<(), Failed> {
-        Ok(())
-    }
+    fn end<S: Source>(_source: &mut S) {}
 }
 
 impl<N: Drop, V: Wanted<N> + Drop, W: Wanted<N>> Parts<N> for Both<V, W> {
@@ -202,9 +200,7 @@ impl<N: Drop, V: Wanted<N> + Drop, W: Wanted<N>> Parts<N> for Both<V, W> {
     }
 
     #[inline(always)]
-    fn end<S: Source>(_source: &mut S) -> Result<(), Failed> {
-        Ok(())
-    }
+    fn end<S: Source>(_source: &mut S) {}
 }
 
 fn name_at<'a>(names: &[Name<'a>], at: usize) -> &'a str {

@@ -70,7 +70,7 @@ pub trait Make<N: Drop> {
 }
 
 /// What can be read, by the readers of the area `A`. What a link holds is made by `make`.
-pub trait ReadFrom<N: Drop>: Sized + Drop {
+pub trait ReadFrom<N: Drop>: Sized {
     /// What is read of it before it is made.
     type Parts: Parts<N>;
 
@@ -89,7 +89,7 @@ pub trait ReadFrom<N: Drop>: Sized + Drop {
     final fn read_from<S: Source, M: Make<N>>(source: &mut S, make: &M) -> Result<Self, Failed> {
         let parts = Self::Parts::begin(Self::names(), source, make)?;
         let value = Self::of(parts, source, make)?;
-        Self::Parts::end(source)?;
+        Self::Parts::end(source);
         Ok(value)
     }
 }
@@ -102,8 +102,9 @@ pub trait Parts<N: Drop>: Sized {
         make: &M,
     ) -> Result<Self, Failed>;
 
-    /// What has to come after the value.
-    fn end<S: Source>(source: &mut S) -> Result<(), Failed>;
+    /// What has to come after the value. Where something else comes, the source fails from then on: so a value that is read
+    /// is never let go here.
+    fn end<S: Source>(source: &mut S);
 }
 
 /// Nothing: a value reads itself.
@@ -121,9 +122,7 @@ impl<N: Drop> Parts<N> for Whole {
     }
 
     #[inline(always)]
-    fn end<S: Source>(_source: &mut S) -> Result<(), Failed> {
-        Ok(())
-    }
+    fn end<S: Source>(_source: &mut S) {}
 }
 
 /// The place of a word among the names of variants that hold nothing, or past them.
@@ -141,9 +140,7 @@ impl<N: Drop> Parts<N> for Word {
     }
 
     #[inline(always)]
-    fn end<S: Source>(_source: &mut S) -> Result<(), Failed> {
-        Ok(())
-    }
+    fn end<S: Source>(_source: &mut S) {}
 }
 
 /// The place of a variant among their names, or past them: that of the one member of an object.
@@ -173,11 +170,8 @@ impl<N: Drop> Parts<N> for Variant {
     }
 
     #[inline(always)]
-    fn end<S: Source>(source: &mut S) -> Result<(), Failed> {
-        match source.next_member(&[])? {
-            None => Ok(()),
-            Some(_) => Err(source.fail(Fault::Invalid)),
-        }
+    fn end<S: Source>(source: &mut S) {
+        source.end_object();
     }
 }
 

@@ -26,7 +26,7 @@ pub enum Fault<'a> {
     TooDeep,
 }
 
-/// A text that is read once, from its beginning to its end.
+/// A text that is read once, from its beginning to its end. Once a call has failed, so does each later one.
 pub trait Source {
     /// Where what is read is kept.
     fn alloc(&self) -> Global;
@@ -55,12 +55,15 @@ pub trait Source {
     /// Where among the names the next member's stands, or past them; none at the end of the object, which is taken.
     fn next_member(&mut self, names: &[Name<'_>]) -> Result<Option<usize>, Failed>;
 
+    /// Takes the end of an object. Where another member comes, this fails, which the next call tells.
+    fn end_object(&mut self);
+
     /// Where among the names a text stands, or past them.
     fn word(&mut self, names: &[Name<'_>]) -> Result<usize, Failed>;
 
     /// Passes over a value.
     fn skip(&mut self) -> Result<(), Failed>;
 
-    /// Fails.
+    /// Fails. Of several faults the first is kept.
     fn fail(&mut self, fault: Fault<'_>) -> Failed;
 }

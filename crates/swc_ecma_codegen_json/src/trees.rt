@@ -30,8 +30,8 @@ fn read_tree<'a, 'de, 's, F: Format>(
     levels: &Levels,
 ) -> Result<Tree, F::Error> {
     match read_program(input, levels) {
-        Ok(program) => Ok(Tree(program)),
-        Err(_) => Err(input.error()),
+        Ok(program) if !input.has_failed() => Ok(Tree(program)),
+        _ => Err(input.error()),
     }
 }
 

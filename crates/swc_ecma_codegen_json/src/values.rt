@@ -50,7 +50,7 @@ impl<N: Drop, T: ReadFrom<N>> ReadFrom<N> for Option<T> {
     }
 }
 
-impl<N: Drop, T: ReadFrom<N>> ReadFrom<N> for Vec<T> {
+impl<N: Drop, T: ReadFrom<N> + Drop> ReadFrom<N> for Vec<T> {
     type Parts = Whole;
 
     fn of<S: Source, M: Make<N>>(
@@ -73,7 +73,7 @@ impl<N: Drop, T: ReadFrom<N>> ReadFrom<N> for Vec<T> {
     }
 }
 
-impl<N: Drop, T: ReadFrom<N>> ReadFrom<N> for Box<T> {
+impl<N: Drop, T: ReadFrom<N> + Drop> ReadFrom<N> for Box<T> {
     type Parts = Whole;
 
     fn of<S: Source, M: Make<N>>(
