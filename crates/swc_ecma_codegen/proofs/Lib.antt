@@ -37,3 +37,4 @@ pub mod TreeLaw
 pub mod TreeReads
 pub mod TreeMade
 pub mod OperatorLaws
+pub mod Standings

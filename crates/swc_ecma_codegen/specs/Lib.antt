@@ -3,6 +3,7 @@ pub mod Patterns
 pub mod Branches
 pub mod Answers
 pub mod View
+pub mod Standing
 pub mod Lists
 pub mod Lits
 pub mod Places

@@ -1,11 +1,10 @@
 //! Blocks.
 
-ghost use Rattle.std.specs.Prelude.{◌≡◌, if◌then◌else◌, OnOk};
+ghost use Rattle.std.specs.Prelude.{◌≡◌, if◌then◌else◌};
 ghost use Rattle.swc_ecma_codegen_ast.specs.FunctionPhrases.{is_some_listed};
 ghost use Rattle.swc_ecma_codegen_base.specs.Lists.{list};
-ghost use Rattle.swc_ecma_codegen_base.specs.Run.{Emits};
+ghost use Rattle.swc_ecma_codegen.specs.Standing.{Makes, Stays, standing_of};
 ghost use Rattle.swc_ecma_codegen.specs.Blocks.{block_format, flat_block_format, block_children, block_list, block_start, block_stmt};
-ghost use Rattle.swc_ecma_codegen.specs.View.{state_of};
 
 use crate::emitter::Emitter;
 use crate::nodes::{EmitAt, Held, Place};
@@ -13,7 +12,7 @@ use bitflags::Flags;
 use swc_ecma_codegen_ast::ListFormat;
 use swc_ecma_codegen_ast::comments::Comments;
 use swc_ecma_codegen_ast::mapper::SourceMapper;
-use swc_ecma_codegen_common::{Answer, Span};
+use swc_ecma_codegen_common::Span;
 use swc_ecma_codegen_literals::Punctuator;
 use swc_ecma_codegen_text_writer::WriteJs;
 use swc_ecma_codegen_tree::BlockStmt;
@@ -64,43 +63,42 @@ impl<N: Held> EmitAt for BlockStmt<N> {
         &self,
         e: &mut Emitter<'_, W, S, C>,
         place: Place,
-    ) -> Answer {
-        e.leading_comments(self.span.lo)?;
-        e.block_start(place, self.span)?;
-        e.punct(Punctuator::LeftBrace)?;
-        e.block_list(self)?;
-        e.comments_before(self.span.hi)?;
-        e.last_of(self.span)?;
-        e.punct(Punctuator::RightBrace)?;
-        Ok(())
+    ) {
+        e.leading_comments(self.span.lo);
+        e.block_start(place, self.span);
+        e.punct(Punctuator::LeftBrace);
+        e.block_list(self);
+        e.comments_before(self.span.hi);
+        e.last_of(self.span);
+        e.punct(Punctuator::RightBrace);
     }
 }
 
 impl<W: WriteJs, S: SourceMapper, C: Comments> Emitter<'_, W, S, C> {
     /// Records the start of a block, unless it is a body.
     #[tactic(auto, unfolding(crate::specs::Blocks::block_start))]
-    fn block_start(&mut self, place: Place, span: Span) -> Answer
-        ensures items { Emits (block_start place span) (state_of S.lines W.sheet self.old) (state_of S.lines W.sheet self.new) result }
-        ensures level { OnOk result ((W.sheet self.new.wr).indentation ≡ (W.sheet self.old.wr).indentation) }
+    fn block_start(&mut self, place: Place, span: Span)
+        ensures items { Makes (block_start place span) (standing_of S.lines W.sheet self.old) (standing_of S.lines W.sheet self.new) }
+        ensures level { Stays (standing_of S.lines W.sheet self.old) (standing_of S.lines W.sheet self.new) }
     {
         match place {
-            Place::Body => Ok(()),
+            Place::Body => {}
             _ => self.start_of(span),
         }
     }
 
     /// Writes the statements on one line.
-    fn flat_block_list<N: Held>(&mut self, node: &BlockStmt<N>) -> Answer
-        ensures items { Emits (list flat_block_format node.now.span (block_children N.answers N.items node.now)) (state_of S.lines W.sheet self.old) (state_of S.lines W.sheet self.new) result }
-        ensures level { OnOk result ((W.sheet self.new.wr).indentation ≡ (W.sheet self.old.wr).indentation) }
+    fn flat_block_list<N: Held>(&mut self, node: &BlockStmt<N>)
+        ensures items { Makes (list flat_block_format node.now.span (block_children N.answers N.items node.now)) (standing_of S.lines W.sheet self.old) (standing_of S.lines W.sheet self.new) }
+        ensures level { Stays (standing_of S.lines W.sheet self.old) (standing_of S.lines W.sheet self.new) }
     {
         self.list(flat_block_format(), node.span, &node.stmts)
     }
 
     /// Writes the statements, each on a line of its own where there are some.
-    fn lined_block_list<N: Held>(&mut self, node: &BlockStmt<N>) -> Answer
-        ensures items { Emits (list (if is_some_listed node.now.stmts.items then block_format else flat_block_format) node.now.span (block_children N.answers N.items node.now)) (state_of S.lines W.sheet self.old) (state_of S.lines W.sheet self.new) result }
-        ensures level { OnOk result ((W.sheet self.new.wr).indentation ≡ (W.sheet self.old.wr).indentation) }
+    fn lined_block_list<N: Held>(&mut self, node: &BlockStmt<N>)
+        ensures items { Makes (list (if is_some_listed node.now.stmts.items then block_format else flat_block_format) node.now.span (block_children N.answers N.items node.now)) (standing_of S.lines W.sheet self.old) (standing_of S.lines W.sheet self.new) }
+        ensures level { Stays (standing_of S.lines W.sheet self.old) (standing_of S.lines W.sheet self.new) }
     {
         let format = block_lines(is_some_listed(&node.stmts));
         self.list(format, node.span, &node.stmts)
@@ -108,9 +106,9 @@ impl<W: WriteJs, S: SourceMapper, C: Comments> Emitter<'_, W, S, C> {
 
     /// Writes the statements, by lines unless the settings are to minify.
     #[tactic(auto, using(crate::proofs::Asked::minified_part, crate::proofs::Asked::pretty_part), unfolding(crate::specs::Blocks::block_list))]
-    fn block_list<N: Held>(&mut self, node: &BlockStmt<N>) -> Answer
-        ensures items { Emits (block_list (is_some_listed node.now.stmts.items) node.now.span (block_children N.answers N.items node.now)) (state_of S.lines W.sheet self.old) (state_of S.lines W.sheet self.new) result }
-        ensures level { OnOk result ((W.sheet self.new.wr).indentation ≡ (W.sheet self.old.wr).indentation) }
+    fn block_list<N: Held>(&mut self, node: &BlockStmt<N>)
+        ensures items { Makes (block_list (is_some_listed node.now.stmts.items) node.now.span (block_children N.answers N.items node.now)) (standing_of S.lines W.sheet self.old) (standing_of S.lines W.sheet self.new) }
+        ensures level { Stays (standing_of S.lines W.sheet self.old) (standing_of S.lines W.sheet self.new) }
     {
         if self.cfg.minify {
             return self.flat_block_list(node);

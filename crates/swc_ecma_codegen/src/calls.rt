@@ -1,11 +1,10 @@
 //! Arrays, calls and `new`.
 
-ghost use Rattle.std.specs.Prelude.{◌≡◌, OnOk};
+ghost use Rattle.std.specs.Prelude.{◌≡◌};
 ghost use Rattle.swc_ecma_codegen_ast.specs.ElementPhrases.{last_is_hole};
 ghost use Rattle.swc_ecma_codegen_base.specs.Choices.{empty_arguments};
-ghost use Rattle.swc_ecma_codegen_base.specs.Run.{Emits};
+ghost use Rattle.swc_ecma_codegen.specs.Standing.{Makes, Stays, standing_of};
 ghost use Rattle.swc_ecma_codegen.specs.Calls.{spread_mark, argument_place, argument_items, array_format, array_elements, array_lit, call_format, new_format, arguments, import_phase, import_callee, super_keyword, callee, call_expr, keeps_arguments, listed_arguments, new_arguments, new_gap, parentheses, new_expr, call_mark, chain_call, is_optional};
-ghost use Rattle.swc_ecma_codegen.specs.View.{state_of};
 
 use crate::emitter::Emitter;
 use crate::nodes::{AskStarts, Child, EmitAt, Held, Place};
@@ -14,7 +13,7 @@ use bitflags::Flags;
 use swc_ecma_codegen_ast::ListFormat;
 use swc_ecma_codegen_ast::comments::Comments;
 use swc_ecma_codegen_ast::mapper::SourceMapper;
-use swc_ecma_codegen_common::{Answer, Span};
+use swc_ecma_codegen_common::Span;
 use swc_ecma_codegen_literals::Punctuator;
 use swc_ecma_codegen_text_writer::WriteJs;
 use swc_ecma_codegen_tree::{
@@ -85,7 +84,7 @@ impl<N: Held> EmitAt for Callee<N> {
         &self,
         e: &mut Emitter<'_, W, S, C>,
         place: Place,
-    ) -> Answer {
+    ) {
         match self {
             Callee::Super(node) => node.emit_at(e, Place::Plain),
             Callee::Import(node) => node.emit_at(e, Place::Plain),
@@ -102,7 +101,7 @@ impl EmitAt for Super {
         &self,
         e: &mut Emitter<'_, W, S, C>,
         place: Place,
-    ) -> Answer {
+    ) {
         e.keyword(Some(self.span), "super")
     }
 }
@@ -115,10 +114,9 @@ impl EmitAt for Import {
         &self,
         e: &mut Emitter<'_, W, S, C>,
         place: Place,
-    ) -> Answer {
-        e.keyword(Some(self.span), "import")?;
-        e.import_phase(self.phase)?;
-        Ok(())
+    ) {
+        e.keyword(Some(self.span), "import");
+        e.import_phase(self.phase);
     }
 }
 
@@ -130,14 +128,13 @@ impl<N: Held> EmitAt for OptCall<N> {
         &self,
         e: &mut Emitter<'_, W, S, C>,
         place: Place,
-    ) -> Answer {
+    ) {
         if self.type_args.is_some() {
             return e.unsupported();
         }
-        self.callee.held().emit_at(e, Place::Callee)?;
-        e.call_mark(is_optional(place))?;
-        e.arguments(call_format(), self.span, &self.args)?;
-        Ok(())
+        self.callee.held().emit_at(e, Place::Callee);
+        e.call_mark(is_optional(place));
+        e.arguments(call_format(), self.span, &self.args);
     }
 }
 
@@ -149,16 +146,15 @@ impl<N: Held> EmitAt for CallExpr<N> {
         &self,
         e: &mut Emitter<'_, W, S, C>,
         place: Place,
-    ) -> Answer {
+    ) {
         if self.type_args.is_some() {
             return e.unsupported();
         }
-        e.commit_pending_semi()?;
-        e.leading_comments(self.span.lo)?;
-        e.start_of(self.span)?;
-        self.callee.emit_at(e, Place::Plain)?;
-        e.arguments(call_format(), self.span, &self.args)?;
-        Ok(())
+        e.commit_pending_semi();
+        e.leading_comments(self.span.lo);
+        e.start_of(self.span);
+        self.callee.emit_at(e, Place::Plain);
+        e.arguments(call_format(), self.span, &self.args);
     }
 }
 
@@ -170,18 +166,17 @@ impl<N: Held> EmitAt for NewExpr<N> {
         &self,
         e: &mut Emitter<'_, W, S, C>,
         place: Place,
-    ) -> Answer {
+    ) {
         if self.type_args.is_some() {
             return e.unsupported();
         }
-        e.commit_pending_semi()?;
-        e.leading_comments(self.span.lo)?;
-        e.start_of(self.span)?;
-        e.keyword(None, "new")?;
-        e.new_gap(self.callee.held().starts())?;
-        self.callee.held().emit_at(e, Place::Plain)?;
-        e.new_arguments(self.span, keeps_arguments(place), &self.args)?;
-        Ok(())
+        e.commit_pending_semi();
+        e.leading_comments(self.span.lo);
+        e.start_of(self.span);
+        e.keyword(None, "new");
+        e.new_gap(self.callee.held().starts());
+        self.callee.held().emit_at(e, Place::Plain);
+        e.new_arguments(self.span, keeps_arguments(place), &self.args);
     }
 }
 
@@ -193,11 +188,10 @@ impl<N: Held> EmitAt for ExprOrSpread<N> {
         &self,
         e: &mut Emitter<'_, W, S, C>,
         place: Place,
-    ) -> Answer {
-        e.leading_comments(expr_or_spread_place(self).lo)?;
-        e.spread_mark(self.spread)?;
-        self.expr.held().emit_at(e, Place::Plain)?;
-        Ok(())
+    ) {
+        e.leading_comments(expr_or_spread_place(self).lo);
+        e.spread_mark(self.spread);
+        self.expr.held().emit_at(e, Place::Plain);
     }
 }
 
@@ -217,22 +211,21 @@ impl<N: Held> EmitAt for ArrayLit<N> {
         &self,
         e: &mut Emitter<'_, W, S, C>,
         place: Place,
-    ) -> Answer {
-        e.leading_comments(self.span.lo)?;
-        e.start_of(self.span)?;
-        e.punct(Punctuator::LeftBracket)?;
-        e.array_elements(self)?;
-        e.punct(Punctuator::RightBracket)?;
-        e.end_of(self.span)?;
-        Ok(())
+    ) {
+        e.leading_comments(self.span.lo);
+        e.start_of(self.span);
+        e.punct(Punctuator::LeftBracket);
+        e.array_elements(self);
+        e.punct(Punctuator::RightBracket);
+        e.end_of(self.span);
     }
 }
 
 impl<W: WriteJs, S: SourceMapper, C: Comments> Emitter<'_, W, S, C> {
     /// Writes the elements of an array.
-    fn array_elements<N: Held>(&mut self, node: &ArrayLit<N>) -> Answer
-        ensures items { Emits (array_elements N.answers N.items node.now) (state_of S.lines W.sheet self.old) (state_of S.lines W.sheet self.new) result }
-        ensures level { OnOk result ((W.sheet self.new.wr).indentation ≡ (W.sheet self.old.wr).indentation) }
+    fn array_elements<N: Held>(&mut self, node: &ArrayLit<N>)
+        ensures items { Makes (array_elements N.answers N.items node.now) (standing_of S.lines W.sheet self.old) (standing_of S.lines W.sheet self.new) }
+        ensures level { Stays (standing_of S.lines W.sheet self.old) (standing_of S.lines W.sheet self.new) }
     {
         let format = array_format(ends_with_hole(&node.elems));
         self.list(format, node.span, &node.elems)
@@ -240,47 +233,41 @@ impl<W: WriteJs, S: SourceMapper, C: Comments> Emitter<'_, W, S, C> {
 
     /// Writes `...` before what is spread.
     #[tactic(auto, unfolding(crate::specs::Calls::spread_mark))]
-    fn spread_mark(&mut self, spread: Option<Span>) -> Answer
-        ensures items { Emits (spread_mark spread) (state_of S.lines W.sheet self.old) (state_of S.lines W.sheet self.new) result }
-        ensures level { OnOk result ((W.sheet self.new.wr).indentation ≡ (W.sheet self.old.wr).indentation) }
+    fn spread_mark(&mut self, spread: Option<Span>)
+        ensures items { Makes (spread_mark spread) (standing_of S.lines W.sheet self.old) (standing_of S.lines W.sheet self.new) }
+        ensures level { Stays (standing_of S.lines W.sheet self.old) (standing_of S.lines W.sheet self.new) }
     {
         match spread {
             Some(_) => self.punct(Punctuator::Ellipsis),
-            None => Ok(()),
+            None => {}
         }
     }
 
     /// Writes arguments in parentheses.
     #[tactic(auto, unfolding(crate::specs::Calls::arguments))]
-    fn arguments<N: Held>(
-        &mut self,
-        format: ListFormat,
-        parent: Span,
-        args: &[ExprOrSpread<N>],
-    ) -> Answer
-        ensures items { Emits (arguments N.answers N.items format.0 parent args.now) (state_of S.lines W.sheet self.old) (state_of S.lines W.sheet self.new) result }
-        ensures level { OnOk result ((W.sheet self.new.wr).indentation ≡ (W.sheet self.old.wr).indentation) }
+    fn arguments<N: Held>(&mut self, format: ListFormat, parent: Span, args: &[ExprOrSpread<N>])
+        ensures items { Makes (arguments N.answers N.items format.0 parent args.now) (standing_of S.lines W.sheet self.old) (standing_of S.lines W.sheet self.new) }
+        ensures level { Stays (standing_of S.lines W.sheet self.old) (standing_of S.lines W.sheet self.new) }
     {
-        self.punct(Punctuator::LeftParenthesis)?;
-        self.list(format, parent, args)?;
-        self.punct(Punctuator::RightParenthesis)?;
-        Ok(())
+        self.punct(Punctuator::LeftParenthesis);
+        self.list(format, parent, args);
+        self.punct(Punctuator::RightParenthesis);
     }
 
     /// Writes `.source` or `.defer` of `import.source(a)`.
     #[tactic(auto, unfolding(crate::specs::Calls::import_phase))]
-    fn import_phase(&mut self, phase: ImportPhase) -> Answer
-        ensures items { Emits (import_phase phase) (state_of S.lines W.sheet self.old) (state_of S.lines W.sheet self.new) result }
-        ensures level { OnOk result ((W.sheet self.new.wr).indentation ≡ (W.sheet self.old.wr).indentation) }
+    fn import_phase(&mut self, phase: ImportPhase)
+        ensures items { Makes (import_phase phase) (standing_of S.lines W.sheet self.old) (standing_of S.lines W.sheet self.new) }
+        ensures level { Stays (standing_of S.lines W.sheet self.old) (standing_of S.lines W.sheet self.new) }
     {
         match phase {
-            ImportPhase::Evaluation => Ok(()),
+            ImportPhase::Evaluation => {}
             ImportPhase::Source => {
-                self.punct(Punctuator::Dot)?;
+                self.punct(Punctuator::Dot);
                 self.keyword(None, "source")
             }
             ImportPhase::Defer => {
-                self.punct(Punctuator::Dot)?;
+                self.punct(Punctuator::Dot);
                 self.keyword(None, "defer")
             }
         }
@@ -288,9 +275,9 @@ impl<W: WriteJs, S: SourceMapper, C: Comments> Emitter<'_, W, S, C> {
 
     /// Writes the blank after `new`.
     #[tactic(auto, unfolding(crate::specs::Calls::new_gap))]
-    fn new_gap(&mut self, starts: bool) -> Answer
-        ensures items { Emits (new_gap starts) (state_of S.lines W.sheet self.old) (state_of S.lines W.sheet self.new) result }
-        ensures level { OnOk result ((W.sheet self.new.wr).indentation ≡ (W.sheet self.old.wr).indentation) }
+    fn new_gap(&mut self, starts: bool)
+        ensures items { Makes (new_gap starts) (standing_of S.lines W.sheet self.old) (standing_of S.lines W.sheet self.new) }
+        ensures level { Stays (standing_of S.lines W.sheet self.old) (standing_of S.lines W.sheet self.new) }
     {
         if starts {
             self.space()
@@ -301,37 +288,31 @@ impl<W: WriteJs, S: SourceMapper, C: Comments> Emitter<'_, W, S, C> {
 
     /// Writes `()` after `new A`, unless the settings are to minify.
     #[tactic(auto, using(crate::proofs::Asked::arguments_left_out, crate::proofs::Asked::arguments_written))]
-    fn empty_arguments(&mut self) -> Answer
-        ensures items { Emits (empty_arguments) (state_of S.lines W.sheet self.old) (state_of S.lines W.sheet self.new) result }
-        ensures level { OnOk result ((W.sheet self.new.wr).indentation ≡ (W.sheet self.old.wr).indentation) }
+    fn empty_arguments(&mut self)
+        ensures items { Makes (empty_arguments) (standing_of S.lines W.sheet self.old) (standing_of S.lines W.sheet self.new) }
+        ensures level { Stays (standing_of S.lines W.sheet self.old) (standing_of S.lines W.sheet self.new) }
     {
         if self.cfg.minify {
-            return Ok(());
+            return;
         }
         self.parentheses()
     }
 
     /// Writes `()`.
     #[tactic(auto, unfolding(crate::specs::Calls::parentheses))]
-    fn parentheses(&mut self) -> Answer
-        ensures items { Emits (parentheses) (state_of S.lines W.sheet self.old) (state_of S.lines W.sheet self.new) result }
-        ensures level { OnOk result ((W.sheet self.new.wr).indentation ≡ (W.sheet self.old.wr).indentation) }
+    fn parentheses(&mut self)
+        ensures items { Makes (parentheses) (standing_of S.lines W.sheet self.old) (standing_of S.lines W.sheet self.new) }
+        ensures level { Stays (standing_of S.lines W.sheet self.old) (standing_of S.lines W.sheet self.new) }
     {
-        self.punct(Punctuator::LeftParenthesis)?;
-        self.punct(Punctuator::RightParenthesis)?;
-        Ok(())
+        self.punct(Punctuator::LeftParenthesis);
+        self.punct(Punctuator::RightParenthesis);
     }
 
     /// Writes the arguments of `new`, where they are in parentheses.
     #[tactic(auto, unfolding(crate::specs::Calls::listed_arguments))]
-    fn listed_arguments<N: Held>(
-        &mut self,
-        parent: Span,
-        keeps: bool,
-        args: &[ExprOrSpread<N>],
-    ) -> Answer
-        ensures items { Emits (listed_arguments N.answers N.items parent keeps args.now) (state_of S.lines W.sheet self.old) (state_of S.lines W.sheet self.new) result }
-        ensures level { OnOk result ((W.sheet self.new.wr).indentation ≡ (W.sheet self.old.wr).indentation) }
+    fn listed_arguments<N: Held>(&mut self, parent: Span, keeps: bool, args: &[ExprOrSpread<N>])
+        ensures items { Makes (listed_arguments N.answers N.items parent keeps args.now) (standing_of S.lines W.sheet self.old) (standing_of S.lines W.sheet self.new) }
+        ensures level { Stays (standing_of S.lines W.sheet self.old) (standing_of S.lines W.sheet self.new) }
     {
         match (keeps, args) {
             (false, []) => self.empty_arguments(),
@@ -346,25 +327,24 @@ impl<W: WriteJs, S: SourceMapper, C: Comments> Emitter<'_, W, S, C> {
         parent: Span,
         keeps: bool,
         args: &Option<Vec<ExprOrSpread<N>>>,
-    ) -> Answer
-        ensures items { Emits (new_arguments N.answers N.items parent keeps args.now) (state_of S.lines W.sheet self.old) (state_of S.lines W.sheet self.new) result }
-        ensures level { OnOk result ((W.sheet self.new.wr).indentation ≡ (W.sheet self.old.wr).indentation) }
+    )
+        ensures items { Makes (new_arguments N.answers N.items parent keeps args.now) (standing_of S.lines W.sheet self.old) (standing_of S.lines W.sheet self.new) }
+        ensures level { Stays (standing_of S.lines W.sheet self.old) (standing_of S.lines W.sheet self.new) }
     {
         match args {
             Some(args) => self.listed_arguments(parent, keeps, args),
-            None => Ok(()),
+            None => {}
         }
     }
 
     /// Writes `?.` before the arguments of a call in an optional chain.
     #[tactic(auto, unfolding(crate::specs::Calls::call_mark))]
-    fn call_mark(&mut self, optional: bool) -> Answer
-        ensures items { Emits (call_mark optional) (state_of S.lines W.sheet self.old) (state_of S.lines W.sheet self.new) result }
-        ensures level { OnOk result ((W.sheet self.new.wr).indentation ≡ (W.sheet self.old.wr).indentation) }
+    fn call_mark(&mut self, optional: bool)
+        ensures items { Makes (call_mark optional) (standing_of S.lines W.sheet self.old) (standing_of S.lines W.sheet self.new) }
+        ensures level { Stays (standing_of S.lines W.sheet self.old) (standing_of S.lines W.sheet self.new) }
     {
         if optional {
             return self.punct(Punctuator::QuestionDot);
         }
-        Ok(())
     }
 }

@@ -1,15 +1,13 @@
 //! Members, optional chains, and properties of `super`.
 
-ghost use Rattle.std.specs.Prelude.{◌≡◌, OnOk};
-ghost use Rattle.swc_ecma_codegen_base.specs.Run.{Emits};
+ghost use Rattle.std.specs.Prelude.{◌≡◌};
+ghost use Rattle.swc_ecma_codegen.specs.Standing.{Makes, Stays, standing_of};
 ghost use Rattle.swc_ecma_codegen.specs.Exprs.{member, member_prop, member_at, object_place, chain_mark, chain_prop, chain_member, opt_chain, super_prop, super_prop_expr};
-ghost use Rattle.swc_ecma_codegen.specs.View.{state_of};
 
 use crate::emitter::Emitter;
 use crate::nodes::{EmitAt, Held, Place};
 use swc_ecma_codegen_ast::comments::Comments;
 use swc_ecma_codegen_ast::mapper::SourceMapper;
-use swc_ecma_codegen_common::Answer;
 use swc_ecma_codegen_literals::Punctuator;
 use swc_ecma_codegen_text_writer::WriteJs;
 use swc_ecma_codegen_tree::{
@@ -36,8 +34,8 @@ impl<N: Held> EmitAt for OptChainExpr<N> {
         &self,
         e: &mut Emitter<'_, W, S, C>,
         place: Place,
-    ) -> Answer {
-        e.leading_comments(self.span.lo)?;
+    ) {
+        e.leading_comments(self.span.lo);
         match &self.base {
             OptChainBase::Member(node) => node.held().emit_at(e, Place::Chain(self.optional)),
             OptChainBase::Call(node) => node.held().emit_at(e, Place::Chain(self.optional)),
@@ -54,15 +52,14 @@ impl<N: Held> EmitAt for MemberExpr<N> {
         &self,
         e: &mut Emitter<'_, W, S, C>,
         place: Place,
-    ) -> Answer {
+    ) {
         if let Place::Chain(optional) = place {
             return e.chain_member(self, optional);
         }
-        e.opened(self.span)?;
-        self.obj.held().emit_at(e, object_place(&self.prop))?;
-        e.member_prop(&self.prop)?;
-        e.end_of(self.span)?;
-        Ok(())
+        e.opened(self.span);
+        self.obj.held().emit_at(e, object_place(&self.prop));
+        e.member_prop(&self.prop);
+        e.end_of(self.span);
     }
 }
 
@@ -74,31 +71,30 @@ impl<N: Held> EmitAt for SuperPropExpr<N> {
         &self,
         e: &mut Emitter<'_, W, S, C>,
         place: Place,
-    ) -> Answer {
-        e.opened(self.span)?;
-        self.obj.emit_at(e, Place::Plain)?;
-        e.super_prop(&self.prop)?;
-        Ok(())
+    ) {
+        e.opened(self.span);
+        self.obj.emit_at(e, Place::Plain);
+        e.super_prop(&self.prop);
     }
 }
 
 impl<W: WriteJs, S: SourceMapper, C: Comments> Emitter<'_, W, S, C> {
     /// Writes `.b` or `[b]`.
     #[tactic(auto, unfolding(crate::specs::Exprs::member_prop))]
-    fn member_prop<N: Held>(&mut self, prop: &MemberProp<N>) -> Answer
-        ensures items { Emits (member_prop N.items prop.now) (state_of S.lines W.sheet self.old) (state_of S.lines W.sheet self.new) result }
-        ensures level { OnOk result ((W.sheet self.new.wr).indentation ≡ (W.sheet self.old.wr).indentation) }
+    fn member_prop<N: Held>(&mut self, prop: &MemberProp<N>)
+        ensures items { Makes (member_prop N.items prop.now) (standing_of S.lines W.sheet self.old) (standing_of S.lines W.sheet self.new) }
+        ensures level { Stays (standing_of S.lines W.sheet self.old) (standing_of S.lines W.sheet self.new) }
     {
         match prop {
             MemberProp::Ident(name) => {
-                self.comments_before(name.span.lo)?;
-                self.punct(Punctuator::Dot)?;
+                self.comments_before(name.span.lo);
+                self.punct(Punctuator::Dot);
                 name.emit_at(self, Place::Plain)
             }
             MemberProp::Computed(name) => name.emit_at(self, Place::Plain),
             MemberProp::PrivateName(name) => {
-                self.comments_before(name.span.lo)?;
-                self.punct(Punctuator::Dot)?;
+                self.comments_before(name.span.lo);
+                self.punct(Punctuator::Dot);
                 name.emit_at(self, Place::Plain)
             }
         }
@@ -106,14 +102,14 @@ impl<W: WriteJs, S: SourceMapper, C: Comments> Emitter<'_, W, S, C> {
 
     /// Writes `.a` or `[a]` after `super`.
     #[tactic(auto, unfolding(crate::specs::Exprs::super_prop))]
-    fn super_prop<N: Held>(&mut self, prop: &SuperProp<N>) -> Answer
-        ensures items { Emits (super_prop N.items prop.now) (state_of S.lines W.sheet self.old) (state_of S.lines W.sheet self.new) result }
-        ensures level { OnOk result ((W.sheet self.new.wr).indentation ≡ (W.sheet self.old.wr).indentation) }
+    fn super_prop<N: Held>(&mut self, prop: &SuperProp<N>)
+        ensures items { Makes (super_prop N.items prop.now) (standing_of S.lines W.sheet self.old) (standing_of S.lines W.sheet self.new) }
+        ensures level { Stays (standing_of S.lines W.sheet self.old) (standing_of S.lines W.sheet self.new) }
     {
         match prop {
             SuperProp::Ident(name) => {
-                self.comments_before(name.span.lo)?;
-                self.punct(Punctuator::Dot)?;
+                self.comments_before(name.span.lo);
+                self.punct(Punctuator::Dot);
                 name.emit_at(self, Place::Plain)
             }
             SuperProp::Computed(name) => name.emit_at(self, Place::Plain),
@@ -122,34 +118,33 @@ impl<W: WriteJs, S: SourceMapper, C: Comments> Emitter<'_, W, S, C> {
 
     /// Writes `a?.b` or `a?.[b]`; `a.b` or `a[b]` where `?.` stands further to the left.
     #[tactic(auto, unfolding(crate::specs::Exprs::chain_member))]
-    fn chain_member<N: Held>(&mut self, node: &MemberExpr<N>, optional: bool) -> Answer
-        ensures items { Emits (chain_member N.items optional node.now) (state_of S.lines W.sheet self.old) (state_of S.lines W.sheet self.new) result }
-        ensures level { OnOk result ((W.sheet self.new.wr).indentation ≡ (W.sheet self.old.wr).indentation) }
+    fn chain_member<N: Held>(&mut self, node: &MemberExpr<N>, optional: bool)
+        ensures items { Makes (chain_member N.items optional node.now) (standing_of S.lines W.sheet self.old) (standing_of S.lines W.sheet self.new) }
+        ensures level { Stays (standing_of S.lines W.sheet self.old) (standing_of S.lines W.sheet self.new) }
     {
-        node.obj.held().emit_at(self, Place::Callee)?;
-        self.chain_mark(optional, &node.prop)?;
-        self.chain_prop(&node.prop)?;
-        Ok(())
+        node.obj.held().emit_at(self, Place::Callee);
+        self.chain_mark(optional, &node.prop);
+        self.chain_prop(&node.prop);
     }
 
     /// Writes `?.` or `.` before a property, or nothing before brackets.
     #[tactic(auto, unfolding(crate::specs::Exprs::chain_mark))]
-    fn chain_mark<N>(&mut self, optional: bool, prop: &MemberProp<N>) -> Answer
-        ensures items { Emits (chain_mark optional prop.now) (state_of S.lines W.sheet self.old) (state_of S.lines W.sheet self.new) result }
-        ensures level { OnOk result ((W.sheet self.new.wr).indentation ≡ (W.sheet self.old.wr).indentation) }
+    fn chain_mark<N>(&mut self, optional: bool, prop: &MemberProp<N>)
+        ensures items { Makes (chain_mark optional prop.now) (standing_of S.lines W.sheet self.old) (standing_of S.lines W.sheet self.new) }
+        ensures level { Stays (standing_of S.lines W.sheet self.old) (standing_of S.lines W.sheet self.new) }
     {
         match (optional, prop) {
             (true, _) => self.punct(Punctuator::QuestionDot),
-            (false, MemberProp::Computed(_)) => Ok(()),
+            (false, MemberProp::Computed(_)) => {}
             (false, _) => self.punct(Punctuator::Dot),
         }
     }
 
     /// Writes a property of an optional chain.
     #[tactic(auto, unfolding(crate::specs::Exprs::chain_prop))]
-    fn chain_prop<N: Held>(&mut self, prop: &MemberProp<N>) -> Answer
-        ensures items { Emits (chain_prop N.items prop.now) (state_of S.lines W.sheet self.old) (state_of S.lines W.sheet self.new) result }
-        ensures level { OnOk result ((W.sheet self.new.wr).indentation ≡ (W.sheet self.old.wr).indentation) }
+    fn chain_prop<N: Held>(&mut self, prop: &MemberProp<N>)
+        ensures items { Makes (chain_prop N.items prop.now) (standing_of S.lines W.sheet self.old) (standing_of S.lines W.sheet self.new) }
+        ensures level { Stays (standing_of S.lines W.sheet self.old) (standing_of S.lines W.sheet self.new) }
     {
         match prop {
             MemberProp::Ident(name) => name.emit_at(self, Place::Plain),

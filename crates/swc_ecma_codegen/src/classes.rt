@@ -1,11 +1,10 @@
 //! Classes and their members.
 
-ghost use Rattle.std.specs.Prelude.{◌≡◌, OnOk, codes};
-ghost use Rattle.swc_ecma_codegen_base.specs.Run.{Emits};
+ghost use Rattle.std.specs.Prelude.{◌≡◌, codes};
+ghost use Rattle.swc_ecma_codegen.specs.Standing.{Makes, Stays, standing_of};
 ghost use Rattle.swc_ecma_codegen_ast.specs.ClassPhrases.{is_typed_class, is_typed_prop, is_typed_private, is_typed_accessor};
 ghost use Rattle.swc_ecma_codegen.specs.ClassExprs.{class_expr};
 ghost use Rattle.swc_ecma_codegen.specs.Classes.{class_members_format, heritage, member_list, class, class_tail, class_decl, constructor_param, constructor_param_place, constructor_params, constructor_body, constructor_tail, constructor_word, class_constructor, static_word, accessor_word, method_word, method_kind, class_method, private_kind, private_method, wrapped, prop_value, class_prop, private_decorators, private_prop_tail, private_prop, accessor_key, accessor_decorators, accessor_tail, auto_accessor, static_block, empty_member, class_member};
-ghost use Rattle.swc_ecma_codegen.specs.View.{state_of};
 
 use crate::blocks::is_some_listed;
 use crate::emitter::Emitter;
@@ -14,7 +13,7 @@ use crate::nodes::{AskBlock, AskPlace, AskStarts, Child, EmitAt, Held, Place};
 use swc_ecma_codegen_ast::ListFormat;
 use swc_ecma_codegen_ast::comments::Comments;
 use swc_ecma_codegen_ast::mapper::SourceMapper;
-use swc_ecma_codegen_common::{Answer, Span};
+use swc_ecma_codegen_common::Span;
 use swc_ecma_codegen_literals::Punctuator;
 use swc_ecma_codegen_text_writer::WriteJs;
 use swc_ecma_codegen_tree::{
@@ -85,19 +84,18 @@ impl<N: Held> EmitAt for ClassDecl<N> {
         &self,
         e: &mut Emitter<'_, W, S, C>,
         place: Place,
-    ) -> Answer {
+    ) {
         if self.declare {
             return e.unsupported();
         }
         let span = self.class.held().place();
-        e.leading_comments(span.lo)?;
-        e.start_of(span)?;
-        self.class.held().emit_at(e, Place::ClassHead)?;
-        e.keyword(None, "class")?;
-        e.space()?;
-        self.ident.emit_at(e, Place::Plain)?;
-        self.class.held().emit_at(e, Place::Plain)?;
-        Ok(())
+        e.leading_comments(span.lo);
+        e.start_of(span);
+        self.class.held().emit_at(e, Place::ClassHead);
+        e.keyword(None, "class");
+        e.space();
+        self.ident.emit_at(e, Place::Plain);
+        self.class.held().emit_at(e, Place::Plain);
     }
 }
 
@@ -109,15 +107,14 @@ impl<N: Held> EmitAt for ClassExpr<N> {
         &self,
         e: &mut Emitter<'_, W, S, C>,
         place: Place,
-    ) -> Answer {
+    ) {
         let span = self.class.held().place();
-        e.leading_comments(span.lo)?;
-        e.start_of(span)?;
-        self.class.held().emit_at(e, Place::ClassHead)?;
-        e.keyword(None, "class")?;
-        e.optional_name(&self.ident)?;
-        self.class.held().emit_at(e, Place::Plain)?;
-        Ok(())
+        e.leading_comments(span.lo);
+        e.start_of(span);
+        self.class.held().emit_at(e, Place::ClassHead);
+        e.keyword(None, "class");
+        e.optional_name(&self.ident);
+        self.class.held().emit_at(e, Place::Plain);
     }
 }
 
@@ -129,7 +126,7 @@ impl<N: Held> EmitAt for Class<N> {
         &self,
         e: &mut Emitter<'_, W, S, C>,
         place: Place,
-    ) -> Answer {
+    ) {
         match place {
             Place::ClassHead => e.decorator_lines(&self.decorators),
             _ => e.class_trailing(self),
@@ -145,7 +142,7 @@ impl<N: Held> EmitAt for ClassMember<N> {
         &self,
         e: &mut Emitter<'_, W, S, C>,
         place: Place,
-    ) -> Answer {
+    ) {
         match self {
             ClassMember::Constructor(node) => node.emit_at(e, Place::Plain),
             ClassMember::Method(node) => node.emit_at(e, Place::Plain),
@@ -168,16 +165,15 @@ impl<N: Held> EmitAt for AutoAccessor<N> {
         &self,
         e: &mut Emitter<'_, W, S, C>,
         place: Place,
-    ) -> Answer {
+    ) {
         if is_typed_accessor(self) {
             return e.unsupported();
         }
-        e.accessor_decorators(self)?;
-        e.static_word(self.is_static)?;
-        e.keyword(None, "accessor")?;
-        e.space()?;
-        e.accessor_tail(self)?;
-        Ok(())
+        e.accessor_decorators(self);
+        e.static_word(self.is_static);
+        e.keyword(None, "accessor");
+        e.space();
+        e.accessor_tail(self);
     }
 }
 
@@ -189,7 +185,7 @@ impl<N: Held> EmitAt for Key<N> {
         &self,
         e: &mut Emitter<'_, W, S, C>,
         place: Place,
-    ) -> Answer {
+    ) {
         match self {
             Key::Public(node) => node.held().emit_at(e, Place::Plain),
             Key::Private(node) => node.emit_at(e, Place::Plain),
@@ -205,7 +201,7 @@ impl<N: Held> EmitAt for PrivateMethod<N> {
         &self,
         e: &mut Emitter<'_, W, S, C>,
         place: Place,
-    ) -> Answer {
+    ) {
         if self.accessibility.is_some()
             || self.is_abstract
             || self.is_optional
@@ -213,14 +209,13 @@ impl<N: Held> EmitAt for PrivateMethod<N> {
         {
             return e.unsupported();
         }
-        e.leading_comments(self.span.lo)?;
-        e.start_of(self.span)?;
-        self.function.held().emit_at(e, Place::MethodDecorators)?;
-        e.static_word(self.is_static)?;
-        e.private_kind(self)?;
-        self.key.emit_at(e, Place::Plain)?;
-        self.function.held().emit_at(e, Place::PrivateTail)?;
-        Ok(())
+        e.leading_comments(self.span.lo);
+        e.start_of(self.span);
+        self.function.held().emit_at(e, Place::MethodDecorators);
+        e.static_word(self.is_static);
+        e.private_kind(self);
+        self.key.emit_at(e, Place::Plain);
+        self.function.held().emit_at(e, Place::PrivateTail);
     }
 }
 
@@ -232,7 +227,7 @@ impl<N: Held> EmitAt for ClassMethod<N> {
         &self,
         e: &mut Emitter<'_, W, S, C>,
         place: Place,
-    ) -> Answer {
+    ) {
         if self.accessibility.is_some()
             || self.is_abstract
             || self.is_optional
@@ -240,14 +235,13 @@ impl<N: Held> EmitAt for ClassMethod<N> {
         {
             return e.unsupported();
         }
-        e.leading_comments(self.span.lo)?;
-        e.leading_comments(self.key.held().place().lo)?;
-        e.start_of(self.span)?;
-        self.function.held().emit_at(e, Place::MethodDecorators)?;
-        e.method_kind(self)?;
-        self.key.held().emit_at(e, Place::Plain)?;
-        self.function.held().emit_at(e, Place::MethodTail)?;
-        Ok(())
+        e.leading_comments(self.span.lo);
+        e.leading_comments(self.key.held().place().lo);
+        e.start_of(self.span);
+        self.function.held().emit_at(e, Place::MethodDecorators);
+        e.method_kind(self);
+        self.key.held().emit_at(e, Place::Plain);
+        self.function.held().emit_at(e, Place::MethodTail);
     }
 }
 
@@ -259,16 +253,15 @@ impl<N: Held> EmitAt for PrivateProp<N> {
         &self,
         e: &mut Emitter<'_, W, S, C>,
         place: Place,
-    ) -> Answer {
+    ) {
         if is_typed_private(self) {
             return e.unsupported();
         }
-        e.leading_comments(self.span.lo)?;
-        e.start_of(self.span)?;
-        e.private_decorators(self)?;
-        e.static_word(self.is_static)?;
-        e.private_prop_tail(self)?;
-        Ok(())
+        e.leading_comments(self.span.lo);
+        e.start_of(self.span);
+        e.private_decorators(self);
+        e.static_word(self.is_static);
+        e.private_prop_tail(self);
     }
 }
 
@@ -280,19 +273,18 @@ impl<N: Held> EmitAt for ClassProp<N> {
         &self,
         e: &mut Emitter<'_, W, S, C>,
         place: Place,
-    ) -> Answer {
+    ) {
         if is_typed_prop(self) {
             return e.unsupported();
         }
-        e.leading_comments(self.span.lo)?;
-        e.start_of(self.span)?;
-        e.decorator_lines(&self.decorators)?;
-        e.static_word(self.is_static)?;
-        self.key.held().emit_at(e, Place::Plain)?;
-        e.prop_value(&self.value)?;
-        e.semi()?;
-        e.end_of(self.span)?;
-        Ok(())
+        e.leading_comments(self.span.lo);
+        e.start_of(self.span);
+        e.decorator_lines(&self.decorators);
+        e.static_word(self.is_static);
+        self.key.held().emit_at(e, Place::Plain);
+        e.prop_value(&self.value);
+        e.semi();
+        e.end_of(self.span);
     }
 }
 
@@ -304,15 +296,14 @@ impl<N: Held> EmitAt for Constructor<N> {
         &self,
         e: &mut Emitter<'_, W, S, C>,
         place: Place,
-    ) -> Answer {
+    ) {
         if self.accessibility.is_some() {
             return e.unsupported();
         }
-        e.leading_comments(self.span.lo)?;
-        e.start_of(self.span)?;
-        e.constructor_word()?;
-        e.constructor_tail(self)?;
-        Ok(())
+        e.leading_comments(self.span.lo);
+        e.start_of(self.span);
+        e.constructor_word();
+        e.constructor_tail(self);
     }
 }
 
@@ -324,7 +315,7 @@ impl<N: Held> EmitAt for ParamOrTsParamProp<N> {
         &self,
         e: &mut Emitter<'_, W, S, C>,
         place: Place,
-    ) -> Answer {
+    ) {
         match self {
             ParamOrTsParamProp::Param(node) => node.emit_at(e, Place::Plain),
             ParamOrTsParamProp::TsParamProp(_) => e.unsupported(),
@@ -352,208 +343,198 @@ impl<N: Held> EmitAt for StaticBlock<N> {
         &self,
         e: &mut Emitter<'_, W, S, C>,
         place: Place,
-    ) -> Answer {
-        e.leading_comments(self.span.lo)?;
-        e.start_of(self.span)?;
-        e.keyword(None, "static")?;
-        self.body.held().emit_at(e, Place::Plain)?;
-        e.end_of(self.span)?;
-        Ok(())
+    ) {
+        e.leading_comments(self.span.lo);
+        e.start_of(self.span);
+        e.keyword(None, "static");
+        self.body.held().emit_at(e, Place::Plain);
+        e.end_of(self.span);
     }
 }
 
 impl<W: WriteJs, S: SourceMapper, C: Comments> Emitter<'_, W, S, C> {
     /// Writes `extends A { b; }`. swc's `emit_class_trailing`.
     #[tactic(auto, unfolding(crate::specs::Classes::class_tail, crate::specs::Classes::class_trailing))]
-    fn class_trailing<N: Held>(&mut self, node: &Class<N>) -> Answer
-        ensures items { Emits (class_tail N.answers N.items node.now) (state_of S.lines W.sheet self.old) (state_of S.lines W.sheet self.new) result }
-        ensures level { OnOk result ((W.sheet self.new.wr).indentation ≡ (W.sheet self.old.wr).indentation) }
+    fn class_trailing<N: Held>(&mut self, node: &Class<N>)
+        ensures items { Makes (class_tail N.answers N.items node.now) (standing_of S.lines W.sheet self.old) (standing_of S.lines W.sheet self.new) }
+        ensures level { Stays (standing_of S.lines W.sheet self.old) (standing_of S.lines W.sheet self.new) }
     {
         if is_typed_class(node) {
             return self.unsupported();
         }
-        self.heritage(&node.super_class)?;
-        self.formatting_space()?;
-        self.punct(Punctuator::LeftBrace)?;
-        self.member_list(node)?;
-        self.last_of(node.span)?;
-        self.punct(Punctuator::RightBrace)?;
-        Ok(())
+        self.heritage(&node.super_class);
+        self.formatting_space();
+        self.punct(Punctuator::LeftBrace);
+        self.member_list(node);
+        self.last_of(node.span);
+        self.punct(Punctuator::RightBrace);
     }
 
     /// Writes `extends A`, where it is so.
     #[tactic(auto, unfolding(crate::specs::Classes::heritage))]
-    fn heritage<N: Held>(&mut self, super_class: &Option<ExprBox<N>>) -> Answer
-        ensures items { Emits (heritage N.answers N.items super_class.now) (state_of S.lines W.sheet self.old) (state_of S.lines W.sheet self.new) result }
-        ensures level { OnOk result ((W.sheet self.new.wr).indentation ≡ (W.sheet self.old.wr).indentation) }
+    fn heritage<N: Held>(&mut self, super_class: &Option<ExprBox<N>>)
+        ensures items { Makes (heritage N.answers N.items super_class.now) (standing_of S.lines W.sheet self.old) (standing_of S.lines W.sheet self.new) }
+        ensures level { Stays (standing_of S.lines W.sheet self.old) (standing_of S.lines W.sheet self.new) }
     {
         match super_class {
             Some(super_class) => {
-                self.space()?;
-                self.keyword(None, "extends")?;
-                self.blank(super_class.held().starts())?;
+                self.space();
+                self.keyword(None, "extends");
+                self.blank(super_class.held().starts());
                 super_class.held().emit_at(self, Place::Plain)
             }
-            None => Ok(()),
+            None => {}
         }
     }
 
     /// Writes the members of a class.
-    fn member_list<N: Held>(&mut self, node: &Class<N>) -> Answer
-        ensures items { Emits (member_list N.answers N.items node.now) (state_of S.lines W.sheet self.old) (state_of S.lines W.sheet self.new) result }
-        ensures level { OnOk result ((W.sheet self.new.wr).indentation ≡ (W.sheet self.old.wr).indentation) }
+    fn member_list<N: Held>(&mut self, node: &Class<N>)
+        ensures items { Makes (member_list N.answers N.items node.now) (standing_of S.lines W.sheet self.old) (standing_of S.lines W.sheet self.new) }
+        ensures level { Stays (standing_of S.lines W.sheet self.old) (standing_of S.lines W.sheet self.new) }
     {
         self.list(class_members_format(), node.span, &node.body)
     }
 
     /// Writes the parameters of a constructor, with commas between.
-    fn constructor_params<N: Held>(&mut self, node: &Constructor<N>) -> Answer
-        ensures items { Emits (constructor_params N.items node.now) (state_of S.lines W.sheet self.old) (state_of S.lines W.sheet self.new) result }
-        ensures level { OnOk result ((W.sheet self.new.wr).indentation ≡ (W.sheet self.old.wr).indentation) }
+    fn constructor_params<N: Held>(&mut self, node: &Constructor<N>)
+        ensures items { Makes (constructor_params N.items node.now) (standing_of S.lines W.sheet self.old) (standing_of S.lines W.sheet self.new) }
+        ensures level { Stays (standing_of S.lines W.sheet self.old) (standing_of S.lines W.sheet self.new) }
     {
         self.list(comma_list_format(), node.span, &node.params)
     }
 
     /// Writes `constructor`.
     #[tactic(auto, unfolding(crate::specs::Classes::constructor_word))]
-    fn constructor_word(&mut self) -> Answer
-        ensures items { Emits constructor_word (state_of S.lines W.sheet self.old) (state_of S.lines W.sheet self.new) result }
-        ensures level { OnOk result ((W.sheet self.new.wr).indentation ≡ (W.sheet self.old.wr).indentation) }
+    fn constructor_word(&mut self)
+        ensures items { Makes constructor_word (standing_of S.lines W.sheet self.old) (standing_of S.lines W.sheet self.new) }
+        ensures level { Stays (standing_of S.lines W.sheet self.old) (standing_of S.lines W.sheet self.new) }
     {
         self.keyword(None, "constructor")
     }
 
     /// Writes `(a){ b; }` of a constructor.
     #[tactic(auto, unfolding(crate::specs::Classes::constructor_tail))]
-    fn constructor_tail<N: Held>(&mut self, node: &Constructor<N>) -> Answer
-        ensures items { Emits (constructor_tail N.items node.now) (state_of S.lines W.sheet self.old) (state_of S.lines W.sheet self.new) result }
-        ensures level { OnOk result ((W.sheet self.new.wr).indentation ≡ (W.sheet self.old.wr).indentation) }
+    fn constructor_tail<N: Held>(&mut self, node: &Constructor<N>)
+        ensures items { Makes (constructor_tail N.items node.now) (standing_of S.lines W.sheet self.old) (standing_of S.lines W.sheet self.new) }
+        ensures level { Stays (standing_of S.lines W.sheet self.old) (standing_of S.lines W.sheet self.new) }
     {
-        self.punct(Punctuator::LeftParenthesis)?;
-        self.constructor_params(node)?;
-        self.punct(Punctuator::RightParenthesis)?;
-        self.constructor_body(&node.body)?;
-        Ok(())
+        self.punct(Punctuator::LeftParenthesis);
+        self.constructor_params(node);
+        self.punct(Punctuator::RightParenthesis);
+        self.constructor_body(&node.body);
     }
 
     /// Writes the decorators of a field with `accessor`.
-    fn accessor_decorators<N: Held>(&mut self, node: &AutoAccessor<N>) -> Answer
-        ensures items { Emits (accessor_decorators N.items node.now) (state_of S.lines W.sheet self.old) (state_of S.lines W.sheet self.new) result }
-        ensures level { OnOk result ((W.sheet self.new.wr).indentation ≡ (W.sheet self.old.wr).indentation) }
+    fn accessor_decorators<N: Held>(&mut self, node: &AutoAccessor<N>)
+        ensures items { Makes (accessor_decorators N.items node.now) (standing_of S.lines W.sheet self.old) (standing_of S.lines W.sheet self.new) }
+        ensures level { Stays (standing_of S.lines W.sheet self.old) (standing_of S.lines W.sheet self.new) }
     {
         self.list(decorators_format(), node.span, &node.decorators)
     }
 
     /// Writes `b = c;` of a field with `accessor`.
     #[tactic(auto, unfolding(crate::specs::Classes::accessor_tail))]
-    fn accessor_tail<N: Held>(&mut self, node: &AutoAccessor<N>) -> Answer
-        ensures items { Emits (accessor_tail N.items node.now) (state_of S.lines W.sheet self.old) (state_of S.lines W.sheet self.new) result }
-        ensures level { OnOk result ((W.sheet self.new.wr).indentation ≡ (W.sheet self.old.wr).indentation) }
+    fn accessor_tail<N: Held>(&mut self, node: &AutoAccessor<N>)
+        ensures items { Makes (accessor_tail N.items node.now) (standing_of S.lines W.sheet self.old) (standing_of S.lines W.sheet self.new) }
+        ensures level { Stays (standing_of S.lines W.sheet self.old) (standing_of S.lines W.sheet self.new) }
     {
-        node.key.emit_at(self, Place::Plain)?;
-        self.initializer(&node.value)?;
-        self.semi()?;
-        Ok(())
+        node.key.emit_at(self, Place::Plain);
+        self.initializer(&node.value);
+        self.semi();
     }
 
     /// Writes the decorators of a private field.
-    fn private_decorators<N: Held>(&mut self, node: &PrivateProp<N>) -> Answer
-        ensures items { Emits (private_decorators N.items node.now) (state_of S.lines W.sheet self.old) (state_of S.lines W.sheet self.new) result }
-        ensures level { OnOk result ((W.sheet self.new.wr).indentation ≡ (W.sheet self.old.wr).indentation) }
+    fn private_decorators<N: Held>(&mut self, node: &PrivateProp<N>)
+        ensures items { Makes (private_decorators N.items node.now) (standing_of S.lines W.sheet self.old) (standing_of S.lines W.sheet self.new) }
+        ensures level { Stays (standing_of S.lines W.sheet self.old) (standing_of S.lines W.sheet self.new) }
     {
         self.list(decorators_format(), node.span, &node.decorators)
     }
 
     /// Writes `#b = c;`
     #[tactic(auto, unfolding(crate::specs::Classes::private_prop_tail))]
-    fn private_prop_tail<N: Held>(&mut self, node: &PrivateProp<N>) -> Answer
-        ensures items { Emits (private_prop_tail N.answers N.items node.now) (state_of S.lines W.sheet self.old) (state_of S.lines W.sheet self.new) result }
-        ensures level { OnOk result ((W.sheet self.new.wr).indentation ≡ (W.sheet self.old.wr).indentation) }
+    fn private_prop_tail<N: Held>(&mut self, node: &PrivateProp<N>)
+        ensures items { Makes (private_prop_tail N.answers N.items node.now) (standing_of S.lines W.sheet self.old) (standing_of S.lines W.sheet self.new) }
+        ensures level { Stays (standing_of S.lines W.sheet self.old) (standing_of S.lines W.sheet self.new) }
     {
-        node.key.emit_at(self, Place::Plain)?;
-        self.prop_value(&node.value)?;
-        self.semi()?;
-        self.end_of(node.span)?;
-        Ok(())
+        node.key.emit_at(self, Place::Plain);
+        self.prop_value(&node.value);
+        self.semi();
+        self.end_of(node.span);
     }
 
     /// Writes `;` as a member.
     #[tactic(auto, unfolding(crate::specs::Classes::empty_member))]
-    fn empty_member(&mut self, node: &EmptyStmt) -> Answer
-        ensures items { Emits (empty_member node.now) (state_of S.lines W.sheet self.old) (state_of S.lines W.sheet self.new) result }
-        ensures level { OnOk result ((W.sheet self.new.wr).indentation ≡ (W.sheet self.old.wr).indentation) }
+    fn empty_member(&mut self, node: &EmptyStmt)
+        ensures items { Makes (empty_member node.now) (standing_of S.lines W.sheet self.old) (standing_of S.lines W.sheet self.new) }
+        ensures level { Stays (standing_of S.lines W.sheet self.old) (standing_of S.lines W.sheet self.new) }
     {
-        self.leading_comments(node.span.lo)?;
-        self.punct(Punctuator::Semicolon)?;
-        Ok(())
+        self.leading_comments(node.span.lo);
+        self.punct(Punctuator::Semicolon);
     }
 
     /// Writes `static` and a blank, where it is so.
     #[tactic(auto, unfolding(crate::specs::Classes::static_word))]
-    fn static_word(&mut self, wanted: bool) -> Answer
-        ensures items { Emits (static_word wanted) (state_of S.lines W.sheet self.old) (state_of S.lines W.sheet self.new) result }
-        ensures level { OnOk result ((W.sheet self.new.wr).indentation ≡ (W.sheet self.old.wr).indentation) }
+    fn static_word(&mut self, wanted: bool)
+        ensures items { Makes (static_word wanted) (standing_of S.lines W.sheet self.old) (standing_of S.lines W.sheet self.new) }
+        ensures level { Stays (standing_of S.lines W.sheet self.old) (standing_of S.lines W.sheet self.new) }
     {
         if wanted {
-            self.keyword(None, "static")?;
-            self.space()?;
+            self.keyword(None, "static");
+            self.space();
         }
-        Ok(())
     }
 
     /// Writes `get` and the blank after it.
     #[tactic(auto, unfolding(crate::specs::Classes::accessor_word))]
-    fn getter_word(&mut self, starts: bool) -> Answer
-        ensures items { Emits (accessor_word (codes "get") starts) (state_of S.lines W.sheet self.old) (state_of S.lines W.sheet self.new) result }
-        ensures level { OnOk result ((W.sheet self.new.wr).indentation ≡ (W.sheet self.old.wr).indentation) }
+    fn getter_word(&mut self, starts: bool)
+        ensures items { Makes (accessor_word (codes "get") starts) (standing_of S.lines W.sheet self.old) (standing_of S.lines W.sheet self.new) }
+        ensures level { Stays (standing_of S.lines W.sheet self.old) (standing_of S.lines W.sheet self.new) }
     {
-        self.keyword(None, "get")?;
-        self.blank(starts)?;
-        Ok(())
+        self.keyword(None, "get");
+        self.blank(starts);
     }
 
     /// Writes `set` and the blank after it.
     #[tactic(auto, unfolding(crate::specs::Classes::accessor_word))]
-    fn setter_word(&mut self, starts: bool) -> Answer
-        ensures items { Emits (accessor_word (codes "set") starts) (state_of S.lines W.sheet self.old) (state_of S.lines W.sheet self.new) result }
-        ensures level { OnOk result ((W.sheet self.new.wr).indentation ≡ (W.sheet self.old.wr).indentation) }
+    fn setter_word(&mut self, starts: bool)
+        ensures items { Makes (accessor_word (codes "set") starts) (standing_of S.lines W.sheet self.old) (standing_of S.lines W.sheet self.new) }
+        ensures level { Stays (standing_of S.lines W.sheet self.old) (standing_of S.lines W.sheet self.new) }
     {
-        self.keyword(None, "set")?;
-        self.blank(starts)?;
-        Ok(())
+        self.keyword(None, "set");
+        self.blank(starts);
     }
 
     /// Writes `async *` of a method, behind `static` where it is so.
     #[tactic(auto, unfolding(crate::specs::Classes::method_word))]
-    fn method_word<N: Held>(&mut self, node: &ClassMethod<N>) -> Answer
-        ensures items { Emits (method_word N.answers N.items node.now) (state_of S.lines W.sheet self.old) (state_of S.lines W.sheet self.new) result }
-        ensures level { OnOk result ((W.sheet self.new.wr).indentation ≡ (W.sheet self.old.wr).indentation) }
+    fn method_word<N: Held>(&mut self, node: &ClassMethod<N>)
+        ensures items { Makes (method_word N.answers N.items node.now) (standing_of S.lines W.sheet self.old) (standing_of S.lines W.sheet self.new) }
+        ensures level { Stays (standing_of S.lines W.sheet self.old) (standing_of S.lines W.sheet self.new) }
     {
         if !node.is_static {
             return node.function.held().emit_at(self, Place::MethodHead);
         }
-        self.keyword(None, "static")?;
+        self.keyword(None, "static");
         let starts = node.key.held().starts();
         node.function
             .held()
-            .emit_at(self, Place::StaticHead(starts))?;
-        Ok(())
+            .emit_at(self, Place::StaticHead(starts));
     }
 
     /// Writes what stands between the decorators of a method and its key.
     #[tactic(auto, unfolding(crate::specs::Classes::method_kind))]
-    fn method_kind<N: Held>(&mut self, node: &ClassMethod<N>) -> Answer
-        ensures items { Emits (method_kind N.answers N.items node.now.kind node.now) (state_of S.lines W.sheet self.old) (state_of S.lines W.sheet self.new) result }
-        ensures level { OnOk result ((W.sheet self.new.wr).indentation ≡ (W.sheet self.old.wr).indentation) }
+    fn method_kind<N: Held>(&mut self, node: &ClassMethod<N>)
+        ensures items { Makes (method_kind N.answers N.items node.now.kind node.now) (standing_of S.lines W.sheet self.old) (standing_of S.lines W.sheet self.new) }
+        ensures level { Stays (standing_of S.lines W.sheet self.old) (standing_of S.lines W.sheet self.new) }
     {
         match node.kind {
             MethodKind::Method => self.method_word(node),
             MethodKind::Getter => {
-                self.static_word(node.is_static)?;
+                self.static_word(node.is_static);
                 self.getter_word(node.key.held().starts())
             }
             MethodKind::Setter => {
-                self.static_word(node.is_static)?;
+                self.static_word(node.is_static);
                 self.setter_word(node.key.held().starts())
             }
         }
@@ -561,9 +542,9 @@ impl<W: WriteJs, S: SourceMapper, C: Comments> Emitter<'_, W, S, C> {
 
     /// Writes what stands between `static` of a private method and its name.
     #[tactic(auto, unfolding(crate::specs::Classes::private_kind))]
-    fn private_kind<N: Held>(&mut self, node: &PrivateMethod<N>) -> Answer
-        ensures items { Emits (private_kind N.items node.now.kind node.now) (state_of S.lines W.sheet self.old) (state_of S.lines W.sheet self.new) result }
-        ensures level { OnOk result ((W.sheet self.new.wr).indentation ≡ (W.sheet self.old.wr).indentation) }
+    fn private_kind<N: Held>(&mut self, node: &PrivateMethod<N>)
+        ensures items { Makes (private_kind N.items node.now.kind node.now) (standing_of S.lines W.sheet self.old) (standing_of S.lines W.sheet self.new) }
+        ensures level { Stays (standing_of S.lines W.sheet self.old) (standing_of S.lines W.sheet self.new) }
     {
         match node.kind {
             MethodKind::Method => node.function.held().emit_at(self, Place::MethodHead),
@@ -574,41 +555,40 @@ impl<W: WriteJs, S: SourceMapper, C: Comments> Emitter<'_, W, S, C> {
 
     /// Writes the value of a field, with parentheses round a sequence.
     #[tactic(auto, unfolding(crate::specs::Classes::wrapped))]
-    fn wrapped<N: Held>(&mut self, value: &ExprBox<N>) -> Answer
-        ensures items { Emits (wrapped N.answers N.items value.now) (state_of S.lines W.sheet self.old) (state_of S.lines W.sheet self.new) result }
-        ensures level { OnOk result ((W.sheet self.new.wr).indentation ≡ (W.sheet self.old.wr).indentation) }
+    fn wrapped<N: Held>(&mut self, value: &ExprBox<N>)
+        ensures items { Makes (wrapped N.answers N.items value.now) (standing_of S.lines W.sheet self.old) (standing_of S.lines W.sheet self.new) }
+        ensures level { Stays (standing_of S.lines W.sheet self.old) (standing_of S.lines W.sheet self.new) }
     {
         if !value.held().block() {
             return value.held().emit_at(self, Place::Plain);
         }
-        self.punct(Punctuator::LeftParenthesis)?;
-        value.held().emit_at(self, Place::Plain)?;
-        self.punct(Punctuator::RightParenthesis)?;
-        Ok(())
+        self.punct(Punctuator::LeftParenthesis);
+        value.held().emit_at(self, Place::Plain);
+        self.punct(Punctuator::RightParenthesis);
     }
 
     /// Writes `= a` of a field, where it is so.
     #[tactic(auto, unfolding(crate::specs::Classes::prop_value))]
-    fn prop_value<N: Held>(&mut self, value: &Option<ExprBox<N>>) -> Answer
-        ensures items { Emits (prop_value N.answers N.items value.now) (state_of S.lines W.sheet self.old) (state_of S.lines W.sheet self.new) result }
-        ensures level { OnOk result ((W.sheet self.new.wr).indentation ≡ (W.sheet self.old.wr).indentation) }
+    fn prop_value<N: Held>(&mut self, value: &Option<ExprBox<N>>)
+        ensures items { Makes (prop_value N.answers N.items value.now) (standing_of S.lines W.sheet self.old) (standing_of S.lines W.sheet self.new) }
+        ensures level { Stays (standing_of S.lines W.sheet self.old) (standing_of S.lines W.sheet self.new) }
     {
         match value {
             Some(value) => {
-                self.formatting_space()?;
-                self.punct(Punctuator::Equal)?;
-                self.formatting_space()?;
+                self.formatting_space();
+                self.punct(Punctuator::Equal);
+                self.formatting_space();
                 self.wrapped(value)
             }
-            None => Ok(()),
+            None => {}
         }
     }
 
     /// Writes the body of a constructor, without a blank before it, or a semicolon.
     #[tactic(auto, unfolding(crate::specs::Classes::constructor_body))]
-    fn constructor_body<N: Held>(&mut self, body: &Option<BlockStmtBox<N>>) -> Answer
-        ensures items { Emits (constructor_body N.items body.now) (state_of S.lines W.sheet self.old) (state_of S.lines W.sheet self.new) result }
-        ensures level { OnOk result ((W.sheet self.new.wr).indentation ≡ (W.sheet self.old.wr).indentation) }
+    fn constructor_body<N: Held>(&mut self, body: &Option<BlockStmtBox<N>>)
+        ensures items { Makes (constructor_body N.items body.now) (standing_of S.lines W.sheet self.old) (standing_of S.lines W.sheet self.new) }
+        ensures level { Stays (standing_of S.lines W.sheet self.old) (standing_of S.lines W.sheet self.new) }
     {
         match body {
             Some(body) => body.held().emit_at(self, Place::Plain),

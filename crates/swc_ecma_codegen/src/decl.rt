@@ -1,12 +1,11 @@
 //! Declarations.
 
-ghost use Rattle.std.specs.Prelude.{◌≡◌, OnOk};
-ghost use Rattle.swc_ecma_codegen_base.specs.Run.{Emits};
+ghost use Rattle.std.specs.Prelude.{◌≡◌};
+ghost use Rattle.swc_ecma_codegen.specs.Standing.{Makes, Stays, standing_of};
 ghost use Rattle.swc_ecma_codegen.specs.Decls.{declarators_format, fn_decl, var_declarator, declarators, var_kind, is_unmarked, first_is_unmarked, var_decl, await_word, using_decl, decl_end, by_export, without_head, exported_class, variables, resources, decl};
 ghost use Rattle.swc_ecma_codegen.specs.declared.nodes.Place.TheVariants.{ClassHead};
 ghost use Rattle.swc_ecma_codegen.specs.Classes.{class_decl};
 ghost use Rattle.swc_ecma_codegen.specs.Lists.{unsupported};
-ghost use Rattle.swc_ecma_codegen.specs.View.{state_of};
 
 use crate::emitter::Emitter;
 use crate::nodes::{AskPattern, Child, EmitAt, Held, Place};
@@ -14,7 +13,7 @@ use crate::patterns::PatternKind;
 use swc_ecma_codegen_ast::ListFormat;
 use swc_ecma_codegen_ast::comments::Comments;
 use swc_ecma_codegen_ast::mapper::SourceMapper;
-use swc_ecma_codegen_common::{Answer, Span};
+use swc_ecma_codegen_common::Span;
 use swc_ecma_codegen_text_writer::WriteJs;
 use swc_ecma_codegen_tree::{
     ClassDecl, Decl, FnDecl, UsingDecl, VarDecl, VarDeclBox, VarDeclKind, VarDeclarator,
@@ -57,7 +56,7 @@ impl<N: Held> EmitAt for Decl<N> {
         &self,
         e: &mut Emitter<'_, W, S, C>,
         place: Place,
-    ) -> Answer {
+    ) {
         match self {
             Decl::Class(node) => e.class_by_place(node, place),
             Decl::Fn(node) => e.fn_by_place(node, place),
@@ -76,13 +75,12 @@ impl<N: Held> EmitAt for UsingDecl<N> {
         &self,
         e: &mut Emitter<'_, W, S, C>,
         place: Place,
-    ) -> Answer {
-        e.leading_comments(self.span.lo)?;
-        e.await_word(self.is_await)?;
-        e.keyword(None, "using")?;
-        e.space()?;
-        e.declarators(self.span, &self.decls)?;
-        Ok(())
+    ) {
+        e.leading_comments(self.span.lo);
+        e.await_word(self.is_await);
+        e.keyword(None, "using");
+        e.space();
+        e.declarators(self.span, &self.decls);
     }
 }
 
@@ -94,18 +92,17 @@ impl<N: Held> EmitAt for FnDecl<N> {
         &self,
         e: &mut Emitter<'_, W, S, C>,
         place: Place,
-    ) -> Answer {
+    ) {
         if self.declare {
             return e.unsupported();
         }
         let span = self.function.held().place();
-        e.leading_comments(span.lo)?;
-        e.commit_pending_semi()?;
-        e.start_of(span)?;
-        self.function.held().emit_at(e, Place::DeclarationHead)?;
-        self.ident.emit_at(e, Place::Plain)?;
-        self.function.held().emit_at(e, Place::Plain)?;
-        Ok(())
+        e.leading_comments(span.lo);
+        e.commit_pending_semi();
+        e.start_of(span);
+        self.function.held().emit_at(e, Place::DeclarationHead);
+        self.ident.emit_at(e, Place::Plain);
+        self.function.held().emit_at(e, Place::Plain);
     }
 }
 
@@ -117,17 +114,16 @@ impl<N: Held> EmitAt for VarDecl<N> {
         &self,
         e: &mut Emitter<'_, W, S, C>,
         place: Place,
-    ) -> Answer {
+    ) {
         if self.declare {
             return e.unsupported();
         }
-        e.leading_comments(self.span.lo)?;
-        e.commit_pending_semi()?;
-        e.start_of(self.span)?;
-        e.var_kind(self.kind)?;
-        e.blank(first_is_unmarked(&self.decls))?;
-        e.declarators(self.span, &self.decls)?;
-        Ok(())
+        e.leading_comments(self.span.lo);
+        e.commit_pending_semi();
+        e.start_of(self.span);
+        e.var_kind(self.kind);
+        e.blank(first_is_unmarked(&self.decls));
+        e.declarators(self.span, &self.decls);
     }
 }
 
@@ -139,14 +135,13 @@ impl<N: Held> EmitAt for VarDeclarator<N> {
         &self,
         e: &mut Emitter<'_, W, S, C>,
         place: Place,
-    ) -> Answer {
+    ) {
         if self.definite {
             return e.unsupported();
         }
-        e.opened(self.span)?;
-        self.name.held().emit_at(e, Place::Plain)?;
-        e.initializer(&self.init)?;
-        Ok(())
+        e.opened(self.span);
+        self.name.held().emit_at(e, Place::Plain);
+        e.initializer(&self.init);
     }
 }
 
@@ -160,18 +155,18 @@ impl<N: Held> Child for VarDeclarator<N> {
 
 impl<W: WriteJs, S: SourceMapper, C: Comments> Emitter<'_, W, S, C> {
     /// Writes declarators, with commas between.
-    fn declarators<N: Held>(&mut self, span: Span, nodes: &Vec<VarDeclarator<N>>) -> Answer
-        ensures items { Emits (declarators N.items span nodes.now.items) (state_of S.lines W.sheet self.old) (state_of S.lines W.sheet self.new) result }
-        ensures level { OnOk result ((W.sheet self.new.wr).indentation ≡ (W.sheet self.old.wr).indentation) }
+    fn declarators<N: Held>(&mut self, span: Span, nodes: &Vec<VarDeclarator<N>>)
+        ensures items { Makes (declarators N.items span nodes.now.items) (standing_of S.lines W.sheet self.old) (standing_of S.lines W.sheet self.new) }
+        ensures level { Stays (standing_of S.lines W.sheet self.old) (standing_of S.lines W.sheet self.new) }
     {
         self.list(declarators_format(), span, nodes)
     }
 
     /// Writes `var`, `let` or `const`.
     #[tactic(auto, unfolding(crate::specs::Decls::var_kind))]
-    fn var_kind(&mut self, kind: VarDeclKind) -> Answer
-        ensures items { Emits (var_kind kind) (state_of S.lines W.sheet self.old) (state_of S.lines W.sheet self.new) result }
-        ensures level { OnOk result ((W.sheet self.new.wr).indentation ≡ (W.sheet self.old.wr).indentation) }
+    fn var_kind(&mut self, kind: VarDeclKind)
+        ensures items { Makes (var_kind kind) (standing_of S.lines W.sheet self.old) (standing_of S.lines W.sheet self.new) }
+        ensures level { Stays (standing_of S.lines W.sheet self.old) (standing_of S.lines W.sheet self.new) }
     {
         match kind {
             VarDeclKind::Var => self.keyword(None, "var"),
@@ -182,22 +177,21 @@ impl<W: WriteJs, S: SourceMapper, C: Comments> Emitter<'_, W, S, C> {
 
     /// Writes `await` and a blank, where it is so.
     #[tactic(auto, unfolding(crate::specs::Decls::await_word))]
-    fn await_word(&mut self, wanted: bool) -> Answer
-        ensures items { Emits (await_word wanted) (state_of S.lines W.sheet self.old) (state_of S.lines W.sheet self.new) result }
-        ensures level { OnOk result ((W.sheet self.new.wr).indentation ≡ (W.sheet self.old.wr).indentation) }
+    fn await_word(&mut self, wanted: bool)
+        ensures items { Makes (await_word wanted) (standing_of S.lines W.sheet self.old) (standing_of S.lines W.sheet self.new) }
+        ensures level { Stays (standing_of S.lines W.sheet self.old) (standing_of S.lines W.sheet self.new) }
     {
         if wanted {
-            self.keyword(None, "await")?;
-            self.space()?;
+            self.keyword(None, "await");
+            self.space();
         }
-        Ok(())
     }
 
     /// Writes a class, or what of it stands before or after `export`.
     #[tactic(auto, unfolding(crate::specs::Decls::by_export))]
-    fn class_by_place<N: Held>(&mut self, node: &ClassDecl<N>, place: Place) -> Answer
-        ensures items { Emits (by_export place (N.items node.now.class.node.value ClassHead) (exported_class N.answers N.items node.now) (class_decl N.answers N.items node.now)) (state_of S.lines W.sheet self.old) (state_of S.lines W.sheet self.new) result }
-        ensures level { OnOk result ((W.sheet self.new.wr).indentation ≡ (W.sheet self.old.wr).indentation) }
+    fn class_by_place<N: Held>(&mut self, node: &ClassDecl<N>, place: Place)
+        ensures items { Makes (by_export place (N.items node.now.class.node.value ClassHead) (exported_class N.answers N.items node.now) (class_decl N.answers N.items node.now)) (standing_of S.lines W.sheet self.old) (standing_of S.lines W.sheet self.new) }
+        ensures level { Stays (standing_of S.lines W.sheet self.old) (standing_of S.lines W.sheet self.new) }
     {
         match place {
             Place::ExportedHead => node.class.held().emit_at(self, Place::ClassHead),
@@ -208,46 +202,45 @@ impl<W: WriteJs, S: SourceMapper, C: Comments> Emitter<'_, W, S, C> {
 
     /// Writes what of a class stands after `export`.
     #[tactic(auto, unfolding(crate::specs::Decls::exported_class, crate::specs::Decls::exported_class_parts))]
-    fn exported_class<N: Held>(&mut self, node: &ClassDecl<N>) -> Answer
-        ensures items { Emits (exported_class N.answers N.items node.now) (state_of S.lines W.sheet self.old) (state_of S.lines W.sheet self.new) result }
-        ensures level { OnOk result ((W.sheet self.new.wr).indentation ≡ (W.sheet self.old.wr).indentation) }
+    fn exported_class<N: Held>(&mut self, node: &ClassDecl<N>)
+        ensures items { Makes (exported_class N.answers N.items node.now) (standing_of S.lines W.sheet self.old) (standing_of S.lines W.sheet self.new) }
+        ensures level { Stays (standing_of S.lines W.sheet self.old) (standing_of S.lines W.sheet self.new) }
     {
         if node.declare {
             return self.unsupported();
         }
         let span = node.class.held().place();
-        self.leading_comments(span.lo)?;
-        self.start_of(span)?;
-        self.keyword(None, "class")?;
-        self.space()?;
-        node.ident.emit_at(self, Place::Plain)?;
-        node.class.held().emit_at(self, Place::Plain)?;
-        Ok(())
+        self.leading_comments(span.lo);
+        self.start_of(span);
+        self.keyword(None, "class");
+        self.space();
+        node.ident.emit_at(self, Place::Plain);
+        node.class.held().emit_at(self, Place::Plain);
     }
 
     /// Writes a function, before `export` nothing.
     #[tactic(auto, unfolding(crate::specs::Decls::without_head, crate::specs::Decls::by_export))]
-    fn fn_by_place<N: Held>(&mut self, node: &FnDecl<N>, place: Place) -> Answer
-        ensures items { Emits (without_head place (fn_decl N.answers N.items node.now)) (state_of S.lines W.sheet self.old) (state_of S.lines W.sheet self.new) result }
-        ensures level { OnOk result ((W.sheet self.new.wr).indentation ≡ (W.sheet self.old.wr).indentation) }
+    fn fn_by_place<N: Held>(&mut self, node: &FnDecl<N>, place: Place)
+        ensures items { Makes (without_head place (fn_decl N.answers N.items node.now)) (standing_of S.lines W.sheet self.old) (standing_of S.lines W.sheet self.new) }
+        ensures level { Stays (standing_of S.lines W.sheet self.old) (standing_of S.lines W.sheet self.new) }
     {
         match place {
-            Place::ExportedHead => Ok(()),
+            Place::ExportedHead => {}
             _ => node.emit_at(self, Place::Plain),
         }
     }
 
     /// Writes variables, before `export` nothing.
     #[tactic(auto, unfolding(crate::specs::Decls::without_head, crate::specs::Decls::by_export, crate::specs::Decls::variables))]
-    fn var_by_place<N: Held>(&mut self, node: &VarDeclBox<N>, place: Place) -> Answer
-        ensures items { Emits (without_head place (variables N.answers N.items node.now place)) (state_of S.lines W.sheet self.old) (state_of S.lines W.sheet self.new) result }
-        ensures level { OnOk result ((W.sheet self.new.wr).indentation ≡ (W.sheet self.old.wr).indentation) }
+    fn var_by_place<N: Held>(&mut self, node: &VarDeclBox<N>, place: Place)
+        ensures items { Makes (without_head place (variables N.answers N.items node.now place)) (standing_of S.lines W.sheet self.old) (standing_of S.lines W.sheet self.new) }
+        ensures level { Stays (standing_of S.lines W.sheet self.old) (standing_of S.lines W.sheet self.new) }
     {
         match place {
-            Place::ExportedHead => Ok(()),
+            Place::ExportedHead => {}
             _ => {
-                node.held().emit_at(self, Place::Plain)?;
-                self.semi()?;
+                node.held().emit_at(self, Place::Plain);
+                self.semi();
                 self.decl_end(place, node.held().place())
             }
         }
@@ -255,14 +248,14 @@ impl<W: WriteJs, S: SourceMapper, C: Comments> Emitter<'_, W, S, C> {
 
     /// Writes resources, before `export` nothing.
     #[tactic(auto, unfolding(crate::specs::Decls::without_head, crate::specs::Decls::by_export, crate::specs::Decls::resources))]
-    fn using_by_place<N: Held>(&mut self, node: &UsingDecl<N>, place: Place) -> Answer
-        ensures items { Emits (without_head place (resources N.items node.now)) (state_of S.lines W.sheet self.old) (state_of S.lines W.sheet self.new) result }
-        ensures level { OnOk result ((W.sheet self.new.wr).indentation ≡ (W.sheet self.old.wr).indentation) }
+    fn using_by_place<N: Held>(&mut self, node: &UsingDecl<N>, place: Place)
+        ensures items { Makes (without_head place (resources N.items node.now)) (standing_of S.lines W.sheet self.old) (standing_of S.lines W.sheet self.new) }
+        ensures level { Stays (standing_of S.lines W.sheet self.old) (standing_of S.lines W.sheet self.new) }
     {
         match place {
-            Place::ExportedHead => Ok(()),
+            Place::ExportedHead => {}
             _ => {
-                node.emit_at(self, Place::Plain)?;
+                node.emit_at(self, Place::Plain);
                 self.semi()
             }
         }
@@ -270,24 +263,24 @@ impl<W: WriteJs, S: SourceMapper, C: Comments> Emitter<'_, W, S, C> {
 
     /// Refuses a declaration, before `export` it writes nothing.
     #[tactic(auto, unfolding(crate::specs::Decls::without_head, crate::specs::Decls::by_export))]
-    fn unsupported_by_place(&mut self, place: Place) -> Answer
-        ensures items { Emits (without_head place unsupported) (state_of S.lines W.sheet self.old) (state_of S.lines W.sheet self.new) result }
-        ensures level { OnOk result ((W.sheet self.new.wr).indentation ≡ (W.sheet self.old.wr).indentation) }
+    fn unsupported_by_place(&mut self, place: Place)
+        ensures items { Makes (without_head place unsupported) (standing_of S.lines W.sheet self.old) (standing_of S.lines W.sheet self.new) }
+        ensures level { Stays (standing_of S.lines W.sheet self.old) (standing_of S.lines W.sheet self.new) }
     {
         match place {
-            Place::ExportedHead => Ok(()),
+            Place::ExportedHead => {}
             _ => self.unsupported(),
         }
     }
 
     /// Records the end of a declaration of variables, unless it is a statement.
     #[tactic(auto, unfolding(crate::specs::Decls::decl_end))]
-    fn decl_end(&mut self, place: Place, span: Span) -> Answer
-        ensures items { Emits (decl_end place span) (state_of S.lines W.sheet self.old) (state_of S.lines W.sheet self.new) result }
-        ensures level { OnOk result ((W.sheet self.new.wr).indentation ≡ (W.sheet self.old.wr).indentation) }
+    fn decl_end(&mut self, place: Place, span: Span)
+        ensures items { Makes (decl_end place span) (standing_of S.lines W.sheet self.old) (standing_of S.lines W.sheet self.new) }
+        ensures level { Stays (standing_of S.lines W.sheet self.old) (standing_of S.lines W.sheet self.new) }
     {
         match place {
-            Place::Statement => Ok(()),
+            Place::Statement => {}
             _ => self.end_of(span),
         }
     }

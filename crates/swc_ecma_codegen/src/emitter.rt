@@ -10,7 +10,7 @@ use std::alloc::Global;
 use swc_ecma_codegen_ast::comments::Comments;
 use swc_ecma_codegen_ast::mapper::SourceMapper;
 use swc_ecma_codegen_base::LowerEmitter;
-use swc_ecma_codegen_common::{Answer, Error, Result};
+use swc_ecma_codegen_common::{Error, Refusal, Result};
 use swc_ecma_codegen_text_writer::WriteJs;
 use swc_ecma_codegen_tree::{Module, ModuleExportName, ModuleItem, Program, Script};
 use swc_ecma_codegen_util::config::Config;
@@ -29,11 +29,14 @@ pub struct Emitter<'a, W, S, C> {
     /// Where the text goes.
     pub wr: W,
     pub(crate) lower: LowerEmitter,
+    /// Why a call was refused since the last call of a caller began, if one was: the calls after it do nothing.
+    pub(crate) refusal: Option<Refusal>,
     ghost no_comments: { IsTrue (is_none comments) },
 }
 
 impl<'a, W: WriteJs, S: SourceMapper, C: Comments> Emitter<'a, W, S, C> {
     ghost use Rattle.swc_ecma_codegen.specs.View.{state_of};
+    ghost use Rattle.swc_ecma_codegen.specs.Standing.{outcome};
     ghost use Rattle.swc_ecma_codegen.specs.Tree.{any_items};
     ghost use Rattle.swc_ecma_codegen.specs.Answers.{any_answers};
     ghost use Rattle.swc_ecma_codegen.specs.Modules.{module_export_name, module_item};
@@ -62,6 +65,7 @@ impl<'a, W: WriteJs, S: SourceMapper, C: Comments> Emitter<'a, W, S, C> {
             comments,
             wr,
             lower: LowerEmitter::new(alloc),
+            refusal: None,
         }
     }
 
@@ -84,19 +88,21 @@ impl<'a, W: WriteJs, S: SourceMapper, C: Comments> Emitter<'a, W, S, C> {
         if self.lower.is_failed() {
             return Err(Error::Failed);
         }
-        let answer = node.emit_at(self, Place::Plain);
-        self.answer(answer)
+        self.refusal = None;
+        node.emit_at(self, Place::Plain);
+        self.answer()
     }
 
-    /// An answer, with the error that the writer gave.
-    fn answer(&mut self, answer: Answer) -> Result
-        ensures answer { in_short result ≡ answer }
+    /// Why a call was refused, if one was, with the error that the writer gave.
+    #[tactic(auto, unfolding(crate::specs::Standing::outcome))]
+    fn answer(&mut self) -> Result
+        ensures answer { in_short result ≡ outcome self.old.refusal }
         ensures state { state_of S.lines W.sheet self.new ≡ state_of S.lines W.sheet self.old }
         ensures wr { self.new.wr ≡ self.old.wr }
     {
-        match answer {
-            Ok(()) => Ok(()),
-            Err(refusal) => Err(self.lower.error(refusal)),
+        match self.refusal {
+            None => Ok(()),
+            Some(refusal) => Err(self.lower.error(refusal)),
         }
     }
 
@@ -286,6 +292,7 @@ impl<W, S, C: Drop> Emitter<'_, W, S, C> {
             comments: _,
             wr,
             lower: _,
+            refusal: _,
         } = self;
         wr
     }

@@ -1,10 +1,9 @@
 //! Exports.
 
-ghost use Rattle.std.specs.Prelude.{◌≡◌, OnOk};
-ghost use Rattle.swc_ecma_codegen_base.specs.Run.{Emits};
+ghost use Rattle.std.specs.Prelude.{◌≡◌};
+ghost use Rattle.swc_ecma_codegen.specs.Standing.{Makes, Stays, standing_of};
 ghost use Rattle.swc_ecma_codegen_spans.specs.Spans.{export_specifier_span};
-ghost use Rattle.swc_ecma_codegen.specs.Modules.{named_format, from_word, as_word, star_as, exported_as, export_named_specifier, export_specifier, is_braced, is_namespace, export_list, export_braces, export_namespace, star_export, more_exports, star_exports, export_clause, ends_with_name, from_clause, export_tail, export_named, all_tail, export_all, export_decl, default_decl, export_default, export_default_decl, export_default_expr, attributes, source_end};
-ghost use Rattle.swc_ecma_codegen.specs.View.{state_of};
+ghost use Rattle.swc_ecma_codegen.specs.Modules.{named_format, exported_as, export_named_specifier, export_specifier, is_braced, is_namespace, export_list, export_braces, export_namespace, star_export, more_exports, star_exports, export_clause, ends_with_name, from_clause, export_tail, export_named, all_tail, export_all, export_decl, default_decl, export_default, export_default_decl, export_default_expr, attributes};
 
 use crate::emitter::Emitter;
 use crate::modules::named_format;
@@ -12,7 +11,7 @@ use crate::nodes::{Child, EmitAt, Held, Place};
 use crate::specifiers::{Specifier, has_braced, has_star};
 use swc_ecma_codegen_ast::comments::Comments;
 use swc_ecma_codegen_ast::mapper::SourceMapper;
-use swc_ecma_codegen_common::{Answer, Span};
+use swc_ecma_codegen_common::Span;
 use swc_ecma_codegen_literals::Punctuator;
 use swc_ecma_codegen_text_writer::WriteJs;
 use swc_ecma_codegen_tree::{
@@ -36,16 +35,15 @@ impl EmitAt for ExportNamedSpecifier {
         &self,
         e: &mut Emitter<'_, W, S, C>,
         place: Place,
-    ) -> Answer {
+    ) {
         if self.is_type_only {
             return e.unsupported();
         }
-        e.leading_comments(self.span.lo)?;
-        e.start_of(self.span)?;
-        self.orig.emit_at(e, Place::Plain)?;
-        e.exported_as(&self.exported)?;
-        e.end_of(self.span)?;
-        Ok(())
+        e.leading_comments(self.span.lo);
+        e.start_of(self.span);
+        self.orig.emit_at(e, Place::Plain);
+        e.exported_as(&self.exported);
+        e.end_of(self.span);
     }
 }
 
@@ -57,7 +55,7 @@ impl EmitAt for ExportSpecifier {
         &self,
         e: &mut Emitter<'_, W, S, C>,
         place: Place,
-    ) -> Answer {
+    ) {
         match self {
             ExportSpecifier::Named(node) => node.emit_at(e, Place::Plain),
             ExportSpecifier::Namespace(node) => node.emit_at(e, Place::Plain),
@@ -103,13 +101,12 @@ impl EmitAt for ExportNamespaceSpecifier {
         &self,
         e: &mut Emitter<'_, W, S, C>,
         place: Place,
-    ) -> Answer {
-        e.leading_comments(self.span.lo)?;
-        e.start_of(self.span)?;
-        e.star_as()?;
-        self.name.emit_at(e, Place::Plain)?;
-        e.end_of(self.span)?;
-        Ok(())
+    ) {
+        e.leading_comments(self.span.lo);
+        e.start_of(self.span);
+        e.star_as();
+        self.name.emit_at(e, Place::Plain);
+        e.end_of(self.span);
     }
 }
 
@@ -121,16 +118,15 @@ impl<N: Held> EmitAt for NamedExport<N> {
         &self,
         e: &mut Emitter<'_, W, S, C>,
         place: Place,
-    ) -> Answer {
+    ) {
         if self.type_only {
             return e.unsupported();
         }
-        e.leading_comments(self.span.lo)?;
-        e.start_of(self.span)?;
-        e.keyword(None, "export")?;
-        e.formatting_space()?;
-        e.export_tail(self)?;
-        Ok(())
+        e.leading_comments(self.span.lo);
+        e.start_of(self.span);
+        e.keyword(None, "export");
+        e.formatting_space();
+        e.export_tail(self);
     }
 }
 
@@ -142,16 +138,15 @@ impl<N: Held> EmitAt for ExportAll<N> {
         &self,
         e: &mut Emitter<'_, W, S, C>,
         place: Place,
-    ) -> Answer {
+    ) {
         if self.type_only {
             return e.unsupported();
         }
-        e.leading_comments(self.span.lo)?;
-        e.start_of(self.span)?;
-        e.keyword(None, "export")?;
-        e.formatting_space()?;
-        e.all_tail(self)?;
-        Ok(())
+        e.leading_comments(self.span.lo);
+        e.start_of(self.span);
+        e.keyword(None, "export");
+        e.formatting_space();
+        e.all_tail(self);
     }
 }
 
@@ -163,13 +158,12 @@ impl<N: Held> EmitAt for ExportDecl<N> {
         &self,
         e: &mut Emitter<'_, W, S, C>,
         place: Place,
-    ) -> Answer {
-        e.start_of(self.span)?;
-        self.decl.held().emit_at(e, Place::ExportedHead)?;
-        e.keyword(None, "export")?;
-        e.space()?;
-        self.decl.held().emit_at(e, Place::ExportedTail)?;
-        Ok(())
+    ) {
+        e.start_of(self.span);
+        self.decl.held().emit_at(e, Place::ExportedHead);
+        e.keyword(None, "export");
+        e.space();
+        self.decl.held().emit_at(e, Place::ExportedTail);
     }
 }
 
@@ -181,7 +175,7 @@ impl<N: Held> EmitAt for DefaultDecl<N> {
         &self,
         e: &mut Emitter<'_, W, S, C>,
         place: Place,
-    ) -> Answer {
+    ) {
         match self {
             DefaultDecl::Class(node) => node.emit_at(e, Place::Plain),
             DefaultDecl::Fn(node) => node.emit_at(e, Place::Plain),
@@ -198,13 +192,12 @@ impl<N: Held> EmitAt for ExportDefaultDecl<N> {
         &self,
         e: &mut Emitter<'_, W, S, C>,
         place: Place,
-    ) -> Answer {
-        e.leading_comments(self.span.lo)?;
-        e.start_of(self.span)?;
-        e.export_default()?;
-        e.space()?;
-        self.decl.emit_at(e, Place::Plain)?;
-        Ok(())
+    ) {
+        e.leading_comments(self.span.lo);
+        e.start_of(self.span);
+        e.export_default();
+        e.space();
+        self.decl.emit_at(e, Place::Plain);
     }
 }
 
@@ -216,96 +209,93 @@ impl<N: Held> EmitAt for ExportDefaultExpr<N> {
         &self,
         e: &mut Emitter<'_, W, S, C>,
         place: Place,
-    ) -> Answer {
-        e.start_of(self.span)?;
-        e.export_default()?;
-        e.blank(self.expr.held().starts())?;
-        self.expr.held().emit_at(e, Place::Plain)?;
-        e.semi()?;
-        e.end_of(self.span)?;
-        Ok(())
+    ) {
+        e.start_of(self.span);
+        e.export_default();
+        e.blank(self.expr.held().starts());
+        self.expr.held().emit_at(e, Place::Plain);
+        e.semi();
+        e.end_of(self.span);
     }
 }
 
 impl<W: WriteJs, S: SourceMapper, C: Comments> Emitter<'_, W, S, C> {
     /// Writes `as b` behind a blank, where it is so.
     #[tactic(auto, unfolding(crate::specs::Modules::exported_as))]
-    fn exported_as(&mut self, name: &Option<ModuleExportName>) -> Answer
-        ensures items { Emits (exported_as name.now) (state_of S.lines W.sheet self.old) (state_of S.lines W.sheet self.new) result }
-        ensures level { OnOk result ((W.sheet self.new.wr).indentation ≡ (W.sheet self.old.wr).indentation) }
+    fn exported_as(&mut self, name: &Option<ModuleExportName>)
+        ensures items { Makes (exported_as name.now) (standing_of S.lines W.sheet self.old) (standing_of S.lines W.sheet self.new) }
+        ensures level { Stays (standing_of S.lines W.sheet self.old) (standing_of S.lines W.sheet self.new) }
     {
         match name {
             Some(name) => {
-                self.as_word()?;
+                self.as_word();
                 name.emit_at(self, Place::Plain)
             }
-            None => Ok(()),
+            None => {}
         }
     }
 
     /// Writes what is exported among braces.
-    fn export_list(&mut self, parent: Span, specifiers: &[ExportSpecifier]) -> Answer
-        ensures items { Emits (export_list parent specifiers.now) (state_of S.lines W.sheet self.old) (state_of S.lines W.sheet self.new) result }
-        ensures level { OnOk result ((W.sheet self.new.wr).indentation ≡ (W.sheet self.old.wr).indentation) }
+    fn export_list(&mut self, parent: Span, specifiers: &[ExportSpecifier])
+        ensures items { Makes (export_list parent specifiers.now) (standing_of S.lines W.sheet self.old) (standing_of S.lines W.sheet self.new) }
+        ensures level { Stays (standing_of S.lines W.sheet self.old) (standing_of S.lines W.sheet self.new) }
     {
         self.braced_list(named_format(), parent, specifiers)
     }
 
     /// Writes `{ a, b as c }`.
     #[tactic(auto, unfolding(crate::specs::Modules::export_braces))]
-    fn export_braces(&mut self, parent: Span, specifiers: &[ExportSpecifier]) -> Answer
-        ensures items { Emits (export_braces parent specifiers.now) (state_of S.lines W.sheet self.old) (state_of S.lines W.sheet self.new) result }
-        ensures level { OnOk result ((W.sheet self.new.wr).indentation ≡ (W.sheet self.old.wr).indentation) }
+    fn export_braces(&mut self, parent: Span, specifiers: &[ExportSpecifier])
+        ensures items { Makes (export_braces parent specifiers.now) (standing_of S.lines W.sheet self.old) (standing_of S.lines W.sheet self.new) }
+        ensures level { Stays (standing_of S.lines W.sheet self.old) (standing_of S.lines W.sheet self.new) }
     {
-        self.punct(Punctuator::LeftBrace)?;
-        self.export_list(parent, specifiers)?;
-        self.punct(Punctuator::RightBrace)?;
-        Ok(())
+        self.punct(Punctuator::LeftBrace);
+        self.export_list(parent, specifiers);
+        self.punct(Punctuator::RightBrace);
     }
 
     /// Writes `* as a`, of the first of a namespace.
     #[tactic(auto, unfolding(crate::specs::Modules::star_export))]
-    fn star_export(&mut self, specifiers: &[ExportSpecifier]) -> Answer
-        ensures items { Emits (star_export specifiers.now) (state_of S.lines W.sheet self.old) (state_of S.lines W.sheet self.new) result }
-        ensures level { OnOk result ((W.sheet self.new.wr).indentation ≡ (W.sheet self.old.wr).indentation) }
+    fn star_export(&mut self, specifiers: &[ExportSpecifier])
+        ensures items { Makes (star_export specifiers.now) (standing_of S.lines W.sheet self.old) (standing_of S.lines W.sheet self.new) }
+        ensures level { Stays (standing_of S.lines W.sheet self.old) (standing_of S.lines W.sheet self.new) }
     {
         for specifier in specifiers {
             if let ExportSpecifier::Namespace(node) = specifier {
                 return node.emit_at(self, Place::Plain);
             }
         }
-        Ok(())
     }
 
     /// Writes what stands after it.
     #[tactic(auto, unfolding(crate::specs::Modules::more_exports))]
-    fn more_exports(&mut self, parent: Span, specifiers: &[ExportSpecifier]) -> Answer
-        ensures items { Emits (more_exports parent specifiers.now) (state_of S.lines W.sheet self.old) (state_of S.lines W.sheet self.new) result }
-        ensures level { OnOk result ((W.sheet self.new.wr).indentation ≡ (W.sheet self.old.wr).indentation) }
+    fn more_exports(&mut self, parent: Span, specifiers: &[ExportSpecifier])
+        ensures items { Makes (more_exports parent specifiers.now) (standing_of S.lines W.sheet self.old) (standing_of S.lines W.sheet self.new) }
+        ensures level { Stays (standing_of S.lines W.sheet self.old) (standing_of S.lines W.sheet self.new) }
     {
         if !has_braced(specifiers) {
-            return Ok(());
+            return;
         }
-        self.punct(Punctuator::Comma)?;
-        self.formatting_space()?;
+        self.punct(Punctuator::Comma);
+        self.formatting_space();
         self.export_braces(parent, specifiers)
     }
 
     /// Writes `* as a, { b }`.
     #[tactic(auto, unfolding(crate::specs::Modules::star_exports))]
-    fn star_exports(&mut self, parent: Span, specifiers: &[ExportSpecifier]) -> Answer
-        ensures items { Emits (star_exports parent specifiers.now) (state_of S.lines W.sheet self.old) (state_of S.lines W.sheet self.new) result }
-        ensures level { OnOk result ((W.sheet self.new.wr).indentation ≡ (W.sheet self.old.wr).indentation) }
+    fn star_exports(&mut self, parent: Span, specifiers: &[ExportSpecifier])
+        ensures items { Makes (star_exports parent specifiers.now) (standing_of S.lines W.sheet self.old) (standing_of S.lines W.sheet self.new) }
+        ensures level { Stays (standing_of S.lines W.sheet self.old) (standing_of S.lines W.sheet self.new) }
     {
-        self.star_export(specifiers)?;
+        self.star_export(specifiers);
         self.more_exports(parent, specifiers)
     }
 
     /// Writes `{ a }` or `* as a`, or both.
     #[tactic(auto, unfolding(crate::specs::Modules::export_clause))]
-    fn export_clause(&mut self, parent: Span, specifiers: &[ExportSpecifier]) -> Answer
-        ensures items { Emits (export_clause parent specifiers.now) (state_of S.lines W.sheet self.old) (state_of S.lines W.sheet self.new) result }
-        ensures level { OnOk result ((W.sheet self.new.wr).indentation ≡ (W.sheet self.old.wr).indentation) }
+    fn export_clause(&mut self, parent: Span, specifiers: &[ExportSpecifier])
+        ensures items { Makes (export_clause parent specifiers.now) (standing_of S.lines W.sheet self.old) (standing_of S.lines W.sheet self.new) }
+        ensures level { Stays (standing_of S.lines W.sheet self.old) (standing_of S.lines W.sheet self.new) }
     {
         if has_star(specifiers) {
             return self.star_exports(parent, specifiers);
@@ -320,55 +310,53 @@ impl<W: WriteJs, S: SourceMapper, C: Comments> Emitter<'_, W, S, C> {
         with_: &Option<ObjectLitBox<N>>,
         needed: bool,
         src: &Option<Str>,
-    ) -> Answer
-        ensures items { Emits (from_clause N.items with_.now needed src.now) (state_of S.lines W.sheet self.old) (state_of S.lines W.sheet self.new) result }
-        ensures level { OnOk result ((W.sheet self.new.wr).indentation ≡ (W.sheet self.old.wr).indentation) }
+    )
+        ensures items { Makes (from_clause N.items with_.now needed src.now) (standing_of S.lines W.sheet self.old) (standing_of S.lines W.sheet self.new) }
+        ensures level { Stays (standing_of S.lines W.sheet self.old) (standing_of S.lines W.sheet self.new) }
     {
         match src {
             Some(src) => {
-                self.blank(needed)?;
-                self.from_word()?;
-                src.emit_at(self, Place::Plain)?;
+                self.blank(needed);
+                self.from_word();
+                src.emit_at(self, Place::Plain);
                 self.attributes(with_)
             }
-            None => Ok(()),
+            None => {}
         }
     }
 
     /// Writes `{ a } from 'b';`
     #[tactic(auto, unfolding(crate::specs::Modules::export_tail))]
-    fn export_tail<N: Held>(&mut self, node: &NamedExport<N>) -> Answer
-        ensures items { Emits (export_tail N.items node.now) (state_of S.lines W.sheet self.old) (state_of S.lines W.sheet self.new) result }
-        ensures level { OnOk result ((W.sheet self.new.wr).indentation ≡ (W.sheet self.old.wr).indentation) }
+    fn export_tail<N: Held>(&mut self, node: &NamedExport<N>)
+        ensures items { Makes (export_tail N.items node.now) (standing_of S.lines W.sheet self.old) (standing_of S.lines W.sheet self.new) }
+        ensures level { Stays (standing_of S.lines W.sheet self.old) (standing_of S.lines W.sheet self.new) }
     {
-        self.export_clause(node.span, &node.specifiers)?;
-        self.from_clause(&node.with_, ends_with_name(&node.specifiers), &node.src)?;
-        self.semi()?;
-        self.end_of(node.span)?;
-        Ok(())
+        self.export_clause(node.span, &node.specifiers);
+        self.from_clause(&node.with_, ends_with_name(&node.specifiers), &node.src);
+        self.semi();
+        self.end_of(node.span);
     }
 
     /// Writes `* from 'a';`
     #[tactic(auto, unfolding(crate::specs::Modules::all_tail))]
-    fn all_tail<N: Held>(&mut self, node: &ExportAll<N>) -> Answer
-        ensures items { Emits (all_tail N.items node.now) (state_of S.lines W.sheet self.old) (state_of S.lines W.sheet self.new) result }
-        ensures level { OnOk result ((W.sheet self.new.wr).indentation ≡ (W.sheet self.old.wr).indentation) }
+    fn all_tail<N: Held>(&mut self, node: &ExportAll<N>)
+        ensures items { Makes (all_tail N.items node.now) (standing_of S.lines W.sheet self.old) (standing_of S.lines W.sheet self.new) }
+        ensures level { Stays (standing_of S.lines W.sheet self.old) (standing_of S.lines W.sheet self.new) }
     {
-        self.punct(Punctuator::Star)?;
-        self.formatting_space()?;
-        self.from_word()?;
+        self.punct(Punctuator::Star);
+        self.formatting_space();
+        self.from_word();
         self.source_end(&node.src, &node.with_, node.span)
     }
 
     /// Writes `export default`.
     #[tactic(auto, unfolding(crate::specs::Modules::export_default))]
-    fn export_default(&mut self) -> Answer
-        ensures items { Emits (export_default) (state_of S.lines W.sheet self.old) (state_of S.lines W.sheet self.new) result }
-        ensures level { OnOk result ((W.sheet self.new.wr).indentation ≡ (W.sheet self.old.wr).indentation) }
+    fn export_default(&mut self)
+        ensures items { Makes (export_default) (standing_of S.lines W.sheet self.old) (standing_of S.lines W.sheet self.new) }
+        ensures level { Stays (standing_of S.lines W.sheet self.old) (standing_of S.lines W.sheet self.new) }
     {
-        self.keyword(None, "export")?;
-        self.space()?;
-        self.keyword(None, "default")?;
-        Ok(())
+        self.keyword(None, "export");
+        self.space();
+        self.keyword(None, "default");
     }
 }

@@ -1,12 +1,11 @@
 //! Expressions.
 
-ghost use Rattle.std.specs.Prelude.{◌≡◌, Some, None, OnOk};
-ghost use Rattle.swc_ecma_codegen_base.specs.Run.{Emits};
+ghost use Rattle.std.specs.Prelude.{◌≡◌, Some, None};
+ghost use Rattle.swc_ecma_codegen.specs.Standing.{Makes, Stays, standing_of};
 ghost use Rattle.swc_ecma_codegen.specs.Exprs.{ident, ident_name, private_name, this, unary_op, unary_gap, unary, update_parts, update, binary_op, before_op, after_op, bin_trailing, bin_opened, bin, computed_prop_name, choice, meta_prop_expr, assign, yield_star, yield_arg, yield_expr, spread_element, await_expr, seq, paren, expr_parts, is_left_operand, leaves_comments, expr_closed, expr};
 ghost use Rattle.swc_ecma_codegen_spans.specs.Spans.{expr_span};
 ghost use Rattle.swc_ecma_codegen.specs.Answers.{place_of};
 ghost use Rattle.swc_ecma_codegen_util.specs.Starts.{is_word_op as is_word_unary};
-ghost use Rattle.swc_ecma_codegen.specs.View.{state_of};
 
 use crate::emitter::Emitter;
 use crate::lits::is_number_object;
@@ -16,7 +15,7 @@ use crate::operands::{is_word_op, operand_space, space_after};
 use crate::places::{expr_place, spread_element_place};
 use swc_ecma_codegen_ast::comments::Comments;
 use swc_ecma_codegen_ast::mapper::SourceMapper;
-use swc_ecma_codegen_common::{Answer, BinaryOp, Span, UnaryOp};
+use swc_ecma_codegen_common::{BinaryOp, Span, UnaryOp};
 use swc_ecma_codegen_literals::Punctuator;
 use swc_ecma_codegen_text_writer::WriteJs;
 use swc_ecma_codegen_tree::{
@@ -53,9 +52,9 @@ fn expr_parts<N: Held, W: WriteJs, S: SourceMapper, C: Comments>(
     node: &Expr<N>,
     e: &mut Emitter<'_, W, S, C>,
     place: Place,
-) -> Answer
-    ensures items { Emits (expr_parts N.answers N.items node.now place) (state_of S.lines W.sheet e.old) (state_of S.lines W.sheet e.new) result }
-    ensures level { OnOk result ((W.sheet e.new.wr).indentation ≡ (W.sheet e.old.wr).indentation) }
+)
+    ensures items { Makes (expr_parts N.answers N.items node.now place) (standing_of S.lines W.sheet e.old) (standing_of S.lines W.sheet e.new) }
+    ensures level { Stays (standing_of S.lines W.sheet e.old) (standing_of S.lines W.sheet e.new) }
 {
     match node {
         Expr::This(node) => node.emit_at(e, place),
@@ -108,10 +107,9 @@ impl<N: Held> EmitAt for Expr<N> {
         &self,
         e: &mut Emitter<'_, W, S, C>,
         place: Place,
-    ) -> Answer {
-        expr_parts(self, e, place)?;
-        e.expr_closed(self, place)?;
-        Ok(())
+    ) {
+        expr_parts(self, e, place);
+        e.expr_closed(self, place);
     }
 }
 
@@ -123,21 +121,20 @@ impl EmitAt for MetaPropExpr {
         &self,
         e: &mut Emitter<'_, W, S, C>,
         place: Place,
-    ) -> Answer {
-        e.opened(self.span)?;
+    ) {
+        e.opened(self.span);
         match self.kind {
             MetaPropKind::NewTarget => {
-                e.keyword(None, "new")?;
-                e.punct(Punctuator::Dot)?;
-                e.keyword(None, "target")?;
+                e.keyword(None, "new");
+                e.punct(Punctuator::Dot);
+                e.keyword(None, "target");
             }
             MetaPropKind::ImportMeta => {
-                e.keyword(None, "import")?;
-                e.punct(Punctuator::Dot)?;
-                e.keyword(None, "meta")?;
+                e.keyword(None, "import");
+                e.punct(Punctuator::Dot);
+                e.keyword(None, "meta");
             }
         }
-        Ok(())
     }
 }
 
@@ -149,12 +146,12 @@ impl<N: Held> EmitAt for AssignExpr<N> {
         &self,
         e: &mut Emitter<'_, W, S, C>,
         place: Place,
-    ) -> Answer {
-        e.leading_comments(self.span.lo)?;
-        self.left.held().emit_at(e, Place::Plain)?;
-        e.formatting_space()?;
-        e.operator(assign_mark(self.op))?;
-        e.formatting_space()?;
+    ) {
+        e.leading_comments(self.span.lo);
+        self.left.held().emit_at(e, Place::Plain);
+        e.formatting_space();
+        e.operator(assign_mark(self.op));
+        e.formatting_space();
         self.right.held().emit_at(e, Place::Plain)
     }
 }
@@ -167,11 +164,10 @@ impl<N: Held> EmitAt for BinExpr<N> {
         &self,
         e: &mut Emitter<'_, W, S, C>,
         place: Place,
-    ) -> Answer {
-        e.bin_opened(place, self.span)?;
-        self.left.held().emit_at(e, Place::LeftOperand)?;
-        e.bin_trailing(self)?;
-        Ok(())
+    ) {
+        e.bin_opened(place, self.span);
+        self.left.held().emit_at(e, Place::LeftOperand);
+        e.bin_trailing(self);
     }
 }
 
@@ -183,10 +179,9 @@ impl<N: Held> EmitAt for SeqExpr<N> {
         &self,
         e: &mut Emitter<'_, W, S, C>,
         place: Place,
-    ) -> Answer {
-        e.opened(self.span)?;
-        e.exprs(&self.exprs)?;
-        Ok(())
+    ) {
+        e.opened(self.span);
+        e.exprs(&self.exprs);
     }
 }
 
@@ -198,13 +193,12 @@ impl<N: Held> EmitAt for ComputedPropName<N> {
         &self,
         e: &mut Emitter<'_, W, S, C>,
         place: Place,
-    ) -> Answer {
-        e.start_of(self.span)?;
-        e.punct(Punctuator::LeftBracket)?;
-        self.expr.held().emit_at(e, Place::Plain)?;
-        e.punct(Punctuator::RightBracket)?;
-        e.end_of(self.span)?;
-        Ok(())
+    ) {
+        e.start_of(self.span);
+        e.punct(Punctuator::LeftBracket);
+        self.expr.held().emit_at(e, Place::Plain);
+        e.punct(Punctuator::RightBracket);
+        e.end_of(self.span);
     }
 }
 
@@ -216,12 +210,12 @@ impl<N: Held> EmitAt for CondExpr<N> {
         &self,
         e: &mut Emitter<'_, W, S, C>,
         place: Place,
-    ) -> Answer {
-        e.opened(self.span)?;
-        self.test.held().emit_at(e, Place::Plain)?;
-        e.spaced_punct(Punctuator::Question)?;
-        self.cons.held().emit_at(e, Place::Plain)?;
-        e.spaced_punct(Punctuator::Colon)?;
+    ) {
+        e.opened(self.span);
+        self.test.held().emit_at(e, Place::Plain);
+        e.spaced_punct(Punctuator::Question);
+        self.cons.held().emit_at(e, Place::Plain);
+        e.spaced_punct(Punctuator::Colon);
         self.alt.held().emit_at(e, Place::Plain)
     }
 }
@@ -234,10 +228,9 @@ impl EmitAt for ThisExpr {
         &self,
         e: &mut Emitter<'_, W, S, C>,
         place: Place,
-    ) -> Answer {
-        e.leading_comments(self.span.lo)?;
-        e.keyword(Some(self.span), "this")?;
-        Ok(())
+    ) {
+        e.leading_comments(self.span.lo);
+        e.keyword(Some(self.span), "this");
     }
 }
 
@@ -249,12 +242,11 @@ impl<N: Held> EmitAt for UnaryExpr<N> {
         &self,
         e: &mut Emitter<'_, W, S, C>,
         place: Place,
-    ) -> Answer {
-        e.opened(self.span)?;
-        e.unary_op(self.op)?;
-        e.unary_gap(self.op, self.arg.held())?;
-        self.arg.held().emit_at(e, Place::Plain)?;
-        Ok(())
+    ) {
+        e.opened(self.span);
+        e.unary_op(self.op);
+        e.unary_gap(self.op, self.arg.held());
+        self.arg.held().emit_at(e, Place::Plain);
     }
 }
 
@@ -266,16 +258,15 @@ impl<N: Held> EmitAt for UpdateExpr<N> {
         &self,
         e: &mut Emitter<'_, W, S, C>,
         place: Place,
-    ) -> Answer {
-        e.opened(self.span)?;
+    ) {
+        e.opened(self.span);
         if self.prefix {
-            e.operator(update_mark(self.op))?;
-            self.arg.held().emit_at(e, Place::Plain)?;
+            e.operator(update_mark(self.op));
+            self.arg.held().emit_at(e, Place::Plain);
         } else {
-            self.arg.held().emit_at(e, Place::Plain)?;
-            e.operator(update_mark(self.op))?;
+            self.arg.held().emit_at(e, Place::Plain);
+            e.operator(update_mark(self.op));
         }
-        Ok(())
     }
 }
 
@@ -287,12 +278,11 @@ impl<N: Held> EmitAt for YieldExpr<N> {
         &self,
         e: &mut Emitter<'_, W, S, C>,
         place: Place,
-    ) -> Answer {
-        e.opened(self.span)?;
-        e.keyword(None, "yield")?;
-        e.yield_star(self.delegate)?;
-        e.yield_arg(self.delegate, &self.arg)?;
-        Ok(())
+    ) {
+        e.opened(self.span);
+        e.keyword(None, "yield");
+        e.yield_star(self.delegate);
+        e.yield_arg(self.delegate, &self.arg);
     }
 }
 
@@ -304,12 +294,11 @@ impl<N: Held> EmitAt for AwaitExpr<N> {
         &self,
         e: &mut Emitter<'_, W, S, C>,
         place: Place,
-    ) -> Answer {
-        e.opened(self.span)?;
-        e.keyword(None, "await")?;
-        e.space()?;
-        self.arg.held().emit_at(e, Place::Plain)?;
-        Ok(())
+    ) {
+        e.opened(self.span);
+        e.keyword(None, "await");
+        e.space();
+        self.arg.held().emit_at(e, Place::Plain);
     }
 }
 
@@ -321,14 +310,13 @@ impl<N: Held> EmitAt for ParenExpr<N> {
         &self,
         e: &mut Emitter<'_, W, S, C>,
         place: Place,
-    ) -> Answer {
-        e.commit_pending_semi()?;
-        e.opened(self.span)?;
-        e.punct(Punctuator::LeftParenthesis)?;
-        self.expr.held().emit_at(e, Place::Plain)?;
-        e.last_of(self.span)?;
-        e.punct(Punctuator::RightParenthesis)?;
-        Ok(())
+    ) {
+        e.commit_pending_semi();
+        e.opened(self.span);
+        e.punct(Punctuator::LeftParenthesis);
+        self.expr.held().emit_at(e, Place::Plain);
+        e.last_of(self.span);
+        e.punct(Punctuator::RightParenthesis);
     }
 }
 
@@ -340,9 +328,8 @@ impl EmitAt for Ident {
         &self,
         e: &mut Emitter<'_, W, S, C>,
         place: Place,
-    ) -> Answer {
-        e.name(self.span, &self.sym, self.optional)?;
-        Ok(())
+    ) {
+        e.name(self.span, &self.sym, self.optional);
     }
 }
 
@@ -354,7 +341,7 @@ impl EmitAt for PrivateName {
         &self,
         e: &mut Emitter<'_, W, S, C>,
         place: Place,
-    ) -> Answer {
+    ) {
         e.private_name(self.span, &self.name)
     }
 }
@@ -367,9 +354,8 @@ impl EmitAt for IdentName {
         &self,
         e: &mut Emitter<'_, W, S, C>,
         place: Place,
-    ) -> Answer {
-        e.name(self.span, &self.sym, false)?;
-        Ok(())
+    ) {
+        e.name(self.span, &self.sym, false);
     }
 }
 
@@ -381,49 +367,48 @@ impl<N: Held> EmitAt for SpreadElement<N> {
         &self,
         e: &mut Emitter<'_, W, S, C>,
         place: Place,
-    ) -> Answer {
+    ) {
         let span = spread_element_place(self);
-        e.opened(span)?;
-        e.punct(Punctuator::Ellipsis)?;
-        self.expr.held().emit_at(e, Place::Plain)?;
-        e.end_of(span)?;
-        Ok(())
+        e.opened(span);
+        e.punct(Punctuator::Ellipsis);
+        self.expr.held().emit_at(e, Place::Plain);
+        e.end_of(span);
     }
 }
 
 impl<W: WriteJs, S: SourceMapper, C: Comments> Emitter<'_, W, S, C> {
     /// Writes the comments after an expression, unless they are left where they are. Where it stands is asked only where there are comments.
     #[tactic(auto, unfolding(crate::specs::Exprs::expr_closed), using(crate::proofs::Asked::closed_bare, crate::proofs::Asked::closed_commented))]
-    fn expr_closed<N: Held>(&mut self, node: &Expr<N>, place: Place) -> Answer
-        ensures items { Emits (expr_closed (leaves_comments node.now place) (expr_span (place_of N.answers) node.now)) (state_of S.lines W.sheet self.old) (state_of S.lines W.sheet self.new) result }
-        ensures level { OnOk result ((W.sheet self.new.wr).indentation ≡ (W.sheet self.old.wr).indentation) }
+    fn expr_closed<N: Held>(&mut self, node: &Expr<N>, place: Place)
+        ensures items { Makes (expr_closed (leaves_comments node.now place) (expr_span (place_of N.answers) node.now)) (standing_of S.lines W.sheet self.old) (standing_of S.lines W.sheet self.new) }
+        ensures level { Stays (standing_of S.lines W.sheet self.old) (standing_of S.lines W.sheet self.new) }
     {
         if self.comments.is_none() {
-            return Ok(());
+            return;
         }
         if leaves_comments(node, place) {
-            return Ok(());
+            return;
         }
         self.trailing_comments(expr_place(node).hi, true)
     }
 
     /// Writes the comments before a binary expression and its start, unless it is an inner left operand.
     #[tactic(auto, unfolding(crate::specs::Exprs::bin_opened))]
-    fn bin_opened(&mut self, place: Place, span: Span) -> Answer
-        ensures items { Emits (bin_opened place span) (state_of S.lines W.sheet self.old) (state_of S.lines W.sheet self.new) result }
-        ensures level { OnOk result ((W.sheet self.new.wr).indentation ≡ (W.sheet self.old.wr).indentation) }
+    fn bin_opened(&mut self, place: Place, span: Span)
+        ensures items { Makes (bin_opened place span) (standing_of S.lines W.sheet self.old) (standing_of S.lines W.sheet self.new) }
+        ensures level { Stays (standing_of S.lines W.sheet self.old) (standing_of S.lines W.sheet self.new) }
     {
         match place {
-            Place::LeftOperand => Ok(()),
+            Place::LeftOperand => {}
             _ => self.opened(span),
         }
     }
 
     /// Writes a binary operator.
     #[tactic(auto, using(crate::proofs::OperatorLaws::marked_binary, crate::proofs::OperatorLaws::worded_binary))]
-    fn binary_op(&mut self, op: BinaryOp) -> Answer
-        ensures items { Emits (binary_op op) (state_of S.lines W.sheet self.old) (state_of S.lines W.sheet self.new) result }
-        ensures level { OnOk result ((W.sheet self.new.wr).indentation ≡ (W.sheet self.old.wr).indentation) }
+    fn binary_op(&mut self, op: BinaryOp)
+        ensures items { Makes (binary_op op) (standing_of S.lines W.sheet self.old) (standing_of S.lines W.sheet self.new) }
+        ensures level { Stays (standing_of S.lines W.sheet self.old) (standing_of S.lines W.sheet self.new) }
     {
         match binary_mark(op) {
             Some(mark) => self.operator(mark),
@@ -433,22 +418,21 @@ impl<W: WriteJs, S: SourceMapper, C: Comments> Emitter<'_, W, S, C> {
 
     /// Writes the operator and the right operand. swc's `emit_bin_expr_trailing`.
     #[tactic(auto, unfolding(crate::specs::Exprs::bin_trailing))]
-    fn bin_trailing<N: Held>(&mut self, node: &BinExpr<N>) -> Answer
-        ensures items { Emits (bin_trailing N.answers N.items node.now) (state_of S.lines W.sheet self.old) (state_of S.lines W.sheet self.new) result }
-        ensures level { OnOk result ((W.sheet self.new.wr).indentation ≡ (W.sheet self.old.wr).indentation) }
+    fn bin_trailing<N: Held>(&mut self, node: &BinExpr<N>)
+        ensures items { Makes (bin_trailing N.answers N.items node.now) (standing_of S.lines W.sheet self.old) (standing_of S.lines W.sheet self.new) }
+        ensures level { Stays (standing_of S.lines W.sheet self.old) (standing_of S.lines W.sheet self.new) }
     {
-        self.blank(before_op(node.op, node.left.held()))?;
-        self.binary_op(node.op)?;
-        self.blank(after_op(node.op, node.right.held()))?;
-        node.right.held().emit_at(self, Place::Plain)?;
-        Ok(())
+        self.blank(before_op(node.op, node.left.held()));
+        self.binary_op(node.op);
+        self.blank(after_op(node.op, node.right.held()));
+        node.right.held().emit_at(self, Place::Plain);
     }
 
     /// Writes a unary operator.
     #[tactic(auto, using(crate::proofs::OperatorLaws::marked_unary, crate::proofs::OperatorLaws::worded_unary))]
-    fn unary_op(&mut self, op: UnaryOp) -> Answer
-        ensures items { Emits (unary_op op) (state_of S.lines W.sheet self.old) (state_of S.lines W.sheet self.new) result }
-        ensures level { OnOk result ((W.sheet self.new.wr).indentation ≡ (W.sheet self.old.wr).indentation) }
+    fn unary_op(&mut self, op: UnaryOp)
+        ensures items { Makes (unary_op op) (standing_of S.lines W.sheet self.old) (standing_of S.lines W.sheet self.new) }
+        ensures level { Stays (standing_of S.lines W.sheet self.old) (standing_of S.lines W.sheet self.new) }
     {
         match unary_mark(op) {
             Some(mark) => self.punct(mark),
@@ -458,9 +442,9 @@ impl<W: WriteJs, S: SourceMapper, C: Comments> Emitter<'_, W, S, C> {
 
     /// Writes what stands between a unary operator and its operand.
     #[tactic(auto, unfolding(crate::specs::Exprs::unary_gap))]
-    fn unary_gap<N: Asked>(&mut self, op: UnaryOp, arg: &N) -> Answer
-        ensures items { Emits (unary_gap op (N.answers arg.now)) (state_of S.lines W.sheet self.old) (state_of S.lines W.sheet self.new) result }
-        ensures level { OnOk result ((W.sheet self.new.wr).indentation ≡ (W.sheet self.old.wr).indentation) }
+    fn unary_gap<N: Asked>(&mut self, op: UnaryOp, arg: &N)
+        ensures items { Makes (unary_gap op (N.answers arg.now)) (standing_of S.lines W.sheet self.old) (standing_of S.lines W.sheet self.new) }
+        ensures level { Stays (standing_of S.lines W.sheet self.old) (standing_of S.lines W.sheet self.new) }
     {
         if is_word_unary(op) {
             self.blank(arg.starts())
@@ -471,28 +455,27 @@ impl<W: WriteJs, S: SourceMapper, C: Comments> Emitter<'_, W, S, C> {
 
     /// Writes `*` after `yield`.
     #[tactic(auto, unfolding(crate::specs::Exprs::yield_star))]
-    fn yield_star(&mut self, delegate: bool) -> Answer
-        ensures items { Emits (yield_star delegate) (state_of S.lines W.sheet self.old) (state_of S.lines W.sheet self.new) result }
-        ensures level { OnOk result ((W.sheet self.new.wr).indentation ≡ (W.sheet self.old.wr).indentation) }
+    fn yield_star(&mut self, delegate: bool)
+        ensures items { Makes (yield_star delegate) (standing_of S.lines W.sheet self.old) (standing_of S.lines W.sheet self.new) }
+        ensures level { Stays (standing_of S.lines W.sheet self.old) (standing_of S.lines W.sheet self.new) }
     {
         if delegate {
             return self.operator(Punctuator::Star);
         }
-        Ok(())
     }
 
     /// Writes the argument of `yield`, and the blank before it.
     #[tactic(auto, unfolding(crate::specs::Exprs::yield_arg))]
-    fn yield_arg<N: Held>(&mut self, delegate: bool, arg: &Option<ExprBox<N>>) -> Answer
-        ensures items { Emits (yield_arg N.answers N.items delegate arg.now) (state_of S.lines W.sheet self.old) (state_of S.lines W.sheet self.new) result }
-        ensures level { OnOk result ((W.sheet self.new.wr).indentation ≡ (W.sheet self.old.wr).indentation) }
+    fn yield_arg<N: Held>(&mut self, delegate: bool, arg: &Option<ExprBox<N>>)
+        ensures items { Makes (yield_arg N.answers N.items delegate arg.now) (standing_of S.lines W.sheet self.old) (standing_of S.lines W.sheet self.new) }
+        ensures level { Stays (standing_of S.lines W.sheet self.old) (standing_of S.lines W.sheet self.new) }
     {
         match arg {
             Some(node) => {
-                self.blank(!delegate && node.held().starts())?;
+                self.blank(!delegate && node.held().starts());
                 node.held().emit_at(self, Place::Plain)
             }
-            None => Ok(()),
+            None => {}
         }
     }
 }

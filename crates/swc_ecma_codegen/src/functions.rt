@@ -1,10 +1,9 @@
 //! Functions.
 
-ghost use Rattle.std.specs.Prelude.{◌≡◌, Bool, OnOk};
+ghost use Rattle.std.specs.Prelude.{◌≡◌};
 ghost use Rattle.swc_ecma_codegen_literals.specs.Punctuators.{spelling};
-ghost use Rattle.swc_ecma_codegen_base.specs.Run.{Emits};
+ghost use Rattle.swc_ecma_codegen.specs.Standing.{Makes, Stays, standing_of};
 ghost use Rattle.swc_ecma_codegen.specs.Functions.{comma_list_format, decorators_format, decorator, decorators, decorator_lines, param, function_body, parameters, fn_trailing_parts, fn_trailing, static_gap, static_head, method_body, method_tail_parts, method_tail, private_tail, async_word, star, function_head, star_or_space, declaration_head, method_head, function, optional_name, fn_expr, is_plain, is_name, is_only, async_arrow, parenthesis, arrow_list, arrow_parameters, arrow_body, arrow_expr};
-ghost use Rattle.swc_ecma_codegen.specs.View.{state_of};
 
 use crate::blocks::is_some_listed;
 use crate::emitter::Emitter;
@@ -13,7 +12,7 @@ use crate::patterns::PatternKind;
 use swc_ecma_codegen_ast::ListFormat;
 use swc_ecma_codegen_ast::comments::Comments;
 use swc_ecma_codegen_ast::mapper::SourceMapper;
-use swc_ecma_codegen_common::{Answer, Span};
+use swc_ecma_codegen_common::Span;
 use swc_ecma_codegen_literals::Punctuator;
 use swc_ecma_codegen_text_writer::WriteJs;
 use swc_ecma_codegen_tree::{
@@ -67,18 +66,17 @@ impl<N: Held> EmitAt for ArrowExpr<N> {
         &self,
         e: &mut Emitter<'_, W, S, C>,
         place: Place,
-    ) -> Answer {
+    ) {
         if self.type_params.is_some() || self.return_type.is_some() {
             return e.unsupported();
         }
-        e.leading_comments(self.span.lo)?;
-        e.start_of(self.span)?;
-        e.async_arrow(self.is_async, is_only_name(&self.params))?;
-        e.star(self.is_generator)?;
-        e.arrow_parameters(self)?;
-        e.punct(Punctuator::Arrow)?;
-        self.body.emit_at(e, Place::Plain)?;
-        Ok(())
+        e.leading_comments(self.span.lo);
+        e.start_of(self.span);
+        e.async_arrow(self.is_async, is_only_name(&self.params));
+        e.star(self.is_generator);
+        e.arrow_parameters(self);
+        e.punct(Punctuator::Arrow);
+        self.body.emit_at(e, Place::Plain);
     }
 }
 
@@ -90,14 +88,13 @@ impl<N: Held> EmitAt for Decorator<N> {
         &self,
         e: &mut Emitter<'_, W, S, C>,
         place: Place,
-    ) -> Answer {
-        e.leading_comments(self.span.lo)?;
-        e.start_of(self.span)?;
-        e.punct(Punctuator::At)?;
-        self.expr.held().emit_at(e, Place::Plain)?;
-        e.line()?;
-        e.end_of(self.span)?;
-        Ok(())
+    ) {
+        e.leading_comments(self.span.lo);
+        e.start_of(self.span);
+        e.punct(Punctuator::At);
+        self.expr.held().emit_at(e, Place::Plain);
+        e.line();
+        e.end_of(self.span);
     }
 }
 
@@ -117,15 +114,14 @@ impl<N: Held> EmitAt for FnExpr<N> {
         &self,
         e: &mut Emitter<'_, W, S, C>,
         place: Place,
-    ) -> Answer {
+    ) {
         let span = self.function.held().place();
-        e.leading_comments(span.lo)?;
-        e.commit_pending_semi()?;
-        e.start_of(span)?;
-        self.function.held().emit_at(e, Place::FunctionHead)?;
-        e.optional_name(&self.ident)?;
-        self.function.held().emit_at(e, Place::Plain)?;
-        Ok(())
+        e.leading_comments(span.lo);
+        e.commit_pending_semi();
+        e.start_of(span);
+        self.function.held().emit_at(e, Place::FunctionHead);
+        e.optional_name(&self.ident);
+        self.function.held().emit_at(e, Place::Plain);
     }
 }
 
@@ -137,7 +133,7 @@ impl<N: Held> EmitAt for Function<N> {
         &self,
         e: &mut Emitter<'_, W, S, C>,
         place: Place,
-    ) -> Answer {
+    ) {
         match place {
             Place::FunctionHead => e.function_head(self),
             Place::MethodHead => e.method_head(self),
@@ -159,12 +155,12 @@ impl<N: Held> EmitAt for BlockStmtOrExpr<N> {
         &self,
         e: &mut Emitter<'_, W, S, C>,
         place: Place,
-    ) -> Answer {
+    ) {
         match self {
             BlockStmtOrExpr::BlockStmt(node) => node.held().emit_at(e, Place::Body),
             BlockStmtOrExpr::Expr(node) => {
-                e.deeper()?;
-                node.held().emit_at(e, Place::Plain)?;
+                e.deeper();
+                node.held().emit_at(e, Place::Plain);
                 e.shallower()
             }
         }
@@ -179,13 +175,12 @@ impl<N: Held> EmitAt for Param<N> {
         &self,
         e: &mut Emitter<'_, W, S, C>,
         place: Place,
-    ) -> Answer {
-        e.leading_comments(self.span.lo)?;
-        e.start_of(self.span)?;
-        e.decorators(self)?;
-        self.pat.held().emit_at(e, Place::Plain)?;
-        e.end_of(self.span)?;
-        Ok(())
+    ) {
+        e.leading_comments(self.span.lo);
+        e.start_of(self.span);
+        e.decorators(self);
+        self.pat.held().emit_at(e, Place::Plain);
+        e.end_of(self.span);
     }
 }
 
@@ -200,82 +195,77 @@ impl<N: Held> Child for Param<N> {
 impl<W: WriteJs, S: SourceMapper, C: Comments> Emitter<'_, W, S, C> {
     /// Writes `async` and a blank, where it is so.
     #[tactic(auto, unfolding(crate::specs::Functions::async_word))]
-    fn async_word(&mut self, wanted: bool) -> Answer
-        ensures items { Emits (async_word wanted) (state_of S.lines W.sheet self.old) (state_of S.lines W.sheet self.new) result }
-        ensures level { OnOk result ((W.sheet self.new.wr).indentation ≡ (W.sheet self.old.wr).indentation) }
+    fn async_word(&mut self, wanted: bool)
+        ensures items { Makes (async_word wanted) (standing_of S.lines W.sheet self.old) (standing_of S.lines W.sheet self.new) }
+        ensures level { Stays (standing_of S.lines W.sheet self.old) (standing_of S.lines W.sheet self.new) }
     {
         if wanted {
-            self.keyword(None, "async")?;
-            self.space()?;
+            self.keyword(None, "async");
+            self.space();
         }
-        Ok(())
     }
 
     /// Writes `*`, where it is so.
     #[tactic(auto, unfolding(crate::specs::Functions::star))]
-    fn star(&mut self, wanted: bool) -> Answer
-        ensures items { Emits (star wanted) (state_of S.lines W.sheet self.old) (state_of S.lines W.sheet self.new) result }
-        ensures level { OnOk result ((W.sheet self.new.wr).indentation ≡ (W.sheet self.old.wr).indentation) }
+    fn star(&mut self, wanted: bool)
+        ensures items { Makes (star wanted) (standing_of S.lines W.sheet self.old) (standing_of S.lines W.sheet self.new) }
+        ensures level { Stays (standing_of S.lines W.sheet self.old) (standing_of S.lines W.sheet self.new) }
     {
         if wanted {
-            self.punct(Punctuator::Star)?;
+            self.punct(Punctuator::Star);
         }
-        Ok(())
     }
 
     /// Writes `async function*` or a part of it.
     #[tactic(auto, unfolding(crate::specs::Functions::function_head))]
-    fn function_head<N>(&mut self, node: &Function<N>) -> Answer
-        ensures items { Emits (function_head node.now) (state_of S.lines W.sheet self.old) (state_of S.lines W.sheet self.new) result }
-        ensures level { OnOk result ((W.sheet self.new.wr).indentation ≡ (W.sheet self.old.wr).indentation) }
+    fn function_head<N>(&mut self, node: &Function<N>)
+        ensures items { Makes (function_head node.now) (standing_of S.lines W.sheet self.old) (standing_of S.lines W.sheet self.new) }
+        ensures level { Stays (standing_of S.lines W.sheet self.old) (standing_of S.lines W.sheet self.new) }
     {
-        self.async_word(node.is_async)?;
-        self.keyword(None, "function")?;
-        self.star(node.is_generator)?;
-        Ok(())
+        self.async_word(node.is_async);
+        self.keyword(None, "function");
+        self.star(node.is_generator);
     }
 
     /// Writes a blank, or `*` and one unless the settings are to minify.
     #[tactic(auto, unfolding(crate::specs::Functions::star_or_space))]
-    fn star_or_space(&mut self, wanted: bool) -> Answer
-        ensures items { Emits (star_or_space wanted) (state_of S.lines W.sheet self.old) (state_of S.lines W.sheet self.new) result }
-        ensures level { OnOk result ((W.sheet self.new.wr).indentation ≡ (W.sheet self.old.wr).indentation) }
+    fn star_or_space(&mut self, wanted: bool)
+        ensures items { Makes (star_or_space wanted) (standing_of S.lines W.sheet self.old) (standing_of S.lines W.sheet self.new) }
+        ensures level { Stays (standing_of S.lines W.sheet self.old) (standing_of S.lines W.sheet self.new) }
     {
         if !wanted {
             return self.space();
         }
-        self.punct(Punctuator::Star)?;
+        self.punct(Punctuator::Star);
         self.formatting_space()
     }
 
     /// Writes `async function*` or a part of it, and a blank.
     #[tactic(auto, unfolding(crate::specs::Functions::declaration_head))]
-    fn declaration_head<N>(&mut self, node: &Function<N>) -> Answer
-        ensures items { Emits (declaration_head node.now) (state_of S.lines W.sheet self.old) (state_of S.lines W.sheet self.new) result }
-        ensures level { OnOk result ((W.sheet self.new.wr).indentation ≡ (W.sheet self.old.wr).indentation) }
+    fn declaration_head<N>(&mut self, node: &Function<N>)
+        ensures items { Makes (declaration_head node.now) (standing_of S.lines W.sheet self.old) (standing_of S.lines W.sheet self.new) }
+        ensures level { Stays (standing_of S.lines W.sheet self.old) (standing_of S.lines W.sheet self.new) }
     {
-        self.async_word(node.is_async)?;
-        self.keyword(None, "function")?;
-        self.star_or_space(node.is_generator)?;
-        Ok(())
+        self.async_word(node.is_async);
+        self.keyword(None, "function");
+        self.star_or_space(node.is_generator);
     }
 
     /// Writes `async *` or a part of it.
     #[tactic(auto, unfolding(crate::specs::Functions::method_head))]
-    fn method_head<N>(&mut self, node: &Function<N>) -> Answer
-        ensures items { Emits (method_head node.now) (state_of S.lines W.sheet self.old) (state_of S.lines W.sheet self.new) result }
-        ensures level { OnOk result ((W.sheet self.new.wr).indentation ≡ (W.sheet self.old.wr).indentation) }
+    fn method_head<N>(&mut self, node: &Function<N>)
+        ensures items { Makes (method_head node.now) (standing_of S.lines W.sheet self.old) (standing_of S.lines W.sheet self.new) }
+        ensures level { Stays (standing_of S.lines W.sheet self.old) (standing_of S.lines W.sheet self.new) }
     {
-        self.async_word(node.is_async)?;
-        self.star(node.is_generator)?;
-        Ok(())
+        self.async_word(node.is_async);
+        self.star(node.is_generator);
     }
 
     /// Writes `(a) { b; }` of `function f(a) { b; }`. swc's `emit_fn_trailing`.
     #[tactic(auto, unfolding(crate::specs::Functions::fn_trailing))]
-    fn fn_trailing<N: Held>(&mut self, node: &Function<N>) -> Answer
-        ensures items { Emits (fn_trailing N.items node.now) (state_of S.lines W.sheet self.old) (state_of S.lines W.sheet self.new) result }
-        ensures level { OnOk result ((W.sheet self.new.wr).indentation ≡ (W.sheet self.old.wr).indentation) }
+    fn fn_trailing<N: Held>(&mut self, node: &Function<N>)
+        ensures items { Makes (fn_trailing N.items node.now) (standing_of S.lines W.sheet self.old) (standing_of S.lines W.sheet self.new) }
+        ensures level { Stays (standing_of S.lines W.sheet self.old) (standing_of S.lines W.sheet self.new) }
     {
         if node.type_params.is_some()
             || node.return_type.is_some()
@@ -288,13 +278,13 @@ impl<W: WriteJs, S: SourceMapper, C: Comments> Emitter<'_, W, S, C> {
 
     /// Writes the body of a method, or a semicolon in its place.
     #[tactic(auto, unfolding(crate::specs::Functions::method_body))]
-    fn method_body<N: Held>(&mut self, body: &Option<BlockStmtBox<N>>) -> Answer
-        ensures items { Emits (method_body N.items body.now) (state_of S.lines W.sheet self.old) (state_of S.lines W.sheet self.new) result }
-        ensures level { OnOk result ((W.sheet self.new.wr).indentation ≡ (W.sheet self.old.wr).indentation) }
+    fn method_body<N: Held>(&mut self, body: &Option<BlockStmtBox<N>>)
+        ensures items { Makes (method_body N.items body.now) (standing_of S.lines W.sheet self.old) (standing_of S.lines W.sheet self.new) }
+        ensures level { Stays (standing_of S.lines W.sheet self.old) (standing_of S.lines W.sheet self.new) }
     {
         match body {
             Some(body) => {
-                self.formatting_space()?;
+                self.formatting_space();
                 body.held().emit_at(self, Place::Plain)
             }
             None => self.punct(Punctuator::Semicolon),
@@ -303,22 +293,21 @@ impl<W: WriteJs, S: SourceMapper, C: Comments> Emitter<'_, W, S, C> {
 
     /// Writes `(a) { b; }` of a method, without what TypeScript adds.
     #[tactic(auto, unfolding(crate::specs::Functions::method_tail_parts))]
-    fn method_tail_parts<N: Held>(&mut self, node: &Function<N>) -> Answer
-        ensures items { Emits (method_tail_parts N.items node.now) (state_of S.lines W.sheet self.old) (state_of S.lines W.sheet self.new) result }
-        ensures level { OnOk result ((W.sheet self.new.wr).indentation ≡ (W.sheet self.old.wr).indentation) }
+    fn method_tail_parts<N: Held>(&mut self, node: &Function<N>)
+        ensures items { Makes (method_tail_parts N.items node.now) (standing_of S.lines W.sheet self.old) (standing_of S.lines W.sheet self.new) }
+        ensures level { Stays (standing_of S.lines W.sheet self.old) (standing_of S.lines W.sheet self.new) }
     {
-        self.punct(Punctuator::LeftParenthesis)?;
-        self.parameters(node)?;
-        self.punct(Punctuator::RightParenthesis)?;
-        self.method_body(&node.body)?;
-        Ok(())
+        self.punct(Punctuator::LeftParenthesis);
+        self.parameters(node);
+        self.punct(Punctuator::RightParenthesis);
+        self.method_body(&node.body);
     }
 
     /// Writes `(a) { b; }` of a method, whose decorators stand elsewhere.
     #[tactic(auto, unfolding(crate::specs::Functions::method_tail))]
-    fn method_tail<N: Held>(&mut self, node: &Function<N>) -> Answer
-        ensures items { Emits (method_tail N.items node.now) (state_of S.lines W.sheet self.old) (state_of S.lines W.sheet self.new) result }
-        ensures level { OnOk result ((W.sheet self.new.wr).indentation ≡ (W.sheet self.old.wr).indentation) }
+    fn method_tail<N: Held>(&mut self, node: &Function<N>)
+        ensures items { Makes (method_tail N.items node.now) (standing_of S.lines W.sheet self.old) (standing_of S.lines W.sheet self.new) }
+        ensures level { Stays (standing_of S.lines W.sheet self.old) (standing_of S.lines W.sheet self.new) }
     {
         if node.type_params.is_some() || node.return_type.is_some() {
             return self.unsupported();
@@ -328,9 +317,9 @@ impl<W: WriteJs, S: SourceMapper, C: Comments> Emitter<'_, W, S, C> {
 
     /// Writes `(a) { b; }` of a private method, whose decorators stand elsewhere.
     #[tactic(auto, unfolding(crate::specs::Functions::private_tail))]
-    fn private_tail<N: Held>(&mut self, node: &Function<N>) -> Answer
-        ensures items { Emits (private_tail N.items node.now) (state_of S.lines W.sheet self.old) (state_of S.lines W.sheet self.new) result }
-        ensures level { OnOk result ((W.sheet self.new.wr).indentation ≡ (W.sheet self.old.wr).indentation) }
+    fn private_tail<N: Held>(&mut self, node: &Function<N>)
+        ensures items { Makes (private_tail N.items node.now) (standing_of S.lines W.sheet self.old) (standing_of S.lines W.sheet self.new) }
+        ensures level { Stays (standing_of S.lines W.sheet self.old) (standing_of S.lines W.sheet self.new) }
     {
         if node.type_params.is_some() || node.return_type.is_some() {
             return self.unsupported();
@@ -340,34 +329,32 @@ impl<W: WriteJs, S: SourceMapper, C: Comments> Emitter<'_, W, S, C> {
 
     /// Writes `(a) { b; }`.
     #[tactic(auto, unfolding(crate::specs::Functions::fn_trailing_parts))]
-    fn fn_trailing_parts<N: Held>(&mut self, node: &Function<N>) -> Answer
-        ensures items { Emits (fn_trailing_parts N.items node.now) (state_of S.lines W.sheet self.old) (state_of S.lines W.sheet self.new) result }
-        ensures level { OnOk result ((W.sheet self.new.wr).indentation ≡ (W.sheet self.old.wr).indentation) }
+    fn fn_trailing_parts<N: Held>(&mut self, node: &Function<N>)
+        ensures items { Makes (fn_trailing_parts N.items node.now) (standing_of S.lines W.sheet self.old) (standing_of S.lines W.sheet self.new) }
+        ensures level { Stays (standing_of S.lines W.sheet self.old) (standing_of S.lines W.sheet self.new) }
     {
-        self.punct(Punctuator::LeftParenthesis)?;
-        self.parameters(node)?;
-        self.punct(Punctuator::RightParenthesis)?;
-        self.function_body(&node.body)?;
-        Ok(())
+        self.punct(Punctuator::LeftParenthesis);
+        self.parameters(node);
+        self.punct(Punctuator::RightParenthesis);
+        self.function_body(&node.body);
     }
 
     /// Writes decorators, one after another.
     #[tactic(auto, using(crate::proofs::Steps::in_order_next), unfolding(crate::specs::Lists::in_order))]
-    pub(crate) fn decorator_lines<N: Held>(&mut self, nodes: &[Decorator<N>]) -> Answer
-        ensures items { Emits (decorator_lines N.items nodes.now) (state_of S.lines W.sheet self.old) (state_of S.lines W.sheet self.new) result }
-        ensures level { OnOk result ((W.sheet self.new.wr).indentation ≡ (W.sheet self.old.wr).indentation) }
+    pub(crate) fn decorator_lines<N: Held>(&mut self, nodes: &[Decorator<N>])
+        ensures items { Makes (decorator_lines N.items nodes.now) (standing_of S.lines W.sheet self.old) (standing_of S.lines W.sheet self.new) }
+        ensures level { Stays (standing_of S.lines W.sheet self.old) (standing_of S.lines W.sheet self.new) }
     {
         for node in nodes {
-            node.emit_at(self, Place::Plain)?;
+            node.emit_at(self, Place::Plain);
         }
-        Ok(())
     }
 
     /// Writes the blank after `static`.
     #[tactic(auto, unfolding(crate::specs::Functions::static_gap))]
-    fn static_gap(&mut self, needed: bool) -> Answer
-        ensures items { Emits (static_gap needed) (state_of S.lines W.sheet self.old) (state_of S.lines W.sheet self.new) result }
-        ensures level { OnOk result ((W.sheet self.new.wr).indentation ≡ (W.sheet self.old.wr).indentation) }
+    fn static_gap(&mut self, needed: bool)
+        ensures items { Makes (static_gap needed) (standing_of S.lines W.sheet self.old) (standing_of S.lines W.sheet self.new) }
+        ensures level { Stays (standing_of S.lines W.sheet self.old) (standing_of S.lines W.sheet self.new) }
     {
         if needed {
             self.space()
@@ -379,40 +366,39 @@ impl<W: WriteJs, S: SourceMapper, C: Comments> Emitter<'_, W, S, C> {
     /// Writes the blank after `static`, and `async *` or a part of it. `starts` says whether the key of the method begins with
     /// a character of a name.
     #[tactic(auto, unfolding(crate::specs::Functions::static_head))]
-    fn static_head<N>(&mut self, starts: bool, node: &Function<N>) -> Answer
-        ensures items { Emits (static_head starts node.now) (state_of S.lines W.sheet self.old) (state_of S.lines W.sheet self.new) result }
-        ensures level { OnOk result ((W.sheet self.new.wr).indentation ≡ (W.sheet self.old.wr).indentation) }
+    fn static_head<N>(&mut self, starts: bool, node: &Function<N>)
+        ensures items { Makes (static_head starts node.now) (standing_of S.lines W.sheet self.old) (standing_of S.lines W.sheet self.new) }
+        ensures level { Stays (standing_of S.lines W.sheet self.old) (standing_of S.lines W.sheet self.new) }
     {
-        self.static_gap(node.is_async || (!node.is_generator && starts))?;
-        self.method_head(node)?;
-        Ok(())
+        self.static_gap(node.is_async || (!node.is_generator && starts));
+        self.method_head(node);
     }
 
     /// Writes the parameters of a function, with commas between.
-    fn parameters<N: Held>(&mut self, node: &Function<N>) -> Answer
-        ensures items { Emits (parameters N.items node.now) (state_of S.lines W.sheet self.old) (state_of S.lines W.sheet self.new) result }
-        ensures level { OnOk result ((W.sheet self.new.wr).indentation ≡ (W.sheet self.old.wr).indentation) }
+    fn parameters<N: Held>(&mut self, node: &Function<N>)
+        ensures items { Makes (parameters N.items node.now) (standing_of S.lines W.sheet self.old) (standing_of S.lines W.sheet self.new) }
+        ensures level { Stays (standing_of S.lines W.sheet self.old) (standing_of S.lines W.sheet self.new) }
     {
         self.list(comma_list_format(), node.span, &node.params)
     }
 
     /// Writes the decorators of a parameter.
-    fn decorators<N: Held>(&mut self, node: &Param<N>) -> Answer
-        ensures items { Emits (decorators N.items node.now) (state_of S.lines W.sheet self.old) (state_of S.lines W.sheet self.new) result }
-        ensures level { OnOk result ((W.sheet self.new.wr).indentation ≡ (W.sheet self.old.wr).indentation) }
+    fn decorators<N: Held>(&mut self, node: &Param<N>)
+        ensures items { Makes (decorators N.items node.now) (standing_of S.lines W.sheet self.old) (standing_of S.lines W.sheet self.new) }
+        ensures level { Stays (standing_of S.lines W.sheet self.old) (standing_of S.lines W.sheet self.new) }
     {
         self.list(decorators_format(), node.span, &node.decorators)
     }
 
     /// Writes a blank and a body, or a semicolon.
     #[tactic(auto, unfolding(crate::specs::Functions::function_body))]
-    fn function_body<N: Held>(&mut self, body: &Option<BlockStmtBox<N>>) -> Answer
-        ensures items { Emits (function_body N.items body.now) (state_of S.lines W.sheet self.old) (state_of S.lines W.sheet self.new) result }
-        ensures level { OnOk result ((W.sheet self.new.wr).indentation ≡ (W.sheet self.old.wr).indentation) }
+    fn function_body<N: Held>(&mut self, body: &Option<BlockStmtBox<N>>)
+        ensures items { Makes (function_body N.items body.now) (standing_of S.lines W.sheet self.old) (standing_of S.lines W.sheet self.new) }
+        ensures level { Stays (standing_of S.lines W.sheet self.old) (standing_of S.lines W.sheet self.new) }
     {
         match body {
             Some(body) => {
-                self.formatting_space()?;
+                self.formatting_space();
                 body.held().emit_at(self, Place::Body)
             }
             None => self.semi(),
@@ -421,66 +407,64 @@ impl<W: WriteJs, S: SourceMapper, C: Comments> Emitter<'_, W, S, C> {
 
     /// Writes a blank and a name, where there is one.
     #[tactic(auto, unfolding(crate::specs::Functions::optional_name))]
-    pub(crate) fn optional_name(&mut self, name: &Option<Ident>) -> Answer
-        ensures items { Emits (optional_name name.now) (state_of S.lines W.sheet self.old) (state_of S.lines W.sheet self.new) result }
-        ensures level { OnOk result ((W.sheet self.new.wr).indentation ≡ (W.sheet self.old.wr).indentation) }
+    pub(crate) fn optional_name(&mut self, name: &Option<Ident>)
+        ensures items { Makes (optional_name name.now) (standing_of S.lines W.sheet self.old) (standing_of S.lines W.sheet self.new) }
+        ensures level { Stays (standing_of S.lines W.sheet self.old) (standing_of S.lines W.sheet self.new) }
     {
         match name {
             Some(name) => {
-                self.space()?;
+                self.space();
                 self.name(name.span, &name.sym, name.optional)
             }
-            None => Ok(()),
+            None => {}
         }
     }
 
     /// Writes `async`, and a blank before a name.
     #[tactic(auto, unfolding(crate::specs::Functions::async_arrow))]
-    fn async_arrow(&mut self, wanted: bool, named: bool) -> Answer
-        ensures items { Emits (async_arrow wanted named) (state_of S.lines W.sheet self.old) (state_of S.lines W.sheet self.new) result }
-        ensures level { OnOk result ((W.sheet self.new.wr).indentation ≡ (W.sheet self.old.wr).indentation) }
+    fn async_arrow(&mut self, wanted: bool, named: bool)
+        ensures items { Makes (async_arrow wanted named) (standing_of S.lines W.sheet self.old) (standing_of S.lines W.sheet self.new) }
+        ensures level { Stays (standing_of S.lines W.sheet self.old) (standing_of S.lines W.sheet self.new) }
     {
         if wanted {
-            self.keyword(None, "async")?;
+            self.keyword(None, "async");
             if named {
-                self.space()?;
+                self.space();
             } else {
-                self.formatting_space()?;
+                self.formatting_space();
             }
         }
-        Ok(())
     }
 
     /// Writes a parenthesis, unless it stands beside a name alone and the settings are to minify.
     #[tactic(auto, using(crate::proofs::Asked::bare, crate::proofs::Asked::parenthesized))]
-    fn parenthesis(&mut self, plain: bool, mark: Punctuator) -> Answer
-        ensures items { Emits (parenthesis plain (spelling mark)) (state_of S.lines W.sheet self.old) (state_of S.lines W.sheet self.new) result }
-        ensures level { OnOk result ((W.sheet self.new.wr).indentation ≡ (W.sheet self.old.wr).indentation) }
+    fn parenthesis(&mut self, plain: bool, mark: Punctuator)
+        ensures items { Makes (parenthesis plain (spelling mark)) (standing_of S.lines W.sheet self.old) (standing_of S.lines W.sheet self.new) }
+        ensures level { Stays (standing_of S.lines W.sheet self.old) (standing_of S.lines W.sheet self.new) }
     {
         if plain && self.cfg.minify {
-            return Ok(());
+            return;
         }
         self.punct(mark)
     }
 
     /// Writes the parameters of an arrow function, with commas between.
-    fn arrow_list<N: Held>(&mut self, node: &ArrowExpr<N>) -> Answer
-        ensures items { Emits (arrow_list N.answers N.items node.now) (state_of S.lines W.sheet self.old) (state_of S.lines W.sheet self.new) result }
-        ensures level { OnOk result ((W.sheet self.new.wr).indentation ≡ (W.sheet self.old.wr).indentation) }
+    fn arrow_list<N: Held>(&mut self, node: &ArrowExpr<N>)
+        ensures items { Makes (arrow_list N.answers N.items node.now) (standing_of S.lines W.sheet self.old) (standing_of S.lines W.sheet self.new) }
+        ensures level { Stays (standing_of S.lines W.sheet self.old) (standing_of S.lines W.sheet self.new) }
     {
         self.list(comma_list_format(), node.span, &node.params)
     }
 
     /// Writes the parameters of an arrow function, in parentheses.
     #[tactic(auto, unfolding(crate::specs::Functions::arrow_parameters))]
-    fn arrow_parameters<N: Held>(&mut self, node: &ArrowExpr<N>) -> Answer
-        ensures items { Emits (arrow_parameters N.answers N.items node.now) (state_of S.lines W.sheet self.old) (state_of S.lines W.sheet self.new) result }
-        ensures level { OnOk result ((W.sheet self.new.wr).indentation ≡ (W.sheet self.old.wr).indentation) }
+    fn arrow_parameters<N: Held>(&mut self, node: &ArrowExpr<N>)
+        ensures items { Makes (arrow_parameters N.answers N.items node.now) (standing_of S.lines W.sheet self.old) (standing_of S.lines W.sheet self.new) }
+        ensures level { Stays (standing_of S.lines W.sheet self.old) (standing_of S.lines W.sheet self.new) }
     {
         let plain = is_only_plain(&node.params);
-        self.parenthesis(plain, Punctuator::LeftParenthesis)?;
-        self.arrow_list(node)?;
-        self.parenthesis(plain, Punctuator::RightParenthesis)?;
-        Ok(())
+        self.parenthesis(plain, Punctuator::LeftParenthesis);
+        self.arrow_list(node);
+        self.parenthesis(plain, Punctuator::RightParenthesis);
     }
 }

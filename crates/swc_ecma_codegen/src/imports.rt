@@ -1,12 +1,11 @@
 //! Imports.
 
-ghost use Rattle.std.specs.Prelude.{◌≡◌, true, OnOk};
+ghost use Rattle.std.specs.Prelude.{◌≡◌, true};
 ghost use Rattle.std.specs.List.{list_any};
-ghost use Rattle.swc_ecma_codegen_base.specs.Run.{Emits};
+ghost use Rattle.swc_ecma_codegen.specs.Standing.{Makes, Stays, standing_of};
 ghost use Rattle.swc_ecma_codegen_spans.specs.Spans.{import_specifier_span};
 ghost use Rattle.swc_ecma_codegen.specs.Lists.{comma};
-ghost use Rattle.swc_ecma_codegen.specs.Modules.{named_format, from_word, as_word, star_as, imported_as, import_named, import_specifier, is_named, is_default, is_star, is_crowded, import_list, before_brace, before_braces, some_named, import_braces, begins_default, some_imports, import_clause, phase_word, import_tail, import_decl, source_end};
-ghost use Rattle.swc_ecma_codegen.specs.View.{state_of};
+ghost use Rattle.swc_ecma_codegen.specs.Modules.{named_format, imported_as, import_named, import_specifier, is_named, is_default, is_star, is_crowded, import_list, before_brace, before_braces, some_named, import_braces, begins_default, some_imports, import_clause, phase_word, import_tail, import_decl};
 
 use crate::emitter::Emitter;
 use crate::modules::named_format;
@@ -14,7 +13,7 @@ use crate::nodes::{Child, EmitAt, Held, Place};
 use crate::specifiers::{Specifier, has_braced, has_star};
 use swc_ecma_codegen_ast::comments::Comments;
 use swc_ecma_codegen_ast::mapper::SourceMapper;
-use swc_ecma_codegen_common::{Answer, Span};
+use swc_ecma_codegen_common::Span;
 use swc_ecma_codegen_literals::Punctuator;
 use swc_ecma_codegen_text_writer::WriteJs;
 use swc_ecma_codegen_tree::{
@@ -60,15 +59,14 @@ impl EmitAt for ImportNamedSpecifier {
         &self,
         e: &mut Emitter<'_, W, S, C>,
         place: Place,
-    ) -> Answer {
+    ) {
         if self.is_type_only {
             return e.unsupported();
         }
-        e.start_of(self.span)?;
-        e.imported_as(&self.imported)?;
-        self.local.emit_at(e, Place::Plain)?;
-        e.end_of(self.span)?;
-        Ok(())
+        e.start_of(self.span);
+        e.imported_as(&self.imported);
+        self.local.emit_at(e, Place::Plain);
+        e.end_of(self.span);
     }
 }
 
@@ -80,10 +78,10 @@ impl EmitAt for ImportSpecifier {
         &self,
         e: &mut Emitter<'_, W, S, C>,
         place: Place,
-    ) -> Answer {
+    ) {
         match self {
             ImportSpecifier::Named(node) => node.emit_at(e, Place::Plain),
-            ImportSpecifier::Default(_) | ImportSpecifier::Namespace(_) => Ok(()),
+            ImportSpecifier::Default(_) | ImportSpecifier::Namespace(_) => {}
         }
     }
 }
@@ -125,59 +123,58 @@ impl<N: Held> EmitAt for ImportDecl<N> {
         &self,
         e: &mut Emitter<'_, W, S, C>,
         place: Place,
-    ) -> Answer {
+    ) {
         if is_crowded(&self.specifiers) {
             return e.bad_shape();
         }
         if self.type_only {
             return e.unsupported();
         }
-        e.leading_comments(self.span.lo)?;
-        e.start_of(self.span)?;
-        e.keyword(None, "import")?;
-        e.phase_word(self.phase)?;
-        e.blank(begins_default(&self.specifiers))?;
-        e.import_tail(self)?;
-        Ok(())
+        e.leading_comments(self.span.lo);
+        e.start_of(self.span);
+        e.keyword(None, "import");
+        e.phase_word(self.phase);
+        e.blank(begins_default(&self.specifiers));
+        e.import_tail(self);
     }
 }
 
 impl<W: WriteJs, S: SourceMapper, C: Comments> Emitter<'_, W, S, C> {
     /// Writes `a as` and a blank, where it is so.
     #[tactic(auto, unfolding(crate::specs::Modules::imported_as))]
-    fn imported_as(&mut self, name: &Option<ModuleExportName>) -> Answer
-        ensures items { Emits (imported_as name.now) (state_of S.lines W.sheet self.old) (state_of S.lines W.sheet self.new) result }
-        ensures level { OnOk result ((W.sheet self.new.wr).indentation ≡ (W.sheet self.old.wr).indentation) }
+    fn imported_as(&mut self, name: &Option<ModuleExportName>)
+        ensures items { Makes (imported_as name.now) (standing_of S.lines W.sheet self.old) (standing_of S.lines W.sheet self.new) }
+        ensures level { Stays (standing_of S.lines W.sheet self.old) (standing_of S.lines W.sheet self.new) }
     {
         match name {
             Some(name) => {
-                name.emit_at(self, Place::Plain)?;
+                name.emit_at(self, Place::Plain);
                 self.as_word()
             }
-            None => Ok(()),
+            None => {}
         }
     }
 
     /// Writes what is imported among braces.
-    fn import_list(&mut self, parent: Span, specifiers: &[ImportSpecifier]) -> Answer
-        ensures items { Emits (import_list parent specifiers.now) (state_of S.lines W.sheet self.old) (state_of S.lines W.sheet self.new) result }
-        ensures level { OnOk result ((W.sheet self.new.wr).indentation ≡ (W.sheet self.old.wr).indentation) }
+    fn import_list(&mut self, parent: Span, specifiers: &[ImportSpecifier])
+        ensures items { Makes (import_list parent specifiers.now) (standing_of S.lines W.sheet self.old) (standing_of S.lines W.sheet self.new) }
+        ensures level { Stays (standing_of S.lines W.sheet self.old) (standing_of S.lines W.sheet self.new) }
     {
         self.braced_list(named_format(), parent, specifiers)
     }
 
     /// Writes what of a specifier stands before the braces.
     #[tactic(auto, unfolding(crate::specs::Modules::before_brace))]
-    fn before_brace(&mut self, first: bool, specifier: &ImportSpecifier) -> Answer
-        ensures items { Emits (before_brace first specifier.now) (state_of S.lines W.sheet self.old) (state_of S.lines W.sheet self.new) result }
-        ensures level { OnOk result ((W.sheet self.new.wr).indentation ≡ (W.sheet self.old.wr).indentation) }
+    fn before_brace(&mut self, first: bool, specifier: &ImportSpecifier)
+        ensures items { Makes (before_brace first specifier.now) (standing_of S.lines W.sheet self.old) (standing_of S.lines W.sheet self.new) }
+        ensures level { Stays (standing_of S.lines W.sheet self.old) (standing_of S.lines W.sheet self.new) }
     {
         match specifier {
-            ImportSpecifier::Named(_) => Ok(()),
+            ImportSpecifier::Named(_) => {}
             ImportSpecifier::Default(node) => node.local.emit_at(self, Place::Plain),
             ImportSpecifier::Namespace(node) => {
-                self.comma(first)?;
-                self.star_as()?;
+                self.comma(first);
+                self.star_as();
                 node.local.emit_at(self, Place::Plain)
             }
         }
@@ -185,37 +182,35 @@ impl<W: WriteJs, S: SourceMapper, C: Comments> Emitter<'_, W, S, C> {
 
     /// Writes `a, * as b`, as they stand in the list.
     #[tactic(auto, using(crate::proofs::Steps::before_next), unfolding(crate::specs::Modules::before_braces))]
-    fn before_braces(&mut self, specifiers: &[ImportSpecifier]) -> Answer
-        ensures items { Emits (before_braces true specifiers.now) (state_of S.lines W.sheet self.old) (state_of S.lines W.sheet self.new) result }
-        ensures level { OnOk result ((W.sheet self.new.wr).indentation ≡ (W.sheet self.old.wr).indentation) }
+    fn before_braces(&mut self, specifiers: &[ImportSpecifier])
+        ensures items { Makes (before_braces true specifiers.now) (standing_of S.lines W.sheet self.old) (standing_of S.lines W.sheet self.new) }
+        ensures level { Stays (standing_of S.lines W.sheet self.old) (standing_of S.lines W.sheet self.new) }
     {
         let mut first = true;
         for specifier in specifiers {
-            self.before_brace(first, specifier)?;
+            self.before_brace(first, specifier);
             first = first && !is_default(specifier);
         }
-        Ok(())
     }
 
     /// Writes `{ a, b as c }` and a blank, behind a comma where a default name is written.
     #[tactic(auto, unfolding(crate::specs::Modules::some_named))]
-    fn some_named(&mut self, parent: Span, specifiers: &[ImportSpecifier]) -> Answer
-        ensures items { Emits (some_named parent specifiers.now) (state_of S.lines W.sheet self.old) (state_of S.lines W.sheet self.new) result }
-        ensures level { OnOk result ((W.sheet self.new.wr).indentation ≡ (W.sheet self.old.wr).indentation) }
+    fn some_named(&mut self, parent: Span, specifiers: &[ImportSpecifier])
+        ensures items { Makes (some_named parent specifiers.now) (standing_of S.lines W.sheet self.old) (standing_of S.lines W.sheet self.new) }
+        ensures level { Stays (standing_of S.lines W.sheet self.old) (standing_of S.lines W.sheet self.new) }
     {
-        self.comma(!has_default(specifiers))?;
-        self.punct(Punctuator::LeftBrace)?;
-        self.import_list(parent, specifiers)?;
-        self.punct(Punctuator::RightBrace)?;
-        self.formatting_space()?;
-        Ok(())
+        self.comma(!has_default(specifiers));
+        self.punct(Punctuator::LeftBrace);
+        self.import_list(parent, specifiers);
+        self.punct(Punctuator::RightBrace);
+        self.formatting_space();
     }
 
     /// Writes that, or the blank that stands there without braces.
     #[tactic(auto, unfolding(crate::specs::Modules::import_braces))]
-    fn import_braces(&mut self, parent: Span, specifiers: &[ImportSpecifier]) -> Answer
-        ensures items { Emits (import_braces parent specifiers.now) (state_of S.lines W.sheet self.old) (state_of S.lines W.sheet self.new) result }
-        ensures level { OnOk result ((W.sheet self.new.wr).indentation ≡ (W.sheet self.old.wr).indentation) }
+    fn import_braces(&mut self, parent: Span, specifiers: &[ImportSpecifier])
+        ensures items { Makes (import_braces parent specifiers.now) (standing_of S.lines W.sheet self.old) (standing_of S.lines W.sheet self.new) }
+        ensures level { Stays (standing_of S.lines W.sheet self.old) (standing_of S.lines W.sheet self.new) }
     {
         if has_braced(specifiers) {
             return self.some_named(parent, specifiers);
@@ -225,42 +220,41 @@ impl<W: WriteJs, S: SourceMapper, C: Comments> Emitter<'_, W, S, C> {
 
     /// Writes `a, { b } from` and a blank.
     #[tactic(auto, unfolding(crate::specs::Modules::some_imports))]
-    fn some_imports(&mut self, parent: Span, specifiers: &[ImportSpecifier]) -> Answer
-        ensures items { Emits (some_imports parent specifiers.now) (state_of S.lines W.sheet self.old) (state_of S.lines W.sheet self.new) result }
-        ensures level { OnOk result ((W.sheet self.new.wr).indentation ≡ (W.sheet self.old.wr).indentation) }
+    fn some_imports(&mut self, parent: Span, specifiers: &[ImportSpecifier])
+        ensures items { Makes (some_imports parent specifiers.now) (standing_of S.lines W.sheet self.old) (standing_of S.lines W.sheet self.new) }
+        ensures level { Stays (standing_of S.lines W.sheet self.old) (standing_of S.lines W.sheet self.new) }
     {
-        self.before_braces(specifiers)?;
-        self.import_braces(parent, specifiers)?;
-        self.from_word()?;
-        Ok(())
+        self.before_braces(specifiers);
+        self.import_braces(parent, specifiers);
+        self.from_word();
     }
 
     /// Writes what is imported, then `from` and a blank.
     #[tactic(auto, unfolding(crate::specs::Modules::import_clause))]
-    fn import_clause(&mut self, parent: Span, specifiers: &[ImportSpecifier]) -> Answer
-        ensures items { Emits (import_clause parent specifiers.now) (state_of S.lines W.sheet self.old) (state_of S.lines W.sheet self.new) result }
-        ensures level { OnOk result ((W.sheet self.new.wr).indentation ≡ (W.sheet self.old.wr).indentation) }
+    fn import_clause(&mut self, parent: Span, specifiers: &[ImportSpecifier])
+        ensures items { Makes (import_clause parent specifiers.now) (standing_of S.lines W.sheet self.old) (standing_of S.lines W.sheet self.new) }
+        ensures level { Stays (standing_of S.lines W.sheet self.old) (standing_of S.lines W.sheet self.new) }
     {
         if specifiers.is_empty() {
-            return Ok(());
+            return;
         }
         self.some_imports(parent, specifiers)
     }
 
     /// Writes `source` or `defer` behind a blank, where it is so.
     #[tactic(auto, unfolding(crate::specs::Modules::phase_word))]
-    fn phase_word(&mut self, phase: ImportPhase) -> Answer
-        ensures items { Emits (phase_word phase) (state_of S.lines W.sheet self.old) (state_of S.lines W.sheet self.new) result }
-        ensures level { OnOk result ((W.sheet self.new.wr).indentation ≡ (W.sheet self.old.wr).indentation) }
+    fn phase_word(&mut self, phase: ImportPhase)
+        ensures items { Makes (phase_word phase) (standing_of S.lines W.sheet self.old) (standing_of S.lines W.sheet self.new) }
+        ensures level { Stays (standing_of S.lines W.sheet self.old) (standing_of S.lines W.sheet self.new) }
     {
         match phase {
-            ImportPhase::Evaluation => Ok(()),
+            ImportPhase::Evaluation => {}
             ImportPhase::Source => {
-                self.space()?;
+                self.space();
                 self.keyword(None, "source")
             }
             ImportPhase::Defer => {
-                self.space()?;
+                self.space();
                 self.keyword(None, "defer")
             }
         }
@@ -268,11 +262,11 @@ impl<W: WriteJs, S: SourceMapper, C: Comments> Emitter<'_, W, S, C> {
 
     /// Writes `{ a } from 'b';`
     #[tactic(auto, unfolding(crate::specs::Modules::import_tail))]
-    fn import_tail<N: Held>(&mut self, node: &ImportDecl<N>) -> Answer
-        ensures items { Emits (import_tail N.items node.now) (state_of S.lines W.sheet self.old) (state_of S.lines W.sheet self.new) result }
-        ensures level { OnOk result ((W.sheet self.new.wr).indentation ≡ (W.sheet self.old.wr).indentation) }
+    fn import_tail<N: Held>(&mut self, node: &ImportDecl<N>)
+        ensures items { Makes (import_tail N.items node.now) (standing_of S.lines W.sheet self.old) (standing_of S.lines W.sheet self.new) }
+        ensures level { Stays (standing_of S.lines W.sheet self.old) (standing_of S.lines W.sheet self.new) }
     {
-        self.import_clause(node.span, &node.specifiers)?;
+        self.import_clause(node.span, &node.specifiers);
         self.source_end(&node.src, &node.with_, node.span)
     }
 }

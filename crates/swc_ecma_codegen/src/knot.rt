@@ -1,7 +1,6 @@
 //! The whole tree. Only these functions go from what a link holds to the function for its sort, so only these see that
 //! the tree refers to itself, and only these use the laws of the fold.
 
-ghost use Rattle.std.specs.Prelude.{◌≡◌};
 ghost use Rattle.swc_ecma_codegen.specs.Answers.{any_answers};
 ghost use Rattle.swc_ecma_codegen.specs.Tree.{any_items};
 
@@ -15,7 +14,7 @@ use crate::operands::{Operand, OperandKind, SpaceBefore};
 use crate::patterns::{PatternKind, kind_of_part};
 use swc_ecma_codegen_ast::comments::Comments;
 use swc_ecma_codegen_ast::mapper::SourceMapper;
-use swc_ecma_codegen_common::{Answer, BinaryOp, Span};
+use swc_ecma_codegen_common::{BinaryOp, Span};
 use swc_ecma_codegen_spans::Spanned;
 use swc_ecma_codegen_text_writer::WriteJs;
 use swc_ecma_codegen_tree::AnyNode;
@@ -91,7 +90,7 @@ impl EmitAt for AnyNode {
         &self,
         e: &mut Emitter<'_, W, S, C>,
         place: Place,
-    ) -> Answer {
+    ) {
         match self {
             AnyNode::Expr(node) => node.emit_at(e, place),
             AnyNode::Stmt(node) => node.emit_at(e, place),

@@ -28,6 +28,7 @@ mod pats;
 pub mod patterns;
 mod places;
 mod props;
+mod refusals;
 mod specifiers;
 mod stmt;
 mod targets;

@@ -3,17 +3,17 @@
 //! Calls of the lower emitter that spell a text are never inlined: each needs more of the stack than others, which would be
 //! part of the frames that are there once for each level of a tree.
 
-ghost use Rattle.std.specs.Prelude.{◌≡◌, OnOk};
-ghost use Rattle.swc_ecma_codegen_base.specs.Run.{Emits};
+ghost use Rattle.std.specs.Prelude.{◌≡◌};
+ghost use Rattle.swc_ecma_codegen.specs.Standing.{Makes, Stays, standing_of};
 ghost use Rattle.swc_ecma_codegen_base.specs.Lits.{str_lit, bool_lit, null_lit, number_lit, number_object, big_int_lit, regex_lit, lit};
 ghost use Rattle.swc_ecma_codegen.specs.Lits.{lit_at, is_object, is_number_object};
-ghost use Rattle.swc_ecma_codegen.specs.View.{state_of};
 
 use crate::emitter::Emitter;
 use crate::nodes::{EmitAt, Place};
+use crate::refusals::keep;
 use swc_ecma_codegen_ast::comments::Comments;
 use swc_ecma_codegen_ast::mapper::SourceMapper;
-use swc_ecma_codegen_common::{Answer, BytePos};
+use swc_ecma_codegen_common::BytePos;
 use swc_ecma_codegen_text_writer::WriteJs;
 use swc_ecma_codegen_tree::{BigInt, Bool, Lit, Null, Number, Regex, Str};
 
@@ -47,7 +47,7 @@ impl EmitAt for Lit {
         &self,
         e: &mut Emitter<'_, W, S, C>,
         place: Place,
-    ) -> Answer {
+    ) {
         match (self, place) {
             (Lit::Num(node), Place::Object) => e.number_lit(node),
             (Lit::Num(node), Place::DottedObject(prop)) => e.number_object(node, prop),
@@ -60,42 +60,51 @@ impl EmitAt for Lit {
 impl EmitAt for Str {
     ghost items = { λ n _. str_lit n };
 
-    #[tactic(auto, unfolding(swc_ecma_codegen_base::specs::Run::with_lines))]
+    #[tactic(auto, using(crate::proofs::Standings::refused_makes))]
     fn emit_at<W: WriteJs, S: SourceMapper, C: Comments>(
         &self,
         e: &mut Emitter<'_, W, S, C>,
         place: Place,
-    ) -> Answer {
-        e.lower.str_lit(&e.cfg, &e.comments, &mut e.wr, self)?;
-        Ok(())
+    ) {
+        if e.refusal.is_some() {
+            return;
+        }
+        keep(
+            &mut e.refusal,
+            e.lower.str_lit(&e.cfg, &e.comments, &mut e.wr, self),
+        );
     }
 }
 
 impl EmitAt for Bool {
     ghost items = { λ n _. bool_lit n };
 
-    #[tactic(auto, unfolding(swc_ecma_codegen_base::specs::Run::with_lines))]
+    #[tactic(auto, using(crate::proofs::Standings::refused_makes))]
     fn emit_at<W: WriteJs, S: SourceMapper, C: Comments>(
         &self,
         e: &mut Emitter<'_, W, S, C>,
         place: Place,
-    ) -> Answer {
-        e.lower.bool_lit(&e.cfg, &mut e.wr, self)?;
-        Ok(())
+    ) {
+        if e.refusal.is_some() {
+            return;
+        }
+        keep(&mut e.refusal, e.lower.bool_lit(&e.cfg, &mut e.wr, self));
     }
 }
 
 impl EmitAt for Null {
     ghost items = { λ n _. null_lit n };
 
-    #[tactic(auto, unfolding(swc_ecma_codegen_base::specs::Run::with_lines))]
+    #[tactic(auto, using(crate::proofs::Standings::refused_makes))]
     fn emit_at<W: WriteJs, S: SourceMapper, C: Comments>(
         &self,
         e: &mut Emitter<'_, W, S, C>,
         place: Place,
-    ) -> Answer {
-        e.lower.null_lit(&e.cfg, &mut e.wr, self)?;
-        Ok(())
+    ) {
+        if e.refusal.is_some() {
+            return;
+        }
+        keep(&mut e.refusal, e.lower.null_lit(&e.cfg, &mut e.wr, self));
     }
 }
 
@@ -106,7 +115,7 @@ impl EmitAt for Number {
         &self,
         e: &mut Emitter<'_, W, S, C>,
         place: Place,
-    ) -> Answer {
+    ) {
         e.number_lit(self)
     }
 }
@@ -114,60 +123,88 @@ impl EmitAt for Number {
 impl EmitAt for BigInt {
     ghost items = { λ n _. big_int_lit n };
 
-    #[tactic(auto, unfolding(swc_ecma_codegen_base::specs::Run::with_lines))]
+    #[tactic(auto, using(crate::proofs::Standings::refused_makes))]
     fn emit_at<W: WriteJs, S: SourceMapper, C: Comments>(
         &self,
         e: &mut Emitter<'_, W, S, C>,
         place: Place,
-    ) -> Answer {
-        e.lower.big_int_lit(&e.cfg, &e.comments, &mut e.wr, self)?;
-        Ok(())
+    ) {
+        if e.refusal.is_some() {
+            return;
+        }
+        keep(
+            &mut e.refusal,
+            e.lower.big_int_lit(&e.cfg, &e.comments, &mut e.wr, self),
+        );
     }
 }
 
 impl EmitAt for Regex {
     ghost items = { λ n _. regex_lit n };
 
-    #[tactic(auto, unfolding(swc_ecma_codegen_base::specs::Run::with_lines))]
+    #[tactic(auto, using(crate::proofs::Standings::refused_makes))]
     fn emit_at<W: WriteJs, S: SourceMapper, C: Comments>(
         &self,
         e: &mut Emitter<'_, W, S, C>,
         place: Place,
-    ) -> Answer {
-        e.lower.regex_lit(&e.cfg, &mut e.wr, self)?;
-        Ok(())
+    ) {
+        if e.refusal.is_some() {
+            return;
+        }
+        keep(&mut e.refusal, e.lower.regex_lit(&e.cfg, &mut e.wr, self));
     }
 }
 
 impl<W: WriteJs, S: SourceMapper, C: Comments> Emitter<'_, W, S, C> {
     /// Writes a literal.
     #[inline(never)]
-    fn lit(&mut self, node: &Lit) -> Answer
-        ensures items { Emits (lit node.now) (state_of S.lines W.sheet self.old) (state_of S.lines W.sheet self.new) result }
-        ensures level { OnOk result ((W.sheet self.new.wr).indentation ≡ (W.sheet self.old.wr).indentation) }
+    #[tactic(auto, using(crate::proofs::Standings::refused_makes))]
+    fn lit(&mut self, node: &Lit)
+        ensures items { Makes (lit node.now) (standing_of S.lines W.sheet self.old) (standing_of S.lines W.sheet self.new) }
+        ensures level { Stays (standing_of S.lines W.sheet self.old) (standing_of S.lines W.sheet self.new) }
     {
-        self.lower
-            .lit(&self.cfg, &self.comments, &mut self.wr, node)
+        if self.refusal.is_some() {
+            return;
+        }
+        keep(
+            &mut self.refusal,
+            self.lower
+                .lit(&self.cfg, &self.comments, &mut self.wr, node),
+        );
     }
 
     /// Writes a number.
     #[inline(never)]
-    fn number_lit(&mut self, node: &Number) -> Answer
-        ensures items { Emits (number_lit node.now) (state_of S.lines W.sheet self.old) (state_of S.lines W.sheet self.new) result }
-        ensures level { OnOk result ((W.sheet self.new.wr).indentation ≡ (W.sheet self.old.wr).indentation) }
+    #[tactic(auto, using(crate::proofs::Standings::refused_makes))]
+    fn number_lit(&mut self, node: &Number)
+        ensures items { Makes (number_lit node.now) (standing_of S.lines W.sheet self.old) (standing_of S.lines W.sheet self.new) }
+        ensures level { Stays (standing_of S.lines W.sheet self.old) (standing_of S.lines W.sheet self.new) }
     {
-        self.lower
-            .number_lit(&self.cfg, &self.comments, &mut self.wr, node)
+        if self.refusal.is_some() {
+            return;
+        }
+        keep(
+            &mut self.refusal,
+            self.lower
+                .number_lit(&self.cfg, &self.comments, &mut self.wr, node),
+        );
     }
 
     /// Writes a number before the dot of a property, which stands at `prop`: with a dot of its own, where the other one would
     /// be its.
     #[inline(never)]
-    fn number_object(&mut self, node: &Number, prop: BytePos) -> Answer
-        ensures items { Emits (number_object node.now prop) (state_of S.lines W.sheet self.old) (state_of S.lines W.sheet self.new) result }
-        ensures level { OnOk result ((W.sheet self.new.wr).indentation ≡ (W.sheet self.old.wr).indentation) }
+    #[tactic(auto, using(crate::proofs::Standings::refused_makes))]
+    fn number_object(&mut self, node: &Number, prop: BytePos)
+        ensures items { Makes (number_object node.now prop) (standing_of S.lines W.sheet self.old) (standing_of S.lines W.sheet self.new) }
+        ensures level { Stays (standing_of S.lines W.sheet self.old) (standing_of S.lines W.sheet self.new) }
     {
-        self.lower
-            .number_object(&self.cfg, &self.comments, &mut self.wr, node, prop)
+        if self.refusal.is_some() {
+            return;
+        }
+        keep(
+            &mut self.refusal,
+            self.lower
+                .number_object(&self.cfg, &self.comments, &mut self.wr, node, prop),
+        );
     }
 }

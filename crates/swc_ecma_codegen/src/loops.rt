@@ -1,14 +1,12 @@
 //! Loops and `switch`.
 
-ghost use Rattle.std.specs.Prelude.{◌≡◌, if◌then◌else◌, map, OnOk, true};
+ghost use Rattle.std.specs.Prelude.{◌≡◌, true};
 ghost use Rattle.swc_ecma_codegen_ast.specs.Settings.{is_up_to_es5};
 ghost use Rattle.swc_ecma_codegen_util.specs.Ends.{declarator_ends, declarators_end, head_ends};
 ghost use Rattle.swc_ecma_codegen_base.specs.Choices.{loop_ending};
-ghost use Rattle.swc_ecma_codegen_base.specs.Lists.{list};
-ghost use Rattle.swc_ecma_codegen_base.specs.Run.{Emits};
+ghost use Rattle.swc_ecma_codegen.specs.Standing.{Makes, Stays, standing_of};
 ghost use Rattle.swc_ecma_codegen_base.specs.Starts.{begins_letter};
 ghost use Rattle.swc_ecma_codegen.specs.Stmts.{case_body, cases_format, lines_format, case_format, case_test, is_single, case_list, case_children, case_stmts, switch_case, cases, switch_cases, switch_stmt, while_stmt, loop_test, do_while_stmt, var_decl_or_expr, for_init, for_value, for_clause, for_control, for_stmt, for_head, for_right, for_each, for_in_stmt, for_await, for_of_stmt};
-ghost use Rattle.swc_ecma_codegen.specs.View.{state_of};
 
 use crate::emitter::Emitter;
 use crate::nodes::{AskEnds, AskPlace, Child, EmitAt, Held, Place};
@@ -16,7 +14,7 @@ use bitflags::Flags;
 use swc_ecma_codegen_ast::ListFormat;
 use swc_ecma_codegen_ast::comments::Comments;
 use swc_ecma_codegen_ast::mapper::SourceMapper;
-use swc_ecma_codegen_common::{Answer, EsVersion, Span};
+use swc_ecma_codegen_common::{EsVersion, Span};
 use swc_ecma_codegen_literals::Punctuator;
 use swc_ecma_codegen_text_writer::WriteJs;
 use swc_ecma_codegen_tree::{
@@ -112,7 +110,7 @@ impl<N: Held> EmitAt for ForHead<N> {
         &self,
         e: &mut Emitter<'_, W, S, C>,
         place: Place,
-    ) -> Answer {
+    ) {
         match self {
             ForHead::Pat(node) => node.held().emit_at(e, Place::Plain),
             ForHead::VarDecl(node) => node.held().emit_at(e, Place::Plain),
@@ -129,11 +127,10 @@ impl<N: Held> EmitAt for SwitchStmt<N> {
         &self,
         e: &mut Emitter<'_, W, S, C>,
         place: Place,
-    ) -> Answer {
-        e.stmt_word(self.span, "switch")?;
-        e.enclosed(&self.discriminant)?;
-        e.switch_cases(self)?;
-        Ok(())
+    ) {
+        e.stmt_word(self.span, "switch");
+        e.enclosed(&self.discriminant);
+        e.switch_cases(self);
     }
 }
 
@@ -145,11 +142,10 @@ impl<N: Held> EmitAt for SwitchCase<N> {
         &self,
         e: &mut Emitter<'_, W, S, C>,
         place: Place,
-    ) -> Answer {
-        e.opened(self.span)?;
-        e.case_test(&self.test)?;
-        e.case_stmts(self)?;
-        Ok(())
+    ) {
+        e.opened(self.span);
+        e.case_test(&self.test);
+        e.case_stmts(self);
     }
 }
 
@@ -169,11 +165,10 @@ impl<N: Held> EmitAt for WhileStmt<N> {
         &self,
         e: &mut Emitter<'_, W, S, C>,
         place: Place,
-    ) -> Answer {
-        e.stmt_word(self.span, "while")?;
-        e.enclosed(&self.test)?;
-        self.body.held().emit_at(e, Place::Plain)?;
-        Ok(())
+    ) {
+        e.stmt_word(self.span, "while");
+        e.enclosed(&self.test);
+        self.body.held().emit_at(e, Place::Plain);
     }
 }
 
@@ -185,13 +180,12 @@ impl<N: Held> EmitAt for DoWhileStmt<N> {
         &self,
         e: &mut Emitter<'_, W, S, C>,
         place: Place,
-    ) -> Answer {
-        e.stmt_word(self.span, "do")?;
-        e.spaced(self.body.held())?;
-        e.loop_test(&self.test)?;
-        e.loop_ending()?;
-        e.end_of(self.span)?;
-        Ok(())
+    ) {
+        e.stmt_word(self.span, "do");
+        e.spaced(self.body.held());
+        e.loop_test(&self.test);
+        e.loop_ending();
+        e.end_of(self.span);
     }
 }
 
@@ -203,11 +197,10 @@ impl<N: Held> EmitAt for ForStmt<N> {
         &self,
         e: &mut Emitter<'_, W, S, C>,
         place: Place,
-    ) -> Answer {
-        e.stmt_word(self.span, "for")?;
-        e.for_control(self)?;
-        self.body.held().emit_at(e, Place::Plain)?;
-        Ok(())
+    ) {
+        e.stmt_word(self.span, "for");
+        e.for_control(self);
+        self.body.held().emit_at(e, Place::Plain);
     }
 }
 
@@ -219,11 +212,10 @@ impl<N: Held> EmitAt for ForInStmt<N> {
         &self,
         e: &mut Emitter<'_, W, S, C>,
         place: Place,
-    ) -> Answer {
-        e.stmt_word(self.span, "for")?;
-        e.for_each("in", &self.left, &self.right)?;
-        self.body.held().emit_at(e, Place::Plain)?;
-        Ok(())
+    ) {
+        e.stmt_word(self.span, "for");
+        e.for_each("in", &self.left, &self.right);
+        self.body.held().emit_at(e, Place::Plain);
     }
 }
 
@@ -235,13 +227,12 @@ impl<N: Held> EmitAt for ForOfStmt<N> {
         &self,
         e: &mut Emitter<'_, W, S, C>,
         place: Place,
-    ) -> Answer {
-        e.stmt_word(self.span, "for")?;
-        e.for_await(self.is_await)?;
-        e.formatting_space()?;
-        e.for_each("of", &self.left, &self.right)?;
-        self.body.held().emit_at(e, Place::Plain)?;
-        Ok(())
+    ) {
+        e.stmt_word(self.span, "for");
+        e.for_await(self.is_await);
+        e.formatting_space();
+        e.for_each("of", &self.left, &self.right);
+        self.body.held().emit_at(e, Place::Plain);
     }
 }
 
@@ -253,7 +244,7 @@ impl<N: Held> EmitAt for VarDeclOrExpr<N> {
         &self,
         e: &mut Emitter<'_, W, S, C>,
         place: Place,
-    ) -> Answer {
+    ) {
         match self {
             VarDeclOrExpr::Expr(node) => node.held().emit_at(e, Place::Plain),
             VarDeclOrExpr::VarDecl(node) => node.held().emit_at(e, Place::Plain),
@@ -263,35 +254,34 @@ impl<N: Held> EmitAt for VarDeclOrExpr<N> {
 
 impl<W: WriteJs, S: SourceMapper, C: Comments> Emitter<'_, W, S, C> {
     /// Writes the cases, each on a line of its own.
-    fn cases<N: Held>(&mut self, node: &SwitchStmt<N>) -> Answer
-        ensures items { Emits (cases N.answers N.items node.now) (state_of S.lines W.sheet self.old) (state_of S.lines W.sheet self.new) result }
-        ensures level { OnOk result ((W.sheet self.new.wr).indentation ≡ (W.sheet self.old.wr).indentation) }
+    fn cases<N: Held>(&mut self, node: &SwitchStmt<N>)
+        ensures items { Makes (cases N.answers N.items node.now) (standing_of S.lines W.sheet self.old) (standing_of S.lines W.sheet self.new) }
+        ensures level { Stays (standing_of S.lines W.sheet self.old) (standing_of S.lines W.sheet self.new) }
     {
         self.list(cases_format(), node.span, &node.cases)
     }
 
     /// Writes `{ case a: b; }`.
     #[tactic(auto, unfolding(crate::specs::Stmts::switch_cases))]
-    fn switch_cases<N: Held>(&mut self, node: &SwitchStmt<N>) -> Answer
-        ensures items { Emits (switch_cases N.answers N.items node.now) (state_of S.lines W.sheet self.old) (state_of S.lines W.sheet self.new) result }
-        ensures level { OnOk result ((W.sheet self.new.wr).indentation ≡ (W.sheet self.old.wr).indentation) }
+    fn switch_cases<N: Held>(&mut self, node: &SwitchStmt<N>)
+        ensures items { Makes (switch_cases N.answers N.items node.now) (standing_of S.lines W.sheet self.old) (standing_of S.lines W.sheet self.new) }
+        ensures level { Stays (standing_of S.lines W.sheet self.old) (standing_of S.lines W.sheet self.new) }
     {
-        self.punct(Punctuator::LeftBrace)?;
-        self.cases(node)?;
-        self.last_of(node.span)?;
-        self.punct(Punctuator::RightBrace)?;
-        Ok(())
+        self.punct(Punctuator::LeftBrace);
+        self.cases(node);
+        self.last_of(node.span);
+        self.punct(Punctuator::RightBrace);
     }
 
     /// Writes `case a` or `default`.
     #[tactic(auto, unfolding(crate::specs::Stmts::case_test))]
-    fn case_test<N: Held>(&mut self, test: &Option<ExprBox<N>>) -> Answer
-        ensures items { Emits (case_test N.answers N.items test.now) (state_of S.lines W.sheet self.old) (state_of S.lines W.sheet self.new) result }
-        ensures level { OnOk result ((W.sheet self.new.wr).indentation ≡ (W.sheet self.old.wr).indentation) }
+    fn case_test<N: Held>(&mut self, test: &Option<ExprBox<N>>)
+        ensures items { Makes (case_test N.answers N.items test.now) (standing_of S.lines W.sheet self.old) (standing_of S.lines W.sheet self.new) }
+        ensures level { Stays (standing_of S.lines W.sheet self.old) (standing_of S.lines W.sheet self.new) }
     {
         match test {
             Some(node) => {
-                self.keyword(None, "case")?;
+                self.keyword(None, "case");
                 self.spaced(node.held())
             }
             None => self.keyword(None, "default"),
@@ -299,29 +289,28 @@ impl<W: WriteJs, S: SourceMapper, C: Comments> Emitter<'_, W, S, C> {
     }
 
     /// Writes the statements of a case.
-    fn case_children<N: Held>(&mut self, single: bool, node: &SwitchCase<N>) -> Answer
-        ensures items { Emits (case_body single node.now.span (case_children N.answers N.items node.now.cons.items)) (state_of S.lines W.sheet self.old) (state_of S.lines W.sheet self.new) result }
-        ensures level { OnOk result ((W.sheet self.new.wr).indentation ≡ (W.sheet self.old.wr).indentation) }
+    fn case_children<N: Held>(&mut self, single: bool, node: &SwitchCase<N>)
+        ensures items { Makes (case_body single node.now.span (case_children N.answers N.items node.now.cons.items)) (standing_of S.lines W.sheet self.old) (standing_of S.lines W.sheet self.new) }
+        ensures level { Stays (standing_of S.lines W.sheet self.old) (standing_of S.lines W.sheet self.new) }
     {
         self.list(case_format(single), node.span, &node.cons)
     }
 
     /// Writes the colon and the statements of a case, on the same line where there is a single one.
     #[tactic(auto, unfolding(crate::specs::Stmts::case_list))]
-    fn case_list<N: Held>(&mut self, single: bool, node: &SwitchCase<N>) -> Answer
-        ensures items { Emits (case_list single node.now.span (case_children N.answers N.items node.now.cons.items)) (state_of S.lines W.sheet self.old) (state_of S.lines W.sheet self.new) result }
-        ensures level { OnOk result ((W.sheet self.new.wr).indentation ≡ (W.sheet self.old.wr).indentation) }
+    fn case_list<N: Held>(&mut self, single: bool, node: &SwitchCase<N>)
+        ensures items { Makes (case_list single node.now.span (case_children N.answers N.items node.now.cons.items)) (standing_of S.lines W.sheet self.old) (standing_of S.lines W.sheet self.new) }
+        ensures level { Stays (standing_of S.lines W.sheet self.old) (standing_of S.lines W.sheet self.new) }
     {
-        self.punct(Punctuator::Colon)?;
-        self.space_if(single)?;
-        self.case_children(single, node)?;
-        Ok(())
+        self.punct(Punctuator::Colon);
+        self.space_if(single);
+        self.case_children(single, node);
     }
 
     /// Writes the colon and the statements of a case.
-    fn case_stmts<N: Held>(&mut self, node: &SwitchCase<N>) -> Answer
-        ensures items { Emits (case_stmts N.answers N.items node.now) (state_of S.lines W.sheet self.old) (state_of S.lines W.sheet self.new) result }
-        ensures level { OnOk result ((W.sheet self.new.wr).indentation ≡ (W.sheet self.old.wr).indentation) }
+    fn case_stmts<N: Held>(&mut self, node: &SwitchCase<N>)
+        ensures items { Makes (case_stmts N.answers N.items node.now) (standing_of S.lines W.sheet self.old) (standing_of S.lines W.sheet self.new) }
+        ensures level { Stays (standing_of S.lines W.sheet self.old) (standing_of S.lines W.sheet self.new) }
     {
         let single = is_single(self.cm, node.span, &node.cons);
         self.case_list(single, node)
@@ -329,122 +318,110 @@ impl<W: WriteJs, S: SourceMapper, C: Comments> Emitter<'_, W, S, C> {
 
     /// Writes `while (a)` at the end of a loop.
     #[tactic(auto, unfolding(crate::specs::Stmts::loop_test))]
-    fn loop_test<N: Held>(&mut self, test: &ExprBox<N>) -> Answer
-        ensures items { Emits (loop_test N.items test.now) (state_of S.lines W.sheet self.old) (state_of S.lines W.sheet self.new) result }
-        ensures level { OnOk result ((W.sheet self.new.wr).indentation ≡ (W.sheet self.old.wr).indentation) }
+    fn loop_test<N: Held>(&mut self, test: &ExprBox<N>)
+        ensures items { Makes (loop_test N.items test.now) (standing_of S.lines W.sheet self.old) (standing_of S.lines W.sheet self.new) }
+        ensures level { Stays (standing_of S.lines W.sheet self.old) (standing_of S.lines W.sheet self.new) }
     {
-        self.keyword(None, "while")?;
-        self.formatting_space()?;
-        self.enclosed(test)?;
-        Ok(())
+        self.keyword(None, "while");
+        self.formatting_space();
+        self.enclosed(test);
     }
 
     /// Writes the semicolon after a loop, for a version before 2015.
     #[tactic(auto, using(crate::proofs::Asked::loop_ended, crate::proofs::Asked::loop_not_ended))]
-    fn loop_ending(&mut self) -> Answer
-        ensures items { Emits (loop_ending) (state_of S.lines W.sheet self.old) (state_of S.lines W.sheet self.new) result }
-        ensures level { OnOk result ((W.sheet self.new.wr).indentation ≡ (W.sheet self.old.wr).indentation) }
+    fn loop_ending(&mut self)
+        ensures items { Makes (loop_ending) (standing_of S.lines W.sheet self.old) (standing_of S.lines W.sheet self.new) }
+        ensures level { Stays (standing_of S.lines W.sheet self.old) (standing_of S.lines W.sheet self.new) }
     {
         if is_up_to_es5(self.cfg.target) {
             return self.semi();
         }
-        Ok(())
     }
 
     /// Writes what the head of a `for` begins with, where there is such.
     #[tactic(auto, unfolding(crate::specs::Stmts::for_init))]
-    fn for_init<N: Held>(&mut self, init: &Option<VarDeclOrExpr<N>>) -> Answer
-        ensures items { Emits (for_init N.items init.now) (state_of S.lines W.sheet self.old) (state_of S.lines W.sheet self.new) result }
-        ensures level { OnOk result ((W.sheet self.new.wr).indentation ≡ (W.sheet self.old.wr).indentation) }
+    fn for_init<N: Held>(&mut self, init: &Option<VarDeclOrExpr<N>>)
+        ensures items { Makes (for_init N.items init.now) (standing_of S.lines W.sheet self.old) (standing_of S.lines W.sheet self.new) }
+        ensures level { Stays (standing_of S.lines W.sheet self.old) (standing_of S.lines W.sheet self.new) }
     {
         match init {
             Some(node) => node.emit_at(self, Place::Plain),
-            None => Ok(()),
+            None => {}
         }
     }
 
     /// Writes a blank and an expression, where there is one.
     #[tactic(auto, unfolding(crate::specs::Stmts::for_value))]
-    fn for_value<N: Held>(&mut self, value: &Option<ExprBox<N>>) -> Answer
-        ensures items { Emits (for_value N.items value.now) (state_of S.lines W.sheet self.old) (state_of S.lines W.sheet self.new) result }
-        ensures level { OnOk result ((W.sheet self.new.wr).indentation ≡ (W.sheet self.old.wr).indentation) }
+    fn for_value<N: Held>(&mut self, value: &Option<ExprBox<N>>)
+        ensures items { Makes (for_value N.items value.now) (standing_of S.lines W.sheet self.old) (standing_of S.lines W.sheet self.new) }
+        ensures level { Stays (standing_of S.lines W.sheet self.old) (standing_of S.lines W.sheet self.new) }
     {
         match value {
             Some(node) => {
-                self.formatting_space()?;
+                self.formatting_space();
                 node.held().emit_at(self, Place::Plain)
             }
-            None => Ok(()),
+            None => {}
         }
     }
 
     /// Writes `; a` or `;`.
     #[tactic(auto, unfolding(crate::specs::Stmts::for_clause))]
-    fn for_clause<N: Held>(&mut self, value: &Option<ExprBox<N>>) -> Answer
-        ensures items { Emits (for_clause N.items value.now) (state_of S.lines W.sheet self.old) (state_of S.lines W.sheet self.new) result }
-        ensures level { OnOk result ((W.sheet self.new.wr).indentation ≡ (W.sheet self.old.wr).indentation) }
+    fn for_clause<N: Held>(&mut self, value: &Option<ExprBox<N>>)
+        ensures items { Makes (for_clause N.items value.now) (standing_of S.lines W.sheet self.old) (standing_of S.lines W.sheet self.new) }
+        ensures level { Stays (standing_of S.lines W.sheet self.old) (standing_of S.lines W.sheet self.new) }
     {
-        self.punct(Punctuator::Semicolon)?;
-        self.for_value(value)?;
-        Ok(())
+        self.punct(Punctuator::Semicolon);
+        self.for_value(value);
     }
 
     /// Writes `(a; b; c)`.
     #[tactic(auto, unfolding(crate::specs::Stmts::for_control))]
-    fn for_control<N: Held>(&mut self, node: &ForStmt<N>) -> Answer
-        ensures items { Emits (for_control N.items node.now) (state_of S.lines W.sheet self.old) (state_of S.lines W.sheet self.new) result }
-        ensures level { OnOk result ((W.sheet self.new.wr).indentation ≡ (W.sheet self.old.wr).indentation) }
+    fn for_control<N: Held>(&mut self, node: &ForStmt<N>)
+        ensures items { Makes (for_control N.items node.now) (standing_of S.lines W.sheet self.old) (standing_of S.lines W.sheet self.new) }
+        ensures level { Stays (standing_of S.lines W.sheet self.old) (standing_of S.lines W.sheet self.new) }
     {
-        self.punct(Punctuator::LeftParenthesis)?;
-        self.for_init(&node.init)?;
-        self.for_clause(&node.test)?;
-        self.for_clause(&node.update)?;
-        self.punct(Punctuator::RightParenthesis)?;
-        Ok(())
+        self.punct(Punctuator::LeftParenthesis);
+        self.for_init(&node.init);
+        self.for_clause(&node.test);
+        self.for_clause(&node.update);
+        self.punct(Punctuator::RightParenthesis);
     }
 
     /// Writes the word and the expression after what is gone over.
     #[tactic(auto, unfolding(crate::specs::Stmts::for_right))]
-    fn for_right<N: Held>(&mut self, text: &'static str, ends: bool, right: &ExprBox<N>) -> Answer
+    fn for_right<N: Held>(&mut self, text: &'static str, ends: bool, right: &ExprBox<N>)
         requires { begins_letter text.now ≡ true }
-        ensures items { Emits (for_right N.answers N.items text.now ends right.now) (state_of S.lines W.sheet self.old) (state_of S.lines W.sheet self.new) result }
-        ensures level { OnOk result ((W.sheet self.new.wr).indentation ≡ (W.sheet self.old.wr).indentation) }
+        ensures items { Makes (for_right N.answers N.items text.now ends right.now) (standing_of S.lines W.sheet self.old) (standing_of S.lines W.sheet self.new) }
+        ensures level { Stays (standing_of S.lines W.sheet self.old) (standing_of S.lines W.sheet self.new) }
     {
-        self.blank(ends)?;
-        self.keyword(None, text)?;
-        self.spaced(right.held())?;
-        Ok(())
+        self.blank(ends);
+        self.keyword(None, text);
+        self.spaced(right.held());
     }
 
     /// Writes `(a of b)`.
     #[tactic(auto, unfolding(crate::specs::Stmts::for_each))]
-    fn for_each<N: Held>(
-        &mut self,
-        text: &'static str,
-        left: &ForHead<N>,
-        right: &ExprBox<N>,
-    ) -> Answer
+    fn for_each<N: Held>(&mut self, text: &'static str, left: &ForHead<N>, right: &ExprBox<N>)
         requires { begins_letter text.now ≡ true }
-        ensures items { Emits (for_each N.answers N.items text.now left.now right.now) (state_of S.lines W.sheet self.old) (state_of S.lines W.sheet self.new) result }
-        ensures level { OnOk result ((W.sheet self.new.wr).indentation ≡ (W.sheet self.old.wr).indentation) }
+        ensures items { Makes (for_each N.answers N.items text.now left.now right.now) (standing_of S.lines W.sheet self.old) (standing_of S.lines W.sheet self.new) }
+        ensures level { Stays (standing_of S.lines W.sheet self.old) (standing_of S.lines W.sheet self.new) }
     {
-        self.punct(Punctuator::LeftParenthesis)?;
-        left.emit_at(self, Place::Plain)?;
-        self.for_right(text, head_ends(left), right)?;
-        self.punct(Punctuator::RightParenthesis)?;
-        Ok(())
+        self.punct(Punctuator::LeftParenthesis);
+        left.emit_at(self, Place::Plain);
+        self.for_right(text, head_ends(left), right);
+        self.punct(Punctuator::RightParenthesis);
     }
 
     /// Writes `await` after `for`, where it is so.
     #[tactic(auto, unfolding(crate::specs::Stmts::for_await))]
-    fn for_await(&mut self, wanted: bool) -> Answer
-        ensures items { Emits (for_await wanted) (state_of S.lines W.sheet self.old) (state_of S.lines W.sheet self.new) result }
-        ensures level { OnOk result ((W.sheet self.new.wr).indentation ≡ (W.sheet self.old.wr).indentation) }
+    fn for_await(&mut self, wanted: bool)
+        ensures items { Makes (for_await wanted) (standing_of S.lines W.sheet self.old) (standing_of S.lines W.sheet self.new) }
+        ensures level { Stays (standing_of S.lines W.sheet self.old) (standing_of S.lines W.sheet self.new) }
     {
         if wanted {
-            self.space()?;
-            self.keyword(None, "await")?;
+            self.space();
+            self.keyword(None, "await");
         }
-        Ok(())
     }
 }

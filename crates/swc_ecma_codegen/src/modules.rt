@@ -1,12 +1,11 @@
 //! Modules: their items, and what imports and exports share.
 
-ghost use Rattle.std.specs.Prelude.{◌≡◌, OnOk};
-ghost use Rattle.swc_ecma_codegen_base.specs.Run.{Emits};
+ghost use Rattle.std.specs.Prelude.{◌≡◌};
+ghost use Rattle.swc_ecma_codegen.specs.Standing.{Makes, Stays, standing_of};
 ghost use Rattle.swc_ecma_codegen_base.specs.Choices.{attributes_word};
 ghost use Rattle.swc_ecma_codegen.specs.Modules.{named_format, module_export_name, from_word, as_word, star_as, module_decl_by, module_decl, module_item_by, module_item, attributes, source_end};
 ghost use Rattle.swc_ecma_codegen.specs.Lists.{in_order};
 ghost use Rattle.swc_ecma_codegen.specs.Programs.{held_item, whole_module};
-ghost use Rattle.swc_ecma_codegen.specs.View.{state_of};
 
 use crate::emitter::Emitter;
 use crate::nodes::{EmitAt, Held, Place};
@@ -14,7 +13,7 @@ use crate::places::module_item_place;
 use swc_ecma_codegen_ast::ListFormat;
 use swc_ecma_codegen_ast::comments::Comments;
 use swc_ecma_codegen_ast::mapper::SourceMapper;
-use swc_ecma_codegen_common::{Answer, Span};
+use swc_ecma_codegen_common::Span;
 use swc_ecma_codegen_literals::Punctuator;
 use swc_ecma_codegen_spans::Spanned;
 use swc_ecma_codegen_text_writer::WriteJs;
@@ -38,7 +37,7 @@ impl EmitAt for ModuleExportName {
         &self,
         e: &mut Emitter<'_, W, S, C>,
         place: Place,
-    ) -> Answer {
+    ) {
         match self {
             ModuleExportName::Ident(node) => node.emit_at(e, Place::Plain),
             ModuleExportName::Str(node) => node.emit_at(e, Place::Plain),
@@ -54,13 +53,12 @@ impl<N: Held> EmitAt for ModuleDecl<N> {
         &self,
         e: &mut Emitter<'_, W, S, C>,
         place: Place,
-    ) -> Answer {
+    ) {
         let span = self.span();
-        e.leading_comments(span.lo)?;
-        e.module_decl_by(self)?;
-        e.trailing_comments(span.hi, true)?;
-        e.formatting_line()?;
-        Ok(())
+        e.leading_comments(span.lo);
+        e.module_decl_by(self);
+        e.trailing_comments(span.hi, true);
+        e.formatting_line();
     }
 }
 
@@ -72,12 +70,11 @@ impl<N: Held> EmitAt for ModuleItem<N> {
         &self,
         e: &mut Emitter<'_, W, S, C>,
         place: Place,
-    ) -> Answer {
+    ) {
         let span = module_item_place(self);
-        e.leading_comments(span.lo)?;
-        e.module_item_by(self)?;
-        e.trailing_comments(span.hi, true)?;
-        Ok(())
+        e.leading_comments(span.lo);
+        e.module_item_by(self);
+        e.trailing_comments(span.hi, true);
     }
 }
 
@@ -89,69 +86,64 @@ impl<N: Held> EmitAt for Module<N> {
         &self,
         e: &mut Emitter<'_, W, S, C>,
         place: Place,
-    ) -> Answer {
-        e.program_start(&self.shebang, &self.body, self.span)?;
-        e.module_items(&self.body)?;
-        e.trailing_comments(self.span.hi, true)?;
-        e.last_semi()?;
-        Ok(())
+    ) {
+        e.program_start(&self.shebang, &self.body, self.span);
+        e.module_items(&self.body);
+        e.trailing_comments(self.span.hi, true);
+        e.last_semi();
     }
 }
 
 impl<W: WriteJs, S: SourceMapper, C: Comments> Emitter<'_, W, S, C> {
     /// Writes items, one after another.
     #[tactic(auto, using(crate::proofs::Steps::in_order_next), unfolding(crate::specs::Lists::in_order))]
-    fn module_items<N: EmitAt>(&mut self, nodes: &[ModuleItemBox<N>]) -> Answer
-        ensures items { Emits (in_order (held_item N.items) nodes.now) (state_of S.lines W.sheet self.old) (state_of S.lines W.sheet self.new) result }
-        ensures level { OnOk result ((W.sheet self.new.wr).indentation ≡ (W.sheet self.old.wr).indentation) }
+    fn module_items<N: EmitAt>(&mut self, nodes: &[ModuleItemBox<N>])
+        ensures items { Makes (in_order (held_item N.items) nodes.now) (standing_of S.lines W.sheet self.old) (standing_of S.lines W.sheet self.new) }
+        ensures level { Stays (standing_of S.lines W.sheet self.old) (standing_of S.lines W.sheet self.new) }
     {
         for node in nodes {
-            node.held().emit_at(self, Place::Plain)?;
+            node.held().emit_at(self, Place::Plain);
         }
-        Ok(())
     }
 
     /// Writes `from` and a blank.
     #[tactic(auto, unfolding(crate::specs::Modules::from_word))]
-    pub(crate) fn from_word(&mut self) -> Answer
-        ensures items { Emits (from_word) (state_of S.lines W.sheet self.old) (state_of S.lines W.sheet self.new) result }
-        ensures level { OnOk result ((W.sheet self.new.wr).indentation ≡ (W.sheet self.old.wr).indentation) }
+    pub(crate) fn from_word(&mut self)
+        ensures items { Makes (from_word) (standing_of S.lines W.sheet self.old) (standing_of S.lines W.sheet self.new) }
+        ensures level { Stays (standing_of S.lines W.sheet self.old) (standing_of S.lines W.sheet self.new) }
     {
-        self.keyword(None, "from")?;
-        self.formatting_space()?;
-        Ok(())
+        self.keyword(None, "from");
+        self.formatting_space();
     }
 
     /// Writes `as` between blanks.
     #[tactic(auto, unfolding(crate::specs::Modules::as_word))]
-    pub(crate) fn as_word(&mut self) -> Answer
-        ensures items { Emits (as_word) (state_of S.lines W.sheet self.old) (state_of S.lines W.sheet self.new) result }
-        ensures level { OnOk result ((W.sheet self.new.wr).indentation ≡ (W.sheet self.old.wr).indentation) }
+    pub(crate) fn as_word(&mut self)
+        ensures items { Makes (as_word) (standing_of S.lines W.sheet self.old) (standing_of S.lines W.sheet self.new) }
+        ensures level { Stays (standing_of S.lines W.sheet self.old) (standing_of S.lines W.sheet self.new) }
     {
-        self.space()?;
-        self.keyword(None, "as")?;
-        self.space()?;
-        Ok(())
+        self.space();
+        self.keyword(None, "as");
+        self.space();
     }
 
     /// Writes `* as` and a blank.
     #[tactic(auto, unfolding(crate::specs::Modules::star_as))]
-    pub(crate) fn star_as(&mut self) -> Answer
-        ensures items { Emits (star_as) (state_of S.lines W.sheet self.old) (state_of S.lines W.sheet self.new) result }
-        ensures level { OnOk result ((W.sheet self.new.wr).indentation ≡ (W.sheet self.old.wr).indentation) }
+    pub(crate) fn star_as(&mut self)
+        ensures items { Makes (star_as) (standing_of S.lines W.sheet self.old) (standing_of S.lines W.sheet self.new) }
+        ensures level { Stays (standing_of S.lines W.sheet self.old) (standing_of S.lines W.sheet self.new) }
     {
-        self.punct(Punctuator::Star)?;
-        self.formatting_space()?;
-        self.keyword(None, "as")?;
-        self.space()?;
-        Ok(())
+        self.punct(Punctuator::Star);
+        self.formatting_space();
+        self.keyword(None, "as");
+        self.space();
     }
 
     /// Writes the word before import attributes, by the settings.
     #[tactic(auto, using(crate::proofs::Asked::attributes_by_assert, crate::proofs::Asked::attributes_by_with))]
-    fn attributes_word(&mut self) -> Answer
-        ensures items { Emits (attributes_word) (state_of S.lines W.sheet self.old) (state_of S.lines W.sheet self.new) result }
-        ensures level { OnOk result ((W.sheet self.new.wr).indentation ≡ (W.sheet self.old.wr).indentation) }
+    fn attributes_word(&mut self)
+        ensures items { Makes (attributes_word) (standing_of S.lines W.sheet self.old) (standing_of S.lines W.sheet self.new) }
+        ensures level { Stays (standing_of S.lines W.sheet self.old) (standing_of S.lines W.sheet self.new) }
     {
         if self.cfg.emit_assert_for_import_attributes {
             return self.keyword(None, "assert");
@@ -161,18 +153,18 @@ impl<W: WriteJs, S: SourceMapper, C: Comments> Emitter<'_, W, S, C> {
 
     /// Writes `with { type: 'json' }` behind a blank, where there is such.
     #[tactic(auto, unfolding(crate::specs::Modules::attributes))]
-    pub(crate) fn attributes<N: Held>(&mut self, with_: &Option<ObjectLitBox<N>>) -> Answer
-        ensures items { Emits (attributes N.items with_.now) (state_of S.lines W.sheet self.old) (state_of S.lines W.sheet self.new) result }
-        ensures level { OnOk result ((W.sheet self.new.wr).indentation ≡ (W.sheet self.old.wr).indentation) }
+    pub(crate) fn attributes<N: Held>(&mut self, with_: &Option<ObjectLitBox<N>>)
+        ensures items { Makes (attributes N.items with_.now) (standing_of S.lines W.sheet self.old) (standing_of S.lines W.sheet self.new) }
+        ensures level { Stays (standing_of S.lines W.sheet self.old) (standing_of S.lines W.sheet self.new) }
     {
         match with_ {
             Some(with_) => {
-                self.formatting_space()?;
-                self.attributes_word()?;
-                self.formatting_space()?;
+                self.formatting_space();
+                self.attributes_word();
+                self.formatting_space();
                 with_.held().emit_at(self, Place::Plain)
             }
-            None => Ok(()),
+            None => {}
         }
     }
 
@@ -183,22 +175,21 @@ impl<W: WriteJs, S: SourceMapper, C: Comments> Emitter<'_, W, S, C> {
         src: &Str,
         with_: &Option<ObjectLitBox<N>>,
         span: Span,
-    ) -> Answer
-        ensures items { Emits (source_end N.items src.now with_.now span) (state_of S.lines W.sheet self.old) (state_of S.lines W.sheet self.new) result }
-        ensures level { OnOk result ((W.sheet self.new.wr).indentation ≡ (W.sheet self.old.wr).indentation) }
+    )
+        ensures items { Makes (source_end N.items src.now with_.now span) (standing_of S.lines W.sheet self.old) (standing_of S.lines W.sheet self.new) }
+        ensures level { Stays (standing_of S.lines W.sheet self.old) (standing_of S.lines W.sheet self.new) }
     {
-        src.emit_at(self, Place::Plain)?;
-        self.attributes(with_)?;
-        self.semi()?;
-        self.end_of(span)?;
-        Ok(())
+        src.emit_at(self, Place::Plain);
+        self.attributes(with_);
+        self.semi();
+        self.end_of(span);
     }
 
     /// Writes an import or an export by its variant.
     #[tactic(auto, unfolding(crate::specs::Modules::module_decl_by))]
-    fn module_decl_by<N: Held>(&mut self, node: &ModuleDecl<N>) -> Answer
-        ensures items { Emits (module_decl_by N.answers N.items node.now) (state_of S.lines W.sheet self.old) (state_of S.lines W.sheet self.new) result }
-        ensures level { OnOk result ((W.sheet self.new.wr).indentation ≡ (W.sheet self.old.wr).indentation) }
+    fn module_decl_by<N: Held>(&mut self, node: &ModuleDecl<N>)
+        ensures items { Makes (module_decl_by N.answers N.items node.now) (standing_of S.lines W.sheet self.old) (standing_of S.lines W.sheet self.new) }
+        ensures level { Stays (standing_of S.lines W.sheet self.old) (standing_of S.lines W.sheet self.new) }
     {
         match node {
             ModuleDecl::Import(node) => node.emit_at(self, Place::Plain),
@@ -215,9 +206,9 @@ impl<W: WriteJs, S: SourceMapper, C: Comments> Emitter<'_, W, S, C> {
 
     /// Writes an item by its variant.
     #[tactic(auto, unfolding(crate::specs::Modules::module_item_by))]
-    fn module_item_by<N: Held>(&mut self, node: &ModuleItem<N>) -> Answer
-        ensures items { Emits (module_item_by N.items node.now) (state_of S.lines W.sheet self.old) (state_of S.lines W.sheet self.new) result }
-        ensures level { OnOk result ((W.sheet self.new.wr).indentation ≡ (W.sheet self.old.wr).indentation) }
+    fn module_item_by<N: Held>(&mut self, node: &ModuleItem<N>)
+        ensures items { Makes (module_item_by N.items node.now) (standing_of S.lines W.sheet self.old) (standing_of S.lines W.sheet self.new) }
+        ensures level { Stays (standing_of S.lines W.sheet self.old) (standing_of S.lines W.sheet self.new) }
     {
         match node {
             ModuleItem::ModuleDecl(node) => node.held().emit_at(self, Place::Plain),

@@ -20,7 +20,7 @@ use crate::emitter::Emitter;
 use crate::nodes::{EmitAt, Place};
 use swc_ecma_codegen_ast::comments::Comments;
 use swc_ecma_codegen_ast::mapper::SourceMapper;
-use swc_ecma_codegen_common::{Answer, Error, Result};
+use swc_ecma_codegen_common::{Error, Result};
 use swc_ecma_codegen_spans::Spanned;
 use swc_ecma_codegen_text_writer::WriteJs;
 use swc_ecma_codegen_tree::Link;
@@ -86,7 +86,7 @@ impl<T: EmitAt> EmitAt for &T {
         &self,
         e: &mut Emitter<'_, W, S, C>,
         place: Place,
-    ) -> Answer {
+    ) {
         (**self).emit_at(e, place)
     }
 }
@@ -98,7 +98,7 @@ impl<T: EmitAt> EmitAt for Box<T> {
         &self,
         e: &mut Emitter<'_, W, S, C>,
         place: Place,
-    ) -> Answer {
+    ) {
         (**self).emit_at(e, place)
     }
 }
@@ -111,10 +111,10 @@ impl<T: EmitAt> EmitAt for Option<T> {
         &self,
         e: &mut Emitter<'_, W, S, C>,
         place: Place,
-    ) -> Answer {
+    ) {
         match self {
             Some(node) => node.emit_at(e, place),
-            None => Ok(()),
+            None => {}
         }
     }
 }
@@ -126,7 +126,7 @@ impl<K, N: EmitAt> EmitAt for Link<K, N> {
         &self,
         e: &mut Emitter<'_, W, S, C>,
         place: Place,
-    ) -> Answer {
+    ) {
         self.held().emit_at(e, place)
     }
 }

@@ -1,19 +1,19 @@
 //! What a node is to those above it.
 
-ghost use Rattle.std.specs.Prelude.{◌≡◌, OnOk};
-ghost use Rattle.swc_ecma_codegen_base.specs.Run.{Part, Emits};
+ghost use Rattle.std.specs.Prelude.{◌≡◌};
+ghost use Rattle.swc_ecma_codegen_base.specs.Run.{Part};
+ghost use Rattle.swc_ecma_codegen.specs.Standing.{Makes, Stays, standing_of};
 ghost use Rattle.swc_ecma_codegen.specs.declared.nodes.Place.{Place as At};
 ghost use Rattle.swc_ecma_codegen.specs.Answers.{Answers};
 ghost use Rattle.swc_ecma_codegen_common.specs.declared.positions.Span.{Span as Stretch};
 ghost use Rattle.swc_ecma_codegen_spans.specs.Spans.{option_span};
-ghost use Rattle.swc_ecma_codegen.specs.View.{state_of};
 
 use crate::emitter::Emitter;
 use crate::operands::OperandKind;
 use crate::patterns::PatternKind;
 use swc_ecma_codegen_ast::comments::Comments;
 use swc_ecma_codegen_ast::mapper::SourceMapper;
-use swc_ecma_codegen_common::{Answer, BinaryOp, BytePos, DUMMY_SP, Span};
+use swc_ecma_codegen_common::{BinaryOp, BytePos, DUMMY_SP, Span};
 use swc_ecma_codegen_text_writer::WriteJs;
 use swc_ecma_codegen_tree::Link;
 
@@ -114,14 +114,14 @@ pub trait Asked: AskPlace + AskStarts + AskEnds + AskKind + AskSpace + AskPatter
 pub trait EmitAt {
     ghost items: { Self → At → Part };
 
-    /// Prints it.
+    /// Prints it, unless a call was refused before. Why one is, the emitter keeps.
     fn emit_at<W: WriteJs, S: SourceMapper, C: Comments>(
         &self,
         e: &mut Emitter<'_, W, S, C>,
         place: Place,
-    ) -> Answer
-        ensures items { Emits (items self.now place) (state_of S.lines W.sheet e.old) (state_of S.lines W.sheet e.new) result }
-        ensures level { OnOk result ((W.sheet e.new.wr).indentation ≡ (W.sheet e.old.wr).indentation) };
+    )
+        ensures items { Makes (items self.now place) (standing_of S.lines W.sheet e.old) (standing_of S.lines W.sheet e.new) }
+        ensures level { Stays (standing_of S.lines W.sheet e.old) (standing_of S.lines W.sheet e.new) };
 }
 
 /// What a list has to know of a child, besides how it is printed.

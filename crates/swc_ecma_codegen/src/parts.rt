@@ -6,7 +6,6 @@ use crate::emitter::Emitter;
 use crate::nodes::{EmitAt, Held, Place};
 use swc_ecma_codegen_ast::comments::Comments;
 use swc_ecma_codegen_ast::mapper::SourceMapper;
-use swc_ecma_codegen_common::Answer;
 use swc_ecma_codegen_text_writer::WriteJs;
 use swc_ecma_codegen_tree::{ExprPart, StmtPart};
 
@@ -19,7 +18,7 @@ impl<N: Held> EmitAt for ExprPart<N> {
         &self,
         e: &mut Emitter<'_, W, S, C>,
         place: Place,
-    ) -> Answer {
+    ) {
         match self {
             ExprPart::Pat(node) => node.emit_at(e, place),
             ExprPart::ObjectLit(node) => node.emit_at(e, place),
@@ -41,7 +40,7 @@ impl<N: Held> EmitAt for StmtPart<N> {
         &self,
         e: &mut Emitter<'_, W, S, C>,
         place: Place,
-    ) -> Answer {
+    ) {
         match self {
             StmtPart::Function(node) => (**node).emit_at(e, place),
             StmtPart::Class(node) => (**node).emit_at(e, place),

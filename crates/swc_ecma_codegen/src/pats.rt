@@ -1,11 +1,10 @@
 //! Patterns.
 
-ghost use Rattle.std.specs.Prelude.{◌≡◌, OnOk};
+ghost use Rattle.std.specs.Prelude.{◌≡◌};
 ghost use Rattle.swc_ecma_codegen_spans.specs.Spans.{pat_span, object_pat_prop_span};
-ghost use Rattle.swc_ecma_codegen_base.specs.Run.{Emits};
+ghost use Rattle.swc_ecma_codegen.specs.Standing.{Makes, Stays, standing_of};
 ghost use Rattle.swc_ecma_codegen.specs.Answers.{place_of};
 ghost use Rattle.swc_ecma_codegen.specs.Pats.{initializer, array_pat_format, array_pat_elements, array_pat, rest_pat, assign_pat, key_value_pat_prop, assign_pat_prop, object_pat_prop, object_pat_format, object_pat_props, object_pat, pat, assign_target_pat};
-ghost use Rattle.swc_ecma_codegen.specs.View.{state_of};
 
 use crate::calls::ends_with_hole;
 use crate::emitter::Emitter;
@@ -14,7 +13,7 @@ use bitflags::Flags;
 use swc_ecma_codegen_ast::ListFormat;
 use swc_ecma_codegen_ast::comments::Comments;
 use swc_ecma_codegen_ast::mapper::SourceMapper;
-use swc_ecma_codegen_common::{Answer, Span};
+use swc_ecma_codegen_common::Span;
 use swc_ecma_codegen_literals::Punctuator;
 use swc_ecma_codegen_text_writer::WriteJs;
 use swc_ecma_codegen_tree::{
@@ -48,18 +47,17 @@ impl<N: Held> EmitAt for Pat<N> {
         &self,
         e: &mut Emitter<'_, W, S, C>,
         place: Place,
-    ) -> Answer {
+    ) {
         match self {
-            Pat::Ident(node) => node.emit_at(e, Place::Plain)?,
-            Pat::Array(node) => node.emit_at(e, Place::Plain)?,
-            Pat::Rest(node) => node.emit_at(e, Place::Plain)?,
-            Pat::Object(node) => node.emit_at(e, Place::Plain)?,
-            Pat::Assign(node) => node.emit_at(e, Place::Plain)?,
-            Pat::Invalid(_) => e.unsupported()?,
-            Pat::Expr(node) => node.held().emit_at(e, Place::Plain)?,
+            Pat::Ident(node) => node.emit_at(e, Place::Plain),
+            Pat::Array(node) => node.emit_at(e, Place::Plain),
+            Pat::Rest(node) => node.emit_at(e, Place::Plain),
+            Pat::Object(node) => node.emit_at(e, Place::Plain),
+            Pat::Assign(node) => node.emit_at(e, Place::Plain),
+            Pat::Invalid(_) => e.unsupported(),
+            Pat::Expr(node) => node.held().emit_at(e, Place::Plain),
         }
-        e.trailing_comments(pat_place(self).hi, true)?;
-        Ok(())
+        e.trailing_comments(pat_place(self).hi, true);
     }
 }
 
@@ -71,14 +69,13 @@ impl<N: Held> EmitAt for RestPat<N> {
         &self,
         e: &mut Emitter<'_, W, S, C>,
         place: Place,
-    ) -> Answer {
+    ) {
         if self.type_ann.is_some() {
             return e.unsupported();
         }
-        e.leading_comments(self.span.lo)?;
-        e.placed_punct(self.dot3_token, Punctuator::Ellipsis)?;
-        self.arg.held().emit_at(e, Place::Plain)?;
-        Ok(())
+        e.leading_comments(self.span.lo);
+        e.placed_punct(self.dot3_token, Punctuator::Ellipsis);
+        self.arg.held().emit_at(e, Place::Plain);
     }
 }
 
@@ -90,7 +87,7 @@ impl<N: Held> EmitAt for AssignTargetPat<N> {
         &self,
         e: &mut Emitter<'_, W, S, C>,
         place: Place,
-    ) -> Answer {
+    ) {
         match self {
             AssignTargetPat::Array(node) => node.emit_at(e, Place::Plain),
             AssignTargetPat::Object(node) => node.emit_at(e, Place::Plain),
@@ -107,16 +104,15 @@ impl<N: Held> EmitAt for ArrayPat<N> {
         &self,
         e: &mut Emitter<'_, W, S, C>,
         place: Place,
-    ) -> Answer {
+    ) {
         if self.optional || self.type_ann.is_some() {
             return e.unsupported();
         }
-        e.opened(self.span)?;
-        e.punct(Punctuator::LeftBracket)?;
-        e.array_pat_elements(self)?;
-        e.punct(Punctuator::RightBracket)?;
-        e.end_of(self.span)?;
-        Ok(())
+        e.opened(self.span);
+        e.punct(Punctuator::LeftBracket);
+        e.array_pat_elements(self);
+        e.punct(Punctuator::RightBracket);
+        e.end_of(self.span);
     }
 }
 
@@ -128,13 +124,12 @@ impl<N: Held> EmitAt for AssignPat<N> {
         &self,
         e: &mut Emitter<'_, W, S, C>,
         place: Place,
-    ) -> Answer {
-        e.opened(self.span)?;
-        self.left.held().emit_at(e, Place::Plain)?;
-        e.spaced_punct(Punctuator::Equal)?;
-        self.right.held().emit_at(e, Place::Plain)?;
-        e.end_of(self.span)?;
-        Ok(())
+    ) {
+        e.opened(self.span);
+        self.left.held().emit_at(e, Place::Plain);
+        e.spaced_punct(Punctuator::Equal);
+        self.right.held().emit_at(e, Place::Plain);
+        e.end_of(self.span);
     }
 }
 
@@ -146,16 +141,15 @@ impl<N: Held> EmitAt for ObjectPat<N> {
         &self,
         e: &mut Emitter<'_, W, S, C>,
         place: Place,
-    ) -> Answer {
+    ) {
         if self.optional || self.type_ann.is_some() {
             return e.unsupported();
         }
-        e.opened(self.span)?;
-        e.punct(Punctuator::LeftBrace)?;
-        e.object_pat_props(self)?;
-        e.punct(Punctuator::RightBrace)?;
-        e.end_of(self.span)?;
-        Ok(())
+        e.opened(self.span);
+        e.punct(Punctuator::LeftBrace);
+        e.object_pat_props(self);
+        e.punct(Punctuator::RightBrace);
+        e.end_of(self.span);
     }
 }
 
@@ -167,7 +161,7 @@ impl<N: Held> EmitAt for ObjectPatProp<N> {
         &self,
         e: &mut Emitter<'_, W, S, C>,
         place: Place,
-    ) -> Answer {
+    ) {
         match self {
             ObjectPatProp::KeyValue(node) => node.emit_at(e, Place::Plain),
             ObjectPatProp::Assign(node) => node.emit_at(e, Place::Plain),
@@ -200,14 +194,13 @@ impl<N: Held> EmitAt for KeyValuePatProp<N> {
         &self,
         e: &mut Emitter<'_, W, S, C>,
         place: Place,
-    ) -> Answer {
-        e.opened(self.key.held().place())?;
-        self.key.held().emit_at(e, Place::Plain)?;
-        e.punct(Punctuator::Colon)?;
-        e.formatting_space()?;
-        self.value.held().emit_at(e, Place::Plain)?;
-        e.end_of(self.value.held().place())?;
-        Ok(())
+    ) {
+        e.opened(self.key.held().place());
+        self.key.held().emit_at(e, Place::Plain);
+        e.punct(Punctuator::Colon);
+        e.formatting_space();
+        self.value.held().emit_at(e, Place::Plain);
+        e.end_of(self.value.held().place());
     }
 }
 
@@ -219,12 +212,11 @@ impl<N: Held> EmitAt for AssignPatProp<N> {
         &self,
         e: &mut Emitter<'_, W, S, C>,
         place: Place,
-    ) -> Answer {
-        e.opened(self.span)?;
-        self.key.emit_at(e, Place::Plain)?;
-        e.initializer(&self.value)?;
-        e.end_of(self.span)?;
-        Ok(())
+    ) {
+        e.opened(self.span);
+        self.key.emit_at(e, Place::Plain);
+        e.initializer(&self.value);
+        e.end_of(self.span);
     }
 }
 
@@ -246,34 +238,34 @@ fn pat_place<N: AskPlace>(node: &Pat<N>) -> Span
 
 impl<W: WriteJs, S: SourceMapper, C: Comments> Emitter<'_, W, S, C> {
     /// Writes the elements of an array.
-    fn array_pat_elements<N: Held>(&mut self, node: &ArrayPat<N>) -> Answer
-        ensures items { Emits (array_pat_elements N.answers N.items node.now) (state_of S.lines W.sheet self.old) (state_of S.lines W.sheet self.new) result }
-        ensures level { OnOk result ((W.sheet self.new.wr).indentation ≡ (W.sheet self.old.wr).indentation) }
+    fn array_pat_elements<N: Held>(&mut self, node: &ArrayPat<N>)
+        ensures items { Makes (array_pat_elements N.answers N.items node.now) (standing_of S.lines W.sheet self.old) (standing_of S.lines W.sheet self.new) }
+        ensures level { Stays (standing_of S.lines W.sheet self.old) (standing_of S.lines W.sheet self.new) }
     {
         let format = array_pat_format(ends_with_hole(&node.elems));
         self.list(format, node.span, &node.elems)
     }
 
     /// Writes the properties of an object.
-    fn object_pat_props<N: Held>(&mut self, node: &ObjectPat<N>) -> Answer
-        ensures items { Emits (object_pat_props N.answers N.items node.now) (state_of S.lines W.sheet self.old) (state_of S.lines W.sheet self.new) result }
-        ensures level { OnOk result ((W.sheet self.new.wr).indentation ≡ (W.sheet self.old.wr).indentation) }
+    fn object_pat_props<N: Held>(&mut self, node: &ObjectPat<N>)
+        ensures items { Makes (object_pat_props N.answers N.items node.now) (standing_of S.lines W.sheet self.old) (standing_of S.lines W.sheet self.new) }
+        ensures level { Stays (standing_of S.lines W.sheet self.old) (standing_of S.lines W.sheet self.new) }
     {
         self.list(object_pat_format(), node.span, &node.props)
     }
 
     /// Writes `= b` of `a = b`.
     #[tactic(auto, unfolding(crate::specs::Pats::initializer))]
-    pub(crate) fn initializer<N: Held>(&mut self, value: &Option<ExprBox<N>>) -> Answer
-        ensures items { Emits (initializer N.items value.now) (state_of S.lines W.sheet self.old) (state_of S.lines W.sheet self.new) result }
-        ensures level { OnOk result ((W.sheet self.new.wr).indentation ≡ (W.sheet self.old.wr).indentation) }
+    pub(crate) fn initializer<N: Held>(&mut self, value: &Option<ExprBox<N>>)
+        ensures items { Makes (initializer N.items value.now) (standing_of S.lines W.sheet self.old) (standing_of S.lines W.sheet self.new) }
+        ensures level { Stays (standing_of S.lines W.sheet self.old) (standing_of S.lines W.sheet self.new) }
     {
         match value {
             Some(value) => {
-                self.spaced_punct(Punctuator::Equal)?;
+                self.spaced_punct(Punctuator::Equal);
                 value.held().emit_at(self, Place::Plain)
             }
-            None => Ok(()),
+            None => {}
         }
     }
 }

@@ -1,14 +1,13 @@
 //! Objects and their properties.
 
-ghost use Rattle.std.specs.Prelude.{◌≡◌, OnOk, true};
+ghost use Rattle.std.specs.Prelude.{◌≡◌, true};
 ghost use Rattle.swc_ecma_codegen_ast.specs.FunctionPhrases.{is_some_listed};
 ghost use Rattle.swc_ecma_codegen_spans.specs.Spans.{prop_or_spread_span};
 ghost use Rattle.swc_ecma_codegen_base.specs.Lists.{list};
-ghost use Rattle.swc_ecma_codegen_base.specs.Run.{Emits};
+ghost use Rattle.swc_ecma_codegen.specs.Standing.{Makes, Stays, standing_of};
 ghost use Rattle.swc_ecma_codegen_base.specs.Starts.{begins_letter};
 ghost use Rattle.swc_ecma_codegen.specs.Answers.{place_of};
 ghost use Rattle.swc_ecma_codegen.specs.Props.{prop_name, key_end, value_start, key_value_prop, assign_prop, accessor, optional_body, getter_prop, setter_prop, method_prop, prop, prop_or_spread, object_format, flat_object_format, object_children, lined_object_list, object_lines, object_list, object_lit};
-ghost use Rattle.swc_ecma_codegen.specs.View.{state_of};
 
 use crate::blocks::is_some_listed;
 use crate::emitter::Emitter;
@@ -17,7 +16,7 @@ use bitflags::Flags;
 use swc_ecma_codegen_ast::ListFormat;
 use swc_ecma_codegen_ast::comments::Comments;
 use swc_ecma_codegen_ast::mapper::SourceMapper;
-use swc_ecma_codegen_common::{Answer, Span};
+use swc_ecma_codegen_common::Span;
 use swc_ecma_codegen_literals::Punctuator;
 use swc_ecma_codegen_text_writer::WriteJs;
 use swc_ecma_codegen_tree::{
@@ -49,7 +48,7 @@ impl<N: Held> EmitAt for PropName<N> {
         &self,
         e: &mut Emitter<'_, W, S, C>,
         place: Place,
-    ) -> Answer {
+    ) {
         match self {
             PropName::Ident(name) => e.key(name.span, &name.sym),
             PropName::Str(node) => node.emit_at(e, Place::Plain),
@@ -68,13 +67,12 @@ impl<N: Held> EmitAt for ObjectLit<N> {
         &self,
         e: &mut Emitter<'_, W, S, C>,
         place: Place,
-    ) -> Answer {
-        e.opened(self.span)?;
-        e.punct(Punctuator::LeftBrace)?;
-        e.object_list(self)?;
-        e.last_of(self.span)?;
-        e.punct(Punctuator::RightBrace)?;
-        Ok(())
+    ) {
+        e.opened(self.span);
+        e.punct(Punctuator::LeftBrace);
+        e.object_list(self);
+        e.last_of(self.span);
+        e.punct(Punctuator::RightBrace);
     }
 }
 
@@ -86,7 +84,7 @@ impl<N: Held> EmitAt for Prop<N> {
         &self,
         e: &mut Emitter<'_, W, S, C>,
         place: Place,
-    ) -> Answer {
+    ) {
         match self {
             Prop::Shorthand(node) => node.emit_at(e, Place::Plain),
             Prop::KeyValue(node) => node.emit_at(e, Place::Plain),
@@ -106,17 +104,16 @@ impl<N: Held> EmitAt for KeyValueProp<N> {
         &self,
         e: &mut Emitter<'_, W, S, C>,
         place: Place,
-    ) -> Answer {
+    ) {
         let name = self.key.held().place();
         let value = self.value.held().place();
-        e.opened(name)?;
-        self.key.held().emit_at(e, Place::Plain)?;
-        e.key_end(name, value)?;
-        e.punct(Punctuator::Colon)?;
-        e.formatting_space()?;
-        e.value_start(name, value)?;
-        self.value.held().emit_at(e, Place::Plain)?;
-        Ok(())
+        e.opened(name);
+        self.key.held().emit_at(e, Place::Plain);
+        e.key_end(name, value);
+        e.punct(Punctuator::Colon);
+        e.formatting_space();
+        e.value_start(name, value);
+        self.value.held().emit_at(e, Place::Plain);
     }
 }
 
@@ -128,12 +125,11 @@ impl<N: Held> EmitAt for AssignProp<N> {
         &self,
         e: &mut Emitter<'_, W, S, C>,
         place: Place,
-    ) -> Answer {
-        e.opened(self.key.span)?;
-        self.key.emit_at(e, Place::Plain)?;
-        e.punct(Punctuator::Equal)?;
-        self.value.held().emit_at(e, Place::Plain)?;
-        Ok(())
+    ) {
+        e.opened(self.key.span);
+        self.key.emit_at(e, Place::Plain);
+        e.punct(Punctuator::Equal);
+        self.value.held().emit_at(e, Place::Plain);
     }
 }
 
@@ -145,17 +141,16 @@ impl<N: Held> EmitAt for GetterProp<N> {
         &self,
         e: &mut Emitter<'_, W, S, C>,
         place: Place,
-    ) -> Answer {
+    ) {
         if self.type_ann.is_some() {
             return e.unsupported();
         }
-        e.opened(self.span)?;
-        e.accessor("get", &self.key)?;
-        e.punct(Punctuator::LeftParenthesis)?;
-        e.punct(Punctuator::RightParenthesis)?;
-        e.formatting_space()?;
-        e.optional_body(&self.body)?;
-        Ok(())
+        e.opened(self.span);
+        e.accessor("get", &self.key);
+        e.punct(Punctuator::LeftParenthesis);
+        e.punct(Punctuator::RightParenthesis);
+        e.formatting_space();
+        e.optional_body(&self.body);
     }
 }
 
@@ -167,17 +162,16 @@ impl<N: Held> EmitAt for SetterProp<N> {
         &self,
         e: &mut Emitter<'_, W, S, C>,
         place: Place,
-    ) -> Answer {
+    ) {
         if self.this_param.is_some() {
             return e.unsupported();
         }
-        e.opened(self.span)?;
-        e.accessor("set", &self.key)?;
-        e.punct(Punctuator::LeftParenthesis)?;
-        self.param.held().emit_at(e, Place::Plain)?;
-        e.punct(Punctuator::RightParenthesis)?;
-        e.optional_body(&self.body)?;
-        Ok(())
+        e.opened(self.span);
+        e.accessor("set", &self.key);
+        e.punct(Punctuator::LeftParenthesis);
+        self.param.held().emit_at(e, Place::Plain);
+        e.punct(Punctuator::RightParenthesis);
+        e.optional_body(&self.body);
     }
 }
 
@@ -189,13 +183,12 @@ impl<N: Held> EmitAt for MethodProp<N> {
         &self,
         e: &mut Emitter<'_, W, S, C>,
         place: Place,
-    ) -> Answer {
-        e.opened(self.key.held().place())?;
-        self.function.held().emit_at(e, Place::MethodHead)?;
-        self.key.held().emit_at(e, Place::Plain)?;
-        e.formatting_space()?;
-        self.function.held().emit_at(e, Place::Plain)?;
-        Ok(())
+    ) {
+        e.opened(self.key.held().place());
+        self.function.held().emit_at(e, Place::MethodHead);
+        self.key.held().emit_at(e, Place::Plain);
+        e.formatting_space();
+        self.function.held().emit_at(e, Place::Plain);
     }
 }
 
@@ -207,7 +200,7 @@ impl<N: Held> EmitAt for PropOrSpread<N> {
         &self,
         e: &mut Emitter<'_, W, S, C>,
         place: Place,
-    ) -> Answer {
+    ) {
         match self {
             PropOrSpread::Spread(node) => node.emit_at(e, Place::Plain),
             PropOrSpread::Prop(node) => node.held().emit_at(e, Place::Plain),
@@ -233,100 +226,95 @@ impl<N: Held> Child for PropOrSpread<N> {
 impl<W: WriteJs, S: SourceMapper, C: Comments> Emitter<'_, W, S, C> {
     /// Records where a name ends, before a value that stands nowhere.
     #[tactic(auto, unfolding(crate::specs::Props::key_end))]
-    fn key_end(&mut self, name: Span, value: Span) -> Answer
-        ensures items { Emits (key_end name value) (state_of S.lines W.sheet self.old) (state_of S.lines W.sheet self.new) result }
-        ensures level { OnOk result ((W.sheet self.new.wr).indentation ≡ (W.sheet self.old.wr).indentation) }
+    fn key_end(&mut self, name: Span, value: Span)
+        ensures items { Makes (key_end name value) (standing_of S.lines W.sheet self.old) (standing_of S.lines W.sheet self.new) }
+        ensures level { Stays (standing_of S.lines W.sheet self.old) (standing_of S.lines W.sheet self.new) }
     {
         if name.lo.0 != 0 && value.lo.0 == 0 {
-            self.position(name.hi)?;
+            self.position(name.hi);
         }
-        Ok(())
     }
 
     /// Records where a value begins, after a name that stands nowhere.
     #[tactic(auto, unfolding(crate::specs::Props::value_start))]
-    fn value_start(&mut self, name: Span, value: Span) -> Answer
-        ensures items { Emits (value_start name value) (state_of S.lines W.sheet self.old) (state_of S.lines W.sheet self.new) result }
-        ensures level { OnOk result ((W.sheet self.new.wr).indentation ≡ (W.sheet self.old.wr).indentation) }
+    fn value_start(&mut self, name: Span, value: Span)
+        ensures items { Makes (value_start name value) (standing_of S.lines W.sheet self.old) (standing_of S.lines W.sheet self.new) }
+        ensures level { Stays (standing_of S.lines W.sheet self.old) (standing_of S.lines W.sheet self.new) }
     {
         if name.lo.0 == 0 {
-            self.position(value.lo)?;
+            self.position(value.lo);
         }
-        Ok(())
     }
 
     /// Writes `get` or `set` and a name.
     #[tactic(auto, unfolding(crate::specs::Props::accessor))]
-    fn accessor<N: Held>(&mut self, word: &'static str, name: &PropNameBox<N>) -> Answer
+    fn accessor<N: Held>(&mut self, word: &'static str, name: &PropNameBox<N>)
         requires { begins_letter word.now ≡ true }
-        ensures items { Emits (accessor N.answers N.items word.now name.now.node.value) (state_of S.lines W.sheet self.old) (state_of S.lines W.sheet self.new) result }
-        ensures level { OnOk result ((W.sheet self.new.wr).indentation ≡ (W.sheet self.old.wr).indentation) }
+        ensures items { Makes (accessor N.answers N.items word.now name.now.node.value) (standing_of S.lines W.sheet self.old) (standing_of S.lines W.sheet self.new) }
+        ensures level { Stays (standing_of S.lines W.sheet self.old) (standing_of S.lines W.sheet self.new) }
     {
-        self.keyword(None, word)?;
-        self.blank(name.held().starts())?;
-        name.held().emit_at(self, Place::Plain)?;
-        self.formatting_space()?;
-        Ok(())
+        self.keyword(None, word);
+        self.blank(name.held().starts());
+        name.held().emit_at(self, Place::Plain);
+        self.formatting_space();
     }
 
     /// Writes a body, where there is one.
     #[tactic(auto, unfolding(crate::specs::Props::optional_body))]
-    fn optional_body<N: Held>(&mut self, body: &Option<BlockStmtBox<N>>) -> Answer
-        ensures items { Emits (optional_body N.items body.now) (state_of S.lines W.sheet self.old) (state_of S.lines W.sheet self.new) result }
-        ensures level { OnOk result ((W.sheet self.new.wr).indentation ≡ (W.sheet self.old.wr).indentation) }
+    fn optional_body<N: Held>(&mut self, body: &Option<BlockStmtBox<N>>)
+        ensures items { Makes (optional_body N.items body.now) (standing_of S.lines W.sheet self.old) (standing_of S.lines W.sheet self.new) }
+        ensures level { Stays (standing_of S.lines W.sheet self.old) (standing_of S.lines W.sheet self.new) }
     {
         match body {
             Some(body) => body.held().emit_at(self, Place::Plain),
-            None => Ok(()),
+            None => {}
         }
     }
 
     /// Writes the properties on one line.
-    fn flat_object_props<N: Held>(&mut self, node: &ObjectLit<N>) -> Answer
-        ensures items { Emits (list flat_object_format node.now.span (object_children N.answers N.items node.now)) (state_of S.lines W.sheet self.old) (state_of S.lines W.sheet self.new) result }
-        ensures level { OnOk result ((W.sheet self.new.wr).indentation ≡ (W.sheet self.old.wr).indentation) }
+    fn flat_object_props<N: Held>(&mut self, node: &ObjectLit<N>)
+        ensures items { Makes (list flat_object_format node.now.span (object_children N.answers N.items node.now)) (standing_of S.lines W.sheet self.old) (standing_of S.lines W.sheet self.new) }
+        ensures level { Stays (standing_of S.lines W.sheet self.old) (standing_of S.lines W.sheet self.new) }
     {
         self.list(flat_object_format(), node.span, &node.props)
     }
 
     /// Writes the properties, each on a line of its own.
-    fn object_props<N: Held>(&mut self, node: &ObjectLit<N>) -> Answer
-        ensures items { Emits (list object_format node.now.span (object_children N.answers N.items node.now)) (state_of S.lines W.sheet self.old) (state_of S.lines W.sheet self.new) result }
-        ensures level { OnOk result ((W.sheet self.new.wr).indentation ≡ (W.sheet self.old.wr).indentation) }
+    fn object_props<N: Held>(&mut self, node: &ObjectLit<N>)
+        ensures items { Makes (list object_format node.now.span (object_children N.answers N.items node.now)) (standing_of S.lines W.sheet self.old) (standing_of S.lines W.sheet self.new) }
+        ensures level { Stays (standing_of S.lines W.sheet self.old) (standing_of S.lines W.sheet self.new) }
     {
         self.list(object_format(), node.span, &node.props)
     }
 
     /// Writes the properties and the ends of their lines.
     #[tactic(auto, unfolding(crate::specs::Props::lined_object_list))]
-    fn lined_object_list<N: Held>(&mut self, node: &ObjectLit<N>) -> Answer
-        ensures items { Emits (lined_object_list node.now.span (object_children N.answers N.items node.now)) (state_of S.lines W.sheet self.old) (state_of S.lines W.sheet self.new) result }
-        ensures level { OnOk result ((W.sheet self.new.wr).indentation ≡ (W.sheet self.old.wr).indentation) }
+    fn lined_object_list<N: Held>(&mut self, node: &ObjectLit<N>)
+        ensures items { Makes (lined_object_list node.now.span (object_children N.answers N.items node.now)) (standing_of S.lines W.sheet self.old) (standing_of S.lines W.sheet self.new) }
+        ensures level { Stays (standing_of S.lines W.sheet self.old) (standing_of S.lines W.sheet self.new) }
     {
-        self.line()?;
-        self.object_props(node)?;
-        self.line()?;
-        Ok(())
+        self.line();
+        self.object_props(node);
+        self.line();
     }
 
     /// Writes the properties, each on a line of its own where there are some.
     #[tactic(auto, unfolding(crate::specs::Props::object_lines))]
-    fn object_lines<N: Held>(&mut self, some: bool, node: &ObjectLit<N>) -> Answer
-        ensures items { Emits (object_lines some node.now.span (object_children N.answers N.items node.now)) (state_of S.lines W.sheet self.old) (state_of S.lines W.sheet self.new) result }
-        ensures level { OnOk result ((W.sheet self.new.wr).indentation ≡ (W.sheet self.old.wr).indentation) }
+    fn object_lines<N: Held>(&mut self, some: bool, node: &ObjectLit<N>)
+        ensures items { Makes (object_lines some node.now.span (object_children N.answers N.items node.now)) (standing_of S.lines W.sheet self.old) (standing_of S.lines W.sheet self.new) }
+        ensures level { Stays (standing_of S.lines W.sheet self.old) (standing_of S.lines W.sheet self.new) }
     {
         if some {
-            self.lined_object_list(node)?;
+            self.lined_object_list(node);
         } else {
-            self.flat_object_props(node)?;
+            self.flat_object_props(node);
         }
-        Ok(())
     }
 
     /// Writes the properties, where the settings aren't to minify.
-    fn pretty_object_list<N: Held>(&mut self, node: &ObjectLit<N>) -> Answer
-        ensures items { Emits (object_lines (is_some_listed node.now.props.items) node.now.span (object_children N.answers N.items node.now)) (state_of S.lines W.sheet self.old) (state_of S.lines W.sheet self.new) result }
-        ensures level { OnOk result ((W.sheet self.new.wr).indentation ≡ (W.sheet self.old.wr).indentation) }
+    fn pretty_object_list<N: Held>(&mut self, node: &ObjectLit<N>)
+        ensures items { Makes (object_lines (is_some_listed node.now.props.items) node.now.span (object_children N.answers N.items node.now)) (standing_of S.lines W.sheet self.old) (standing_of S.lines W.sheet self.new) }
+        ensures level { Stays (standing_of S.lines W.sheet self.old) (standing_of S.lines W.sheet self.new) }
     {
         let some = is_some_listed(&node.props);
         self.object_lines(some, node)
@@ -334,9 +322,9 @@ impl<W: WriteJs, S: SourceMapper, C: Comments> Emitter<'_, W, S, C> {
 
     /// Writes the properties; on one line where the settings are to minify.
     #[tactic(auto, using(crate::proofs::Asked::minified_part, crate::proofs::Asked::pretty_part), unfolding(crate::specs::Props::object_list))]
-    fn object_list<N: Held>(&mut self, node: &ObjectLit<N>) -> Answer
-        ensures items { Emits (object_list (is_some_listed node.now.props.items) node.now.span (object_children N.answers N.items node.now)) (state_of S.lines W.sheet self.old) (state_of S.lines W.sheet self.new) result }
-        ensures level { OnOk result ((W.sheet self.new.wr).indentation ≡ (W.sheet self.old.wr).indentation) }
+    fn object_list<N: Held>(&mut self, node: &ObjectLit<N>)
+        ensures items { Makes (object_list (is_some_listed node.now.props.items) node.now.span (object_children N.answers N.items node.now)) (standing_of S.lines W.sheet self.old) (standing_of S.lines W.sheet self.new) }
+        ensures level { Stays (standing_of S.lines W.sheet self.old) (standing_of S.lines W.sheet self.new) }
     {
         if self.cfg.minify {
             return self.flat_object_props(node);

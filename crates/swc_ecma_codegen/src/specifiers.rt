@@ -1,19 +1,18 @@
 //! Specifiers of imports and exports: some stand among braces, others before them.
 
-ghost use Rattle.std.specs.Prelude.{◌≡◌, Bool, false, [], map, filter, OnOk};
+ghost use Rattle.std.specs.Prelude.{◌≡◌, Bool, false, [], map, filter};
 ghost use Rattle.std.specs.List.{list_any};
 ghost use Rattle.swc_ecma_codegen_ast.specs.ListFormats.{indented};
-ghost use Rattle.swc_ecma_codegen_base.specs.Run.{Emits};
+ghost use Rattle.swc_ecma_codegen.specs.Standing.{Makes, Stays, standing_of};
 ghost use Rattle.swc_ecma_codegen_base.specs.Lists.{list};
 ghost use Rattle.swc_ecma_codegen.specs.Lists.{child_of, braced_child, braced_rest};
-ghost use Rattle.swc_ecma_codegen.specs.View.{state_of};
 
 use crate::emitter::Emitter;
 use crate::nodes::Child;
 use swc_ecma_codegen_ast::ListFormat;
 use swc_ecma_codegen_ast::comments::Comments;
 use swc_ecma_codegen_ast::mapper::SourceMapper;
-use swc_ecma_codegen_common::{Answer, Span};
+use swc_ecma_codegen_common::Span;
 use swc_ecma_codegen_text_writer::WriteJs;
 
 /// What is imported or exported.
@@ -54,38 +53,34 @@ impl<W: WriteJs, S: SourceMapper, C: Comments> Emitter<'_, W, S, C> {
         parent: Span,
         previous: Option<Span>,
         child: &T,
-    ) -> Answer
+    )
         requires { indented format.0 ≡ false }
-        ensures items { Emits (braced_child format.0 parent previous (child_of T.stands T.items child.now)) (state_of S.lines W.sheet self.old) (state_of S.lines W.sheet self.new) result }
-        ensures level { OnOk result ((W.sheet self.new.wr).indentation ≡ (W.sheet self.old.wr).indentation) }
+        ensures items { Makes (braced_child format.0 parent previous (child_of T.stands T.items child.now)) (standing_of S.lines W.sheet self.old) (standing_of S.lines W.sheet self.new) }
+        ensures level { Stays (standing_of S.lines W.sheet self.old) (standing_of S.lines W.sheet self.new) }
     {
         match previous {
             None => {
-                self.first_child(format, parent, child)?;
-                Ok(())
+                self.first_child(format, parent, child);
             }
             Some(previous) => {
-                self.next_child(format, previous, child)?;
-                Ok(())
+                self.next_child(format, previous, child);
             }
         }
     }
 
     /// Writes what closes the list, after one that stands at `previous` where there is one.
     #[tactic(auto, using(crate::proofs::Steps::no_levels), unfolding(crate::specs::Lists::braced_rest, swc_ecma_codegen_base::specs::Lists::more_children, swc_ecma_codegen_base::specs::Lists::last_place))]
-    fn braced_end(&mut self, format: ListFormat, parent: Span, previous: Option<Span>) -> Answer
+    fn braced_end(&mut self, format: ListFormat, parent: Span, previous: Option<Span>)
         requires { indented format.0 ≡ false }
-        ensures items { Emits (braced_rest format.0 parent previous []) (state_of S.lines W.sheet self.old) (state_of S.lines W.sheet self.new) result }
-        ensures level { OnOk result ((W.sheet self.new.wr).indentation ≡ (W.sheet self.old.wr).indentation) }
+        ensures items { Makes (braced_rest format.0 parent previous []) (standing_of S.lines W.sheet self.old) (standing_of S.lines W.sheet self.new) }
+        ensures level { Stays (standing_of S.lines W.sheet self.old) (standing_of S.lines W.sheet self.new) }
     {
         match previous {
             None => {
-                self.no_list(format, parent)?;
-                Ok(())
+                self.no_list(format, parent);
             }
             Some(last) => {
-                self.list_closing(format, parent, last)?;
-                Ok(())
+                self.list_closing(format, parent, last);
             }
         }
     }
@@ -97,20 +92,19 @@ impl<W: WriteJs, S: SourceMapper, C: Comments> Emitter<'_, W, S, C> {
         format: ListFormat,
         parent: Span,
         specifiers: &[T],
-    ) -> Answer
+    )
         requires { indented format.0 ≡ false }
-        ensures items { Emits (list format.0 parent (map (child_of T.stands T.items) (filter T.braced specifiers.now))) (state_of S.lines W.sheet self.old) (state_of S.lines W.sheet self.new) result }
-        ensures level { OnOk result ((W.sheet self.new.wr).indentation ≡ (W.sheet self.old.wr).indentation) }
+        ensures items { Makes (list format.0 parent (map (child_of T.stands T.items) (filter T.braced specifiers.now))) (standing_of S.lines W.sheet self.old) (standing_of S.lines W.sheet self.new) }
+        ensures level { Stays (standing_of S.lines W.sheet self.old) (standing_of S.lines W.sheet self.new) }
     {
         let mut previous = None;
         for specifier in specifiers {
             if !specifier.is_braced() {
                 continue;
             }
-            self.braced_child(format, parent, previous, specifier)?;
+            self.braced_child(format, parent, previous, specifier);
             previous = Some(specifier.place());
         }
-        self.braced_end(format, parent, previous)?;
-        Ok(())
+        self.braced_end(format, parent, previous);
     }
 }

@@ -1,12 +1,11 @@
 //! Statements and programs.
 
-ghost use Rattle.std.specs.Prelude.{◌≡◌, OnOk, true};
+ghost use Rattle.std.specs.Prelude.{◌≡◌, true};
 ghost use Rattle.swc_ecma_codegen_base.specs.Lists.{blank_if};
-ghost use Rattle.swc_ecma_codegen_base.specs.Run.{Emits};
+ghost use Rattle.swc_ecma_codegen.specs.Standing.{Makes, Stays, standing_of};
 ghost use Rattle.swc_ecma_codegen_base.specs.Starts.{begins_letter};
 ghost use Rattle.swc_ecma_codegen.specs.Stmts.{enclosed, spaced, stmt_word, spaced_word, jump, empty_stmt, expr_stmt, debugger_stmt, with_stmt, return_arg, return_stmt, labeled_stmt, break_stmt, continue_stmt, else_branch, if_stmt, catch_param, catch_clause, handler, finalizer, try_stmt, throw_stmt, stmt_parts, stmt_closed, stmt};
 ghost use Rattle.swc_ecma_codegen.specs.Programs.{start_if_empty, program_start, script, program};
-ghost use Rattle.swc_ecma_codegen.specs.View.{state_of};
 
 use crate::branches::is_block;
 use crate::emitter::Emitter;
@@ -14,7 +13,7 @@ use crate::nodes::{EmitAt, Held, Place};
 use crate::places::stmt_place;
 use swc_ecma_codegen_ast::comments::Comments;
 use swc_ecma_codegen_ast::mapper::SourceMapper;
-use swc_ecma_codegen_common::{Answer, Span};
+use swc_ecma_codegen_common::Span;
 use swc_ecma_codegen_literals::Punctuator;
 use swc_ecma_codegen_text_writer::WriteJs;
 use swc_ecma_codegen_tree::{
@@ -29,9 +28,9 @@ use swc_ecma_codegen_tree::{
 fn stmt_parts<N: Held, W: WriteJs, S: SourceMapper, C: Comments>(
     node: &Stmt<N>,
     e: &mut Emitter<'_, W, S, C>,
-) -> Answer
-    ensures items { Emits (stmt_parts N.answers N.items node.now) (state_of S.lines W.sheet e.old) (state_of S.lines W.sheet e.new) result }
-    ensures level { OnOk result ((W.sheet e.new.wr).indentation ≡ (W.sheet e.old.wr).indentation) }
+)
+    ensures items { Makes (stmt_parts N.answers N.items node.now) (standing_of S.lines W.sheet e.old) (standing_of S.lines W.sheet e.new) }
+    ensures level { Stays (standing_of S.lines W.sheet e.old) (standing_of S.lines W.sheet e.new) }
 {
     match node {
         Stmt::Expr(node) => node.emit_at(e, Place::Plain),
@@ -65,10 +64,9 @@ impl<N: Held> EmitAt for Stmt<N> {
         &self,
         e: &mut Emitter<'_, W, S, C>,
         place: Place,
-    ) -> Answer {
-        stmt_parts(self, e)?;
-        e.stmt_closed(is_block(self), stmt_place(self))?;
-        Ok(())
+    ) {
+        stmt_parts(self, e);
+        e.stmt_closed(is_block(self), stmt_place(self));
     }
 }
 
@@ -80,11 +78,10 @@ impl<N: Held> EmitAt for ExprStmt<N> {
         &self,
         e: &mut Emitter<'_, W, S, C>,
         place: Place,
-    ) -> Answer {
-        e.leading_comments(self.span.lo)?;
-        self.expr.held().emit_at(e, Place::Plain)?;
-        e.semi()?;
-        Ok(())
+    ) {
+        e.leading_comments(self.span.lo);
+        self.expr.held().emit_at(e, Place::Plain);
+        e.semi();
     }
 }
 
@@ -96,10 +93,9 @@ impl EmitAt for EmptyStmt {
         &self,
         e: &mut Emitter<'_, W, S, C>,
         place: Place,
-    ) -> Answer {
-        e.leading_comments(self.span.lo)?;
-        e.punct(Punctuator::Semicolon)?;
-        Ok(())
+    ) {
+        e.leading_comments(self.span.lo);
+        e.punct(Punctuator::Semicolon);
     }
 }
 
@@ -111,12 +107,11 @@ impl EmitAt for DebuggerStmt {
         &self,
         e: &mut Emitter<'_, W, S, C>,
         place: Place,
-    ) -> Answer {
-        e.commit_pending_semi()?;
-        e.leading_comments(self.span.lo)?;
-        e.keyword(Some(self.span), "debugger")?;
-        e.semi()?;
-        Ok(())
+    ) {
+        e.commit_pending_semi();
+        e.leading_comments(self.span.lo);
+        e.keyword(Some(self.span), "debugger");
+        e.semi();
     }
 }
 
@@ -128,14 +123,13 @@ impl<N: Held> EmitAt for WithStmt<N> {
         &self,
         e: &mut Emitter<'_, W, S, C>,
         place: Place,
-    ) -> Answer {
-        e.commit_pending_semi()?;
-        e.start_of(self.span)?;
-        e.keyword(None, "with")?;
-        e.formatting_space()?;
-        e.enclosed(&self.obj)?;
-        self.body.held().emit_at(e, Place::Plain)?;
-        Ok(())
+    ) {
+        e.commit_pending_semi();
+        e.start_of(self.span);
+        e.keyword(None, "with");
+        e.formatting_space();
+        e.enclosed(&self.obj);
+        self.body.held().emit_at(e, Place::Plain);
     }
 }
 
@@ -147,11 +141,10 @@ impl<N: Held> EmitAt for ReturnStmt<N> {
         &self,
         e: &mut Emitter<'_, W, S, C>,
         place: Place,
-    ) -> Answer {
-        e.stmt_word(self.span, "return")?;
-        e.return_arg(&self.arg)?;
-        e.semi()?;
-        Ok(())
+    ) {
+        e.stmt_word(self.span, "return");
+        e.return_arg(&self.arg);
+        e.semi();
     }
 }
 
@@ -163,13 +156,12 @@ impl<N: Held> EmitAt for LabeledStmt<N> {
         &self,
         e: &mut Emitter<'_, W, S, C>,
         place: Place,
-    ) -> Answer {
-        e.commit_pending_semi()?;
-        self.label.emit_at(e, Place::Plain)?;
-        e.punct(Punctuator::Colon)?;
-        e.formatting_space()?;
-        self.body.held().emit_at(e, Place::Plain)?;
-        Ok(())
+    ) {
+        e.commit_pending_semi();
+        self.label.emit_at(e, Place::Plain);
+        e.punct(Punctuator::Colon);
+        e.formatting_space();
+        self.body.held().emit_at(e, Place::Plain);
     }
 }
 
@@ -181,9 +173,8 @@ impl EmitAt for BreakStmt {
         &self,
         e: &mut Emitter<'_, W, S, C>,
         place: Place,
-    ) -> Answer {
-        e.jump(self.span, "break", &self.label)?;
-        Ok(())
+    ) {
+        e.jump(self.span, "break", &self.label);
     }
 }
 
@@ -195,9 +186,8 @@ impl EmitAt for ContinueStmt {
         &self,
         e: &mut Emitter<'_, W, S, C>,
         place: Place,
-    ) -> Answer {
-        e.jump(self.span, "continue", &self.label)?;
-        Ok(())
+    ) {
+        e.jump(self.span, "continue", &self.label);
     }
 }
 
@@ -209,13 +199,12 @@ impl<N: Held> EmitAt for IfStmt<N> {
         &self,
         e: &mut Emitter<'_, W, S, C>,
         place: Place,
-    ) -> Answer {
-        e.spaced_word(self.span, "if")?;
-        e.enclosed(&self.test)?;
-        e.formatting_space()?;
-        self.cons.held().emit_at(e, Place::Plain)?;
-        e.else_branch(self.cons.held().block(), &self.alt)?;
-        Ok(())
+    ) {
+        e.spaced_word(self.span, "if");
+        e.enclosed(&self.test);
+        e.formatting_space();
+        self.cons.held().emit_at(e, Place::Plain);
+        e.else_branch(self.cons.held().block(), &self.alt);
     }
 }
 
@@ -227,14 +216,13 @@ impl<N: Held> EmitAt for CatchClause<N> {
         &self,
         e: &mut Emitter<'_, W, S, C>,
         place: Place,
-    ) -> Answer {
-        e.opened(self.span)?;
-        e.keyword(None, "catch")?;
-        e.formatting_space()?;
-        e.catch_param(&self.param)?;
-        e.formatting_space()?;
-        self.body.held().emit_at(e, Place::Plain)?;
-        Ok(())
+    ) {
+        e.opened(self.span);
+        e.keyword(None, "catch");
+        e.formatting_space();
+        e.catch_param(&self.param);
+        e.formatting_space();
+        self.body.held().emit_at(e, Place::Plain);
     }
 }
 
@@ -246,12 +234,11 @@ impl<N: Held> EmitAt for ThrowStmt<N> {
         &self,
         e: &mut Emitter<'_, W, S, C>,
         place: Place,
-    ) -> Answer {
-        e.opened(self.span)?;
-        e.keyword(None, "throw")?;
-        e.spaced(self.arg.held())?;
-        e.semi()?;
-        Ok(())
+    ) {
+        e.opened(self.span);
+        e.keyword(None, "throw");
+        e.spaced(self.arg.held());
+        e.semi();
     }
 }
 
@@ -263,12 +250,11 @@ impl<N: Held> EmitAt for TryStmt<N> {
         &self,
         e: &mut Emitter<'_, W, S, C>,
         place: Place,
-    ) -> Answer {
-        e.spaced_word(self.span, "try")?;
-        self.block.held().emit_at(e, Place::Plain)?;
-        e.handler(&self.handler)?;
-        e.finalizer(&self.finalizer)?;
-        Ok(())
+    ) {
+        e.spaced_word(self.span, "try");
+        self.block.held().emit_at(e, Place::Plain);
+        e.handler(&self.handler);
+        e.finalizer(&self.finalizer);
     }
 }
 
@@ -280,12 +266,11 @@ impl<N: Held> EmitAt for Script<N> {
         &self,
         e: &mut Emitter<'_, W, S, C>,
         place: Place,
-    ) -> Answer {
-        e.program_start(&self.shebang, &self.body, self.span)?;
-        e.stmts(&self.body)?;
-        e.trailing_comments(self.span.hi, true)?;
-        e.last_semi()?;
-        Ok(())
+    ) {
+        e.program_start(&self.shebang, &self.body, self.span);
+        e.stmts(&self.body);
+        e.trailing_comments(self.span.hi, true);
+        e.last_semi();
     }
 }
 
@@ -297,7 +282,7 @@ impl<N: Held> EmitAt for Program<N> {
         &self,
         e: &mut Emitter<'_, W, S, C>,
         place: Place,
-    ) -> Answer {
+    ) {
         match self {
             Program::Module(node) => node.emit_at(e, Place::Plain),
             Program::Script(node) => node.emit_at(e, Place::Plain),
@@ -308,189 +293,178 @@ impl<N: Held> EmitAt for Program<N> {
 impl<W: WriteJs, S: SourceMapper, C: Comments> Emitter<'_, W, S, C> {
     /// Writes the comments after a statement and the end of its line, but for a block.
     #[tactic(auto, unfolding(crate::specs::Stmts::stmt_closed))]
-    fn stmt_closed(&mut self, block: bool, span: Span) -> Answer
-        ensures items { Emits (stmt_closed block span) (state_of S.lines W.sheet self.old) (state_of S.lines W.sheet self.new) result }
-        ensures level { OnOk result ((W.sheet self.new.wr).indentation ≡ (W.sheet self.old.wr).indentation) }
+    fn stmt_closed(&mut self, block: bool, span: Span)
+        ensures items { Makes (stmt_closed block span) (standing_of S.lines W.sheet self.old) (standing_of S.lines W.sheet self.new) }
+        ensures level { Stays (standing_of S.lines W.sheet self.old) (standing_of S.lines W.sheet self.new) }
     {
         if block {
-            return Ok(());
+            return;
         }
-        self.trailing_comments(span.hi, true)?;
+        self.trailing_comments(span.hi, true);
         self.formatting_line()
     }
 
     /// Writes an expression in parentheses.
     #[tactic(auto, unfolding(crate::specs::Stmts::enclosed))]
-    pub(crate) fn enclosed<N: Held>(&mut self, node: &ExprBox<N>) -> Answer
-        ensures items { Emits (enclosed N.items node.now) (state_of S.lines W.sheet self.old) (state_of S.lines W.sheet self.new) result }
-        ensures level { OnOk result ((W.sheet self.new.wr).indentation ≡ (W.sheet self.old.wr).indentation) }
+    pub(crate) fn enclosed<N: Held>(&mut self, node: &ExprBox<N>)
+        ensures items { Makes (enclosed N.items node.now) (standing_of S.lines W.sheet self.old) (standing_of S.lines W.sheet self.new) }
+        ensures level { Stays (standing_of S.lines W.sheet self.old) (standing_of S.lines W.sheet self.new) }
     {
-        self.punct(Punctuator::LeftParenthesis)?;
-        node.held().emit_at(self, Place::Plain)?;
-        self.punct(Punctuator::RightParenthesis)?;
-        Ok(())
+        self.punct(Punctuator::LeftParenthesis);
+        node.held().emit_at(self, Place::Plain);
+        self.punct(Punctuator::RightParenthesis);
     }
 
     /// Writes a node behind a word, and the blank between the two.
     #[tactic(auto, unfolding(crate::specs::Stmts::spaced))]
-    pub(crate) fn spaced<N: Held>(&mut self, node: &N) -> Answer
-        ensures items { Emits (spaced N.answers N.items node.now) (state_of S.lines W.sheet self.old) (state_of S.lines W.sheet self.new) result }
-        ensures level { OnOk result ((W.sheet self.new.wr).indentation ≡ (W.sheet self.old.wr).indentation) }
+    pub(crate) fn spaced<N: Held>(&mut self, node: &N)
+        ensures items { Makes (spaced N.answers N.items node.now) (standing_of S.lines W.sheet self.old) (standing_of S.lines W.sheet self.new) }
+        ensures level { Stays (standing_of S.lines W.sheet self.old) (standing_of S.lines W.sheet self.new) }
     {
-        self.blank(node.starts())?;
-        node.emit_at(self, Place::Plain)?;
-        Ok(())
+        self.blank(node.starts());
+        node.emit_at(self, Place::Plain);
     }
 
     /// Writes the word that a statement begins with.
     #[tactic(auto, unfolding(crate::specs::Stmts::stmt_word))]
-    pub(crate) fn stmt_word(&mut self, span: Span, text: &'static str) -> Answer
+    pub(crate) fn stmt_word(&mut self, span: Span, text: &'static str)
         requires { begins_letter text.now ≡ true }
-        ensures items { Emits (stmt_word span text.now) (state_of S.lines W.sheet self.old) (state_of S.lines W.sheet self.new) result }
-        ensures level { OnOk result ((W.sheet self.new.wr).indentation ≡ (W.sheet self.old.wr).indentation) }
+        ensures items { Makes (stmt_word span text.now) (standing_of S.lines W.sheet self.old) (standing_of S.lines W.sheet self.new) }
+        ensures level { Stays (standing_of S.lines W.sheet self.old) (standing_of S.lines W.sheet self.new) }
     {
-        self.commit_pending_semi()?;
-        self.opened(span)?;
-        self.keyword(None, text)?;
-        Ok(())
+        self.commit_pending_semi();
+        self.opened(span);
+        self.keyword(None, text);
     }
 
     /// Writes such a word and a blank, after the comments before it.
     #[tactic(auto, unfolding(crate::specs::Stmts::spaced_word))]
-    fn spaced_word(&mut self, span: Span, text: &'static str) -> Answer
+    fn spaced_word(&mut self, span: Span, text: &'static str)
         requires { begins_letter text.now ≡ true }
-        ensures items { Emits (spaced_word span text.now) (state_of S.lines W.sheet self.old) (state_of S.lines W.sheet self.new) result }
-        ensures level { OnOk result ((W.sheet self.new.wr).indentation ≡ (W.sheet self.old.wr).indentation) }
+        ensures items { Makes (spaced_word span text.now) (standing_of S.lines W.sheet self.old) (standing_of S.lines W.sheet self.new) }
+        ensures level { Stays (standing_of S.lines W.sheet self.old) (standing_of S.lines W.sheet self.new) }
     {
-        self.leading_comments(span.lo)?;
-        self.commit_pending_semi()?;
-        self.start_of(span)?;
-        self.keyword(None, text)?;
-        self.formatting_space()?;
-        Ok(())
+        self.leading_comments(span.lo);
+        self.commit_pending_semi();
+        self.start_of(span);
+        self.keyword(None, text);
+        self.formatting_space();
     }
 
     /// Writes `break a;` or `continue a;`.
     #[tactic(auto, unfolding(crate::specs::Stmts::jump))]
-    fn jump(&mut self, span: Span, text: &'static str, label: &Option<Ident>) -> Answer
+    fn jump(&mut self, span: Span, text: &'static str, label: &Option<Ident>)
         requires { begins_letter text.now ≡ true }
-        ensures items { Emits (jump span text.now label.now) (state_of S.lines W.sheet self.old) (state_of S.lines W.sheet self.new) result }
-        ensures level { OnOk result ((W.sheet self.new.wr).indentation ≡ (W.sheet self.old.wr).indentation) }
+        ensures items { Makes (jump span text.now label.now) (standing_of S.lines W.sheet self.old) (standing_of S.lines W.sheet self.new) }
+        ensures level { Stays (standing_of S.lines W.sheet self.old) (standing_of S.lines W.sheet self.new) }
     {
-        self.commit_pending_semi()?;
-        self.start_of(span)?;
-        self.keyword(None, text)?;
-        self.optional_name(label)?;
-        self.semi()?;
-        Ok(())
+        self.commit_pending_semi();
+        self.start_of(span);
+        self.keyword(None, text);
+        self.optional_name(label);
+        self.semi();
     }
 
     /// Writes the argument of `return`, where there is one.
     #[tactic(auto, unfolding(crate::specs::Stmts::return_arg))]
-    fn return_arg<N: Held>(&mut self, arg: &Option<ExprBox<N>>) -> Answer
-        ensures items { Emits (return_arg N.answers N.items arg.now) (state_of S.lines W.sheet self.old) (state_of S.lines W.sheet self.new) result }
-        ensures level { OnOk result ((W.sheet self.new.wr).indentation ≡ (W.sheet self.old.wr).indentation) }
+    fn return_arg<N: Held>(&mut self, arg: &Option<ExprBox<N>>)
+        ensures items { Makes (return_arg N.answers N.items arg.now) (standing_of S.lines W.sheet self.old) (standing_of S.lines W.sheet self.new) }
+        ensures level { Stays (standing_of S.lines W.sheet self.old) (standing_of S.lines W.sheet self.new) }
     {
         match arg {
             Some(node) => self.spaced(node.held()),
-            None => Ok(()),
+            None => {}
         }
     }
 
     /// Writes `else` and a statement, where there is one.
     #[tactic(auto, unfolding(crate::specs::Stmts::else_branch))]
-    fn else_branch<N: Held>(&mut self, block: bool, alt: &Option<StmtBox<N>>) -> Answer
-        ensures items { Emits (else_branch N.answers N.items block alt.now) (state_of S.lines W.sheet self.old) (state_of S.lines W.sheet self.new) result }
-        ensures level { OnOk result ((W.sheet self.new.wr).indentation ≡ (W.sheet self.old.wr).indentation) }
+    fn else_branch<N: Held>(&mut self, block: bool, alt: &Option<StmtBox<N>>)
+        ensures items { Makes (else_branch N.answers N.items block alt.now) (standing_of S.lines W.sheet self.old) (standing_of S.lines W.sheet self.new) }
+        ensures level { Stays (standing_of S.lines W.sheet self.old) (standing_of S.lines W.sheet self.new) }
     {
         match alt {
             Some(node) => {
-                self.blank_if(block)?;
-                self.keyword(None, "else")?;
+                self.blank_if(block);
+                self.keyword(None, "else");
                 self.spaced(node.held())
             }
-            None => Ok(()),
+            None => {}
         }
     }
 
     /// Writes a blank where one is wanted, unless the settings are to minify.
     #[tactic(auto, unfolding(swc_ecma_codegen_base::specs::Lists::blank_if))]
-    fn blank_if(&mut self, wanted: bool) -> Answer
-        ensures items { Emits (blank_if wanted) (state_of S.lines W.sheet self.old) (state_of S.lines W.sheet self.new) result }
-        ensures level { OnOk result ((W.sheet self.new.wr).indentation ≡ (W.sheet self.old.wr).indentation) }
+    fn blank_if(&mut self, wanted: bool)
+        ensures items { Makes (blank_if wanted) (standing_of S.lines W.sheet self.old) (standing_of S.lines W.sheet self.new) }
+        ensures level { Stays (standing_of S.lines W.sheet self.old) (standing_of S.lines W.sheet self.new) }
     {
         if wanted {
-            self.formatting_space()?;
+            self.formatting_space();
         }
-        Ok(())
     }
 
     /// Writes what is caught in parentheses, where there is such.
     #[tactic(auto, unfolding(crate::specs::Stmts::catch_param))]
-    fn catch_param<N: Held>(&mut self, param: &Option<PatBox<N>>) -> Answer
-        ensures items { Emits (catch_param N.items param.now) (state_of S.lines W.sheet self.old) (state_of S.lines W.sheet self.new) result }
-        ensures level { OnOk result ((W.sheet self.new.wr).indentation ≡ (W.sheet self.old.wr).indentation) }
+    fn catch_param<N: Held>(&mut self, param: &Option<PatBox<N>>)
+        ensures items { Makes (catch_param N.items param.now) (standing_of S.lines W.sheet self.old) (standing_of S.lines W.sheet self.new) }
+        ensures level { Stays (standing_of S.lines W.sheet self.old) (standing_of S.lines W.sheet self.new) }
     {
         match param {
             Some(node) => {
-                self.punct(Punctuator::LeftParenthesis)?;
-                node.held().emit_at(self, Place::Plain)?;
+                self.punct(Punctuator::LeftParenthesis);
+                node.held().emit_at(self, Place::Plain);
                 self.punct(Punctuator::RightParenthesis)
             }
-            None => Ok(()),
+            None => {}
         }
     }
 
     /// Writes a blank and `catch { a; }`, where there is such.
     #[tactic(auto, unfolding(crate::specs::Stmts::handler))]
-    fn handler<N: Held>(&mut self, node: &Option<CatchClause<N>>) -> Answer
-        ensures items { Emits (handler N.items node.now) (state_of S.lines W.sheet self.old) (state_of S.lines W.sheet self.new) result }
-        ensures level { OnOk result ((W.sheet self.new.wr).indentation ≡ (W.sheet self.old.wr).indentation) }
+    fn handler<N: Held>(&mut self, node: &Option<CatchClause<N>>)
+        ensures items { Makes (handler N.items node.now) (standing_of S.lines W.sheet self.old) (standing_of S.lines W.sheet self.new) }
+        ensures level { Stays (standing_of S.lines W.sheet self.old) (standing_of S.lines W.sheet self.new) }
     {
         match node {
             Some(node) => {
-                self.formatting_space()?;
+                self.formatting_space();
                 node.emit_at(self, Place::Plain)
             }
-            None => Ok(()),
+            None => {}
         }
     }
 
     /// Writes a blank and `finally{ a; }`, where there is such.
     #[tactic(auto, unfolding(crate::specs::Stmts::finalizer))]
-    fn finalizer<N: Held>(&mut self, node: &Option<BlockStmtBox<N>>) -> Answer
-        ensures items { Emits (finalizer N.items node.now) (state_of S.lines W.sheet self.old) (state_of S.lines W.sheet self.new) result }
-        ensures level { OnOk result ((W.sheet self.new.wr).indentation ≡ (W.sheet self.old.wr).indentation) }
+    fn finalizer<N: Held>(&mut self, node: &Option<BlockStmtBox<N>>)
+        ensures items { Makes (finalizer N.items node.now) (standing_of S.lines W.sheet self.old) (standing_of S.lines W.sheet self.new) }
+        ensures level { Stays (standing_of S.lines W.sheet self.old) (standing_of S.lines W.sheet self.new) }
     {
         match node {
             Some(node) => {
-                self.formatting_space()?;
-                self.keyword(None, "finally")?;
+                self.formatting_space();
+                self.keyword(None, "finally");
                 node.held().emit_at(self, Place::Plain)
             }
-            None => Ok(()),
+            None => {}
         }
     }
 
     /// Writes what stands before the statements of a program.
     #[tactic(auto, unfolding(crate::specs::Programs::program_start))]
-    pub(crate) fn program_start<T>(
-        &mut self,
-        shebang: &Option<String>,
-        body: &[T],
-        span: Span,
-    ) -> Answer
-        ensures items { Emits (program_start shebang.now body.now span) (state_of S.lines W.sheet self.old) (state_of S.lines W.sheet self.new) result }
-        ensures level { OnOk result ((W.sheet self.new.wr).indentation ≡ (W.sheet self.old.wr).indentation) }
+    pub(crate) fn program_start<T>(&mut self, shebang: &Option<String>, body: &[T], span: Span)
+        ensures items { Makes (program_start shebang.now body.now span) (standing_of S.lines W.sheet self.old) (standing_of S.lines W.sheet self.new) }
+        ensures level { Stays (standing_of S.lines W.sheet self.old) (standing_of S.lines W.sheet self.new) }
     {
         match shebang {
             Some(text) => {
-                self.start_if_empty(body, span)?;
-                self.hashbang(text.as_str())?;
+                self.start_if_empty(body, span);
+                self.hashbang(text.as_str());
                 self.leading_comments(span.lo)
             }
             None => {
-                self.leading_comments(span.lo)?;
+                self.leading_comments(span.lo);
                 self.start_if_empty(body, span)
             }
         }
@@ -498,13 +472,13 @@ impl<W: WriteJs, S: SourceMapper, C: Comments> Emitter<'_, W, S, C> {
 
     /// Records the start of a program without statements.
     #[tactic(auto, unfolding(crate::specs::Programs::start_if_empty))]
-    fn start_if_empty<T>(&mut self, body: &[T], span: Span) -> Answer
-        ensures items { Emits (start_if_empty body.now span) (state_of S.lines W.sheet self.old) (state_of S.lines W.sheet self.new) result }
-        ensures level { OnOk result ((W.sheet self.new.wr).indentation ≡ (W.sheet self.old.wr).indentation) }
+    fn start_if_empty<T>(&mut self, body: &[T], span: Span)
+        ensures items { Makes (start_if_empty body.now span) (standing_of S.lines W.sheet self.old) (standing_of S.lines W.sheet self.new) }
+        ensures level { Stays (standing_of S.lines W.sheet self.old) (standing_of S.lines W.sheet self.new) }
     {
         match body {
             [] => self.start_of(span),
-            [_, ..] => Ok(()),
+            [_, ..] => {}
         }
     }
 }

@@ -1,6 +1,5 @@
 //! What is assigned to, and names that are bound.
 
-ghost use Rattle.std.specs.Prelude.{◌≡◌};
 ghost use Rattle.swc_ecma_codegen.specs.Names.{binding_ident};
 ghost use Rattle.swc_ecma_codegen.specs.Targets.{simple_assign_target, assign_target};
 
@@ -8,7 +7,6 @@ use crate::emitter::Emitter;
 use crate::nodes::{EmitAt, Held, Place};
 use swc_ecma_codegen_ast::comments::Comments;
 use swc_ecma_codegen_ast::mapper::SourceMapper;
-use swc_ecma_codegen_common::Answer;
 use swc_ecma_codegen_text_writer::WriteJs;
 use swc_ecma_codegen_tree::{AssignTarget, BindingIdent, SimpleAssignTarget};
 
@@ -20,7 +18,7 @@ impl<N> EmitAt for BindingIdent<N> {
         &self,
         e: &mut Emitter<'_, W, S, C>,
         place: Place,
-    ) -> Answer {
+    ) {
         if self.type_ann.is_some() {
             return e.unsupported();
         }
@@ -36,7 +34,7 @@ impl<N: Held> EmitAt for AssignTarget<N> {
         &self,
         e: &mut Emitter<'_, W, S, C>,
         place: Place,
-    ) -> Answer {
+    ) {
         match self {
             AssignTarget::Simple(node) => node.emit_at(e, place),
             AssignTarget::Pat(node) => node.emit_at(e, place),
@@ -52,7 +50,7 @@ impl<N: Held> EmitAt for SimpleAssignTarget<N> {
         &self,
         e: &mut Emitter<'_, W, S, C>,
         place: Place,
-    ) -> Answer {
+    ) {
         match self {
             SimpleAssignTarget::Ident(node) => node.emit_at(e, place),
             SimpleAssignTarget::Member(node) => node.held().emit_at(e, Place::Plain),

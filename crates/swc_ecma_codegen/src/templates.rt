@@ -1,19 +1,18 @@
 //! Templates.
 
-ghost use Rattle.std.specs.Prelude.{◌≡◌, ◌+◌, OnOk, true, length};
+ghost use Rattle.std.specs.Prelude.{◌≡◌, true};
 ghost use Rattle.swc_ecma_codegen_ast.specs.TemplatePhrases.{is_counted, part_before};
-ghost use Rattle.swc_ecma_codegen_base.specs.Run.{Emits};
+ghost use Rattle.swc_ecma_codegen.specs.Standing.{Makes, Stays, standing_of};
 ghost use Rattle.swc_ecma_codegen_base.specs.Templates.{tpl_element};
 ghost use Rattle.swc_ecma_codegen.specs.Templates.{tpl_rest, tpl_parts, bad_shape, tpl, is_tagged, tagged_tpl};
-ghost use Rattle.swc_ecma_codegen.specs.View.{state_of};
 
 use crate::emitter::Emitter;
 use crate::nodes::{EmitAt, Held, Place};
+use crate::refusals::keep;
 use swc_ecma_codegen_ast::comments::Comments;
 use swc_ecma_codegen_ast::kinds::TemplatePart;
 use swc_ecma_codegen_ast::mapper::SourceMapper;
 use swc_ecma_codegen_base::Unprintable;
-use swc_ecma_codegen_common::Answer;
 use swc_ecma_codegen_text_writer::WriteJs;
 use swc_ecma_codegen_tree::{ExprBox, TaggedTpl, Tpl, TplElement};
 
@@ -53,15 +52,14 @@ impl<N: Held> EmitAt for Tpl<N> {
         &self,
         e: &mut Emitter<'_, W, S, C>,
         place: Place,
-    ) -> Answer {
+    ) {
         if !is_counted(&self.exprs, &self.quasis) {
             return e.bad_shape();
         }
-        e.leading_comments(self.span.lo)?;
-        e.start_of(self.span)?;
-        e.tpl_parts(is_tagged(place), &self.exprs, &self.quasis)?;
-        e.end_of(self.span)?;
-        Ok(())
+        e.leading_comments(self.span.lo);
+        e.start_of(self.span);
+        e.tpl_parts(is_tagged(place), &self.exprs, &self.quasis);
+        e.end_of(self.span);
     }
 }
 
@@ -73,80 +71,81 @@ impl<N: Held> EmitAt for TaggedTpl<N> {
         &self,
         e: &mut Emitter<'_, W, S, C>,
         place: Place,
-    ) -> Answer {
+    ) {
         if self.type_params.is_some() {
             return e.unsupported();
         }
-        e.leading_comments(self.span.lo)?;
-        e.start_of(self.span)?;
-        self.tag.held().emit_at(e, Place::Callee)?;
-        self.tpl.held().emit_at(e, Place::Tagged)?;
-        e.end_of(self.span)?;
-        Ok(())
+        e.leading_comments(self.span.lo);
+        e.start_of(self.span);
+        self.tag.held().emit_at(e, Place::Callee);
+        self.tpl.held().emit_at(e, Place::Tagged);
+        e.end_of(self.span);
     }
 }
 
 impl<W: WriteJs, S: SourceMapper, C: Comments> Emitter<'_, W, S, C> {
     /// Comes to a node whose shape has no text.
-    #[tactic(auto, unfolding(crate::specs::Templates::bad_shape))]
-    pub(crate) fn bad_shape(&mut self) -> Answer
-        ensures items { Emits bad_shape (state_of S.lines W.sheet self.old) (state_of S.lines W.sheet self.new) result }
-        ensures level { OnOk result ((W.sheet self.new.wr).indentation ≡ (W.sheet self.old.wr).indentation) }
+    #[tactic(auto, using(crate::proofs::Standings::refused_makes), unfolding(crate::specs::Templates::bad_shape))]
+    pub(crate) fn bad_shape(&mut self)
+        ensures items { Makes bad_shape (standing_of S.lines W.sheet self.old) (standing_of S.lines W.sheet self.new) }
+        ensures level { Stays (standing_of S.lines W.sheet self.old) (standing_of S.lines W.sheet self.new) }
     {
-        self.lower
-            .refuse(&self.cfg, &self.wr, Unprintable::BadShape)
+        if self.refusal.is_some() {
+            return;
+        }
+        keep(
+            &mut self.refusal,
+            self.lower
+                .refuse(&self.cfg, &self.wr, Unprintable::BadShape),
+        );
     }
 
     /// Writes a part of a template, with the marks round it.
     #[inline(never)]
-    fn tpl_element(&mut self, first: bool, part: TemplatePart, node: &TplElement) -> Answer
-        ensures items { Emits (tpl_element first part node.now) (state_of S.lines W.sheet self.old) (state_of S.lines W.sheet self.new) result }
-        ensures level { OnOk result ((W.sheet self.new.wr).indentation ≡ (W.sheet self.old.wr).indentation) }
+    #[tactic(auto, using(crate::proofs::Standings::refused_makes))]
+    fn tpl_element(&mut self, first: bool, part: TemplatePart, node: &TplElement)
+        ensures items { Makes (tpl_element first part node.now) (standing_of S.lines W.sheet self.old) (standing_of S.lines W.sheet self.new) }
+        ensures level { Stays (standing_of S.lines W.sheet self.old) (standing_of S.lines W.sheet self.new) }
     {
-        self.lower
-            .tpl_element(&self.cfg, &mut self.wr, first, part, node)
+        if self.refusal.is_some() {
+            return;
+        }
+        keep(
+            &mut self.refusal,
+            self.lower
+                .tpl_element(&self.cfg, &mut self.wr, first, part, node),
+        );
     }
 
     /// Writes the parts of a template after the first, each behind an expression.
     #[tactic(auto, using(crate::proofs::Steps::tpl_next), unfolding(crate::specs::Templates::tpl_rest))]
-    fn tpl_rest<N: Held>(
-        &mut self,
-        tagged: bool,
-        exprs: &[ExprBox<N>],
-        quasis: &[TplElement],
-    ) -> Answer
-        ensures items { Emits (tpl_rest N.items tagged exprs.now quasis.now) (state_of S.lines W.sheet self.old) (state_of S.lines W.sheet self.new) result }
-        ensures level { OnOk result ((W.sheet self.new.wr).indentation ≡ (W.sheet self.old.wr).indentation) }
+    fn tpl_rest<N: Held>(&mut self, tagged: bool, exprs: &[ExprBox<N>], quasis: &[TplElement])
+        ensures items { Makes (tpl_rest N.items tagged exprs.now quasis.now) (standing_of S.lines W.sheet self.old) (standing_of S.lines W.sheet self.new) }
+        ensures level { Stays (standing_of S.lines W.sheet self.old) (standing_of S.lines W.sheet self.new) }
     {
         let mut left = quasis;
         for expr in exprs {
             let Some((quasi, others)) = left.split_first() else {
-                return Ok(());
+                return;
             };
-            expr.held().emit_at(self, Place::Plain)?;
-            self.tpl_element(false, part_before(tagged, others), quasi)?;
+            expr.held().emit_at(self, Place::Plain);
+            self.tpl_element(false, part_before(tagged, others), quasi);
             left = others;
         }
-        Ok(())
     }
 
     /// Writes the parts of a template.
     #[tactic(auto, unfolding(crate::specs::Templates::tpl_parts))]
-    fn tpl_parts<N: Held>(
-        &mut self,
-        tagged: bool,
-        exprs: &[ExprBox<N>],
-        quasis: &[TplElement],
-    ) -> Answer
-        ensures items { Emits (tpl_parts N.items tagged exprs.now quasis.now) (state_of S.lines W.sheet self.old) (state_of S.lines W.sheet self.new) result }
-        ensures level { OnOk result ((W.sheet self.new.wr).indentation ≡ (W.sheet self.old.wr).indentation) }
+    fn tpl_parts<N: Held>(&mut self, tagged: bool, exprs: &[ExprBox<N>], quasis: &[TplElement])
+        ensures items { Makes (tpl_parts N.items tagged exprs.now quasis.now) (standing_of S.lines W.sheet self.old) (standing_of S.lines W.sheet self.new) }
+        ensures level { Stays (standing_of S.lines W.sheet self.old) (standing_of S.lines W.sheet self.new) }
     {
         match quasis {
             [quasi, quasis @ ..] => {
-                self.tpl_element(true, part_before(tagged, quasis), quasi)?;
+                self.tpl_element(true, part_before(tagged, quasis), quasi);
                 self.tpl_rest(tagged, exprs, quasis)
             }
-            [] => Ok(()),
+            [] => {}
         }
     }
 }

@@ -3,8 +3,10 @@
 use crate::checks::Tally;
 use crate::emissions::Emission;
 use crate::pipes::Page;
+use crate::trees;
 use crate::trees::{
     DECREMENT, EXPORT, MEMBER, NAME, Tree, expr_of, script_of, settings, statement_of,
+    written_whole,
 };
 use std::alloc::{AllocError, Global};
 use std::test::Fail;
@@ -93,7 +95,7 @@ fn written_parts<N: Tree>(alloc: Global, stmt: &Stmt<N>) -> Result<Page, Fail> {
     let boxed = boxed_semicolon(alloc)?;
     let some = Some(Stmt::Empty(EmptyStmt { span: DUMMY_SP }));
     let none = None;
-    let written = N::written_parts(alloc, stmt, (&boxed, &some, &none));
+    let written = trees::written_parts(alloc, stmt, (&boxed, &some, &none));
     let gone = [
         let_go(alloc, Some(Box::into_inner(boxed))),
         let_go(alloc, some),
@@ -108,7 +110,7 @@ fn written_parts<N: Tree>(alloc: Global, stmt: &Stmt<N>) -> Result<Page, Fail> {
 /// Whether what holds a node has its text: a script itself and its first statement, and a statement, what lies in it, and what
 /// holds `;`.
 fn has_its_text_each_way<N: Tree>(alloc: Global, tree: &Program<N>) -> Result<bool, Fail> {
-    let whole = N::written_whole(alloc, tree, settings(false))?;
+    let whole = written_whole(alloc, tree, settings(false))?;
     let parts = match statement_of(tree) {
         Some(stmt) => written_parts(alloc, stmt)?,
         None => Page::new(),
@@ -119,7 +121,7 @@ fn has_its_text_each_way<N: Tree>(alloc: Global, tree: &Program<N>) -> Result<bo
 /// Whether a module, its item and what that exports have their texts.
 fn prints_a_module<N: Tree>(alloc: Global) -> Result<bool, Fail> {
     let tree = N::read(alloc, EXPORT)?;
-    let written = N::written_whole(alloc, &tree, settings(true))?;
+    let written = written_whole(alloc, &tree, settings(true))?;
     // Three times `export{a}from"b"with{c:"d"};`, and then the name that the item exports.
     let three =
         r#"export{a}from"b"with{c:"d"};export{a}from"b"with{c:"d"};export{a}from"b"with{c:"d"};a"#;

@@ -69,6 +69,7 @@ pub(crate) const UNCOUNTED: &str =
 pub(crate) trait Tree: Holds<Expr<Self>>
     + Holds<MemberExpr<Self>>
     + Holds<Stmt<Self>>
+    + Holds<StmtPart<Self>>
     + Held
     + Fits
     + SpaceBefore
@@ -82,17 +83,35 @@ pub(crate) trait Tree: Holds<Expr<Self>>
     /// Whether an expression begins with a letter, a digit or the like, by the function that says what this tells.
     fn is_told_to_start_so(expr: &Expr<Self>) -> bool;
 
-    /// What is written of a tree by each call that takes it whole and by the functions that say how these read: of a script itself and
-    /// of its first statement, of a module itself, of its first item and of the name that this one exports first.
-    fn written_whole(alloc: Global, tree: &Program<Self>, config: Config) -> Result<Page, Error>;
+    /// Writes a program that is well-formed.
+    fn write_program<W: WriteJs, S: SourceMapper, C: Comments>(
+        tree: &Program<Self>,
+        e: &mut Emitter<'_, W, S, C>,
+    ) -> Answer;
 
-    /// What is written of a statement that is an expression, and of what lies in it, by the functions that say how they read, with `;` in
-    /// a box and in an option between, and an option of none at the end.
-    fn written_parts(
-        alloc: Global,
+    /// Writes a script, or a module, itself.
+    fn write_root<W: WriteJs, S: SourceMapper, C: Comments>(
+        tree: &Program<Self>,
+        e: &mut Emitter<'_, W, S, C>,
+    ) -> Answer;
+
+    /// Writes an item that is well-formed.
+    fn write_item<W: WriteJs, S: SourceMapper, C: Comments>(
+        item: &ModuleItem<Self>,
+        e: &mut Emitter<'_, W, S, C>,
+    ) -> Answer;
+
+    /// Writes a statement that is well-formed, by the function that says how it reads.
+    fn write_stmt<W: WriteJs, S: SourceMapper, C: Comments>(
         stmt: &Stmt<Self>,
-        semicolons: (&Box<Stmt<Self>>, &Option<Stmt<Self>>, &Option<Stmt<Self>>),
-    ) -> Result<Page, Error>;
+        e: &mut Emitter<'_, W, S, C>,
+    ) -> Answer;
+
+    /// Writes an expression that is well-formed, by the function that says how it reads.
+    fn write_expr<W: WriteJs, S: SourceMapper, C: Comments>(
+        expr: &Expr<Self>,
+        e: &mut Emitter<'_, W, S, C>,
+    ) -> Answer;
 }
 
 impl Tree for AnyNode {
@@ -104,38 +123,122 @@ impl Tree for AnyNode {
         first_token_is_told(expr)
     }
 
-    fn written_whole(alloc: Global, tree: &Program, config: Config) -> Result<Page, Error> {
-        laws_of_links();
-        laws_of_trees();
-        let wr = JsWriter::new(alloc, &NoSource, "\r\n", Page::new(), None);
-        let mut emitter = Emitter::new(alloc, config, &NoSource, None::<CommentMaps>, wr);
+    fn write_program<W: WriteJs, S: SourceMapper, C: Comments>(
+        tree: &Program,
+        e: &mut Emitter<'_, W, S, C>,
+    ) -> Answer {
         if is_well_formed(tree) {
-            emitter.emit_program(tree)?;
+            e.emit_program(tree)?;
         }
-        match tree {
-            Program::Script(script) => write_script(script, &mut emitter)?,
-            Program::Module(module) => write_module(module, &mut emitter)?,
-        }
-        Ok(emitter.wr.into_inner())
+        Ok(())
     }
 
-    fn written_parts(
-        alloc: Global,
-        stmt: &Stmt,
-        (boxed, some, none): (&Box<Stmt>, &Option<Stmt>, &Option<Stmt>),
-    ) -> Result<Page, Error> {
-        let wr = JsWriter::new(alloc, &NoSource, "\n", Page::new(), None);
-        let mut emitter = Emitter::new(alloc, settings(true), &NoSource, None::<CommentMaps>, wr);
-        write_stmt(stmt, &mut emitter)?;
-        if let Stmt::Expr(node) = stmt {
-            write_held(node, boxed, &mut emitter)?;
-            if let Some(expr) = node.expr.get() {
-                write_expr(expr, some, &mut emitter)?;
-            }
+    fn write_root<W: WriteJs, S: SourceMapper, C: Comments>(
+        tree: &Program,
+        e: &mut Emitter<'_, W, S, C>,
+    ) -> Answer {
+        match tree {
+            Program::Script(script) => e.emit_script(script),
+            Program::Module(module) => e.emit_module(module),
         }
-        emitted_option_reads(none, &mut emitter)?;
-        Ok(emitter.wr.into_inner())
     }
+
+    fn write_item<W: WriteJs, S: SourceMapper, C: Comments>(
+        item: &ModuleItem,
+        e: &mut Emitter<'_, W, S, C>,
+    ) -> Answer {
+        if is_well_formed_item(item) {
+            e.emit_module_item(item)?;
+        }
+        Ok(())
+    }
+
+    fn write_stmt<W: WriteJs, S: SourceMapper, C: Comments>(
+        stmt: &Stmt,
+        e: &mut Emitter<'_, W, S, C>,
+    ) -> Answer {
+        if is_well_formed_stmt(stmt) {
+            emitted_stmt_reads(stmt, e)?;
+        }
+        Ok(())
+    }
+
+    fn write_expr<W: WriteJs, S: SourceMapper, C: Comments>(
+        expr: &Expr,
+        e: &mut Emitter<'_, W, S, C>,
+    ) -> Answer {
+        if is_well_formed_expr(expr) {
+            emitted_expr_reads(expr, e)?;
+        }
+        Ok(())
+    }
+}
+
+/// What is written of a tree by each call that takes it whole: of a script itself and of its first statement, of a module
+/// itself, of its first item and of the name that this one exports first.
+pub(crate) fn written_whole<N: Tree>(
+    alloc: Global,
+    tree: &Program<N>,
+    config: Config,
+) -> Result<Page, Error> {
+    laws_of_links();
+    laws_of_trees();
+    let wr = JsWriter::new(alloc, &NoSource, "\r\n", Page::new(), None);
+    let mut emitter = Emitter::new(alloc, config, &NoSource, None::<CommentMaps>, wr);
+    N::write_program(tree, &mut emitter)?;
+    N::write_root(tree, &mut emitter)?;
+    write_first(tree, &mut emitter)?;
+    Ok(emitter.wr.into_inner())
+}
+
+/// Writes the first statement of a script by its link, or the first item of a module, and the name that this one exports first.
+fn write_first<N: Tree, W: WriteJs, S: SourceMapper, C: Comments>(
+    tree: &Program<N>,
+    e: &mut Emitter<'_, W, S, C>,
+) -> Answer {
+    match tree {
+        Program::Script(script) => match script.body.first() {
+            Some(link) => emitted_link_reads(link, e),
+            None => Ok(()),
+        },
+        Program::Module(module) => match item_of(module) {
+            Some(item) => write_exporting(item, e),
+            None => Ok(()),
+        },
+    }
+}
+
+/// Writes an item, and the name that it exports first.
+fn write_exporting<N: Tree, W: WriteJs, S: SourceMapper, C: Comments>(
+    item: &ModuleItem<N>,
+    e: &mut Emitter<'_, W, S, C>,
+) -> Answer {
+    N::write_item(item, e)?;
+    match exported_name(item) {
+        Some(name) => e.emit_module_export_name(name),
+        None => Ok(()),
+    }
+}
+
+/// What is written of a statement that is an expression, and of what lies in it, by the functions that say how they read, with
+/// `;` in a box and in an option between, and an option of none at the end.
+pub(crate) fn written_parts<N: Tree>(
+    alloc: Global,
+    stmt: &Stmt<N>,
+    (boxed, some, none): (&Box<Stmt<N>>, &Option<Stmt<N>>, &Option<Stmt<N>>),
+) -> Result<Page, Error> {
+    let wr = JsWriter::new(alloc, &NoSource, "\n", Page::new(), None);
+    let mut emitter = Emitter::new(alloc, settings(true), &NoSource, None::<CommentMaps>, wr);
+    N::write_stmt(stmt, &mut emitter)?;
+    emitted_ref_reads(&stmt, &mut emitter)?;
+    if let Stmt::Expr(node) = stmt {
+        write_held(node, boxed, &mut emitter)?;
+        if let Some(expr) = node.expr.get() {
+            write_within(expr, some, &mut emitter)?;
+        }
+    }
+    emitted_option_reads(none, &mut emitter)?;
+    Ok(emitter.wr.into_inner())
 }
 
 /// The laws of links, of a new emitter, and of token lists: they do nothing.
@@ -161,60 +264,10 @@ fn laws_of_trees() {
     layouts_keep_the_tokens();
 }
 
-/// Writes a script, and its first statement by its link.
-fn write_script<W: WriteJs, S: SourceMapper, C: Comments>(
-    script: &Script,
-    e: &mut Emitter<'_, W, S, C>,
-) -> Answer {
-    e.emit_script(script)?;
-    match script.body.first() {
-        Some(link) => emitted_link_reads(link, e),
-        None => Ok(()),
-    }
-}
-
-/// Writes a module, its first item, and the name that this one exports first.
-fn write_module<W: WriteJs, S: SourceMapper, C: Comments>(
-    module: &Module,
-    e: &mut Emitter<'_, W, S, C>,
-) -> Answer {
-    e.emit_module(module)?;
-    match item_of(module) {
-        Some(item) => write_item(item, e),
-        None => Ok(()),
-    }
-}
-
-/// Writes an item, and the name that it exports first.
-fn write_item<W: WriteJs, S: SourceMapper, C: Comments>(
-    item: &ModuleItem,
-    e: &mut Emitter<'_, W, S, C>,
-) -> Answer {
-    if is_well_formed_item(item) {
-        e.emit_module_item(item)?;
-    }
-    match exported_name(item) {
-        Some(name) => e.emit_module_export_name(name),
-        None => Ok(()),
-    }
-}
-
-/// Writes a statement, and the same as it is lent.
-fn write_stmt<W: WriteJs, S: SourceMapper, C: Comments>(
-    stmt: &Stmt,
-    e: &mut Emitter<'_, W, S, C>,
-) -> Answer {
-    if is_well_formed_stmt(stmt) {
-        emitted_stmt_reads(stmt, e)?;
-        emitted_ref_reads(&stmt, e)?;
-    }
-    Ok(())
-}
-
 /// Writes the expression of a statement by its link, and what a box holds.
-fn write_held<W: WriteJs, S: SourceMapper, C: Comments>(
-    node: &ExprStmt,
-    boxed: &Box<Stmt>,
+fn write_held<N: Tree, W: WriteJs, S: SourceMapper, C: Comments>(
+    node: &ExprStmt<N>,
+    boxed: &Box<Stmt<N>>,
     e: &mut Emitter<'_, W, S, C>,
 ) -> Answer {
     emitted_link_reads(&node.expr, e)?;
@@ -222,14 +275,12 @@ fn write_held<W: WriteJs, S: SourceMapper, C: Comments>(
 }
 
 /// Writes an expression, what an option holds, and a member by its link.
-fn write_expr<W: WriteJs, S: SourceMapper, C: Comments>(
-    expr: &Expr,
-    some: &Option<Stmt>,
+fn write_within<N: Tree, W: WriteJs, S: SourceMapper, C: Comments>(
+    expr: &Expr<N>,
+    some: &Option<Stmt<N>>,
     e: &mut Emitter<'_, W, S, C>,
 ) -> Answer {
-    if is_well_formed_expr(expr) {
-        emitted_expr_reads(expr, e)?;
-    }
+    N::write_expr(expr, e)?;
     emitted_option_reads(some, e)?;
     match expr {
         Expr::Member(link) => emitted_link_reads(link, e),

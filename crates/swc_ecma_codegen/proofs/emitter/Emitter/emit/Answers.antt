@@ -1,9 +1,11 @@
-use Rattle.std.proofs.Common.{Err, ◌∙◌, sym, ◌≡◌, true}
+use Rattle.std.proofs.Common.{refl, None, Err, ◌∙◌, sym, ◌≡◌, true}
 use Rattle.swc_ecma_codegen_common.specs.declared.errors.Refusal.TheVariants.{Failed}
 use Rattle.swc_ecma_codegen_base.specs.Run.{State, HasCause, nothing, steps_in}
 use Rattle.swc_ecma_codegen_base.proofs.Fronts.{follows_failed, follows_front, follows_marked, follows_cause, follows_succeeds}
-use Rattle.swc_ecma_codegen_base.proofs.Short.{emits_at_length, on_err_in_short, if_err_in_short, is_ok_in_short}
+use Rattle.swc_ecma_codegen_base.proofs.Short.{on_err_in_short, if_err_in_short, is_ok_in_short}
 use Rattle.swc_ecma_codegen.specs.View.{state_of}
+use Rattle.swc_ecma_codegen.specs.Standing.{Standing, standing_of}
+use Rattle.swc_ecma_codegen.proofs.Standings.{makes_at_length, stays_at_length}
 use Rattle.swc_ecma_codegen.specs.declared.nodes.Place.TheVariants.{Plain}
 use Rattle.swc_ecma_codegen.proofs.emitter.Emitter.emit.Goals as goal
 
@@ -14,7 +16,7 @@ pub returns-then-is_failed-clause-cause : goal.returns-then-is_failed-clause-cau
 returns-then-is_failed-clause-cause g c = follows_cause (g.T.EmitAt.items c.args.node.now Plain nothing) _ _ (Err Failed) (follows_failed _ _ (sym c.is_failed.ensures ∙ c.if-is_failed.true))
 
 pub returns-clause-items : goal.returns-clause-items
-returns-clause-items g c = emits_at_length (g.T.EmitAt.items c.args.node.now Plain) _ _ _ _ _ c.emit_at-answer.ensures.items c.answer.ensures.answer c.answer.ensures.state
+returns-clause-items g c = makes_at_length (g.T.EmitAt.items c.args.node.now Plain) _ _ _ _ refl c.emit_at.ensures.items c.answer.ensures.answer c.answer.ensures.state
 
 pub returns-clause-front : goal.returns-clause-front
 returns-clause-front g c = follows_front (g.T.EmitAt.items c.args.node.now Plain nothing) _ _ _ (returns-clause-items g c)
@@ -31,3 +33,9 @@ returns-clause-succeeds g c = λ h. is_ok_in_short _ (follows_succeeds (g.T.Emit
 
 pub returns-clause-marked : goal.returns-clause-marked
 returns-clause-marked g c = on_err_in_short ((state_of g.S.SourceMapper.lines g.W.WriteJs.sheet c.answer.new.self).failed ≡ true) c.answer.result (follows_marked (g.T.EmitAt.items c.args.node.now Plain nothing) _ _ _ (returns-clause-items g c))
+
+pub returns-clause-level : goal.returns-clause-level
+returns-clause-level g c =
+    let a : Standing = record { state = state_of g.S.SourceMapper.lines g.W.WriteJs.sheet c.args.self.now; refusal = None } in
+    let b : Standing = standing_of g.S.SourceMapper.lines g.W.WriteJs.sheet c.emit_at.new.e in
+    stays_at_length a b _ _ c.emit_at.ensures.level c.answer.ensures.answer c.answer.ensures.state

@@ -2,9 +2,8 @@ use Rattle.std.proofs.Common.{◌≡◌, ℕ, false, map, refl, sym, subst}
 use Rattle.std.specs.List.{filter}
 use Rattle.swc_ecma_codegen_spans.specs.Spans.{export_specifier_span}
 use Rattle.swc_ecma_codegen_ast.specs.ListFormats.{indented}
-use Rattle.swc_ecma_codegen_base.specs.Run.{State, Emits}
+use Rattle.swc_ecma_codegen.specs.Standing.{Standing, Makes, standing_of}
 use Rattle.swc_ecma_codegen_base.specs.Lists.{list}
-use Rattle.swc_ecma_codegen.specs.View.{state_of}
 use Rattle.swc_ecma_codegen.specs.Lists.{child_of}
 use Rattle.swc_ecma_codegen.specs.Modules.{named_format, export_specifier, is_braced}
 use Rattle.swc_ecma_codegen.proofs.emitter.Emitter.export_list.Goals as goal
@@ -17,8 +16,8 @@ braced_list-requires g c =
 
 pub returns-clause-items : goal.returns-clause-items
 returns-clause-items g c =
-    let a : State = state_of g.S.SourceMapper.lines g.W.WriteJs.sheet c.args.self.now in
-    let b : State = state_of g.S.SourceMapper.lines g.W.WriteJs.sheet c.braced_list.new.self in
+    let a : Standing = standing_of g.S.SourceMapper.lines g.W.WriteJs.sheet c.args.self.now in
+    let b : Standing = standing_of g.S.SourceMapper.lines g.W.WriteJs.sheet c.braced_list.new.self in
     let format : c.named_format.result.0 ≡ named_format = c.named_format.ensures in
-    let P : ℕ → Type 0 = λ z. Emits (list z c.args.parent (map (child_of export_specifier_span (λ n place. export_specifier n)) (filter is_braced c.args.specifiers.now))) a b c.braced_list.result in
+    let P : ℕ → Type 0 = λ z. Makes (list z c.args.parent (map (child_of export_specifier_span (λ n place. export_specifier n)) (filter is_braced c.args.specifiers.now))) a b in
     subst P format c.braced_list.ensures.items

@@ -1,8 +1,7 @@
 use Rattle.std.proofs.Common.{◌≡◌, ℕ, List, map, subst}
 use Rattle.swc_ecma_codegen_tree.specs.declared.pats.ObjectPatProp.{ObjectPatProp}
-use Rattle.swc_ecma_codegen_base.specs.Run.{State, Emits}
+use Rattle.swc_ecma_codegen.specs.Standing.{Standing, Makes, standing_of}
 use Rattle.swc_ecma_codegen_base.specs.Lists.{list}
-use Rattle.swc_ecma_codegen.specs.View.{state_of}
 use Rattle.swc_ecma_codegen.specs.Lists.{child_of}
 use Rattle.swc_ecma_codegen_spans.specs.Spans.{object_pat_prop_span}
 use Rattle.swc_ecma_codegen.specs.Answers.{place_of}
@@ -11,9 +10,9 @@ use Rattle.swc_ecma_codegen.proofs.emitter.Emitter.object_pat_props.Goals as goa
 
 pub returns-clause-items : goal.returns-clause-items
 returns-clause-items g c =
-    let a : State = state_of g.S.SourceMapper.lines g.W.WriteJs.sheet c.args.self.now in
-    let b : State = state_of g.S.SourceMapper.lines g.W.WriteJs.sheet c.list.new.self in
+    let a : Standing = standing_of g.S.SourceMapper.lines g.W.WriteJs.sheet c.args.self.now in
+    let b : Standing = standing_of g.S.SourceMapper.lines g.W.WriteJs.sheet c.list.new.self in
     let format : c.object_pat_format.result.0 ≡ object_pat_format = c.object_pat_format.ensures in
-    let P : ℕ → Type 0 = λ z. Emits (list z c.args.node.now.span (map (child_of (object_pat_prop_span (place_of g.N.Known.answers)) (λ p place. object_pat_prop g.N.Known.answers g.N.EmitAt.items p)) c.args.node.now.props.items)) a b c.list.result in
-    let Q : List (ObjectPatProp _) → Type 0 = λ xs. Emits (list c.object_pat_format.result.0 c.args.node.now.span (map (child_of (object_pat_prop_span (place_of g.N.Known.answers)) (λ p place. object_pat_prop g.N.Known.answers g.N.EmitAt.items p)) xs)) a b c.list.result in
+    let P : ℕ → Type 0 = λ z. Makes (list z c.args.node.now.span (map (child_of (object_pat_prop_span (place_of g.N.Known.answers)) (λ p place. object_pat_prop g.N.Known.answers g.N.EmitAt.items p)) c.args.node.now.props.items)) a b in
+    let Q : List (ObjectPatProp _) → Type 0 = λ xs. Makes (list c.object_pat_format.result.0 c.args.node.now.span (map (child_of (object_pat_prop_span (place_of g.N.Known.answers)) (λ p place. object_pat_prop g.N.Known.answers g.N.EmitAt.items p)) xs)) a b in
     subst P format (subst Q c.deref.ensures.value c.list.ensures.items)

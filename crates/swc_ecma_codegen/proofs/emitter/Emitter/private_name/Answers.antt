@@ -1,5 +1,9 @@
-use Rattle.swc_ecma_codegen_base.proofs.Emitting.{does_here}
+use Rattle.std.proofs.Common.{rules}
+use Rattle.swc_ecma_codegen.proofs.Standings.{makes_here, unrefused}
 use Rattle.swc_ecma_codegen.proofs.emitter.Emitter.private_name.Goals as goal
 
 pub returns-clause-items : goal.returns-clause-items
-returns-clause-items g c = does_here (g.S.SourceMapper.lines c.args.self.now.cm.now) _ _ _ _ c.private_name.ensures.items
+returns-clause-items g c = makes_here (g.S.SourceMapper.lines c.args.self.now.cm.now) _ _ _ _ _ _ c.private_name.ensures.items (search rules) c.keep.ensures
+
+pub returns-clause-level : goal.returns-clause-level
+returns-clause-level g c = unrefused _ _ _ _ c.private_name.ensures.level (search rules) c.keep.ensures

@@ -1,11 +1,10 @@
-use Rattle.std.proofs.Common.{◌≡◌, drop}
-use Rattle.swc_ecma_codegen_base.specs.Run.{Continues}
+use Rattle.std.proofs.Common.{drop}
+use Rattle.swc_ecma_codegen.specs.Standing.{Continues, Stays, standing_of}
 use Rattle.swc_ecma_codegen.specs.Modules.{star_export}
-use Rattle.swc_ecma_codegen.specs.View.{state_of}
 use Rattle.swc_ecma_codegen.proofs.emitter.Emitter.star_export.Given as goal
 
 abbrev pub invariant-loop-specifier : goal.invariant-loop-specifier
 invariant-loop-specifier g l = record {
-  items : Continues (star_export (drop l.specifier-index l.specifiers)) (state_of g.S.SourceMapper.lines g.W.WriteJs.sheet l.self) (star_export l.specifiers) (state_of g.S.SourceMapper.lines g.W.WriteJs.sheet l.initial.self);
-  level : (g.W.WriteJs.sheet l.self.wr).indentation ≡ (g.W.WriteJs.sheet l.initial.self.wr).indentation;
+  items : Continues (star_export (drop l.specifier-index l.specifiers)) (standing_of g.S.SourceMapper.lines g.W.WriteJs.sheet l.self) (star_export l.specifiers) (standing_of g.S.SourceMapper.lines g.W.WriteJs.sheet l.initial.self);
+  level : Stays (standing_of g.S.SourceMapper.lines g.W.WriteJs.sheet l.initial.self) (standing_of g.S.SourceMapper.lines g.W.WriteJs.sheet l.self);
 }

@@ -1,4 +1,9 @@
+use Rattle.std.proofs.Common.{rules}
+use Rattle.swc_ecma_codegen.proofs.Standings.{makes_emitted, unrefused}
 use Rattle.swc_ecma_codegen.proofs.emitter.Emitter.trailing_comma.Goals as goal
 
 pub returns-clause-items : goal.returns-clause-items
-returns-clause-items g c = c.trailing_comma.ensures.items
+returns-clause-items g c = makes_emitted _ _ _ _ _ _ c.trailing_comma.ensures.items (search rules) c.keep.ensures
+
+pub returns-clause-level : goal.returns-clause-level
+returns-clause-level g c = unrefused _ _ _ _ c.trailing_comma.ensures.level (search rules) c.keep.ensures

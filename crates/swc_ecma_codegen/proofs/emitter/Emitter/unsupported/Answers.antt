@@ -1,7 +1,11 @@
-use Rattle.swc_ecma_codegen_base.proofs.Emitting.{does_here}
+use Rattle.std.proofs.Common.{rules, refl}
 use Rattle.swc_ecma_codegen.specs.Lists.{unsupported}
+use Rattle.swc_ecma_codegen.proofs.Standings.{makes_here, on_ok, unrefused}
 use Rattle.swc_ecma_codegen.proofs.emitter.Emitter.unsupported.Goals as goal
 
 pub returns-clause-items : goal.returns-clause-items
 unfolding unsupported
-returns-clause-items g c = does_here (g.S.SourceMapper.lines c.args.self.now.cm.now) _ _ _ _ c.refuse.ensures.items
+returns-clause-items g c = makes_here (g.S.SourceMapper.lines c.args.self.now.cm.now) _ _ _ _ _ _ c.refuse.ensures.items (search rules) c.keep.ensures
+
+pub returns-clause-level : goal.returns-clause-level
+returns-clause-level g c = unrefused _ _ _ _ (on_ok _ c.refuse.result refl) (search rules) c.keep.ensures
