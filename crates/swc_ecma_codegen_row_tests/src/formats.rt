@@ -8,7 +8,7 @@ use swc_ecma_codegen_ast::ListFormat;
 use swc_ecma_codegen_common::{BytePos, Span};
 
 /// The formats that aren't one flag, by their names.
-const FORMATS: [(&str, ListFormat); 32] = [
+const FORMATS: &[(&str, ListFormat)] = &[
     ("None", ListFormat::None),
     ("SingleLine", ListFormat::SingleLine),
     ("LinesMask", ListFormat::LinesMask),
@@ -85,8 +85,8 @@ fn format_of(names: &str) -> Option<ListFormat> {
     for name in names.split('|') {
         let mut found = ListFormat::from_name(name);
         for (known, named) in FORMATS {
-            if known == name {
-                found = Some(named);
+            if *known == name {
+                found = Some(*named);
             }
         }
         format = format.union(found?);

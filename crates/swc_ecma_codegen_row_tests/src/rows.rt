@@ -7,7 +7,7 @@ use crate::nestings::are_printed;
 use crate::over::{has_commas, has_texts_over};
 use crate::runs::answers;
 use crate::sources::source_of;
-use crate::steps::{Step, tree_of};
+use crate::steps::{Step, Tree, tree_of};
 use crate::trees::{has_texts, is_formed, is_printed_with, prints_expr};
 use crate::{lexical, literals};
 use std::alloc::{AllocError, Global};
@@ -58,20 +58,38 @@ fn of_steps(
         return Ok(false);
     };
     match (word.strip_prefix("script_").unwrap_or(word), rest) {
-        ("tree" | "script", [pretty, minified]) => {
-            has_texts(alloc, &tree, true, [pretty, minified])
-        }
-        ("malformed", [pretty, minified]) => has_texts(alloc, &tree, false, [pretty, minified]),
         ("well_formed", [answer]) => is_formed(alloc, &tree.json, is_yes(answer)),
         ("node", [text]) => prints_expr(alloc, &tree.json, text),
         ("prints", [text]) => is_printed_with(alloc, given, &tree, text),
-        ("over", [pretty, minified]) => {
+        (word, [pretty, minified, more @ ..]) => {
+            of_texts(alloc, &tree, word, given, [pretty, minified], more)
+        }
+        _ => Ok(false),
+    }
+}
+
+/// Whether a tree in steps has these texts, with blanks and without. `given` is the name of its source text.
+fn of_texts<'x>(
+    alloc: Global,
+    tree: &Tree,
+    word: &str,
+    given: &str,
+    texts: [&'x str; 2],
+    more: &'x [String],
+) -> Result<bool, AllocError> {
+    match (word, more) {
+        ("tree" | "script", []) => has_texts(alloc, tree, true, texts),
+        ("malformed", []) => has_texts(alloc, tree, false, texts),
+        ("over", []) => {
             let source = source_of(alloc, given, None)?;
-            has_texts_over(alloc, &source, &tree, false, [pretty, minified])
+            has_texts_over(alloc, &source, tree, false, texts)
         }
-        ("commas", [pretty, minified, longer, short, marks]) => {
-            has_commas(alloc, &tree, [[pretty, minified], [longer, short]], marks)
-        }
+        ("commas", [longer, short, marks]) => has_commas(
+            alloc,
+            tree,
+            [texts, [longer, short]],
+            marks,
+        ),
         _ => Ok(false),
     }
 }

@@ -19,27 +19,46 @@ fn target(field: &str) -> EsVersion {
 
 /// Whether a row of this word holds: whether a text is spelled so, or ECMAScript 5 has no spelling of a name in ASCII.
 pub fn holds(alloc: Global, word: &str, rest: &[String]) -> Result<bool, Error> {
-    match (word, rest) {
-        ("inline", [text, want]) => {
-            let found = quoted_for_inline_script(alloc, text, false, EsVersion::EsNext)?;
-            Ok(found.as_str() == want.as_str())
+    match rest {
+        [name] => Ok(is_out_of_target(alloc, name)),
+        [name, want] if word == "valid_name" => {
+            Ok(valid_name(alloc, name)?.as_str() == want.as_str())
         }
-        ("quoted", [text, ascii_only, version, want]) => {
-            let found = quoted_utf16(alloc, text, is_yes(ascii_only), target(version))?;
-            Ok(found.as_str() == want.as_str())
-        }
-        ("ascii_name", [name, ascii_only, version, want]) => {
-            let found = ascii_only_ident(alloc, name, is_yes(ascii_only), target(version))?;
-            Ok(found.as_str() == want.as_str())
-        }
-        ("out_of_target", [name]) => {
-            let found = ascii_only_ident(alloc, name, false, EsVersion::Es5);
-            Ok(matches!(&found, Err(Error::NameOutOfTarget)))
-        }
-        ("valid_name", [name, want]) => Ok(valid_name(alloc, name)?.as_str() == want.as_str()),
-        ("without_separators", [number, want]) => {
+        [number, want] if word == "without_separators" => {
             Ok(without_separators(alloc, number)?.as_str() == want.as_str())
+        }
+        [text, want] => is_spelled(alloc, word, text, (false, EsVersion::EsNext), want),
+        [text, ascii_only, version, want] => {
+            is_spelled(
+                alloc,
+                word,
+                text,
+                (is_yes(ascii_only), target(version)),
+                want,
+            )
         }
         _ => Ok(false),
     }
+}
+
+/// Whether ECMAScript 5 has no spelling of this name in ASCII.
+fn is_out_of_target(alloc: Global, name: &str) -> bool {
+    let found = ascii_only_ident(alloc, name, false, EsVersion::Es5);
+    matches!(&found, Err(Error::NameOutOfTarget))
+}
+
+/// Whether the call that a word names spells a text so, in ASCII or not, for a version.
+fn is_spelled(
+    alloc: Global,
+    word: &str,
+    text: &str,
+    (ascii_only, version): (bool, EsVersion),
+    want: &str,
+) -> Result<bool, Error> {
+    let found = match word {
+        "inline" => quoted_for_inline_script(alloc, text, ascii_only, version)?,
+        "quoted" => quoted_utf16(alloc, text, ascii_only, version)?,
+        _ => ascii_only_ident(alloc, text, ascii_only, version)?,
+    };
+    Ok(found.as_str() == want)
 }

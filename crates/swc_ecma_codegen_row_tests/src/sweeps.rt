@@ -18,35 +18,30 @@ const SETTINGS: [(bool, EsVersion); 6] = [
     (false, EsVersion::EsNext),
 ];
 
-/// Whether a row of this word holds: how strings are spelled with each of the settings, and the raw texts of templates.
+/// Whether a row of this word holds: how strings are spelled with each of the settings, and the raw texts of templates. The
+/// numbers say which field has the spelling, for each of the settings.
 pub fn holds(alloc: Global, word: &str, rest: &[String]) -> Result<bool, Error> {
-    match (word, rest) {
-        ("surrogate", [text, literal]) => spells_each(alloc, text, [literal; 6]),
-        ("null", [text, in_es3, later]) => {
-            spells_each(alloc, text, [in_es3, later, later, in_es3, later, later])
-        }
-        ("wide", [text, as_pair, in_ascii, plain]) => {
-            spells_each(
-                alloc,
-                text,
-                [as_pair, as_pair, in_ascii, as_pair, as_pair, plain],
-            )
-        }
+    match word {
+        "surrogate" => spells_each(alloc, rest, [1; 6]),
+        // in ECMAScript 3, and later
+        "null" => spells_each(alloc, rest, [1, 2, 2, 1, 2, 2]),
+        // as a pair, in ASCII, as it is
+        "wide" => spells_each(alloc, rest, [1, 1, 2, 1, 1, 3]),
         // alike in ECMAScript 3 and 5
-        ("spelled", [first, last, a, b, c, d]) => {
-            are_spelled(alloc, [first, last], [a, a, b, c, c, d])
-        }
-        ("raw", [raw, ascii_only, text]) => gives(alloc, raw, &[is_yes(ascii_only)], text),
-        ("raw_text", [raw, text]) => gives(alloc, raw, &[false, true], text),
-        ("raw_range", [first, last, raw, text]) => {
-            gives_each(alloc, [first, last], [raw, text], &[false, true])
-        }
-        ("raw_range_plain", [first, last, raw, text]) => {
-            gives_each(alloc, [first, last], [raw, text], &[false])
-        }
-        ("raw_range_ascii", [first, last, raw, text]) => {
-            gives_each(alloc, [first, last], [raw, text], &[true])
-        }
+        "spelled" => are_spelled(alloc, rest, [2, 2, 3, 4, 4, 5]),
+        "raw" | "raw_text" | "raw_range" => holds_raw(alloc, rest, &[false, true]),
+        "raw_range_plain" => holds_raw(alloc, rest, &[false]),
+        "raw_range_ascii" => holds_raw(alloc, rest, &[true]),
+        _ => Ok(false),
+    }
+}
+
+/// Whether a row of raw texts holds, with each of these settings, in ASCII or not, unless it says one itself.
+fn holds_raw(alloc: Global, rest: &[String], settings: &[bool]) -> Result<bool, Error> {
+    match rest {
+        [raw, text] => gives(alloc, raw, settings, text),
+        [raw, ascii_only, text] => gives(alloc, raw, &[is_yes(ascii_only)], text),
+        [first, last, raw, text] => gives_each(alloc, [first, last], [raw, text], settings),
         _ => Ok(false),
     }
 }
@@ -64,11 +59,19 @@ fn spells(
     Ok(plain.as_str() == literal && inline.as_str() == literal)
 }
 
-/// Whether a text has these literals, one for each of the settings.
-fn spells_each(alloc: Global, text: &str, literals: [&str; 6]) -> Result<bool, Error> {
-    for ((ascii_only, target), literal) in SETTINGS.into_iter().zip(literals) {
-        if !spells(alloc, text, ascii_only, target, literal)? {
-            return Ok(false);
+/// Whether the first field, a text, has the literals of these fields, one for each of the settings.
+fn spells_each(alloc: Global, rest: &[String], fields: [usize; 6]) -> Result<bool, Error> {
+    let Some(text) = rest.first() else {
+        return Ok(false);
+    };
+    for ((ascii_only, target), at) in SETTINGS.into_iter().zip(fields) {
+        match rest.get(at) {
+            Some(literal) => {
+                if !spells(alloc, text, ascii_only, target, literal)? {
+                    return Ok(false);
+                }
+            }
+            None => return Ok(false),
         }
     }
     Ok(true)
@@ -98,13 +101,12 @@ fn stands_before(
     spells(alloc, &text, ascii_only, target, &literal)
 }
 
-/// Whether each character of a range, whose ends are in hexadecimal, is spelled by these patterns, one for each of the
-/// settings: at the end of a text and before others.
-fn are_spelled(
-    alloc: Global,
-    [first, last]: [&str; 2],
-    patterns: [&str; 6],
-) -> Result<bool, Error> {
+/// Whether each character of the range of the first two fields, which are in hexadecimal, is spelled by the patterns of these
+/// fields, one for each of the settings: at the end of a text and before others.
+fn are_spelled(alloc: Global, rest: &[String], fields: [usize; 6]) -> Result<bool, Error> {
+    let [first, last, ..] = rest else {
+        return Ok(false);
+    };
     let (Ok(first), Ok(last)) = (
         u32::from_str_radix(first, 16),
         u32::from_str_radix(last, 16),
@@ -113,13 +115,31 @@ fn are_spelled(
     };
     for code in first..=last {
         let c = char::from_u32(code).unwrap_or(' ');
-        for ((ascii_only, target), pattern) in SETTINGS.into_iter().zip(patterns) {
-            let spelled = expanded(alloc, pattern, c)?;
-            for after in ["", "1", "{", "\""] {
-                if !stands_before(alloc, c, &spelled, after, ascii_only, target)? {
-                    return Ok(false);
+        for (setting, at) in SETTINGS.into_iter().zip(fields) {
+            match rest.get(at) {
+                Some(pattern) => {
+                    if !stands_before_each(alloc, c, pattern, setting)? {
+                        return Ok(false);
+                    }
                 }
+                None => return Ok(false),
             }
+        }
+    }
+    Ok(true)
+}
+
+/// Whether a character is spelled by this pattern at the end of a text and before others.
+fn stands_before_each(
+    alloc: Global,
+    c: char,
+    pattern: &str,
+    (ascii_only, target): (bool, EsVersion),
+) -> Result<bool, Error> {
+    let spelled = expanded(alloc, pattern, c)?;
+    for after in ["", "1", "{", "\""] {
+        if !stands_before(alloc, c, &spelled, after, ascii_only, target)? {
+            return Ok(false);
         }
     }
     Ok(true)

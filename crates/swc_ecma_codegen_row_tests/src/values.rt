@@ -25,27 +25,36 @@ pub fn has_value(
         ("regex", [want]) => Ok(is_regex(text) == is_yes(want)),
         ("hashbang", [want]) => Ok(is_hashbang(text) == is_yes(want)),
         ("no_name", []) => Ok(name_value(alloc, text)?.is_none()),
-        ("name", [want]) => match name_value(alloc, text)? {
-            Some(name) => Ok(name.as_slice() == characters(alloc, want)?.as_slice()),
-            None => Ok(false),
-        },
+        ("name", [want]) => is_named(alloc, text, want),
         ("number", [want]) => is_worth(alloc, text, want),
-        ("utf16", [want]) => match text {
-            [c] => Ok(is_value(Some(utf16(alloc, *c)?), true, want)),
-            _ => Ok(false),
-        },
-        ("plain", [want]) => Ok(is_value(Some(units(alloc, text)?), true, want)),
-        ("template", [want]) => {
-            Ok(is_value(cooked_value(alloc, text)?, has_cooked_value(text), want))
-        }
-        ("string", [sloppy, strict]) => {
-            let in_sloppy = string_value(alloc, true, text)?;
-            let in_strict = string_value(alloc, false, text)?;
-            Ok(
-                is_value(in_sloppy, has_string_value(true, text), sloppy)
-                    && is_value(in_strict, has_string_value(false, text), strict),
-            )
-        }
+        ("string", [sloppy, strict]) => Ok(
+            has_string(alloc, true, text, sloppy)? && has_string(alloc, false, text, strict)?,
+        ),
+        (word, [want]) => has_units(alloc, word, text, want),
+        _ => Ok(false),
+    }
+}
+
+/// Whether a text is a name of this value.
+fn is_named(alloc: Global, text: &[char], want: &str) -> Result<bool, AllocError> {
+    match name_value(alloc, text)? {
+        Some(name) => Ok(name.as_slice() == characters(alloc, want)?.as_slice()),
+        None => Ok(false),
+    }
+}
+
+/// Whether a string literal has this value in sloppy code, or in strict code.
+fn has_string(alloc: Global, sloppy: bool, text: &[char], want: &str) -> Result<bool, AllocError> {
+    let value = string_value(alloc, sloppy, text)?;
+    Ok(is_value(value, has_string_value(sloppy, text), want))
+}
+
+/// Whether one character, a plain text or the text of a template has these code units.
+fn has_units(alloc: Global, word: &str, text: &[char], want: &str) -> Result<bool, AllocError> {
+    match (word, text) {
+        ("utf16", [c]) => Ok(is_value(Some(utf16(alloc, *c)?), true, want)),
+        ("plain", _) => Ok(is_value(Some(units(alloc, text)?), true, want)),
+        ("template", _) => Ok(is_value(cooked_value(alloc, text)?, has_cooked_value(text), want)),
         _ => Ok(false),
     }
 }
