@@ -157,46 +157,68 @@ impl<W: WriteJs, S: SourceMapper, C: Comments> Emitter<'_, W, S, C> {
         );
     }
 
-    /// Writes the first child, where a line ends before it or doesn't.
+    /// Writes the first child, which stands at `place`, where a line ends before it or doesn't.
     #[tactic(auto, unfolding(swc_ecma_codegen_base::specs::Lists::first_child_after))]
-    fn first_child_after<T: Child>(&mut self, format: ListFormat, line: bool, child: &T)
+    fn first_child_after<T: Child>(
+        &mut self,
+        format: ListFormat,
+        line: bool,
+        child: &T,
+        place: Span,
+    )
+        requires { place ≡ T.stands child.now }
         ensures items { Makes (first_child_after format.0 line (child_of T.stands T.items child.now)) (standing_of S.lines W.sheet self.old) (standing_of S.lines W.sheet self.new) }
         ensures level { Deepens (list_levels format.0 self.old.cfg) (standing_of S.lines W.sheet self.old) (standing_of S.lines W.sheet self.new) }
     {
         self.opening(format, line);
         child.emit_at(self, Place::Plain);
-        self.child_comments(format, line, child.place());
+        self.child_comments(format, line, place);
     }
 
-    /// Writes the first child, and what stands before it.
-    pub(crate) fn first_child<T: Child>(&mut self, format: ListFormat, parent: Span, child: &T)
+    /// Writes the first child, which stands at `place`, and what stands before it.
+    pub(crate) fn first_child<T: Child>(
+        &mut self,
+        format: ListFormat,
+        parent: Span,
+        child: &T,
+        place: Span,
+    )
+        requires { place ≡ T.stands child.now }
         ensures items { Makes (first_child format.0 parent (child_of T.stands T.items child.now)) (standing_of S.lines W.sheet self.old) (standing_of S.lines W.sheet self.new) }
         ensures level { Deepens (list_levels format.0 self.old.cfg) (standing_of S.lines W.sheet self.old) (standing_of S.lines W.sheet self.new) }
         ensures settings { KeepsSettings (standing_of S.lines W.sheet self.old) (standing_of S.lines W.sheet self.new) }
     {
-        let line = format.leading_line(self.cm, parent, child.place());
-        self.first_child_after(format, line, child)
+        let line = format.leading_line(self.cm, parent, place);
+        self.first_child_after(format, line, child, place)
     }
 
-    /// Writes a child after another, where a line ends between them or doesn't.
+    /// Writes a child after another, which stands at `place`, where a line ends between them or doesn't.
     #[tactic(auto, unfolding(swc_ecma_codegen_base::specs::Lists::next_child_after))]
-    fn next_child_after<T: Child>(&mut self, format: ListFormat, line: bool, child: &T)
+    fn next_child_after<T: Child>(&mut self, format: ListFormat, line: bool, child: &T, place: Span)
+        requires { place ≡ T.stands child.now }
         ensures items { Makes (next_child_after format.0 line (child_of T.stands T.items child.now)) (standing_of S.lines W.sheet self.old) (standing_of S.lines W.sheet self.new) }
         ensures level { Stays (standing_of S.lines W.sheet self.old) (standing_of S.lines W.sheet self.new) }
     {
         self.separator(format, line);
         child.emit_at(self, Place::Plain);
-        self.child_comments(format, line, child.place());
+        self.child_comments(format, line, place);
     }
 
-    /// Writes a child after one that stands at `previous`, and what stands between them.
-    pub(crate) fn next_child<T: Child>(&mut self, format: ListFormat, previous: Span, child: &T)
+    /// Writes a child, which stands at `place`, after one that stands at `previous`, and what stands between them.
+    pub(crate) fn next_child<T: Child>(
+        &mut self,
+        format: ListFormat,
+        previous: Span,
+        child: &T,
+        place: Span,
+    )
+        requires { place ≡ T.stands child.now }
         ensures items { Makes (next_child format.0 previous (child_of T.stands T.items child.now)) (standing_of S.lines W.sheet self.old) (standing_of S.lines W.sheet self.new) }
         ensures level { Stays (standing_of S.lines W.sheet self.old) (standing_of S.lines W.sheet self.new) }
         ensures settings { KeepsSettings (standing_of S.lines W.sheet self.old) (standing_of S.lines W.sheet self.new) }
     {
-        let line = format.separating_line(self.cm, previous, child.place());
-        self.next_child_after(format, line, child)
+        let line = format.separating_line(self.cm, previous, place);
+        self.next_child_after(format, line, child, place)
     }
 
     /// Writes what stands after the last child.
@@ -225,8 +247,9 @@ impl<W: WriteJs, S: SourceMapper, C: Comments> Emitter<'_, W, S, C> {
     {
         let mut last = previous;
         for child in children {
-            self.next_child(format, last, child);
-            last = child.place();
+            let place = child.place();
+            self.next_child(format, last, child, place);
+            last = place;
         }
         self.list_closing(format, parent, last);
     }
@@ -237,8 +260,9 @@ impl<W: WriteJs, S: SourceMapper, C: Comments> Emitter<'_, W, S, C> {
         ensures items { Makes (list format.0 parent (map (child_of T.stands T.items) (first.now ∷ others.now))) (standing_of S.lines W.sheet self.old) (standing_of S.lines W.sheet self.new) }
         ensures level { Stays (standing_of S.lines W.sheet self.old) (standing_of S.lines W.sheet self.new) }
     {
-        self.first_child(format, parent, first);
-        self.list_after(format, parent, first.place(), others);
+        let place = first.place();
+        self.first_child(format, parent, first, place);
+        self.list_after(format, parent, place, others);
     }
 
     /// Writes a list without children.

@@ -60,10 +60,10 @@ impl<W: WriteJs, S: SourceMapper, C: Comments> Emitter<'_, W, S, C> {
     {
         match previous {
             None => {
-                self.first_child(format, parent, child);
+                self.first_child(format, parent, child, child.place());
             }
             Some(previous) => {
-                self.next_child(format, previous, child);
+                self.next_child(format, previous, child, child.place());
             }
         }
     }

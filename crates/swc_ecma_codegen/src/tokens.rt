@@ -40,6 +40,7 @@ impl<W: WriteJs, S: SourceMapper, C: Comments> Emitter<'_, W, S, C> {
     }
 
     /// Writes a keyword.
+    #[inline(never)]
     #[tactic(auto, using(crate::proofs::Standings::refused_makes))]
     pub(crate) fn keyword(&mut self, span: Option<Span>, text: &'static str)
         requires { begins_letter text.now ≡ true }
@@ -56,6 +57,7 @@ impl<W: WriteJs, S: SourceMapper, C: Comments> Emitter<'_, W, S, C> {
     }
 
     /// Writes an operator that is a punctuator.
+    #[inline(never)]
     #[tactic(auto, using(crate::proofs::Standings::refused_makes))]
     pub(crate) fn operator(&mut self, mark: Punctuator)
         ensures items { Makes (operator (spelling mark)) (standing_of S.lines W.sheet self.old) (standing_of S.lines W.sheet self.new) }
@@ -71,6 +73,7 @@ impl<W: WriteJs, S: SourceMapper, C: Comments> Emitter<'_, W, S, C> {
     }
 
     /// Writes an operator that is a word.
+    #[inline(never)]
     #[tactic(auto, using(crate::proofs::Standings::refused_makes))]
     pub(crate) fn word_operator(&mut self, text: &'static str)
         requires { begins_letter text.now ≡ true }
@@ -87,6 +90,7 @@ impl<W: WriteJs, S: SourceMapper, C: Comments> Emitter<'_, W, S, C> {
     }
 
     /// Writes a punctuator.
+    #[inline(never)]
     #[tactic(auto, using(crate::proofs::Standings::refused_makes))]
     pub(crate) fn punct(&mut self, mark: Punctuator)
         ensures items { Makes (punct (spelling mark)) (standing_of S.lines W.sheet self.old) (standing_of S.lines W.sheet self.new) }
@@ -102,6 +106,7 @@ impl<W: WriteJs, S: SourceMapper, C: Comments> Emitter<'_, W, S, C> {
     }
 
     /// Writes a punctuator, and records where it stands.
+    #[inline(never)]
     #[tactic(auto, using(crate::proofs::Standings::refused_makes))]
     pub(crate) fn placed_punct(&mut self, span: Span, mark: Punctuator)
         ensures items { Makes (placed_punct span (spelling mark)) (standing_of S.lines W.sheet self.old) (standing_of S.lines W.sheet self.new) }
@@ -193,6 +198,7 @@ impl<W: WriteJs, S: SourceMapper, C: Comments> Emitter<'_, W, S, C> {
     }
 
     /// Writes a semicolon that may be left out where it isn't needed.
+    #[inline(never)]
     #[tactic(auto, using(crate::proofs::Standings::refused_makes))]
     pub(crate) fn semi(&mut self)
         ensures items { Makes (semi) (standing_of S.lines W.sheet self.old) (standing_of S.lines W.sheet self.new) }

@@ -1,27 +1,14 @@
--- The trailing comma of a list, and what asks where lines end.
-use Rattle.std.proofs.Common.{◌≡◌, ◌==◌, Bool, true, false, cond, ℕ, Result, Ok, Err, OnOk, refl, ap, ◌∙◌, subst}
+-- The trailing comma of a list.
+use Rattle.std.proofs.Common.{◌≡◌, ◌==◌, Bool, true, false, cond, ℕ, Result, Ok, Err, refl, ap, subst}
 use Rattle.swc_ecma_codegen_common.specs.declared.errors.Refusal.{Refusal}
 use Rattle.swc_ecma_codegen_common.specs.declared.errors.Refusal.TheVariants.{OutOfMemory}
 use Rattle.swc_ecma_codegen_common.specs.declared.positions.Span.{Span}
 use Rattle.swc_ecma_codegen_ast.specs.SourceLines.{Lines}
 use Rattle.swc_ecma_codegen_ast.specs.ListFormats.{forces_trailing_comma, allows_trailing_comma}
-use Rattle.swc_ecma_codegen_base.specs.Run.{Env, Plan, Part, State, Remake, Emits, Does, at_lines, Follows, step}
+use Rattle.swc_ecma_codegen_base.specs.Run.{Env, Plan, Part, State, Remake, Emits, Does, at_lines, step}
 use Rattle.swc_ecma_codegen_base.specs.Lists.{by_lines, comma_if, source_has_comma, source_comma, wanted_comma, may_have_comma, trailing_comma}
 use Rattle.swc_ecma_codegen_base.proofs.Emitting.{does_here}
-use Rattle.swc_ecma_codegen_base.proofs.Short.{emits_follows}
-use Rattle.swc_ecma_codegen_base.proofs.Made.{run_env}
 use Rattle.swc_ecma_codegen_base.proofs.Anew.{anew, emits_same, not_here}
-
--- what is done leaves the settings
-pub same_settings : (part : Part) (a b : State) (r : Result (Unit {0}) Refusal) → Emits part a b r → OnOk r (b.env.config ≡ a.env.config)
-unfolding Follows
-same_settings part a b (Ok u) h = ap (λ (s : State). s.env.config) (emits_follows part a b (Ok u) h).1 ∙ ap (λ (e : Env). e.config) (run_env _ a)
-same_settings part a b (Err e) h = tt
-
--- what asks where lines end does what the answer says
-pub asked : (ask : Lines → Part) (a b : State) (r : Result (Unit {0}) Refusal) → Emits (ask a.env.lines) a b r → Emits (by_lines ask) a b r
-unfolding by_lines
-asked ask a b r h = emits_same (by_lines ask) (ask a.env.lines) a b r (λ rest. refl) h
 
 pub source_same : (parent : Span) (rest : Plan) (env : Env) → (parent.lo.0 == 0) ≡ false → source_comma parent rest env ≡ step (Remake true) (comma_if (source_has_comma (env.lines.snippet parent)) rest) env
 unfolding source_comma by_lines step

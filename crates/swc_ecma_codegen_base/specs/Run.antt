@@ -184,10 +184,6 @@ abbrev pub Does : Part → State → State → Result (Unit {0}) Refusal → Typ
 Does part a b (Ok u) = (lines : Lines) → Emits part (with_lines lines a) (with_lines lines b) (Ok u)
 Does part a b (Err e) = (lines : Lines) → Emits part (with_lines lines a) (with_lines lines b) (Err e)
 
--- What goes on after a rest, now, goes on after the whole, from the start: a loop has come so far.
-abbrev pub Continues : Part → State → Part → State → Type 0
-Continues remaining now whole start = (rest : Plan) (c : State) (r : Result (Unit {0}) Refusal) → Follows (remaining rest) now c r → Follows (whole rest) start c r
-
 -- one step
 unfoldable pub step : Step → Part
 step x rest env = next x (rest env)

@@ -16,12 +16,22 @@ pub fn blank_due(last: TokenClass, next: StartClass) -> bool
     // It is what the gap rules say of each token of the one class and each text of the other.
     ensures { (token : Last) (text : List ℕ) → class_of token ≡ last → start_class text ≡ next → result ≡ fuses (last_at token) text }
 {
-    BLANKS[row(last)][next.place()]
+    blank_due_after(row(last), next)
+}
+
+/// The same, by the row of the token's class.
+#[inline(always)]
+pub(crate) fn blank_due_after(row: usize, next: StartClass) -> bool
+    requires { row < 63 }
+    ensures { (token : Last) (text : List ℕ) → row ≡ row_of (class_of token) → start_class text ≡ next → result ≡ fuses (last_at token) text }
+{
+    BLANKS[row][next.place()]
 }
 
 /// The row of a class.
+#[inline(always)]
 #[tactic(auto, unfolding(crate::specs::Classes::row_of))]
-fn row(class: TokenClass) -> usize
+pub(crate) fn row(class: TokenClass) -> usize
     ensures value { result ≡ row_of class }
     ensures below { result < 63 }
 {

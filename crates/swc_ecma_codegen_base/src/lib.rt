@@ -1,8 +1,9 @@
 //! The lower emitter: it writes tokens, and what stands between them, and never calls a node's function.
 #![tactic(auto)]
 
-ghost use Rattle.std.specs.Prelude.{◌≡◌, false};
+ghost use Rattle.std.specs.Prelude.{◌≡◌, ◌<◌, false};
 ghost use Rattle.swc_ecma_codegen_common.specs.Refusals.{reason_of};
+ghost use Rattle.swc_ecma_codegen_base.specs.Classes.{row_of};
 ghost use Rattle.swc_ecma_codegen_base.specs.Last.{class_of};
 
 mod comments;
@@ -24,6 +25,7 @@ mod templates;
 mod tokens;
 
 pub use crate::guard::blank_due;
+use crate::guard::row;
 pub use crate::last::Last;
 pub use crate::refusals::Unprintable;
 pub use crate::starts::StartClass;
@@ -33,16 +35,20 @@ use std::snapshot::Snapshot;
 use swc_ecma_codegen_common::{Error, Refusal};
 use swc_ecma_codegen_literals::TokenClass;
 
-/// What an emission keeps from one call to the next: the allocator, the class of the last token, whether a call was
-/// refused, and the error that the writer gave. Proofs see the last token itself.
+/// What an emission keeps from one call to the next: the allocator, the class of the last token with its row in the table of
+/// blanks, which the next token asks for, whether a call was refused, and the error that the writer gave. Proofs see the last
+/// token itself.
 #[derive(Drop)]
 pub struct LowerEmitter {
     alloc: Global,
     last: TokenClass,
+    row: usize,
     token: Snapshot<Last>,
     failed: bool,
     fault: Option<io::Error>,
     ghost class: { class_of token.value ≡ last },
+    ghost of_class: { row ≡ row_of last },
+    ghost below: { row < 63 },
 }
 
 impl LowerEmitter {
@@ -55,6 +61,7 @@ impl LowerEmitter {
         LowerEmitter {
             alloc,
             last: TokenClass::Rest,
+            row: row(TokenClass::Rest),
             token: Snapshot::of(&Last::Start),
             failed: false,
             fault: None,

@@ -1,7 +1,8 @@
 //! One call of the writer, and the blank that is due before it.
 //!
-//! What writes a token is never inlined: the room for the error of a writer would be part of the frames of nodes, which are there
-//! once for each level of a tree. What it calls for that is inlined, so that a token takes one call or two.
+//! What writes a token is inlined into the emitter's function of that name, which is not: the room for the error of a writer would be
+//! part of the frames of nodes, which are there once for each level of a tree. So a token takes one call or two. What else calls the
+//! writer is never inlined.
 
 ghost use Rattle.std.specs.Prelude.{◌≡◌, ℕ, None, OnOk, OnErr, Option, List, [], ◌∷◌, ◌++◌, codes, true, false};
 ghost use Rattle.std.specs.Str.{chars};
@@ -20,7 +21,7 @@ ghost use Rattle.swc_ecma_codegen_base.specs.Written.{IsWord, ReadsSoFar};
 ghost use Rattle.swc_ecma_codegen_base.specs.View.{state_of};
 
 use crate::LowerEmitter;
-use crate::guard::blank_due;
+use crate::guard::{blank_due_after, row};
 use crate::last::Last;
 use crate::starts::StartClass;
 use std::snapshot::Snapshot;
@@ -65,11 +66,13 @@ impl LowerEmitter {
     {
         self.keep(answer)?;
         self.last = last.class();
+        self.row = row(self.last);
         self.token = Snapshot::of(&last);
         Ok(())
     }
 
     /// Writes a blank where the last token and `text`, which begins so, would fuse.
+    #[inline(always)]
     #[tactic(auto, using(crate::proofs::Emitting::does_failed))]
     pub(crate) fn guard<W: WriteJs>(
         &mut self,
@@ -86,7 +89,7 @@ impl LowerEmitter {
         if self.failed {
             return Err(Refusal::Failed);
         }
-        if !blank_due(self.last, next) {
+        if !blank_due_after(self.row, next) {
             return Ok(());
         }
         self.put_blank(cfg, wr, text)
@@ -225,7 +228,7 @@ impl LowerEmitter {
     }
 
     /// Writes a keyword.
-    #[inline(never)]
+    #[inline(always)]
     #[tactic(auto, unfolding(crate::specs::Words::keyword))]
     pub fn keyword<W: WriteJs>(
         &mut self,
@@ -246,7 +249,7 @@ impl LowerEmitter {
     }
 
     /// Writes an operator that is a punctuator.
-    #[inline(never)]
+    #[inline(always)]
     #[tactic(auto, unfolding(crate::specs::Words::operator))]
     pub fn operator<W: WriteJs>(&mut self, cfg: &Config, wr: &mut W, mark: Punctuator) -> Answer
         ensures items { Does (operator (spelling mark)) (state_of cfg.now (W.sheet wr.old) self.old) (state_of cfg.now (W.sheet wr.new) self.new) result }
@@ -260,7 +263,7 @@ impl LowerEmitter {
     }
 
     /// Writes an operator that is a word, as `in`.
-    #[inline(never)]
+    #[inline(always)]
     #[tactic(auto, unfolding(crate::specs::Words::word_operator))]
     pub fn word_operator<W: WriteJs>(
         &mut self,
@@ -280,7 +283,7 @@ impl LowerEmitter {
     }
 
     /// Writes a punctuator.
-    #[inline(never)]
+    #[inline(always)]
     #[tactic(auto, unfolding(crate::specs::Words::punct))]
     pub fn punct<W: WriteJs>(&mut self, cfg: &Config, wr: &mut W, mark: Punctuator) -> Answer
         ensures items { Does (punct (spelling mark)) (state_of cfg.now (W.sheet wr.old) self.old) (state_of cfg.now (W.sheet wr.new) self.new) result }
@@ -294,7 +297,7 @@ impl LowerEmitter {
     }
 
     /// Writes a punctuator, and records where it begins and ends.
-    #[inline(never)]
+    #[inline(always)]
     #[tactic(auto, unfolding(crate::specs::Words::placed_punct))]
     pub fn placed_punct<W: WriteJs>(
         &mut self,
@@ -312,7 +315,7 @@ impl LowerEmitter {
     }
 
     /// Writes a semicolon that may be left out where it isn't needed.
-    #[inline(never)]
+    #[inline(always)]
     #[tactic(auto, unfolding(crate::specs::Words::semi))]
     pub fn semi<W: WriteJs>(&mut self, cfg: &Config, wr: &mut W) -> Answer
         ensures items { Does (semi) (state_of cfg.now (W.sheet wr.old) self.old) (state_of cfg.now (W.sheet wr.new) self.new) result }

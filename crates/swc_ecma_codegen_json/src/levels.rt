@@ -2,7 +2,7 @@
 
 use crate::expr_nodes::read_expr_node;
 use crate::jsx_nodes::read_jsx_node;
-use crate::reading::{Make, Sort};
+use crate::reading::{Make, Readable, Sort};
 use crate::source::{Failed, Fault, Source};
 use crate::stmt_nodes::read_stmt_node;
 use crate::ts_nodes::read_ts_node;
@@ -17,12 +17,20 @@ pub enum Levels {
 }
 
 /// As many levels as JSON is read of, so that another refusal always comes before this one.
-pub fn all_levels(alloc: Global) -> Result<Levels, AllocError> {
+fn all_levels(alloc: Global) -> Result<Levels, AllocError> {
     let mut levels = Levels::Out;
     for _ in 0..127 {
         levels = Levels::More(Box::new(alloc, levels)?);
     }
     Ok(levels)
+}
+
+impl Readable for AnyNode {
+    type Maker = Levels;
+
+    fn maker(alloc: Global) -> Result<Levels, AllocError> {
+        all_levels(alloc)
+    }
 }
 
 impl Make<AnyNode> for Levels {

@@ -58,7 +58,7 @@ pub fn program_from_slice(alloc: Global, bytes: &[u8]) -> Read<Program>
 {
     let text = std::str::from_utf8(bytes).map_err(|_| ReadError::CannotRead)?;
     match serde_json::from_str::<Tree>(alloc, text) {
-        Ok(tree) => Ok(tree.0),
+        Ok(tree) => Ok(tree.into_program()),
         Err(error) => Err(reason(&error)),
     }
 }

@@ -2,6 +2,7 @@
 
 use crate::source::{Failed, Fault, Source};
 use serde::Name;
+use std::alloc::{AllocError, Global};
 use swc_ecma_codegen_tree::Holds;
 
 /// The sorts of nodes that links hold, by area.
@@ -67,6 +68,13 @@ pub enum TsSort {
 /// Makes what a link holds.
 pub trait Make<N: Drop> {
     fn make<S: Source>(&self, sort: Sort, source: &mut S) -> Result<N, Failed>;
+}
+
+/// What links can hold, and what makes it. A check of what names `AnyNode` itself is dear.
+pub trait Readable: Drop {
+    type Maker: Make<Self> + Drop;
+
+    fn maker(alloc: Global) -> Result<Self::Maker, AllocError>;
 }
 
 /// What can be read, by the readers of the area `A`. What a link holds is made by `make`.

@@ -1,45 +1,63 @@
 //! Programs as serde reads them.
 
+ghost use Rattle.std.specs.Prelude.{◌≡◌};
+
 use crate::input::Input;
-use crate::levels::{Levels, all_levels};
+use crate::reading::{Make, Readable};
 use crate::stmt_nodes::read_program;
 use serde::{Deserialize, DeserializeOwned, Deserializer, Format};
 use std::alloc::Global;
-use swc_ecma_codegen_tree::Program;
+use swc_ecma_codegen_tree::{AnyNode, Program};
 
 /// A program that serde reads, in any of its formats: `let tree: Tree = serde_json::from_slice(alloc, bytes)?`.
-#[derive(Drop)]
-pub struct Tree(pub Program);
+pub struct Tree<N = AnyNode>(pub Program<N>);
 
-impl DeserializeOwned for Tree {
+impl<N: Drop> Tree<N> {
+    /// The program.
+    pub fn into_program(self) -> Program<N>
+        ensures { result ≡ self.0 }
+    {
+        let Tree(program) = self;
+        program
+    }
+}
+
+/// By hand, since each crate that lets a tree go would prove again what `derive` makes.
+impl<N: Drop> Drop for Tree<N> {
+    fn drop(self) {
+        let Tree(_) = self;
+    }
+}
+
+impl<N: Readable> DeserializeOwned for Tree<N> {
     fn deserialize_owned<F: Format>(
         alloc: Global,
         from: &mut Deserializer<'_, '_, F>,
-    ) -> Result<Tree, F::Error> {
-        let Ok(levels) = all_levels(alloc) else {
+    ) -> Result<Tree<N>, F::Error> {
+        let Ok(make) = N::maker(alloc) else {
             return Err(from.no_memory());
         };
-        read_tree(&mut Input::new(alloc, from), &levels)
+        read_tree(&mut Input::new(alloc, from), &make)
     }
 }
 
 /// The program that is read, or why there is none. In a function that is lent the input, since the check doesn't follow the
 /// loan of a local that holds a reference to where any `S: Source` is taken.
-fn read_tree<'a, 'de, 's, F: Format>(
+fn read_tree<'a, 'de, 's, N: Drop, F: Format, M: Make<N>>(
     input: &mut Input<'a, 'de, 's, F>,
-    levels: &Levels,
-) -> Result<Tree, F::Error> {
-    match read_program(input, levels) {
+    make: &M,
+) -> Result<Tree<N>, F::Error> {
+    match read_program(input, make) {
         Ok(program) if !input.has_failed() => Ok(Tree(program)),
         _ => Err(input.error()),
     }
 }
 
-impl<'de> Deserialize<'de> for Tree {
+impl<'de, N: Readable> Deserialize<'de> for Tree<N> {
     fn deserialize<F: Format>(
         alloc: Global,
         from: &mut Deserializer<'de, '_, F>,
-    ) -> Result<Tree, F::Error> {
-        Tree::deserialize_owned(alloc, from)
+    ) -> Result<Tree<N>, F::Error> {
+        Tree::<N>::deserialize_owned(alloc, from)
     }
 }

@@ -2,6 +2,8 @@
 use Rattle.std.specs.Prelude.{Option, Some, None}
 use Rattle.swc_ecma_codegen_tree.specs.declared.links.AnyNode.{AnyNode, AnyNode-F, out-AnyNode}
 use Rattle.swc_ecma_codegen_tree.specs.declared.links.AnyNode.TheOpen as nodes
+use Rattle.swc_ecma_codegen_tree.specs.declared.sums.Sorted.{Sorted}
+use Rattle.swc_ecma_codegen_tree.specs.declared.sums.Sorted.TheVariants as sorted
 use Rattle.swc_ecma_codegen_tree.specs.declared.parts.ExprPart.{ExprPart}
 use Rattle.swc_ecma_codegen_tree.specs.declared.parts.ExprPart.TheVariants as expr_parts
 use Rattle.swc_ecma_codegen_tree.specs.declared.parts.StmtPart.{StmtPart}
@@ -42,61 +44,18 @@ use Rattle.swc_ecma_codegen_tree.specs.declared.ts_types.TsFnParam.{TsFnParam}
 use Rattle.swc_ecma_codegen_tree.specs.declared.ts_members.TsTypeElement.{TsTypeElement}
 use Rattle.swc_ecma_codegen_tree.specs.declared.ts_types.TsEntityName.{TsEntityName}
 
--- the node that a link holds, where it is an expression
-abbrev pub expr_at : AnyNode-F AnyNode → Option (Expr AnyNode)
-expr_at (nodes.Expr n) = Some n
-expr_at _ = None
+-- what a link holds, by its sort
+abbrev pub sorted_at : AnyNode-F AnyNode → Sorted (Expr AnyNode) (Stmt AnyNode) (MemberExpr AnyNode) (ExprPart AnyNode) (StmtPart AnyNode) (JSXPart AnyNode) (TsPart AnyNode)
+sorted_at (nodes.Expr n) = sorted.Expr n
+sorted_at (nodes.Stmt n) = sorted.Stmt n
+sorted_at (nodes.MemberExpr n) = sorted.MemberExpr n
+sorted_at (nodes.ExprPart n) = sorted.ExprPart n
+sorted_at (nodes.StmtPart n) = sorted.StmtPart n
+sorted_at (nodes.JSXPart n) = sorted.JSXPart n
+sorted_at (nodes.TsPart n) = sorted.TsPart n
 
-abbrev pub expr_in : AnyNode → Option (Expr AnyNode)
-expr_in n = expr_at (out-AnyNode n)
-
--- the node that a link holds, where it is a statement
-abbrev pub stmt_at : AnyNode-F AnyNode → Option (Stmt AnyNode)
-stmt_at (nodes.Stmt n) = Some n
-stmt_at _ = None
-
-abbrev pub stmt_in : AnyNode → Option (Stmt AnyNode)
-stmt_in n = stmt_at (out-AnyNode n)
-
--- the node that a link holds, where it is a member expression
-abbrev pub member_expr_at : AnyNode-F AnyNode → Option (MemberExpr AnyNode)
-member_expr_at (nodes.MemberExpr n) = Some n
-member_expr_at _ = None
-
-abbrev pub member_expr_in : AnyNode → Option (MemberExpr AnyNode)
-member_expr_in n = member_expr_at (out-AnyNode n)
-
--- the node that a link holds, where it is a part of an expression
-abbrev pub expr_part_at : AnyNode-F AnyNode → Option (ExprPart AnyNode)
-expr_part_at (nodes.ExprPart n) = Some n
-expr_part_at _ = None
-
-abbrev pub expr_part_in : AnyNode → Option (ExprPart AnyNode)
-expr_part_in n = expr_part_at (out-AnyNode n)
-
--- the node that a link holds, where it is a part of a statement
-abbrev pub stmt_part_at : AnyNode-F AnyNode → Option (StmtPart AnyNode)
-stmt_part_at (nodes.StmtPart n) = Some n
-stmt_part_at _ = None
-
-abbrev pub stmt_part_in : AnyNode → Option (StmtPart AnyNode)
-stmt_part_in n = stmt_part_at (out-AnyNode n)
-
--- the node that a link holds, where it is a part of JSX
-abbrev pub jsx_part_at : AnyNode-F AnyNode → Option (JSXPart AnyNode)
-jsx_part_at (nodes.JSXPart n) = Some n
-jsx_part_at _ = None
-
-abbrev pub jsx_part_in : AnyNode → Option (JSXPart AnyNode)
-jsx_part_in n = jsx_part_at (out-AnyNode n)
-
--- the node that a link holds, where it is a part of TypeScript
-abbrev pub ts_part_at : AnyNode-F AnyNode → Option (TsPart AnyNode)
-ts_part_at (nodes.TsPart n) = Some n
-ts_part_at _ = None
-
-abbrev pub ts_part_in : AnyNode → Option (TsPart AnyNode)
-ts_part_in n = ts_part_at (out-AnyNode n)
+abbrev pub sorted_in : AnyNode → Sorted (Expr AnyNode) (Stmt AnyNode) (MemberExpr AnyNode) (ExprPart AnyNode) (StmtPart AnyNode) (JSXPart AnyNode) (TsPart AnyNode)
+sorted_in n = sorted_at (out-AnyNode n)
 
 -- the part of an expression, where it is of one sort
 abbrev pub pat_in : {N : Type 0} → ExprPart N → Option (Pat N)

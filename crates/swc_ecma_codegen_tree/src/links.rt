@@ -2,7 +2,8 @@
 
 ghost use Rattle.std.specs.Prelude.{◌≡◌, IfOk, Some};
 ghost use Rattle.std.specs.Option.{option_copied};
-ghost use Rattle.swc_ecma_codegen_tree.specs.Held.{expr_in, stmt_in, member_expr_in, expr_part_in, stmt_part_in, jsx_part_in, ts_part_in};
+ghost use Rattle.swc_ecma_codegen_tree.specs.Held.{sorted_in};
+ghost use Rattle.swc_ecma_codegen_tree.specs.SortsTell.{sorts_tell};
 
 use crate::drops::{
     let_expr_go, let_expr_part_go, let_jsx_part_go, let_member_go, let_stmt_go, let_stmt_part_go,
@@ -10,9 +11,13 @@ use crate::drops::{
 };
 use crate::exprs::{Expr, MemberExpr};
 use crate::holds::{Holds, hold_in_part, into_node_in_part, node_in_part};
+use crate::knot::{Knot, Shows};
 use crate::parts::{ExprPart, JSXPart, StmtPart, TsPart};
 use crate::sorts::LinkSort;
 use crate::stmts::Stmt;
+use crate::sums::{
+    AsExpr, AsExprPart, AsJSXPart, AsMemberExpr, AsStmt, AsStmtPart, AsTsPart, Sorted,
+};
 use std::alloc::{AllocError, Global};
 use std::marker::PhantomData;
 
@@ -99,156 +104,107 @@ impl Drop for AnyNode {
     }
 }
 
-impl Holds<Expr<AnyNode>> for AnyNode {
-    ghost node_in = { expr_in };
+impl Knot for AnyNode {
+    type Sum = Sorted<
+        Expr<AnyNode>,
+        Stmt<AnyNode>,
+        MemberExpr<AnyNode>,
+        ExprPart<AnyNode>,
+        StmtPart<AnyNode>,
+        JSXPart<AnyNode>,
+        TsPart<AnyNode>,
+    >;
 
-    fn hold(_: Global, node: Expr) -> Result<AnyNode, AllocError> {
-        Ok(AnyNode::Expr(node))
+    ghost sum_in = { sorted_in };
+
+    ghost sums_tell = { sorts_tell };
+
+    #[inline(always)]
+    fn of_sum(sum: Self::Sum) -> AnyNode {
+        match sum {
+            Sorted::Expr(node) => AnyNode::Expr(node),
+            Sorted::Stmt(node) => AnyNode::Stmt(node),
+            Sorted::MemberExpr(node) => AnyNode::MemberExpr(node),
+            Sorted::ExprPart(node) => AnyNode::ExprPart(node),
+            Sorted::StmtPart(node) => AnyNode::StmtPart(node),
+            Sorted::JSXPart(node) => AnyNode::JSXPart(node),
+            Sorted::TsPart(node) => AnyNode::TsPart(node),
+        }
     }
 
-    fn node(&self) -> Option<&Expr> {
+    #[inline(always)]
+    fn into_sum(self) -> Self::Sum {
+        match self {
+            AnyNode::Expr(node) => Sorted::Expr(node),
+            AnyNode::Stmt(node) => Sorted::Stmt(node),
+            AnyNode::MemberExpr(node) => Sorted::MemberExpr(node),
+            AnyNode::ExprPart(node) => Sorted::ExprPart(node),
+            AnyNode::StmtPart(node) => Sorted::StmtPart(node),
+            AnyNode::JSXPart(node) => Sorted::JSXPart(node),
+            AnyNode::TsPart(node) => Sorted::TsPart(node),
+        }
+    }
+}
+
+impl Shows<AsExpr, Expr<AnyNode>> for AnyNode {
+    fn shown(&self) -> Option<&Expr> {
         match self {
             AnyNode::Expr(node) => Some(node),
             _ => None,
         }
     }
-
-    fn into_node(self) -> Result<Expr, AnyNode> {
-        match self {
-            AnyNode::Expr(node) => Ok(node),
-            other => Err(other),
-        }
-    }
 }
 
-impl Holds<Stmt<AnyNode>> for AnyNode {
-    ghost node_in = { stmt_in };
-
-    fn hold(_: Global, node: Stmt) -> Result<AnyNode, AllocError> {
-        Ok(AnyNode::Stmt(node))
-    }
-
-    fn node(&self) -> Option<&Stmt> {
+impl Shows<AsStmt, Stmt<AnyNode>> for AnyNode {
+    fn shown(&self) -> Option<&Stmt> {
         match self {
             AnyNode::Stmt(node) => Some(node),
             _ => None,
         }
     }
-
-    fn into_node(self) -> Result<Stmt, AnyNode> {
-        match self {
-            AnyNode::Stmt(node) => Ok(node),
-            other => Err(other),
-        }
-    }
 }
 
-impl Holds<MemberExpr<AnyNode>> for AnyNode {
-    ghost node_in = { member_expr_in };
-
-    fn hold(_: Global, node: MemberExpr) -> Result<AnyNode, AllocError> {
-        Ok(AnyNode::MemberExpr(node))
-    }
-
-    fn node(&self) -> Option<&MemberExpr> {
+impl Shows<AsMemberExpr, MemberExpr<AnyNode>> for AnyNode {
+    fn shown(&self) -> Option<&MemberExpr> {
         match self {
             AnyNode::MemberExpr(node) => Some(node),
             _ => None,
         }
     }
-
-    fn into_node(self) -> Result<MemberExpr, AnyNode> {
-        match self {
-            AnyNode::MemberExpr(node) => Ok(node),
-            other => Err(other),
-        }
-    }
 }
 
-impl Holds<ExprPart<AnyNode>> for AnyNode {
-    ghost node_in = { expr_part_in };
-
-    fn hold(_: Global, node: ExprPart) -> Result<AnyNode, AllocError> {
-        Ok(AnyNode::ExprPart(node))
-    }
-
-    fn node(&self) -> Option<&ExprPart> {
+impl Shows<AsExprPart, ExprPart<AnyNode>> for AnyNode {
+    fn shown(&self) -> Option<&ExprPart> {
         match self {
             AnyNode::ExprPart(node) => Some(node),
             _ => None,
         }
     }
-
-    fn into_node(self) -> Result<ExprPart, AnyNode> {
-        match self {
-            AnyNode::ExprPart(node) => Ok(node),
-            other => Err(other),
-        }
-    }
 }
 
-impl Holds<StmtPart<AnyNode>> for AnyNode {
-    ghost node_in = { stmt_part_in };
-
-    fn hold(_: Global, node: StmtPart) -> Result<AnyNode, AllocError> {
-        Ok(AnyNode::StmtPart(node))
-    }
-
-    fn node(&self) -> Option<&StmtPart> {
+impl Shows<AsStmtPart, StmtPart<AnyNode>> for AnyNode {
+    fn shown(&self) -> Option<&StmtPart> {
         match self {
             AnyNode::StmtPart(node) => Some(node),
             _ => None,
         }
     }
-
-    fn into_node(self) -> Result<StmtPart, AnyNode> {
-        match self {
-            AnyNode::StmtPart(node) => Ok(node),
-            other => Err(other),
-        }
-    }
 }
 
-impl Holds<JSXPart<AnyNode>> for AnyNode {
-    ghost node_in = { jsx_part_in };
-
-    fn hold(_: Global, node: JSXPart) -> Result<AnyNode, AllocError> {
-        Ok(AnyNode::JSXPart(node))
-    }
-
-    fn node(&self) -> Option<&JSXPart> {
+impl Shows<AsJSXPart, JSXPart<AnyNode>> for AnyNode {
+    fn shown(&self) -> Option<&JSXPart> {
         match self {
             AnyNode::JSXPart(node) => Some(node),
             _ => None,
         }
     }
-
-    fn into_node(self) -> Result<JSXPart, AnyNode> {
-        match self {
-            AnyNode::JSXPart(node) => Ok(node),
-            other => Err(other),
-        }
-    }
 }
 
-impl Holds<TsPart<AnyNode>> for AnyNode {
-    ghost node_in = { ts_part_in };
-
-    fn hold(_: Global, node: TsPart) -> Result<AnyNode, AllocError> {
-        Ok(AnyNode::TsPart(node))
-    }
-
-    fn node(&self) -> Option<&TsPart> {
+impl Shows<AsTsPart, TsPart<AnyNode>> for AnyNode {
+    fn shown(&self) -> Option<&TsPart> {
         match self {
             AnyNode::TsPart(node) => Some(node),
             _ => None,
-        }
-    }
-
-    fn into_node(self) -> Result<TsPart, AnyNode> {
-        match self {
-            AnyNode::TsPart(node) => Ok(node),
-            other => Err(other),
         }
     }
 }

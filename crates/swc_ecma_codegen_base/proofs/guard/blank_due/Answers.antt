@@ -1,15 +1,6 @@
-use Rattle.std.proofs.Common.{refl, sym, ap, ◌∙◌}
-use Rattle.swc_ecma_codegen_ast.specs.Chars.{is_part, is_letter, is_digit, begins_digit}
-use Rattle.swc_ecma_codegen_ast.specs.Texts.{is_same, begins, some_begins}
-use Rattle.swc_ecma_codegen_ast.specs.Punctuators.{punctuators}
-use Rattle.swc_ecma_codegen_ast.specs.GapRules.{fuses, grows, is_choice, mark_fuses}
-use Rattle.swc_ecma_codegen_base.specs.Starts.{order}
+use Rattle.std.proofs.Common.{sym, ap, ◌∙◌}
 use Rattle.swc_ecma_codegen_base.specs.Classes.{row_of}
-use Rattle.swc_ecma_codegen_base.proofs.Starting.{samples}
-use Rattle.swc_ecma_codegen_base.proofs.Entries.{entry, entries, tokens}
 use Rattle.swc_ecma_codegen_base.proofs.guard.blank_due.Goals as goal
 
--- the table is computed from the gap rules
 pub returns : goal.returns
-unfolding entries tokens samples fuses mark_fuses grows is_choice is_part is_letter is_digit begins_digit is_same begins some_begins punctuators
-returns c = λ token text class start. entry _ _ _ token text refl c.row.ensures.below c.place.ensures.below (c.row.ensures.value ∙ ap row_of (sym class)) (c.place.ensures.value ∙ ap order (sym start))
+returns c = λ token text class start. c.blank_due_after.ensures token text (c.row.ensures.value ∙ ap row_of (sym class)) start

@@ -13,7 +13,7 @@ returns-clause-items g c =
     let a = standing_of g.S.SourceMapper.lines g.W.WriteJs.sheet c.args.self.now in
     let b = standing_of g.S.SourceMapper.lines g.W.WriteJs.sheet c.first_child_after.new.self in
     let P : Bool → Type 0 = λ line. Makes (lists.first_child_after c.args.format.0 line x) a b in
-    let said = c.leading_line-line.ensures ∙ ap (λ place. leading_line lines c.args.format.0 c.args.parent place) c.place.ensures in
+    let said = c.leading_line-line.ensures ∙ ap (λ place. leading_line lines c.args.format.0 c.args.parent place) c.requires in
     asked (λ l. lists.first_child_after c.args.format.0 (leading_line l c.args.format.0 c.args.parent x.place) x) a b (subst P said c.first_child_after.ensures.items)
 
 pub returns-clause-settings : goal.returns-clause-settings

@@ -13,7 +13,7 @@ returns-clause-items g c =
     let a = standing_of g.S.SourceMapper.lines g.W.WriteJs.sheet c.args.self.now in
     let b = standing_of g.S.SourceMapper.lines g.W.WriteJs.sheet c.next_child_after.new.self in
     let P : Bool → Type 0 = λ line. Makes (lists.next_child_after c.args.format.0 line x) a b in
-    let said = c.separating_line-line.ensures ∙ ap (λ place. separating_line lines c.args.format.0 c.args.previous place) c.place.ensures in
+    let said = c.separating_line-line.ensures ∙ ap (λ place. separating_line lines c.args.format.0 c.args.previous place) c.requires in
     asked (λ l. lists.next_child_after c.args.format.0 (separating_line l c.args.format.0 c.args.previous x.place) x) a b (subst P said c.next_child_after.ensures.items)
 
 pub returns-clause-settings : goal.returns-clause-settings
