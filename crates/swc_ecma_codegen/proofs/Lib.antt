@@ -37,4 +37,6 @@ pub mod TreeLaw
 pub mod TreeReads
 pub mod TreeMade
 pub mod OperatorLaws
+pub mod Between
+pub mod ListPlaces
 pub mod Standings

@@ -60,9 +60,12 @@ blank needed rest = if needed then space rest else formatting_space rest
 unfoldable pub space_if : Bool → Part
 space_if needed rest = if needed then space rest else rest
 
--- a punctuator between two blanks, unless minified: ` ? `
+-- a punctuator between two blanks, unless minified: ` ? `; and an operator: ` = `
 unfoldable pub spaced_punct : List ℕ → Part
 spaced_punct t rest = formatting_space (punct t (formatting_space rest))
+
+unfoldable pub formatted_operator : List ℕ → Part
+formatted_operator t rest = formatting_space (operator t (formatting_space rest))
 
 -- the comments before a node, and its start
 unfoldable pub opened : Span → Part
@@ -110,6 +113,25 @@ before_op op left = if is_word_op op then left.ends else space_after left.kind o
 -- a blank is due after an operator
 unfoldable pub after_op : BinaryOp → Answers → Bool
 after_op op right = if is_word_op op then right.starts else right.space op
+
+-- the operator with the blanks beside it
+unfoldable pub bin_operator : {X : Type 0} → (X → Answers) → BinExpr X → Part
+bin_operator asks n rest =
+    blank (before_op n.op (asks n.left.node.value))
+    (binary_op n.op (blank (after_op n.op (asks n.right.node.value)) rest))
+
+-- the same minified: `a+b`, `a in b`
+unfoldable pub tight_operator : {X : Type 0} → (X → Answers) → BinExpr X → Part
+tight_operator asks n rest =
+    space_if (before_op n.op (asks n.left.node.value))
+    (binary_op n.op (space_if (after_op n.op (asks n.right.node.value)) rest))
+
+-- the same with blanks: `a + b`
+unfoldable pub spaced_operator : BinaryOp → Part
+spaced_operator op rest = space (binary_op op (space rest))
+
+unfoldable pub word_between : List ℕ → Part
+word_between t rest = space (word_operator t (space rest))
 
 -- the operator and the right operand
 unfoldable pub bin_trailing : {X : Type 0} → (X → Answers) → (X → Place → Part) → BinExpr X → Part

@@ -3,6 +3,8 @@ use Rattle.std.specs.Prelude.{ℕ, Bool, false, if◌then◌else◌, List, [], �
 use Rattle.swc_ecma_codegen_base.specs.Run.{Part, refuse}
 use Rattle.swc_ecma_codegen_base.specs.declared.refusals.Unprintable.TheVariants as unprintable
 use Rattle.swc_ecma_codegen_common.specs.declared.positions.Span.{Span}
+use Rattle.swc_ecma_codegen_spans.specs.Spans.{dummy_span}
+use Rattle.swc_ecma_codegen_ast.specs.ListFormats.{preserves_lines}
 use Rattle.swc_ecma_codegen.specs.declared.nodes.Place.{Place}
 use Rattle.swc_ecma_codegen.specs.declared.nodes.Place.TheVariants.{Plain}
 use Rattle.swc_ecma_codegen_base.specs.Lists.{ListChild, first_child, next_child, list_after, list}
@@ -32,8 +34,15 @@ if_some_at items None place rest = rest
 if_some_at items (Some x) place rest = items x place rest
 
 -- a child of a list, by where it stands and what is written of it
+abbrev pub child_at : Span → Part → ListChild
+child_at place part = record { place = place; part = part }
+
 abbrev pub child_of : {A : Type 0} → (A → Span) → (A → Place → Part) → A → ListChild
-child_of place items x = record { place = place x; part = items x Plain }
+child_of place items x = child_at (place x) (items x Plain)
+
+-- Where a child stands, as far as its list asks for that: only one does whose lines end where those of the source text do.
+unfoldable pub asked_place : {A : Type 0} → ℕ → (A → Span) → A → Span
+asked_place format place x = if preserves_lines format then place x else dummy_span
 
 -- A child among those that stand in braces, after one that stands at `previous` where there is one.
 unfoldable pub braced_child : ℕ → Span → Option Span → ListChild → Part

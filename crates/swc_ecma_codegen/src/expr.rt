@@ -1,8 +1,9 @@
 //! Expressions.
 
-ghost use Rattle.std.specs.Prelude.{◌≡◌, Some, None};
+ghost use Rattle.std.specs.Prelude.{◌≡◌, Some, None, true};
+ghost use Rattle.swc_ecma_codegen_base.specs.Starts.{begins_letter};
 ghost use Rattle.swc_ecma_codegen.specs.Standing.{Makes, Stays, standing_of};
-ghost use Rattle.swc_ecma_codegen.specs.Exprs.{ident, ident_name, private_name, this, unary_op, unary_gap, unary, update_parts, update, binary_op, before_op, after_op, bin_trailing, bin_opened, bin, computed_prop_name, choice, meta_prop_expr, assign, yield_star, yield_arg, yield_expr, spread_element, await_expr, seq, paren, expr_parts, is_left_operand, leaves_comments, expr_closed, expr};
+ghost use Rattle.swc_ecma_codegen.specs.Exprs.{ident, ident_name, private_name, this, unary_op, unary_gap, unary, update_parts, update, binary_op, before_op, after_op, bin_operator, tight_operator, spaced_operator, word_between, bin_trailing, bin_opened, bin, computed_prop_name, choice, meta_prop_expr, assign, yield_star, yield_arg, yield_expr, spread_element, await_expr, seq, paren, expr_parts, is_left_operand, leaves_comments, expr_closed, expr};
 ghost use Rattle.swc_ecma_codegen_spans.specs.Spans.{expr_span};
 ghost use Rattle.swc_ecma_codegen.specs.Answers.{place_of};
 ghost use Rattle.swc_ecma_codegen_util.specs.Starts.{is_word_op as is_word_unary};
@@ -11,7 +12,7 @@ use crate::emitter::Emitter;
 use crate::lits::is_number_object;
 use crate::marks::{assign_mark, binary_mark, unary_mark, update_mark};
 use crate::nodes::{AskEnds, AskKind, AskSpace, AskStarts, Asked, EmitAt, Held, Place};
-use crate::operands::{is_word_op, operand_space, space_after};
+use crate::operands::{begins_greater, is_word_op, operand_space, space_after};
 use crate::places::{expr_place, spread_element_place};
 use swc_ecma_codegen_ast::comments::Comments;
 use swc_ecma_codegen_ast::mapper::SourceMapper;
@@ -141,7 +142,7 @@ impl EmitAt for MetaPropExpr {
 impl<N: Held> EmitAt for AssignExpr<N> {
     ghost items = { λ n _. assign N.items n };
 
-    #[tactic(auto, unfolding(crate::specs::Exprs::assign))]
+    #[tactic(auto, unfolding(crate::specs::Exprs::assign, crate::specs::Exprs::formatted_operator))]
     fn emit_at<W: WriteJs, S: SourceMapper, C: Comments>(
         &self,
         e: &mut Emitter<'_, W, S, C>,
@@ -149,9 +150,7 @@ impl<N: Held> EmitAt for AssignExpr<N> {
     ) {
         e.leading_comments(self.span.lo);
         self.left.held().emit_at(e, Place::Plain);
-        e.formatting_space();
-        e.operator(assign_mark(self.op));
-        e.formatting_space();
+        e.formatted_operator(assign_mark(self.op));
         self.right.held().emit_at(e, Place::Plain)
     }
 }
@@ -417,15 +416,62 @@ impl<W: WriteJs, S: SourceMapper, C: Comments> Emitter<'_, W, S, C> {
     }
 
     /// Writes the operator and the right operand. swc's `emit_bin_expr_trailing`.
-    #[tactic(auto, unfolding(crate::specs::Exprs::bin_trailing))]
+    #[tactic(auto, unfolding(crate::specs::Exprs::bin_trailing, crate::specs::Exprs::bin_operator))]
     fn bin_trailing<N: Held>(&mut self, node: &BinExpr<N>)
         ensures items { Makes (bin_trailing N.answers N.items node.now) (standing_of S.lines W.sheet self.old) (standing_of S.lines W.sheet self.new) }
         ensures level { Stays (standing_of S.lines W.sheet self.old) (standing_of S.lines W.sheet self.new) }
     {
-        self.blank(before_op(node.op, node.left.held()));
-        self.binary_op(node.op);
-        self.blank(after_op(node.op, node.right.held()));
+        self.bin_operator(node);
         node.right.held().emit_at(self, Place::Plain);
+    }
+
+    /// Writes the operator with what stands beside it. Unless the settings are to minify these are blanks, whatever the operands are:
+    /// `a + b`.
+    #[tactic(auto, unfolding(crate::specs::Exprs::bin_operator, crate::specs::Exprs::tight_operator), using(crate::proofs::Between::binary_tight, crate::proofs::Between::binary_between))]
+    fn bin_operator<N: Asked>(&mut self, node: &BinExpr<N>)
+        ensures items { Makes (bin_operator N.answers node.now) (standing_of S.lines W.sheet self.old) (standing_of S.lines W.sheet self.new) }
+        ensures level { Stays (standing_of S.lines W.sheet self.old) (standing_of S.lines W.sheet self.new) }
+    {
+        if self.cfg.minify {
+            self.tight_operator(node)
+        } else {
+            self.spaced_operator(node.op)
+        }
+    }
+
+    /// Writes the operator, with blanks where they are needed: `a in b`, `a+b`, `a+ +b`.
+    #[tactic(auto, unfolding(crate::specs::Exprs::tight_operator))]
+    fn tight_operator<N: Asked>(&mut self, node: &BinExpr<N>)
+        ensures items { Makes (tight_operator N.answers node.now) (standing_of S.lines W.sheet self.old) (standing_of S.lines W.sheet self.new) }
+        ensures level { Stays (standing_of S.lines W.sheet self.old) (standing_of S.lines W.sheet self.new) }
+    {
+        self.space_if(before_op(node.op, node.left.held()));
+        self.binary_op(node.op);
+        self.space_if(after_op(node.op, node.right.held()));
+    }
+
+    /// Writes a binary operator between two blanks.
+    #[tactic(auto, using(crate::proofs::OperatorLaws::marked_between, crate::proofs::OperatorLaws::worded_between))]
+    fn spaced_operator(&mut self, op: BinaryOp)
+        ensures items { Makes (spaced_operator op) (standing_of S.lines W.sheet self.old) (standing_of S.lines W.sheet self.new) }
+        ensures level { Stays (standing_of S.lines W.sheet self.old) (standing_of S.lines W.sheet self.new) }
+    {
+        match binary_mark(op) {
+            Some(mark) => self.operator_between(mark),
+            None => self.word_between(op.as_str()),
+        }
+    }
+
+    /// Writes an operator that is a word between two blanks: ` in `.
+    #[tactic(auto, unfolding(crate::specs::Exprs::word_between))]
+    fn word_between(&mut self, text: &'static str)
+        requires { begins_letter text.now ≡ true }
+        ensures items { Makes (word_between text.now) (standing_of S.lines W.sheet self.old) (standing_of S.lines W.sheet self.new) }
+        ensures level { Stays (standing_of S.lines W.sheet self.old) (standing_of S.lines W.sheet self.new) }
+    {
+        self.space();
+        self.word_operator(text);
+        self.space();
     }
 
     /// Writes a unary operator.
@@ -491,15 +537,17 @@ fn is_word_unary(op: UnaryOp) -> bool
     }
 }
 
-/// Whether a blank is due between an operand and an operator.
-#[tactic(auto, unfolding(crate::specs::Exprs::before_op))]
+/// Whether a blank is due between an operand and an operator. What the operand is, is only asked before an operator like `>`.
+#[tactic(auto, using(crate::proofs::OperatorLaws::not_greater), unfolding(crate::specs::Exprs::before_op))]
 fn before_op<N: Asked>(op: BinaryOp, left: &N) -> bool
     ensures { result ≡ before_op op (N.answers left.now) }
 {
     if is_word_op(op) {
         left.ends()
-    } else {
+    } else if begins_greater(op) {
         space_after(left.kind(), op)
+    } else {
+        false
     }
 }
 

@@ -3,7 +3,8 @@
 ghost use Rattle.std.specs.Prelude.{◌≡◌, true, [], ◌∷◌, map, option_map};
 ghost use Rattle.swc_ecma_codegen.specs.Standing.{Makes, Stays, KeepsSettings, Deepens, Rises, HasLevels, standing_of};
 ghost use Rattle.swc_ecma_codegen_base.specs.Lists.{list_levels, opening, separator, child_comments, trailing_comma, closing, list_end, empty_list, first_child_after, first_child, next_child_after, next_child, list_closing, list_after, list, optional_list};
-ghost use Rattle.swc_ecma_codegen.specs.Lists.{comma, listed, in_order, child_of};
+ghost use Rattle.swc_ecma_codegen.specs.Lists.{comma, listed, in_order, child_at, child_of, asked_place};
+ghost use Rattle.swc_ecma_codegen.specs.declared.nodes.Place.TheVariants.{Plain};
 ghost use Rattle.swc_ecma_codegen.specs.Exprs.{held};
 ghost use Rattle.swc_ecma_codegen.specs.Programs.{held as held_stmt};
 
@@ -14,10 +15,23 @@ use bitflags::Flags;
 use swc_ecma_codegen_ast::ListFormat;
 use swc_ecma_codegen_ast::comments::Comments;
 use swc_ecma_codegen_ast::mapper::SourceMapper;
-use swc_ecma_codegen_common::Span;
+use swc_ecma_codegen_common::{DUMMY_SP, Span};
 use swc_ecma_codegen_literals::Punctuator;
 use swc_ecma_codegen_text_writer::WriteJs;
 use swc_ecma_codegen_tree::{ExprBox, StmtBox};
+
+/// Where a child stands, as far as its list asks for that: only one does whose lines end where those of the source text do.
+#[inline(always)]
+#[tactic(auto, unfolding(crate::specs::Lists::asked_place))]
+fn asked_place<T: Child>(format: ListFormat, child: &T) -> Span
+    ensures { result ≡ asked_place format.0 T.stands child.now }
+{
+    if format.contains(ListFormat::PreserveLines) {
+        child.place()
+    } else {
+        DUMMY_SP
+    }
+}
 
 impl<W: WriteJs, S: SourceMapper, C: Comments> Emitter<'_, W, S, C> {
     /// Writes a comma and a blank, except before the first.
@@ -166,8 +180,7 @@ impl<W: WriteJs, S: SourceMapper, C: Comments> Emitter<'_, W, S, C> {
         child: &T,
         place: Span,
     )
-        requires { place ≡ T.stands child.now }
-        ensures items { Makes (first_child_after format.0 line (child_of T.stands T.items child.now)) (standing_of S.lines W.sheet self.old) (standing_of S.lines W.sheet self.new) }
+        ensures items { Makes (first_child_after format.0 line (child_at place (T.items child.now Plain))) (standing_of S.lines W.sheet self.old) (standing_of S.lines W.sheet self.new) }
         ensures level { Deepens (list_levels format.0 self.old.cfg) (standing_of S.lines W.sheet self.old) (standing_of S.lines W.sheet self.new) }
     {
         self.opening(format, line);
@@ -183,8 +196,7 @@ impl<W: WriteJs, S: SourceMapper, C: Comments> Emitter<'_, W, S, C> {
         child: &T,
         place: Span,
     )
-        requires { place ≡ T.stands child.now }
-        ensures items { Makes (first_child format.0 parent (child_of T.stands T.items child.now)) (standing_of S.lines W.sheet self.old) (standing_of S.lines W.sheet self.new) }
+        ensures items { Makes (first_child format.0 parent (child_at place (T.items child.now Plain))) (standing_of S.lines W.sheet self.old) (standing_of S.lines W.sheet self.new) }
         ensures level { Deepens (list_levels format.0 self.old.cfg) (standing_of S.lines W.sheet self.old) (standing_of S.lines W.sheet self.new) }
         ensures settings { KeepsSettings (standing_of S.lines W.sheet self.old) (standing_of S.lines W.sheet self.new) }
     {
@@ -195,8 +207,7 @@ impl<W: WriteJs, S: SourceMapper, C: Comments> Emitter<'_, W, S, C> {
     /// Writes a child after another, which stands at `place`, where a line ends between them or doesn't.
     #[tactic(auto, unfolding(swc_ecma_codegen_base::specs::Lists::next_child_after))]
     fn next_child_after<T: Child>(&mut self, format: ListFormat, line: bool, child: &T, place: Span)
-        requires { place ≡ T.stands child.now }
-        ensures items { Makes (next_child_after format.0 line (child_of T.stands T.items child.now)) (standing_of S.lines W.sheet self.old) (standing_of S.lines W.sheet self.new) }
+        ensures items { Makes (next_child_after format.0 line (child_at place (T.items child.now Plain))) (standing_of S.lines W.sheet self.old) (standing_of S.lines W.sheet self.new) }
         ensures level { Stays (standing_of S.lines W.sheet self.old) (standing_of S.lines W.sheet self.new) }
     {
         self.separator(format, line);
@@ -212,8 +223,7 @@ impl<W: WriteJs, S: SourceMapper, C: Comments> Emitter<'_, W, S, C> {
         child: &T,
         place: Span,
     )
-        requires { place ≡ T.stands child.now }
-        ensures items { Makes (next_child format.0 previous (child_of T.stands T.items child.now)) (standing_of S.lines W.sheet self.old) (standing_of S.lines W.sheet self.new) }
+        ensures items { Makes (next_child format.0 previous (child_at place (T.items child.now Plain))) (standing_of S.lines W.sheet self.old) (standing_of S.lines W.sheet self.new) }
         ensures level { Stays (standing_of S.lines W.sheet self.old) (standing_of S.lines W.sheet self.new) }
         ensures settings { KeepsSettings (standing_of S.lines W.sheet self.old) (standing_of S.lines W.sheet self.new) }
     {
@@ -232,6 +242,32 @@ impl<W: WriteJs, S: SourceMapper, C: Comments> Emitter<'_, W, S, C> {
         self.closing(format, parent, last);
     }
 
+    /// Writes the first child of a list, and says where it stands as far as the list asks.
+    #[inline(always)]
+    fn child_of_list<T: Child>(&mut self, format: ListFormat, parent: Span, child: &T) -> Span
+        ensures place { result ≡ asked_place format.0 T.stands child.now }
+        ensures items { Makes (first_child format.0 parent (child_of (asked_place format.0 T.stands) T.items child.now)) (standing_of S.lines W.sheet self.old) (standing_of S.lines W.sheet self.new) }
+        ensures level { Deepens (list_levels format.0 self.old.cfg) (standing_of S.lines W.sheet self.old) (standing_of S.lines W.sheet self.new) }
+        ensures settings { KeepsSettings (standing_of S.lines W.sheet self.old) (standing_of S.lines W.sheet self.new) }
+    {
+        let place = asked_place(format, child);
+        self.first_child(format, parent, child, place);
+        place
+    }
+
+    /// The same of a child after one that stands at `previous`.
+    #[inline(always)]
+    fn child_after<T: Child>(&mut self, format: ListFormat, previous: Span, child: &T) -> Span
+        ensures place { result ≡ asked_place format.0 T.stands child.now }
+        ensures items { Makes (next_child format.0 previous (child_of (asked_place format.0 T.stands) T.items child.now)) (standing_of S.lines W.sheet self.old) (standing_of S.lines W.sheet self.new) }
+        ensures level { Stays (standing_of S.lines W.sheet self.old) (standing_of S.lines W.sheet self.new) }
+        ensures settings { KeepsSettings (standing_of S.lines W.sheet self.old) (standing_of S.lines W.sheet self.new) }
+    {
+        let place = asked_place(format, child);
+        self.next_child(format, previous, child, place);
+        place
+    }
+
     /// Writes the children after one that stands at `previous`, and what stands after the last.
     #[tactic(auto, using(crate::proofs::Steps::list_next), unfolding(swc_ecma_codegen_base::specs::Lists::more_children, swc_ecma_codegen_base::specs::Lists::last_place))]
     fn list_after<T: Child>(
@@ -242,14 +278,12 @@ impl<W: WriteJs, S: SourceMapper, C: Comments> Emitter<'_, W, S, C> {
         children: &[T],
     )
         requires { HasLevels (list_levels format.0 self.old.cfg) (standing_of S.lines W.sheet self.old) }
-        ensures items { Makes (list_after format.0 parent previous (map (child_of T.stands T.items) children.now)) (standing_of S.lines W.sheet self.old) (standing_of S.lines W.sheet self.new) }
+        ensures items { Makes (list_after format.0 parent previous (map (child_of (asked_place format.0 T.stands) T.items) children.now)) (standing_of S.lines W.sheet self.old) (standing_of S.lines W.sheet self.new) }
         ensures level { Rises (list_levels format.0 self.old.cfg) (standing_of S.lines W.sheet self.old) (standing_of S.lines W.sheet self.new) }
     {
         let mut last = previous;
         for child in children {
-            let place = child.place();
-            self.next_child(format, last, child, place);
-            last = place;
+            last = self.child_after(format, last, child);
         }
         self.list_closing(format, parent, last);
     }
@@ -257,11 +291,10 @@ impl<W: WriteJs, S: SourceMapper, C: Comments> Emitter<'_, W, S, C> {
     /// Writes a list that has a first child.
     #[tactic(auto, unfolding(swc_ecma_codegen_base::specs::Lists::list))]
     fn some_list<T: Child>(&mut self, format: ListFormat, parent: Span, first: &T, others: &[T])
-        ensures items { Makes (list format.0 parent (map (child_of T.stands T.items) (first.now ∷ others.now))) (standing_of S.lines W.sheet self.old) (standing_of S.lines W.sheet self.new) }
+        ensures items { Makes (list format.0 parent (map (child_of (asked_place format.0 T.stands) T.items) (first.now ∷ others.now))) (standing_of S.lines W.sheet self.old) (standing_of S.lines W.sheet self.new) }
         ensures level { Stays (standing_of S.lines W.sheet self.old) (standing_of S.lines W.sheet self.new) }
     {
-        let place = first.place();
-        self.first_child(format, parent, first, place);
+        let place = self.child_of_list(format, parent, first);
         self.list_after(format, parent, place, others);
     }
 
@@ -279,6 +312,7 @@ impl<W: WriteJs, S: SourceMapper, C: Comments> Emitter<'_, W, S, C> {
     }
 
     /// Writes the children of a list that stands at `parent`. Its brackets aren't its own.
+    #[tactic(auto, using(crate::proofs::ListPlaces::asked_list))]
     pub(crate) fn list<T: Child>(&mut self, format: ListFormat, parent: Span, children: &[T])
         ensures items { Makes (list format.0 parent (map (child_of T.stands T.items) children.now)) (standing_of S.lines W.sheet self.old) (standing_of S.lines W.sheet self.new) }
         ensures level { Stays (standing_of S.lines W.sheet self.old) (standing_of S.lines W.sheet self.new) }

@@ -113,7 +113,7 @@ pub(crate) fn is_word_op(op: BinaryOp) -> bool
 
 /// Whether `--` before it would end an HTML-like comment.
 #[tactic(auto, unfolding(crate::specs::Operands::begins_greater))]
-fn begins_greater(op: BinaryOp) -> bool
+pub(crate) fn begins_greater(op: BinaryOp) -> bool
     ensures { result ≡ begins_greater op }
 {
     match op {

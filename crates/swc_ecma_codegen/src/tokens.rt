@@ -5,11 +5,11 @@ ghost use Rattle.swc_ecma_codegen_literals.specs.Punctuators.{spelling};
 ghost use Rattle.swc_ecma_codegen_base.specs.Starts.{begins_letter};
 ghost use Rattle.swc_ecma_codegen_base.specs.PrivateNames.{private_name};
 ghost use Rattle.swc_ecma_codegen.specs.Standing.{Makes, Stays, Deepens, Rises, HasLevels, standing_of};
-ghost use Rattle.swc_ecma_codegen_base.specs.Words.{keyword, operator, word_operator, punct, placed_punct, semi, space, formatting_space, formatting_line, line_end, commit_pending_semi, position, position_before, start_of, end_of, last_of, leading_comments, trailing_comments, name};
+ghost use Rattle.swc_ecma_codegen_base.specs.Words.{keyword, operator, operator_between, punct_between, word_operator, punct, placed_punct, semi, space, formatting_space, formatting_line, line_end, commit_pending_semi, position, position_before, start_of, end_of, last_of, leading_comments, trailing_comments, name};
 ghost use Rattle.swc_ecma_codegen_base.specs.Keys.{key};
 ghost use Rattle.swc_ecma_codegen_base.specs.Literals.{hashbang};
 ghost use Rattle.swc_ecma_codegen_base.specs.Lists.{deeper, shallower};
-ghost use Rattle.swc_ecma_codegen.specs.Exprs.{blank, space_if, spaced_punct, opened, comments_before};
+ghost use Rattle.swc_ecma_codegen.specs.Exprs.{blank, space_if, spaced_punct, formatted_operator, opened, comments_before};
 ghost use Rattle.swc_ecma_codegen.specs.Lists.{unsupported};
 ghost use Rattle.swc_ecma_codegen.specs.Programs.{last_semi};
 
@@ -410,14 +410,61 @@ impl<W: WriteJs, S: SourceMapper, C: Comments> Emitter<'_, W, S, C> {
     }
 
     /// Writes a punctuator between two blanks, as ` ? `; the blanks aren't written where the settings are to minify.
-    #[tactic(auto, unfolding(crate::specs::Exprs::spaced_punct))]
+    #[tactic(auto, using(crate::proofs::Between::spaced_tight, crate::proofs::Between::spaced_between))]
     pub(crate) fn spaced_punct(&mut self, mark: Punctuator)
         ensures items { Makes (spaced_punct (spelling mark)) (standing_of S.lines W.sheet self.old) (standing_of S.lines W.sheet self.new) }
         ensures level { Stays (standing_of S.lines W.sheet self.old) (standing_of S.lines W.sheet self.new) }
     {
-        self.formatting_space();
-        self.punct(mark);
-        self.formatting_space();
+        if self.cfg.minify {
+            self.punct(mark)
+        } else {
+            self.punct_between(mark)
+        }
+    }
+
+    /// The same of an operator, as ` = `.
+    #[tactic(auto, using(crate::proofs::Between::formatted_tight, crate::proofs::Between::formatted_between))]
+    pub(crate) fn formatted_operator(&mut self, mark: Punctuator)
+        ensures items { Makes (formatted_operator (spelling mark)) (standing_of S.lines W.sheet self.old) (standing_of S.lines W.sheet self.new) }
+        ensures level { Stays (standing_of S.lines W.sheet self.old) (standing_of S.lines W.sheet self.new) }
+    {
+        if self.cfg.minify {
+            self.operator(mark)
+        } else {
+            self.operator_between(mark)
+        }
+    }
+
+    /// Writes a punctuator between two blanks.
+    #[inline(never)]
+    #[tactic(auto, using(crate::proofs::Standings::refused_makes))]
+    fn punct_between(&mut self, mark: Punctuator)
+        ensures items { Makes (punct_between (spelling mark)) (standing_of S.lines W.sheet self.old) (standing_of S.lines W.sheet self.new) }
+        ensures level { Stays (standing_of S.lines W.sheet self.old) (standing_of S.lines W.sheet self.new) }
+    {
+        if self.refusal.is_some() {
+            return;
+        }
+        keep(
+            &mut self.refusal,
+            self.lower.punct_between(&self.cfg, &mut self.wr, mark),
+        );
+    }
+
+    /// Writes an operator that is a punctuator, between two blanks.
+    #[inline(never)]
+    #[tactic(auto, using(crate::proofs::Standings::refused_makes))]
+    pub(crate) fn operator_between(&mut self, mark: Punctuator)
+        ensures items { Makes (operator_between (spelling mark)) (standing_of S.lines W.sheet self.old) (standing_of S.lines W.sheet self.new) }
+        ensures level { Stays (standing_of S.lines W.sheet self.old) (standing_of S.lines W.sheet self.new) }
+    {
+        if self.refusal.is_some() {
+            return;
+        }
+        keep(
+            &mut self.refusal,
+            self.lower.operator_between(&self.cfg, &mut self.wr, mark),
+        );
     }
 
     /// Writes the comments before a node, and records its start.

@@ -38,6 +38,13 @@ semi rest = step (Guard (codes ";")) (step (Token Ending (Semi None)) rest)
 unfoldable pub space : Part
 space rest = step (Plain Space) rest
 
+-- an operator between two blanks, ` + `, and a punctuator, ` ? `
+unfoldable pub operator_between : List ℕ → Part
+operator_between t rest = space (operator t (space rest))
+
+unfoldable pub punct_between : List ℕ → Part
+punct_between t rest = space (punct t (space rest))
+
 -- a blank, unless minified
 unfoldable pub formatting_space : Part
 formatting_space = when_minified no_part space

@@ -1,6 +1,8 @@
 //! Names.
 
 ghost use Rattle.std.specs.Prelude.{◌≡◌, ℕ, OnOk, IsNone, List, ◌++◌, false, true};
+ghost use Rattle.std.specs.Str.{chars};
+ghost use Rattle.swc_ecma_codegen_base.specs.Starts.{start_class};
 ghost use Rattle.swc_ecma_codegen_base.specs.Run.{Does};
 ghost use Rattle.swc_ecma_codegen_base.specs.Targets.{wants_escapes};
 ghost use Rattle.swc_ecma_codegen_base.specs.Words.{name, name_text, symbol, spelled_symbol, valid_symbol, question};
@@ -10,6 +12,7 @@ ghost use Rattle.swc_ecma_codegen_base.specs.Written.{ReadsSoFar, name_tokens};
 ghost use Rattle.swc_ecma_codegen_base.specs.View.{state_of};
 
 use crate::LowerEmitter;
+use crate::guard::blank_due_after;
 use crate::raws::is_ascii;
 use crate::starts::StartClass;
 use swc_ecma_codegen_ast::comments::Comments;
@@ -27,9 +30,8 @@ pub(crate) fn wants_escapes(cfg: &Config, text: &str) -> bool
 }
 
 impl LowerEmitter {
-    /// Writes a name by a text, and records its position.
+    /// Writes a name by a text, and records its position. Mostly no blank is due before it.
     #[inline(always)]
-    #[tactic(auto, unfolding(crate::specs::Words::symbol))]
     pub(crate) fn symbol<W: WriteJs>(
         &mut self,
         cfg: &Config,
@@ -40,7 +42,46 @@ impl LowerEmitter {
         ensures items { Does (symbol span text.now) (state_of cfg.now (W.sheet wr.old) self.old) (state_of cfg.now (W.sheet wr.new) self.new) result }
         ensures level { OnOk result ((W.sheet wr.new).indentation ≡ (W.sheet wr.old).indentation) }
     {
-        self.guard(cfg, wr, text, StartClass::of_text(text))?;
+        let next = StartClass::of_text(text);
+        if self.failed || blank_due_after(self.row, next) {
+            return self.symbol_apart(cfg, wr, span, text, next);
+        }
+        self.symbol_here(cfg, wr, span, text, next)
+    }
+
+    /// The same of a text that begins so, in a function of its own: a name before which nothing is due takes fewer registers.
+    #[inline(never)]
+    fn symbol_apart<W: WriteJs>(
+        &mut self,
+        cfg: &Config,
+        wr: &mut W,
+        span: Span,
+        text: &str,
+        next: StartClass,
+    ) -> Answer
+        requires { start_class (chars text.now) ≡ next }
+        ensures items { Does (symbol span text.now) (state_of cfg.now (W.sheet wr.old) self.old) (state_of cfg.now (W.sheet wr.new) self.new) result }
+        ensures level { OnOk result ((W.sheet wr.new).indentation ≡ (W.sheet wr.old).indentation) }
+    {
+        self.symbol_here(cfg, wr, span, text, next)
+    }
+
+    /// The same, where it is called.
+    #[inline(always)]
+    #[tactic(auto, unfolding(crate::specs::Words::symbol))]
+    fn symbol_here<W: WriteJs>(
+        &mut self,
+        cfg: &Config,
+        wr: &mut W,
+        span: Span,
+        text: &str,
+        next: StartClass,
+    ) -> Answer
+        requires { start_class (chars text.now) ≡ next }
+        ensures items { Does (symbol span text.now) (state_of cfg.now (W.sheet wr.old) self.old) (state_of cfg.now (W.sheet wr.new) self.new) result }
+        ensures level { OnOk result ((W.sheet wr.new).indentation ≡ (W.sheet wr.old).indentation) }
+    {
+        self.guard(cfg, wr, text, next)?;
         self.position(cfg, wr, span.lo)?;
         self.put_symbol(cfg, wr, text)?;
         Ok(())

@@ -5,7 +5,7 @@ ghost use Rattle.std.specs.Str.{chars};
 ghost use Rattle.swc_ecma_codegen_ast.specs.Chars.{is_part, begins_digit};
 ghost use Rattle.swc_ecma_codegen_ast.specs.Texts.{begins};
 ghost use Rattle.swc_ecma_codegen_literals.specs.Punctuators.{spelling};
-ghost use Rattle.swc_ecma_codegen_base.specs.Starts.{mark_start, order, start_class, char_start};
+ghost use Rattle.swc_ecma_codegen_base.specs.Starts.{mark_start, order, start_class, char_start, begins_letter};
 
 use swc_ecma_codegen_literals::Punctuator;
 use unicode_ident::is_xid_continue;
@@ -138,8 +138,22 @@ static MARKS: [StartClass; 58] = [
 ];
 
 impl StartClass {
-    /// How a text begins.
+    /// How a text begins. Most names begin with a small letter of ASCII.
+    #[inline(always)]
+    #[tactic(auto, using(crate::proofs::Starting::letter_start))]
     pub fn of_text(text: &str) -> StartClass
+        ensures { result ≡ start_class (chars text.now) }
+    {
+        if begins_letter(text) {
+            StartClass::NameCharacter
+        } else {
+            StartClass::of_any(text)
+        }
+    }
+
+    /// The same, whatever it begins with.
+    #[inline(never)]
+    fn of_any(text: &str) -> StartClass
         ensures { result ≡ start_class (chars text.now) }
     {
         match split_first_char(text) {
@@ -259,6 +273,17 @@ fn is_part(c: char) -> bool
         c.is_ascii_alphanumeric() || matches!(c, '$' | '_')
     } else {
         is_xid_continue(c) || matches!(c, '\u{200c}' | '\u{200d}')
+    }
+}
+
+/// Whether a text begins with a small letter of ASCII.
+#[inline(always)]
+fn begins_letter(text: &str) -> bool
+    ensures { result ≡ begins_letter text.now }
+{
+    match text.as_bytes().first() {
+        Some(first) => first.is_ascii_lowercase(),
+        None => false,
     }
 }
 

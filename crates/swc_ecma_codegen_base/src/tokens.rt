@@ -16,7 +16,7 @@ ghost use Rattle.swc_ecma_codegen_ast.specs.declared.kinds.Kind.TheVariants as k
 ghost use Rattle.swc_ecma_codegen_ast.specs.Tokens as lexical;
 ghost use Rattle.swc_ecma_codegen_base.specs.Last.{last_at};
 ghost use Rattle.swc_ecma_codegen_base.specs.Run.{Does, step, Guard, Token, Plain};
-ghost use Rattle.swc_ecma_codegen_base.specs.Words.{keyword, operator, word_operator, punct, placed_punct, semi, space, formatting_space, formatting_line, line_end, commit_pending_semi, position, position_before};
+ghost use Rattle.swc_ecma_codegen_base.specs.Words.{keyword, operator, operator_between, punct_between, word_operator, punct, placed_punct, semi, space, formatting_space, formatting_line, line_end, commit_pending_semi, position, position_before};
 ghost use Rattle.swc_ecma_codegen_base.specs.Written.{IsWord, ReadsSoFar};
 ghost use Rattle.swc_ecma_codegen_base.specs.View.{state_of};
 
@@ -334,12 +334,57 @@ impl LowerEmitter {
         ensures items { Does (space) (state_of cfg.now (W.sheet wr.old) self.old) (state_of cfg.now (W.sheet wr.new) self.new) result }
         ensures level { OnOk result ((W.sheet wr.new).indentation ≡ (W.sheet wr.old).indentation) }
     {
+        self.space_here(cfg, wr)
+    }
+
+    /// The same, where it is called.
+    #[inline(always)]
+    fn space_here<W: WriteJs>(&mut self, cfg: &Config, wr: &mut W) -> Answer
+        ensures items { Does (space) (state_of cfg.now (W.sheet wr.old) self.old) (state_of cfg.now (W.sheet wr.new) self.new) result }
+        ensures level { OnOk result ((W.sheet wr.new).indentation ≡ (W.sheet wr.old).indentation) }
+    {
         let _ = cfg;
         if self.failed {
             return Err(Refusal::Failed);
         }
         let answer = wr.write_space();
         self.settle(answer, Last::Apart)
+    }
+
+    /// Writes an operator that is a punctuator, between two blanks: ` + `.
+    #[inline(always)]
+    #[tactic(auto, unfolding(crate::specs::Words::operator_between))]
+    pub fn operator_between<W: WriteJs>(
+        &mut self,
+        cfg: &Config,
+        wr: &mut W,
+        mark: Punctuator,
+    ) -> Answer
+        ensures items { Does (operator_between (spelling mark)) (state_of cfg.now (W.sheet wr.old) self.old) (state_of cfg.now (W.sheet wr.new) self.new) result }
+        ensures level { OnOk result ((W.sheet wr.new).indentation ≡ (W.sheet wr.old).indentation) }
+    {
+        self.space_here(cfg, wr)?;
+        self.operator(cfg, wr, mark)?;
+        self.space_here(cfg, wr)?;
+        Ok(())
+    }
+
+    /// Writes a punctuator between two blanks: ` ? `.
+    #[inline(always)]
+    #[tactic(auto, unfolding(crate::specs::Words::punct_between))]
+    pub fn punct_between<W: WriteJs>(
+        &mut self,
+        cfg: &Config,
+        wr: &mut W,
+        mark: Punctuator,
+    ) -> Answer
+        ensures items { Does (punct_between (spelling mark)) (state_of cfg.now (W.sheet wr.old) self.old) (state_of cfg.now (W.sheet wr.new) self.new) result }
+        ensures level { OnOk result ((W.sheet wr.new).indentation ≡ (W.sheet wr.old).indentation) }
+    {
+        self.space_here(cfg, wr)?;
+        self.punct(cfg, wr, mark)?;
+        self.space_here(cfg, wr)?;
+        Ok(())
     }
 
     /// Ends the line, unless at a line's start.

@@ -1,6 +1,7 @@
 //! The writer over an `io::Write`.
 
-ghost use Rattle.std.specs.Prelude.{◌≡◌, false, true};
+ghost use Rattle.std.specs.Prelude.{◌≡◌, false, true, IfSome, codes};
+ghost use Rattle.std.specs.List.{repeat};
 ghost use Rattle.std.proofs.Props.{props};
 ghost use Rattle.swc_ecma_codegen_text_writer.specs.Places.{origin, after_text};
 ghost use Rattle.swc_ecma_codegen_text_writer.specs.Kept.{IsCounted};
@@ -20,6 +21,23 @@ fn is_nowhere(span: Span) -> bool
     ensures { result ≡ true → (span.lo.0 ≡ 0) × (span.hi.0 ≡ 0) }
 {
     span.lo.0 == 0 && span.hi.0 == 0
+}
+
+/// What some levels of the usual indentation write, up to eight of them.
+fn blanks(levels: u32) -> Option<&'static str>
+    ensures { IfSome result (λ text. text.now ≡ repeat levels (codes "    ")) }
+{
+    match levels {
+        1 => Some("    "),
+        2 => Some("        "),
+        3 => Some("            "),
+        4 => Some("                "),
+        5 => Some("                    "),
+        6 => Some("                        "),
+        7 => Some("                            "),
+        8 => Some("                                "),
+        _ => None,
+    }
 }
 
 /// A `JsWriter` with any `K` that keeps its positions, or keeps none. Since `K` is a parameter, its own functions know of
@@ -176,8 +194,19 @@ impl<'a, W: Write, K: KeepsPositions> Lines<'a, W, K> {
         }
     }
 
-    /// Sends the indentation of a line.
+    /// Sends the indentation of a line: up to eight levels of four blanks at once.
     fn indent(&mut self) -> Answer
+        requires { (sheet_of self.old).refused ≡ false }
+        ensures { Reaches (indented (sheet_of self.old).indentation (sheet_of self.old)) (sheet_of self.old) (sheet_of self.new) result }
+    {
+        match blanks(self.indent) {
+            Some(text) if self.indent_str == DEFAULT_INDENT => self.send(text),
+            _ => self.indent_by_levels(),
+        }
+    }
+
+    /// The same, level by level.
+    fn indent_by_levels(&mut self) -> Answer
         requires { (sheet_of self.old).refused ≡ false }
         ensures { Reaches (indented (sheet_of self.old).indentation (sheet_of self.old)) (sheet_of self.old) (sheet_of self.new) result }
     {
@@ -316,13 +345,13 @@ impl<'a, W: Write, K: KeepsPositions> Lines<'a, W, K> {
         }
     }
 
-    /// The same with a span. One that stands nowhere takes the shorter way, since none of it is recorded.
+    /// The same with a span. One that stands nowhere, as that of each name does, takes the shorter way, since none of it is recorded.
     #[inline(always)]
     fn write_with(&mut self, span: Span, text: &str) -> Answer
         ensures { WritesText (Some span) text.now (sheet_of self.old) (sheet_of self.new) result }
     {
         if is_nowhere(span) {
-            return self.write_plain(text);
+            return self.write_bytes(text);
         }
         self.write_spanned(span, text)
     }
@@ -421,9 +450,24 @@ impl<'a, W: Write, K: KeepsPositions> Lines<'a, W, K> {
             self.drop_pending();
             return Ok(());
         }
-        self.send(self.new_line)?;
+        self.send_line_end()?;
         self.set_line_start(true);
         Ok(())
+    }
+
+    /// Sends the line's end, which mostly is one byte.
+    #[inline(always)]
+    #[tactic(auto, unfolding(crate::specs::View::sheet_of))]
+    fn send_line_end(&mut self) -> Answer
+        requires { (sheet_of self.old).refused ≡ false }
+        ensures { Reaches (appended (sheet_of self.old).line_end (sheet_of self.old)) (sheet_of self.old) (sheet_of self.new) result }
+    {
+        let text = self.new_line;
+        if text.len() == 1 {
+            self.hand_on(text)
+        } else {
+            self.send(text)
+        }
     }
 
     /// Records a position for what comes next: at a line's start, once the line has begun.

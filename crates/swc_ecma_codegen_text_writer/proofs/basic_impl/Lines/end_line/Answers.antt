@@ -13,17 +13,17 @@ pub returns-then-self-2 : goal.returns-then-self-2
 unfolding sheet_of
 returns-then-self-2 g c x e = writes_ok x _ _ c.if-self.false (c.drop_pending.ensures ∙ ended_true _ c.if-self-2.true ∙ sym (e refl))
 
-pub send-requires : goal.send-requires
+pub send_line_end-requires : goal.send_line_end-requires
 unfolding sheet_of
-send-requires g c = c.if-self.false
+send_line_end-requires g c = c.if-self.false
 
-pub returns-in_err-send : goal.returns-in_err-send
+pub returns-in_err-send_line_end : goal.returns-in_err-send_line_end
 unfolding sheet_of Reaches
-returns-in_err-send g c x e =
+returns-in_err-send_line_end g c x e =
     let p = err_from_is_err_and c.from_residual.result c.from_residual.ensures.1 in
-    rw (p.1, p.2) (writes_way x _ _ _ (Err _) (sym (e refl)) refl refl c.if-self.false (line_halted _ _ _ c.if-self-2.false c.in_err-send.ensures))
+    rw (p.1, p.2) (writes_way x _ _ _ (Err _) (sym (e refl)) refl refl c.if-self.false (line_halted _ _ _ c.if-self-2.false c.in_err-send_line_end.ensures))
 
 pub returns : goal.returns
 unfolding sheet_of Reaches
 returns g c x e =
-    writes_ok x _ _ c.if-self.false (c.set_line_start.ensures ∙ ap (λ (s : Sheet). record s { at_line_start = true }) c.in_ok-send.ensures ∙ ended_false _ c.if-self-2.false ∙ sym (e refl))
+    writes_ok x _ _ c.if-self.false (c.set_line_start.ensures ∙ ap (λ (s : Sheet). record s { at_line_start = true }) c.in_ok-send_line_end.ensures ∙ ended_false _ c.if-self-2.false ∙ sym (e refl))

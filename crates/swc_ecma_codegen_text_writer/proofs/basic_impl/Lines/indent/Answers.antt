@@ -1,38 +1,13 @@
-use Rattle.std.proofs.Common.{◌≡◌, refl, ◌∙◌, ap, subst, arith}
-use Rattle.std.proofs.lemmas.Result.{err_from_is_err_and}
-use Rattle.swc_ecma_codegen_text_writer.specs.Sheet.{Sheet, appended, indented}
-use Rattle.swc_ecma_codegen_text_writer.specs.View.{sheet_of, Reaches, Halted}
-use Rattle.swc_ecma_codegen_text_writer.proofs.Steps.{indented_zero, indented_more, indent_halted}
+use Rattle.std.proofs.Common.{◌∙◌, ℕ, List, ap, sym, subst}
+use Rattle.std.specs.List.{repeat}
+use Rattle.std.specs.Cmp.Lexicographic.{same_text}
+use Rattle.swc_ecma_codegen_text_writer.specs.Sheet.{appended, indented}
+use Rattle.swc_ecma_codegen_text_writer.specs.View.{sheet_of, Reaches}
 use Rattle.swc_ecma_codegen_text_writer.proofs.basic_impl.Lines.indent.Goals as goal
 
-pub loop-init : goal.loop-init
-unfolding sheet_of
-loop-init g c = record { sheet = indented_zero _; indent_text = refl; end = refl; within = omega arith }
-
--- the sheets so far have the mark of the first one
-pub send-requires : goal.send-requires
-unfolding indented appended
-send-requires g c = ap (λ (s : Sheet). s.refused) c.loop.invariant.sheet ∙ c.requires
-
-pub loop-preserved : goal.loop-preserved
-unfolding sheet_of Reaches
-loop-preserved g c =
-    record {
-      sheet = c.in_ok-send.ensures ∙ ap (appended (sheet_of c.args.self.now).indent_text) c.loop.invariant.sheet ∙ indented_more c.loop.counter (sheet_of c.args.self.now);
-      indent_text = c.loop.invariant.indent_text;
-      end = c.loop.invariant.end;
-      within = omega arith;
-    }
-
-pub returns-in_err-send : goal.returns-in_err-send
-unfolding sheet_of Reaches
-returns-in_err-send g c =
-    let P : Sheet → Type 0 = λ s. Halted c.in_err-send.field-0.0 (appended (sheet_of c.args.self.now).indent_text s) s (sheet_of c.send.new.self) in
-    let p = err_from_is_err_and c.from_residual.result c.from_residual.ensures.1 in
-    rw (p.1, p.2) (indent_halted _ c.loop.counter _ _ _ (omega (arith, c.loop-test.true, c.loop.invariant.end)) (subst P c.loop.invariant.sheet c.in_err-send.ensures))
-
-pub returns : goal.returns
-unfolding Reaches
-returns g c =
-    let all : c.loop.counter ≡ (sheet_of c.args.self.now).indentation = omega (arith, c.loop.invariant.end, c.loop.invariant.within, c.loop-test.false) in
-    c.loop.invariant.sheet ∙ ap (λ n. indented n (sheet_of c.args.self.now)) all
+pub returns-in-Some : goal.returns-in-Some
+unfolding sheet_of indented
+returns-in-Some g c =
+    let old = sheet_of c.args.self.now in
+    let P : List ℕ → Type 0 = λ t. Reaches (appended t old) old (sheet_of c.send.new.self) c.send.result in
+    subst P (c.in-Some.ensures ∙ ap (repeat c.args.self.now.indent) (sym (same_text _ _ c.if-eq.ensures))) c.send.ensures

@@ -5,7 +5,7 @@ use Rattle.swc_ecma_codegen_base.specs.Run.{after_plain}
 use Rattle.swc_ecma_codegen_base.specs.Words.{space}
 use Rattle.swc_ecma_codegen_base.proofs.Calls.{called_plain, level, is_level}
 use Rattle.swc_ecma_codegen_base.proofs.Emitting.{does_failed}
-use Rattle.swc_ecma_codegen_base.proofs.LowerEmitter.space.Goals as goal
+use Rattle.swc_ecma_codegen_base.proofs.LowerEmitter.space_here.Goals as goal
 
 pub returns-then-self-clause-items : goal.returns-then-self-clause-items
 returns-then-self-clause-items g c = λ lines rest. does_failed _ _ c.if-self.true lines

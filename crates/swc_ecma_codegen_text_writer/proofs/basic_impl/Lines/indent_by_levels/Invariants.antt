@@ -1,7 +1,7 @@
 use Rattle.std.proofs.Common.{◌≡◌, ◌≤◌}
 use Rattle.swc_ecma_codegen_text_writer.specs.Sheet.{indented}
 use Rattle.swc_ecma_codegen_text_writer.specs.View.{sheet_of}
-use Rattle.swc_ecma_codegen_text_writer.proofs.basic_impl.Lines.indent.Given as goal
+use Rattle.swc_ecma_codegen_text_writer.proofs.basic_impl.Lines.indent_by_levels.Given as goal
 
 abbrev pub invariant-loop : goal.invariant-loop
 invariant-loop g l = record {

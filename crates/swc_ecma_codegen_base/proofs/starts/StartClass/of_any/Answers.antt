@@ -1,7 +1,7 @@
 use Rattle.std.proofs.Common.{◌∙◌, sym, ap}
 use Rattle.swc_ecma_codegen_base.specs.Starts.{start_class}
 use Rattle.swc_ecma_codegen_base.proofs.Starting.{plain_class}
-use Rattle.swc_ecma_codegen_base.proofs.starts.StartClass.of_text.Goals as goal
+use Rattle.swc_ecma_codegen_base.proofs.starts.StartClass.of_any.Goals as goal
 
 pub returns-in-Some : goal.returns-in-Some
 returns-in-Some c = let h = c.in-Some.first-test in c.of_char.ensures ∙ sym (ap start_class c.in-Some.ensures ∙ plain_class c.in-Some.first _ h.0.1 h.1)
