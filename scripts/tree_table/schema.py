@@ -29,11 +29,12 @@ def lines(body):
 
 
 def part(line, is_struct):
+    """A name and its type, or what a box holds: `Number` of `Num(Box<Number>)`."""
     if is_struct:
         name, of = line.removeprefix("pub ").split(": ", 1)
     else:
         name, _, of = line.rstrip(")").partition("(")
-    return name, of.replace("<N>", "")
+    return name, re.sub(r"^Box<(.*)>$", r"\1", of.replace("<N>", ""))
 
 
 def declared(file):

@@ -4,7 +4,7 @@ use Rattle.std.proofs.lemmas.Bool.{true≢false}
 use Rattle.swc_ecma_codegen_base.specs.Run.{Env, Plan, Part, when_minified, no_part}
 use Rattle.swc_ecma_codegen_base.specs.Words.{commit_pending_semi, keyword, punct, semi, trailing_comments}
 use Rattle.swc_ecma_codegen_base.proofs.Emitting.{minified_same, pretty_same}
-use Rattle.swc_ecma_codegen.specs.Functions.{parenthesis}
+use Rattle.swc_ecma_codegen.specs.FunctionExprs.{parenthesis}
 use Rattle.swc_ecma_codegen_ast.specs.Settings.{is_up_to_es5}
 use Rattle.swc_ecma_codegen_base.specs.Choices.{empty_arguments, loop_ending, attributes_word}
 use Rattle.swc_ecma_codegen_base.proofs.Choices.{ended_same, not_ended_same, assert_same, with_same}

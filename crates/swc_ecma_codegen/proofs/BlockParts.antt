@@ -3,6 +3,7 @@ use Rattle.std.proofs.Common.{◌≡◌, refl, ap, ℕ, Bool, true, false, cond,
 use Rattle.std.proofs.lemmas.Bool.{cases_Bool}
 use Rattle.swc_ecma_codegen_common.specs.declared.positions.Span.{Span}
 use Rattle.swc_ecma_codegen_tree.specs.declared.stmts.BlockStmt.{BlockStmt}
+use Rattle.swc_ecma_codegen_spans.specs.Spans.{stmt_span}
 use Rattle.swc_ecma_codegen_ast.specs.FunctionPhrases.{is_some_listed}
 use Rattle.swc_ecma_codegen_ast.specs.Phrases.{Phrase, ◌>◌, mark}
 use Rattle.swc_ecma_codegen_ast.specs.Phrases as phrases
@@ -17,13 +18,16 @@ use Rattle.swc_ecma_codegen_base.proofs.ListLaws.{IsUndelimited, children_of, pr
 use Rattle.swc_ecma_codegen_base.proofs.Phrased.{Prints, after, prints_same, prints_punct, prints_wider}
 use Rattle.swc_ecma_codegen_base.proofs.Printed.{writes_nothing, writes_position, writes_position_before, writes_leading, Fills, makes_wider}
 use Rattle.swc_ecma_codegen.specs.declared.nodes.Place.{Place}
-use Rattle.swc_ecma_codegen.specs.declared.nodes.Place.TheVariants.{Plain, Body}
+use Rattle.swc_ecma_codegen.specs.declared.nodes.Place.TheVariants.{Body}
+use Rattle.swc_ecma_codegen.specs.Answers.{place_of}
 use Rattle.swc_ecma_codegen.specs.Blocks as words
 use Rattle.swc_ecma_codegen.specs.Blocks.{block_format, flat_block_format}
 use Rattle.swc_ecma_codegen.specs.Exprs.{comments_before}
+use Rattle.swc_ecma_codegen.specs.Stmts.{stmt}
 use Rattle.swc_ecma_codegen.proofs.ExprParts.{writes_comments_before}
-use Rattle.swc_ecma_codegen.proofs.Linked.{Linked, stmt_at}
+use Rattle.swc_ecma_codegen.proofs.Linked.{Linked}
 use Rattle.swc_ecma_codegen.proofs.MarkWords as marks
+use Rattle.swc_ecma_codegen.proofs.StmtParts.{stmt_prints}
 use Rattle.swc_ecma_codegen_base.proofs.Shapes.{loose}
 
 -- what is the same is the same behind a bracket
@@ -45,7 +49,7 @@ undelimited true = record { no_comma = refl; no_bar = refl; no_ampersand = refl 
 undelimited false = record { no_comma = refl; no_bar = refl; no_ampersand = refl }
 
 abbrev stmts_by : {X : Type 0} → Linked X → Bool → BlockStmt X → Part
-stmts_by l some n = list (format_of some) n.span (children_of (λ s. (l.asks s.node.value).place) (λ s. l.items s.node.value Plain) n.stmts.items)
+stmts_by l some n = list (format_of some) n.span (children_of (stmt_span (place_of l.asks)) (stmt l.asks l.items) n.stmts.items)
 
 abbrev closing : {X : Type 0} → BlockStmt X → Part
 closing n rest = comments_before n.span.hi (position_before n.span.hi (punct (codes "}") rest))
@@ -54,14 +58,14 @@ closing_prints : {X : Type 0} (env : Env) (n : BlockStmt X) → Prints env (clos
 closing_prints env n = after (writes_comments_before env n.span.hi) (after (writes_position_before env n.span.hi) (prints_punct env (codes "}") marks.right_brace))
 
 abbrev whole : {X : Type 0} → Linked X → BlockStmt X → Phrase
-whole l n = mark (codes "{") > phrases.in_order (map (lists.stmt_at l.reads) n.stmts.items) > mark (codes "}")
+whole l n = mark (codes "{") > phrases.in_order (map (lists.stmt l.reads) n.stmts.items) > mark (codes "}")
 
 lines_prints : {X : Type 0} (l : Linked X) (n : BlockStmt X) (some : Bool) → Prints l.env (λ rest. punct (codes "{") (stmts_by l some n (closing n rest))) (whole l n)
 lines_prints l n some =
-    prints_bracketed_in_order l.env (codes "{") marks.left_brace (λ rest. rest) (makes_wider loose refl (writes_nothing l.env)) (format_of some) n.span (λ s. (l.asks s.node.value).place) (λ s. l.items s.node.value Plain) (lists.stmt_at l.reads) (mark (codes "}")) (closing n)
-    (λ s. prints_wider loose refl (stmt_at l s)) (undelimited some) (closing_prints l.env n) n.stmts.items
+    prints_bracketed_in_order l.env (codes "{") marks.left_brace (λ rest. rest) (makes_wider loose refl (writes_nothing l.env)) (format_of some) n.span (stmt_span (place_of l.asks)) (stmt l.asks l.items) (lists.stmt l.reads) (mark (codes "}")) (closing n)
+    (λ s. prints_wider loose refl (stmt_prints l s)) (undelimited some) (closing_prints l.env n) n.stmts.items
 
-stmts_print : {X : Type 0} (l : Linked X) (n : BlockStmt X) → Prints l.env (λ rest. punct (codes "{") (words.block_list (is_some_listed n.stmts.items) n.span (children_of (λ s. (l.asks s.node.value).place) (λ s. l.items s.node.value Plain) n.stmts.items) (closing n rest))) (whole l n)
+stmts_print : {X : Type 0} (l : Linked X) (n : BlockStmt X) → Prints l.env (λ rest. punct (codes "{") (words.block_list (is_some_listed n.stmts.items) n.span (children_of (stmt_span (place_of l.asks)) (stmt l.asks l.items) n.stmts.items) (closing n rest))) (whole l n)
 unfolding words.block_list
 stmts_print l n =
     let some : Bool = is_some_listed n.stmts.items in

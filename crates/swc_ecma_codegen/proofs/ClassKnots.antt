@@ -30,13 +30,14 @@ use Rattle.swc_ecma_codegen.specs.declared.nodes.Place.TheVariants.{Plain, Class
 use Rattle.swc_ecma_codegen.specs.Answers.{Answers}
 use Rattle.swc_ecma_codegen.specs.Classes.{class_members_format, heritage, class_trailing, class_tail, class, constructor_param, constructor_param_place, constructor_body, constructor_tail, constructor_word, constructor_parts, class_constructor, method_word, method_kind, class_method_parts, class_method, private_kind, private_method_parts, private_method, wrapped, prop_value, class_prop_parts, class_prop, private_prop_tail, private_prop_parts, private_prop, accessor_key, accessor_tail, auto_accessor_parts, auto_accessor, static_block, class_member}
 use Rattle.swc_ecma_codegen.specs.Exprs.{blank}
-use Rattle.swc_ecma_codegen.specs.Functions.{comma_list_format, decorator, decorator_lines, decorators_format, decorator_place, param}
+use Rattle.swc_ecma_codegen.specs.FunctionExprs.{comma_list_format}
+use Rattle.swc_ecma_codegen.specs.Functions.{decorator, decorator_lines, decorators_format, decorator_place, param}
 use Rattle.swc_ecma_codegen.specs.Lists.{child_of, unsupported}
-use Rattle.swc_ecma_codegen.specs.Parts.{stmt_part}
+use Rattle.swc_ecma_codegen.specs.Parts.{expr_part, stmt_part}
 use Rattle.swc_ecma_codegen.specs.Pats.{initializer}
 use Rattle.swc_ecma_codegen.specs.Tree.{node_items}
-use Rattle.swc_ecma_codegen.proofs.FunctionKnots.{decorators_mapped, either_same, param_child}
-use Rattle.swc_ecma_codegen.proofs.PatKnots.{children_mapped}
+use Rattle.swc_ecma_codegen.proofs.FunctionKnots.{decorators_mapped, either_same, param_same}
+use Rattle.swc_ecma_codegen.proofs.PatKnots.{children_mapped, pat_mapped}
 
 -- ---- classes
 
@@ -80,10 +81,10 @@ as_member b n = nodes.StmtPart (stmt_parts.ClassMember (record b { value = n }))
 constructor_same : {X : Type 0} (n : Constructor X) (typed : Bool) (before after : Plan) (rest : Plan) → before ≡ after → cond typed (unsupported rest) (leading_comments n.span.lo (start_of n.span (keyword None (codes "constructor") (punct (codes "(") before)))) ≡ cond typed (unsupported rest) (leading_comments n.span.lo (start_of n.span (keyword None (codes "constructor") (punct (codes "(") after))))
 constructor_same n typed before after rest e = ap (λ z. cond typed (unsupported rest) (leading_comments n.span.lo (start_of n.span (keyword None (codes "constructor") (punct (codes "(") z))))) e
 
-constructor_by : {X Y : Type 0} (g : X → Y) (asks : Y → Answers) (items : Y → Place → Part) (b : Box (class_members.ClassMember X) Global) (n : Constructor X) (body : Option (BlockStmtBox X)) (place : Place) (rest : Plan) → node_items asks items (map-AnyNode X Y g (as_member b (members.Constructor (record n { body = body })))) place rest ≡ class_constructor (λ x. items (g x)) (record n { body = body }) rest
-unfolding node_items stmt_part class_member class_constructor constructor_parts constructor_word constructor_tail constructor_param constructor_param_place constructor_body param decorator
-constructor_by {X} {Y} g asks items b n None place rest = constructor_same n _ _ _ rest (children_mapped {A = ParamOrTsParamProp X} _ _ _ (each_param {X = X} _ (λ m. refl) (λ p. ap (λ ds. param_child p.span ds (items (g p.pat.node.value) Plain)) (list_mapped {A = Decorator X} _ _ (child_of decorator_place (λ d place. decorator (λ x. items (g x)) d)) (λ d. refl) p.decorators.items))) comma_list_format n.span n.params.items _)
-constructor_by {X} {Y} g asks items b n (Some body) place rest = constructor_same n _ _ _ rest (children_mapped {A = ParamOrTsParamProp X} _ _ _ (each_param {X = X} _ (λ m. refl) (λ p. ap (λ ds. param_child p.span ds (items (g p.pat.node.value) Plain)) (list_mapped {A = Decorator X} _ _ (child_of decorator_place (λ d place. decorator (λ x. items (g x)) d)) (λ d. refl) p.decorators.items))) comma_list_format n.span n.params.items _)
+constructor_by : {X Y : Type 0} (g : X → Y) (asks : Y → Answers) (items : Y → Place → Part) (b : Box (class_members.ClassMember X) Global) (n : Constructor X) (body : Option (BlockStmtBox X)) (place : Place) (rest : Plan) → node_items asks items (map-AnyNode X Y g (as_member b (members.Constructor (record n { body = body })))) place rest ≡ class_constructor (λ x. asks (g x)) (λ x. items (g x)) (record n { body = body }) rest
+unfolding node_items expr_part stmt_part class_member class_constructor constructor_parts constructor_word constructor_tail constructor_param constructor_param_place constructor_body param decorator
+constructor_by {X} {Y} g asks items b n None place rest = constructor_same n _ _ _ rest (children_mapped {A = ParamOrTsParamProp X} _ _ _ (each_param {X = X} _ (λ m. refl) (λ p. param_same p.span _ _ _ _ (list_mapped {A = Decorator X} _ _ (child_of decorator_place (λ d place. decorator (λ x. items (g x)) d)) (λ d. refl) p.decorators.items) (pat_mapped g asks items p.pat Plain))) comma_list_format n.span n.params.items _)
+constructor_by {X} {Y} g asks items b n (Some body) place rest = constructor_same n _ _ _ rest (children_mapped {A = ParamOrTsParamProp X} _ _ _ (each_param {X = X} _ (λ m. refl) (λ p. param_same p.span _ _ _ _ (list_mapped {A = Decorator X} _ _ (child_of decorator_place (λ d place. decorator (λ x. items (g x)) d)) (λ d. refl) p.decorators.items) (pat_mapped g asks items p.pat Plain))) comma_list_format n.span n.params.items _)
 
 method_by : {X Y : Type 0} (g : X → Y) (asks : Y → Answers) (items : Y → Place → Part) (b : Box (class_members.ClassMember X) Global) (n : ClassMethod X) (kind : MethodKind) (place : Place) (rest : Plan) → node_items asks items (map-AnyNode X Y g (as_member b (members.Method (record n { kind = kind })))) place rest ≡ class_method (λ x. asks (g x)) (λ x. items (g x)) (record n { kind = kind }) rest
 unfolding node_items stmt_part class_member class_method class_method_parts method_kind method_word

@@ -37,7 +37,8 @@ use Rattle.swc_ecma_codegen_base.proofs.Shapes.{open_, ended_if_any, closed, loo
 use Rattle.swc_ecma_codegen.specs.declared.nodes.Place.{Place}
 use Rattle.swc_ecma_codegen.specs.declared.nodes.Place.TheVariants.{Plain, MethodHead, StaticHead}
 use Rattle.swc_ecma_codegen.specs.Classes as words
-use Rattle.swc_ecma_codegen.specs.Functions.{comma_list_format, decorators_format, decorator, decorator_lines, decorator_place}
+use Rattle.swc_ecma_codegen.specs.FunctionExprs.{comma_list_format}
+use Rattle.swc_ecma_codegen.specs.Functions.{decorators_format, decorator, decorator_lines, decorator_place}
 use Rattle.swc_ecma_codegen.proofs.ExprParts.{ident_prints, private_name_prints, writes_blank}
 use Rattle.swc_ecma_codegen.proofs.FunctionParts.{decorator_prints, decorators_print, param_prints, undelimited}
 use Rattle.swc_ecma_codegen.proofs.Impossible.{refused_or}
@@ -89,7 +90,7 @@ class_decl_prints l n = refused_or n.declare
 
 -- ---- members
 
-constructor_param_prints : {X : Type 0} (l : Linked X) (n : ParamOrTsParamProp X) → PrintsAt closed l.env (words.constructor_param l.items n) (lists.constructor_param l.reads n)
+constructor_param_prints : {X : Type 0} (l : Linked X) (n : ParamOrTsParamProp X) → PrintsAt closed l.env (words.constructor_param l.asks l.items n) (lists.constructor_param l.reads n)
 unfolding words.constructor_param lists.constructor_param
 constructor_param_prints l (params.Param n) = param_prints l n
 constructor_param_prints l (params.TsParamProp n) = prints_never
@@ -99,14 +100,14 @@ unfolding words.constructor_body lists.method_body
 constructor_body_prints l None = prints_punct l.env (codes ";") marks.semicolon
 constructor_body_prints l (Some n) = block_at l n Plain
 
-constructor_prints : {X : Type 0} (l : Linked X) (n : Constructor X) → Prints l.env (words.class_constructor l.items n) (lists.class_constructor l.reads n)
+constructor_prints : {X : Type 0} (l : Linked X) (n : Constructor X) → Prints l.env (words.class_constructor l.asks l.items n) (lists.class_constructor l.reads n)
 unfolding words.class_constructor words.constructor_parts words.constructor_word words.constructor_tail lists.class_constructor
 constructor_prints l n = refused_or (is_some n.accessibility)
     (after (writes_leading l.env n.span.lo)
     (after (writes_position l.env n.span.lo)
     (then (prints_keyword l.env None (codes "constructor") marks.constructor_word)
     (then (prints_punct l.env (codes "(") marks.left_parenthesis)
-    (then (prints_list l.env comma_list_format n.span words.constructor_param_place (words.constructor_param l.items) (lists.constructor_param l.reads) (λ p. prints_wider loose refl (constructor_param_prints l p)) refl refl refl refl n.params.items)
+    (then (prints_list l.env comma_list_format n.span words.constructor_param_place (words.constructor_param l.asks l.items) (lists.constructor_param l.reads) (λ p. prints_wider loose refl (constructor_param_prints l p)) refl refl refl refl n.params.items)
     (then (prints_punct l.env (codes ")") marks.right_parenthesis) (constructor_body_prints l n.body)))))))
 
 static_prints : (env : Env) (wanted : Bool) → PrintsAt open_ env (words.static_word wanted) (word_if wanted (word (codes "static")))

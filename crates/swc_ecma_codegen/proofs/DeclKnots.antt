@@ -1,5 +1,5 @@
 -- What is written of declarations sees what links hold through `asks` and `items` alone.
-use Rattle.std.proofs.Common.{◌≡◌, refl, ◌∙◌, ap, List, [], ◌∷◌, map, codes, Bool, true, false, None, Box, Global}
+use Rattle.std.proofs.Common.{◌≡◌, refl, ◌∙◌, ap, List, [], ◌∷◌, map, codes, Bool, true, false, cond, Some, None, Box, Global}
 use Rattle.swc_ecma_codegen_common.specs.declared.positions.Span.{Span}
 use Rattle.swc_ecma_codegen_tree.specs.declared.links.AnyNode.{map-AnyNode}
 use Rattle.swc_ecma_codegen_tree.specs.declared.links.AnyNode.TheOpen as nodes
@@ -13,36 +13,42 @@ use Rattle.swc_ecma_codegen_base.specs.Lists.{ListChild, list}
 use Rattle.swc_ecma_codegen_base.specs.Run.{Plan, Part, refuse}
 use Rattle.swc_ecma_codegen_base.specs.Words.{keyword, semi, space, commit_pending_semi, start_of, leading_comments}
 use Rattle.swc_ecma_codegen.specs.declared.nodes.Place.{Place}
+use Rattle.swc_ecma_codegen.specs.declared.nodes.Place.TheVariants.{Plain}
 use Rattle.swc_ecma_codegen.specs.Answers.{Answers}
 use Rattle.swc_ecma_codegen.specs.Decls.{declarators_format, fn_decl_parts, fn_decl, var_declarator_parts, var_declarator, declarator_place, var_kind, is_unmarked, first_is_unmarked, var_decl_parts, var_decl, await_word, using_decl, without_head, exported_class_parts, exported_class, variables, resources, decl}
 use Rattle.swc_ecma_codegen.specs.Classes.{class_decl, class_decl_parts}
-use Rattle.swc_ecma_codegen.specs.Exprs.{blank}
-use Rattle.swc_ecma_codegen.specs.Lists.{child_of, unsupported}
-use Rattle.swc_ecma_codegen.specs.Parts.{stmt_part}
-use Rattle.swc_ecma_codegen.specs.Pats.{initializer}
+use Rattle.swc_ecma_codegen.specs.Exprs.{blank, opened}
+use Rattle.swc_ecma_codegen.specs.Lists.{child_at, child_of, unsupported}
+use Rattle.swc_ecma_codegen.specs.Parts.{expr_part, stmt_part}
+use Rattle.swc_ecma_codegen.specs.Pats.{initializer, pat}
+use Rattle.swc_ecma_codegen.specs.Patterns.{pat_kind, part_pattern, node_pattern}
 use Rattle.swc_ecma_codegen.specs.Tree.{node_items}
-use Rattle.swc_ecma_codegen.proofs.PatKnots.{children_mapped}
+use Rattle.swc_ecma_codegen.proofs.PatKnots.{children_mapped, pat_mapped, pat_kind_mapped}
 
 -- a declarator, as a child of a list
-abbrev pub declarator_child : {X : Type 0} → (X → Place → Part) → VarDeclarator X → ListChild
-declarator_child items = child_of declarator_place (λ n place. var_declarator items n)
+abbrev pub declarator_child : {X : Type 0} → (X → Answers) → (X → Place → Part) → VarDeclarator X → ListChild
+declarator_child asks items = child_of declarator_place (λ n place. var_declarator asks items n)
 
-first_mapped : {X Y : Type 0} (g : VarDeclarator X → VarDeclarator Y) (asks : Y → Answers) (known : X → Answers) → ((n : VarDeclarator X) → (asks (g n).name.node.value).pattern ≡ (known n.name.node.value).pattern) → (ns : List (VarDeclarator X)) → first_is_unmarked asks (map g ns) ≡ first_is_unmarked known ns
+-- the same, by its parts
+pub declarator_same : (span : Span) (definite : Bool) (p q : Part) (after : Part) → ((rest : Plan) → p rest ≡ q rest) → child_at span (λ rest. cond definite (unsupported rest) (opened span (p (after rest)))) ≡ child_at span (λ rest. cond definite (unsupported rest) (opened span (q (after rest))))
+declarator_same span definite p q after h = λ i. child_at span (λ rest. cond definite (unsupported rest) (opened span (h (after rest) i)))
+
+first_mapped : {X Y : Type 0} (g : VarDeclarator X → VarDeclarator Y) → ((n : VarDeclarator X) → pat_kind (g n).name ≡ pat_kind n.name) → (ns : List (VarDeclarator X)) → first_is_unmarked (map g ns) ≡ first_is_unmarked ns
 unfolding first_is_unmarked
-first_mapped g asks known same [] = refl
-first_mapped g asks known same (n ∷ ns) = ap is_unmarked (same n)
+first_mapped g same [] = refl
+first_mapped g same (n ∷ ns) = ap is_unmarked (same n)
 
 -- the declarators behind a word: where the first begins with no mark a blank is due
-declared_mapped : {X Y : Type 0} (g : VarDeclarator X → VarDeclarator Y) (asks : Y → Answers) (known : X → Answers) (e : VarDeclarator Y → ListChild) (d : VarDeclarator X → ListChild) → ((n : VarDeclarator X) → (asks (g n).name.node.value).pattern ≡ (known n.name.node.value).pattern) → ((n : VarDeclarator X) → e (g n) ≡ d n) → (span : Span) (ns : List (VarDeclarator X)) (after : Plan) → blank (first_is_unmarked asks (map g ns)) (list declarators_format span (map e (map g ns)) after) ≡ blank (first_is_unmarked known ns) (list declarators_format span (map d ns) after)
-declared_mapped g asks known e d same child span ns after =
-    ap (λ b. blank b (list declarators_format span (map e (map g ns)) after)) (first_mapped g asks known same ns)
-    ∙ ap (blank (first_is_unmarked known ns)) (children_mapped g e d child declarators_format span ns after)
+declared_mapped : {X Y : Type 0} (g : VarDeclarator X → VarDeclarator Y) (e : VarDeclarator Y → ListChild) (d : VarDeclarator X → ListChild) → ((n : VarDeclarator X) → pat_kind (g n).name ≡ pat_kind n.name) → ((n : VarDeclarator X) → e (g n) ≡ d n) → (span : Span) (ns : List (VarDeclarator X)) (after : Plan) → blank (first_is_unmarked (map g ns)) (list declarators_format span (map e (map g ns)) after) ≡ blank (first_is_unmarked ns) (list declarators_format span (map d ns) after)
+declared_mapped g e d same child span ns after =
+    ap (λ b. blank b (list declarators_format span (map e (map g ns)) after)) (first_mapped g same ns)
+    ∙ ap (blank (first_is_unmarked ns)) (children_mapped g e d child declarators_format span ns after)
 
 var_by : {X Y : Type 0} (g : X → Y) (asks : Y → Answers) (items : Y → Place → Part) (n : VarDecl X) (declare : Bool) (place : Place) (rest : Plan) → node_items asks items (map-AnyNode X Y g (nodes.StmtPart (stmt_parts.VarDecl (record n { declare = declare })))) place rest ≡ var_decl (λ x. asks (g x)) (λ x. items (g x)) (record n { declare = declare }) rest
-unfolding node_items stmt_part var_decl var_decl_parts var_declarator var_declarator_parts initializer unsupported refuse
+unfolding node_items expr_part node_pattern part_pattern stmt_part var_decl var_decl_parts var_declarator var_declarator_parts initializer unsupported refuse
 var_by g asks items n true place rest = refl
 var_by {X} {Y} g asks items n false place rest = ap (λ z. leading_comments n.span.lo (commit_pending_semi (start_of n.span (var_kind n.kind z))))
-    (declared_mapped {X = X} {Y = Y} _ asks (λ x. asks (g x)) _ _ (λ d. refl) (by_init {X = X} _ (λ span name definite. refl) (λ span name init definite. refl)) n.span n.decls.items rest)
+    (declared_mapped {X = X} {Y = Y} _ _ _ (λ d. pat_kind_mapped g d.name) (by_init {X = X} _ (λ span name definite. declarator_same span definite _ (pat (λ x. asks (g x)) (λ x. items (g x)) name) (λ after. after) (pat_mapped g asks items name Plain)) (λ span name init definite. declarator_same span definite _ (pat (λ x. asks (g x)) (λ x. items (g x)) name) (initializer (λ x. items (g x)) (Some init)) (pat_mapped g asks items name Plain))) n.span n.decls.items rest)
 
 pub var_decl_mapped : {X Y : Type 0} (g : X → Y) (asks : Y → Answers) (items : Y → Place → Part) (n : VarDecl X) (place : Place) (rest : Plan) → node_items asks items (map-AnyNode X Y g (nodes.StmtPart (stmt_parts.VarDecl n))) place rest ≡ var_decl (λ x. asks (g x)) (λ x. items (g x)) n rest
 var_decl_mapped g asks items n place rest = var_by g asks items n n.declare place rest
@@ -51,11 +57,11 @@ without_head_same : (place : Place) (p q : Part) → ((rest : Plan) → p rest �
 without_head_same place p q h rest = ap (λ z. without_head place z rest) (λ i. λ after. h after i)
 
 decl_by : {X Y : Type 0} (g : X → Y) (asks : Y → Answers) (items : Y → Place → Part) (b : Box (Decl X) Global) (n : Decl X) (place : Place) (rest : Plan) → node_items asks items (map-AnyNode X Y g (nodes.StmtPart (stmt_parts.Decl (record b { value = n })))) place rest ≡ decl (λ x. asks (g x)) (λ x. items (g x)) n place rest
-unfolding node_items stmt_part decl without_head variables resources exported_class exported_class_parts class_decl class_decl_parts fn_decl fn_decl_parts using_decl var_declarator var_declarator_parts initializer unsupported refuse
+unfolding node_items expr_part stmt_part decl without_head variables resources exported_class exported_class_parts class_decl class_decl_parts fn_decl fn_decl_parts using_decl var_declarator var_declarator_parts initializer unsupported refuse
 decl_by g asks items b (decls.Fn n) place rest = refl
 decl_by g asks items b (decls.Var n) place rest = refl
 decl_by {X} g asks items b (decls.Using n) place rest = without_head_same place _ _ (λ after. ap (λ z. leading_comments n.span.lo (await_word n.is_await (keyword None (codes "using") (space z))))
-    (children_mapped {A = VarDeclarator X} _ _ _ (by_init {X = X} _ (λ span name definite. refl) (λ span name init definite. refl)) declarators_format n.span n.decls.items (semi after))) rest
+    (children_mapped {A = VarDeclarator X} _ _ _ (by_init {X = X} _ (λ span name definite. declarator_same span definite _ (pat (λ x. asks (g x)) (λ x. items (g x)) name) (λ after. after) (pat_mapped g asks items name Plain)) (λ span name init definite. declarator_same span definite _ (pat (λ x. asks (g x)) (λ x. items (g x)) name) (initializer (λ x. items (g x)) (Some init)) (pat_mapped g asks items name Plain))) declarators_format n.span n.decls.items (semi after))) rest
 decl_by g asks items b n place rest = refl
 
 pub decl_mapped : {X Y : Type 0} (g : X → Y) (asks : Y → Answers) (items : Y → Place → Part) (b : Box (Decl X) Global) (place : Place) (rest : Plan) → node_items asks items (map-AnyNode X Y g (nodes.StmtPart (stmt_parts.Decl b))) place rest ≡ decl (λ x. asks (g x)) (λ x. items (g x)) b.value place rest

@@ -28,9 +28,9 @@ use Rattle.swc_ecma_codegen.specs.Decls.{declarators_format, declarator_place}
 use Rattle.swc_ecma_codegen.proofs.ExprParts.{writes_blank, writes_opened, ident_prints}
 use Rattle.swc_ecma_codegen.proofs.ClassParts.{class_decl_prints}
 use Rattle.swc_ecma_codegen.proofs.Impossible.{refused_or}
-use Rattle.swc_ecma_codegen.proofs.Linked.{Linked, pat_at, var_decl_at}
+use Rattle.swc_ecma_codegen.proofs.Linked.{Linked, var_decl_at}
 use Rattle.swc_ecma_codegen.proofs.MarkWords as marks
-use Rattle.swc_ecma_codegen.proofs.PatParts.{initializer_prints}
+use Rattle.swc_ecma_codegen.proofs.PatParts.{initializer_prints, pat_prints}
 use Rattle.swc_ecma_codegen_base.proofs.Shapes.{ended, ended_if_any}
 
 fn_decl_prints : {X : Type 0} (l : Linked X) (n : FnDecl X) → Prints l.env (words.fn_decl l.asks l.items n) (lists.fn_decl l.reads n)
@@ -44,15 +44,15 @@ fn_decl_prints l n = refused_or n.declare
 
 -- ---- variables
 
-declarator_prints : {X : Type 0} (l : Linked X) (n : VarDeclarator X) → Prints l.env (words.var_declarator l.items n) (lists.var_declarator l.reads n)
+declarator_prints : {X : Type 0} (l : Linked X) (n : VarDeclarator X) → Prints l.env (words.var_declarator l.asks l.items n) (lists.var_declarator l.reads n)
 unfolding words.var_declarator words.var_declarator_parts lists.var_declarator
-declarator_prints l n = refused_or n.definite (after (writes_opened l.env n.span) (then (pat_at l n.name) (initializer_prints l n.init)))
+declarator_prints l n = refused_or n.definite (after (writes_opened l.env n.span) (then (pat_prints l n.name) (initializer_prints l n.init)))
 
 -- They begin on the line before them, since no line ends before the first.
-declarators_print : {X : Type 0} (l : Linked X) (span : Span) (ns : List (VarDeclarator X)) → PrintsAt ended l.env (words.declarators l.items span ns) (phrases.some_listed (codes ",") (map (lists.var_declarator l.reads) ns))
+declarators_print : {X : Type 0} (l : Linked X) (span : Span) (ns : List (VarDeclarator X)) → PrintsAt ended l.env (words.declarators l.asks l.items span ns) (phrases.some_listed (codes ",") (map (lists.var_declarator l.reads) ns))
 unfolding phrases.listed phrases.some_listed
 declarators_print l span [] = prints_never
-declarators_print l span (n ∷ ns) = prints_list_on_line l.env declarators_format span declarator_place (words.var_declarator l.items) (lists.var_declarator l.reads) (declarator_prints l) refl refl refl refl n ns refl
+declarators_print l span (n ∷ ns) = prints_list_on_line l.env declarators_format span declarator_place (words.var_declarator l.asks l.items) (lists.var_declarator l.reads) (declarator_prints l) refl refl refl refl n ns refl
 
 kind_prints : (env : Env) (kind : VarDeclKind) → Prints env (words.var_kind kind) (lists.var_kind kind)
 unfolding words.var_kind lists.var_kind
@@ -67,7 +67,7 @@ var_decl_prints l n = refused_or n.declare
     (after (writes_commit l.env)
     (after (writes_position l.env n.span.lo)
     (then (kind_prints l.env n.kind)
-    (after (writes_blank l.env (words.first_is_unmarked l.asks n.decls.items)) (declarators_print l n.span n.decls.items))))))
+    (after (writes_blank l.env (words.first_is_unmarked n.decls.items)) (declarators_print l n.span n.decls.items))))))
 
 -- behind `await`, where it is so
 await_then : (env : Env) (wanted : Bool) {p : Part} {f : phrases.Phrase} → PrintsAt ended env p f → PrintsAt ended env (λ rest. words.await_word wanted (p rest)) (lists.after_await wanted f)
@@ -75,7 +75,7 @@ unfolding words.await_word lists.after_await
 await_then env true h = joined_then env None (codes "await") marks.await_word (after (writes_space env) h)
 await_then env false h = h
 
-pub using_decl_prints : {X : Type 0} (l : Linked X) (n : UsingDecl X) → PrintsAt ended l.env (words.using_decl l.items n) (lists.using_decl l.reads n)
+pub using_decl_prints : {X : Type 0} (l : Linked X) (n : UsingDecl X) → PrintsAt ended l.env (words.using_decl l.asks l.items n) (lists.using_decl l.reads n)
 unfolding words.using_decl lists.using_decl
 using_decl_prints l n =
     after (writes_leading l.env n.span.lo)

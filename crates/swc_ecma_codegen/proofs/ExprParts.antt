@@ -55,7 +55,7 @@ use Rattle.swc_ecma_codegen_ast.specs.NamePhrases as names
 use Rattle.swc_ecma_codegen_ast.specs.ExprPhrases as lists
 use Rattle.swc_ecma_codegen_ast.specs.CallPhrases.{callee_at}
 use Rattle.swc_ecma_codegen_ast.specs.LitPhrases as lit_lists
-use Rattle.swc_ecma_codegen_ast.specs.declared.roles.Role.TheVariants.{MemberExpression, ChainMember, AssignmentTarget, ObjectLiteral, Callee as IsCallee, ChainCall, Template}
+use Rattle.swc_ecma_codegen_ast.specs.declared.roles.Role.TheVariants.{ChainMember, AssignmentTarget, ObjectLiteral, Callee as IsCallee, ChainCall, Template}
 use Rattle.swc_ecma_codegen_ast.specs.declared.roles.Role.{Role}
 use Rattle.swc_ecma_codegen_base.specs.Run.{Env, Part}
 use Rattle.swc_ecma_codegen_base.specs.Words.{operator, space, formatting_space, position, leading_comments, trailing_comments, keyword}
@@ -73,7 +73,7 @@ use Rattle.swc_ecma_codegen.specs.Operands.{is_word_op, operand_space}
 use Rattle.swc_ecma_codegen.specs.Exprs as words
 use Rattle.swc_ecma_codegen.specs.Calls as calls
 use Rattle.swc_ecma_codegen.specs.Lits.{lit_at}
-use Rattle.swc_ecma_codegen.proofs.FunctionParts.{fn_expr_prints, arrow_expr_prints, class_expr_prints}
+use Rattle.swc_ecma_codegen.proofs.FunctionExprParts.{fn_expr_prints, arrow_expr_prints, class_expr_prints}
 use Rattle.swc_ecma_codegen.proofs.CallParts.{super_is_word, array_lit_prints, call_prints, new_prints}
 use Rattle.swc_ecma_codegen.proofs.TemplateParts.{tagged_tpl_prints}
 use Rattle.swc_ecma_codegen.proofs.Linked.{Linked, expr_at}
@@ -286,7 +286,7 @@ unfolding words.update words.update_parts lists.update_expr
 update_prints l n = after (writes_opened l.env n.span) (update_case l.env n.prefix n.op _ _ (expr_at l n.arg Plain))
 
 bin_prints : {X : Type 0} (l : Linked X) (n : BinExpr X) (place : Place) → Prints l.env (words.bin l.asks l.items n place) (lists.bin_expr l.reads n)
-unfolding words.bin words.bin_trailing lists.bin_expr
+unfolding words.bin words.bin_trailing words.bin_operator lists.bin_expr
 bin_prints l n place =
     after (writes_bin_opened l.env place n.span)
     (then (expr_at l n.left LeftOperand)
@@ -422,8 +422,8 @@ paren_prints l n =
 
 lit_prints : (env : Env) (n : Lit) (place : Place) → Prints env (lit_at n place) (lit_lists.lit n)
 unfolding lit_at lit_lists.lit
-lit_prints env (lits.Num n) Object = prints_number env n
-lit_prints env (lits.Num n) (DottedObject prop) = prints_number_object env n prop
+lit_prints env (lits.Num n) Object = prints_number env n.value
+lit_prints env (lits.Num n) (DottedObject prop) = prints_number_object env n.value prop
 lit_prints env (lits.JSXText n) place = prints_never
 lit_prints env n place = prints_lit env n
 
@@ -437,7 +437,7 @@ parts_print l (exprs.Unary n) place = unary_prints l n
 parts_print l (exprs.Update n) place = update_prints l n
 parts_print l (exprs.Bin n) place = bin_prints l n place
 parts_print l (exprs.Assign n) place = assign_prints l n
-parts_print l (exprs.Member n) place = l.law n.node.value Plain MemberExpression
+parts_print l (exprs.Member n) place = member_prints l n
 parts_print l (exprs.SuperProp n) place = super_prop_expr_prints l n
 parts_print l (exprs.Cond n) place = cond_prints l n
 parts_print l (exprs.Call n) place = call_prints l n
@@ -447,7 +447,7 @@ parts_print l (exprs.Ident n) place = ident_prints l n
 parts_print l (exprs.Lit n) place = lit_prints l.env n place
 parts_print l (exprs.Tpl n) place = l.law n.node.value Plain Template
 parts_print l (exprs.TaggedTpl n) place = tagged_tpl_prints l n
-parts_print l (exprs.Arrow n) place = arrow_expr_prints l n
+parts_print l (exprs.Arrow n) place = arrow_expr_prints l n.value
 parts_print l (exprs.Class n) place = class_expr_prints l n
 parts_print l (exprs.Yield n) place = yield_prints l n
 parts_print l (exprs.MetaProp n) place = meta_prop_expr_prints l.env n

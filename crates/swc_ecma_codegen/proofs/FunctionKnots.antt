@@ -3,7 +3,7 @@ use Rattle.std.proofs.Common.{◌≡◌, refl, ◌∙◌, ap, List, [], ◌∷�
 use Rattle.swc_ecma_codegen_common.specs.declared.positions.Span.{Span}
 use Rattle.swc_ecma_codegen_tree.specs.declared.links.AnyNode.{map-AnyNode}
 use Rattle.swc_ecma_codegen_tree.specs.declared.links.AnyNode.TheOpen as nodes
-use Rattle.swc_ecma_codegen_tree.specs.Links.{BlockStmtBox, PatBox, StmtBox, TsTypeAnnBox, TsTypeParamDeclBox}
+use Rattle.swc_ecma_codegen_tree.specs.Links.{BlockStmtBox, PatBox, TsTypeAnnBox, TsTypeParamDeclBox}
 use Rattle.swc_ecma_codegen_tree.specs.declared.parts.StmtPart.TheVariants as stmt_parts
 use Rattle.swc_ecma_codegen_tree.specs.declared.decls.Decorator.{Decorator}
 use Rattle.swc_ecma_codegen_tree.specs.declared.decls.Param.{Param}
@@ -13,7 +13,8 @@ use Rattle.swc_ecma_codegen_tree.specs.declared.exprs.BlockStmtOrExpr.{BlockStmt
 use Rattle.swc_ecma_codegen_tree.specs.declared.exprs.BlockStmtOrExpr.TheVariants as bodies
 use Rattle.swc_ecma_codegen_tree.specs.declared.exprs.Expr.TheVariants as exprs
 use Rattle.swc_ecma_codegen_tree.specs.declared.stmts.BlockStmt.{BlockStmt}
-use Rattle.swc_ecma_codegen_spans.specs.Spans.{expr_span}
+use Rattle.swc_ecma_codegen_tree.specs.declared.stmts.Stmt.{Stmt}
+use Rattle.swc_ecma_codegen_spans.specs.Spans.{expr_span, stmt_span, node_span}
 use Rattle.swc_ecma_codegen_ast.proofs.Mapped.{list_mapped}
 use Rattle.swc_ecma_codegen_ast.proofs.MappedFunctions.{some_mapped}
 use Rattle.swc_ecma_codegen_base.specs.Run.{Plan, Part, refuse}
@@ -22,14 +23,17 @@ use Rattle.swc_ecma_codegen_base.specs.Words.{punct, leading_comments, start_of,
 use Rattle.swc_ecma_codegen.specs.declared.nodes.Place.{Place}
 use Rattle.swc_ecma_codegen.specs.declared.nodes.Place.TheVariants.{Plain, FunctionHead, MethodHead, DeclarationHead, StaticHead, MethodDecorators, MethodTail, PrivateTail}
 use Rattle.swc_ecma_codegen.specs.declared.patterns.PatternKind.{PatternKind}
-use Rattle.swc_ecma_codegen.specs.Answers.{Answers}
+use Rattle.swc_ecma_codegen.specs.Answers.{Answers, place_of}
 use Rattle.swc_ecma_codegen.specs.Blocks.{block_list, block_start, block_stmt}
 use Rattle.swc_ecma_codegen.specs.Exprs.{expr, expr_parts, expr_closed, leaves_comments}
-use Rattle.swc_ecma_codegen.specs.Functions.{decorators_format, comma_list_format, decorator, decorator_place, param, function_body, fn_trailing_parts, fn_trailing, function_head, declaration_head, method_head, static_head, decorator_lines, method_body, method_tail_parts, method_tail, private_tail, function, is_plain, is_name, is_only, async_arrow, star, parenthesis, arrow_parameters, arrow_body, arrow_parts, arrow_expr}
+use Rattle.swc_ecma_codegen.specs.FunctionExprs.{comma_list_format, is_plain, is_name, is_only, async_arrow, star, parenthesis, arrow_parameters, arrow_body, arrow_parts, arrow_expr}
+use Rattle.swc_ecma_codegen.specs.Functions.{decorators_format, decorator, decorator_place, param, function_body, fn_trailing_parts, fn_trailing, function_head, declaration_head, method_head, static_head, decorator_lines, method_body, method_tail_parts, method_tail, private_tail, function}
 use Rattle.swc_ecma_codegen.specs.Lists.{child_of, in_order, unsupported}
-use Rattle.swc_ecma_codegen.specs.Parts.{stmt_part}
+use Rattle.swc_ecma_codegen.specs.Parts.{expr_part, stmt_part}
+use Rattle.swc_ecma_codegen.specs.Stmts.{stmt}
 use Rattle.swc_ecma_codegen.specs.Tree.{node_items}
-use Rattle.swc_ecma_codegen.proofs.PatKnots.{children_mapped}
+use Rattle.swc_ecma_codegen.proofs.PatKnots.{children_mapped, pat_mapped}
+use Rattle.swc_ecma_codegen.proofs.StmtKnots.{stmt_child_mapped}
 
 -- ---- functions
 
@@ -37,16 +41,19 @@ use Rattle.swc_ecma_codegen.proofs.PatKnots.{children_mapped}
 abbrev pub param_child : Span → List ListChild → Part → ListChild
 param_child span ds pat = record { place = span; part = λ rest. leading_comments span.lo (start_of span (list decorators_format span ds (pat (end_of span rest)))) }
 
+pub param_same : (span : Span) (cs ds : List ListChild) (p q : Part) → cs ≡ ds → ((rest : Plan) → p rest ≡ q rest) → param_child span cs p ≡ param_child span ds q
+param_same span cs ds p q e h = ap (λ z. param_child span z p) e ∙ ap (param_child span ds) (λ i. λ rest. h rest i)
+
 pub either_same : {A : Type 0} (b c : Bool) (r p q : A) → b ≡ c → p ≡ q → cond b r p ≡ cond c r q
 either_same b c r p q e h = ap (λ z. cond z r p) e ∙ ap (λ z. cond c r z) h
 
 abbrev with_parts : {X : Type 0} → functions.Function X → Option (BlockStmtBox X) → Option (TsTypeParamDeclBox X) → Option (TsTypeAnnBox X) → functions.Function X
 with_parts n body type_params return_type = record n { body = body; type_params = type_params; return_type = return_type }
 
-trailing_mapped : {X Y : Type 0} (g : X → Y) (asks : Y → Answers) (items : Y → Place → Part) (b : Box (functions.Function X) Global) (n : functions.Function X) (body : Option (BlockStmtBox X)) (type_params : Option (TsTypeParamDeclBox X)) (return_type : Option (TsTypeAnnBox X)) (rest : Plan) → node_items asks items (map-AnyNode X Y g (nodes.StmtPart (stmt_parts.Function (record b { value = with_parts n body type_params return_type })))) Plain rest ≡ fn_trailing (λ x. items (g x)) (with_parts n body type_params return_type) rest
-unfolding node_items stmt_part function fn_trailing fn_trailing_parts function_body param decorator unsupported refuse
-trailing_mapped {X} {Y} g asks items b n None None None rest = either_same _ _ _ _ _ (some_mapped _ n.decorators.items) (ap (λ z. punct (codes "(") z) (children_mapped {A = Param X} _ _ _ (λ p. ap (λ ds. param_child p.span ds (items (g p.pat.node.value) Plain)) (list_mapped {A = Decorator X} _ _ (child_of decorator_place (λ d place. decorator (λ x. items (g x)) d)) (λ d. refl) p.decorators.items)) comma_list_format n.span n.params.items _))
-trailing_mapped {X} {Y} g asks items b n (Some body) None None rest = either_same _ _ _ _ _ (some_mapped _ n.decorators.items) (ap (λ z. punct (codes "(") z) (children_mapped {A = Param X} _ _ _ (λ p. ap (λ ds. param_child p.span ds (items (g p.pat.node.value) Plain)) (list_mapped {A = Decorator X} _ _ (child_of decorator_place (λ d place. decorator (λ x. items (g x)) d)) (λ d. refl) p.decorators.items)) comma_list_format n.span n.params.items _))
+trailing_mapped : {X Y : Type 0} (g : X → Y) (asks : Y → Answers) (items : Y → Place → Part) (b : Box (functions.Function X) Global) (n : functions.Function X) (body : Option (BlockStmtBox X)) (type_params : Option (TsTypeParamDeclBox X)) (return_type : Option (TsTypeAnnBox X)) (rest : Plan) → node_items asks items (map-AnyNode X Y g (nodes.StmtPart (stmt_parts.Function (record b { value = with_parts n body type_params return_type })))) Plain rest ≡ fn_trailing (λ x. asks (g x)) (λ x. items (g x)) (with_parts n body type_params return_type) rest
+unfolding node_items expr_part stmt_part function fn_trailing fn_trailing_parts function_body param decorator unsupported refuse
+trailing_mapped {X} {Y} g asks items b n None None None rest = either_same _ _ _ _ _ (some_mapped _ n.decorators.items) (ap (λ z. punct (codes "(") z) (children_mapped {A = Param X} _ _ _ (λ p. param_same p.span _ _ _ _ (list_mapped {A = Decorator X} _ _ (child_of decorator_place (λ d place. decorator (λ x. items (g x)) d)) (λ d. refl) p.decorators.items) (pat_mapped g asks items p.pat Plain)) comma_list_format n.span n.params.items _))
+trailing_mapped {X} {Y} g asks items b n (Some body) None None rest = either_same _ _ _ _ _ (some_mapped _ n.decorators.items) (ap (λ z. punct (codes "(") z) (children_mapped {A = Param X} _ _ _ (λ p. param_same p.span _ _ _ _ (list_mapped {A = Decorator X} _ _ (child_of decorator_place (λ d place. decorator (λ x. items (g x)) d)) (λ d. refl) p.decorators.items) (pat_mapped g asks items p.pat Plain)) comma_list_format n.span n.params.items _))
 trailing_mapped g asks items b n None None (Some t) rest = refl
 trailing_mapped g asks items b n None (Some p) t rest = refl
 trailing_mapped g asks items b n (Some body) None (Some t) rest = refl
@@ -60,19 +67,19 @@ in_order_mapped g e d same (x ∷ xs) rest = ap (λ part. part (in_order e (map 
 pub decorators_mapped : {X Y : Type 0} (g : Decorator X → Decorator Y) (items : Y → Place → Part) (put : X → Place → Part) → ((n : Decorator X) → decorator items (g n) ≡ decorator put n) → (ns : List (Decorator X)) (rest : Plan) → decorator_lines items (map g ns) rest ≡ decorator_lines put ns rest
 decorators_mapped g items put same ns rest = in_order_mapped g (decorator items) (decorator put) same ns rest
 
-tail_mapped : {X Y : Type 0} (g : X → Y) (asks : Y → Answers) (items : Y → Place → Part) (b : Box (functions.Function X) Global) (n : functions.Function X) (body : Option (BlockStmtBox X)) (type_params : Option (TsTypeParamDeclBox X)) (return_type : Option (TsTypeAnnBox X)) (rest : Plan) → node_items asks items (map-AnyNode X Y g (nodes.StmtPart (stmt_parts.Function (record b { value = with_parts n body type_params return_type })))) MethodTail rest ≡ method_tail (λ x. items (g x)) (with_parts n body type_params return_type) rest
-unfolding node_items stmt_part function method_tail method_tail_parts method_body param decorator unsupported refuse
-tail_mapped {X} {Y} g asks items b n None None None rest = ap (λ z. punct (codes "(") z) (children_mapped {A = Param X} _ _ _ (λ p. ap (λ ds. param_child p.span ds (items (g p.pat.node.value) Plain)) (list_mapped {A = Decorator X} _ _ (child_of decorator_place (λ d place. decorator (λ x. items (g x)) d)) (λ d. refl) p.decorators.items)) comma_list_format n.span n.params.items _)
-tail_mapped {X} {Y} g asks items b n (Some body) None None rest = ap (λ z. punct (codes "(") z) (children_mapped {A = Param X} _ _ _ (λ p. ap (λ ds. param_child p.span ds (items (g p.pat.node.value) Plain)) (list_mapped {A = Decorator X} _ _ (child_of decorator_place (λ d place. decorator (λ x. items (g x)) d)) (λ d. refl) p.decorators.items)) comma_list_format n.span n.params.items _)
+tail_mapped : {X Y : Type 0} (g : X → Y) (asks : Y → Answers) (items : Y → Place → Part) (b : Box (functions.Function X) Global) (n : functions.Function X) (body : Option (BlockStmtBox X)) (type_params : Option (TsTypeParamDeclBox X)) (return_type : Option (TsTypeAnnBox X)) (rest : Plan) → node_items asks items (map-AnyNode X Y g (nodes.StmtPart (stmt_parts.Function (record b { value = with_parts n body type_params return_type })))) MethodTail rest ≡ method_tail (λ x. asks (g x)) (λ x. items (g x)) (with_parts n body type_params return_type) rest
+unfolding node_items expr_part stmt_part function method_tail method_tail_parts method_body param decorator unsupported refuse
+tail_mapped {X} {Y} g asks items b n None None None rest = ap (λ z. punct (codes "(") z) (children_mapped {A = Param X} _ _ _ (λ p. param_same p.span _ _ _ _ (list_mapped {A = Decorator X} _ _ (child_of decorator_place (λ d place. decorator (λ x. items (g x)) d)) (λ d. refl) p.decorators.items) (pat_mapped g asks items p.pat Plain)) comma_list_format n.span n.params.items _)
+tail_mapped {X} {Y} g asks items b n (Some body) None None rest = ap (λ z. punct (codes "(") z) (children_mapped {A = Param X} _ _ _ (λ p. param_same p.span _ _ _ _ (list_mapped {A = Decorator X} _ _ (child_of decorator_place (λ d place. decorator (λ x. items (g x)) d)) (λ d. refl) p.decorators.items) (pat_mapped g asks items p.pat Plain)) comma_list_format n.span n.params.items _)
 tail_mapped g asks items b n None None (Some t) rest = refl
 tail_mapped g asks items b n None (Some p) t rest = refl
 tail_mapped g asks items b n (Some body) None (Some t) rest = refl
 tail_mapped g asks items b n (Some body) (Some p) t rest = refl
 
-private_tail_mapped : {X Y : Type 0} (g : X → Y) (asks : Y → Answers) (items : Y → Place → Part) (b : Box (functions.Function X) Global) (n : functions.Function X) (body : Option (BlockStmtBox X)) (type_params : Option (TsTypeParamDeclBox X)) (return_type : Option (TsTypeAnnBox X)) (rest : Plan) → node_items asks items (map-AnyNode X Y g (nodes.StmtPart (stmt_parts.Function (record b { value = with_parts n body type_params return_type })))) PrivateTail rest ≡ private_tail (λ x. items (g x)) (with_parts n body type_params return_type) rest
-unfolding node_items stmt_part function private_tail fn_trailing_parts function_body param decorator unsupported refuse
-private_tail_mapped {X} {Y} g asks items b n None None None rest = ap (λ z. punct (codes "(") z) (children_mapped {A = Param X} _ _ _ (λ p. ap (λ ds. param_child p.span ds (items (g p.pat.node.value) Plain)) (list_mapped {A = Decorator X} _ _ (child_of decorator_place (λ d place. decorator (λ x. items (g x)) d)) (λ d. refl) p.decorators.items)) comma_list_format n.span n.params.items _)
-private_tail_mapped {X} {Y} g asks items b n (Some body) None None rest = ap (λ z. punct (codes "(") z) (children_mapped {A = Param X} _ _ _ (λ p. ap (λ ds. param_child p.span ds (items (g p.pat.node.value) Plain)) (list_mapped {A = Decorator X} _ _ (child_of decorator_place (λ d place. decorator (λ x. items (g x)) d)) (λ d. refl) p.decorators.items)) comma_list_format n.span n.params.items _)
+private_tail_mapped : {X Y : Type 0} (g : X → Y) (asks : Y → Answers) (items : Y → Place → Part) (b : Box (functions.Function X) Global) (n : functions.Function X) (body : Option (BlockStmtBox X)) (type_params : Option (TsTypeParamDeclBox X)) (return_type : Option (TsTypeAnnBox X)) (rest : Plan) → node_items asks items (map-AnyNode X Y g (nodes.StmtPart (stmt_parts.Function (record b { value = with_parts n body type_params return_type })))) PrivateTail rest ≡ private_tail (λ x. asks (g x)) (λ x. items (g x)) (with_parts n body type_params return_type) rest
+unfolding node_items expr_part stmt_part function private_tail fn_trailing_parts function_body param decorator unsupported refuse
+private_tail_mapped {X} {Y} g asks items b n None None None rest = ap (λ z. punct (codes "(") z) (children_mapped {A = Param X} _ _ _ (λ p. param_same p.span _ _ _ _ (list_mapped {A = Decorator X} _ _ (child_of decorator_place (λ d place. decorator (λ x. items (g x)) d)) (λ d. refl) p.decorators.items) (pat_mapped g asks items p.pat Plain)) comma_list_format n.span n.params.items _)
+private_tail_mapped {X} {Y} g asks items b n (Some body) None None rest = ap (λ z. punct (codes "(") z) (children_mapped {A = Param X} _ _ _ (λ p. param_same p.span _ _ _ _ (list_mapped {A = Decorator X} _ _ (child_of decorator_place (λ d place. decorator (λ x. items (g x)) d)) (λ d. refl) p.decorators.items) (pat_mapped g asks items p.pat Plain)) comma_list_format n.span n.params.items _)
 private_tail_mapped g asks items b n None None (Some t) rest = refl
 private_tail_mapped g asks items b n None (Some p) t rest = refl
 private_tail_mapped g asks items b n (Some body) None (Some t) rest = refl
@@ -82,7 +89,7 @@ method_decorators_mapped : {X Y : Type 0} (g : X → Y) (asks : Y → Answers) (
 unfolding node_items stmt_part function decorator
 method_decorators_mapped g asks items b rest = decorators_mapped _ items (λ x. items (g x)) (λ d. refl) b.value.decorators.items rest
 
-pub function_mapped : {X Y : Type 0} (g : X → Y) (asks : Y → Answers) (items : Y → Place → Part) (b : Box (functions.Function X) Global) (place : Place) (rest : Plan) → node_items asks items (map-AnyNode X Y g (nodes.StmtPart (stmt_parts.Function b))) place rest ≡ function (λ x. items (g x)) b.value place rest
+pub function_mapped : {X Y : Type 0} (g : X → Y) (asks : Y → Answers) (items : Y → Place → Part) (b : Box (functions.Function X) Global) (place : Place) (rest : Plan) → node_items asks items (map-AnyNode X Y g (nodes.StmtPart (stmt_parts.Function b))) place rest ≡ function (λ x. asks (g x)) (λ x. items (g x)) b.value place rest
 unfolding node_items stmt_part function function_head declaration_head method_head static_head
 function_mapped g asks items b FunctionHead rest = refl
 function_mapped g asks items b MethodHead rest = refl
@@ -101,8 +108,8 @@ statements_same place n some other cs ds after e h =
     ∙ ap (λ z. leading_comments n.span.lo (block_start place n.span (punct (codes "{") (block_list other n.span z after)))) h
 
 pub block_mapped : {X Y : Type 0} (g : X → Y) (asks : Y → Answers) (items : Y → Place → Part) (n : BlockStmt X) (place : Place) (rest : Plan) → node_items asks items (map-AnyNode X Y g (nodes.StmtPart (stmt_parts.BlockStmt n))) place rest ≡ block_stmt (λ x. asks (g x)) (λ x. items (g x)) n place rest
-unfolding node_items stmt_part block_stmt
-block_mapped {X} g asks items n place rest = statements_same place n _ _ _ _ _ (some_mapped _ n.stmts.items) (list_mapped {A = StmtBox X} _ _ (child_of (λ s. (asks (g s.node.value)).place) (λ s place. items (g s.node.value) place)) (λ s. refl) n.stmts.items)
+unfolding node_items node_span stmt_part block_stmt
+block_mapped {X} g asks items n place rest = statements_same place n _ _ _ _ _ (some_mapped _ n.stmts.items) (list_mapped {A = Stmt X} _ _ (child_of (stmt_span (place_of (λ x. asks (g x)))) (λ s place. stmt (λ x. asks (g x)) (λ x. items (g x)) s)) (stmt_child_mapped g asks items) n.stmts.items)
 
 -- ---- arrow functions
 
@@ -121,13 +128,13 @@ params_of n plain cs after = parenthesis plain (codes "(") (list comma_list_form
 arrow_same : {X : Type 0} (n : ArrowExpr X) (named other : Bool) (plain bare : Bool) (cs ds : List ListChild) (after : Plan) → named ≡ other → plain ≡ bare → cs ≡ ds → head_of n named (params_of n plain cs after) ≡ head_of n other (params_of n bare ds after)
 arrow_same n named other plain bare cs ds after e k h = ap (λ z. head_of n z (params_of n plain cs after)) e ∙ ap (λ z. head_of n other (params_of n z cs after)) k ∙ ap (λ z. head_of n other (params_of n bare z after)) h
 
-arrow_mapped : {X Y : Type 0} (g : X → Y) (asks : Y → Answers) (items : Y → Place → Part) (n : ArrowExpr X) (body : BlockStmtOrExpr X) (type_params : Option (TsTypeParamDeclBox X)) (return_type : Option (TsTypeAnnBox X)) (place : Place) (rest : Plan) → node_items asks items (map-AnyNode X Y g (nodes.Expr (exprs.Arrow (record n { body = body; type_params = type_params; return_type = return_type })))) place rest ≡ expr (λ x. asks (g x)) (λ x. items (g x)) (exprs.Arrow (record n { body = body; type_params = type_params; return_type = return_type })) place rest
+arrow_mapped : {X Y : Type 0} (g : X → Y) (asks : Y → Answers) (items : Y → Place → Part) (b : Box (ArrowExpr X) Global) (n : ArrowExpr X) (body : BlockStmtOrExpr X) (type_params : Option (TsTypeParamDeclBox X)) (return_type : Option (TsTypeAnnBox X)) (place : Place) (rest : Plan) → node_items asks items (map-AnyNode X Y g (nodes.Expr (exprs.Arrow (record b { value = record n { body = body; type_params = type_params; return_type = return_type } })))) place rest ≡ expr (λ x. asks (g x)) (λ x. items (g x)) (exprs.Arrow (record b { value = record n { body = body; type_params = type_params; return_type = return_type } })) place rest
 unfolding node_items expr expr_parts expr_closed expr_span leaves_comments arrow_expr arrow_parts arrow_parameters arrow_body unsupported refuse
-arrow_mapped {X} g asks items n (bodies.BlockStmt b) None None place rest = arrow_same n _ _ _ _ _ _ _ (only_mapped _ is_name asks (λ x. asks (g x)) (λ p. refl) n.params.items) (only_mapped _ is_plain asks (λ x. asks (g x)) (λ p. refl) n.params.items) (list_mapped {A = PatBox X} _ _ (child_of (λ p. (asks (g p.node.value)).place) (λ p place. items (g p.node.value) place)) (λ p. refl) n.params.items)
-arrow_mapped {X} g asks items n (bodies.Expr b) None None place rest = arrow_same n _ _ _ _ _ _ _ (only_mapped _ is_name asks (λ x. asks (g x)) (λ p. refl) n.params.items) (only_mapped _ is_plain asks (λ x. asks (g x)) (λ p. refl) n.params.items) (list_mapped {A = PatBox X} _ _ (child_of (λ p. (asks (g p.node.value)).place) (λ p place. items (g p.node.value) place)) (λ p. refl) n.params.items)
-arrow_mapped g asks items n body None (Some t) place rest = refl
-arrow_mapped g asks items n body (Some p) None place rest = refl
-arrow_mapped g asks items n body (Some p) (Some t) place rest = refl
+arrow_mapped {X} g asks items b n (bodies.BlockStmt m) None None place rest = arrow_same n _ _ _ _ _ _ _ (only_mapped _ is_name asks (λ x. asks (g x)) (λ p. refl) n.params.items) (only_mapped _ is_plain asks (λ x. asks (g x)) (λ p. refl) n.params.items) (list_mapped {A = PatBox X} _ _ (child_of (λ p. (asks (g p.node.value)).place) (λ p place. items (g p.node.value) place)) (λ p. refl) n.params.items)
+arrow_mapped {X} g asks items b n (bodies.Expr m) None None place rest = arrow_same n _ _ _ _ _ _ _ (only_mapped _ is_name asks (λ x. asks (g x)) (λ p. refl) n.params.items) (only_mapped _ is_plain asks (λ x. asks (g x)) (λ p. refl) n.params.items) (list_mapped {A = PatBox X} _ _ (child_of (λ p. (asks (g p.node.value)).place) (λ p place. items (g p.node.value) place)) (λ p. refl) n.params.items)
+arrow_mapped g asks items b n body None (Some t) place rest = refl
+arrow_mapped g asks items b n body (Some p) None place rest = refl
+arrow_mapped g asks items b n body (Some p) (Some t) place rest = refl
 
-pub arrow_expr_mapped : {X Y : Type 0} (g : X → Y) (asks : Y → Answers) (items : Y → Place → Part) (n : ArrowExpr X) (place : Place) (rest : Plan) → node_items asks items (map-AnyNode X Y g (nodes.Expr (exprs.Arrow n))) place rest ≡ expr (λ x. asks (g x)) (λ x. items (g x)) (exprs.Arrow n) place rest
-arrow_expr_mapped g asks items n place rest = arrow_mapped g asks items n n.body n.type_params n.return_type place rest
+pub arrow_expr_mapped : {X Y : Type 0} (g : X → Y) (asks : Y → Answers) (items : Y → Place → Part) (b : Box (ArrowExpr X) Global) (place : Place) (rest : Plan) → node_items asks items (map-AnyNode X Y g (nodes.Expr (exprs.Arrow b))) place rest ≡ expr (λ x. asks (g x)) (λ x. items (g x)) (exprs.Arrow b) place rest
+arrow_expr_mapped g asks items b place rest = arrow_mapped g asks items b b.value b.value.body b.value.type_params b.value.return_type place rest

@@ -1,49 +1,32 @@
 -- What is written of functions and blocks is what it reads as.
-use Rattle.std.proofs.Common.{◌≡◌, ℕ, ◌+◌, arith, refl, sym, subst, Bool, true, false, cond, ◌||◌, ◌&&◌, is_some, List, [], ◌∷◌, map, codes, string_bytes, Option, Some, None, inl, inr}
-use Rattle.std.proofs.lemmas.Bool.{cases_Bool}
-use Rattle.swc_ecma_codegen_common.specs.declared.positions.Span.{Span}
-use Rattle.swc_ecma_codegen_tree.specs.Links.{BlockStmtBox, PatBox}
+use Rattle.std.proofs.Common.{refl, Bool, true, false, ◌||◌, is_some, List, [], map, codes, Option, Some, None}
+use Rattle.swc_ecma_codegen_tree.specs.Links.{BlockStmtBox}
 use Rattle.swc_ecma_codegen_tree.specs.declared.decls.Decorator.{Decorator}
 use Rattle.swc_ecma_codegen_tree.specs.declared.decls.Param.{Param}
 use Rattle.swc_ecma_codegen_tree.specs.declared.decls.Function as functions
-use Rattle.swc_ecma_codegen_tree.specs.declared.exprs.ClassExpr.{ClassExpr}
-use Rattle.swc_ecma_codegen_tree.specs.declared.exprs.FnExpr.{FnExpr}
-use Rattle.swc_ecma_codegen_tree.specs.declared.exprs.ArrowExpr.{ArrowExpr}
-use Rattle.swc_ecma_codegen_tree.specs.declared.exprs.BlockStmtOrExpr.{BlockStmtOrExpr}
-use Rattle.swc_ecma_codegen_tree.specs.declared.exprs.BlockStmtOrExpr.TheVariants as bodies
-use Rattle.swc_ecma_codegen_tree.specs.declared.idents.Ident.{Ident}
-use Rattle.swc_ecma_codegen_ast.specs.declared.kinds.Kind.TheVariants.{Punctuator}
-use Rattle.swc_ecma_codegen_ast.specs.declared.roles.Role.TheVariants.{Pattern, PlainParameter, Function, FunctionHead, ClassHead, ClassTail}
-use Rattle.swc_ecma_codegen_ast.specs.Tokens as lexical
-use Rattle.swc_ecma_codegen_ast.specs.Tokens.{token_of}
-use Rattle.swc_ecma_codegen_ast.specs.Phrases.{Phrase, Never, OptionalParentheses, ◌>◌, mark, word, is_possible}
+use Rattle.swc_ecma_codegen_ast.specs.Phrases.{Phrase, ◌>◌, mark, word}
 use Rattle.swc_ecma_codegen_ast.specs.Phrases as phrases
-use Rattle.swc_ecma_codegen_ast.specs.NamePhrases as names
-use Rattle.swc_ecma_codegen_ast.specs.PatPhrases as pats
 use Rattle.swc_ecma_codegen_ast.specs.ClassPhrases as classes
 use Rattle.swc_ecma_codegen_ast.specs.FunctionPhrases as lists
-use Rattle.swc_ecma_codegen_ast.specs.FunctionPhrases.{is_never, is_some_listed}
-use Rattle.swc_ecma_codegen_base.specs.Run.{Env, Part, spelling, no_part}
-use Rattle.swc_ecma_codegen_base.specs.Lists.{list, deeper}
-use Rattle.swc_ecma_codegen_base.specs.Words.{punct, space, formatting_space, line_end, position}
-use Rattle.swc_ecma_codegen_base.specs.Written.{IsMark}
-use Rattle.swc_ecma_codegen_base.proofs.Choices.{prints_bare, prints_parentheses}
-use Rattle.swc_ecma_codegen_base.proofs.Emitting.{minified_same, pretty_same}
-use Rattle.swc_ecma_codegen_base.proofs.ListLaws.{IsUndelimited, children_of, prints_list, prints_in_order, prints_one_child}
-use Rattle.swc_ecma_codegen_base.proofs.Phrased.{Prints, then, after, before, prints_nothing, prints_same, prints_keyword, prints_punct, prints_semi, prints_ident, mark_spelled, PrintsAt, prints_wider, loosened, joined_then, joined_mark, prints_joined_punct, prints_regrouped}
-use Rattle.swc_ecma_codegen_base.proofs.Printed.{with_room, within_then, deeper_within, writes_then, writes_same, writes_if, writes_nothing, writes_space, writes_formatting_space, writes_line, writes_commit, writes_position, writes_leading, writes_shallower, Fills, joined_punct_within}
+use Rattle.swc_ecma_codegen_ast.specs.FunctionPhrases.{is_some_listed}
+use Rattle.swc_ecma_codegen_base.specs.Run.{Env, Part}
+use Rattle.swc_ecma_codegen_base.specs.Words.{space, formatting_space, line_end, position}
+use Rattle.swc_ecma_codegen_base.proofs.ListLaws.{IsUndelimited, prints_list, prints_in_order}
+use Rattle.swc_ecma_codegen_base.proofs.Phrased.{Prints, then, after, before, prints_nothing, prints_keyword, prints_punct, prints_semi, PrintsAt, prints_wider, joined_then}
+use Rattle.swc_ecma_codegen_base.proofs.Printed.{writes_then, writes_if, writes_space, writes_formatting_space, writes_line, writes_position, writes_leading, Fills}
 use Rattle.swc_ecma_codegen.specs.declared.nodes.Place.{Place}
 use Rattle.swc_ecma_codegen.specs.declared.nodes.Place.TheVariants.{Plain, Body, DeclarationHead, StaticHead}
 use Rattle.swc_ecma_codegen.specs.Places.{before_name, before_method}
-use Rattle.swc_ecma_codegen.specs.ClassExprs as class_words
 use Rattle.swc_ecma_codegen.specs.Functions as words
-use Rattle.swc_ecma_codegen.specs.Functions.{decorators_format, comma_list_format, decorator_place, param_place}
-use Rattle.swc_ecma_codegen.proofs.Impossible.{refused_or, prints_impossible, never_impossible}
-use Rattle.swc_ecma_codegen.proofs.Linked.{Linked, expr_at, pat_at, block_at}
+use Rattle.swc_ecma_codegen.specs.FunctionExprs.{comma_list_format}
+use Rattle.swc_ecma_codegen.specs.Functions.{decorators_format, decorator_place, param_place}
+use Rattle.swc_ecma_codegen.proofs.Impossible.{refused_or}
+use Rattle.swc_ecma_codegen.proofs.FunctionExprParts.{star_prints}
+use Rattle.swc_ecma_codegen.proofs.Linked.{Linked, expr_at, block_at}
 use Rattle.swc_ecma_codegen.proofs.ListParts.{in_order_prints}
 use Rattle.swc_ecma_codegen.proofs.MarkWords as marks
-use Rattle.swc_ecma_codegen_base.proofs.Shapes.{open_, loose, ended, ended_if_any, closed, joined, joining_if_any}
-use Rattle.swc_ecma_codegen_text_writer.specs.Sheet.{is_ending}
+use Rattle.swc_ecma_codegen.proofs.PatParts.{pat_prints}
+use Rattle.swc_ecma_codegen_base.proofs.Shapes.{open_, loose, ended, ended_if_any, closed, joining_if_any}
 
 -- ---- parameters
 
@@ -59,13 +42,13 @@ decorator_prints l n =
 pub undelimited : IsUndelimited decorators_format
 undelimited = record { no_comma = refl; no_bar = refl; no_ampersand = refl }
 
-pub param_prints : {X : Type 0} (l : Linked X) (n : Param X) → PrintsAt closed l.env (words.param l.items n) (lists.param l.reads n)
+pub param_prints : {X : Type 0} (l : Linked X) (n : Param X) → PrintsAt closed l.env (words.param l.asks l.items n) (lists.param l.reads n)
 unfolding words.param lists.param
 param_prints l n =
     after (writes_leading l.env n.span.lo)
     (after (writes_position l.env n.span.lo)
     (then (prints_in_order l.env decorators_format n.span decorator_place (words.decorator l.items) (lists.decorator l.reads) (λ d. prints_wider loose refl (decorator_prints l d)) undelimited refl n.decorators.items)
-    (before (pat_at l n.pat) (writes_position l.env n.span.hi))))
+    (before (pat_prints l n.pat) (writes_position l.env n.span.hi))))
 
 -- ---- functions
 
@@ -74,14 +57,14 @@ unfolding words.function_body lists.function_body
 body_prints l None = prints_semi l.env
 body_prints l (Some n) = after (writes_formatting_space l.env) (block_at l n Body)
 
-trailing_prints : {X : Type 0} (l : Linked X) (n : functions.Function X) → Prints l.env (words.fn_trailing_parts l.items n) (mark (codes "(") > phrases.listed (codes ",") (map (lists.param l.reads) n.params.items) > mark (codes ")") > lists.function_body l.reads n.body)
+trailing_prints : {X : Type 0} (l : Linked X) (n : functions.Function X) → Prints l.env (words.fn_trailing_parts l.asks l.items n) (mark (codes "(") > phrases.listed (codes ",") (map (lists.param l.reads) n.params.items) > mark (codes ")") > lists.function_body l.reads n.body)
 unfolding words.fn_trailing_parts
 trailing_prints l n =
     then (prints_punct l.env (codes "(") marks.left_parenthesis)
-    (then (prints_list l.env comma_list_format n.span param_place (words.param l.items) (lists.param l.reads) (λ p. prints_wider loose refl (param_prints l p)) refl refl refl refl n.params.items)
+    (then (prints_list l.env comma_list_format n.span param_place (words.param l.asks l.items) (lists.param l.reads) (λ p. prints_wider loose refl (param_prints l p)) refl refl refl refl n.params.items)
     (then (prints_punct l.env (codes ")") marks.right_parenthesis) (body_prints l n.body)))
 
-pub fn_trailing_prints : {X : Type 0} (l : Linked X) (n : functions.Function X) → Prints l.env (words.fn_trailing l.items n) (lists.function l.reads n)
+pub fn_trailing_prints : {X : Type 0} (l : Linked X) (n : functions.Function X) → Prints l.env (words.fn_trailing l.asks l.items n) (lists.function l.reads n)
 unfolding words.fn_trailing lists.function
 fn_trailing_prints l n = refused_or (is_some n.type_params || (is_some n.return_type || is_some_listed n.decorators.items)) (trailing_prints l n)
 
@@ -89,11 +72,6 @@ async_prints : (env : Env) (wanted : Bool) → PrintsAt open_ env (words.async_w
 unfolding words.async_word lists.word_if
 async_prints env true = prints_wider open_ refl (before (prints_keyword env None (codes "async") marks.async_word) (writes_space env))
 async_prints env false = prints_nothing
-
-star_prints : (env : Env) (wanted : Bool) → PrintsAt open_ env (words.star wanted) (lists.word_if wanted (mark (codes "*")))
-unfolding words.star lists.word_if
-star_prints env true = prints_wider open_ refl (prints_punct env (codes "*") marks.star)
-star_prints env false = prints_nothing
 
 -- behind `async`, where it is so
 async_then : (env : Env) (wanted : Bool) {p : Part} {f : Phrase} → Prints env p f → Prints env (λ rest. words.async_word wanted (p rest)) (lists.after_async wanted f)
@@ -125,7 +103,7 @@ unfolding words.declaration_head lists.function_head
 declaration_head_prints env n = async_then env n.is_async (then (prints_keyword env None (codes "function") marks.function_word) (space_prints env n.is_generator))
 
 -- what stands before its name, with a blank where the function is declared
-pub head_prints : {X : Type 0} (l : Linked X) (n : functions.Function X) (place : Place) → Prints l.env (words.function l.items n (before_name place)) (lists.function_head n)
+pub head_prints : {X : Type 0} (l : Linked X) (n : functions.Function X) (place : Place) → Prints l.env (words.function l.asks l.items n (before_name place)) (lists.function_head n)
 unfolding words.function
 head_prints l n DeclarationHead = declaration_head_prints l.env n
 head_prints l n place = function_head_prints l.env n
@@ -139,7 +117,7 @@ unfolding words.static_head
 static_head_prints env starts n = after (writes_static_gap env _) (method_head_prints env n)
 
 -- of a static method, with the blank before it
-pub before_method_prints : {X : Type 0} (l : Linked X) (n : functions.Function X) (place : Place) → PrintsAt joining_if_any l.env (words.function l.items n (before_method place)) (lists.method_head n)
+pub before_method_prints : {X : Type 0} (l : Linked X) (n : functions.Function X) (place : Place) → PrintsAt joining_if_any l.env (words.function l.asks l.items n (before_method place)) (lists.method_head n)
 unfolding words.function
 before_method_prints l n (StaticHead starts) = static_head_prints l.env starts n
 before_method_prints l n place = method_head_prints l.env n
@@ -157,136 +135,17 @@ unfolding words.method_body classes.method_body
 method_body_prints l None = prints_punct l.env (codes ";") marks.semicolon
 method_body_prints l (Some n) = after (writes_formatting_space l.env) (block_at l n Plain)
 
-method_trailing_prints : {X : Type 0} (l : Linked X) (n : functions.Function X) → Prints l.env (words.method_tail_parts l.items n) (mark (codes "(") > phrases.listed (codes ",") (map (lists.param l.reads) n.params.items) > mark (codes ")") > classes.method_body l.reads n.body)
+method_trailing_prints : {X : Type 0} (l : Linked X) (n : functions.Function X) → Prints l.env (words.method_tail_parts l.asks l.items n) (mark (codes "(") > phrases.listed (codes ",") (map (lists.param l.reads) n.params.items) > mark (codes ")") > classes.method_body l.reads n.body)
 unfolding words.method_tail_parts
 method_trailing_prints l n =
     then (prints_punct l.env (codes "(") marks.left_parenthesis)
-    (then (prints_list l.env comma_list_format n.span param_place (words.param l.items) (lists.param l.reads) (λ p. prints_wider loose refl (param_prints l p)) refl refl refl refl n.params.items)
+    (then (prints_list l.env comma_list_format n.span param_place (words.param l.asks l.items) (lists.param l.reads) (λ p. prints_wider loose refl (param_prints l p)) refl refl refl refl n.params.items)
     (then (prints_punct l.env (codes ")") marks.right_parenthesis) (method_body_prints l n.body)))
 
-pub method_tail_prints : {X : Type 0} (l : Linked X) (n : functions.Function X) → Prints l.env (words.method_tail l.items n) (classes.method_tail l.reads n)
+pub method_tail_prints : {X : Type 0} (l : Linked X) (n : functions.Function X) → Prints l.env (words.method_tail l.asks l.items n) (classes.method_tail l.reads n)
 unfolding words.method_tail classes.method_tail
 method_tail_prints l n = refused_or (is_some n.type_params || is_some n.return_type) (method_trailing_prints l n)
 
-pub private_tail_prints : {X : Type 0} (l : Linked X) (n : functions.Function X) → Prints l.env (words.private_tail l.items n) (classes.private_tail l.reads n)
+pub private_tail_prints : {X : Type 0} (l : Linked X) (n : functions.Function X) → Prints l.env (words.private_tail l.asks l.items n) (classes.private_tail l.reads n)
 unfolding words.private_tail classes.private_tail
 private_tail_prints l n = refused_or (is_some n.type_params || is_some n.return_type) (trailing_prints l n)
-
-pub name_prints : {X : Type 0} (l : Linked X) (n : Option Ident) → PrintsAt open_ l.env (words.optional_name n) (lists.optional_name n)
-unfolding words.optional_name lists.optional_name names.ident
-name_prints l None = prints_nothing
-name_prints l (Some n) = prints_wider open_ refl (after (writes_space l.env) (prints_ident l.env n.span (string_bytes n.sym) n.optional l.leaves_out))
-
-pub fn_expr_prints : {X : Type 0} (l : Linked X) (n : FnExpr X) → Prints l.env (words.fn_expr l.asks l.items n) (lists.fn_expr l.reads n)
-unfolding words.fn_expr lists.fn_expr
-fn_expr_prints l n =
-    after (writes_leading l.env (l.asks n.function.node.value).place.lo)
-    (after (writes_commit l.env)
-    (after (writes_position l.env (l.asks n.function.node.value).place.lo)
-    (then (l.law n.function.node.value Plain FunctionHead)
-    (then (name_prints l n.ident) (l.law n.function.node.value Plain Function)))))
-
--- ---- arrow functions
-
-async_arrow_then : (env : Env) (wanted named : Bool) {p : Part} {f : Phrase} → Prints env p f → Prints env (λ rest. words.async_arrow wanted named (p rest)) (lists.after_async wanted f)
-unfolding words.async_arrow lists.after_async
-async_arrow_then env true named h = joined_then env None (codes "async") marks.async_word (after (writes_if env named space formatting_space [] (writes_space env) (writes_formatting_space env)) h)
-async_arrow_then env false named h = h
-
--- a parenthesis beside what isn't a name alone, and in a text that isn't minified
-pub other_parenthesis : (env : Env) (t : List ℕ) → IsMark t → Prints env (words.parenthesis false t) (mark t)
-unfolding words.parenthesis
-other_parenthesis env t w = prints_punct env t w
-
-wide_parenthesis : (env : Env) (t : List ℕ) → IsMark t → env.config.minify ≡ false → Prints env (words.parenthesis true t) (mark t)
-unfolding words.parenthesis
-wide_parenthesis env t w wide = prints_same (words.parenthesis true t) (punct t) (λ rest. pretty_same no_part (punct t) rest env wide) (prints_punct env t w)
-
-no_parenthesis : (env : Env) (t : List ℕ) → env.config.minify ≡ true → Fills env (words.parenthesis true t)
-unfolding words.parenthesis no_part
-no_parenthesis env t small = writes_same env (words.parenthesis true t) (λ rest. rest) [] (λ rest. minified_same no_part (punct t) rest env small) (writes_nothing env)
-
-abbrev params_list : {X : Type 0} → Linked X → Span → List (PatBox X) → Part
-params_list l span ns = list comma_list_format span (children_of (λ p. (l.asks p.node.value).place) (λ p. l.items p.node.value Plain) ns)
-
-params_list_prints : {X : Type 0} (l : Linked X) (span : Span) (ns : List (PatBox X)) → PrintsAt loose l.env (params_list l span ns) (phrases.listed (codes ",") (map (pats.pat_at l.reads) ns))
-params_list_prints l span ns = prints_list l.env comma_list_format span (λ p. (l.asks p.node.value).place) (λ p. l.items p.node.value Plain) (pats.pat_at l.reads) (λ n. loosened (pat_at l n)) refl refl refl refl ns
-
-params_prints : {X : Type 0} (l : Linked X) (span : Span) (ns : List (PatBox X)) → Prints l.env (λ rest. words.parenthesis false (codes "(") (params_list l span ns (words.parenthesis false (codes ")") rest))) (mark (codes "(") > phrases.listed (codes ",") (map (pats.pat_at l.reads) ns) > mark (codes ")"))
-params_prints l span ns =
-    then (other_parenthesis l.env (codes "(") marks.left_parenthesis)
-    (then (params_list_prints l span ns) (other_parenthesis l.env (codes ")") marks.right_parenthesis))
-
-only_list_prints : {X : Type 0} (l : Linked X) (span : Span) (n : PatBox X) → Prints l.env (params_list l span (n ∷ [])) (pats.pat_at l.reads n)
-only_list_prints l span n = prints_one_child l.env comma_list_format span (λ p. (l.asks p.node.value).place) (λ p. l.items p.node.value Plain) n (pat_at l n) refl refl refl refl refl
-
-abbrev only_part : {X : Type 0} → Linked X → Bool → Span → PatBox X → Part
-only_part l plain span n rest = words.parenthesis plain (codes "(") (params_list l span (n ∷ []) (words.parenthesis plain (codes ")") rest))
-
--- `(a)`, and minified `a`
-plain_prints : {X : Type 0} (l : Linked X) (span : Span) (n : PatBox X) → Prints l.env (only_part l true span n) (OptionalParentheses (pats.pat_at l.reads n))
-plain_prints l span n = elim (cases_Bool l.env.config.minify) [
-  | inl small ↦ prints_bare (after (no_parenthesis l.env (codes "(") small) (before (only_list_prints l span n) (no_parenthesis l.env (codes ")") small)))
-  | inr wide ↦ prints_parentheses (then (wide_parenthesis l.env (codes "(") marks.left_parenthesis wide) (then (only_list_prints l span n) (wide_parenthesis l.env (codes ")") marks.right_parenthesis wide)))
-]
-
--- where the pattern is none, no tree is written so
-plain_or_never : {X : Type 0} (l : Linked X) (span : Span) (n : PatBox X) (never : Bool) → is_never (pats.pat_at l.reads n) ≡ never → Prints l.env (only_part l true span n) (cond never (mark (codes "(") > pats.pat_at l.reads n > mark (codes ")")) (OptionalParentheses (pats.pat_at l.reads n)))
-unfolding is_possible
-plain_or_never l span n true h = prints_impossible (Rattle.std.proofs.Common.ap (λ b. true && (b && true)) (never_impossible (pats.pat_at l.reads n) h))
-plain_or_never l span n false h = plain_prints l span n
-
-only_prints : {X : Type 0} (l : Linked X) (span : Span) (n : PatBox X) (plain : Bool) → l.reads n.node.value PlainParameter ≡ cond plain (l.reads n.node.value Pattern) Never → Prints l.env (only_part l plain span n) (lists.only_parameter l.reads n)
-unfolding lists.only_parameter is_never
-only_prints l span n true e =
-    let P : Phrase → Type 0 = λ z. Prints l.env (only_part l true span n) (cond (is_never z) (mark (codes "(") > pats.pat_at l.reads n > mark (codes ")")) (OptionalParentheses (pats.pat_at l.reads n))) in
-    subst P (sym e) (plain_or_never l span n (is_never (pats.pat_at l.reads n)) refl)
-only_prints l span n false e =
-    let P : Phrase → Type 0 = λ z. Prints l.env (only_part l false span n) (cond (is_never z) (mark (codes "(") > pats.pat_at l.reads n > mark (codes ")")) (OptionalParentheses (pats.pat_at l.reads n))) in
-    subst P (sym e) (then (other_parenthesis l.env (codes "(") marks.left_parenthesis) (then (only_list_prints l span n) (other_parenthesis l.env (codes ")") marks.right_parenthesis)))
-
-arrow_params_prints : {X : Type 0} (l : Linked X) (span : Span) (ns : List (PatBox X)) → Prints l.env (λ rest. words.parenthesis (words.is_only words.is_plain l.asks ns) (codes "(") (params_list l span ns (words.parenthesis (words.is_only words.is_plain l.asks ns) (codes ")") rest))) (lists.arrow_parameters l.reads ns)
-unfolding words.is_only lists.arrow_parameters
-arrow_params_prints l span [] = params_prints l span []
-arrow_params_prints l span (n ∷ []) = only_prints l span n (words.is_plain (l.asks n.node.value).pattern) (l.plain n.node.value)
-arrow_params_prints l span (n ∷ m ∷ ns) = params_prints l span (n ∷ m ∷ ns)
-
-arrow_ends_nothing : is_ending (codes "=>") ≡ false
-unfolding is_ending
-arrow_ends_nothing = refl
-
--- a level comes with the mark before it
-arrow_deeper : (env : Env) → PrintsAt joined env (λ rest. punct (codes "=>") (deeper rest)) (phrases.same_line > mark (codes "=>"))
-arrow_deeper env =
-    let t : List ℕ = codes "=>" in
-    let x : lexical.Token = token_of Punctuator (spelling Punctuator t) in
-    joined_mark env (λ rest. punct t (deeper rest)) t
-    (with_room (0 + 1) 2 (omega arith) (within_then env (punct t) deeper (lexical.same_line ∷ x ∷ []) [] (joined_punct_within env t arrow_ends_nothing (mark_spelled t marks.arrow) marks.arrow.ascii) (deeper_within env)))
-
-arrow_body_prints : {X : Type 0} (l : Linked X) (n : BlockStmtOrExpr X) → PrintsAt joined l.env (λ rest. punct (codes "=>") (words.arrow_body l.items n rest)) (phrases.same_line > mark (codes "=>") > lists.arrow_body l.reads n)
-unfolding words.arrow_body lists.arrow_body
-arrow_body_prints l (bodies.BlockStmt n) = prints_regrouped (then (prints_joined_punct l.env (codes "=>") arrow_ends_nothing marks.arrow) (block_at l n Body))
-arrow_body_prints l (bodies.Expr n) = prints_regrouped (then (arrow_deeper l.env) (before (expr_at l n Plain) (writes_shallower l.env)))
-
-arrow_parts_prints : {X : Type 0} (l : Linked X) (n : ArrowExpr X) → Prints l.env (words.arrow_parts l.asks l.items n) (lists.after_async n.is_async (lists.word_if n.is_generator (mark (codes "*")) > lists.arrow_parameters l.reads n.params.items > phrases.same_line > mark (codes "=>") > lists.arrow_body l.reads n.body))
-unfolding words.arrow_parts words.arrow_parameters
-arrow_parts_prints l n =
-    after (writes_leading l.env n.span.lo)
-    (after (writes_position l.env n.span.lo)
-    (async_arrow_then l.env n.is_async (words.is_only words.is_name l.asks n.params.items)
-    (then (star_prints l.env n.is_generator)
-    (then (arrow_params_prints l n.span n.params.items) (arrow_body_prints l n.body)))))
-
-pub arrow_expr_prints : {X : Type 0} (l : Linked X) (n : ArrowExpr X) → Prints l.env (words.arrow_expr l.asks l.items n) (lists.arrow_expr l.reads n)
-unfolding words.arrow_expr lists.arrow_expr
-arrow_expr_prints l n = refused_or (is_some n.type_params || is_some n.return_type) (arrow_parts_prints l n)
-
--- ---- classes in expressions
-
-pub class_expr_prints : {X : Type 0} (l : Linked X) (n : ClassExpr X) → Prints l.env (class_words.class_expr l.asks l.items n) (classes.class_expr l.reads n)
-unfolding class_words.class_expr classes.class_expr
-class_expr_prints l n =
-    after (writes_leading l.env (l.asks n.class.node.value).place.lo)
-    (after (writes_position l.env (l.asks n.class.node.value).place.lo)
-    (then (l.law n.class.node.value Plain ClassHead)
-    (then (prints_keyword l.env None (codes "class") marks.class_word) (then (name_prints l n.ident) (l.law n.class.node.value Plain ClassTail)))))

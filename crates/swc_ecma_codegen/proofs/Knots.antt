@@ -33,11 +33,11 @@ use Rattle.swc_ecma_codegen_spans.specs.Spans.{expr_span, fn_expr_span, class_ex
 use Rattle.swc_ecma_codegen_base.specs.Run.{Plan, Part, refuse}
 use Rattle.swc_ecma_codegen_base.specs.Words.{trailing_comments}
 use Rattle.swc_ecma_codegen.specs.declared.nodes.Place.{Place}
-use Rattle.swc_ecma_codegen.specs.declared.nodes.Place.TheVariants.{Chain}
+use Rattle.swc_ecma_codegen.specs.declared.nodes.Place.TheVariants.{Plain, Chain}
 use Rattle.swc_ecma_codegen.specs.Answers.{Answers, any_answers}
 use Rattle.swc_ecma_codegen.specs.Lists.{comma, listed, unsupported}
-use Rattle.swc_ecma_codegen.specs.Exprs.{this, unary, update, update_parts, bin, bin_trailing, member, member_at, member_prop, object_place, computed_prop_name, super_prop, super_prop_expr, chain_mark, chain_prop, chain_member, chain_base, opt_chain, meta_prop_expr, assign, yield_arg, yield_expr, await_expr, choice, seq, held, paren, ident, opened, expr_parts, expr_closed, leaves_comments, expr}
-use Rattle.swc_ecma_codegen.specs.Functions.{fn_expr, optional_name}
+use Rattle.swc_ecma_codegen.specs.Exprs.{this, unary, update, update_parts, bin, bin_operator, bin_trailing, member, member_at, member_prop, object_place, computed_prop_name, super_prop, super_prop_expr, chain_mark, chain_prop, chain_member, chain_base, opt_chain, meta_prop_expr, assign, yield_arg, yield_expr, await_expr, choice, seq, held, paren, ident, opened, expr_parts, expr_closed, leaves_comments, expr}
+use Rattle.swc_ecma_codegen.specs.FunctionExprs.{fn_expr, optional_name}
 use Rattle.swc_ecma_codegen.specs.ClassExprs.{class_expr}
 use Rattle.swc_ecma_codegen.specs.Names.{binding_ident}
 use Rattle.swc_ecma_codegen.specs.Targets.{simple_assign_target, assign_target}
@@ -45,12 +45,12 @@ use Rattle.swc_ecma_codegen.specs.Parts.{expr_part, stmt_part}
 use Rattle.swc_ecma_codegen.specs.Stmts.{stmt}
 use Rattle.swc_ecma_codegen.specs.Tree.{node_items, any_items}
 use Rattle.swc_ecma_codegen.proofs.DeclKnots.{decl_mapped, var_decl_mapped}
-use Rattle.swc_ecma_codegen.proofs.ModuleKnots.{module_item_mapped, module_decl_mapped}
+use Rattle.swc_ecma_codegen.proofs.ModuleKnots.{module_decl_mapped}
 use Rattle.swc_ecma_codegen.proofs.ClassKnots.{class_mapped, class_member_mapped}
 use Rattle.swc_ecma_codegen.proofs.StmtKnots.{stmt_mapped}
 use Rattle.swc_ecma_codegen.proofs.FunctionKnots.{function_mapped, block_mapped, arrow_expr_mapped}
 use Rattle.swc_ecma_codegen.proofs.PatKnots.{pat_mapped, target_pat_mapped}
-use Rattle.swc_ecma_codegen.proofs.PropKnots.{prop_name_mapped, prop_mapped, object_lit_mapped}
+use Rattle.swc_ecma_codegen.proofs.PropKnots.{prop_name_mapped, object_lit_mapped}
 use Rattle.swc_ecma_codegen.proofs.TemplateKnots.{tpl_mapped, tagged_tpl_mapped}
 use Rattle.swc_ecma_codegen.proofs.CallKnots.{array_lit_mapped, call_mapped, new_mapped, chain_call_mapped}
 
@@ -89,11 +89,12 @@ yield_mapped g asks items n None place rest = refl
 yield_mapped g asks items n (Some x) place rest = refl
 
 expr_mapped : {X Y : Type 0} (g : X → Y) (asks : Y → Answers) (items : Y → Place → Part) (n : Expr X) (place : Place) (rest : Plan) → node_items asks items (map-AnyNode X Y g (nodes.Expr n)) place rest ≡ expr (λ x. asks (g x)) (λ x. items (g x)) n place rest
-unfolding node_items expr expr_parts expr_closed expr_span fn_expr_span class_expr_span leaves_comments unsupported refuse fn_expr class_expr optional_name this unary update update_parts bin bin_trailing assign meta_prop_expr await_expr choice seq paren ident
+unfolding node_items expr expr_parts expr_closed expr_span fn_expr_span class_expr_span leaves_comments member_at unsupported refuse fn_expr class_expr optional_name this unary update update_parts bin bin_operator bin_trailing assign meta_prop_expr await_expr choice seq paren ident
 expr_mapped {X} g asks items (exprs.Seq n) place rest = ap (opened n.span) (listed_mapped {A = ExprBox X} _ (held items) (held (λ x. items (g x))) (λ x. refl) true n.exprs.items (trailing_comments true n.span.hi rest))
 expr_mapped g asks items (exprs.Array n) place rest = array_lit_mapped g asks items n place rest
 expr_mapped g asks items (exprs.Call n) place rest = call_mapped g asks items n place rest
 expr_mapped g asks items (exprs.New n) place rest = new_mapped g asks items n place rest
+expr_mapped g asks items (exprs.Member n) place rest = member_mapped g asks items n.span n.obj n.prop Plain (trailing_comments true n.span.hi rest)
 expr_mapped g asks items (exprs.SuperProp n) place rest = super_mapped g asks items n n.prop place rest
 expr_mapped g asks items (exprs.OptChain n) place rest = chain_mapped g asks items n n.base place rest
 expr_mapped g asks items (exprs.Yield n) place rest = yield_mapped g asks items n n.arg place rest
@@ -121,8 +122,9 @@ chain_target_mapped g asks items n (chain_bases.Member b) place rest = refl
 chain_target_mapped g asks items n (chain_bases.Call b) place rest = refl
 
 simple_target_mapped : {X Y : Type 0} (g : X → Y) (asks : Y → Answers) (items : Y → Place → Part) (n : SimpleAssignTarget X) (place : Place) (rest : Plan) → node_items asks items (map-AnyNode X Y g (as_target n)) place rest ≡ simple_assign_target (λ x. items (g x)) n rest
-unfolding node_items expr_part assign_target simple_assign_target paren unsupported refuse
+unfolding node_items expr_part assign_target simple_assign_target member_at paren unsupported refuse
 simple_target_mapped g asks items (simple_targets.Ident n) place rest = binding_target_mapped g asks items n.id n.type_ann place rest
+simple_target_mapped g asks items (simple_targets.Member n) place rest = member_mapped g asks items n.span n.obj n.prop Plain rest
 simple_target_mapped g asks items (simple_targets.SuperProp n) place rest = super_target_mapped g asks items n n.prop place rest
 simple_target_mapped g asks items (simple_targets.OptChain n) place rest = chain_target_mapped g asks items n n.base place rest
 simple_target_mapped g asks items n place rest = refl
@@ -137,7 +139,6 @@ unfolding node_items expr_part unsupported refuse
 part_mapped g asks items (expr_parts.Pat n) place rest = pat_mapped g asks items n place rest
 part_mapped g asks items (expr_parts.ObjectLit n) place rest = object_lit_mapped g asks items n place rest
 part_mapped g asks items (expr_parts.PropName n) place rest = prop_name_mapped g asks items n place rest
-part_mapped g asks items (expr_parts.Prop n) place rest = prop_mapped g asks items n place rest
 part_mapped g asks items (expr_parts.Tpl n) place rest = tpl_mapped g asks items n place rest
 part_mapped g asks items (expr_parts.OptCall n) place rest = chain_call_mapped g asks items n place rest
 part_mapped g asks items (expr_parts.AssignTarget n) place rest = target_mapped g asks items n place rest
@@ -150,7 +151,6 @@ stmt_part_mapped g asks items (stmt_parts.ClassMember n) place rest = class_memb
 stmt_part_mapped g asks items (stmt_parts.BlockStmt n) place rest = block_mapped g asks items n place rest
 stmt_part_mapped g asks items (stmt_parts.Decl n) place rest = decl_mapped g asks items n place rest
 stmt_part_mapped g asks items (stmt_parts.VarDecl n) place rest = var_decl_mapped g asks items n place rest
-stmt_part_mapped g asks items (stmt_parts.ModuleItem n) place rest = module_item_mapped g asks items n place rest
 stmt_part_mapped g asks items (stmt_parts.ModuleDecl n) place rest = module_decl_mapped g asks items n place rest
 
 node_mapped : {X Y : Type 0} (g : X → Y) (asks : Y → Answers) (items : Y → Place → Part) (n : AnyNode-F X) (place : Place) (rest : Plan) → node_items asks items (map-AnyNode X Y g n) place rest ≡ node_items (λ x. asks (g x)) (λ x. items (g x)) n place rest

@@ -6,7 +6,7 @@ use Rattle.swc_ecma_codegen_ast.specs.ListFormats.{multi_line, preserves_lines, 
 use Rattle.swc_ecma_codegen_ast.specs.SourceLines.{Lines}
 use Rattle.swc_ecma_codegen_base.specs.Run.{Plan, Part}
 use Rattle.swc_ecma_codegen_base.specs.Words.{trailing_comments}
-use Rattle.swc_ecma_codegen_base.specs.Lists.{ListChild, by_lines, child_comments, trailing_comma, closing, first_child_after, first_child, next_child_after, next_child, more_children, last_place, list_closing, list}
+use Rattle.swc_ecma_codegen_base.specs.Lists.{by_lines, child_comments, trailing_comma, closing, first_child_after, first_child, next_child_after, next_child, more_children, last_place, list_closing, list}
 use Rattle.swc_ecma_codegen.specs.declared.nodes.Place.{Place}
 use Rattle.swc_ecma_codegen.specs.declared.nodes.Place.TheVariants.{Plain}
 use Rattle.swc_ecma_codegen.specs.Lists.{child_at, child_of, asked_place}

@@ -144,10 +144,10 @@ for_prints l n =
     (then (value_prints l n.update)
     (then (prints_punct l.env (codes ")") marks.right_parenthesis) (stmt_at l n.body))))))))
 
-head_prints : {X : Type 0} (l : Linked X) (n : ForHead X) → PrintsAt ended l.env (words.for_head l.items n) (lists.for_head l.reads n)
+head_prints : {X : Type 0} (l : Linked X) (n : ForHead X) → PrintsAt ended l.env (words.for_head l.asks l.items n) (lists.for_head l.reads n)
 unfolding words.for_head lists.for_head
 head_prints l (heads.VarDecl n) = var_decl_at l n
-head_prints l (heads.UsingDecl n) = using_decl_prints l n
+head_prints l (heads.UsingDecl n) = using_decl_prints l n.value
 head_prints l (heads.Pat n) = prints_wider ended refl (pat_at l n)
 
 -- behind `(a of b)`

@@ -13,16 +13,14 @@ use Rattle.swc_ecma_codegen_tree.specs.declared.modules.ImportDecl.{ImportDecl}
 use Rattle.swc_ecma_codegen_tree.specs.declared.modules.NamedExport.{NamedExport}
 use Rattle.swc_ecma_codegen_tree.specs.declared.programs.ModuleDecl.{ModuleDecl}
 use Rattle.swc_ecma_codegen_tree.specs.declared.programs.ModuleDecl.TheVariants as module_decls
-use Rattle.swc_ecma_codegen_tree.specs.declared.programs.ModuleItem.{ModuleItem}
-use Rattle.swc_ecma_codegen_tree.specs.declared.programs.ModuleItem.TheVariants as module_items
-use Rattle.swc_ecma_codegen_spans.specs.Spans.{module_item_span, module_decl_span}
+use Rattle.swc_ecma_codegen_spans.specs.Spans.{module_decl_span}
 use Rattle.swc_ecma_codegen_base.specs.Run.{Plan, Part, refuse}
 use Rattle.swc_ecma_codegen.specs.declared.nodes.Place.{Place}
 use Rattle.swc_ecma_codegen.specs.Answers.{Answers}
 use Rattle.swc_ecma_codegen.specs.ClassExprs.{class_expr}
-use Rattle.swc_ecma_codegen.specs.Functions.{fn_expr, optional_name}
+use Rattle.swc_ecma_codegen.specs.FunctionExprs.{fn_expr, optional_name}
 use Rattle.swc_ecma_codegen.specs.Lists.{unsupported}
-use Rattle.swc_ecma_codegen.specs.Modules.{attributes, source_end, from_clause, import_tail, import_parts, import_decl, export_tail, export_parts, export_named, all_tail, all_parts, export_all, export_decl, default_decl, export_default_decl, export_default_expr, module_decl_by, module_decl, module_item_by, module_item}
+use Rattle.swc_ecma_codegen.specs.Modules.{attributes, source_end, from_clause, import_tail, import_parts, import_decl, export_tail, export_parts, export_named, all_tail, all_parts, export_all, export_decl, default_decl, export_default_decl, export_default_expr, module_decl_by, module_decl}
 use Rattle.swc_ecma_codegen.specs.Parts.{stmt_part}
 use Rattle.swc_ecma_codegen.specs.Tree.{node_items}
 
@@ -62,8 +60,3 @@ decl_by g asks items b n place rest = refl
 
 pub module_decl_mapped : {X Y : Type 0} (g : X → Y) (asks : Y → Answers) (items : Y → Place → Part) (b : Box (ModuleDecl X) Global) (place : Place) (rest : Plan) → node_items asks items (map-AnyNode X Y g (nodes.StmtPart (stmt_parts.ModuleDecl b))) place rest ≡ module_decl (λ x. asks (g x)) (λ x. items (g x)) b.value rest
 module_decl_mapped g asks items b place rest = decl_by g asks items b b.value place rest
-
-pub module_item_mapped : {X Y : Type 0} (g : X → Y) (asks : Y → Answers) (items : Y → Place → Part) (n : ModuleItem X) (place : Place) (rest : Plan) → node_items asks items (map-AnyNode X Y g (nodes.StmtPart (stmt_parts.ModuleItem n))) place rest ≡ module_item (λ x. asks (g x)) (λ x. items (g x)) n rest
-unfolding node_items stmt_part module_item module_item_by module_item_span
-module_item_mapped g asks items (module_items.ModuleDecl n) place rest = refl
-module_item_mapped g asks items (module_items.Stmt n) place rest = refl

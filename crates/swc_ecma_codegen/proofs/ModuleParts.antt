@@ -33,11 +33,12 @@ use Rattle.swc_ecma_codegen_tree.specs.declared.programs.ModuleItem.TheVariants 
 use Rattle.swc_ecma_codegen_spans.specs.Spans.{import_specifier_span, export_specifier_span, module_item_span, module_decl_span}
 use Rattle.swc_ecma_codegen_ast.specs.ElementPhrases.{trailing_comma}
 use Rattle.swc_ecma_codegen_ast.specs.ModulePhrases as lists
+use Rattle.swc_ecma_codegen_ast.specs.StmtPhrases as stmt_lists
 use Rattle.swc_ecma_codegen_ast.specs.NamePhrases.{ident}
 use Rattle.swc_ecma_codegen_ast.specs.Phrases as phrases
 use Rattle.swc_ecma_codegen_ast.specs.Phrases.{Phrase, Never, OptionalComma, ◌>◌, mark, word, ending, is_possible}
 use Rattle.swc_ecma_codegen_ast.specs.LitPhrases.{str_lit}
-use Rattle.swc_ecma_codegen_ast.specs.declared.roles.Role.TheVariants.{Statement, ObjectLiteral, ModuleDeclaration, ExportedHead as HeadOfExported, ExportedTail as TailOfExported}
+use Rattle.swc_ecma_codegen_ast.specs.declared.roles.Role.TheVariants.{ObjectLiteral, ModuleDeclaration, ExportedHead as HeadOfExported, ExportedTail as TailOfExported}
 use Rattle.swc_ecma_codegen_base.specs.Lists.{list}
 use Rattle.swc_ecma_codegen_base.specs.Run.{Env, Plan, Part}
 use Rattle.swc_ecma_codegen_base.specs.Words.{punct, formatting_space}
@@ -54,10 +55,11 @@ use Rattle.swc_ecma_codegen.specs.Lists.{comma, unsupported}
 use Rattle.swc_ecma_codegen.specs.Modules as words
 use Rattle.swc_ecma_codegen.specs.Templates.{bad_shape}
 use Rattle.swc_ecma_codegen.proofs.ExprParts.{ident_prints, writes_blank}
-use Rattle.swc_ecma_codegen.proofs.FunctionParts.{class_expr_prints, fn_expr_prints}
+use Rattle.swc_ecma_codegen.proofs.FunctionExprParts.{class_expr_prints, fn_expr_prints}
 use Rattle.swc_ecma_codegen.proofs.Impossible.{refused_or, if_possible, prints_impossible}
 use Rattle.swc_ecma_codegen.proofs.Linked.{Linked, expr_at}
 use Rattle.swc_ecma_codegen.proofs.MarkWords as marks
+use Rattle.swc_ecma_codegen.proofs.StmtParts.{stmt_prints}
 
 -- ---- what imports and exports share
 
@@ -423,12 +425,12 @@ module_decl_prints l n =
     after (writes_leading l.env (module_decl_span n).lo)
     (before (before (decl_by_prints l n) (writes_trailing l.env true (module_decl_span n).hi)) (writes_formatting_line l.env))
 
-item_by_prints : {X : Type 0} (l : Linked X) (n : ModuleItem X) → PrintsAt ended l.env (words.module_item_by l.items n) (lists.module_item l.reads n)
-unfolding words.module_item_by lists.module_item
+item_by_prints : {X : Type 0} (l : Linked X) (n : ModuleItem X) → PrintsAt ended l.env (words.module_item_by l.asks l.items n) (stmt_lists.module_item l.reads n)
+unfolding words.module_item_by stmt_lists.module_item
 item_by_prints l (module_items.ModuleDecl n) = l.law n.node.value Plain ModuleDeclaration
-item_by_prints l (module_items.Stmt n) = l.law n.node.value Plain Statement
+item_by_prints l (module_items.Stmt n) = stmt_prints l n
 
-pub module_item_prints : {X : Type 0} (l : Linked X) (n : ModuleItem X) → PrintsAt ended l.env (words.module_item l.asks l.items n) (lists.module_item l.reads n)
+pub module_item_prints : {X : Type 0} (l : Linked X) (n : ModuleItem X) → PrintsAt ended l.env (words.module_item l.asks l.items n) (stmt_lists.module_item l.reads n)
 unfolding words.module_item
 module_item_prints l n =
     after (writes_leading l.env (module_item_span (place_of l.asks) n).lo) (before (item_by_prints l n) (writes_trailing l.env true (module_item_span (place_of l.asks) n).hi))

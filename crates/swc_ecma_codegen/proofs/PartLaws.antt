@@ -5,7 +5,7 @@ use Rattle.swc_ecma_codegen_tree.specs.declared.parts.ExprPart.TheVariants as ex
 use Rattle.swc_ecma_codegen_tree.specs.declared.parts.StmtPart.{StmtPart}
 use Rattle.swc_ecma_codegen_tree.specs.declared.parts.StmtPart.TheVariants as stmt_parts
 use Rattle.swc_ecma_codegen_ast.specs.declared.roles.Role.{Role}
-use Rattle.swc_ecma_codegen_ast.specs.declared.roles.Role.TheVariants.{AssignmentTarget, Pattern, PlainParameter, PropertyName, PropertyDefinition, ObjectLiteral, Function, FunctionHead, MethodHead, Block, Declaration, VariableDeclaration, ChainCall, Template, TaggedTemplate, ClassHead, ClassTail, Member, MethodDecorators, MethodTail, PrivateTail, Item, ModuleDeclaration, ExportedHead, ExportedTail}
+use Rattle.swc_ecma_codegen_ast.specs.declared.roles.Role.TheVariants.{AssignmentTarget, Pattern, PlainParameter, PropertyName, ObjectLiteral, Function, FunctionHead, MethodHead, Block, Declaration, VariableDeclaration, ChainCall, Template, TaggedTemplate, ClassHead, ClassTail, Member, MethodDecorators, MethodTail, PrivateTail, ModuleDeclaration, ExportedHead, ExportedTail}
 use Rattle.swc_ecma_codegen_ast.specs.PartPhrases as lists
 use Rattle.swc_ecma_codegen_base.proofs.Phrased.{prints_never, PrintsAt}
 use Rattle.swc_ecma_codegen.specs.declared.nodes.Place.{Place}
@@ -18,9 +18,9 @@ use Rattle.swc_ecma_codegen.proofs.DeclParts.{decl_prints, exported_head_prints,
 use Rattle.swc_ecma_codegen.proofs.ClassParts.{class_head_prints, class_tail_prints, class_member_prints}
 use Rattle.swc_ecma_codegen.proofs.FunctionParts.{fn_trailing_prints, head_prints, before_method_prints, method_decorators_print, method_tail_prints, private_tail_prints}
 use Rattle.swc_ecma_codegen.proofs.Linked.{Linked, role_shape}
-use Rattle.swc_ecma_codegen.proofs.ModuleParts.{module_item_prints, module_decl_prints}
+use Rattle.swc_ecma_codegen.proofs.ModuleParts.{module_decl_prints}
 use Rattle.swc_ecma_codegen.proofs.PatParts.{pat_prints, plain_prints}
-use Rattle.swc_ecma_codegen.proofs.PropParts.{object_lit_prints, prop_name_prints, prop_prints}
+use Rattle.swc_ecma_codegen.proofs.PropParts.{object_lit_prints, prop_name_prints}
 use Rattle.swc_ecma_codegen.proofs.CallParts.{chain_call_prints}
 use Rattle.swc_ecma_codegen.proofs.TemplateParts.{tpl_prints}
 use Rattle.swc_ecma_codegen.proofs.TargetParts.{assign_target_prints}
@@ -31,7 +31,6 @@ part_prints l (expr_parts.Pat n) place Pattern = pat_prints l n
 part_prints l (expr_parts.Pat n) place PlainParameter = plain_prints l n
 part_prints l (expr_parts.ObjectLit n) place ObjectLiteral = object_lit_prints l n
 part_prints l (expr_parts.PropName n) place PropertyName = prop_name_prints l n
-part_prints l (expr_parts.Prop n) place PropertyDefinition = prop_prints l n
 part_prints l (expr_parts.OptCall n) place (ChainCall optional) = chain_call_prints l optional n
 part_prints l (expr_parts.AssignTarget n) place AssignmentTarget = assign_target_prints l n
 part_prints l (expr_parts.Tpl n) place Template = tpl_prints l false n
@@ -53,7 +52,6 @@ stmt_part_prints l (stmt_parts.BlockStmt n) place Block = block_stmt_prints l n 
 stmt_part_prints l (stmt_parts.Decl n) place Declaration = decl_prints l n.value place
 stmt_part_prints l (stmt_parts.Decl n) place ExportedHead = exported_head_prints l n.value
 stmt_part_prints l (stmt_parts.Decl n) place ExportedTail = exported_tail_prints l n.value
-stmt_part_prints l (stmt_parts.ModuleItem n) place Item = module_item_prints l n
 stmt_part_prints l (stmt_parts.ModuleDecl n) place ModuleDeclaration = module_decl_prints l n.value
 stmt_part_prints l (stmt_parts.VarDecl n) place VariableDeclaration = var_decl_prints l n
 stmt_part_prints l n place role = prints_never

@@ -25,10 +25,11 @@ use Rattle.swc_ecma_codegen_base.specs.Words.{punct}
 use Rattle.swc_ecma_codegen.specs.declared.nodes.Place.{Place}
 use Rattle.swc_ecma_codegen.specs.Answers.{Answers}
 use Rattle.swc_ecma_codegen.specs.Exprs.{opened}
-use Rattle.swc_ecma_codegen.specs.Lists.{child_of, if_some_at, unsupported}
+use Rattle.swc_ecma_codegen.specs.Lists.{child_at, child_of, if_some_at, unsupported}
 use Rattle.swc_ecma_codegen.specs.Names.{binding_ident}
 use Rattle.swc_ecma_codegen.specs.Pats.{pat_place, pat_items, initializer, array_pat_format, array_pat_parts, array_pat, rest_pat_parts, rest_pat, assign_pat, key_value_pat_prop, assign_pat_prop, object_pat_prop, object_pat_format, object_pat_parts, object_pat, pat_parts, pat, assign_target_pat}
 use Rattle.swc_ecma_codegen.specs.Parts.{expr_part}
+use Rattle.swc_ecma_codegen.specs.Patterns.{name_kind, pat_kind, part_pattern, node_pattern}
 use Rattle.swc_ecma_codegen.specs.Targets.{assign_target}
 use Rattle.swc_ecma_codegen.specs.Tree.{node_items}
 
@@ -43,6 +44,10 @@ elements_mapped : {A B : Type 0} (g : Option A → Option B) (h : A → B) (p : 
 elements_mapped g h p q i j none some same parent xs after =
     ap (λ cs. list (array_pat_format (last_is_hole (map g xs))) parent cs after) (list_mapped g (child_of (option_span p) (if_some_at i)) (child_of (option_span q) (if_some_at j)) (option_child g h p q i j none some same) xs)
     ∙ ap (λ b. list (array_pat_format b) parent (map (child_of (option_span q) (if_some_at j)) xs) after) (hole_mapped g h none some xs)
+
+-- a child, by where it stands and what is written of it
+pub child_same : (p q : Span) (a b : Part) → p ≡ q → ((rest : Plan) → a rest ≡ b rest) → child_at p a ≡ child_at q b
+child_same p q a b e h = λ i. child_at (e i) (λ rest. h rest i)
 
 pub children_mapped : {A B : Type 0} (g : A → B) (e : B → ListChild) (d : A → ListChild) → ((x : A) → e (g x) ≡ d x) → (format : ℕ) (parent : Span) (xs : List A) (after : Plan) → list format parent (map e (map g xs)) after ≡ list format parent (map d xs) after
 children_mapped g e d same format parent xs after = ap (λ cs. list format parent cs after) (list_mapped g e d same xs)
@@ -82,6 +87,17 @@ pat_mapped g asks items (pats.Object n) place rest = object_mapped g asks items 
 pat_mapped g asks items (pats.Assign n) place rest = refl
 pat_mapped g asks items (pats.Invalid n) place rest = refl
 pat_mapped g asks items (pats.Expr n) place rest = refl
+
+name_kind_mapped : {X Y : Type 0} (g : X → Y) (id : Ident) (type_ann : Option (TsTypeAnnBox X)) → node_pattern (map-AnyNode X Y g (nodes.ExprPart (expr_parts.Pat (pats.Ident (record { id = id; type_ann = type_ann }))))) ≡ pat_kind {X = X} (pats.Ident (record { id = id; type_ann = type_ann }))
+unfolding node_pattern part_pattern pat_kind name_kind
+name_kind_mapped g id None = refl
+name_kind_mapped g id (Some t) = refl
+
+-- what it begins with
+pub pat_kind_mapped : {X Y : Type 0} (g : X → Y) (n : Pat X) → node_pattern (map-AnyNode X Y g (nodes.ExprPart (expr_parts.Pat n))) ≡ pat_kind n
+unfolding node_pattern part_pattern pat_kind
+pat_kind_mapped g (pats.Ident n) = name_kind_mapped g n.id n.type_ann
+pat_kind_mapped g n = refl
 
 -- ---- what is assigned to
 

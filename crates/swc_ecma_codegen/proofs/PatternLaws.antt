@@ -21,7 +21,7 @@ use Rattle.swc_ecma_codegen_ast.specs.declared.roles.Role.TheVariants.{Pattern, 
 use Rattle.swc_ecma_codegen_ast.proofs.TreeLaws.{phrase_at}
 use Rattle.swc_ecma_codegen.specs.declared.patterns.PatternKind.TheVariants.{PlainName, Name}
 use Rattle.swc_ecma_codegen.specs.Answers.{any_answers}
-use Rattle.swc_ecma_codegen.specs.Functions.{is_plain}
+use Rattle.swc_ecma_codegen.specs.FunctionExprs.{is_plain}
 use Rattle.swc_ecma_codegen.specs.Patterns.{name_kind, pat_kind, part_pattern, node_pattern, any_pattern}
 
 pub any_pattern_of : (n : AnyNode) → any_pattern n ≡ node_pattern (out-AnyNode n)

@@ -1,21 +1,16 @@
 -- What is written of objects and their properties sees what links hold through `asks` and `items` alone.
-use Rattle.std.proofs.Common.{◌≡◌, refl, ◌∙◌, ap, List, codes, Bool, Option, Some, None}
+use Rattle.std.proofs.Common.{◌≡◌, refl, ◌∙◌, ap, List, codes, Bool}
 use Rattle.swc_ecma_codegen_tree.specs.declared.links.AnyNode.{map-AnyNode}
 use Rattle.swc_ecma_codegen_tree.specs.declared.links.AnyNode.TheOpen as nodes
-use Rattle.swc_ecma_codegen_tree.specs.Links.{BlockStmtBox, PatBox, TsTypeAnnBox}
 use Rattle.swc_ecma_codegen_tree.specs.declared.parts.ExprPart.TheVariants as expr_parts
 use Rattle.swc_ecma_codegen_tree.specs.declared.exprs.ObjectLit.{ObjectLit}
 use Rattle.swc_ecma_codegen_tree.specs.declared.exprs.PropOrSpread.{PropOrSpread}
-use Rattle.swc_ecma_codegen_tree.specs.declared.exprs.Prop.{Prop}
-use Rattle.swc_ecma_codegen_tree.specs.declared.exprs.Prop.TheVariants as props
-use Rattle.swc_ecma_codegen_tree.specs.declared.exprs.GetterProp.{GetterProp}
-use Rattle.swc_ecma_codegen_tree.specs.declared.exprs.SetterProp.{SetterProp}
 use Rattle.swc_ecma_codegen_tree.specs.declared.exprs.PropName.{PropName}
 use Rattle.swc_ecma_codegen_tree.specs.declared.exprs.PropName.TheVariants as prop_names
-use Rattle.swc_ecma_codegen_spans.specs.Spans.{prop_or_spread_span, spread_element_span}
+use Rattle.swc_ecma_codegen_spans.specs.Spans.{key_value_prop_span, assign_prop_span, method_prop_span, prop_span, prop_or_spread_span, spread_element_span}
 use Rattle.swc_ecma_codegen_ast.proofs.Mapped.{list_mapped}
 use Rattle.swc_ecma_codegen_ast.proofs.MappedFunctions.{some_mapped}
-use Rattle.swc_ecma_codegen_ast.proofs.MappedProps.{each_prop}
+use Rattle.swc_ecma_codegen_ast.proofs.MappedProps.{by_prop, each_prop}
 use Rattle.swc_ecma_codegen_base.specs.Run.{Plan, Part, refuse}
 use Rattle.swc_ecma_codegen_base.specs.Lists.{ListChild}
 use Rattle.swc_ecma_codegen_base.specs.Words.{punct}
@@ -35,31 +30,11 @@ prop_name_mapped g asks items (prop_names.Num n) place rest = refl
 prop_name_mapped g asks items (prop_names.BigInt n) place rest = refl
 prop_name_mapped g asks items (prop_names.Computed n) place rest = refl
 
-getter_mapped : {X Y : Type 0} (g : X → Y) (asks : Y → Answers) (items : Y → Place → Part) (n : GetterProp X) (type_ann : Option (TsTypeAnnBox X)) (body : Option (BlockStmtBox X)) (place : Place) (rest : Plan) → node_items asks items (map-AnyNode X Y g (nodes.ExprPart (expr_parts.Prop (props.Getter (record n { type_ann = type_ann; body = body }))))) place rest ≡ getter_prop (λ x. asks (g x)) (λ x. items (g x)) (record n { type_ann = type_ann; body = body }) rest
-unfolding node_items expr_part prop getter_prop getter_parts accessor optional_body unsupported refuse
-getter_mapped g asks items n None None place rest = refl
-getter_mapped g asks items n None (Some body) place rest = refl
-getter_mapped g asks items n (Some t) body place rest = refl
-
-setter_mapped : {X Y : Type 0} (g : X → Y) (asks : Y → Answers) (items : Y → Place → Part) (n : SetterProp X) (this_param : Option (PatBox X)) (body : Option (BlockStmtBox X)) (place : Place) (rest : Plan) → node_items asks items (map-AnyNode X Y g (nodes.ExprPart (expr_parts.Prop (props.Setter (record n { this_param = this_param; body = body }))))) place rest ≡ setter_prop (λ x. asks (g x)) (λ x. items (g x)) (record n { this_param = this_param; body = body }) rest
-unfolding node_items expr_part prop setter_prop setter_parts accessor optional_body unsupported refuse
-setter_mapped g asks items n None None place rest = refl
-setter_mapped g asks items n None (Some body) place rest = refl
-setter_mapped g asks items n (Some t) body place rest = refl
-
-pub prop_mapped : {X Y : Type 0} (g : X → Y) (asks : Y → Answers) (items : Y → Place → Part) (n : Prop X) (place : Place) (rest : Plan) → node_items asks items (map-AnyNode X Y g (nodes.ExprPart (expr_parts.Prop n))) place rest ≡ prop (λ x. asks (g x)) (λ x. items (g x)) n rest
-unfolding node_items expr_part prop key_value_prop assign_prop method_prop
-prop_mapped g asks items (props.Shorthand n) place rest = refl
-prop_mapped g asks items (props.KeyValue n) place rest = refl
-prop_mapped g asks items (props.Assign n) place rest = refl
-prop_mapped g asks items (props.Getter n) place rest = getter_mapped g asks items n n.type_ann n.body place rest
-prop_mapped g asks items (props.Setter n) place rest = setter_mapped g asks items n n.this_param n.body place rest
-prop_mapped g asks items (props.Method n) place rest = refl
-
 object_same : {X : Type 0} (n : ObjectLit X) (some other : Bool) (cs ds : List ListChild) (after : Plan) → some ≡ other → cs ≡ ds → opened n.span (punct (codes "{") (object_list some n.span cs after)) ≡ opened n.span (punct (codes "{") (object_list other n.span ds after))
 object_same n some other cs ds after e h =
     ap (λ z. opened n.span (punct (codes "{") (object_list z n.span cs after))) e ∙ ap (λ z. opened n.span (punct (codes "{") (object_list other n.span z after))) h
 
 pub object_lit_mapped : {X Y : Type 0} (g : X → Y) (asks : Y → Answers) (items : Y → Place → Part) (n : ObjectLit X) (place : Place) (rest : Plan) → node_items asks items (map-AnyNode X Y g (nodes.ExprPart (expr_parts.ObjectLit n))) place rest ≡ object_lit (λ x. asks (g x)) (λ x. items (g x)) n rest
-unfolding node_items expr_part object_lit object_children prop_or_spread prop_or_spread_span spread_element spread_element_span
-object_lit_mapped {X} g asks items n place rest = object_same n _ _ _ _ _ (some_mapped _ n.props.items) (list_mapped {A = PropOrSpread X} _ _ (child_of (prop_or_spread_span (place_of (λ x. asks (g x)))) (λ p place. prop_or_spread (λ x. asks (g x)) (λ x. items (g x)) p)) (each_prop {X = X} _ (λ m. refl) (λ m. refl)) n.props.items)
+unfolding node_items expr_part object_lit object_children prop_or_spread prop_or_spread_span spread_element spread_element_span prop prop_span key_value_prop key_value_prop_span assign_prop assign_prop_span getter_prop getter_parts setter_prop setter_parts method_prop method_prop_span accessor optional_body unsupported refuse
+object_lit_mapped {X} g asks items n place rest = object_same n _ _ _ _ _ (some_mapped _ n.props.items) (list_mapped {A = PropOrSpread X} _ _ (child_of (prop_or_spread_span (place_of (λ x. asks (g x)))) (λ p place. prop_or_spread (λ x. asks (g x)) (λ x. items (g x)) p)) (each_prop {X = X} _ (λ m. refl) (by_prop {X = X} _
+    (λ m. refl) (λ m. refl) (λ m. refl) (λ m. refl) (λ m body. refl) (λ m t body. refl) (λ m. refl) (λ m body. refl) (λ m this body. refl) (λ m. refl))) n.props.items)

@@ -21,7 +21,7 @@ use Rattle.swc_ecma_codegen_ast.specs.Phrases.{Phrase, ◌>◌, mark, word}
 use Rattle.swc_ecma_codegen_ast.specs.Phrases as phrases
 use Rattle.swc_ecma_codegen_ast.specs.PropPhrases as lists
 use Rattle.swc_ecma_codegen_ast.specs.PatPhrases as heads
-use Rattle.swc_ecma_codegen_ast.specs.declared.roles.Role.TheVariants.{PropertyDefinition, Function, MethodHead}
+use Rattle.swc_ecma_codegen_ast.specs.declared.roles.Role.TheVariants.{Function, MethodHead}
 use Rattle.swc_ecma_codegen_base.specs.Run.{Env, Part, when_minified}
 use Rattle.swc_ecma_codegen_base.specs.Lists.{list}
 use Rattle.swc_ecma_codegen_base.specs.Words.{punct, line_end, position, position_before}
@@ -49,8 +49,8 @@ pub prop_name_prints : {X : Type 0} (l : Linked X) (n : PropName X) → Prints l
 unfolding words.prop_name lists.prop_name
 prop_name_prints l (prop_names.Ident n) = prints_key l.env n.span (string_bytes n.sym) l.leaves_out
 prop_name_prints l (prop_names.Str n) = prints_str l.env n
-prop_name_prints l (prop_names.Num n) = prints_number l.env n
-prop_name_prints l (prop_names.BigInt n) = prints_big_int l.env n
+prop_name_prints l (prop_names.Num n) = prints_number l.env n.value
+prop_name_prints l (prop_names.BigInt n) = prints_big_int l.env n.value
 prop_name_prints l (prop_names.Computed n) = computed_prints l n
 
 -- ---- properties
@@ -120,7 +120,7 @@ method_prints l n =
     (then (l.law n.function.node.value Plain MethodHead)
     (then (before (prop_name_at l n.key) (writes_formatting_space l.env)) (l.law n.function.node.value Plain Function)))
 
-pub prop_prints : {X : Type 0} (l : Linked X) (n : Prop X) → Prints l.env (words.prop l.asks l.items n) (lists.prop l.reads n)
+prop_prints : {X : Type 0} (l : Linked X) (n : Prop X) → Prints l.env (words.prop l.asks l.items n) (lists.prop l.reads n)
 unfolding words.prop lists.prop
 prop_prints l (props.Shorthand n) = ident_prints l n
 prop_prints l (props.KeyValue n) = key_value_prints l n
@@ -132,7 +132,7 @@ prop_prints l (props.Method n) = method_prints l n
 prop_or_spread_prints : {X : Type 0} (l : Linked X) (n : PropOrSpread X) → Prints l.env (words.prop_or_spread l.asks l.items n) (lists.prop_or_spread l.reads n)
 unfolding words.prop_or_spread lists.prop_or_spread
 prop_or_spread_prints l (prop_or_spreads.Spread n) = spread_element_prints l n
-prop_or_spread_prints l (prop_or_spreads.Prop n) = l.law n.node.value Plain PropertyDefinition
+prop_or_spread_prints l (prop_or_spreads.Prop n) = prop_prints l n
 
 -- ---- objects
 

@@ -1,8 +1,5 @@
 -- What is written of each statement and program is what it reads as.
-use Rattle.std.proofs.Common.{ℕ, Bool, true, false, not, is_some, List, [], ◌∷◌, codes, string_bytes, refl, inl, inr, Option, Some, None}
-use Rattle.std.specs.declared.string.String.{String}
-use Rattle.std.proofs.lemmas.Bool.{cases_Bool}
-use Rattle.std.proofs.lemmas.Str.{IsUtf8-string_bytes}
+use Rattle.std.proofs.Common.{ℕ, Bool, true, false, List, [], codes, string_bytes, refl, Option, Some, None}
 use Rattle.swc_ecma_codegen_common.specs.declared.positions.Span.{Span}
 use Rattle.swc_ecma_codegen_tree.specs.Links.{BlockStmtBox, ExprBox, PatBox, StmtBox}
 use Rattle.swc_ecma_codegen_tree.specs.declared.idents.Ident.{Ident}
@@ -20,37 +17,26 @@ use Rattle.swc_ecma_codegen_tree.specs.declared.stmts.Stmt.TheVariants as stmts
 use Rattle.swc_ecma_codegen_tree.specs.declared.stmts.ThrowStmt.{ThrowStmt}
 use Rattle.swc_ecma_codegen_tree.specs.declared.stmts.TryStmt.{TryStmt}
 use Rattle.swc_ecma_codegen_tree.specs.declared.stmts.WithStmt.{WithStmt}
-use Rattle.swc_ecma_codegen_tree.specs.declared.programs.Program.{Program}
-use Rattle.swc_ecma_codegen_tree.specs.declared.programs.Program.TheVariants as program_variants
-use Rattle.swc_ecma_codegen_tree.specs.declared.programs.Module.{Module}
-use Rattle.swc_ecma_codegen_tree.specs.declared.programs.Script.{Script}
 use Rattle.swc_ecma_codegen_spans.specs.Spans.{stmt_span}
-use Rattle.swc_ecma_codegen_ast.specs.Phrases.{Phrase, ◌>◌, word}
-use Rattle.swc_ecma_codegen_ast.specs.Tokens.{Token}
+use Rattle.swc_ecma_codegen_ast.specs.Phrases.{◌>◌, word}
 use Rattle.swc_ecma_codegen_ast.specs.StmtPhrases as lists
 use Rattle.swc_ecma_codegen_ast.specs.NamePhrases as names
 use Rattle.swc_ecma_codegen_base.specs.Lists.{blank_if}
-use Rattle.swc_ecma_codegen_base.specs.Literals.{hashbang}
-use Rattle.swc_ecma_codegen_base.specs.Run.{Env, Part}
-use Rattle.swc_ecma_codegen_base.specs.Words.{formatting_space, formatting_line, commit_pending_semi, trailing_comments, semi}
+use Rattle.swc_ecma_codegen_base.specs.Run.{Env}
+use Rattle.swc_ecma_codegen_base.specs.Words.{formatting_space, formatting_line, trailing_comments, semi}
 use Rattle.swc_ecma_codegen_base.proofs.Choices.{prints_bare}
 use Rattle.swc_ecma_codegen_base.proofs.Phrased.{Prints, then, after, before, prints_nothing, prints_keyword, prints_punct, prints_semi, PrintsAt, prints_wider, joined_then, prints_ident}
-use Rattle.swc_ecma_codegen_base.proofs.Printed.{writes_then, writes_same, writes_if, writes_nothing, writes_formatting_space, writes_formatting_line, writes_commit, writes_position, writes_leading, writes_trailing, Fills, makes_wider, MakesAt, EndsLines, writes_space}
-use Rattle.swc_ecma_codegen_ast.specs.declared.roles.Role.TheVariants.{Item}
+use Rattle.swc_ecma_codegen_base.proofs.Printed.{writes_then, writes_if, writes_nothing, writes_formatting_space, writes_formatting_line, writes_commit, writes_position, writes_leading, writes_trailing, Fills, makes_wider, EndsLines, writes_space}
 use Rattle.swc_ecma_codegen.specs.declared.nodes.Place.TheVariants.{Plain, Statement}
 use Rattle.swc_ecma_codegen.specs.Answers.{place_of}
 use Rattle.swc_ecma_codegen.specs.Branches.{is_block}
 use Rattle.swc_ecma_codegen.specs.Stmts as words
-use Rattle.swc_ecma_codegen.specs.Programs as programs
-use Rattle.swc_ecma_codegen.proofs.Asked.{kept_same, committed_same}
 use Rattle.swc_ecma_codegen.proofs.ExprParts.{writes_opened, ident_prints}
 use Rattle.swc_ecma_codegen.proofs.Linked.{Linked, expr_at, stmt_at, pat_at, block_at, decl_at}
-use Rattle.swc_ecma_codegen.proofs.ListParts.{in_order_prints}
 use Rattle.swc_ecma_codegen.proofs.LoopParts.{begun, begun_joined, enclosed_then, spaced_expr, spaced_stmt, switch_prints, while_prints, do_while_prints, for_prints, for_in_prints, for_of_prints}
 use Rattle.swc_ecma_codegen.proofs.MarkWords as marks
-use Rattle.swc_ecma_codegen_base.proofs.Shapes.{Shape, open_, ended, loose, loose_at}
-use Rattle.swc_ecma_codegen_base.proofs.HashbangPrints.{prints_hashbang, placed_makes}
-use Rattle.swc_ecma_codegen.specs.Functions.{optional_name}
+use Rattle.swc_ecma_codegen_base.proofs.Shapes.{open_, ended, loose}
+use Rattle.swc_ecma_codegen.specs.FunctionExprs.{optional_name}
 use Rattle.swc_ecma_codegen_base.specs.Written.{IsWord}
 
 -- ---- statements
@@ -202,50 +188,3 @@ writes_closed env false span = writes_then env (trailing_comments true span.hi) 
 pub stmt_prints : {X : Type 0} (l : Linked X) (n : Stmt X) → PrintsAt ended l.env (words.stmt l.asks l.items n) (lists.stmt l.reads n)
 unfolding words.stmt
 stmt_prints l n = before (parts_print l n) (writes_closed l.env (is_block n) (stmt_span (place_of l.asks) n))
-
--- ---- programs
-
-writes_last_semi : (env : Env) → Fills env programs.last_semi
-writes_last_semi env = elim (cases_Bool env.config.omit_last_semi) [
-  | inl left ↦ writes_same env programs.last_semi (λ rest. rest) [] (λ rest. kept_same rest env left) (writes_nothing env)
-  | inr wanted ↦ writes_same env programs.last_semi commit_pending_semi [] (λ rest. committed_same rest env wanted) (writes_commit env)
-]
-
-writes_start_if_empty : {A : Type 0} (env : Env) (xs : List A) (span : Span) → Fills env (programs.start_if_empty xs span)
-unfolding programs.start_if_empty
-writes_start_if_empty env [] span = writes_position env span.lo
-writes_start_if_empty env (x ∷ xs) span = writes_nothing env
-
--- wherever a part may stand, it may behind that
-started_makes : {A : Type 0} {i : Shape} (env : Env) (xs : List A) (span : Span) (p : Part) (ts : List Token) {a : Bool} → MakesAt i env p ts a → MakesAt i env (λ rest. programs.start_if_empty xs span (p rest)) ts a
-unfolding programs.start_if_empty
-started_makes env [] span p ts h = placed_makes env span.lo p ts h
-started_makes env (x ∷ xs) span p ts h = h
-
-writes_program_end : (env : Env) (span : Span) → Fills env (λ rest. trailing_comments true span.hi (programs.last_semi rest))
-writes_program_end env span = writes_then env (trailing_comments true span.hi) programs.last_semi [] [] (writes_trailing env true span.hi) (writes_last_semi env)
-
--- behind a hashbang, or without one
-opened_prints : {A Z : Type 0} (env : Env) (shebang : Option (String Z)) (xs : List A) (span : Span) {p : Part} {f : Phrase} → PrintsAt loose env p f → PrintsAt (loose_at (not (is_some shebang))) env (λ rest. programs.program_start shebang xs span (p rest)) (lists.shebang shebang > f)
-unfolding programs.program_start lists.shebang
-opened_prints env None xs span h = then prints_nothing (after (writes_leading env span.lo) (after (writes_start_if_empty env xs span) h))
-opened_prints env (Some text) xs span h =
-    prints_wider (loose_at false) refl
-    (then (prints_hashbang env (string_bytes text) _ (IsUtf8-string_bytes text) (λ made. started_makes env xs span (hashbang (string_bytes text)) _ made)) (after (writes_leading env span.lo) h))
-
-pub script_prints : {X : Type 0} (l : Linked X) (n : Script X) → PrintsAt (loose_at (not (is_some n.shebang))) l.env (programs.script l.items n) (lists.script l.reads n)
-unfolding programs.script lists.script
-script_prints l n =
-    opened_prints l.env n.shebang n.body.items n.span
-    (before (prints_wider loose refl (in_order_prints l.env (programs.held l.items) (lists.stmt_at l.reads) (stmt_at l) n.body.items)) (writes_program_end l.env n.span))
-
-pub module_prints : {X : Type 0} (l : Linked X) (n : Module X) → PrintsAt (loose_at (not (is_some n.shebang))) l.env (programs.whole_module l.items n) (lists.whole_module l.reads n)
-unfolding programs.whole_module lists.whole_module
-module_prints l n =
-    opened_prints l.env n.shebang n.body.items n.span
-    (before (prints_wider loose refl (in_order_prints l.env (programs.held_item l.items) (lists.item_at l.reads) (λ x. l.law x.node.value Plain Item) n.body.items)) (writes_program_end l.env n.span))
-
-pub program_prints : {X : Type 0} (l : Linked X) (n : Program X) → PrintsAt (loose_at (not (programs.has_hashbang n))) l.env (programs.program l.items n) (lists.program l.reads n)
-unfolding programs.program programs.has_hashbang lists.program
-program_prints l (program_variants.Module n) = module_prints l n
-program_prints l (program_variants.Script n) = script_prints l n

@@ -3,20 +3,18 @@ use Rattle.swc_ecma_codegen_tree.specs.declared.pats.AssignTarget.{AssignTarget}
 use Rattle.swc_ecma_codegen_tree.specs.declared.pats.AssignTarget.TheVariants as targets
 use Rattle.swc_ecma_codegen_tree.specs.declared.pats.SimpleAssignTarget.{SimpleAssignTarget}
 use Rattle.swc_ecma_codegen_tree.specs.declared.pats.SimpleAssignTarget.TheVariants as simple_targets
-use Rattle.swc_ecma_codegen_ast.specs.declared.roles.Role.TheVariants.{MemberExpression}
 use Rattle.swc_ecma_codegen_ast.specs.AssignPhrases as lists
 use Rattle.swc_ecma_codegen_base.proofs.Phrased.{Prints, prints_never}
-use Rattle.swc_ecma_codegen.specs.declared.nodes.Place.TheVariants.{Plain}
 use Rattle.swc_ecma_codegen.specs.Targets as words
 use Rattle.swc_ecma_codegen.proofs.Linked.{Linked}
 use Rattle.swc_ecma_codegen.proofs.NameParts.{binding_ident_prints}
 use Rattle.swc_ecma_codegen.proofs.PatParts.{assign_target_pat_prints}
-use Rattle.swc_ecma_codegen.proofs.ExprParts.{super_prop_expr_prints, paren_prints, opt_chain_prints}
+use Rattle.swc_ecma_codegen.proofs.ExprParts.{member_prints, super_prop_expr_prints, paren_prints, opt_chain_prints}
 
 simple_prints : {X : Type 0} (l : Linked X) (n : SimpleAssignTarget X) → Prints l.env (words.simple_assign_target l.items n) (lists.simple_assign_target l.reads n)
 unfolding words.simple_assign_target lists.simple_assign_target
 simple_prints l (simple_targets.Ident n) = binding_ident_prints l n
-simple_prints l (simple_targets.Member n) = l.law n.node.value Plain MemberExpression
+simple_prints l (simple_targets.Member n) = member_prints l n
 simple_prints l (simple_targets.SuperProp n) = super_prop_expr_prints l n
 simple_prints l (simple_targets.Paren n) = paren_prints l n
 simple_prints l (simple_targets.OptChain n) = opt_chain_prints l n

@@ -11,7 +11,7 @@ use Rattle.swc_ecma_codegen_tree.specs.declared.programs.Module.{Module}
 use Rattle.swc_ecma_codegen_tree.specs.declared.programs.ModuleItem.{ModuleItem}
 use Rattle.swc_ecma_codegen_tree.specs.declared.programs.Script.{Script}
 use Rattle.swc_ecma_codegen_ast.specs.TreePhrases.{phrase, program_phrase}
-use Rattle.swc_ecma_codegen_ast.specs.ModulePhrases as module_lists
+use Rattle.swc_ecma_codegen_ast.specs.StmtPhrases as stmt_lists
 use Rattle.swc_ecma_codegen_util.specs.declared.config.Config.{Config}
 use Rattle.swc_ecma_codegen_util.specs.Defaults.{default_config}
 use Rattle.swc_ecma_codegen_text_writer.specs.View.{new_sheet}
@@ -40,16 +40,16 @@ part_prints n p env e same = subst (λ z. PrintsAt (root_shape n) env z (root_ph
 pub root_made : (n : Root) (p : Part) (a b : State) (r : Result (Unit {0}) Error) → p ≡ root_items n → IsPlainTree a.env.config (root_phrase n) a.sheet.indentation → IsReady a → b.sheet.faults ≡ a.sheet.faults → Follows (p nothing) a b (in_short r) → IsOk r
 root_made n p a b r same t s e h = is_ok_in_short r (plain_made p (root_phrase n) a b (in_short r) (part_prints n p a.env s.leaves_out same) t s e h)
 
-pub item_made : (n : ModuleItem AnyNode) (a b : State) (r : Result (Unit {0}) Error) → IsPlainTree a.env.config (module_lists.module_item phrase n) a.sheet.indentation → IsReady a → b.sheet.faults ≡ a.sheet.faults → Follows (module_item any_answers any_items n nothing) a b (in_short r) → IsOk r
+pub item_made : (n : ModuleItem AnyNode) (a b : State) (r : Result (Unit {0}) Error) → IsPlainTree a.env.config (stmt_lists.module_item phrase n) a.sheet.indentation → IsReady a → b.sheet.faults ≡ a.sheet.faults → Follows (module_item any_answers any_items n nothing) a b (in_short r) → IsOk r
 item_made n a b r t s e h = root_made (OfItem n) _ a b r refl t s e h
 
-pub module_made : (n : Module AnyNode) (a b : State) (r : Result (Unit {0}) Error) → IsPlainTree a.env.config (program_phrase (a_module n)) a.sheet.indentation → IsReady a → b.sheet.faults ≡ a.sheet.faults → Follows (programs.whole_module any_items n nothing) a b (in_short r) → IsOk r
+pub module_made : (n : Module AnyNode) (a b : State) (r : Result (Unit {0}) Error) → IsPlainTree a.env.config (program_phrase (a_module n)) a.sheet.indentation → IsReady a → b.sheet.faults ≡ a.sheet.faults → Follows (programs.whole_module any_answers any_items n nothing) a b (in_short r) → IsOk r
 module_made n a b r t s e h = root_made (OfModule n) _ a b r refl t s e h
 
-pub script_made : (n : Script AnyNode) (a b : State) (r : Result (Unit {0}) Error) → IsPlainTree a.env.config (program_phrase (a_script n)) a.sheet.indentation → IsReady a → b.sheet.faults ≡ a.sheet.faults → Follows (programs.script any_items n nothing) a b (in_short r) → IsOk r
+pub script_made : (n : Script AnyNode) (a b : State) (r : Result (Unit {0}) Error) → IsPlainTree a.env.config (program_phrase (a_script n)) a.sheet.indentation → IsReady a → b.sheet.faults ≡ a.sheet.faults → Follows (programs.script any_answers any_items n nothing) a b (in_short r) → IsOk r
 script_made n a b r t s e h = root_made (OfScript n) _ a b r refl t s e h
 
-pub program_made : (n : Program AnyNode) (a b : State) (r : Result (Unit {0}) Error) → IsPlainTree a.env.config (program_phrase n) a.sheet.indentation → IsReady a → b.sheet.faults ≡ a.sheet.faults → Follows (programs.program any_items n nothing) a b (in_short r) → IsOk r
+pub program_made : (n : Program AnyNode) (a b : State) (r : Result (Unit {0}) Error) → IsPlainTree a.env.config (program_phrase n) a.sheet.indentation → IsReady a → b.sheet.faults ≡ a.sheet.faults → Follows (programs.program any_answers any_items n nothing) a b (in_short r) → IsOk r
 program_made n a b r t s e h = root_made (OfProgram n) _ a b r refl t s e h
 
 -- a new emitter over a new writer

@@ -14,7 +14,6 @@ use Rattle.swc_ecma_codegen_tree.specs.declared.programs.Script.{Script}
 use Rattle.swc_ecma_codegen_ast.specs.StmtPhrases as stmt_lists
 use Rattle.swc_ecma_codegen_ast.specs.TemplatePhrases.{is_counted}
 use Rattle.swc_ecma_codegen_ast.specs.TreePhrases.{phrase, program_phrase, is_well_formed}
-use Rattle.swc_ecma_codegen_ast.specs.ModulePhrases as module_lists
 use Rattle.swc_ecma_codegen_util.specs.declared.config.Config.{Config}
 use Rattle.swc_ecma_codegen_text_writer.specs.View.{new_sheet}
 use Rattle.swc_ecma_codegen_common.specs.declared.errors.Refusal.TheVariants as refusals
@@ -46,12 +45,13 @@ use Rattle.swc_ecma_codegen.specs.Tree.{any_items}
 use Rattle.swc_ecma_codegen.specs.Roots.{Root, OfExpr, OfStmt, OfItem, OfModule, OfScript, OfProgram, OfLink, root_items, root_phrase, is_well_formed_root, root_hashbang, MayBegin}
 use Rattle.swc_ecma_codegen.proofs.ExprParts.{plain_expr_prints}
 use Rattle.swc_ecma_codegen.proofs.ModuleParts.{module_item_prints}
-use Rattle.swc_ecma_codegen.proofs.StmtParts.{stmt_prints, module_prints, script_prints, program_prints}
+use Rattle.swc_ecma_codegen.proofs.ProgramParts.{module_prints, script_prints, program_prints}
+use Rattle.swc_ecma_codegen.proofs.StmtParts.{stmt_prints}
 use Rattle.swc_ecma_codegen.proofs.TreeLaw.{prints, known}
 use Rattle.swc_ecma_codegen_base.proofs.Shapes.{Shape, unbroken, unbroken_at, loose_at, is_within}
 use Rattle.swc_ecma_codegen.proofs.Linked.{role_shape}
 use Rattle.swc_ecma_codegen_ast.specs.declared.roles.Role.{Role}
-use Rattle.swc_ecma_codegen_ast.specs.declared.roles.Role.TheVariants.{Statement, VariableDeclaration, MethodHead, MethodDecorators, ClassHead, ExportedHead, Member, Item, ModuleDeclaration}
+use Rattle.swc_ecma_codegen_ast.specs.declared.roles.Role.TheVariants.{Statement, VariableDeclaration, MethodHead, MethodDecorators, ClassHead, ExportedHead, Member, ModuleDeclaration}
 
 role_within : (role : Role) → is_within (role_shape role) unbroken ≡ true
 role_within Statement = refl
@@ -61,7 +61,6 @@ role_within MethodDecorators = refl
 role_within ClassHead = refl
 role_within ExportedHead = refl
 role_within Member = refl
-role_within Item = refl
 role_within ModuleDeclaration = refl
 role_within role = refl
 
@@ -94,16 +93,16 @@ root_reads n p a b r same w s h = on_ok_in_short _ r (printed_reads (not (root_h
 pub may_begin : (n : Root) (a : State) → root_hashbang n ≡ false → IsNew a → MayBegin n a
 may_begin n a h s = record { is_new = s; at_margin = λ e. absurd (true≢false (sym e ∙ h)) }
 
-pub item_reads : (n : ModuleItem AnyNode) (a b : State) (r : Result (Unit {0}) Error) → is_possible (module_lists.module_item phrase n) ≡ true → IsNew a → Follows (module_item any_answers any_items n nothing) a b (in_short r) → OnOk r (AddsReading a.env.config (module_lists.module_item phrase n) a.sheet b.sheet)
+pub item_reads : (n : ModuleItem AnyNode) (a b : State) (r : Result (Unit {0}) Error) → is_possible (stmt_lists.module_item phrase n) ≡ true → IsNew a → Follows (module_item any_answers any_items n nothing) a b (in_short r) → OnOk r (AddsReading a.env.config (stmt_lists.module_item phrase n) a.sheet b.sheet)
 item_reads n a b r w s h = root_reads (OfItem n) _ a b r refl w (may_begin (OfItem n) a refl s) h
 
-pub module_reads : (n : Module AnyNode) (a b : State) (r : Result (Unit {0}) Error) → is_well_formed (a_module n) ≡ true → MayBegin (OfModule n) a → Follows (programs.whole_module any_items n nothing) a b (in_short r) → OnOk r (AddsReading a.env.config (program_phrase (a_module n)) a.sheet b.sheet)
+pub module_reads : (n : Module AnyNode) (a b : State) (r : Result (Unit {0}) Error) → is_well_formed (a_module n) ≡ true → MayBegin (OfModule n) a → Follows (programs.whole_module any_answers any_items n nothing) a b (in_short r) → OnOk r (AddsReading a.env.config (program_phrase (a_module n)) a.sheet b.sheet)
 module_reads n a b r w s h = root_reads (OfModule n) _ a b r refl w s h
 
-pub script_reads : (n : Script AnyNode) (a b : State) (r : Result (Unit {0}) Error) → is_well_formed (a_script n) ≡ true → MayBegin (OfScript n) a → Follows (programs.script any_items n nothing) a b (in_short r) → OnOk r (AddsReading a.env.config (program_phrase (a_script n)) a.sheet b.sheet)
+pub script_reads : (n : Script AnyNode) (a b : State) (r : Result (Unit {0}) Error) → is_well_formed (a_script n) ≡ true → MayBegin (OfScript n) a → Follows (programs.script any_answers any_items n nothing) a b (in_short r) → OnOk r (AddsReading a.env.config (program_phrase (a_script n)) a.sheet b.sheet)
 script_reads n a b r w s h = root_reads (OfScript n) _ a b r refl w s h
 
-pub program_reads : (n : Program AnyNode) (a b : State) (r : Result (Unit {0}) Error) → is_well_formed n ≡ true → MayBegin (OfProgram n) a → Follows (programs.program any_items n nothing) a b (in_short r) → OnOk r (AddsReading a.env.config (program_phrase n) a.sheet b.sheet)
+pub program_reads : (n : Program AnyNode) (a b : State) (r : Result (Unit {0}) Error) → is_well_formed n ≡ true → MayBegin (OfProgram n) a → Follows (programs.program any_answers any_items n nothing) a b (in_short r) → OnOk r (AddsReading a.env.config (program_phrase n) a.sheet b.sheet)
 program_reads n a b r w s h = root_reads (OfProgram n) _ a b r refl w s h
 
 -- what is recorded is true
@@ -114,48 +113,48 @@ steps_recorded p a b r h = on_ok_in_short _ r (follows_records p a b (in_short r
 pub root_names : (n : Root) (p : Part) (a b : State) (r : Result (Unit {0}) Error) → p ≡ root_items n → is_well_formed_root n ≡ true → a.sheet.keeps_positions ≡ true → a.env.keeps_invalid ≡ false → Follows (p nothing) a b (in_short r) → OnOk r (RecordsNames a.env.config (names_in (root_phrase n)) a.sheet b.sheet)
 root_names n p a b r same w k e h = on_ok_in_short _ r (printed_names p (root_phrase n) a b (in_short r) (subst (λ z. PrintsAt (root_shape n) a.env z (root_phrase n)) (sym same) (root_prints a.env e n)) w k h)
 
-pub item_names : (n : ModuleItem AnyNode) (a b : State) (r : Result (Unit {0}) Error) → is_possible (module_lists.module_item phrase n) ≡ true → a.sheet.keeps_positions ≡ true → a.env.keeps_invalid ≡ false → Follows (module_item any_answers any_items n nothing) a b (in_short r) → OnOk r (RecordsNames a.env.config (names_in (module_lists.module_item phrase n)) a.sheet b.sheet)
+pub item_names : (n : ModuleItem AnyNode) (a b : State) (r : Result (Unit {0}) Error) → is_possible (stmt_lists.module_item phrase n) ≡ true → a.sheet.keeps_positions ≡ true → a.env.keeps_invalid ≡ false → Follows (module_item any_answers any_items n nothing) a b (in_short r) → OnOk r (RecordsNames a.env.config (names_in (stmt_lists.module_item phrase n)) a.sheet b.sheet)
 item_names n a b r w k e h = root_names (OfItem n) _ a b r refl w k e h
 
-pub module_names : (n : Module AnyNode) (a b : State) (r : Result (Unit {0}) Error) → is_well_formed (a_module n) ≡ true → a.sheet.keeps_positions ≡ true → a.env.keeps_invalid ≡ false → Follows (programs.whole_module any_items n nothing) a b (in_short r) → OnOk r (RecordsNames a.env.config (names_in (program_phrase (a_module n))) a.sheet b.sheet)
+pub module_names : (n : Module AnyNode) (a b : State) (r : Result (Unit {0}) Error) → is_well_formed (a_module n) ≡ true → a.sheet.keeps_positions ≡ true → a.env.keeps_invalid ≡ false → Follows (programs.whole_module any_answers any_items n nothing) a b (in_short r) → OnOk r (RecordsNames a.env.config (names_in (program_phrase (a_module n))) a.sheet b.sheet)
 module_names n a b r w k e h = root_names (OfModule n) _ a b r refl w k e h
 
-pub script_names : (n : Script AnyNode) (a b : State) (r : Result (Unit {0}) Error) → is_well_formed (a_script n) ≡ true → a.sheet.keeps_positions ≡ true → a.env.keeps_invalid ≡ false → Follows (programs.script any_items n nothing) a b (in_short r) → OnOk r (RecordsNames a.env.config (names_in (program_phrase (a_script n))) a.sheet b.sheet)
+pub script_names : (n : Script AnyNode) (a b : State) (r : Result (Unit {0}) Error) → is_well_formed (a_script n) ≡ true → a.sheet.keeps_positions ≡ true → a.env.keeps_invalid ≡ false → Follows (programs.script any_answers any_items n nothing) a b (in_short r) → OnOk r (RecordsNames a.env.config (names_in (program_phrase (a_script n))) a.sheet b.sheet)
 script_names n a b r w k e h = root_names (OfScript n) _ a b r refl w k e h
 
-pub program_names : (n : Program AnyNode) (a b : State) (r : Result (Unit {0}) Error) → is_well_formed n ≡ true → a.sheet.keeps_positions ≡ true → a.env.keeps_invalid ≡ false → Follows (programs.program any_items n nothing) a b (in_short r) → OnOk r (RecordsNames a.env.config (names_in (program_phrase n)) a.sheet b.sheet)
+pub program_names : (n : Program AnyNode) (a b : State) (r : Result (Unit {0}) Error) → is_well_formed n ≡ true → a.sheet.keeps_positions ≡ true → a.env.keeps_invalid ≡ false → Follows (programs.program any_answers any_items n nothing) a b (in_short r) → OnOk r (RecordsNames a.env.config (names_in (program_phrase n)) a.sheet b.sheet)
 program_names n a b r w k e h = root_names (OfProgram n) _ a b r refl w k e h
 
 -- under ASCII only what is added is ASCII, save what stands as it is
 pub root_ascii : (n : Root) (p : Part) (a b : State) (r : Result (Unit {0}) Error) → p ≡ root_items n → is_well_formed_root n ≡ true → WantsAscii a → keeps_other (steps_of (p nothing a.env)) ≡ false → Follows (p nothing) a b (in_short r) → OnOk r (AddsAscii a.sheet.text b.sheet.text)
 root_ascii n p a b r same w s k h = on_ok_in_short _ r (printed_ascii p (root_phrase n) a b (in_short r) (subst (λ z. PrintsAt (root_shape n) a.env z (root_phrase n)) (sym same) (root_prints a.env s.leaves_out n)) w s k h)
 
-pub item_ascii : (n : ModuleItem AnyNode) (a b : State) (r : Result (Unit {0}) Error) → is_possible (module_lists.module_item phrase n) ≡ true → WantsAscii a → keeps_other (steps_of (module_item any_answers any_items n nothing a.env)) ≡ false → Follows (module_item any_answers any_items n nothing) a b (in_short r) → OnOk r (AddsAscii a.sheet.text b.sheet.text)
+pub item_ascii : (n : ModuleItem AnyNode) (a b : State) (r : Result (Unit {0}) Error) → is_possible (stmt_lists.module_item phrase n) ≡ true → WantsAscii a → keeps_other (steps_of (module_item any_answers any_items n nothing a.env)) ≡ false → Follows (module_item any_answers any_items n nothing) a b (in_short r) → OnOk r (AddsAscii a.sheet.text b.sheet.text)
 item_ascii n a b r w s k h = root_ascii (OfItem n) _ a b r refl w s k h
 
-pub module_ascii : (n : Module AnyNode) (a b : State) (r : Result (Unit {0}) Error) → is_well_formed (a_module n) ≡ true → WantsAscii a → keeps_other (steps_of (programs.whole_module any_items n nothing a.env)) ≡ false → Follows (programs.whole_module any_items n nothing) a b (in_short r) → OnOk r (AddsAscii a.sheet.text b.sheet.text)
+pub module_ascii : (n : Module AnyNode) (a b : State) (r : Result (Unit {0}) Error) → is_well_formed (a_module n) ≡ true → WantsAscii a → keeps_other (steps_of (programs.whole_module any_answers any_items n nothing a.env)) ≡ false → Follows (programs.whole_module any_answers any_items n nothing) a b (in_short r) → OnOk r (AddsAscii a.sheet.text b.sheet.text)
 module_ascii n a b r w s k h = root_ascii (OfModule n) _ a b r refl w s k h
 
-pub script_ascii : (n : Script AnyNode) (a b : State) (r : Result (Unit {0}) Error) → is_well_formed (a_script n) ≡ true → WantsAscii a → keeps_other (steps_of (programs.script any_items n nothing a.env)) ≡ false → Follows (programs.script any_items n nothing) a b (in_short r) → OnOk r (AddsAscii a.sheet.text b.sheet.text)
+pub script_ascii : (n : Script AnyNode) (a b : State) (r : Result (Unit {0}) Error) → is_well_formed (a_script n) ≡ true → WantsAscii a → keeps_other (steps_of (programs.script any_answers any_items n nothing a.env)) ≡ false → Follows (programs.script any_answers any_items n nothing) a b (in_short r) → OnOk r (AddsAscii a.sheet.text b.sheet.text)
 script_ascii n a b r w s k h = root_ascii (OfScript n) _ a b r refl w s k h
 
-pub program_ascii : (n : Program AnyNode) (a b : State) (r : Result (Unit {0}) Error) → is_well_formed n ≡ true → WantsAscii a → keeps_other (steps_of (programs.program any_items n nothing a.env)) ≡ false → Follows (programs.program any_items n nothing) a b (in_short r) → OnOk r (AddsAscii a.sheet.text b.sheet.text)
+pub program_ascii : (n : Program AnyNode) (a b : State) (r : Result (Unit {0}) Error) → is_well_formed n ≡ true → WantsAscii a → keeps_other (steps_of (programs.program any_answers any_items n nothing a.env)) ≡ false → Follows (programs.program any_answers any_items n nothing) a b (in_short r) → OnOk r (AddsAscii a.sheet.text b.sheet.text)
 program_ascii n a b r w s k h = root_ascii (OfProgram n) _ a b r refl w s k h
 
 -- under `inline_script` each string that is printed by its value is safe inside a script
 pub root_safe : (n : Root) (p : Part) (a b : State) (r : Result (Unit {0}) Error) → p ≡ root_items n → is_well_formed_root n ≡ true → a.env.config.inline_script ≡ true → a.env.keeps_invalid ≡ false → Follows (p nothing) a b (in_short r) → OnOk r (AddsSafe (value_strings (steps_of (p nothing a.env))) a.sheet.text b.sheet.text)
 root_safe n p a b r same w i e h = on_ok_in_short _ r (printed_safe p (root_phrase n) a b (in_short r) (subst (λ z. PrintsAt (root_shape n) a.env z (root_phrase n)) (sym same) (root_prints a.env e n)) w i h)
 
-pub item_safe : (n : ModuleItem AnyNode) (a b : State) (r : Result (Unit {0}) Error) → is_possible (module_lists.module_item phrase n) ≡ true → a.env.config.inline_script ≡ true → a.env.keeps_invalid ≡ false → Follows (module_item any_answers any_items n nothing) a b (in_short r) → OnOk r (AddsSafe (value_strings (steps_of (module_item any_answers any_items n nothing a.env))) a.sheet.text b.sheet.text)
+pub item_safe : (n : ModuleItem AnyNode) (a b : State) (r : Result (Unit {0}) Error) → is_possible (stmt_lists.module_item phrase n) ≡ true → a.env.config.inline_script ≡ true → a.env.keeps_invalid ≡ false → Follows (module_item any_answers any_items n nothing) a b (in_short r) → OnOk r (AddsSafe (value_strings (steps_of (module_item any_answers any_items n nothing a.env))) a.sheet.text b.sheet.text)
 item_safe n a b r w i e h = root_safe (OfItem n) _ a b r refl w i e h
 
-pub module_safe : (n : Module AnyNode) (a b : State) (r : Result (Unit {0}) Error) → is_well_formed (a_module n) ≡ true → a.env.config.inline_script ≡ true → a.env.keeps_invalid ≡ false → Follows (programs.whole_module any_items n nothing) a b (in_short r) → OnOk r (AddsSafe (value_strings (steps_of (programs.whole_module any_items n nothing a.env))) a.sheet.text b.sheet.text)
+pub module_safe : (n : Module AnyNode) (a b : State) (r : Result (Unit {0}) Error) → is_well_formed (a_module n) ≡ true → a.env.config.inline_script ≡ true → a.env.keeps_invalid ≡ false → Follows (programs.whole_module any_answers any_items n nothing) a b (in_short r) → OnOk r (AddsSafe (value_strings (steps_of (programs.whole_module any_answers any_items n nothing a.env))) a.sheet.text b.sheet.text)
 module_safe n a b r w i e h = root_safe (OfModule n) _ a b r refl w i e h
 
-pub script_safe : (n : Script AnyNode) (a b : State) (r : Result (Unit {0}) Error) → is_well_formed (a_script n) ≡ true → a.env.config.inline_script ≡ true → a.env.keeps_invalid ≡ false → Follows (programs.script any_items n nothing) a b (in_short r) → OnOk r (AddsSafe (value_strings (steps_of (programs.script any_items n nothing a.env))) a.sheet.text b.sheet.text)
+pub script_safe : (n : Script AnyNode) (a b : State) (r : Result (Unit {0}) Error) → is_well_formed (a_script n) ≡ true → a.env.config.inline_script ≡ true → a.env.keeps_invalid ≡ false → Follows (programs.script any_answers any_items n nothing) a b (in_short r) → OnOk r (AddsSafe (value_strings (steps_of (programs.script any_answers any_items n nothing a.env))) a.sheet.text b.sheet.text)
 script_safe n a b r w i e h = root_safe (OfScript n) _ a b r refl w i e h
 
-pub program_safe : (n : Program AnyNode) (a b : State) (r : Result (Unit {0}) Error) → is_well_formed n ≡ true → a.env.config.inline_script ≡ true → a.env.keeps_invalid ≡ false → Follows (programs.program any_items n nothing) a b (in_short r) → OnOk r (AddsSafe (value_strings (steps_of (programs.program any_items n nothing a.env))) a.sheet.text b.sheet.text)
+pub program_safe : (n : Program AnyNode) (a b : State) (r : Result (Unit {0}) Error) → is_well_formed n ≡ true → a.env.config.inline_script ≡ true → a.env.keeps_invalid ≡ false → Follows (programs.program any_answers any_items n nothing) a b (in_short r) → OnOk r (AddsSafe (value_strings (steps_of (programs.program any_answers any_items n nothing a.env))) a.sheet.text b.sheet.text)
 program_safe n a b r w i e h = root_safe (OfProgram n) _ a b r refl w i e h
 
 -- no text stands as it is that isn't ASCII, where no such token is in the tree

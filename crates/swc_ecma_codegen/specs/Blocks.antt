@@ -2,15 +2,17 @@
 use Rattle.std.specs.Prelude.{ℕ, Bool, if◌then◌else◌, List, map, codes}
 use Rattle.swc_ecma_codegen_common.specs.declared.positions.Span.{Span}
 use Rattle.swc_ecma_codegen_tree.specs.declared.stmts.BlockStmt.{BlockStmt}
+use Rattle.swc_ecma_codegen_spans.specs.Spans.{stmt_span}
 use Rattle.swc_ecma_codegen_ast.specs.FunctionPhrases.{is_some_listed}
 use Rattle.swc_ecma_codegen_base.specs.Lists.{ListChild, list}
 use Rattle.swc_ecma_codegen_base.specs.Run.{Part, when_minified}
 use Rattle.swc_ecma_codegen_base.specs.Words.{punct, start_of, last_of, leading_comments}
 use Rattle.swc_ecma_codegen.specs.declared.nodes.Place.{Place}
 use Rattle.swc_ecma_codegen.specs.declared.nodes.Place.TheVariants.{Body}
-use Rattle.swc_ecma_codegen.specs.Answers.{Answers}
+use Rattle.swc_ecma_codegen.specs.Answers.{Answers, place_of}
 use Rattle.swc_ecma_codegen.specs.Exprs.{comments_before}
 use Rattle.swc_ecma_codegen.specs.Lists.{child_of}
+use Rattle.swc_ecma_codegen.specs.Stmts.{stmt}
 
 -- `MultiLineBlockStatements`, and the same without `MultiLine` and `Indented`
 abbrev pub block_format : ℕ
@@ -21,7 +23,7 @@ flat_block_format = 0
 
 -- the statements, as children of a list
 abbrev pub block_children : {X : Type 0} → (X → Answers) → (X → Place → Part) → BlockStmt X → List ListChild
-block_children asks items n = map (child_of (λ s. (asks s.node.value).place) (λ s place. items s.node.value place)) n.stmts.items
+block_children asks items n = map (child_of (stmt_span (place_of asks)) (λ s place. stmt asks items s)) n.stmts.items
 
 -- the statements, each on a line of its own where there are some
 unfoldable pub block_list : Bool → Span → List ListChild → Part

@@ -6,7 +6,7 @@ use Rattle.swc_ecma_codegen_base.specs.Words.{keyword, start_of, leading_comment
 use Rattle.swc_ecma_codegen.specs.declared.nodes.Place.{Place}
 use Rattle.swc_ecma_codegen.specs.declared.nodes.Place.TheVariants.{Plain, ClassHead}
 use Rattle.swc_ecma_codegen.specs.Answers.{Answers}
-use Rattle.swc_ecma_codegen.specs.Functions.{optional_name}
+use Rattle.swc_ecma_codegen.specs.FunctionExprs.{optional_name}
 
 -- `@a class B extends C { d; }`
 unfoldable pub class_expr : {X : Type 0} → (X → Answers) → (X → Place → Part) → ClassExpr X → Part

@@ -27,7 +27,8 @@ use Rattle.swc_ecma_codegen_base.specs.Words.{keyword, punct, semi, space, forma
 use Rattle.swc_ecma_codegen.specs.declared.nodes.Place.{Place}
 use Rattle.swc_ecma_codegen.specs.declared.nodes.Place.TheVariants.{Plain, ClassHead, MethodHead, StaticHead, MethodDecorators, MethodTail, PrivateTail}
 use Rattle.swc_ecma_codegen.specs.Answers.{Answers}
-use Rattle.swc_ecma_codegen.specs.Functions.{comma_list_format, decorator, decorator_lines, decorators_format, decorator_place, param}
+use Rattle.swc_ecma_codegen.specs.FunctionExprs.{comma_list_format}
+use Rattle.swc_ecma_codegen.specs.Functions.{decorator, decorator_lines, decorators_format, decorator_place, param}
 use Rattle.swc_ecma_codegen.specs.Exprs.{blank, ident, private_name}
 use Rattle.swc_ecma_codegen.specs.Lists.{child_of, unsupported}
 use Rattle.swc_ecma_codegen.specs.Pats.{initializer}
@@ -69,9 +70,9 @@ class_decl asks items n rest = if n.declare then unsupported rest else class_dec
 
 -- ---- members
 
-unfoldable pub constructor_param : {X : Type 0} → (X → Place → Part) → ParamOrTsParamProp X → Part
-constructor_param items (params.Param n) rest = param items n rest
-constructor_param items (params.TsParamProp n) rest = unsupported rest
+unfoldable pub constructor_param : {X : Type 0} → (X → Answers) → (X → Place → Part) → ParamOrTsParamProp X → Part
+constructor_param asks items (params.Param n) rest = param asks items n rest
+constructor_param asks items (params.TsParamProp n) rest = unsupported rest
 
 unfoldable pub constructor_param_place : {X : Type 0} → ParamOrTsParamProp X → Span
 constructor_param_place (params.Param n) = n.span
@@ -82,22 +83,22 @@ unfoldable pub constructor_body : {X : Type 0} → (X → Place → Part) → Op
 constructor_body items None rest = punct (codes ";") rest
 constructor_body items (Some n) rest = items n.node.value Plain rest
 
-abbrev pub constructor_params : {X : Type 0} → (X → Place → Part) → Constructor X → Part
-constructor_params items n = list comma_list_format n.span (map (child_of constructor_param_place (λ p place. constructor_param items p)) n.params.items)
+abbrev pub constructor_params : {X : Type 0} → (X → Answers) → (X → Place → Part) → Constructor X → Part
+constructor_params asks items n = list comma_list_format n.span (map (child_of constructor_param_place (λ p place. constructor_param asks items p)) n.params.items)
 
 -- `(a){ b; }`
-unfoldable pub constructor_tail : {X : Type 0} → (X → Place → Part) → Constructor X → Part
-constructor_tail items n rest = punct (codes "(") (constructor_params items n (punct (codes ")") (constructor_body items n.body rest)))
+unfoldable pub constructor_tail : {X : Type 0} → (X → Answers) → (X → Place → Part) → Constructor X → Part
+constructor_tail asks items n rest = punct (codes "(") (constructor_params asks items n (punct (codes ")") (constructor_body items n.body rest)))
 
 unfoldable pub constructor_word : Part
 constructor_word rest = keyword None (codes "constructor") rest
 
 -- `constructor(a){ b; }`
-unfoldable pub constructor_parts : {X : Type 0} → (X → Place → Part) → Constructor X → Part
-constructor_parts items n rest = leading_comments n.span.lo (start_of n.span (constructor_word (constructor_tail items n rest)))
+unfoldable pub constructor_parts : {X : Type 0} → (X → Answers) → (X → Place → Part) → Constructor X → Part
+constructor_parts asks items n rest = leading_comments n.span.lo (start_of n.span (constructor_word (constructor_tail asks items n rest)))
 
-unfoldable pub class_constructor : {X : Type 0} → (X → Place → Part) → Constructor X → Part
-class_constructor items n rest = if is_some n.accessibility then unsupported rest else constructor_parts items n rest
+unfoldable pub class_constructor : {X : Type 0} → (X → Answers) → (X → Place → Part) → Constructor X → Part
+class_constructor asks items n rest = if is_some n.accessibility then unsupported rest else constructor_parts asks items n rest
 
 -- `static` and a blank, where it is so
 unfoldable pub static_word : Bool → Part
@@ -211,7 +212,7 @@ unfoldable pub empty_member : EmptyStmt → Part
 empty_member n rest = leading_comments n.span.lo (punct (codes ";") rest)
 
 unfoldable pub class_member : {X : Type 0} → (X → Answers) → (X → Place → Part) → class_members.ClassMember X → Part
-class_member asks items (members.Constructor n) rest = class_constructor items n rest
+class_member asks items (members.Constructor n) rest = class_constructor asks items n rest
 class_member asks items (members.Method n) rest = class_method asks items n rest
 class_member asks items (members.PrivateMethod n) rest = private_method items n rest
 class_member asks items (members.ClassProp n) rest = class_prop asks items n rest

@@ -22,7 +22,8 @@ use Rattle.swc_ecma_codegen.specs.Answers.{Answers}
 use Rattle.swc_ecma_codegen.specs.Classes.{class_decl}
 use Rattle.swc_ecma_codegen.specs.Exprs.{blank, opened, ident}
 use Rattle.swc_ecma_codegen.specs.Lists.{child_of, unsupported}
-use Rattle.swc_ecma_codegen.specs.Pats.{initializer}
+use Rattle.swc_ecma_codegen.specs.Pats.{initializer, pat}
+use Rattle.swc_ecma_codegen.specs.Patterns.{pat_kind}
 
 -- `VariableDeclarationList`
 abbrev pub declarators_format : ℕ
@@ -40,18 +41,18 @@ unfoldable pub fn_decl : {X : Type 0} → (X → Answers) → (X → Place → P
 fn_decl asks items n rest = if n.declare then unsupported rest else fn_decl_parts asks items n rest
 
 -- `a`, `a = b`
-unfoldable pub var_declarator_parts : {X : Type 0} → (X → Place → Part) → VarDeclarator X → Part
-var_declarator_parts items n rest = opened n.span (items n.name.node.value Plain (initializer items n.init rest))
+unfoldable pub var_declarator_parts : {X : Type 0} → (X → Answers) → (X → Place → Part) → VarDeclarator X → Part
+var_declarator_parts asks items n rest = opened n.span (pat asks items n.name (initializer items n.init rest))
 
-unfoldable pub var_declarator : {X : Type 0} → (X → Place → Part) → VarDeclarator X → Part
-var_declarator items n rest = if n.definite then unsupported rest else var_declarator_parts items n rest
+unfoldable pub var_declarator : {X : Type 0} → (X → Answers) → (X → Place → Part) → VarDeclarator X → Part
+var_declarator asks items n rest = if n.definite then unsupported rest else var_declarator_parts asks items n rest
 
 abbrev pub declarator_place : {X : Type 0} → VarDeclarator X → Span
 declarator_place n = n.span
 
 -- `a = b, c`
-abbrev pub declarators : {X : Type 0} → (X → Place → Part) → Span → List (VarDeclarator X) → Part
-declarators items span ns = list declarators_format span (map (child_of declarator_place (λ n place. var_declarator items n)) ns)
+abbrev pub declarators : {X : Type 0} → (X → Answers) → (X → Place → Part) → Span → List (VarDeclarator X) → Part
+declarators asks items span ns = list declarators_format span (map (child_of declarator_place (λ n place. var_declarator asks items n)) ns)
 
 unfoldable pub var_kind : VarDeclKind → Part
 var_kind Var rest = keyword None (codes "var") rest
@@ -64,16 +65,16 @@ is_unmarked Marked = false
 is_unmarked kind = true
 
 -- so does the first that is declared
-unfoldable pub first_is_unmarked : {X : Type 0} → (X → Answers) → List (VarDeclarator X) → Bool
-first_is_unmarked asks [] = true
-first_is_unmarked asks (n ∷ ns) = is_unmarked (asks n.name.node.value).pattern
+unfoldable pub first_is_unmarked : {X : Type 0} → List (VarDeclarator X) → Bool
+first_is_unmarked [] = true
+first_is_unmarked (n ∷ ns) = is_unmarked (pat_kind n.name)
 
 -- `let a = b, c`, minified `let[a]=b`
 unfoldable pub var_decl_parts : {X : Type 0} → (X → Answers) → (X → Place → Part) → VarDecl X → Part
 var_decl_parts asks items n rest =
     leading_comments n.span.lo
     (commit_pending_semi
-    (start_of n.span (var_kind n.kind (blank (first_is_unmarked asks n.decls.items) (declarators items n.span n.decls.items rest)))))
+    (start_of n.span (var_kind n.kind (blank (first_is_unmarked n.decls.items) (declarators asks items n.span n.decls.items rest)))))
 
 unfoldable pub var_decl : {X : Type 0} → (X → Answers) → (X → Place → Part) → VarDecl X → Part
 var_decl asks items n rest = if n.declare then unsupported rest else var_decl_parts asks items n rest
@@ -83,8 +84,8 @@ unfoldable pub await_word : Bool → Part
 await_word wanted rest = if wanted then keyword None (codes "await") (space rest) else rest
 
 -- `await using a = b`
-unfoldable pub using_decl : {X : Type 0} → (X → Place → Part) → UsingDecl X → Part
-using_decl items n rest = leading_comments n.span.lo (await_word n.is_await (keyword None (codes "using") (space (declarators items n.span n.decls.items rest))))
+unfoldable pub using_decl : {X : Type 0} → (X → Answers) → (X → Place → Part) → UsingDecl X → Part
+using_decl asks items n rest = leading_comments n.span.lo (await_word n.is_await (keyword None (codes "using") (space (declarators asks items n.span n.decls.items rest))))
 
 -- the end of one of variables is recorded, unless it is a statement
 unfoldable pub decl_end : Place → Span → Part
@@ -116,13 +117,13 @@ unfoldable pub variables : {X : Type 0} → (X → Answers) → (X → Place →
 variables asks items n place rest = items n.node.value Plain (semi (decl_end place (asks n.node.value).place rest))
 
 -- `using a = b;`
-unfoldable pub resources : {X : Type 0} → (X → Place → Part) → UsingDecl X → Part
-resources items n rest = using_decl items n (semi rest)
+unfoldable pub resources : {X : Type 0} → (X → Answers) → (X → Place → Part) → UsingDecl X → Part
+resources asks items n rest = using_decl asks items n (semi rest)
 
 -- a declaration by its variant
 unfoldable pub decl : {X : Type 0} → (X → Answers) → (X → Place → Part) → Decl X → Place → Part
 decl asks items (decls.Class n) place rest = by_export place (items n.class.node.value ClassHead) (exported_class asks items n) (class_decl asks items n) rest
 decl asks items (decls.Fn n) place rest = without_head place (fn_decl asks items n) rest
 decl asks items (decls.Var n) place rest = without_head place (variables asks items n place) rest
-decl asks items (decls.Using n) place rest = without_head place (resources items n) rest
+decl asks items (decls.Using n) place rest = without_head place (resources asks items n) rest
 decl asks items n place rest = without_head place unsupported rest

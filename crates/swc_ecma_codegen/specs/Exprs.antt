@@ -45,7 +45,7 @@ use Rattle.swc_ecma_codegen.specs.declared.nodes.Place.{Place}
 use Rattle.swc_ecma_codegen.specs.declared.nodes.Place.TheVariants.{Plain, LeftOperand, Object, DottedObject, Callee, Chain}
 use Rattle.swc_ecma_codegen.specs.Answers.{Answers, place_of}
 use Rattle.swc_ecma_codegen.specs.Operands.{is_word_op, space_after, operand_space}
-use Rattle.swc_ecma_codegen.specs.Functions.{fn_expr, arrow_expr}
+use Rattle.swc_ecma_codegen.specs.FunctionExprs.{fn_expr, arrow_expr}
 use Rattle.swc_ecma_codegen.specs.ClassExprs.{class_expr}
 use Rattle.swc_ecma_codegen.specs.Templates.{tagged_tpl}
 use Rattle.swc_ecma_codegen.specs.Calls.{super_keyword, array_lit, call_expr, keeps_arguments, new_expr}
@@ -135,9 +135,7 @@ word_between t rest = space (word_operator t (space rest))
 
 -- the operator and the right operand
 unfoldable pub bin_trailing : {X : Type 0} → (X → Answers) → (X → Place → Part) → BinExpr X → Part
-bin_trailing asks items n rest =
-    blank (before_op n.op (asks n.left.node.value))
-    (binary_op n.op (blank (after_op n.op (asks n.right.node.value)) (items n.right.node.value Plain rest)))
+bin_trailing asks items n rest = bin_operator asks n (items n.right.node.value Plain rest)
 
 -- an inner left operand has no comments before it, and its start isn't recorded
 unfoldable pub bin_opened : Place → Span → Part
@@ -267,7 +265,7 @@ expr_parts asks items (exprs.Unary n) place rest = unary asks items n rest
 expr_parts asks items (exprs.Update n) place rest = update items n rest
 expr_parts asks items (exprs.Bin n) place rest = bin asks items n place rest
 expr_parts asks items (exprs.Assign n) place rest = assign items n rest
-expr_parts asks items (exprs.Member n) place rest = items n.node.value Plain rest
+expr_parts asks items (exprs.Member n) place rest = member items n rest
 expr_parts asks items (exprs.SuperProp n) place rest = super_prop_expr items n rest
 expr_parts asks items (exprs.Cond n) place rest = choice items n rest
 expr_parts asks items (exprs.Call n) place rest = call_expr asks items n rest
@@ -277,7 +275,7 @@ expr_parts asks items (exprs.Ident n) place rest = ident n rest
 expr_parts asks items (exprs.Lit n) place rest = lit_at n place rest
 expr_parts asks items (exprs.Tpl n) place rest = items n.node.value Plain rest
 expr_parts asks items (exprs.TaggedTpl n) place rest = tagged_tpl items n rest
-expr_parts asks items (exprs.Arrow n) place rest = arrow_expr asks items n rest
+expr_parts asks items (exprs.Arrow n) place rest = arrow_expr asks items n.value rest
 expr_parts asks items (exprs.Class n) place rest = class_expr asks items n rest
 expr_parts asks items (exprs.Yield n) place rest = yield_expr asks items n rest
 expr_parts asks items (exprs.MetaProp n) place rest = meta_prop_expr n rest

@@ -1,30 +1,22 @@
 -- What is written of functions. What TypeScript adds, types and their parameters, isn't printed yet.
-use Rattle.std.specs.Prelude.{ℕ, ◌||◌, ◌&&◌, not, Bool, true, false, if◌then◌else◌, is_some, List, [], ◌∷◌, map, codes, string_bytes, Option, Some, None}
+use Rattle.std.specs.Prelude.{ℕ, ◌||◌, ◌&&◌, not, Bool, if◌then◌else◌, is_some, List, map, codes, Option, Some, None}
 use Rattle.swc_ecma_codegen_common.specs.declared.positions.Span.{Span}
-use Rattle.swc_ecma_codegen_tree.specs.Links.{BlockStmtBox, PatBox}
+use Rattle.swc_ecma_codegen_tree.specs.Links.{BlockStmtBox}
 use Rattle.swc_ecma_codegen_tree.specs.declared.decls.Decorator.{Decorator}
 use Rattle.swc_ecma_codegen_tree.specs.declared.decls.Param.{Param}
 use Rattle.swc_ecma_codegen_tree.specs.declared.decls.Function as functions
-use Rattle.swc_ecma_codegen_tree.specs.declared.exprs.FnExpr.{FnExpr}
-use Rattle.swc_ecma_codegen_tree.specs.declared.exprs.ArrowExpr.{ArrowExpr}
-use Rattle.swc_ecma_codegen_tree.specs.declared.exprs.BlockStmtOrExpr.{BlockStmtOrExpr}
-use Rattle.swc_ecma_codegen_tree.specs.declared.exprs.BlockStmtOrExpr.TheVariants as bodies
-use Rattle.swc_ecma_codegen_tree.specs.declared.idents.Ident.{Ident}
 use Rattle.swc_ecma_codegen_ast.specs.FunctionPhrases.{is_some_listed}
-use Rattle.swc_ecma_codegen_base.specs.Run.{Part, when_minified, no_part}
-use Rattle.swc_ecma_codegen_base.specs.Lists.{list, deeper, shallower}
-use Rattle.swc_ecma_codegen_base.specs.Words.{keyword, punct, semi, space, formatting_space, line_end, commit_pending_semi, start_of, end_of, leading_comments, name}
+use Rattle.swc_ecma_codegen_base.specs.Run.{Part}
+use Rattle.swc_ecma_codegen_base.specs.Lists.{list}
+use Rattle.swc_ecma_codegen_base.specs.Words.{keyword, punct, semi, space, formatting_space, line_end, start_of, end_of, leading_comments}
 use Rattle.swc_ecma_codegen.specs.declared.nodes.Place.{Place}
 use Rattle.swc_ecma_codegen.specs.declared.nodes.Place.TheVariants.{Plain, Body, FunctionHead, MethodHead, DeclarationHead, StaticHead, MethodDecorators, MethodTail, PrivateTail}
-use Rattle.swc_ecma_codegen.specs.declared.patterns.PatternKind.{PatternKind}
-use Rattle.swc_ecma_codegen.specs.declared.patterns.PatternKind.TheVariants.{PlainName, Name}
 use Rattle.swc_ecma_codegen.specs.Answers.{Answers}
+use Rattle.swc_ecma_codegen.specs.FunctionExprs.{comma_list_format, star}
 use Rattle.swc_ecma_codegen.specs.Lists.{child_of, in_order, unsupported}
+use Rattle.swc_ecma_codegen.specs.Pats.{pat}
 
--- `CommaListElements`, and `Decorators`
-abbrev pub comma_list_format : ℕ
-comma_list_format = 272
-
+-- `Decorators`
 abbrev pub decorators_format : ℕ
 decorators_format = 1025
 
@@ -40,12 +32,12 @@ abbrev pub decorators : {X : Type 0} → (X → Place → Part) → Param X → 
 decorators items n = list decorators_format n.span (map (child_of decorator_place (λ d place. decorator items d)) n.decorators.items)
 
 -- `@a b`
-unfoldable pub param : {X : Type 0} → (X → Place → Part) → Param X → Part
-param items n rest =
+unfoldable pub param : {X : Type 0} → (X → Answers) → (X → Place → Part) → Param X → Part
+param asks items n rest =
     leading_comments n.span.lo
     (start_of n.span
     (decorators items n
-    (items n.pat.node.value Plain (end_of n.span rest))))
+    (pat asks items n.pat (end_of n.span rest))))
 
 abbrev pub param_place : {X : Type 0} → Param X → Span
 param_place n = n.span
@@ -56,29 +48,25 @@ function_body items None rest = semi rest
 function_body items (Some n) rest = formatting_space (items n.node.value Body rest)
 
 -- the parameters of a function, with commas between
-abbrev pub parameters : {X : Type 0} → (X → Place → Part) → functions.Function X → Part
-parameters items n = list comma_list_format n.span (map (child_of param_place (λ p place. param items p)) n.params.items)
+abbrev pub parameters : {X : Type 0} → (X → Answers) → (X → Place → Part) → functions.Function X → Part
+parameters asks items n = list comma_list_format n.span (map (child_of param_place (λ p place. param asks items p)) n.params.items)
 
 -- `(a) { b; }`
-unfoldable pub fn_trailing_parts : {X : Type 0} → (X → Place → Part) → functions.Function X → Part
-fn_trailing_parts items n rest =
+unfoldable pub fn_trailing_parts : {X : Type 0} → (X → Answers) → (X → Place → Part) → functions.Function X → Part
+fn_trailing_parts asks items n rest =
     punct (codes "(")
-    (parameters items n
+    (parameters asks items n
     (punct (codes ")") (function_body items n.body rest)))
 
 -- Only methods of classes have decorators.
-unfoldable pub fn_trailing : {X : Type 0} → (X → Place → Part) → functions.Function X → Part
-fn_trailing items n rest =
+unfoldable pub fn_trailing : {X : Type 0} → (X → Answers) → (X → Place → Part) → functions.Function X → Part
+fn_trailing asks items n rest =
     if is_some n.type_params || (is_some n.return_type || is_some_listed n.decorators.items) then unsupported rest
-    else fn_trailing_parts items n rest
+    else fn_trailing_parts asks items n rest
 
 -- `async` and a blank, where it is so
 unfoldable pub async_word : Bool → Part
 async_word wanted rest = if wanted then keyword None (codes "async") (space rest) else rest
-
--- `*`, where it is so
-unfoldable pub star : Bool → Part
-star wanted rest = if wanted then punct (codes "*") rest else rest
 
 -- `async function*`
 unfoldable pub function_head : {X : Type 0} → functions.Function X → Part
@@ -112,91 +100,27 @@ unfoldable pub method_body : {X : Type 0} → (X → Place → Part) → Option 
 method_body items None rest = punct (codes ";") rest
 method_body items (Some n) rest = formatting_space (items n.node.value Plain rest)
 
-unfoldable pub method_tail_parts : {X : Type 0} → (X → Place → Part) → functions.Function X → Part
-method_tail_parts items n rest =
+unfoldable pub method_tail_parts : {X : Type 0} → (X → Answers) → (X → Place → Part) → functions.Function X → Part
+method_tail_parts asks items n rest =
     punct (codes "(")
-    (parameters items n
+    (parameters asks items n
     (punct (codes ")") (method_body items n.body rest)))
 
 -- `(a) { b; }` of a method, whose decorators stand elsewhere
-unfoldable pub method_tail : {X : Type 0} → (X → Place → Part) → functions.Function X → Part
-method_tail items n rest = if is_some n.type_params || is_some n.return_type then unsupported rest else method_tail_parts items n rest
+unfoldable pub method_tail : {X : Type 0} → (X → Answers) → (X → Place → Part) → functions.Function X → Part
+method_tail asks items n rest = if is_some n.type_params || is_some n.return_type then unsupported rest else method_tail_parts asks items n rest
 
 -- the same of a private method, with a semicolon that may be left out
-unfoldable pub private_tail : {X : Type 0} → (X → Place → Part) → functions.Function X → Part
-private_tail items n rest = if is_some n.type_params || is_some n.return_type then unsupported rest else fn_trailing_parts items n rest
+unfoldable pub private_tail : {X : Type 0} → (X → Answers) → (X → Place → Part) → functions.Function X → Part
+private_tail asks items n rest = if is_some n.type_params || is_some n.return_type then unsupported rest else fn_trailing_parts asks items n rest
 
 -- a function, or what of it stands before its name
-unfoldable pub function : {X : Type 0} → (X → Place → Part) → functions.Function X → Place → Part
-function items n FunctionHead rest = function_head n rest
-function items n MethodHead rest = method_head n rest
-function items n DeclarationHead rest = declaration_head n rest
-function items n (StaticHead starts) rest = static_head starts n rest
-function items n MethodDecorators rest = decorator_lines items n.decorators.items rest
-function items n MethodTail rest = method_tail items n rest
-function items n PrivateTail rest = private_tail items n rest
-function items n place rest = fn_trailing items n rest
-
--- a blank and a name, where there is one
-unfoldable pub optional_name : Option Ident → Part
-optional_name None rest = rest
-optional_name (Some n) rest = space (name n.span (string_bytes n.sym) n.optional rest)
-
-unfoldable pub fn_expr : {X : Type 0} → (X → Answers) → (X → Place → Part) → FnExpr X → Part
-fn_expr asks items n rest =
-    let function = n.function.node.value in
-    leading_comments (asks function).place.lo
-    (commit_pending_semi
-    (start_of (asks function).place (items function FunctionHead (optional_name n.ident (items function Plain rest)))))
-
--- ---- arrow functions
-
--- a name alone, and a name with or without a type
-unfoldable pub is_plain : PatternKind → Bool
-is_plain PlainName = true
-is_plain kind = false
-
-unfoldable pub is_name : PatternKind → Bool
-is_name PlainName = true
-is_name Name = true
-is_name kind = false
-
--- there is one parameter, and it is such
-unfoldable pub is_only : {X : Type 0} → (PatternKind → Bool) → (X → Answers) → List (PatBox X) → Bool
-is_only test asks (n ∷ []) = test (asks n.node.value).pattern
-is_only test asks ns = false
-
--- `async`, and a blank before a name: `async a => b`, `async(a, b) => c`
-unfoldable pub async_arrow : Bool → Bool → Part
-async_arrow wanted named rest = if wanted then keyword None (codes "async") (if named then space rest else formatting_space rest) else rest
-
--- a parenthesis, which isn't there round a name alone where the settings are to minify
-unfoldable pub parenthesis : Bool → List ℕ → Part
-parenthesis plain t rest = if plain then when_minified no_part (punct t) rest else punct t rest
-
--- the parameters of an arrow function, with commas between
-abbrev pub arrow_list : {X : Type 0} → (X → Answers) → (X → Place → Part) → ArrowExpr X → Part
-arrow_list asks items n = list comma_list_format n.span (map (child_of (λ p. (asks p.node.value).place) (λ p place. items p.node.value place)) n.params.items)
-
--- `(a, b)`, `a`
-unfoldable pub arrow_parameters : {X : Type 0} → (X → Answers) → (X → Place → Part) → ArrowExpr X → Part
-arrow_parameters asks items n rest =
-    parenthesis (is_only is_plain asks n.params.items) (codes "(")
-    (arrow_list asks items n
-    (parenthesis (is_only is_plain asks n.params.items) (codes ")") rest))
-
--- an expression is indented, whatever the settings
-unfoldable pub arrow_body : {X : Type 0} → (X → Place → Part) → BlockStmtOrExpr X → Part
-arrow_body items (bodies.BlockStmt n) rest = items n.node.value Body rest
-arrow_body items (bodies.Expr n) rest = deeper (items n.node.value Plain (shallower rest))
-
--- `async (a, b) => c`
-unfoldable pub arrow_parts : {X : Type 0} → (X → Answers) → (X → Place → Part) → ArrowExpr X → Part
-arrow_parts asks items n rest =
-    leading_comments n.span.lo
-    (start_of n.span
-    (async_arrow n.is_async (is_only is_name asks n.params.items)
-    (star n.is_generator (arrow_parameters asks items n (punct (codes "=>") (arrow_body items n.body rest))))))
-
-unfoldable pub arrow_expr : {X : Type 0} → (X → Answers) → (X → Place → Part) → ArrowExpr X → Part
-arrow_expr asks items n rest = if is_some n.type_params || is_some n.return_type then unsupported rest else arrow_parts asks items n rest
+unfoldable pub function : {X : Type 0} → (X → Answers) → (X → Place → Part) → functions.Function X → Place → Part
+function asks items n FunctionHead rest = function_head n rest
+function asks items n MethodHead rest = method_head n rest
+function asks items n DeclarationHead rest = declaration_head n rest
+function asks items n (StaticHead starts) rest = static_head starts n rest
+function asks items n MethodDecorators rest = decorator_lines items n.decorators.items rest
+function asks items n MethodTail rest = method_tail asks items n rest
+function asks items n PrivateTail rest = private_tail asks items n rest
+function asks items n place rest = fn_trailing asks items n rest

@@ -23,6 +23,10 @@ unfoldable pub listed : {A : Type 0} → (A → Part) → Bool → List A → Pa
 listed each first [] rest = rest
 listed each first (x ∷ xs) rest = comma first (each x (listed each false xs rest))
 
+-- a node that stands anywhere
+abbrev pub plainly : {A : Type 0} → (A → Place → Part) → A → Part
+plainly items x = items x Plain
+
 -- the nodes, one after another
 unfoldable pub in_order : {A : Type 0} → (A → Part) → List A → Part
 in_order each [] rest = rest

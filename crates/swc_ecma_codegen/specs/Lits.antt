@@ -10,8 +10,8 @@ use Rattle.swc_ecma_codegen.specs.Lists.{unsupported}
 
 -- `10` of `10..x` has a dot of its own, `10` of `10[x]` has none
 unfoldable pub lit_at : Lit → Place → Part
-lit_at (lits.Num n) Object rest = number_lit n rest
-lit_at (lits.Num n) (DottedObject prop) rest = number_object n prop rest
+lit_at (lits.Num n) Object rest = number_lit n.value rest
+lit_at (lits.Num n) (DottedObject prop) rest = number_object n.value prop rest
 lit_at (lits.JSXText n) place rest = unsupported rest
 lit_at n place rest = lit n rest
 

@@ -41,8 +41,9 @@ use Rattle.swc_ecma_codegen.specs.declared.nodes.Place.TheVariants.{Plain, Expor
 use Rattle.swc_ecma_codegen.specs.Answers.{Answers, place_of}
 use Rattle.swc_ecma_codegen.specs.ClassExprs.{class_expr}
 use Rattle.swc_ecma_codegen.specs.Exprs.{blank, ident}
-use Rattle.swc_ecma_codegen.specs.Functions.{fn_expr}
+use Rattle.swc_ecma_codegen.specs.FunctionExprs.{fn_expr}
 use Rattle.swc_ecma_codegen.specs.Lists.{child_of, comma, unsupported}
+use Rattle.swc_ecma_codegen.specs.Stmts.{stmt}
 use Rattle.swc_ecma_codegen.specs.Templates.{bad_shape}
 
 -- `a` or `'b c'`
@@ -286,10 +287,10 @@ unfoldable pub module_decl : {X : Type 0} → (X → Answers) → (X → Place �
 module_decl asks items n rest =
     leading_comments (module_decl_span n).lo (module_decl_by asks items n (trailing_comments true (module_decl_span n).hi (formatting_line rest)))
 
-unfoldable pub module_item_by : {X : Type 0} → (X → Place → Part) → ModuleItem X → Part
-module_item_by items (module_items.ModuleDecl n) rest = items n.node.value Plain rest
-module_item_by items (module_items.Stmt n) rest = items n.node.value Plain rest
+unfoldable pub module_item_by : {X : Type 0} → (X → Answers) → (X → Place → Part) → ModuleItem X → Part
+module_item_by asks items (module_items.ModuleDecl n) rest = items n.node.value Plain rest
+module_item_by asks items (module_items.Stmt n) rest = stmt asks items n rest
 
 unfoldable pub module_item : {X : Type 0} → (X → Answers) → (X → Place → Part) → ModuleItem X → Part
 module_item asks items n rest =
-    leading_comments (module_item_span (place_of asks) n).lo (module_item_by items n (trailing_comments true (module_item_span (place_of asks) n).hi rest))
+    leading_comments (module_item_span (place_of asks) n).lo (module_item_by asks items n (trailing_comments true (module_item_span (place_of asks) n).hi rest))

@@ -31,7 +31,7 @@ is_negative values.NegInfinity = true
 is_negative value = false
 
 unfoldable pub lit_kind : Lit → OperandKind
-lit_kind (lits.Num n) = if is_negative n.value then kinds.Negative else kinds.Other
+lit_kind (lits.Num n) = if is_negative n.value.value then kinds.Negative else kinds.Other
 lit_kind n = kinds.Other
 
 -- an expression, by its operator or its sign

@@ -11,9 +11,9 @@ use Rattle.swc_ecma_codegen.specs.Classes.{class, class_member}
 use Rattle.swc_ecma_codegen.specs.Decls.{decl, var_decl}
 use Rattle.swc_ecma_codegen.specs.Functions.{function}
 use Rattle.swc_ecma_codegen.specs.Calls.{chain_call, is_optional}
-use Rattle.swc_ecma_codegen.specs.Modules.{module_item, module_decl}
+use Rattle.swc_ecma_codegen.specs.Modules.{module_decl}
 use Rattle.swc_ecma_codegen.specs.Pats.{pat}
-use Rattle.swc_ecma_codegen.specs.Props.{object_lit, prop, prop_name}
+use Rattle.swc_ecma_codegen.specs.Props.{object_lit, prop_name}
 use Rattle.swc_ecma_codegen.specs.Targets.{assign_target}
 use Rattle.swc_ecma_codegen.specs.Templates.{tpl, is_tagged}
 
@@ -21,17 +21,15 @@ unfoldable pub expr_part : {X : Type 0} → (X → Answers) → (X → Place →
 expr_part asks items (expr_parts.Pat n) place rest = pat asks items n rest
 expr_part asks items (expr_parts.ObjectLit n) place rest = object_lit asks items n rest
 expr_part asks items (expr_parts.PropName n) place rest = prop_name items n rest
-expr_part asks items (expr_parts.Prop n) place rest = prop asks items n rest
 expr_part asks items (expr_parts.AssignTarget n) place rest = assign_target asks items n rest
 expr_part asks items (expr_parts.Tpl n) place rest = tpl items (is_tagged place) n rest
 expr_part asks items (expr_parts.OptCall n) place rest = chain_call asks items (is_optional place) n rest
 
 unfoldable pub stmt_part : {X : Type 0} → (X → Answers) → (X → Place → Part) → StmtPart X → Place → Part
-stmt_part asks items (stmt_parts.Function n) place rest = function items n.value place rest
+stmt_part asks items (stmt_parts.Function n) place rest = function asks items n.value place rest
 stmt_part asks items (stmt_parts.Class n) place rest = class asks items n.value place rest
 stmt_part asks items (stmt_parts.ClassMember n) place rest = class_member asks items n.value rest
 stmt_part asks items (stmt_parts.BlockStmt n) place rest = block_stmt asks items n place rest
 stmt_part asks items (stmt_parts.Decl n) place rest = decl asks items n.value place rest
-stmt_part asks items (stmt_parts.ModuleItem n) place rest = module_item asks items n rest
 stmt_part asks items (stmt_parts.ModuleDecl n) place rest = module_decl asks items n.value rest
 stmt_part asks items (stmt_parts.VarDecl n) place rest = var_decl asks items n rest

@@ -1,6 +1,6 @@
 -- Where a node may stand in its role.
 use Rattle.swc_ecma_codegen_ast.specs.declared.roles.Role.{Role}
-use Rattle.swc_ecma_codegen_ast.specs.declared.roles.Role.TheVariants.{MemberExpression, ChainMember, Function, FunctionHead as HeadOfFunction, MethodHead as HeadOfMethod, Expression, Callee as IsCallee, ChainCall, Template, TaggedTemplate, ClassHead as HeadOfClass, ClassTail, MethodDecorators as DecoratorsOfMethod, MethodTail as TailOfMethod, PrivateTail as TailOfPrivate, Item, ModuleDeclaration, Declaration, ExportedHead as HeadOfExported, ExportedTail as TailOfExported}
+use Rattle.swc_ecma_codegen_ast.specs.declared.roles.Role.TheVariants.{MemberExpression, ChainMember, Function, FunctionHead as HeadOfFunction, MethodHead as HeadOfMethod, Expression, Callee as IsCallee, ChainCall, Template, TaggedTemplate, ClassHead as HeadOfClass, ClassTail, MethodDecorators as DecoratorsOfMethod, MethodTail as TailOfMethod, PrivateTail as TailOfPrivate, ModuleDeclaration, Declaration, ExportedHead as HeadOfExported, ExportedTail as TailOfExported}
 use Rattle.swc_ecma_codegen.specs.declared.nodes.Place.{Place}
 use Rattle.swc_ecma_codegen.specs.declared.nodes.Place.TheVariants.{Plain, Chain, FunctionHead, MethodHead, DeclarationHead, Object, DottedObject, Callee, Tagged, ClassHead, StaticHead, MethodDecorators, MethodTail, PrivateTail, ExportedHead, ExportedTail}
 
@@ -51,7 +51,6 @@ placed (ChainCall optional) place = Chain optional
 placed Declaration place = declared place
 placed HeadOfExported place = ExportedHead
 placed TailOfExported place = ExportedTail
-placed Item place = Plain
 placed ModuleDeclaration place = Plain
 placed Template place = Plain
 placed TaggedTemplate place = Tagged

@@ -2,7 +2,6 @@
 use Rattle.std.specs.Prelude.{Bool, true, is_some, if◌then◌else◌, List, [], ◌∷◌, Option, Some, None, string_bytes}
 use Rattle.std.specs.declared.string.String.{String}
 use Rattle.swc_ecma_codegen_common.specs.declared.positions.Span.{Span}
-use Rattle.swc_ecma_codegen_tree.specs.Links.{ModuleItemBox, StmtBox}
 use Rattle.swc_ecma_codegen_tree.specs.declared.programs.Module.{Module}
 use Rattle.swc_ecma_codegen_tree.specs.declared.programs.Script.{Script}
 use Rattle.swc_ecma_codegen_tree.specs.declared.programs.Program.{Program}
@@ -11,12 +10,10 @@ use Rattle.swc_ecma_codegen_base.specs.Literals.{hashbang}
 use Rattle.swc_ecma_codegen_base.specs.Run.{Part}
 use Rattle.swc_ecma_codegen_base.specs.Words.{commit_pending_semi, start_of, leading_comments, trailing_comments}
 use Rattle.swc_ecma_codegen.specs.declared.nodes.Place.{Place}
-use Rattle.swc_ecma_codegen.specs.declared.nodes.Place.TheVariants.{Plain}
+use Rattle.swc_ecma_codegen.specs.Answers.{Answers}
 use Rattle.swc_ecma_codegen.specs.Lists.{in_order}
-
--- what a link holds
-abbrev pub held : {X : Type 0} → (X → Place → Part) → StmtBox X → Part
-held items n = items n.node.value Plain
+use Rattle.swc_ecma_codegen.specs.Modules.{module_item}
+use Rattle.swc_ecma_codegen.specs.Stmts.{stmt}
 
 -- the start of a program without statements is recorded
 unfoldable pub start_if_empty : {A : Type 0} → List A → Span → Part
@@ -32,19 +29,15 @@ unfoldable pub program_start : {A Z : Type 0} → Option (String Z) → List A �
 program_start None body span rest = leading_comments span.lo (start_if_empty body span rest)
 program_start (Some text) body span rest = start_if_empty body span (hashbang (string_bytes text) (leading_comments span.lo rest))
 
-unfoldable pub script : {X : Type 0} → (X → Place → Part) → Script X → Part
-script items n rest = program_start n.shebang n.body.items n.span (in_order (held items) n.body.items (trailing_comments true n.span.hi (last_semi rest)))
+unfoldable pub script : {X : Type 0} → (X → Answers) → (X → Place → Part) → Script X → Part
+script asks items n rest = program_start n.shebang n.body.items n.span (in_order (stmt asks items) n.body.items (trailing_comments true n.span.hi (last_semi rest)))
 
--- an item that a link holds
-abbrev pub held_item : {X : Type 0} → (X → Place → Part) → ModuleItemBox X → Part
-held_item items n = items n.node.value Plain
+unfoldable pub whole_module : {X : Type 0} → (X → Answers) → (X → Place → Part) → Module X → Part
+whole_module asks items n rest = program_start n.shebang n.body.items n.span (in_order (module_item asks items) n.body.items (trailing_comments true n.span.hi (last_semi rest)))
 
-unfoldable pub whole_module : {X : Type 0} → (X → Place → Part) → Module X → Part
-whole_module items n rest = program_start n.shebang n.body.items n.span (in_order (held_item items) n.body.items (trailing_comments true n.span.hi (last_semi rest)))
-
-unfoldable pub program : {X : Type 0} → (X → Place → Part) → Program X → Part
-program items (programs.Module n) rest = whole_module items n rest
-program items (programs.Script n) rest = script items n rest
+unfoldable pub program : {X : Type 0} → (X → Answers) → (X → Place → Part) → Program X → Part
+program asks items (programs.Module n) rest = whole_module asks items n rest
+program asks items (programs.Script n) rest = script asks items n rest
 
 -- it begins with a hashbang
 unfoldable pub has_hashbang : {X : Type 0} → Program X → Bool

@@ -31,8 +31,8 @@ use Rattle.swc_ecma_codegen.specs.Lists.{child_of, unsupported}
 unfoldable pub prop_name : {X : Type 0} → (X → Place → Part) → PropName X → Part
 prop_name items (prop_names.Ident n) rest = key n.span (string_bytes n.sym) rest
 prop_name items (prop_names.Str n) rest = str_lit n rest
-prop_name items (prop_names.Num n) rest = number_lit n rest
-prop_name items (prop_names.BigInt n) rest = big_int_lit n rest
+prop_name items (prop_names.Num n) rest = number_lit n.value rest
+prop_name items (prop_names.BigInt n) rest = big_int_lit n.value rest
 prop_name items (prop_names.Computed n) rest = computed_prop_name items n rest
 
 -- The end of a name is recorded where the value stands nowhere, and the start of the value where the name does.
@@ -99,7 +99,7 @@ prop asks items (props.Method n) rest = method_prop asks items n rest
 
 unfoldable pub prop_or_spread : {X : Type 0} → (X → Answers) → (X → Place → Part) → PropOrSpread X → Part
 prop_or_spread asks items (prop_or_spreads.Spread n) rest = spread_element asks items n rest
-prop_or_spread asks items (prop_or_spreads.Prop n) rest = items n.node.value Plain rest
+prop_or_spread asks items (prop_or_spreads.Prop n) rest = prop asks items n rest
 
 -- `ObjectLiteralExpressionProperties` and `CanSkipTrailingComma`, and the same without `MultiLine` and `Indented`
 abbrev pub object_format : ℕ

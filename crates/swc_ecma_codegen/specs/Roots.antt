@@ -8,7 +8,7 @@ use Rattle.swc_ecma_codegen_tree.specs.declared.programs.ModuleItem.{ModuleItem}
 use Rattle.swc_ecma_codegen_tree.specs.declared.programs.Program.{Program}
 use Rattle.swc_ecma_codegen_tree.specs.declared.programs.Program.TheVariants as programs
 use Rattle.swc_ecma_codegen_tree.specs.declared.programs.Script.{Script}
-use Rattle.swc_ecma_codegen_ast.specs.ModulePhrases as lists
+use Rattle.swc_ecma_codegen_ast.specs.StmtPhrases as lists
 use Rattle.swc_ecma_codegen_ast.specs.Phrases.{Phrase, is_possible}
 use Rattle.swc_ecma_codegen_ast.specs.declared.roles.Role.{Role}
 use Rattle.swc_ecma_codegen_ast.specs.TreePhrases.{phrase, expr_phrase, stmt_phrase, program_phrase}
@@ -38,9 +38,9 @@ abbrev pub root_items : Root → Part
 root_items (OfExpr n) = expr any_answers any_items n Plain
 root_items (OfStmt n) = stmt any_answers any_items n
 root_items (OfItem n) = module_item any_answers any_items n
-root_items (OfModule n) = whole_module any_items n
-root_items (OfScript n) = script any_items n
-root_items (OfProgram n) = program any_items n
+root_items (OfModule n) = whole_module any_answers any_items n
+root_items (OfScript n) = script any_answers any_items n
+root_items (OfProgram n) = program any_answers any_items n
 root_items (OfLink n role) = any_items n (placed role Plain)
 
 -- what it is read as

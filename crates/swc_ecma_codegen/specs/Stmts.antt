@@ -42,7 +42,7 @@ use Rattle.swc_ecma_codegen.specs.Answers.{Answers, place_of}
 use Rattle.swc_ecma_codegen.specs.Branches.{is_block}
 use Rattle.swc_ecma_codegen.specs.Decls.{using_decl}
 use Rattle.swc_ecma_codegen.specs.Exprs.{blank, space_if, opened, ident}
-use Rattle.swc_ecma_codegen.specs.Functions.{optional_name}
+use Rattle.swc_ecma_codegen.specs.FunctionExprs.{optional_name}
 use Rattle.swc_ecma_codegen.specs.Lists.{child_of}
 
 -- ---- parts of statements
@@ -235,10 +235,10 @@ unfoldable pub for_stmt : {X : Type 0} → (X → Place → Part) → ForStmt X 
 for_stmt items n rest = stmt_word n.span (codes "for") (for_control items n (items n.body.node.value Plain rest))
 
 -- `let a` of `for (let a of b) c;`
-unfoldable pub for_head : {X : Type 0} → (X → Place → Part) → ForHead X → Part
-for_head items (heads.VarDecl n) rest = items n.node.value Plain rest
-for_head items (heads.UsingDecl n) rest = using_decl items n rest
-for_head items (heads.Pat n) rest = items n.node.value Plain rest
+unfoldable pub for_head : {X : Type 0} → (X → Answers) → (X → Place → Part) → ForHead X → Part
+for_head asks items (heads.VarDecl n) rest = items n.node.value Plain rest
+for_head asks items (heads.UsingDecl n) rest = using_decl asks items n.value rest
+for_head asks items (heads.Pat n) rest = items n.node.value Plain rest
 
 -- ` of b`, minified ` of[b]` after a name and `of b` after a bracket
 unfoldable pub for_right : {X : Type 0} → (X → Answers) → (X → Place → Part) → List ℕ → Bool → ExprBox X → Part
@@ -246,7 +246,7 @@ for_right asks items t ends n rest = blank ends (keyword None t (spaced asks ite
 
 -- `(a of b)`
 unfoldable pub for_each : {X : Type 0} → (X → Answers) → (X → Place → Part) → List ℕ → ForHead X → ExprBox X → Part
-for_each asks items t left right rest = punct (codes "(") (for_head items left (for_right asks items t (head_ends (λ x. (asks x).ends) left) right (punct (codes ")") rest)))
+for_each asks items t left right rest = punct (codes "(") (for_head asks items left (for_right asks items t (head_ends (λ x. (asks x).ends) left) right (punct (codes ")") rest)))
 
 -- `for(a in b)c;`
 unfoldable pub for_in_stmt : {X : Type 0} → (X → Answers) → (X → Place → Part) → ForInStmt X → Part

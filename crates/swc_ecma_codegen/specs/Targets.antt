@@ -5,9 +5,8 @@ use Rattle.swc_ecma_codegen_tree.specs.declared.pats.SimpleAssignTarget.{SimpleA
 use Rattle.swc_ecma_codegen_tree.specs.declared.pats.SimpleAssignTarget.TheVariants as simple_targets
 use Rattle.swc_ecma_codegen_base.specs.Run.{Part}
 use Rattle.swc_ecma_codegen.specs.declared.nodes.Place.{Place}
-use Rattle.swc_ecma_codegen.specs.declared.nodes.Place.TheVariants.{Plain}
 use Rattle.swc_ecma_codegen.specs.Answers.{Answers}
-use Rattle.swc_ecma_codegen.specs.Exprs.{super_prop_expr, paren, opt_chain}
+use Rattle.swc_ecma_codegen.specs.Exprs.{member, super_prop_expr, paren, opt_chain}
 use Rattle.swc_ecma_codegen.specs.Lists.{unsupported}
 use Rattle.swc_ecma_codegen.specs.Names.{binding_ident}
 use Rattle.swc_ecma_codegen.specs.Pats.{assign_target_pat}
@@ -15,7 +14,7 @@ use Rattle.swc_ecma_codegen.specs.Pats.{assign_target_pat}
 -- `a`, `a.b`, `super.a`, `(a)`
 unfoldable pub simple_assign_target : {X : Type 0} → (X → Place → Part) → SimpleAssignTarget X → Part
 simple_assign_target items (simple_targets.Ident n) rest = binding_ident n rest
-simple_assign_target items (simple_targets.Member n) rest = items n.node.value Plain rest
+simple_assign_target items (simple_targets.Member n) rest = member items n rest
 simple_assign_target items (simple_targets.SuperProp n) rest = super_prop_expr items n rest
 simple_assign_target items (simple_targets.Paren n) rest = paren items n rest
 simple_assign_target items (simple_targets.OptChain n) rest = opt_chain items n rest

@@ -289,7 +289,7 @@ impl<N: Held> EmitAt for ClassProp<N> {
 }
 
 impl<N: Held> EmitAt for Constructor<N> {
-    ghost items = { λ n _. class_constructor N.items n };
+    ghost items = { λ n _. class_constructor N.answers N.items n };
 
     #[tactic(auto, unfolding(crate::specs::Classes::class_constructor, crate::specs::Classes::constructor_parts))]
     fn emit_at<W: WriteJs, S: SourceMapper, C: Comments>(
@@ -308,7 +308,7 @@ impl<N: Held> EmitAt for Constructor<N> {
 }
 
 impl<N: Held> EmitAt for ParamOrTsParamProp<N> {
-    ghost items = { λ n _. constructor_param N.items n };
+    ghost items = { λ n _. constructor_param N.answers N.items n };
 
     #[tactic(auto, unfolding(crate::specs::Classes::constructor_param))]
     fn emit_at<W: WriteJs, S: SourceMapper, C: Comments>(
@@ -397,7 +397,7 @@ impl<W: WriteJs, S: SourceMapper, C: Comments> Emitter<'_, W, S, C> {
 
     /// Writes the parameters of a constructor, with commas between.
     fn constructor_params<N: Held>(&mut self, node: &Constructor<N>)
-        ensures items { Makes (constructor_params N.items node.now) (standing_of S.lines W.sheet self.old) (standing_of S.lines W.sheet self.new) }
+        ensures items { Makes (constructor_params N.answers N.items node.now) (standing_of S.lines W.sheet self.old) (standing_of S.lines W.sheet self.new) }
         ensures level { Stays (standing_of S.lines W.sheet self.old) (standing_of S.lines W.sheet self.new) }
     {
         self.list(comma_list_format(), node.span, &node.params)
@@ -415,7 +415,7 @@ impl<W: WriteJs, S: SourceMapper, C: Comments> Emitter<'_, W, S, C> {
     /// Writes `(a){ b; }` of a constructor.
     #[tactic(auto, unfolding(crate::specs::Classes::constructor_tail))]
     fn constructor_tail<N: Held>(&mut self, node: &Constructor<N>)
-        ensures items { Makes (constructor_tail N.items node.now) (standing_of S.lines W.sheet self.old) (standing_of S.lines W.sheet self.new) }
+        ensures items { Makes (constructor_tail N.answers N.items node.now) (standing_of S.lines W.sheet self.old) (standing_of S.lines W.sheet self.new) }
         ensures level { Stays (standing_of S.lines W.sheet self.old) (standing_of S.lines W.sheet self.new) }
     {
         self.punct(Punctuator::LeftParenthesis);

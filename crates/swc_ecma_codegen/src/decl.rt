@@ -8,8 +8,8 @@ ghost use Rattle.swc_ecma_codegen.specs.Classes.{class_decl};
 ghost use Rattle.swc_ecma_codegen.specs.Lists.{unsupported};
 
 use crate::emitter::Emitter;
-use crate::nodes::{AskPattern, Child, EmitAt, Held, Place};
-use crate::patterns::PatternKind;
+use crate::nodes::{Child, EmitAt, Held, Place};
+use crate::patterns::{PatternKind, kind_of_pat};
 use swc_ecma_codegen_ast::ListFormat;
 use swc_ecma_codegen_ast::comments::Comments;
 use swc_ecma_codegen_ast::mapper::SourceMapper;
@@ -39,11 +39,11 @@ fn is_unmarked(kind: PatternKind) -> bool
 
 /// Whether the first that is declared begins with no mark.
 #[tactic(auto, unfolding(crate::specs::Decls::first_is_unmarked))]
-fn first_is_unmarked<N: AskPattern>(declarators: &[VarDeclarator<N>]) -> bool
-    ensures { result ≡ first_is_unmarked N.answers declarators.now }
+fn first_is_unmarked<N>(declarators: &[VarDeclarator<N>]) -> bool
+    ensures { result ≡ first_is_unmarked declarators.now }
 {
     match declarators {
-        [first, ..] => is_unmarked(first.name.held().pattern()),
+        [first, ..] => is_unmarked(kind_of_pat(&first.name)),
         [] => true,
     }
 }
@@ -68,7 +68,7 @@ impl<N: Held> EmitAt for Decl<N> {
 }
 
 impl<N: Held> EmitAt for UsingDecl<N> {
-    ghost items = { λ n _. using_decl N.items n };
+    ghost items = { λ n _. using_decl N.answers N.items n };
 
     #[tactic(auto, unfolding(crate::specs::Decls::using_decl))]
     fn emit_at<W: WriteJs, S: SourceMapper, C: Comments>(
@@ -128,7 +128,7 @@ impl<N: Held> EmitAt for VarDecl<N> {
 }
 
 impl<N: Held> EmitAt for VarDeclarator<N> {
-    ghost items = { λ n _. var_declarator N.items n };
+    ghost items = { λ n _. var_declarator N.answers N.items n };
 
     #[tactic(auto, unfolding(crate::specs::Decls::var_declarator, crate::specs::Decls::var_declarator_parts))]
     fn emit_at<W: WriteJs, S: SourceMapper, C: Comments>(
@@ -140,7 +140,7 @@ impl<N: Held> EmitAt for VarDeclarator<N> {
             return e.unsupported();
         }
         e.opened(self.span);
-        self.name.held().emit_at(e, Place::Plain);
+        self.name.emit_at(e, Place::Plain);
         e.initializer(&self.init);
     }
 }
@@ -156,7 +156,7 @@ impl<N: Held> Child for VarDeclarator<N> {
 impl<W: WriteJs, S: SourceMapper, C: Comments> Emitter<'_, W, S, C> {
     /// Writes declarators, with commas between.
     fn declarators<N: Held>(&mut self, span: Span, nodes: &Vec<VarDeclarator<N>>)
-        ensures items { Makes (declarators N.items span nodes.now.items) (standing_of S.lines W.sheet self.old) (standing_of S.lines W.sheet self.new) }
+        ensures items { Makes (declarators N.answers N.items span nodes.now.items) (standing_of S.lines W.sheet self.old) (standing_of S.lines W.sheet self.new) }
         ensures level { Stays (standing_of S.lines W.sheet self.old) (standing_of S.lines W.sheet self.new) }
     {
         self.list(declarators_format(), span, nodes)
@@ -249,7 +249,7 @@ impl<W: WriteJs, S: SourceMapper, C: Comments> Emitter<'_, W, S, C> {
     /// Writes resources, before `export` nothing.
     #[tactic(auto, unfolding(crate::specs::Decls::without_head, crate::specs::Decls::by_export, crate::specs::Decls::resources))]
     fn using_by_place<N: Held>(&mut self, node: &UsingDecl<N>, place: Place)
-        ensures items { Makes (without_head place (resources N.items node.now)) (standing_of S.lines W.sheet self.old) (standing_of S.lines W.sheet self.new) }
+        ensures items { Makes (without_head place (resources N.answers N.items node.now)) (standing_of S.lines W.sheet self.old) (standing_of S.lines W.sheet self.new) }
         ensures level { Stays (standing_of S.lines W.sheet self.old) (standing_of S.lines W.sheet self.new) }
     {
         match place {

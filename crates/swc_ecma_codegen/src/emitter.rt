@@ -44,7 +44,7 @@ impl<'a, W: WriteJs, S: SourceMapper, C: Comments> Emitter<'a, W, S, C> {
     ghost use Rattle.swc_ecma_codegen.specs.Roots.{MayBegin, OfModule, OfProgram, OfScript};
     ghost use Rattle.swc_ecma_codegen.specs.declared.nodes.Place.TheVariants.{Plain};
     ghost use Rattle.swc_ecma_codegen_ast.specs.TreePhrases.{phrase, program_phrase, is_well_formed};
-    ghost use Rattle.swc_ecma_codegen_ast.specs.ModulePhrases.{module_item as item_phrase};
+    ghost use Rattle.swc_ecma_codegen_ast.specs.StmtPhrases.{module_item as item_phrase};
     ghost use Rattle.swc_ecma_codegen_ast.specs.Phrases.{is_possible, names_in};
     ghost use Rattle.swc_ecma_codegen_text_writer.specs.Recorded.{RecordsTruly};
     ghost use Rattle.swc_ecma_codegen_base.specs.Named.{RecordsNames};
@@ -110,7 +110,7 @@ impl<'a, W: WriteJs, S: SourceMapper, C: Comments> Emitter<'a, W, S, C> {
     #[tactic(auto, using(crate::proofs::TreeReads::program_reads, crate::proofs::TreeReads::steps_recorded, crate::proofs::TreeReads::program_names, crate::proofs::TreeReads::program_ascii, crate::proofs::TreeReads::program_safe, crate::proofs::TreeMade::program_made, swc_ecma_codegen_base::proofs::Made::ready_after, swc_ecma_codegen_base::proofs::Phrased::never_out_of_memory))]
     pub fn emit_program(&mut self, node: &Program) -> Result
         // The steps of the tree are made, and it comes to no node that can't be printed; or it halts.
-        ensures items { Follows (program any_items node.now nothing) (state_of S.lines W.sheet self.old) (state_of S.lines W.sheet self.new) (in_short result) }
+        ensures items { Follows (program any_answers any_items node.now nothing) (state_of S.lines W.sheet self.old) (state_of S.lines W.sheet self.new) (in_short result) }
         // What a new emitter adds to the text, of a well-formed tree, reads as one of the tree's token lists; with a hashbang, where
         // no indentation is due before it.
         ensures reads { is_well_formed node.now ≡ true → MayBegin (OfProgram node.now) (state_of S.lines W.sheet self.old) → OnOk result (AddsReading self.old.cfg (program_phrase node.now) (W.sheet self.old.wr) (W.sheet self.new.wr)) }
@@ -120,18 +120,18 @@ impl<'a, W: WriteJs, S: SourceMapper, C: Comments> Emitter<'a, W, S, C> {
         ensures names { is_well_formed node.now ≡ true → (W.sheet self.old.wr).keeps_positions ≡ true → (W.sheet self.old.wr).keeps_invalid ≡ false → OnOk result (RecordsNames self.old.cfg (names_in (program_phrase node.now)) (W.sheet self.old.wr) (W.sheet self.new.wr)) }
         // Where the settings ask for ASCII, what is added is, unless a text that stands as it is in the tree isn't: a regular
         // expression, a template with a tag, a hashbang, or a directive with a backslash.
-        ensures ascii { is_well_formed node.now ≡ true → WantsAscii (state_of S.lines W.sheet self.old) → keeps_other (steps_of (steps_in (program any_items node.now) (state_of S.lines W.sheet self.old))) ≡ false → OnOk result (AddsAscii (W.sheet self.old.wr).text (W.sheet self.new.wr).text) }
+        ensures ascii { is_well_formed node.now ≡ true → WantsAscii (state_of S.lines W.sheet self.old) → keeps_other (steps_of (steps_in (program any_answers any_items node.now) (state_of S.lines W.sheet self.old))) ≡ false → OnOk result (AddsAscii (W.sheet self.old.wr).text (W.sheet self.new.wr).text) }
         // Under `inline_script` no string of a well-formed tree that is printed by its value ends a script of an HTML page, or
         // opens or closes a comment there: it holds no `<!--`, no `-->`, and no `</script` before `>` or ASCII whitespace.
-        ensures inline { is_well_formed node.now ≡ true → self.old.cfg.inline_script ≡ true → (W.sheet self.old.wr).keeps_invalid ≡ false → OnOk result (AddsSafe (value_strings (steps_of (steps_in (program any_items node.now) (state_of S.lines W.sheet self.old)))) (W.sheet self.old.wr).text (W.sheet self.new.wr).text) }
+        ensures inline { is_well_formed node.now ≡ true → self.old.cfg.inline_script ≡ true → (W.sheet self.old.wr).keeps_invalid ≡ false → OnOk result (AddsSafe (value_strings (steps_of (steps_in (program any_answers any_items node.now) (state_of S.lines W.sheet self.old)))) (W.sheet self.old.wr).text (W.sheet self.new.wr).text) }
         // What is out is a beginning of the text of these steps.
-        ensures front { IsFront (W.sheet self.new.wr).text (printed (program any_items node.now) (state_of S.lines W.sheet self.old)).sheet.text }
+        ensures front { IsFront (W.sheet self.new.wr).text (printed (program any_answers any_items node.now) (state_of S.lines W.sheet self.old)).sheet.text }
         // It is refused only for the cause that the error names.
-        ensures cause { IfErr result (λ error. HasCause (steps_in (program any_items node.now) (state_of S.lines W.sheet self.old)) (reason_of error) (state_of S.lines W.sheet self.old) (state_of S.lines W.sheet self.new)) }
+        ensures cause { IfErr result (λ error. HasCause (steps_in (program any_answers any_items node.now) (state_of S.lines W.sheet self.old)) (reason_of error) (state_of S.lines W.sheet self.old) (state_of S.lines W.sheet self.new)) }
         // Where no text is made anew, and no call of the writer takes memory, none is wanting.
-        ensures no_memory { makes_text (steps_of (steps_in (program any_items node.now) (state_of S.lines W.sheet self.old))) ≡ false → (W.sheet self.old.wr).takes_memory ≡ false → result ≢ Err Error.OutOfMemory }
+        ensures no_memory { makes_text (steps_of (steps_in (program any_answers any_items node.now) (state_of S.lines W.sheet self.old))) ≡ false → (W.sheet self.old.wr).takes_memory ≡ false → result ≢ Err Error.OutOfMemory }
         // Where nothing stands in its way, it is made.
-        ensures succeeds { IsUnhindered (steps_in (program any_items node.now) (state_of S.lines W.sheet self.old)) (state_of S.lines W.sheet self.old) (state_of S.lines W.sheet self.new) → IsOk result }
+        ensures succeeds { IsUnhindered (steps_in (program any_answers any_items node.now) (state_of S.lines W.sheet self.old)) (state_of S.lines W.sheet self.old) (state_of S.lines W.sheet self.new) → IsOk result }
         // Where it is ready, and the writer counts no fault, a plain tree is printed.
         ensures made { IsPlainTree self.old.cfg (program_phrase node.now) (W.sheet self.old.wr).indentation → IsReady (state_of S.lines W.sheet self.old) → (W.sheet self.new.wr).faults ≡ (W.sheet self.old.wr).faults → IsOk result }
         // It is ready again for the next.
@@ -149,7 +149,7 @@ impl<'a, W: WriteJs, S: SourceMapper, C: Comments> Emitter<'a, W, S, C> {
     #[tactic(auto, using(crate::proofs::TreeReads::module_reads, crate::proofs::TreeReads::steps_recorded, crate::proofs::TreeReads::module_names, crate::proofs::TreeReads::module_ascii, crate::proofs::TreeReads::module_safe, crate::proofs::TreeMade::module_made, swc_ecma_codegen_base::proofs::Made::ready_after, swc_ecma_codegen_base::proofs::Phrased::never_out_of_memory))]
     pub fn emit_module(&mut self, node: &Module) -> Result
         // The steps of the tree are made, and it comes to no node that can't be printed; or it halts.
-        ensures items { Follows (whole_module any_items node.now nothing) (state_of S.lines W.sheet self.old) (state_of S.lines W.sheet self.new) (in_short result) }
+        ensures items { Follows (whole_module any_answers any_items node.now nothing) (state_of S.lines W.sheet self.old) (state_of S.lines W.sheet self.new) (in_short result) }
         // What a new emitter adds to the text, of a well-formed tree, reads as one of the tree's token lists; with a hashbang, where
         // no indentation is due before it.
         ensures reads { is_well_formed (Program.Module node.now) ≡ true → MayBegin (OfModule node.now) (state_of S.lines W.sheet self.old) → OnOk result (AddsReading self.old.cfg (program_phrase (Program.Module node.now)) (W.sheet self.old.wr) (W.sheet self.new.wr)) }
@@ -159,18 +159,18 @@ impl<'a, W: WriteJs, S: SourceMapper, C: Comments> Emitter<'a, W, S, C> {
         ensures names { is_well_formed (Program.Module node.now) ≡ true → (W.sheet self.old.wr).keeps_positions ≡ true → (W.sheet self.old.wr).keeps_invalid ≡ false → OnOk result (RecordsNames self.old.cfg (names_in (program_phrase (Program.Module node.now))) (W.sheet self.old.wr) (W.sheet self.new.wr)) }
         // Where the settings ask for ASCII, what is added is, unless a text that stands as it is in the tree isn't: a regular
         // expression, a template with a tag, a hashbang, or a directive with a backslash.
-        ensures ascii { is_well_formed (Program.Module node.now) ≡ true → WantsAscii (state_of S.lines W.sheet self.old) → keeps_other (steps_of (steps_in (whole_module any_items node.now) (state_of S.lines W.sheet self.old))) ≡ false → OnOk result (AddsAscii (W.sheet self.old.wr).text (W.sheet self.new.wr).text) }
+        ensures ascii { is_well_formed (Program.Module node.now) ≡ true → WantsAscii (state_of S.lines W.sheet self.old) → keeps_other (steps_of (steps_in (whole_module any_answers any_items node.now) (state_of S.lines W.sheet self.old))) ≡ false → OnOk result (AddsAscii (W.sheet self.old.wr).text (W.sheet self.new.wr).text) }
         // Under `inline_script` no string of a well-formed tree that is printed by its value ends a script of an HTML page, or
         // opens or closes a comment there: it holds no `<!--`, no `-->`, and no `</script` before `>` or ASCII whitespace.
-        ensures inline { is_well_formed (Program.Module node.now) ≡ true → self.old.cfg.inline_script ≡ true → (W.sheet self.old.wr).keeps_invalid ≡ false → OnOk result (AddsSafe (value_strings (steps_of (steps_in (whole_module any_items node.now) (state_of S.lines W.sheet self.old)))) (W.sheet self.old.wr).text (W.sheet self.new.wr).text) }
+        ensures inline { is_well_formed (Program.Module node.now) ≡ true → self.old.cfg.inline_script ≡ true → (W.sheet self.old.wr).keeps_invalid ≡ false → OnOk result (AddsSafe (value_strings (steps_of (steps_in (whole_module any_answers any_items node.now) (state_of S.lines W.sheet self.old)))) (W.sheet self.old.wr).text (W.sheet self.new.wr).text) }
         // What is out is a beginning of the text of these steps.
-        ensures front { IsFront (W.sheet self.new.wr).text (printed (whole_module any_items node.now) (state_of S.lines W.sheet self.old)).sheet.text }
+        ensures front { IsFront (W.sheet self.new.wr).text (printed (whole_module any_answers any_items node.now) (state_of S.lines W.sheet self.old)).sheet.text }
         // It is refused only for the cause that the error names.
-        ensures cause { IfErr result (λ error. HasCause (steps_in (whole_module any_items node.now) (state_of S.lines W.sheet self.old)) (reason_of error) (state_of S.lines W.sheet self.old) (state_of S.lines W.sheet self.new)) }
+        ensures cause { IfErr result (λ error. HasCause (steps_in (whole_module any_answers any_items node.now) (state_of S.lines W.sheet self.old)) (reason_of error) (state_of S.lines W.sheet self.old) (state_of S.lines W.sheet self.new)) }
         // Where no text is made anew, and no call of the writer takes memory, none is wanting.
-        ensures no_memory { makes_text (steps_of (steps_in (whole_module any_items node.now) (state_of S.lines W.sheet self.old))) ≡ false → (W.sheet self.old.wr).takes_memory ≡ false → result ≢ Err Error.OutOfMemory }
+        ensures no_memory { makes_text (steps_of (steps_in (whole_module any_answers any_items node.now) (state_of S.lines W.sheet self.old))) ≡ false → (W.sheet self.old.wr).takes_memory ≡ false → result ≢ Err Error.OutOfMemory }
         // Where nothing stands in its way, it is made.
-        ensures succeeds { IsUnhindered (steps_in (whole_module any_items node.now) (state_of S.lines W.sheet self.old)) (state_of S.lines W.sheet self.old) (state_of S.lines W.sheet self.new) → IsOk result }
+        ensures succeeds { IsUnhindered (steps_in (whole_module any_answers any_items node.now) (state_of S.lines W.sheet self.old)) (state_of S.lines W.sheet self.old) (state_of S.lines W.sheet self.new) → IsOk result }
         // Where it is ready, and the writer counts no fault, a plain tree is printed.
         ensures made { IsPlainTree self.old.cfg (program_phrase (Program.Module node.now)) (W.sheet self.old.wr).indentation → IsReady (state_of S.lines W.sheet self.old) → (W.sheet self.new.wr).faults ≡ (W.sheet self.old.wr).faults → IsOk result }
         // It is ready again for the next.
@@ -188,7 +188,7 @@ impl<'a, W: WriteJs, S: SourceMapper, C: Comments> Emitter<'a, W, S, C> {
     #[tactic(auto, using(crate::proofs::TreeReads::script_reads, crate::proofs::TreeReads::steps_recorded, crate::proofs::TreeReads::script_names, crate::proofs::TreeReads::script_ascii, crate::proofs::TreeReads::script_safe, crate::proofs::TreeMade::script_made, swc_ecma_codegen_base::proofs::Made::ready_after, swc_ecma_codegen_base::proofs::Phrased::never_out_of_memory))]
     pub fn emit_script(&mut self, node: &Script) -> Result
         // The steps of the tree are made, and it comes to no node that can't be printed; or it halts.
-        ensures items { Follows (script any_items node.now nothing) (state_of S.lines W.sheet self.old) (state_of S.lines W.sheet self.new) (in_short result) }
+        ensures items { Follows (script any_answers any_items node.now nothing) (state_of S.lines W.sheet self.old) (state_of S.lines W.sheet self.new) (in_short result) }
         // What a new emitter adds to the text, of a well-formed tree, reads as one of the tree's token lists; with a hashbang, where
         // no indentation is due before it.
         ensures reads { is_well_formed (Program.Script node.now) ≡ true → MayBegin (OfScript node.now) (state_of S.lines W.sheet self.old) → OnOk result (AddsReading self.old.cfg (program_phrase (Program.Script node.now)) (W.sheet self.old.wr) (W.sheet self.new.wr)) }
@@ -198,18 +198,18 @@ impl<'a, W: WriteJs, S: SourceMapper, C: Comments> Emitter<'a, W, S, C> {
         ensures names { is_well_formed (Program.Script node.now) ≡ true → (W.sheet self.old.wr).keeps_positions ≡ true → (W.sheet self.old.wr).keeps_invalid ≡ false → OnOk result (RecordsNames self.old.cfg (names_in (program_phrase (Program.Script node.now))) (W.sheet self.old.wr) (W.sheet self.new.wr)) }
         // Where the settings ask for ASCII, what is added is, unless a text that stands as it is in the tree isn't: a regular
         // expression, a template with a tag, a hashbang, or a directive with a backslash.
-        ensures ascii { is_well_formed (Program.Script node.now) ≡ true → WantsAscii (state_of S.lines W.sheet self.old) → keeps_other (steps_of (steps_in (script any_items node.now) (state_of S.lines W.sheet self.old))) ≡ false → OnOk result (AddsAscii (W.sheet self.old.wr).text (W.sheet self.new.wr).text) }
+        ensures ascii { is_well_formed (Program.Script node.now) ≡ true → WantsAscii (state_of S.lines W.sheet self.old) → keeps_other (steps_of (steps_in (script any_answers any_items node.now) (state_of S.lines W.sheet self.old))) ≡ false → OnOk result (AddsAscii (W.sheet self.old.wr).text (W.sheet self.new.wr).text) }
         // Under `inline_script` no string of a well-formed tree that is printed by its value ends a script of an HTML page, or
         // opens or closes a comment there: it holds no `<!--`, no `-->`, and no `</script` before `>` or ASCII whitespace.
-        ensures inline { is_well_formed (Program.Script node.now) ≡ true → self.old.cfg.inline_script ≡ true → (W.sheet self.old.wr).keeps_invalid ≡ false → OnOk result (AddsSafe (value_strings (steps_of (steps_in (script any_items node.now) (state_of S.lines W.sheet self.old)))) (W.sheet self.old.wr).text (W.sheet self.new.wr).text) }
+        ensures inline { is_well_formed (Program.Script node.now) ≡ true → self.old.cfg.inline_script ≡ true → (W.sheet self.old.wr).keeps_invalid ≡ false → OnOk result (AddsSafe (value_strings (steps_of (steps_in (script any_answers any_items node.now) (state_of S.lines W.sheet self.old)))) (W.sheet self.old.wr).text (W.sheet self.new.wr).text) }
         // What is out is a beginning of the text of these steps.
-        ensures front { IsFront (W.sheet self.new.wr).text (printed (script any_items node.now) (state_of S.lines W.sheet self.old)).sheet.text }
+        ensures front { IsFront (W.sheet self.new.wr).text (printed (script any_answers any_items node.now) (state_of S.lines W.sheet self.old)).sheet.text }
         // It is refused only for the cause that the error names.
-        ensures cause { IfErr result (λ error. HasCause (steps_in (script any_items node.now) (state_of S.lines W.sheet self.old)) (reason_of error) (state_of S.lines W.sheet self.old) (state_of S.lines W.sheet self.new)) }
+        ensures cause { IfErr result (λ error. HasCause (steps_in (script any_answers any_items node.now) (state_of S.lines W.sheet self.old)) (reason_of error) (state_of S.lines W.sheet self.old) (state_of S.lines W.sheet self.new)) }
         // Where no text is made anew, and no call of the writer takes memory, none is wanting.
-        ensures no_memory { makes_text (steps_of (steps_in (script any_items node.now) (state_of S.lines W.sheet self.old))) ≡ false → (W.sheet self.old.wr).takes_memory ≡ false → result ≢ Err Error.OutOfMemory }
+        ensures no_memory { makes_text (steps_of (steps_in (script any_answers any_items node.now) (state_of S.lines W.sheet self.old))) ≡ false → (W.sheet self.old.wr).takes_memory ≡ false → result ≢ Err Error.OutOfMemory }
         // Where nothing stands in its way, it is made.
-        ensures succeeds { IsUnhindered (steps_in (script any_items node.now) (state_of S.lines W.sheet self.old)) (state_of S.lines W.sheet self.old) (state_of S.lines W.sheet self.new) → IsOk result }
+        ensures succeeds { IsUnhindered (steps_in (script any_answers any_items node.now) (state_of S.lines W.sheet self.old)) (state_of S.lines W.sheet self.old) (state_of S.lines W.sheet self.new) → IsOk result }
         // Where it is ready, and the writer counts no fault, a plain tree is printed.
         ensures made { IsPlainTree self.old.cfg (program_phrase (Program.Script node.now)) (W.sheet self.old.wr).indentation → IsReady (state_of S.lines W.sheet self.old) → (W.sheet self.new.wr).faults ≡ (W.sheet self.old.wr).faults → IsOk result }
         // It is ready again for the next.

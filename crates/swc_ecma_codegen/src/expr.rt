@@ -48,7 +48,7 @@ fn leaves_comments<N>(node: &Expr<N>, place: Place) -> bool
 
 /// Writes an expression by its variant, without the comments after it.
 #[inline(always)]
-#[tactic(auto, unfolding(crate::specs::Exprs::expr_parts))]
+#[tactic(auto, unfolding(crate::specs::Exprs::expr_parts, crate::specs::Exprs::member_at))]
 fn expr_parts<N: Held, W: WriteJs, S: SourceMapper, C: Comments>(
     node: &Expr<N>,
     e: &mut Emitter<'_, W, S, C>,
@@ -66,7 +66,7 @@ fn expr_parts<N: Held, W: WriteJs, S: SourceMapper, C: Comments>(
         Expr::Update(node) => node.emit_at(e, place),
         Expr::Bin(node) => node.emit_at(e, place),
         Expr::Assign(node) => node.emit_at(e, place),
-        Expr::Member(node) => node.held().emit_at(e, Place::Plain),
+        Expr::Member(node) => node.emit_at(e, Place::Plain),
         Expr::SuperProp(node) => node.emit_at(e, place),
         Expr::Cond(node) => node.emit_at(e, place),
         Expr::Call(node) => node.emit_at(e, place),
@@ -76,7 +76,7 @@ fn expr_parts<N: Held, W: WriteJs, S: SourceMapper, C: Comments>(
         Expr::Lit(node) => node.emit_at(e, place),
         Expr::Tpl(node) => node.held().emit_at(e, Place::Plain),
         Expr::TaggedTpl(node) => node.emit_at(e, place),
-        Expr::Arrow(node) => node.emit_at(e, place),
+        Expr::Arrow(node) => (**node).emit_at(e, place),
         Expr::Class(node) => node.emit_at(e, place),
         Expr::Yield(node) => node.emit_at(e, place),
         Expr::MetaProp(node) => node.emit_at(e, place),
@@ -416,7 +416,7 @@ impl<W: WriteJs, S: SourceMapper, C: Comments> Emitter<'_, W, S, C> {
     }
 
     /// Writes the operator and the right operand. swc's `emit_bin_expr_trailing`.
-    #[tactic(auto, unfolding(crate::specs::Exprs::bin_trailing, crate::specs::Exprs::bin_operator))]
+    #[tactic(auto, unfolding(crate::specs::Exprs::bin_trailing))]
     fn bin_trailing<N: Held>(&mut self, node: &BinExpr<N>)
         ensures items { Makes (bin_trailing N.answers N.items node.now) (standing_of S.lines W.sheet self.old) (standing_of S.lines W.sheet self.new) }
         ensures level { Stays (standing_of S.lines W.sheet self.old) (standing_of S.lines W.sheet self.new) }

@@ -3,7 +3,8 @@
 ghost use Rattle.std.specs.Prelude.{◌≡◌};
 ghost use Rattle.swc_ecma_codegen_literals.specs.Punctuators.{spelling};
 ghost use Rattle.swc_ecma_codegen.specs.Standing.{Makes, Stays, standing_of};
-ghost use Rattle.swc_ecma_codegen.specs.Functions.{comma_list_format, decorators_format, decorator, decorators, decorator_lines, param, function_body, parameters, fn_trailing_parts, fn_trailing, static_gap, static_head, method_body, method_tail_parts, method_tail, private_tail, async_word, star, function_head, star_or_space, declaration_head, method_head, function, optional_name, fn_expr, is_plain, is_name, is_only, async_arrow, parenthesis, arrow_list, arrow_parameters, arrow_body, arrow_expr};
+ghost use Rattle.swc_ecma_codegen.specs.FunctionExprs.{comma_list_format, star, optional_name, fn_expr, is_plain, is_name, is_only, async_arrow, parenthesis, arrow_list, arrow_parameters, arrow_body, arrow_expr};
+ghost use Rattle.swc_ecma_codegen.specs.Functions.{decorators_format, decorator, decorators, decorator_lines, param, function_body, parameters, fn_trailing_parts, fn_trailing, static_gap, static_head, method_body, method_tail_parts, method_tail, private_tail, async_word, function_head, star_or_space, declaration_head, method_head, function};
 
 use crate::blocks::is_some_listed;
 use crate::emitter::Emitter;
@@ -34,7 +35,7 @@ pub(crate) fn decorators_format() -> ListFormat
 }
 
 /// Whether the only parameter is a name alone.
-#[tactic(auto, unfolding(crate::specs::Functions::is_only, crate::specs::Functions::is_plain))]
+#[tactic(auto, unfolding(crate::specs::FunctionExprs::is_only, crate::specs::FunctionExprs::is_plain))]
 fn is_only_plain<N: AskPattern>(params: &[PatBox<N>]) -> bool
     ensures { result ≡ is_only is_plain N.answers params.now }
 {
@@ -45,7 +46,7 @@ fn is_only_plain<N: AskPattern>(params: &[PatBox<N>]) -> bool
 }
 
 /// Whether the only parameter is a name, with or without a type.
-#[tactic(auto, unfolding(crate::specs::Functions::is_only, crate::specs::Functions::is_name))]
+#[tactic(auto, unfolding(crate::specs::FunctionExprs::is_only, crate::specs::FunctionExprs::is_name))]
 fn is_only_name<N: AskPattern>(params: &[PatBox<N>]) -> bool
     ensures { result ≡ is_only is_name N.answers params.now }
 {
@@ -61,7 +62,7 @@ fn is_only_name<N: AskPattern>(params: &[PatBox<N>]) -> bool
 impl<N: Held> EmitAt for ArrowExpr<N> {
     ghost items = { λ n _. arrow_expr N.answers N.items n };
 
-    #[tactic(auto, unfolding(crate::specs::Functions::arrow_expr, crate::specs::Functions::arrow_parts))]
+    #[tactic(auto, unfolding(crate::specs::FunctionExprs::arrow_expr, crate::specs::FunctionExprs::arrow_parts))]
     fn emit_at<W: WriteJs, S: SourceMapper, C: Comments>(
         &self,
         e: &mut Emitter<'_, W, S, C>,
@@ -109,7 +110,7 @@ impl<N: Held> Child for Decorator<N> {
 impl<N: Held> EmitAt for FnExpr<N> {
     ghost items = { λ n _. fn_expr N.answers N.items n };
 
-    #[tactic(auto, unfolding(crate::specs::Functions::fn_expr))]
+    #[tactic(auto, unfolding(crate::specs::FunctionExprs::fn_expr))]
     fn emit_at<W: WriteJs, S: SourceMapper, C: Comments>(
         &self,
         e: &mut Emitter<'_, W, S, C>,
@@ -126,7 +127,7 @@ impl<N: Held> EmitAt for FnExpr<N> {
 }
 
 impl<N: Held> EmitAt for Function<N> {
-    ghost items = { function N.items };
+    ghost items = { function N.answers N.items };
 
     #[tactic(auto, unfolding(crate::specs::Functions::function))]
     fn emit_at<W: WriteJs, S: SourceMapper, C: Comments>(
@@ -150,7 +151,7 @@ impl<N: Held> EmitAt for Function<N> {
 impl<N: Held> EmitAt for BlockStmtOrExpr<N> {
     ghost items = { λ n _. arrow_body N.items n };
 
-    #[tactic(auto, unfolding(crate::specs::Functions::arrow_body))]
+    #[tactic(auto, unfolding(crate::specs::FunctionExprs::arrow_body))]
     fn emit_at<W: WriteJs, S: SourceMapper, C: Comments>(
         &self,
         e: &mut Emitter<'_, W, S, C>,
@@ -168,7 +169,7 @@ impl<N: Held> EmitAt for BlockStmtOrExpr<N> {
 }
 
 impl<N: Held> EmitAt for Param<N> {
-    ghost items = { λ n _. param N.items n };
+    ghost items = { λ n _. param N.answers N.items n };
 
     #[tactic(auto, unfolding(crate::specs::Functions::param))]
     fn emit_at<W: WriteJs, S: SourceMapper, C: Comments>(
@@ -179,7 +180,7 @@ impl<N: Held> EmitAt for Param<N> {
         e.leading_comments(self.span.lo);
         e.start_of(self.span);
         e.decorators(self);
-        self.pat.held().emit_at(e, Place::Plain);
+        self.pat.emit_at(e, Place::Plain);
         e.end_of(self.span);
     }
 }
@@ -193,6 +194,14 @@ impl<N: Held> Child for Param<N> {
 }
 
 impl<W: WriteJs, S: SourceMapper, C: Comments> Emitter<'_, W, S, C> {
+    /// Writes decorators, one after another.
+    pub(crate) fn decorator_lines<N: Held>(&mut self, nodes: &[Decorator<N>])
+        ensures items { Makes (decorator_lines N.items nodes.now) (standing_of S.lines W.sheet self.old) (standing_of S.lines W.sheet self.new) }
+        ensures level { Stays (standing_of S.lines W.sheet self.old) (standing_of S.lines W.sheet self.new) }
+    {
+        self.in_order(nodes)
+    }
+
     /// Writes `async` and a blank, where it is so.
     #[tactic(auto, unfolding(crate::specs::Functions::async_word))]
     fn async_word(&mut self, wanted: bool)
@@ -206,7 +215,7 @@ impl<W: WriteJs, S: SourceMapper, C: Comments> Emitter<'_, W, S, C> {
     }
 
     /// Writes `*`, where it is so.
-    #[tactic(auto, unfolding(crate::specs::Functions::star))]
+    #[tactic(auto, unfolding(crate::specs::FunctionExprs::star))]
     fn star(&mut self, wanted: bool)
         ensures items { Makes (star wanted) (standing_of S.lines W.sheet self.old) (standing_of S.lines W.sheet self.new) }
         ensures level { Stays (standing_of S.lines W.sheet self.old) (standing_of S.lines W.sheet self.new) }
@@ -264,7 +273,7 @@ impl<W: WriteJs, S: SourceMapper, C: Comments> Emitter<'_, W, S, C> {
     /// Writes `(a) { b; }` of `function f(a) { b; }`. swc's `emit_fn_trailing`.
     #[tactic(auto, unfolding(crate::specs::Functions::fn_trailing))]
     fn fn_trailing<N: Held>(&mut self, node: &Function<N>)
-        ensures items { Makes (fn_trailing N.items node.now) (standing_of S.lines W.sheet self.old) (standing_of S.lines W.sheet self.new) }
+        ensures items { Makes (fn_trailing N.answers N.items node.now) (standing_of S.lines W.sheet self.old) (standing_of S.lines W.sheet self.new) }
         ensures level { Stays (standing_of S.lines W.sheet self.old) (standing_of S.lines W.sheet self.new) }
     {
         if node.type_params.is_some()
@@ -294,7 +303,7 @@ impl<W: WriteJs, S: SourceMapper, C: Comments> Emitter<'_, W, S, C> {
     /// Writes `(a) { b; }` of a method, without what TypeScript adds.
     #[tactic(auto, unfolding(crate::specs::Functions::method_tail_parts))]
     fn method_tail_parts<N: Held>(&mut self, node: &Function<N>)
-        ensures items { Makes (method_tail_parts N.items node.now) (standing_of S.lines W.sheet self.old) (standing_of S.lines W.sheet self.new) }
+        ensures items { Makes (method_tail_parts N.answers N.items node.now) (standing_of S.lines W.sheet self.old) (standing_of S.lines W.sheet self.new) }
         ensures level { Stays (standing_of S.lines W.sheet self.old) (standing_of S.lines W.sheet self.new) }
     {
         self.punct(Punctuator::LeftParenthesis);
@@ -306,7 +315,7 @@ impl<W: WriteJs, S: SourceMapper, C: Comments> Emitter<'_, W, S, C> {
     /// Writes `(a) { b; }` of a method, whose decorators stand elsewhere.
     #[tactic(auto, unfolding(crate::specs::Functions::method_tail))]
     fn method_tail<N: Held>(&mut self, node: &Function<N>)
-        ensures items { Makes (method_tail N.items node.now) (standing_of S.lines W.sheet self.old) (standing_of S.lines W.sheet self.new) }
+        ensures items { Makes (method_tail N.answers N.items node.now) (standing_of S.lines W.sheet self.old) (standing_of S.lines W.sheet self.new) }
         ensures level { Stays (standing_of S.lines W.sheet self.old) (standing_of S.lines W.sheet self.new) }
     {
         if node.type_params.is_some() || node.return_type.is_some() {
@@ -318,7 +327,7 @@ impl<W: WriteJs, S: SourceMapper, C: Comments> Emitter<'_, W, S, C> {
     /// Writes `(a) { b; }` of a private method, whose decorators stand elsewhere.
     #[tactic(auto, unfolding(crate::specs::Functions::private_tail))]
     fn private_tail<N: Held>(&mut self, node: &Function<N>)
-        ensures items { Makes (private_tail N.items node.now) (standing_of S.lines W.sheet self.old) (standing_of S.lines W.sheet self.new) }
+        ensures items { Makes (private_tail N.answers N.items node.now) (standing_of S.lines W.sheet self.old) (standing_of S.lines W.sheet self.new) }
         ensures level { Stays (standing_of S.lines W.sheet self.old) (standing_of S.lines W.sheet self.new) }
     {
         if node.type_params.is_some() || node.return_type.is_some() {
@@ -330,24 +339,13 @@ impl<W: WriteJs, S: SourceMapper, C: Comments> Emitter<'_, W, S, C> {
     /// Writes `(a) { b; }`.
     #[tactic(auto, unfolding(crate::specs::Functions::fn_trailing_parts))]
     fn fn_trailing_parts<N: Held>(&mut self, node: &Function<N>)
-        ensures items { Makes (fn_trailing_parts N.items node.now) (standing_of S.lines W.sheet self.old) (standing_of S.lines W.sheet self.new) }
+        ensures items { Makes (fn_trailing_parts N.answers N.items node.now) (standing_of S.lines W.sheet self.old) (standing_of S.lines W.sheet self.new) }
         ensures level { Stays (standing_of S.lines W.sheet self.old) (standing_of S.lines W.sheet self.new) }
     {
         self.punct(Punctuator::LeftParenthesis);
         self.parameters(node);
         self.punct(Punctuator::RightParenthesis);
         self.function_body(&node.body);
-    }
-
-    /// Writes decorators, one after another.
-    #[tactic(auto, using(crate::proofs::Steps::in_order_next), unfolding(crate::specs::Lists::in_order))]
-    pub(crate) fn decorator_lines<N: Held>(&mut self, nodes: &[Decorator<N>])
-        ensures items { Makes (decorator_lines N.items nodes.now) (standing_of S.lines W.sheet self.old) (standing_of S.lines W.sheet self.new) }
-        ensures level { Stays (standing_of S.lines W.sheet self.old) (standing_of S.lines W.sheet self.new) }
-    {
-        for node in nodes {
-            node.emit_at(self, Place::Plain);
-        }
     }
 
     /// Writes the blank after `static`.
@@ -376,7 +374,7 @@ impl<W: WriteJs, S: SourceMapper, C: Comments> Emitter<'_, W, S, C> {
 
     /// Writes the parameters of a function, with commas between.
     fn parameters<N: Held>(&mut self, node: &Function<N>)
-        ensures items { Makes (parameters N.items node.now) (standing_of S.lines W.sheet self.old) (standing_of S.lines W.sheet self.new) }
+        ensures items { Makes (parameters N.answers N.items node.now) (standing_of S.lines W.sheet self.old) (standing_of S.lines W.sheet self.new) }
         ensures level { Stays (standing_of S.lines W.sheet self.old) (standing_of S.lines W.sheet self.new) }
     {
         self.list(comma_list_format(), node.span, &node.params)
@@ -406,7 +404,7 @@ impl<W: WriteJs, S: SourceMapper, C: Comments> Emitter<'_, W, S, C> {
     }
 
     /// Writes a blank and a name, where there is one.
-    #[tactic(auto, unfolding(crate::specs::Functions::optional_name))]
+    #[tactic(auto, unfolding(crate::specs::FunctionExprs::optional_name))]
     pub(crate) fn optional_name(&mut self, name: &Option<Ident>)
         ensures items { Makes (optional_name name.now) (standing_of S.lines W.sheet self.old) (standing_of S.lines W.sheet self.new) }
         ensures level { Stays (standing_of S.lines W.sheet self.old) (standing_of S.lines W.sheet self.new) }
@@ -421,7 +419,7 @@ impl<W: WriteJs, S: SourceMapper, C: Comments> Emitter<'_, W, S, C> {
     }
 
     /// Writes `async`, and a blank before a name.
-    #[tactic(auto, unfolding(crate::specs::Functions::async_arrow))]
+    #[tactic(auto, unfolding(crate::specs::FunctionExprs::async_arrow))]
     fn async_arrow(&mut self, wanted: bool, named: bool)
         ensures items { Makes (async_arrow wanted named) (standing_of S.lines W.sheet self.old) (standing_of S.lines W.sheet self.new) }
         ensures level { Stays (standing_of S.lines W.sheet self.old) (standing_of S.lines W.sheet self.new) }
@@ -457,7 +455,7 @@ impl<W: WriteJs, S: SourceMapper, C: Comments> Emitter<'_, W, S, C> {
     }
 
     /// Writes the parameters of an arrow function, in parentheses.
-    #[tactic(auto, unfolding(crate::specs::Functions::arrow_parameters))]
+    #[tactic(auto, unfolding(crate::specs::FunctionExprs::arrow_parameters))]
     fn arrow_parameters<N: Held>(&mut self, node: &ArrowExpr<N>)
         ensures items { Makes (arrow_parameters N.answers N.items node.now) (standing_of S.lines W.sheet self.old) (standing_of S.lines W.sheet self.new) }
         ensures level { Stays (standing_of S.lines W.sheet self.old) (standing_of S.lines W.sheet self.new) }

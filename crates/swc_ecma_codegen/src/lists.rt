@@ -3,10 +3,9 @@
 ghost use Rattle.std.specs.Prelude.{◌≡◌, true, [], ◌∷◌, map, option_map};
 ghost use Rattle.swc_ecma_codegen.specs.Standing.{Makes, Stays, KeepsSettings, Deepens, Rises, HasLevels, standing_of};
 ghost use Rattle.swc_ecma_codegen_base.specs.Lists.{list_levels, opening, separator, child_comments, trailing_comma, closing, list_end, empty_list, first_child_after, first_child, next_child_after, next_child, list_closing, list_after, list, optional_list};
-ghost use Rattle.swc_ecma_codegen.specs.Lists.{comma, listed, in_order, child_at, child_of, asked_place};
+ghost use Rattle.swc_ecma_codegen.specs.Lists.{comma, listed, plainly, in_order, child_at, child_of, asked_place};
 ghost use Rattle.swc_ecma_codegen.specs.declared.nodes.Place.TheVariants.{Plain};
 ghost use Rattle.swc_ecma_codegen.specs.Exprs.{held};
-ghost use Rattle.swc_ecma_codegen.specs.Programs.{held as held_stmt};
 
 use crate::emitter::Emitter;
 use crate::nodes::{Child, EmitAt, Place};
@@ -18,7 +17,7 @@ use swc_ecma_codegen_ast::mapper::SourceMapper;
 use swc_ecma_codegen_common::{DUMMY_SP, Span};
 use swc_ecma_codegen_literals::Punctuator;
 use swc_ecma_codegen_text_writer::WriteJs;
-use swc_ecma_codegen_tree::{ExprBox, StmtBox};
+use swc_ecma_codegen_tree::ExprBox;
 
 /// Where a child stands, as far as its list asks for that: only one does whose lines end where those of the source text do.
 #[inline(always)]
@@ -60,14 +59,14 @@ impl<W: WriteJs, S: SourceMapper, C: Comments> Emitter<'_, W, S, C> {
         }
     }
 
-    /// Writes statements, one after another.
+    /// Writes nodes, one after another.
     #[tactic(auto, using(crate::proofs::Steps::in_order_next), unfolding(crate::specs::Lists::in_order))]
-    pub(crate) fn stmts<N: EmitAt>(&mut self, nodes: &[StmtBox<N>])
-        ensures items { Makes (in_order (held_stmt N.items) nodes.now) (standing_of S.lines W.sheet self.old) (standing_of S.lines W.sheet self.new) }
+    pub(crate) fn in_order<T: EmitAt>(&mut self, nodes: &[T])
+        ensures items { Makes (in_order (plainly T.items) nodes.now) (standing_of S.lines W.sheet self.old) (standing_of S.lines W.sheet self.new) }
         ensures level { Stays (standing_of S.lines W.sheet self.old) (standing_of S.lines W.sheet self.new) }
     {
         for node in nodes {
-            node.held().emit_at(self, Place::Plain);
+            node.emit_at(self, Place::Plain);
         }
     }
 }

@@ -2,7 +2,7 @@
 
 ghost use Rattle.std.specs.Prelude.{◌≡◌, true};
 ghost use Rattle.swc_ecma_codegen_ast.specs.Settings.{is_up_to_es5};
-ghost use Rattle.swc_ecma_codegen_util.specs.Ends.{declarator_ends, declarators_end, head_ends};
+ghost use Rattle.swc_ecma_codegen_util.specs.Ends.{pat_ends, declarator_ends, declarators_end, head_ends};
 ghost use Rattle.swc_ecma_codegen_base.specs.Choices.{loop_ending};
 ghost use Rattle.swc_ecma_codegen.specs.Standing.{Makes, Stays, standing_of};
 ghost use Rattle.swc_ecma_codegen_base.specs.Starts.{begins_letter};
@@ -18,8 +18,8 @@ use swc_ecma_codegen_common::{EsVersion, Span};
 use swc_ecma_codegen_literals::Punctuator;
 use swc_ecma_codegen_text_writer::WriteJs;
 use swc_ecma_codegen_tree::{
-    DoWhileStmt, ExprBox, ForHead, ForInStmt, ForOfStmt, ForStmt, StmtBox, SwitchCase, SwitchStmt,
-    VarDeclOrExpr, VarDeclarator, WhileStmt,
+    DoWhileStmt, ExprBox, ForHead, ForInStmt, ForOfStmt, ForStmt, Pat, StmtBox, SwitchCase,
+    SwitchStmt, VarDeclOrExpr, VarDeclarator, WhileStmt,
 };
 
 /// The format of the cases of a `switch`.
@@ -68,6 +68,20 @@ fn is_single<S: SourceMapper, N: AskPlace>(cm: &S, span: Span, nodes: &[StmtBox<
     }
 }
 
+/// Whether a pattern ends with a character of a name.
+#[tactic(auto, unfolding(swc_ecma_codegen_util::specs::Ends::pat_ends))]
+fn pat_ends<N: AskEnds>(pat: &Pat<N>) -> bool
+    ensures { result ≡ pat_ends (λ x. (N.answers x).ends) pat.now }
+{
+    match pat {
+        Pat::Array(_) | Pat::Object(_) => false,
+        Pat::Rest(node) => node.arg.held().ends(),
+        Pat::Assign(node) => node.right.held().ends(),
+        Pat::Expr(node) => node.held().ends(),
+        Pat::Ident(_) | Pat::Invalid(_) => true,
+    }
+}
+
 /// Whether a declarator ends with a character of a name.
 #[tactic(auto, unfolding(swc_ecma_codegen_util::specs::Ends::declarator_ends, swc_ecma_codegen_util::specs::Ends::init_ends))]
 fn declarator_ends<N: AskEnds>(declarator: &VarDeclarator<N>) -> bool
@@ -75,7 +89,7 @@ fn declarator_ends<N: AskEnds>(declarator: &VarDeclarator<N>) -> bool
 {
     match &declarator.init {
         Some(init) => init.held().ends(),
-        None => declarator.name.held().ends(),
+        None => pat_ends(&declarator.name),
     }
 }
 
@@ -103,7 +117,7 @@ fn head_ends<N: AskEnds>(head: &ForHead<N>) -> bool
 }
 
 impl<N: Held> EmitAt for ForHead<N> {
-    ghost items = { λ n _. for_head N.items n };
+    ghost items = { λ n _. for_head N.answers N.items n };
 
     #[tactic(auto, unfolding(crate::specs::Stmts::for_head))]
     fn emit_at<W: WriteJs, S: SourceMapper, C: Comments>(
@@ -114,7 +128,7 @@ impl<N: Held> EmitAt for ForHead<N> {
         match self {
             ForHead::Pat(node) => node.held().emit_at(e, Place::Plain),
             ForHead::VarDecl(node) => node.held().emit_at(e, Place::Plain),
-            ForHead::UsingDecl(node) => node.emit_at(e, Place::Plain),
+            ForHead::UsingDecl(node) => (**node).emit_at(e, Place::Plain),
         }
     }
 }

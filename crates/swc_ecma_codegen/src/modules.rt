@@ -5,7 +5,7 @@ ghost use Rattle.swc_ecma_codegen.specs.Standing.{Makes, Stays, standing_of};
 ghost use Rattle.swc_ecma_codegen_base.specs.Choices.{attributes_word};
 ghost use Rattle.swc_ecma_codegen.specs.Modules.{named_format, module_export_name, from_word, as_word, star_as, module_decl_by, module_decl, module_item_by, module_item, attributes, source_end};
 ghost use Rattle.swc_ecma_codegen.specs.Lists.{in_order};
-ghost use Rattle.swc_ecma_codegen.specs.Programs.{held_item, whole_module};
+ghost use Rattle.swc_ecma_codegen.specs.Programs.{whole_module};
 
 use crate::emitter::Emitter;
 use crate::nodes::{EmitAt, Held, Place};
@@ -19,7 +19,7 @@ use swc_ecma_codegen_spans::Spanned;
 use swc_ecma_codegen_text_writer::WriteJs;
 use swc_ecma_codegen_tree::{
     ExportAll, ExportDecl, ExportDefaultDecl, ExportDefaultExpr, Module, ModuleDecl,
-    ModuleExportName, ModuleItem, ModuleItemBox, ObjectLitBox, Str,
+    ModuleExportName, ModuleItem, ObjectLitBox, Str,
 };
 
 /// The format of the names of imports and exports.
@@ -79,7 +79,7 @@ impl<N: Held> EmitAt for ModuleItem<N> {
 }
 
 impl<N: Held> EmitAt for Module<N> {
-    ghost items = { λ n _. whole_module N.items n };
+    ghost items = { λ n _. whole_module N.answers N.items n };
 
     #[tactic(auto, unfolding(crate::specs::Programs::whole_module))]
     fn emit_at<W: WriteJs, S: SourceMapper, C: Comments>(
@@ -96,14 +96,11 @@ impl<N: Held> EmitAt for Module<N> {
 
 impl<W: WriteJs, S: SourceMapper, C: Comments> Emitter<'_, W, S, C> {
     /// Writes items, one after another.
-    #[tactic(auto, using(crate::proofs::Steps::in_order_next), unfolding(crate::specs::Lists::in_order))]
-    fn module_items<N: EmitAt>(&mut self, nodes: &[ModuleItemBox<N>])
-        ensures items { Makes (in_order (held_item N.items) nodes.now) (standing_of S.lines W.sheet self.old) (standing_of S.lines W.sheet self.new) }
+    fn module_items<N: Held>(&mut self, nodes: &[ModuleItem<N>])
+        ensures items { Makes (in_order (module_item N.answers N.items) nodes.now) (standing_of S.lines W.sheet self.old) (standing_of S.lines W.sheet self.new) }
         ensures level { Stays (standing_of S.lines W.sheet self.old) (standing_of S.lines W.sheet self.new) }
     {
-        for node in nodes {
-            node.held().emit_at(self, Place::Plain);
-        }
+        self.in_order(nodes)
     }
 
     /// Writes `from` and a blank.
@@ -207,12 +204,12 @@ impl<W: WriteJs, S: SourceMapper, C: Comments> Emitter<'_, W, S, C> {
     /// Writes an item by its variant.
     #[tactic(auto, unfolding(crate::specs::Modules::module_item_by))]
     fn module_item_by<N: Held>(&mut self, node: &ModuleItem<N>)
-        ensures items { Makes (module_item_by N.items node.now) (standing_of S.lines W.sheet self.old) (standing_of S.lines W.sheet self.new) }
+        ensures items { Makes (module_item_by N.answers N.items node.now) (standing_of S.lines W.sheet self.old) (standing_of S.lines W.sheet self.new) }
         ensures level { Stays (standing_of S.lines W.sheet self.old) (standing_of S.lines W.sheet self.new) }
     {
         match node {
             ModuleItem::ModuleDecl(node) => node.held().emit_at(self, Place::Plain),
-            ModuleItem::Stmt(node) => node.held().emit_at(self, Place::Plain),
+            ModuleItem::Stmt(node) => node.emit_at(self, Place::Plain),
         }
     }
 }

@@ -23,7 +23,6 @@ impl<N: Held> EmitAt for ExprPart<N> {
             ExprPart::Pat(node) => node.emit_at(e, place),
             ExprPart::ObjectLit(node) => node.emit_at(e, place),
             ExprPart::PropName(node) => node.emit_at(e, place),
-            ExprPart::Prop(node) => node.emit_at(e, place),
             ExprPart::Tpl(node) => node.emit_at(e, place),
             ExprPart::OptCall(node) => node.emit_at(e, place),
             ExprPart::AssignTarget(node) => node.emit_at(e, place),
@@ -47,7 +46,6 @@ impl<N: Held> EmitAt for StmtPart<N> {
             StmtPart::ClassMember(node) => (**node).emit_at(e, place),
             StmtPart::BlockStmt(node) => node.emit_at(e, place),
             StmtPart::Decl(node) => (**node).emit_at(e, place),
-            StmtPart::ModuleItem(node) => node.emit_at(e, place),
             StmtPart::ModuleDecl(node) => (**node).emit_at(e, place),
             StmtPart::VarDecl(node) => node.emit_at(e, place),
         }

@@ -20,7 +20,7 @@ pub enum PatternKind {
 
 /// What a pattern begins with.
 #[tactic(auto, unfolding(crate::specs::Patterns::pat_kind, crate::specs::Patterns::name_kind))]
-fn kind_of_pat<N>(node: &Pat<N>) -> PatternKind
+pub(crate) fn kind_of_pat<N>(node: &Pat<N>) -> PatternKind
     ensures { result ≡ pat_kind node.now }
 {
     match node {

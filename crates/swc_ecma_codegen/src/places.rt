@@ -1,13 +1,13 @@
 //! Where a node stands whose place is that of what it holds.
 
 ghost use Rattle.std.specs.Prelude.{◌≡◌};
-ghost use Rattle.swc_ecma_codegen_spans.specs.Spans.{expr_or_spread_span, expr_span, module_item_span, spread_element_span, stmt_span};
+ghost use Rattle.swc_ecma_codegen_spans.specs.Spans.{expr_or_spread_span, expr_span, module_item_span, prop_span, spread_element_span, stmt_span};
 ghost use Rattle.swc_ecma_codegen.specs.Answers.{place_of};
 
 use crate::nodes::AskPlace;
 use swc_ecma_codegen_common::Span;
 use swc_ecma_codegen_spans::Spanned;
-use swc_ecma_codegen_tree::{Expr, ExprOrSpread, ModuleItem, SpreadElement, Stmt};
+use swc_ecma_codegen_tree::{Expr, ExprOrSpread, ModuleItem, Prop, SpreadElement, Stmt};
 
 /// Where an expression stands.
 #[tactic(auto, unfolding(swc_ecma_codegen_spans::specs::Spans::expr_span, swc_ecma_codegen_spans::specs::Spans::fn_expr_span, swc_ecma_codegen_spans::specs::Spans::class_expr_span, swc_ecma_codegen_spans::specs::Spans::jsx_member_expr_span))]
@@ -23,7 +23,7 @@ pub(crate) fn expr_place<N: AskPlace>(node: &Expr<N>) -> Span
         Expr::Update(node) => node.span,
         Expr::Bin(node) => node.span,
         Expr::Assign(node) => node.span,
-        Expr::Member(node) => node.held().place(),
+        Expr::Member(node) => node.span,
         Expr::SuperProp(node) => node.span,
         Expr::Cond(node) => node.span,
         Expr::Call(node) => node.span,
@@ -94,7 +94,7 @@ pub(crate) fn module_item_place<N: AskPlace>(node: &ModuleItem<N>) -> Span
 {
     match node {
         ModuleItem::ModuleDecl(node) => node.held().place(),
-        ModuleItem::Stmt(node) => node.held().place(),
+        ModuleItem::Stmt(node) => stmt_place(node),
     }
 }
 
@@ -121,5 +121,29 @@ pub(crate) fn spread_element_place<N: AskPlace>(node: &SpreadElement<N>) -> Span
     Span {
         lo: node.dot3_token.lo,
         hi: node.expr.held().place().hi,
+    }
+}
+
+/// Where a property stands.
+#[tactic(auto, unfolding(swc_ecma_codegen_spans::specs::Spans::prop_span, swc_ecma_codegen_spans::specs::Spans::key_value_prop_span, swc_ecma_codegen_spans::specs::Spans::assign_prop_span, swc_ecma_codegen_spans::specs::Spans::method_prop_span))]
+pub(crate) fn prop_place<N: AskPlace>(node: &Prop<N>) -> Span
+    ensures { result ≡ prop_span (place_of N.answers) node.now }
+{
+    match node {
+        Prop::Shorthand(node) => node.span,
+        Prop::KeyValue(node) => Span {
+            lo: node.key.held().place().lo,
+            hi: node.value.held().place().hi,
+        },
+        Prop::Assign(node) => Span {
+            lo: node.key.span.lo,
+            hi: node.value.held().place().hi,
+        },
+        Prop::Getter(node) => node.span,
+        Prop::Setter(node) => node.span,
+        Prop::Method(node) => Span {
+            lo: node.key.held().place().lo,
+            hi: node.function.held().place().hi,
+        },
     }
 }

@@ -12,6 +12,7 @@ ghost use Rattle.swc_ecma_codegen.specs.Props.{prop_name, key_end, value_start, 
 use crate::blocks::is_some_listed;
 use crate::emitter::Emitter;
 use crate::nodes::{Child, EmitAt, Held, Place};
+use crate::places::{prop_place, spread_element_place};
 use bitflags::Flags;
 use swc_ecma_codegen_ast::ListFormat;
 use swc_ecma_codegen_ast::comments::Comments;
@@ -52,8 +53,8 @@ impl<N: Held> EmitAt for PropName<N> {
         match self {
             PropName::Ident(name) => e.key(name.span, &name.sym),
             PropName::Str(node) => node.emit_at(e, Place::Plain),
-            PropName::Num(node) => node.emit_at(e, Place::Plain),
-            PropName::BigInt(node) => node.emit_at(e, Place::Plain),
+            PropName::Num(node) => (**node).emit_at(e, Place::Plain),
+            PropName::BigInt(node) => (**node).emit_at(e, Place::Plain),
             PropName::Computed(node) => node.emit_at(e, Place::Plain),
         }
     }
@@ -203,7 +204,7 @@ impl<N: Held> EmitAt for PropOrSpread<N> {
     ) {
         match self {
             PropOrSpread::Spread(node) => node.emit_at(e, Place::Plain),
-            PropOrSpread::Prop(node) => node.held().emit_at(e, Place::Plain),
+            PropOrSpread::Prop(node) => node.emit_at(e, Place::Plain),
         }
     }
 }
@@ -211,14 +212,11 @@ impl<N: Held> EmitAt for PropOrSpread<N> {
 impl<N: Held> Child for PropOrSpread<N> {
     ghost stands = { prop_or_spread_span (place_of N.answers) };
 
-    #[tactic(auto, unfolding(swc_ecma_codegen_spans::specs::Spans::prop_or_spread_span, swc_ecma_codegen_spans::specs::Spans::spread_element_span))]
+    #[tactic(auto, unfolding(swc_ecma_codegen_spans::specs::Spans::prop_or_spread_span))]
     fn place(&self) -> Span {
         match self {
-            PropOrSpread::Spread(node) => Span {
-                lo: node.dot3_token.lo,
-                hi: node.expr.held().place().hi,
-            },
-            PropOrSpread::Prop(node) => node.held().place(),
+            PropOrSpread::Spread(node) => spread_element_place(node),
+            PropOrSpread::Prop(node) => prop_place(node),
         }
     }
 }

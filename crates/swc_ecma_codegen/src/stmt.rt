@@ -2,6 +2,9 @@
 
 ghost use Rattle.std.specs.Prelude.{◌≡◌, true};
 ghost use Rattle.swc_ecma_codegen_base.specs.Lists.{blank_if};
+ghost use Rattle.swc_ecma_codegen_spans.specs.Spans.{stmt_span};
+ghost use Rattle.swc_ecma_codegen.specs.Answers.{place_of};
+ghost use Rattle.swc_ecma_codegen.specs.Lists.{in_order};
 ghost use Rattle.swc_ecma_codegen.specs.Standing.{Makes, Stays, standing_of};
 ghost use Rattle.swc_ecma_codegen_base.specs.Starts.{begins_letter};
 ghost use Rattle.swc_ecma_codegen.specs.Stmts.{enclosed, spaced, stmt_word, spaced_word, jump, empty_stmt, expr_stmt, debugger_stmt, with_stmt, return_arg, return_stmt, labeled_stmt, break_stmt, continue_stmt, else_branch, if_stmt, catch_param, catch_clause, handler, finalizer, try_stmt, throw_stmt, stmt_parts, stmt_closed, stmt};
@@ -9,7 +12,7 @@ ghost use Rattle.swc_ecma_codegen.specs.Programs.{start_if_empty, program_start,
 
 use crate::branches::is_block;
 use crate::emitter::Emitter;
-use crate::nodes::{EmitAt, Held, Place};
+use crate::nodes::{Child, EmitAt, Held, Place};
 use crate::places::stmt_place;
 use swc_ecma_codegen_ast::comments::Comments;
 use swc_ecma_codegen_ast::mapper::SourceMapper;
@@ -67,6 +70,14 @@ impl<N: Held> EmitAt for Stmt<N> {
     ) {
         stmt_parts(self, e);
         e.stmt_closed(is_block(self), stmt_place(self));
+    }
+}
+
+impl<N: Held> Child for Stmt<N> {
+    ghost stands = { stmt_span (place_of N.answers) };
+
+    fn place(&self) -> Span {
+        stmt_place(self)
     }
 }
 
@@ -259,7 +270,7 @@ impl<N: Held> EmitAt for TryStmt<N> {
 }
 
 impl<N: Held> EmitAt for Script<N> {
-    ghost items = { λ n _. script N.items n };
+    ghost items = { λ n _. script N.answers N.items n };
 
     #[tactic(auto, unfolding(crate::specs::Programs::script))]
     fn emit_at<W: WriteJs, S: SourceMapper, C: Comments>(
@@ -275,7 +286,7 @@ impl<N: Held> EmitAt for Script<N> {
 }
 
 impl<N: Held> EmitAt for Program<N> {
-    ghost items = { λ n _. program N.items n };
+    ghost items = { λ n _. program N.answers N.items n };
 
     #[tactic(auto, unfolding(crate::specs::Programs::program))]
     fn emit_at<W: WriteJs, S: SourceMapper, C: Comments>(
@@ -291,6 +302,14 @@ impl<N: Held> EmitAt for Program<N> {
 }
 
 impl<W: WriteJs, S: SourceMapper, C: Comments> Emitter<'_, W, S, C> {
+    /// Writes statements, one after another.
+    fn stmts<N: Held>(&mut self, nodes: &[Stmt<N>])
+        ensures items { Makes (in_order (stmt N.answers N.items) nodes.now) (standing_of S.lines W.sheet self.old) (standing_of S.lines W.sheet self.new) }
+        ensures level { Stays (standing_of S.lines W.sheet self.old) (standing_of S.lines W.sheet self.new) }
+    {
+        self.in_order(nodes)
+    }
+
     /// Writes the comments after a statement and the end of its line, but for a block.
     #[tactic(auto, unfolding(crate::specs::Stmts::stmt_closed))]
     fn stmt_closed(&mut self, block: bool, span: Span)

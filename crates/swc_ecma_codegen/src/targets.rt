@@ -45,7 +45,7 @@ impl<N: Held> EmitAt for AssignTarget<N> {
 impl<N: Held> EmitAt for SimpleAssignTarget<N> {
     ghost items = { λ n _. simple_assign_target N.items n };
 
-    #[tactic(auto, unfolding(crate::specs::Targets::simple_assign_target))]
+    #[tactic(auto, unfolding(crate::specs::Targets::simple_assign_target, crate::specs::Exprs::member_at))]
     fn emit_at<W: WriteJs, S: SourceMapper, C: Comments>(
         &self,
         e: &mut Emitter<'_, W, S, C>,
@@ -53,7 +53,7 @@ impl<N: Held> EmitAt for SimpleAssignTarget<N> {
     ) {
         match self {
             SimpleAssignTarget::Ident(node) => node.emit_at(e, place),
-            SimpleAssignTarget::Member(node) => node.held().emit_at(e, Place::Plain),
+            SimpleAssignTarget::Member(node) => node.emit_at(e, Place::Plain),
             SimpleAssignTarget::SuperProp(node) => node.emit_at(e, place),
             SimpleAssignTarget::Paren(node) => node.emit_at(e, place),
             SimpleAssignTarget::OptChain(node) => node.emit_at(e, place),

@@ -15,14 +15,12 @@ use Rattle.swc_ecma_codegen_tree.specs.declared.modules.ImportDecl.{ImportDecl}
 use Rattle.swc_ecma_codegen_tree.specs.declared.modules.NamedExport.{NamedExport}
 use Rattle.swc_ecma_codegen_tree.specs.declared.programs.ModuleDecl.{ModuleDecl}
 use Rattle.swc_ecma_codegen_tree.specs.declared.programs.ModuleDecl.TheVariants as module_decls
-use Rattle.swc_ecma_codegen_tree.specs.declared.programs.ModuleItem.{ModuleItem}
-use Rattle.swc_ecma_codegen_tree.specs.declared.programs.ModuleItem.TheVariants as module_items
 use Rattle.swc_ecma_codegen_ast.specs.Phrases.{Phrase}
 use Rattle.swc_ecma_codegen_ast.specs.declared.roles.Role.{Role}
-use Rattle.swc_ecma_codegen_ast.specs.declared.roles.Role.TheVariants.{Item, ModuleDeclaration, ExportedHead, ExportedTail}
+use Rattle.swc_ecma_codegen_ast.specs.declared.roles.Role.TheVariants.{ModuleDeclaration, ExportedHead, ExportedTail}
 use Rattle.swc_ecma_codegen_ast.specs.ClassPhrases.{class_expr}
 use Rattle.swc_ecma_codegen_ast.specs.FunctionPhrases.{fn_expr}
-use Rattle.swc_ecma_codegen_ast.specs.ModulePhrases.{attributes, from_clause, import_decl, export_named, export_all, exported_head, exported_tail, export_decl, default_decl, export_default_decl, export_default_expr, module_decl, module_item}
+use Rattle.swc_ecma_codegen_ast.specs.ModulePhrases.{attributes, from_clause, import_decl, export_named, export_all, exported_head, exported_tail, export_decl, default_decl, export_default_decl, export_default_expr, module_decl}
 use Rattle.swc_ecma_codegen_ast.specs.PartPhrases.{stmt_part}
 use Rattle.swc_ecma_codegen_ast.specs.TreePhrases.{node_phrase}
 use Rattle.swc_ecma_codegen_ast.proofs.MappedStmts.{decl_mapped}
@@ -63,11 +61,6 @@ decl_by g f b n = refl
 
 pub module_decl_mapped : {X Y : Type 0} (g : X → Y) (f : Y → Role → Phrase) (b : Box (ModuleDecl X) Global) → node_phrase f (map-AnyNode X Y g (nodes.StmtPart (stmt_parts.ModuleDecl b))) ModuleDeclaration ≡ module_decl (λ x. f (g x)) b.value
 module_decl_mapped g f b = decl_by g f b b.value
-
-pub module_item_mapped : {X Y : Type 0} (g : X → Y) (f : Y → Role → Phrase) (n : ModuleItem X) → node_phrase f (map-AnyNode X Y g (nodes.StmtPart (stmt_parts.ModuleItem n))) Item ≡ module_item (λ x. f (g x)) n
-unfolding node_phrase stmt_part module_item
-module_item_mapped g f (module_items.ModuleDecl n) = refl
-module_item_mapped g f (module_items.Stmt n) = refl
 
 head_by : {X Y : Type 0} (g : X → Y) (f : Y → Role → Phrase) (b : Box (Decl X) Global) (n : Decl X) → node_phrase f (map-AnyNode X Y g (nodes.StmtPart (stmt_parts.Decl (record b { value = n })))) ExportedHead ≡ exported_head (λ x. f (g x)) n
 unfolding node_phrase stmt_part exported_head

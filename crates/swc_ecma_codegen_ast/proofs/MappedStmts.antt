@@ -1,5 +1,5 @@
 -- The productions of statements and declarations see what links hold through f alone.
-use Rattle.std.proofs.Common.{◌≡◌, refl, ap, List, map, codes, Bool, true, false, Option, Some, None, Box, Vec, Global}
+use Rattle.std.proofs.Common.{◌≡◌, refl, ap, List, map, codes, Bool, true, false, cond, Option, Some, None, Box, Vec, Global}
 use Rattle.swc_ecma_codegen_common.specs.declared.positions.Span.{Span}
 use Rattle.swc_ecma_codegen_tree.specs.declared.links.AnyNode.{map-AnyNode}
 use Rattle.swc_ecma_codegen_tree.specs.declared.links.AnyNode.TheOpen as nodes
@@ -9,6 +9,7 @@ use Rattle.swc_ecma_codegen_tree.specs.declared.decls.Decl.{Decl}
 use Rattle.swc_ecma_codegen_tree.specs.declared.decls.Decl.TheVariants as decls
 use Rattle.swc_ecma_codegen_tree.specs.declared.decls.VarDecl.{VarDecl}
 use Rattle.swc_ecma_codegen_tree.specs.declared.decls.VarDeclarator.{VarDeclarator}
+use Rattle.swc_ecma_codegen_tree.specs.declared.pats.Pat.{Pat}
 use Rattle.swc_ecma_codegen_tree.specs.declared.stmts.CatchClause.{CatchClause}
 use Rattle.swc_ecma_codegen_tree.specs.declared.stmts.ForHead.{ForHead}
 use Rattle.swc_ecma_codegen_tree.specs.declared.stmts.ForHead.TheVariants as heads
@@ -24,7 +25,7 @@ use Rattle.swc_ecma_codegen_tree.specs.declared.stmts.SwitchStmt.{SwitchStmt}
 use Rattle.swc_ecma_codegen_tree.specs.declared.stmts.TryStmt.{TryStmt}
 use Rattle.swc_ecma_codegen_tree.specs.declared.stmts.VarDeclOrExpr.{VarDeclOrExpr}
 use Rattle.swc_ecma_codegen_tree.specs.declared.stmts.VarDeclOrExpr.TheVariants as inits
-use Rattle.swc_ecma_codegen_ast.specs.Phrases.{Phrase, ◌>◌, mark, word, same_line, ending, in_order, some_listed}
+use Rattle.swc_ecma_codegen_ast.specs.Phrases.{Phrase, Never, ◌>◌, mark, word, same_line, ending, in_order, some_listed}
 use Rattle.swc_ecma_codegen_ast.specs.declared.roles.Role.{Role}
 use Rattle.swc_ecma_codegen_ast.specs.declared.roles.Role.TheVariants.{Statement, Declaration, VariableDeclaration}
 use Rattle.swc_ecma_codegen_ast.specs.PatPhrases.{value_at, initializer}
@@ -32,33 +33,38 @@ use Rattle.swc_ecma_codegen_ast.specs.FunctionPhrases.{word_if}
 use Rattle.swc_ecma_codegen_ast.specs.DeclPhrases.{after_await, fn_decl, var_declarator, var_kind, var_decl, using_decl, decl}
 use Rattle.swc_ecma_codegen_ast.specs.ClassPhrases.{class_decl}
 use Rattle.swc_ecma_codegen_ast.specs.StmtPhrases.{stmt_at, optional_value, empty_stmt, expr_stmt, debugger_stmt, with_stmt, return_stmt, labeled_stmt, break_stmt, continue_stmt, else_branch, if_stmt, case_test, switch_case, switch_stmt, throw_stmt, catch_param, catch_clause, handler, finalizer, try_stmt, while_stmt, do_while_stmt, var_decl_or_expr, for_init, for_stmt, for_head, for_in_stmt, for_of_stmt, stmt, return_rest}
-use Rattle.swc_ecma_codegen_ast.specs.PartPhrases.{stmt_part}
+use Rattle.swc_ecma_codegen_ast.specs.PartPhrases.{expr_part, stmt_part}
 use Rattle.swc_ecma_codegen_ast.specs.TreePhrases.{node_phrase}
 use Rattle.swc_ecma_codegen_ast.proofs.Mapped.{list_mapped, each_option}
+use Rattle.swc_ecma_codegen_ast.proofs.MappedPats.{pat_mapped}
 
 -- ---- declarations
 
 -- what holds of each declarator, by whether it has a value, holds of all
 pub by_init : {X : Type 0} (P : VarDeclarator X → Type 0)
-    → ((span : Span) (name : PatBox X) (definite : Bool) → P (record { span = span; name = name; init = None; definite = definite }))
-    → ((span : Span) (name : PatBox X) (init : ExprBox X) (definite : Bool) → P (record { span = span; name = name; init = Some init; definite = definite }))
+    → ((span : Span) (name : Pat X) (definite : Bool) → P (record { span = span; name = name; init = None; definite = definite }))
+    → ((span : Span) (name : Pat X) (init : ExprBox X) (definite : Bool) → P (record { span = span; name = name; init = Some init; definite = definite }))
     → (n : VarDeclarator X) → P n
 by_init P none some n = each_option (λ init. P (record { span = n.span; name = n.name; init = init; definite = n.definite })) (none n.span n.name n.definite) (λ init. some n.span n.name init n.definite) n.init
+
+-- a declarator with its pattern
+named : (definite : Bool) (p q init : Phrase) → p ≡ q → cond definite Never (p > init) ≡ cond definite Never (q > init)
+named definite p q init e = ap (λ z. cond definite Never (z > init)) e
 
 declarators_mapped : {X Y : Type 0} (g : VarDeclarator X → VarDeclarator Y) (f : Y → Role → Phrase) (d : X → Role → Phrase) → ((n : VarDeclarator X) → var_declarator f (g n) ≡ var_declarator d n) → (xs : List (VarDeclarator X)) → some_listed (codes ",") (map (var_declarator f) (map g xs)) ≡ some_listed (codes ",") (map (var_declarator d) xs)
 declarators_mapped g f d same xs = ap (some_listed (codes ",")) (list_mapped g (var_declarator f) (var_declarator d) same xs)
 
 var_by : {X Y : Type 0} (g : X → Y) (f : Y → Role → Phrase) (n : VarDecl X) (declare : Bool) → node_phrase f (map-AnyNode X Y g (nodes.StmtPart (stmt_parts.VarDecl (record n { declare = declare })))) VariableDeclaration ≡ var_decl (λ x. f (g x)) (record n { declare = declare })
-unfolding node_phrase stmt_part var_decl var_declarator initializer
+unfolding node_phrase expr_part stmt_part var_decl var_declarator initializer
 var_by g f n true = refl
-var_by {X} {Y} g f n false = ap (λ p. var_kind n.kind > p) (declarators_mapped {X = X} {Y = Y} _ f (λ x. f (g x)) (by_init {X = X} _ (λ span name definite. refl) (λ span name init definite. refl)) n.decls.items)
+var_by {X} {Y} g f n false = ap (λ p. var_kind n.kind > p) (declarators_mapped {X = X} {Y = Y} _ f (λ x. f (g x)) (by_init {X = X} _ (λ span name definite. named definite _ _ _ (pat_mapped g f name)) (λ span name init definite. named definite _ _ _ (pat_mapped g f name))) n.decls.items)
 
 pub var_decl_mapped : {X Y : Type 0} (g : X → Y) (f : Y → Role → Phrase) (n : VarDecl X) → node_phrase f (map-AnyNode X Y g (nodes.StmtPart (stmt_parts.VarDecl n))) VariableDeclaration ≡ var_decl (λ x. f (g x)) n
 var_decl_mapped g f n = var_by g f n n.declare
 
 decl_by : {X Y : Type 0} (g : X → Y) (f : Y → Role → Phrase) (b : Box (Decl X) Global) (n : Decl X) → node_phrase f (map-AnyNode X Y g (nodes.StmtPart (stmt_parts.Decl (record b { value = n })))) Declaration ≡ decl (λ x. f (g x)) n
-unfolding node_phrase stmt_part decl fn_decl using_decl var_declarator initializer class_decl
-decl_by {X} {Y} g f b (decls.Using n) = ap (λ p. after_await n.is_await (word (codes "using") > same_line > p) > ending) (declarators_mapped {X = X} {Y = Y} _ f (λ x. f (g x)) (by_init {X = X} _ (λ span name definite. refl) (λ span name init definite. refl)) n.decls.items)
+unfolding node_phrase expr_part stmt_part decl fn_decl using_decl var_declarator initializer class_decl
+decl_by {X} {Y} g f b (decls.Using n) = ap (λ p. after_await n.is_await (word (codes "using") > same_line > p) > ending) (declarators_mapped {X = X} {Y = Y} _ f (λ x. f (g x)) (by_init {X = X} _ (λ span name definite. named definite _ _ _ (pat_mapped g f name)) (λ span name init definite. named definite _ _ _ (pat_mapped g f name))) n.decls.items)
 decl_by g f b (decls.Fn n) = refl
 decl_by g f b (decls.Var n) = refl
 decl_by g f b n = refl
@@ -128,17 +134,17 @@ abbrev using_head : Bool → Phrase → Phrase
 using_head is_await declarators = after_await is_await (word (codes "using") > same_line > declarators)
 
 for_in_by : {X Y : Type 0} (g : X → Y) (f : Y → Role → Phrase) (n : ForInStmt X) (left : ForHead X) → node_phrase f (map-AnyNode X Y g (nodes.Stmt (stmts.ForIn (record n { left = left })))) Statement ≡ for_in_stmt (λ x. f (g x)) (record n { left = left })
-unfolding node_phrase stmt for_in_stmt for_head using_decl var_declarator initializer
+unfolding node_phrase expr_part stmt for_in_stmt for_head using_decl var_declarator initializer
 for_in_by g f n (heads.VarDecl h) = refl
-for_in_by {X} {Y} g f n (heads.UsingDecl h) = ap (λ p. word (codes "for") > mark (codes "(") > using_head h.is_await p > word (codes "in") > value_at (λ x. f (g x)) n.right > mark (codes ")") > stmt_at (λ x. f (g x)) n.body)
-    (declarators_mapped {X = X} {Y = Y} _ f (λ x. f (g x)) (by_init {X = X} _ (λ span name definite. refl) (λ span name init definite. refl)) h.decls.items)
+for_in_by {X} {Y} g f n (heads.UsingDecl h) = ap (λ p. word (codes "for") > mark (codes "(") > using_head h.value.is_await p > word (codes "in") > value_at (λ x. f (g x)) n.right > mark (codes ")") > stmt_at (λ x. f (g x)) n.body)
+    (declarators_mapped {X = X} {Y = Y} _ f (λ x. f (g x)) (by_init {X = X} _ (λ span name definite. named definite _ _ _ (pat_mapped g f name)) (λ span name init definite. named definite _ _ _ (pat_mapped g f name))) h.value.decls.items)
 for_in_by g f n (heads.Pat h) = refl
 
 for_of_by : {X Y : Type 0} (g : X → Y) (f : Y → Role → Phrase) (n : ForOfStmt X) (left : ForHead X) → node_phrase f (map-AnyNode X Y g (nodes.Stmt (stmts.ForOf (record n { left = left })))) Statement ≡ for_of_stmt (λ x. f (g x)) (record n { left = left })
-unfolding node_phrase stmt for_of_stmt for_head using_decl var_declarator initializer
+unfolding node_phrase expr_part stmt for_of_stmt for_head using_decl var_declarator initializer
 for_of_by g f n (heads.VarDecl h) = refl
-for_of_by {X} {Y} g f n (heads.UsingDecl h) = ap (λ p. word (codes "for") > word_if n.is_await (word (codes "await")) > mark (codes "(") > using_head h.is_await p > word (codes "of") > value_at (λ x. f (g x)) n.right > mark (codes ")") > stmt_at (λ x. f (g x)) n.body)
-    (declarators_mapped {X = X} {Y = Y} _ f (λ x. f (g x)) (by_init {X = X} _ (λ span name definite. refl) (λ span name init definite. refl)) h.decls.items)
+for_of_by {X} {Y} g f n (heads.UsingDecl h) = ap (λ p. word (codes "for") > word_if n.is_await (word (codes "await")) > mark (codes "(") > using_head h.value.is_await p > word (codes "of") > value_at (λ x. f (g x)) n.right > mark (codes ")") > stmt_at (λ x. f (g x)) n.body)
+    (declarators_mapped {X = X} {Y = Y} _ f (λ x. f (g x)) (by_init {X = X} _ (λ span name definite. named definite _ _ _ (pat_mapped g f name)) (λ span name init definite. named definite _ _ _ (pat_mapped g f name))) h.value.decls.items)
 for_of_by g f n (heads.Pat h) = refl
 
 pub stmt_mapped : {X Y : Type 0} (g : X → Y) (f : Y → Role → Phrase) (n : Stmt X) → node_phrase f (map-AnyNode X Y g (nodes.Stmt n)) Statement ≡ stmt (λ x. f (g x)) n

@@ -31,7 +31,7 @@ use Rattle.swc_ecma_codegen_tree.specs.declared.parts.StmtPart.TheVariants as st
 use Rattle.swc_ecma_codegen_tree.specs.declared.stmts.Stmt.{Stmt}
 use Rattle.swc_ecma_codegen_ast.specs.Phrases.{Phrase, some_listed}
 use Rattle.swc_ecma_codegen_ast.specs.declared.roles.Role.{Role}
-use Rattle.swc_ecma_codegen_ast.specs.declared.roles.Role.TheVariants.{Expression, Statement, MemberExpression, ChainMember, AssignmentTarget, Pattern, PlainParameter, PropertyName, PropertyDefinition, ObjectLiteral, Function, Block, Declaration, VariableDeclaration, Callee, ChainCall, Template, TaggedTemplate, ClassHead, ClassTail, Member, MethodDecorators, MethodTail, PrivateTail, Item, ModuleDeclaration, ExportedHead, ExportedTail}
+use Rattle.swc_ecma_codegen_ast.specs.declared.roles.Role.TheVariants.{Expression, Statement, MemberExpression, ChainMember, AssignmentTarget, Pattern, PlainParameter, PropertyName, ObjectLiteral, Function, Block, Declaration, VariableDeclaration, Callee, ChainCall, Template, TaggedTemplate, ClassHead, ClassTail, Member, MethodDecorators, MethodTail, PrivateTail, ModuleDeclaration, ExportedHead, ExportedTail}
 use Rattle.swc_ecma_codegen_ast.specs.ExprPhrases.{expr, expr_at, this_expr, unary_expr, update_expr, bin_expr, computed_prop_name, member_prop, member_expr, super_prop, super_prop_expr, chain_mark, chain_prop, chain_member, chain_base, opt_chain_expr, meta_prop_expr, assign_expr, yield_arg, yield_expr, await_expr, cond_expr, seq_expr, paren_expr, expr_in, yield_rest}
 use Rattle.swc_ecma_codegen_ast.specs.NamePhrases.{binding_ident}
 use Rattle.swc_ecma_codegen_ast.specs.AssignPhrases.{assign_target, simple_assign_target}
@@ -43,9 +43,9 @@ use Rattle.swc_ecma_codegen_ast.proofs.Mapped.{list_mapped}
 use Rattle.swc_ecma_codegen_ast.proofs.MappedFunctions.{function_part_mapped, block_mapped, arrow_expr_mapped}
 use Rattle.swc_ecma_codegen_ast.proofs.MappedStmts.{stmt_mapped, decl_mapped, var_decl_mapped}
 use Rattle.swc_ecma_codegen_ast.proofs.MappedPats.{pat_mapped, plain_mapped, target_pat_mapped}
-use Rattle.swc_ecma_codegen_ast.proofs.MappedProps.{prop_name_mapped, prop_mapped, object_lit_mapped}
+use Rattle.swc_ecma_codegen_ast.proofs.MappedProps.{prop_name_mapped, object_lit_mapped}
 use Rattle.swc_ecma_codegen_ast.proofs.MappedClasses.{method_decorators_mapped, method_tail_mapped, private_tail_mapped, class_head_mapped, class_tail_mapped, class_member_mapped}
-use Rattle.swc_ecma_codegen_ast.proofs.MappedModules.{module_decl_mapped, module_item_mapped, exported_head_mapped, exported_tail_mapped}
+use Rattle.swc_ecma_codegen_ast.proofs.MappedModules.{module_decl_mapped, exported_head_mapped, exported_tail_mapped}
 use Rattle.swc_ecma_codegen_ast.proofs.MappedTemplates.{tpl_mapped, tagged_mapped, tagged_tpl_mapped}
 use Rattle.swc_ecma_codegen_ast.proofs.MappedCalls.{array_lit_mapped, call_mapped, new_mapped, chain_call_mapped}
 
@@ -68,9 +68,16 @@ yield_mapped g f n true (Some x) = refl
 yield_mapped g f n false None = refl
 yield_mapped g f n false (Some x) = refl
 
+member_mapped : {X Y : Type 0} (g : X → Y) (f : Y → Role → Phrase) (span : Span) (obj : ExprBox X) (prop : MemberProp X) → node_phrase f (map-AnyNode X Y g (nodes.MemberExpr (record { span = span; obj = obj; prop = prop }))) MemberExpression ≡ member_expr (λ x. f (g x)) (record { span = span; obj = obj; prop = prop })
+unfolding node_phrase member_expr member_prop computed_prop_name
+member_mapped g f span obj (member_props.Ident n) = refl
+member_mapped g f span obj (member_props.Computed n) = refl
+member_mapped g f span obj (member_props.PrivateName n) = refl
+
 expr_mapped : {X Y : Type 0} (g : X → Y) (f : Y → Role → Phrase) (n : Expr X) → node_phrase f (map-AnyNode X Y g (nodes.Expr n)) Expression ≡ expr (λ x. f (g x)) n
 unfolding node_phrase expr this_expr unary_expr update_expr bin_expr assign_expr meta_prop_expr await_expr cond_expr seq_expr paren_expr fn_expr class_expr expr_in
 expr_mapped {X} g f (exprs.Seq n) = ap (some_listed (codes ",")) (list_mapped {A = ExprBox X} _ (expr_at f) (expr_at (λ x. f (g x))) (λ x. refl) n.exprs.items)
+expr_mapped g f (exprs.Member n) = member_mapped g f n.span n.obj n.prop
 expr_mapped g f (exprs.SuperProp n) = super_mapped g f n n.prop
 expr_mapped g f (exprs.OptChain n) = chain_mapped g f n n.base
 expr_mapped g f (exprs.Yield n) = yield_mapped g f n n.delegate n.arg
@@ -86,12 +93,6 @@ callee_mapped : {X Y : Type 0} (g : X → Y) (f : Y → Role → Phrase) (n : Ex
 unfolding node_phrase expr_in
 callee_mapped g f (exprs.New n) = new_mapped g f true n
 callee_mapped g f n = expr_mapped g f n
-
-member_mapped : {X Y : Type 0} (g : X → Y) (f : Y → Role → Phrase) (span : Span) (obj : ExprBox X) (prop : MemberProp X) → node_phrase f (map-AnyNode X Y g (nodes.MemberExpr (record { span = span; obj = obj; prop = prop }))) MemberExpression ≡ member_expr (λ x. f (g x)) (record { span = span; obj = obj; prop = prop })
-unfolding node_phrase member_expr member_prop computed_prop_name
-member_mapped g f span obj (member_props.Ident n) = refl
-member_mapped g f span obj (member_props.Computed n) = refl
-member_mapped g f span obj (member_props.PrivateName n) = refl
 
 chain_member_mapped : {X Y : Type 0} (g : X → Y) (f : Y → Role → Phrase) (span : Span) (obj : ExprBox X) (prop : MemberProp X) (optional : Bool) → node_phrase f (map-AnyNode X Y g (nodes.MemberExpr (record { span = span; obj = obj; prop = prop }))) (ChainMember optional) ≡ chain_member (λ x. f (g x)) optional (record { span = span; obj = obj; prop = prop })
 unfolding node_phrase chain_member chain_mark chain_prop computed_prop_name
@@ -124,6 +125,7 @@ chain_target_mapped g f n (chain_bases.Call b) = refl
 simple_target_mapped : {X Y : Type 0} (g : X → Y) (f : Y → Role → Phrase) (n : SimpleAssignTarget X) → node_phrase f (map-AnyNode X Y g (as_target n)) AssignmentTarget ≡ simple_assign_target (λ x. f (g x)) n
 unfolding node_phrase expr_part assign_target simple_assign_target paren_expr
 simple_target_mapped g f (simple_targets.Ident n) = binding_target_mapped g f n.id n.type_ann
+simple_target_mapped g f (simple_targets.Member n) = member_mapped g f n.span n.obj n.prop
 simple_target_mapped g f (simple_targets.SuperProp n) = super_target_mapped g f n n.prop
 simple_target_mapped g f (simple_targets.OptChain n) = chain_target_mapped g f n n.base
 simple_target_mapped g f n = refl
@@ -139,7 +141,6 @@ part_mapped g f (expr_parts.Pat n) Pattern = pat_mapped g f n
 part_mapped g f (expr_parts.Pat n) PlainParameter = plain_mapped g f n
 part_mapped g f (expr_parts.ObjectLit n) ObjectLiteral = object_lit_mapped g f n
 part_mapped g f (expr_parts.PropName n) PropertyName = prop_name_mapped g f n
-part_mapped g f (expr_parts.Prop n) PropertyDefinition = prop_mapped g f n
 part_mapped g f (expr_parts.OptCall n) (ChainCall optional) = chain_call_mapped g f optional n
 part_mapped g f (expr_parts.AssignTarget n) AssignmentTarget = target_mapped g f n
 part_mapped g f (expr_parts.Tpl n) Template = tpl_mapped g f n
@@ -159,7 +160,6 @@ stmt_part_mapped g f (stmt_parts.BlockStmt n) Block = block_mapped g f n
 stmt_part_mapped g f (stmt_parts.Decl n) Declaration = decl_mapped g f n
 stmt_part_mapped g f (stmt_parts.Decl n) ExportedHead = exported_head_mapped g f n
 stmt_part_mapped g f (stmt_parts.Decl n) ExportedTail = exported_tail_mapped g f n
-stmt_part_mapped g f (stmt_parts.ModuleItem n) Item = module_item_mapped g f n
 stmt_part_mapped g f (stmt_parts.ModuleDecl n) ModuleDeclaration = module_decl_mapped g f n
 stmt_part_mapped g f (stmt_parts.VarDecl n) VariableDeclaration = var_decl_mapped g f n
 stmt_part_mapped g f n role = refl

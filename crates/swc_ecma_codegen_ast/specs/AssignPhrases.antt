@@ -5,15 +5,14 @@ use Rattle.swc_ecma_codegen_tree.specs.declared.pats.SimpleAssignTarget.{SimpleA
 use Rattle.swc_ecma_codegen_tree.specs.declared.pats.SimpleAssignTarget.TheVariants as simple_targets
 use Rattle.swc_ecma_codegen_ast.specs.Phrases.{Phrase, Never}
 use Rattle.swc_ecma_codegen_ast.specs.declared.roles.Role.{Role}
-use Rattle.swc_ecma_codegen_ast.specs.declared.roles.Role.TheVariants.{MemberExpression}
 use Rattle.swc_ecma_codegen_ast.specs.NamePhrases.{binding_ident}
 use Rattle.swc_ecma_codegen_ast.specs.PatPhrases.{assign_target_pat}
-use Rattle.swc_ecma_codegen_ast.specs.ExprPhrases.{super_prop_expr, paren_expr, opt_chain_expr}
+use Rattle.swc_ecma_codegen_ast.specs.ExprPhrases.{member_expr, super_prop_expr, paren_expr, opt_chain_expr}
 
 -- `a`, `a.b`, `super.a`, `(a)`; what TypeScript adds isn't printed yet
 unfoldable pub simple_assign_target : {X : Type 0} → (X → Role → Phrase) → SimpleAssignTarget X → Phrase
 simple_assign_target f (simple_targets.Ident n) = binding_ident n
-simple_assign_target f (simple_targets.Member n) = f n.node.value MemberExpression
+simple_assign_target f (simple_targets.Member n) = member_expr f n
 simple_assign_target f (simple_targets.SuperProp n) = super_prop_expr f n
 simple_assign_target f (simple_targets.Paren n) = paren_expr f n
 simple_assign_target f (simple_targets.OptChain n) = opt_chain_expr f n

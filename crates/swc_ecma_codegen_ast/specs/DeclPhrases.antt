@@ -12,7 +12,7 @@ use Rattle.swc_ecma_codegen_tree.specs.declared.decls.VarDeclKind.TheVariants.{V
 use Rattle.swc_ecma_codegen_tree.specs.declared.decls.VarDeclarator.{VarDeclarator}
 use Rattle.swc_ecma_codegen_ast.specs.Phrases.{Phrase, Never, ◌>◌, word, same_line, ending, some_listed}
 use Rattle.swc_ecma_codegen_ast.specs.NamePhrases.{ident}
-use Rattle.swc_ecma_codegen_ast.specs.PatPhrases.{pat_at, initializer}
+use Rattle.swc_ecma_codegen_ast.specs.PatPhrases.{pat, initializer}
 use Rattle.swc_ecma_codegen_ast.specs.ClassPhrases.{class_decl}
 use Rattle.swc_ecma_codegen_ast.specs.FunctionPhrases.{function_at}
 use Rattle.swc_ecma_codegen_ast.specs.declared.roles.Role.{Role}
@@ -31,7 +31,7 @@ fn_decl f n = if n.declare then Never else (f n.function.node.value FunctionHead
 
 -- section 14.3: `a`, `a = b`
 unfoldable pub var_declarator : {X : Type 0} → (X → Role → Phrase) → VarDeclarator X → Phrase
-var_declarator f n = if n.definite then Never else (pat_at f n.name > initializer f n.init)
+var_declarator f n = if n.definite then Never else (pat f n.name > initializer f n.init)
 
 unfoldable pub var_kind : VarDeclKind → Phrase
 var_kind Var = word (codes "var")

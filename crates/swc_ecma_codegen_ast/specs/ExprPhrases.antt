@@ -38,7 +38,7 @@ use Rattle.swc_ecma_codegen_ast.specs.Phrases.{Phrase, Never, Nothing, One, Opti
 use Rattle.swc_ecma_codegen_ast.specs.Tokens.{Token}
 use Rattle.swc_ecma_codegen_ast.specs.Tokens as tokens
 use Rattle.swc_ecma_codegen_ast.specs.declared.roles.Role.{Role}
-use Rattle.swc_ecma_codegen_ast.specs.declared.roles.Role.TheVariants.{Expression, MemberExpression, ChainMember, AssignmentTarget, ObjectLiteral, ChainCall, Template}
+use Rattle.swc_ecma_codegen_ast.specs.declared.roles.Role.TheVariants.{Expression, ChainMember, AssignmentTarget, ObjectLiteral, ChainCall, Template}
 use Rattle.swc_ecma_codegen_ast.specs.FunctionPhrases.{fn_expr, arrow_expr}
 use Rattle.swc_ecma_codegen_ast.specs.TemplatePhrases.{tagged_tpl}
 use Rattle.swc_ecma_codegen_ast.specs.ClassPhrases.{class_expr}
@@ -180,7 +180,7 @@ expr f (exprs.Unary n) = unary_expr f n
 expr f (exprs.Update n) = update_expr f n
 expr f (exprs.Bin n) = bin_expr f n
 expr f (exprs.Assign n) = assign_expr f n
-expr f (exprs.Member n) = f n.node.value MemberExpression
+expr f (exprs.Member n) = member_expr f n
 expr f (exprs.SuperProp n) = super_prop_expr f n
 expr f (exprs.Cond n) = cond_expr f n
 expr f (exprs.Call n) = call_expr f n
@@ -190,7 +190,7 @@ expr f (exprs.Ident n) = ident n
 expr f (exprs.Lit n) = lit n
 expr f (exprs.Tpl n) = f n.node.value Template
 expr f (exprs.TaggedTpl n) = tagged_tpl f n
-expr f (exprs.Arrow n) = arrow_expr f n
+expr f (exprs.Arrow n) = arrow_expr f n.value
 expr f (exprs.Class n) = class_expr f n
 expr f (exprs.Yield n) = yield_expr f n
 expr f (exprs.MetaProp n) = meta_prop_expr n

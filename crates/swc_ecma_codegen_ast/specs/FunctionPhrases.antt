@@ -12,7 +12,7 @@ use Rattle.swc_ecma_codegen_tree.specs.declared.exprs.BlockStmtOrExpr.TheVariant
 use Rattle.swc_ecma_codegen_tree.specs.declared.idents.Ident.{Ident}
 use Rattle.swc_ecma_codegen_ast.specs.Phrases.{Phrase, Never, Nothing, OptionalParentheses, ◌>◌, word, mark, ending, listed, in_order, same_line}
 use Rattle.swc_ecma_codegen_ast.specs.NamePhrases.{ident}
-use Rattle.swc_ecma_codegen_ast.specs.PatPhrases.{value_at, pat_at}
+use Rattle.swc_ecma_codegen_ast.specs.PatPhrases.{value_at, pat_at, pat}
 use Rattle.swc_ecma_codegen_ast.specs.declared.roles.Role.{Role}
 use Rattle.swc_ecma_codegen_ast.specs.declared.roles.Role.TheVariants.{PlainParameter, Function, FunctionHead, Block}
 
@@ -44,7 +44,7 @@ decorator f n = mark (codes "@") > value_at f n.expr
 
 -- ECMA-262, section 15.1: `@a b`
 unfoldable pub param : {X : Type 0} → (X → Role → Phrase) → Param X → Phrase
-param f n = in_order (map (decorator f) n.decorators.items) > pat_at f n.pat
+param f n = in_order (map (decorator f) n.decorators.items) > pat f n.pat
 
 -- `{ a; }`, or the semicolon in its place
 unfoldable pub function_body : {X : Type 0} → (X → Role → Phrase) → Option (BlockStmtBox X) → Phrase

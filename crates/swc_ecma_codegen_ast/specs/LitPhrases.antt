@@ -182,7 +182,7 @@ unfoldable pub lit : Lit → Phrase
 lit (lits.Str n) = str_lit n
 lit (lits.Bool n) = bool_lit n
 lit (lits.Null n) = null_lit n
-lit (lits.Num n) = number n
-lit (lits.BigInt n) = big_int n
+lit (lits.Num n) = number n.value
+lit (lits.BigInt n) = big_int n.value
 lit (lits.Regex n) = regex n
 lit (lits.JSXText n) = Never

@@ -26,8 +26,6 @@ use Rattle.swc_ecma_codegen_tree.specs.declared.modules.ModuleExportName.TheVari
 use Rattle.swc_ecma_codegen_tree.specs.declared.modules.NamedExport.{NamedExport}
 use Rattle.swc_ecma_codegen_tree.specs.declared.programs.ModuleDecl.{ModuleDecl}
 use Rattle.swc_ecma_codegen_tree.specs.declared.programs.ModuleDecl.TheVariants as module_decls
-use Rattle.swc_ecma_codegen_tree.specs.declared.programs.ModuleItem.{ModuleItem}
-use Rattle.swc_ecma_codegen_tree.specs.declared.programs.ModuleItem.TheVariants as module_items
 use Rattle.swc_ecma_codegen_ast.specs.Phrases.{Phrase, Never, Nothing, Chosen, AttributesWord, ◌>◌, word, mark, ending, listed}
 use Rattle.swc_ecma_codegen_ast.specs.ClassPhrases.{class_expr}
 use Rattle.swc_ecma_codegen_ast.specs.DeclPhrases.{decl}
@@ -37,7 +35,7 @@ use Rattle.swc_ecma_codegen_ast.specs.LitPhrases.{str_lit}
 use Rattle.swc_ecma_codegen_ast.specs.NamePhrases.{ident}
 use Rattle.swc_ecma_codegen_ast.specs.PatPhrases.{value_at}
 use Rattle.swc_ecma_codegen_ast.specs.declared.roles.Role.{Role}
-use Rattle.swc_ecma_codegen_ast.specs.declared.roles.Role.TheVariants.{Statement, ObjectLiteral, ClassHead, ClassTail, ExportedHead, ExportedTail, ModuleDeclaration}
+use Rattle.swc_ecma_codegen_ast.specs.declared.roles.Role.TheVariants.{ObjectLiteral, ClassHead, ClassTail, ExportedHead, ExportedTail}
 
 -- `a` or `'b c'`
 unfoldable pub module_export_name : ModuleExportName → Phrase
@@ -179,7 +177,3 @@ module_decl f (module_decls.ExportDefaultExpr n) = export_default_expr f n
 module_decl f (module_decls.ExportAll n) = export_all f n
 -- what TypeScript adds
 module_decl f n = Never
-
-unfoldable pub module_item : {X : Type 0} → (X → Role → Phrase) → ModuleItem X → Phrase
-module_item f (module_items.ModuleDecl n) = f n.node.value ModuleDeclaration
-module_item f (module_items.Stmt n) = f n.node.value Statement

@@ -6,12 +6,12 @@ use Rattle.swc_ecma_codegen_tree.specs.declared.parts.StmtPart.{StmtPart}
 use Rattle.swc_ecma_codegen_tree.specs.declared.parts.StmtPart.TheVariants as stmt_parts
 use Rattle.swc_ecma_codegen_ast.specs.Phrases.{Phrase, Never}
 use Rattle.swc_ecma_codegen_ast.specs.declared.roles.Role.{Role}
-use Rattle.swc_ecma_codegen_ast.specs.declared.roles.Role.TheVariants.{AssignmentTarget, Pattern, PlainParameter, PropertyName, PropertyDefinition, ObjectLiteral, Function, FunctionHead, MethodHead, Block, Declaration, VariableDeclaration, ChainCall, Template, TaggedTemplate, ClassHead, ClassTail, Member, MethodDecorators, MethodTail, PrivateTail, Item, ModuleDeclaration, ExportedHead, ExportedTail}
+use Rattle.swc_ecma_codegen_ast.specs.declared.roles.Role.TheVariants.{AssignmentTarget, Pattern, PlainParameter, PropertyName, ObjectLiteral, Function, FunctionHead, MethodHead, Block, Declaration, VariableDeclaration, ChainCall, Template, TaggedTemplate, ClassHead, ClassTail, Member, MethodDecorators, MethodTail, PrivateTail, ModuleDeclaration, ExportedHead, ExportedTail}
 use Rattle.swc_ecma_codegen_ast.specs.AssignPhrases.{assign_target}
 use Rattle.swc_ecma_codegen_ast.specs.CallPhrases.{chain_call}
-use Rattle.swc_ecma_codegen_ast.specs.ModulePhrases.{exported_head, exported_tail, module_item, module_decl}
+use Rattle.swc_ecma_codegen_ast.specs.ModulePhrases.{exported_head, exported_tail, module_decl}
 use Rattle.swc_ecma_codegen_ast.specs.PatPhrases.{pat, plain_parameter}
-use Rattle.swc_ecma_codegen_ast.specs.PropPhrases.{object_lit, prop_name, prop}
+use Rattle.swc_ecma_codegen_ast.specs.PropPhrases.{object_lit, prop_name}
 use Rattle.swc_ecma_codegen_ast.specs.FunctionPhrases.{function, function_head, method_head}
 use Rattle.swc_ecma_codegen_ast.specs.TemplatePhrases.{tpl}
 use Rattle.swc_ecma_codegen_ast.specs.ClassPhrases.{class_head, class_tail, class_member, method_decorators, method_tail, private_tail}
@@ -23,7 +23,6 @@ expr_part f (expr_parts.Pat n) Pattern = pat f n
 expr_part f (expr_parts.Pat n) PlainParameter = plain_parameter n
 expr_part f (expr_parts.ObjectLit n) ObjectLiteral = object_lit f n
 expr_part f (expr_parts.PropName n) PropertyName = prop_name f n
-expr_part f (expr_parts.Prop n) PropertyDefinition = prop f n
 expr_part f (expr_parts.OptCall n) (ChainCall optional) = chain_call f optional n
 expr_part f (expr_parts.AssignTarget n) AssignmentTarget = assign_target f n
 expr_part f (expr_parts.Tpl n) Template = tpl f false n
@@ -44,7 +43,6 @@ stmt_part f (stmt_parts.BlockStmt n) Block = block_stmt f n
 stmt_part f (stmt_parts.Decl n) Declaration = decl f n.value
 stmt_part f (stmt_parts.Decl n) ExportedHead = exported_head f n.value
 stmt_part f (stmt_parts.Decl n) ExportedTail = exported_tail f n.value
-stmt_part f (stmt_parts.ModuleItem n) Item = module_item f n
 stmt_part f (stmt_parts.ModuleDecl n) ModuleDeclaration = module_decl f n.value
 stmt_part f (stmt_parts.VarDecl n) VariableDeclaration = var_decl f n
 stmt_part f n role = Never

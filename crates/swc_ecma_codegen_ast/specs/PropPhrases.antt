@@ -21,14 +21,14 @@ use Rattle.swc_ecma_codegen_ast.specs.ExprPhrases.{computed_prop_name, spread_el
 use Rattle.swc_ecma_codegen_ast.specs.PatPhrases.{value_at, pat_at, prop_name_at}
 use Rattle.swc_ecma_codegen_ast.specs.FunctionPhrases.{block_at, function_at}
 use Rattle.swc_ecma_codegen_ast.specs.declared.roles.Role.{Role}
-use Rattle.swc_ecma_codegen_ast.specs.declared.roles.Role.TheVariants.{PropertyDefinition, MethodHead}
+use Rattle.swc_ecma_codegen_ast.specs.declared.roles.Role.TheVariants.{MethodHead}
 
 -- ECMA-262, section 13.2.5
 unfoldable pub prop_name : {X : Type 0} → (X → Role → Phrase) → PropName X → Phrase
 prop_name f (prop_names.Ident n) = KeyOf n.span.lo (string_bytes n.sym)
 prop_name f (prop_names.Str n) = str_lit n
-prop_name f (prop_names.Num n) = number n
-prop_name f (prop_names.BigInt n) = big_int n
+prop_name f (prop_names.Num n) = number n.value
+prop_name f (prop_names.BigInt n) = big_int n.value
 prop_name f (prop_names.Computed n) = computed_prop_name f n
 
 -- `a: b`
@@ -71,7 +71,7 @@ prop f (props.Method n) = method_prop f n
 
 unfoldable pub prop_or_spread : {X : Type 0} → (X → Role → Phrase) → PropOrSpread X → Phrase
 prop_or_spread f (prop_or_spreads.Spread n) = spread_element f n
-prop_or_spread f (prop_or_spreads.Prop n) = f n.node.value PropertyDefinition
+prop_or_spread f (prop_or_spreads.Prop n) = prop f n
 
 -- `{ a, b: c }`
 unfoldable pub object_lit : {X : Type 0} → (X → Role → Phrase) → ObjectLit X → Phrase

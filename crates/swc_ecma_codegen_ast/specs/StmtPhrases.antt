@@ -2,7 +2,7 @@
 use Rattle.std.specs.Prelude.{map, codes, ◌++◌, Option, Some, None}
 use Rattle.std.specs.declared.string.String.{String}
 use Rattle.swc_ecma_codegen_tree.specs.declared.idents.Ident.{Ident}
-use Rattle.swc_ecma_codegen_tree.specs.Links.{BlockStmtBox, ExprBox, ModuleItemBox, PatBox, StmtBox}
+use Rattle.swc_ecma_codegen_tree.specs.Links.{BlockStmtBox, ExprBox, PatBox, StmtBox}
 use Rattle.swc_ecma_codegen_tree.specs.declared.stmts.Stmt.{Stmt}
 use Rattle.swc_ecma_codegen_tree.specs.declared.stmts.Stmt.TheVariants as stmts
 use Rattle.swc_ecma_codegen_tree.specs.declared.stmts.BlockStmt.{BlockStmt}
@@ -32,6 +32,8 @@ use Rattle.swc_ecma_codegen_tree.specs.declared.stmts.WithStmt.{WithStmt}
 use Rattle.swc_ecma_codegen_tree.specs.declared.programs.Program.{Program}
 use Rattle.swc_ecma_codegen_tree.specs.declared.programs.Program.TheVariants as programs
 use Rattle.swc_ecma_codegen_tree.specs.declared.programs.Module.{Module}
+use Rattle.swc_ecma_codegen_tree.specs.declared.programs.ModuleItem.{ModuleItem}
+use Rattle.swc_ecma_codegen_tree.specs.declared.programs.ModuleItem.TheVariants as module_items
 use Rattle.swc_ecma_codegen_tree.specs.declared.programs.Script.{Script}
 use Rattle.swc_ecma_codegen_ast.specs.declared.kinds.Kind.TheVariants.{Hashbang}
 use Rattle.swc_ecma_codegen_ast.specs.Chars.{is_one_line}
@@ -39,7 +41,7 @@ use Rattle.swc_ecma_codegen_ast.specs.LitPhrases.{characters}
 use Rattle.swc_ecma_codegen_ast.specs.Tokens.{token_of}
 use Rattle.swc_ecma_codegen_ast.specs.Phrases.{Phrase, Nothing, One, OptionalParentheses, Chosen, LoopEnding, ◌>◌, where_, word, mark, ending, in_order, same_line}
 use Rattle.swc_ecma_codegen_ast.specs.declared.roles.Role.{Role}
-use Rattle.swc_ecma_codegen_ast.specs.declared.roles.Role.TheVariants.{Statement, Block, Item}
+use Rattle.swc_ecma_codegen_ast.specs.declared.roles.Role.TheVariants.{Statement, Block, ModuleDeclaration}
 use Rattle.swc_ecma_codegen_ast.specs.NamePhrases.{ident}
 use Rattle.swc_ecma_codegen_ast.specs.PatPhrases.{value_at, pat_at}
 use Rattle.swc_ecma_codegen_ast.specs.FunctionPhrases.{word_if, block_at}
@@ -55,11 +57,7 @@ unfoldable pub optional_value : {X : Type 0} → (X → Role → Phrase) → Opt
 optional_value f None = Nothing
 optional_value f (Some n) = value_at f n
 
--- ECMA-262, section 14.2
-unfoldable pub block_stmt : {X : Type 0} → (X → Role → Phrase) → BlockStmt X → Phrase
-block_stmt f n = mark (codes "{") > in_order (map (stmt_at f) n.stmts.items) > mark (codes "}")
-
--- section 14.4
+-- ECMA-262, section 14.4
 unfoldable pub empty_stmt : EmptyStmt → Phrase
 empty_stmt n = mark (codes ";")
 
@@ -166,7 +164,7 @@ for_stmt f n =
 -- section 14.7.5: `let a` of `for (let a in b) c;`
 unfoldable pub for_head : {X : Type 0} → (X → Role → Phrase) → ForHead X → Phrase
 for_head f (heads.VarDecl n) = var_decl_at f n
-for_head f (heads.UsingDecl n) = using_decl f n
+for_head f (heads.UsingDecl n) = using_decl f n.value
 for_head f (heads.Pat n) = pat_at f n
 
 unfoldable pub for_in_stmt : {X : Type 0} → (X → Role → Phrase) → ForInStmt X → Phrase
@@ -199,6 +197,10 @@ stmt f (stmts.ForOf n) = for_of_stmt f n
 stmt f (stmts.Decl n) = decl_at f n
 stmt f (stmts.Expr n) = expr_stmt f n
 
+-- section 14.2
+unfoldable pub block_stmt : {X : Type 0} → (X → Role → Phrase) → BlockStmt X → Phrase
+block_stmt f n = mark (codes "{") > in_order (map (stmt f) n.stmts.items) > mark (codes "}")
+
 -- section 12.5: what stands behind `#!`, in one line, where there is such
 unfoldable pub shebang : {Z : Type 0} → Option (String Z) → Phrase
 shebang None = Nothing
@@ -206,15 +208,15 @@ shebang (Some text) = where_ (is_one_line (characters text)) (One (token_of Hash
 
 -- section 16.1
 unfoldable pub script : {X : Type 0} → (X → Role → Phrase) → Script X → Phrase
-script f n = shebang n.shebang > in_order (map (stmt_at f) n.body.items)
-
--- an item of a module that a link holds
-abbrev pub item_at : {X : Type 0} → (X → Role → Phrase) → ModuleItemBox X → Phrase
-item_at f n = f n.node.value Item
+script f n = shebang n.shebang > in_order (map (stmt f) n.body.items)
 
 -- section 16.2
+unfoldable pub module_item : {X : Type 0} → (X → Role → Phrase) → ModuleItem X → Phrase
+module_item f (module_items.ModuleDecl n) = f n.node.value ModuleDeclaration
+module_item f (module_items.Stmt n) = stmt f n
+
 unfoldable pub whole_module : {X : Type 0} → (X → Role → Phrase) → Module X → Phrase
-whole_module f n = shebang n.shebang > in_order (map (item_at f) n.body.items)
+whole_module f n = shebang n.shebang > in_order (map (module_item f) n.body.items)
 
 unfoldable pub program : {X : Type 0} → (X → Role → Phrase) → Program X → Phrase
 program f (programs.Module n) = whole_module f n

@@ -15,14 +15,12 @@ pub enum Role {
     /// `(c)` of `a?.b(c)`.
     ChainCall(bool),
     AssignmentTarget,
-    /// `[a]` of `[a] = b`, and each parameter of a function.
+    /// `[a]` of `[a] = b`, and each parameter of an arrow function.
     Pattern,
     /// A pattern that is a name alone: round it as the only parameter of an arrow function parentheses may be left out.
     PlainParameter,
     /// `a` of `{ a: b }`.
     PropertyName,
-    /// `a: b` of `{ a: b }`.
-    PropertyDefinition,
     /// `{ a }`.
     ObjectLiteral,
     /// `() {}` of `function f() {}`, all but the words before it and the name.
@@ -53,8 +51,6 @@ pub enum Role {
     MethodTail,
     /// `() {}` of `class B { @a #c() {} }`: the same of a private method.
     PrivateTail,
-    /// `import a from "b";` or `a();` at the top of a module.
-    Item,
     /// `import a from "b";` or `export { a };`.
     ModuleDeclaration,
     /// `@a` of `@a export class B {}`: what of a declaration stands before the word.

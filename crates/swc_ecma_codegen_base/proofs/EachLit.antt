@@ -17,7 +17,7 @@ unfolding lit phrases.lit
 prints_lit env (lits.Str n) = prints_string_at env true n
 prints_lit env (lits.Bool n) = after (writes_begun env n.span (bool_text n.value)) (prints_bool env n)
 prints_lit env (lits.Null n) = after (writes_begun env n.span (codes "null")) (prints_null env n)
-prints_lit env (lits.Num n) = prints_number_at env true n
-prints_lit env (lits.BigInt n) = prints_big_int_at env true n
+prints_lit env (lits.Num n) = prints_number_at env true n.value
+prints_lit env (lits.BigInt n) = prints_big_int_at env true n.value
 prints_lit env (lits.Regex n) = after (writes_begun env n.span (codes "/")) (prints_regex env n)
 prints_lit env (lits.JSXText n) = prints_never

@@ -242,7 +242,7 @@ unfoldable pub lit : Lit → Part
 lit (lits.Str n) rest = string_at true n rest
 lit (lits.Bool n) rest = begun n.span (bool_text n.value) (bool_lit n rest)
 lit (lits.Null n) rest = begun n.span (codes "null") (null_lit n rest)
-lit (lits.Num n) rest = number_at true n rest
-lit (lits.BigInt n) rest = big_int_at true n rest
+lit (lits.Num n) rest = number_at true n.value rest
+lit (lits.BigInt n) rest = big_int_at true n.value rest
 lit (lits.Regex n) rest = begun n.span (codes "/") (regex_lit n rest)
 lit (lits.JSXText n) rest = rest

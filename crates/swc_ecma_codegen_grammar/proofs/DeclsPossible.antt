@@ -10,7 +10,7 @@ use Rattle.swc_ecma_codegen_tree.specs.declared.decls.VarDeclarator.{VarDeclarat
 use Rattle.swc_ecma_codegen_ast.specs.declared.roles.Role.{Role}
 use Rattle.swc_ecma_codegen_ast.specs.declared.roles.Role.TheVariants.{FunctionHead}
 use Rattle.swc_ecma_codegen_ast.specs.NamePhrases.{ident}
-use Rattle.swc_ecma_codegen_ast.specs.PatPhrases.{pat_at, initializer}
+use Rattle.swc_ecma_codegen_ast.specs.PatPhrases.{pat, initializer}
 use Rattle.swc_ecma_codegen_ast.specs.FunctionPhrases.{function_at}
 use Rattle.swc_ecma_codegen_ast.specs.DeclPhrases.{after_await, fn_decl, var_declarator, var_kind, var_decl, using_decl}
 use Rattle.swc_ecma_codegen_ast.specs.Phrases.{Phrase, Never, ◌>◌, some_listed, is_possible}
@@ -27,9 +27,9 @@ pub fn_decl_possible : {X : Type 0} (f : X → Role → Phrase) (n : FnDecl X) �
 unfolding is_possible fn_decl
 fn_decl_possible f n = unless n.declare (f n.function.node.value FunctionHead > ident n.ident > function_at f n.function)
 
-pub var_declarator_possible : {X : Type 0} (f : X → Role → Phrase) (n : VarDeclarator X) → is_possible (var_declarator f n) ≡ (not n.definite && (is_possible (pat_at f n.name) && is_possible (initializer f n.init)))
+pub var_declarator_possible : {X : Type 0} (f : X → Role → Phrase) (n : VarDeclarator X) → is_possible (var_declarator f n) ≡ (not n.definite && (is_possible (pat f n.name) && is_possible (initializer f n.init)))
 unfolding is_possible var_declarator
-var_declarator_possible f n = unless n.definite (pat_at f n.name > initializer f n.init)
+var_declarator_possible f n = unless n.definite (pat f n.name > initializer f n.init)
 
 some_long : {A : Type 0} (xs : List A) → suc (length xs) ≡ 0 → ⊥
 some_long xs e = omega (arith, e)

@@ -9,7 +9,7 @@ use Rattle.swc_ecma_codegen_ast.specs.declared.roles.Role.{Role}
 use Rattle.swc_ecma_codegen_ast.specs.declared.roles.Role.TheVariants.{PlainParameter}
 use Rattle.swc_ecma_codegen_ast.specs.PatPhrases.{pat_at}
 use Rattle.swc_ecma_codegen_ast.specs.FunctionPhrases.{after_async, word_if, is_some_listed, param, function_body, function, function_head, method_head, is_never, only_parameter, arrow_parameters, arrow_body, arrow_expr}
-use Rattle.swc_ecma_codegen_ast.specs.StmtPhrases.{stmt_at, block_stmt}
+use Rattle.swc_ecma_codegen_ast.specs.StmtPhrases.{stmt, block_stmt}
 use Rattle.swc_ecma_codegen_ast.specs.Phrases.{Phrase, Never, OptionalParentheses, ◌>◌, mark, word, in_order, is_possible}
 use Rattle.swc_ecma_codegen_grammar.specs.Possible.{all_possible}
 use Rattle.swc_ecma_codegen_grammar.proofs.Lists.{in_order_possible, listed_possible, and_true}
@@ -59,9 +59,9 @@ function_possible f n =
     plain n.type_params n.return_type (is_some_listed n.decorators.items) _ _ (ap (λ b. b && is_possible (function_body f n.body)) (listed_possible (codes ",") (param f) n.params.items))
     ∙ ap (λ b. is_none n.type_params && (is_none n.return_type && (b && (all_possible (param f) n.params.items && is_possible (function_body f n.body))))) (none_listed n.decorators.items)
 
-pub block_possible : {X : Type 0} (f : X → Role → Phrase) (n : BlockStmt X) → is_possible (block_stmt f n) ≡ all_possible (stmt_at f) n.stmts.items
+pub block_possible : {X : Type 0} (f : X → Role → Phrase) (n : BlockStmt X) → is_possible (block_stmt f n) ≡ all_possible (stmt f) n.stmts.items
 unfolding is_possible block_stmt
-block_possible f n = and_true (is_possible (in_order (map (stmt_at f) n.stmts.items))) ∙ in_order_possible (stmt_at f) n.stmts.items
+block_possible f n = and_true (is_possible (in_order (map (stmt f) n.stmts.items))) ∙ in_order_possible (stmt f) n.stmts.items
 
 -- ---- arrow functions
 

@@ -2,7 +2,7 @@
 
 ghost use Rattle.std.specs.Prelude.{◌≡◌, Bool, List, true};
 ghost use Rattle.swc_ecma_codegen_ast.specs.declared.roles.Role.{Role as InRole};
-ghost use Rattle.swc_ecma_codegen_ast.specs.declared.roles.Role.TheVariants.{Expression, Statement, MemberExpression, AssignmentTarget, Pattern, PropertyName, PropertyDefinition, ObjectLiteral, Function, Block, Declaration, VariableDeclaration, Member, Template, ModuleDeclaration, Item};
+ghost use Rattle.swc_ecma_codegen_ast.specs.declared.roles.Role.TheVariants.{Expression, Statement, MemberExpression, AssignmentTarget, Pattern, PropertyName, ObjectLiteral, Function, Block, Declaration, VariableDeclaration, Member, Template, ModuleDeclaration};
 ghost use Rattle.swc_ecma_codegen_ast.specs.ElementPhrases.{element};
 ghost use Rattle.swc_ecma_codegen_ast.specs.Phrases.{Phrase, is_possible};
 ghost use Rattle.swc_ecma_codegen_grammar.specs.Possible.{all_possible};
@@ -10,7 +10,7 @@ ghost use Rattle.swc_ecma_codegen_grammar.specs.Possible.{all_possible};
 use swc_ecma_codegen_ast::roles::Role;
 use swc_ecma_codegen_tree::{
     Link, ToAssignTarget, ToBlockStmt, ToClassMember, ToDecl, ToExpr, ToFunction, ToMemberExpr,
-    ToModuleDecl, ToModuleItem, ToObjectLit, ToPat, ToProp, ToPropName, ToStmt, ToTpl, ToVarDecl,
+    ToModuleDecl, ToObjectLit, ToPat, ToPropName, ToStmt, ToTpl, ToVarDecl,
 };
 
 /// A node, or a link to one.
@@ -82,12 +82,6 @@ impl LinkRole for ToPropName {
     ghost ROLE = { PropertyName };
 }
 
-impl LinkRole for ToProp {
-    const ROLE: Role = Role::PropertyDefinition;
-
-    ghost ROLE = { PropertyDefinition };
-}
-
 impl LinkRole for ToObjectLit {
     const ROLE: Role = Role::ObjectLiteral;
 
@@ -134,12 +128,6 @@ impl LinkRole for ToModuleDecl {
     const ROLE: Role = Role::ModuleDeclaration;
 
     ghost ROLE = { ModuleDeclaration };
-}
-
-impl LinkRole for ToModuleItem {
-    const ROLE: Role = Role::Item;
-
-    ghost ROLE = { Item };
 }
 
 /// A hole among elements is nothing.

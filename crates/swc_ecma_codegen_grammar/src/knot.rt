@@ -1,7 +1,7 @@
 //! The whole tree.
 
 ghost use Rattle.std.specs.Prelude.{◌≡◌};
-ghost use Rattle.swc_ecma_codegen_ast.specs.ModulePhrases.{module_item};
+ghost use Rattle.swc_ecma_codegen_ast.specs.StmtPhrases.{module_item};
 ghost use Rattle.swc_ecma_codegen_ast.specs.TreePhrases.{phrase, expr_phrase, stmt_phrase, is_well_formed};
 ghost use Rattle.swc_ecma_codegen_ast.specs.Phrases.{is_possible};
 

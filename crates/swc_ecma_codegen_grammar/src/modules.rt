@@ -2,8 +2,8 @@
 
 ghost use Rattle.std.specs.Prelude.{◌≡◌};
 ghost use Rattle.swc_ecma_codegen_ast.specs.Phrases.{is_possible};
-ghost use Rattle.swc_ecma_codegen_ast.specs.ModulePhrases.{attributes, module_export_name, imported_as, import_named, import_specifier, import_decl, exported_as, export_named_specifier, export_specifier, from_clause, export_named, export_all, exported_head, exported_tail, export_decl, default_decl, export_default_decl, export_default_expr, module_decl, module_item};
-ghost use Rattle.swc_ecma_codegen_ast.specs.StmtPhrases.{whole_module};
+ghost use Rattle.swc_ecma_codegen_ast.specs.ModulePhrases.{attributes, module_export_name, imported_as, import_named, import_specifier, import_decl, exported_as, export_named_specifier, export_specifier, from_clause, export_named, export_all, exported_head, exported_tail, export_decl, default_decl, export_default_decl, export_default_expr, module_decl};
+ghost use Rattle.swc_ecma_codegen_ast.specs.StmtPhrases.{module_item, whole_module};
 ghost use Rattle.swc_ecma_codegen_grammar.specs.ModuleForms.{bindings_fit, others_fit, imports_fit, exports_fit};
 
 use crate::forms::{Fits, WellFormed, all_well_formed};
@@ -280,7 +280,7 @@ impl<N: Fits> WellFormed for ModuleDecl<N> {
 impl<N: Fits> WellFormed for ModuleItem<N> {
     ghost phrase = { module_item N.reads };
 
-    #[tactic(auto, unfolding(swc_ecma_codegen_ast::specs::ModulePhrases::module_item))]
+    #[tactic(auto, unfolding(swc_ecma_codegen_ast::specs::StmtPhrases::module_item))]
     fn is_well_formed(&self) -> bool {
         match self {
             ModuleItem::ModuleDecl(node) => node.is_well_formed(),

@@ -24,7 +24,6 @@ pub(crate) fn expr_part_fits<N: Fits>(part: &ExprPart<N>, role: Role) -> bool
         (ExprPart::Tpl(node), Role::TaggedTemplate) => is_template(true, node),
         (ExprPart::ObjectLit(node), Role::ObjectLiteral) => node.is_well_formed(),
         (ExprPart::PropName(node), Role::PropertyName) => node.is_well_formed(),
-        (ExprPart::Prop(node), Role::PropertyDefinition) => node.is_well_formed(),
         // `a?.(b)` is where `a(b)` is.
         (ExprPart::OptCall(node), Role::ChainCall(_)) => node.is_well_formed(),
         (ExprPart::AssignTarget(node), Role::AssignmentTarget) => node.is_well_formed(),
@@ -50,7 +49,6 @@ pub(crate) fn stmt_part_fits<N: Fits>(part: &StmtPart<N>, role: Role) -> bool
         (StmtPart::Decl(node), Role::Declaration) => (**node).is_well_formed(),
         (StmtPart::Decl(node), Role::ExportedHead) => is_exported_head(node),
         (StmtPart::Decl(node), Role::ExportedTail) => is_exported_tail(node),
-        (StmtPart::ModuleItem(node), Role::Item) => node.is_well_formed(),
         (StmtPart::ModuleDecl(node), Role::ModuleDeclaration) => (**node).is_well_formed(),
         (StmtPart::VarDecl(node), Role::VariableDeclaration) => node.is_well_formed(),
         _ => false,

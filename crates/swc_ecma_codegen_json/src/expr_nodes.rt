@@ -1,21 +1,23 @@
 //! Nodes of the sorts of expressions, as links hold them. A function each, since a check of one that names the readers of many
 //! sorts is dear.
 
-use crate::reading::{ExprSort, Make};
+use crate::reading::{ExprPartSort, Make};
 use crate::source::{Failed, Source};
 use crate::{own, part};
 use swc_ecma_codegen_tree::{
-    AssignTarget, Expr, ExprPart, Holds, MemberExpr, ObjectLit, OptCall, Pat, Prop, PropName, Tpl,
+    AssignTarget, Expr, ExprPart, Holds, MemberExpr, ObjectLit, OptCall, Pat, PropName, Tpl,
 };
 
-fn expr<N: Holds<Expr<N>> + Drop, S: Source, M: Make<N>>(
+/// An expression, and all that lies below it.
+pub fn read_expr<N: Holds<Expr<N>> + Drop, S: Source, M: Make<N>>(
     source: &mut S,
     make: &M,
 ) -> Result<N, Failed> {
     own!(Expr, source, make)
 }
 
-fn member_expr<N: Holds<MemberExpr<N>> + Drop, S: Source, M: Make<N>>(
+/// A member expression, and all that lies below it.
+pub fn read_member_expr<N: Holds<MemberExpr<N>> + Drop, S: Source, M: Make<N>>(
     source: &mut S,
     make: &M,
 ) -> Result<N, Failed> {
@@ -50,13 +52,6 @@ fn prop_name<N: Holds<ExprPart<N>> + Drop, S: Source, M: Make<N>>(
     part!(PropName in ExprPart, source, make)
 }
 
-fn prop<N: Holds<ExprPart<N>> + Drop, S: Source, M: Make<N>>(
-    source: &mut S,
-    make: &M,
-) -> Result<N, Failed> {
-    part!(Prop in ExprPart, source, make)
-}
-
 fn opt_call<N: Holds<ExprPart<N>> + Drop, S: Source, M: Make<N>>(
     source: &mut S,
     make: &M,
@@ -71,21 +66,18 @@ fn assign_target<N: Holds<ExprPart<N>> + Drop, S: Source, M: Make<N>>(
     part!(AssignTarget in ExprPart, source, make)
 }
 
-/// A node of a sort, and all that lies below it.
-pub fn read_expr_node<
-    N: Holds<Expr<N>> + Holds<MemberExpr<N>> + Holds<ExprPart<N>> + Drop,
-    S: Source,
-    M: Make<N>,
->(sort: ExprSort, source: &mut S, make: &M) -> Result<N, Failed> {
+/// A part of an expression, or a pattern, by its sort, and all that lies below it.
+pub fn read_expr_part<N: Holds<ExprPart<N>> + Drop, S: Source, M: Make<N>>(
+    sort: ExprPartSort,
+    source: &mut S,
+    make: &M,
+) -> Result<N, Failed> {
     match sort {
-        ExprSort::Expr => expr(source, make),
-        ExprSort::MemberExpr => member_expr(source, make),
-        ExprSort::Pat => pat(source, make),
-        ExprSort::Tpl => tpl(source, make),
-        ExprSort::ObjectLit => object_lit(source, make),
-        ExprSort::PropName => prop_name(source, make),
-        ExprSort::Prop => prop(source, make),
-        ExprSort::OptCall => opt_call(source, make),
-        ExprSort::AssignTarget => assign_target(source, make),
+        ExprPartSort::Pat => pat(source, make),
+        ExprPartSort::Tpl => tpl(source, make),
+        ExprPartSort::ObjectLit => object_lit(source, make),
+        ExprPartSort::PropName => prop_name(source, make),
+        ExprPartSort::OptCall => opt_call(source, make),
+        ExprPartSort::AssignTarget => assign_target(source, make),
     }
 }

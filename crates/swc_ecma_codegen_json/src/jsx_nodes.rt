@@ -2,7 +2,7 @@
 //! sorts is dear.
 
 use crate::part;
-use crate::reading::{JsxSort, Make};
+use crate::reading::{JSXPartSort, Make};
 use crate::source::{Failed, Source};
 use swc_ecma_codegen_tree::{
     Holds, JSXAttrValue, JSXElement, JSXElementChild, JSXFragment, JSXObject, JSXPart,
@@ -43,17 +43,17 @@ fn jsx_object<N: Holds<JSXPart<N>> + Drop, S: Source, M: Make<N>>(
     part!(JSXObject in JSXPart, source, make)
 }
 
-/// A node of a sort, and all that lies below it.
-pub fn read_jsx_node<N: Holds<JSXPart<N>> + Drop, S: Source, M: Make<N>>(
-    sort: JsxSort,
+/// A part of JSX by its sort, and all that lies below it.
+pub fn read_jsx_part<N: Holds<JSXPart<N>> + Drop, S: Source, M: Make<N>>(
+    sort: JSXPartSort,
     source: &mut S,
     make: &M,
 ) -> Result<N, Failed> {
     match sort {
-        JsxSort::JSXElementChild => jsx_element_child(source, make),
-        JsxSort::JSXAttrValue => jsx_attr_value(source, make),
-        JsxSort::JSXElement => jsx_element(source, make),
-        JsxSort::JSXFragment => jsx_fragment(source, make),
-        JsxSort::JSXObject => jsx_object(source, make),
+        JSXPartSort::JSXElementChild => jsx_element_child(source, make),
+        JSXPartSort::JSXAttrValue => jsx_attr_value(source, make),
+        JSXPartSort::JSXElement => jsx_element(source, make),
+        JSXPartSort::JSXFragment => jsx_fragment(source, make),
+        JSXPartSort::JSXObject => jsx_object(source, make),
     }
 }

@@ -1,11 +1,11 @@
 //! What ties the readers of the nodes together: they are generic in what links hold, and only here is it `AnyNode`.
 
-use crate::expr_nodes::read_expr_node;
-use crate::jsx_nodes::read_jsx_node;
+use crate::expr_nodes::{read_expr, read_expr_part, read_member_expr};
+use crate::jsx_nodes::read_jsx_part;
 use crate::reading::{Make, Readable, Sort};
 use crate::source::{Failed, Fault, Source};
-use crate::stmt_nodes::read_stmt_node;
-use crate::ts_nodes::read_ts_node;
+use crate::stmt_nodes::{read_stmt, read_stmt_part};
+use crate::ts_nodes::read_ts_part;
 use std::alloc::{AllocError, Global};
 use swc_ecma_codegen_tree::AnyNode;
 
@@ -48,9 +48,12 @@ impl Make<AnyNode> for Levels {
 #[cycle(tie)]
 fn read_node<S: Source>(sort: Sort, source: &mut S, make: &Levels) -> Result<AnyNode, Failed> {
     match sort {
-        Sort::Expr(sort) => read_expr_node(sort, source, make),
-        Sort::Stmt(sort) => read_stmt_node(sort, source, make),
-        Sort::Jsx(sort) => read_jsx_node(sort, source, make),
-        Sort::Ts(sort) => read_ts_node(sort, source, make),
+        Sort::Expr => read_expr(source, make),
+        Sort::Stmt => read_stmt(source, make),
+        Sort::MemberExpr => read_member_expr(source, make),
+        Sort::ExprPart(sort) => read_expr_part(sort, source, make),
+        Sort::StmtPart(sort) => read_stmt_part(sort, source, make),
+        Sort::JSXPart(sort) => read_jsx_part(sort, source, make),
+        Sort::TsPart(sort) => read_ts_part(sort, source, make),
     }
 }

@@ -1,13 +1,15 @@
 //! Links. What one holds is made by `make`, which is told its sort.
 
-use crate::reading::{ExprSort, JsxSort, Make, ReadFrom, Sort, StmtSort, TsSort, Whole};
+use crate::reading::{
+    ExprPartSort, JSXPartSort, Make, ReadFrom, Sort, StmtPartSort, TsPartSort, Whole,
+};
 use crate::source::{Failed, Fault, Source};
 use swc_ecma_codegen_tree::{
     Link, ToAssignTarget, ToBlockStmt, ToClass, ToClassMember, ToDecl, ToExpr, ToFunction,
     ToJSXAttrValue, ToJSXElement, ToJSXElementChild, ToJSXFragment, ToJSXObject, ToMemberExpr,
-    ToModuleDecl, ToModuleItem, ToObjectLit, ToOptCall, ToPat, ToProp, ToPropName, ToStmt, ToTpl,
-    ToTsEntityName, ToTsFnParam, ToTsNamespaceBody, ToTsType, ToTsTypeAnn, ToTsTypeElement,
-    ToTsTypeParamDecl, ToTsTypeParamInstantiation, ToVarDecl,
+    ToModuleDecl, ToObjectLit, ToOptCall, ToPat, ToPropName, ToStmt, ToTpl, ToTsEntityName,
+    ToTsFnParam, ToTsNamespaceBody, ToTsType, ToTsTypeAnn, ToTsTypeElement, ToTsTypeParamDecl,
+    ToTsTypeParamInstantiation, ToVarDecl,
 };
 
 /// What a link is to, as what makes that knows it.
@@ -33,125 +35,117 @@ impl<K: ReadSort, N: Drop> ReadFrom<N> for Link<K, N> {
 }
 
 impl ReadSort for ToExpr {
-    const SORT: Sort = Sort::Expr(ExprSort::Expr);
+    const SORT: Sort = Sort::Expr;
 }
 
 impl ReadSort for ToPat {
-    const SORT: Sort = Sort::Expr(ExprSort::Pat);
+    const SORT: Sort = Sort::ExprPart(ExprPartSort::Pat);
 }
 
 impl ReadSort for ToTpl {
-    const SORT: Sort = Sort::Expr(ExprSort::Tpl);
+    const SORT: Sort = Sort::ExprPart(ExprPartSort::Tpl);
 }
 
 impl ReadSort for ToObjectLit {
-    const SORT: Sort = Sort::Expr(ExprSort::ObjectLit);
+    const SORT: Sort = Sort::ExprPart(ExprPartSort::ObjectLit);
 }
 
 impl ReadSort for ToPropName {
-    const SORT: Sort = Sort::Expr(ExprSort::PropName);
-}
-
-impl ReadSort for ToProp {
-    const SORT: Sort = Sort::Expr(ExprSort::Prop);
+    const SORT: Sort = Sort::ExprPart(ExprPartSort::PropName);
 }
 
 impl ReadSort for ToMemberExpr {
-    const SORT: Sort = Sort::Expr(ExprSort::MemberExpr);
+    const SORT: Sort = Sort::MemberExpr;
 }
 
 impl ReadSort for ToOptCall {
-    const SORT: Sort = Sort::Expr(ExprSort::OptCall);
+    const SORT: Sort = Sort::ExprPart(ExprPartSort::OptCall);
 }
 
 impl ReadSort for ToAssignTarget {
-    const SORT: Sort = Sort::Expr(ExprSort::AssignTarget);
+    const SORT: Sort = Sort::ExprPart(ExprPartSort::AssignTarget);
 }
 
 impl ReadSort for ToStmt {
-    const SORT: Sort = Sort::Stmt(StmtSort::Stmt);
+    const SORT: Sort = Sort::Stmt;
 }
 
 impl ReadSort for ToFunction {
-    const SORT: Sort = Sort::Stmt(StmtSort::Function);
+    const SORT: Sort = Sort::StmtPart(StmtPartSort::Function);
 }
 
 impl ReadSort for ToClass {
-    const SORT: Sort = Sort::Stmt(StmtSort::Class);
+    const SORT: Sort = Sort::StmtPart(StmtPartSort::Class);
 }
 
 impl ReadSort for ToBlockStmt {
-    const SORT: Sort = Sort::Stmt(StmtSort::BlockStmt);
+    const SORT: Sort = Sort::StmtPart(StmtPartSort::BlockStmt);
 }
 
 impl ReadSort for ToDecl {
-    const SORT: Sort = Sort::Stmt(StmtSort::Decl);
-}
-
-impl ReadSort for ToModuleItem {
-    const SORT: Sort = Sort::Stmt(StmtSort::ModuleItem);
+    const SORT: Sort = Sort::StmtPart(StmtPartSort::Decl);
 }
 
 impl ReadSort for ToModuleDecl {
-    const SORT: Sort = Sort::Stmt(StmtSort::ModuleDecl);
+    const SORT: Sort = Sort::StmtPart(StmtPartSort::ModuleDecl);
 }
 
 impl ReadSort for ToVarDecl {
-    const SORT: Sort = Sort::Stmt(StmtSort::VarDecl);
+    const SORT: Sort = Sort::StmtPart(StmtPartSort::VarDecl);
 }
 
 impl ReadSort for ToClassMember {
-    const SORT: Sort = Sort::Stmt(StmtSort::ClassMember);
+    const SORT: Sort = Sort::StmtPart(StmtPartSort::ClassMember);
 }
 
 impl ReadSort for ToJSXElementChild {
-    const SORT: Sort = Sort::Jsx(JsxSort::JSXElementChild);
+    const SORT: Sort = Sort::JSXPart(JSXPartSort::JSXElementChild);
 }
 
 impl ReadSort for ToJSXAttrValue {
-    const SORT: Sort = Sort::Jsx(JsxSort::JSXAttrValue);
+    const SORT: Sort = Sort::JSXPart(JSXPartSort::JSXAttrValue);
 }
 
 impl ReadSort for ToJSXElement {
-    const SORT: Sort = Sort::Jsx(JsxSort::JSXElement);
+    const SORT: Sort = Sort::JSXPart(JSXPartSort::JSXElement);
 }
 
 impl ReadSort for ToJSXFragment {
-    const SORT: Sort = Sort::Jsx(JsxSort::JSXFragment);
+    const SORT: Sort = Sort::JSXPart(JSXPartSort::JSXFragment);
 }
 
 impl ReadSort for ToJSXObject {
-    const SORT: Sort = Sort::Jsx(JsxSort::JSXObject);
+    const SORT: Sort = Sort::JSXPart(JSXPartSort::JSXObject);
 }
 
 impl ReadSort for ToTsType {
-    const SORT: Sort = Sort::Ts(TsSort::TsType);
+    const SORT: Sort = Sort::TsPart(TsPartSort::TsType);
 }
 
 impl ReadSort for ToTsNamespaceBody {
-    const SORT: Sort = Sort::Ts(TsSort::TsNamespaceBody);
+    const SORT: Sort = Sort::TsPart(TsPartSort::TsNamespaceBody);
 }
 
 impl ReadSort for ToTsTypeAnn {
-    const SORT: Sort = Sort::Ts(TsSort::TsTypeAnn);
+    const SORT: Sort = Sort::TsPart(TsPartSort::TsTypeAnn);
 }
 
 impl ReadSort for ToTsTypeParamDecl {
-    const SORT: Sort = Sort::Ts(TsSort::TsTypeParamDecl);
+    const SORT: Sort = Sort::TsPart(TsPartSort::TsTypeParamDecl);
 }
 
 impl ReadSort for ToTsTypeParamInstantiation {
-    const SORT: Sort = Sort::Ts(TsSort::TsTypeParamInstantiation);
+    const SORT: Sort = Sort::TsPart(TsPartSort::TsTypeParamInstantiation);
 }
 
 impl ReadSort for ToTsFnParam {
-    const SORT: Sort = Sort::Ts(TsSort::TsFnParam);
+    const SORT: Sort = Sort::TsPart(TsPartSort::TsFnParam);
 }
 
 impl ReadSort for ToTsTypeElement {
-    const SORT: Sort = Sort::Ts(TsSort::TsTypeElement);
+    const SORT: Sort = Sort::TsPart(TsPartSort::TsTypeElement);
 }
 
 impl ReadSort for ToTsEntityName {
-    const SORT: Sort = Sort::Ts(TsSort::TsEntityName);
+    const SORT: Sort = Sort::TsPart(TsPartSort::TsEntityName);
 }

@@ -5,9 +5,7 @@ use crate::source::{Failed, Source};
 use crate::{held, made, names};
 use serde::Name;
 use swc_ecma_codegen_common::Span;
-use swc_ecma_codegen_tree::{
-    Module, ModuleDecl, ModuleItem, ModuleItemBox, Program, Script, StmtBox,
-};
+use swc_ecma_codegen_tree::{Module, ModuleDecl, ModuleItem, Program, Script, Stmt};
 
 impl<N: Drop> ReadFrom<N> for Program<N> {
     type Parts = Variant;
@@ -26,7 +24,7 @@ impl<N: Drop> ReadFrom<N> for Program<N> {
 }
 
 impl<N: Drop> ReadFrom<N> for Module<N> {
-    type Parts = (Span, (Vec<ModuleItemBox<N>>, (Option<String>, ())));
+    type Parts = (Span, (Vec<ModuleItem<N>>, (Option<String>, ())));
 
     fn names() -> &'static [Name<'static>] {
         names!(span, body, shebang)
@@ -42,7 +40,7 @@ impl<N: Drop> ReadFrom<N> for Module<N> {
 }
 
 impl<N: Drop> ReadFrom<N> for Script<N> {
-    type Parts = (Span, (Vec<StmtBox<N>>, (Option<String>, ())));
+    type Parts = (Span, (Vec<Stmt<N>>, (Option<String>, ())));
 
     fn names() -> &'static [Name<'static>] {
         names!(span, body, shebang)

@@ -5,38 +5,36 @@ use serde::Name;
 use std::alloc::{AllocError, Global};
 use swc_ecma_codegen_tree::Holds;
 
-/// The sorts of nodes that links hold, by area.
+/// The sorts of nodes that links hold, those of parts by area.
 #[derive(Debug, Clone, Copy, PartialEq, Eq)]
 pub enum Sort {
-    Expr(ExprSort),
-    Stmt(StmtSort),
-    Jsx(JsxSort),
-    Ts(TsSort),
+    Expr,
+    Stmt,
+    MemberExpr,
+    ExprPart(ExprPartSort),
+    StmtPart(StmtPartSort),
+    JSXPart(JSXPartSort),
+    TsPart(TsPartSort),
 }
 
-/// The sorts of expressions, patterns and their parts.
+/// The sorts of patterns and of parts of expressions.
 #[derive(Debug, Clone, Copy, PartialEq, Eq)]
-pub enum ExprSort {
-    Expr,
-    MemberExpr,
+pub enum ExprPartSort {
     Pat,
     Tpl,
     ObjectLit,
     PropName,
-    Prop,
     OptCall,
     AssignTarget,
 }
 
-/// The sorts of statements, declarations, classes and modules.
+/// The sorts of parts of statements, of declarations, classes and modules.
 #[derive(Debug, Clone, Copy, PartialEq, Eq)]
-pub enum StmtSort {
-    Stmt,
+pub enum StmtPartSort {
     Function,
     Class,
     BlockStmt,
     Decl,
-    ModuleItem,
     ModuleDecl,
     VarDecl,
     ClassMember,
@@ -44,7 +42,7 @@ pub enum StmtSort {
 
 /// The sorts of JSX.
 #[derive(Debug, Clone, Copy, PartialEq, Eq)]
-pub enum JsxSort {
+pub enum JSXPartSort {
     JSXElementChild,
     JSXAttrValue,
     JSXElement,
@@ -54,7 +52,7 @@ pub enum JsxSort {
 
 /// The sorts of TypeScript.
 #[derive(Debug, Clone, Copy, PartialEq, Eq)]
-pub enum TsSort {
+pub enum TsPartSort {
     TsType,
     TsNamespaceBody,
     TsTypeAnn,

@@ -1,15 +1,16 @@
 //! Nodes of the sorts of statements, as links hold them. A function each, since a check of one that names the readers of many
 //! sorts is dear.
 
-use crate::reading::{Make, StmtSort, read};
+use crate::reading::{Make, StmtPartSort, read};
 use crate::source::{Failed, Source};
 use crate::{own, part};
 use swc_ecma_codegen_tree::{
-    BlockStmt, Class, ClassMember, Decl, Function, Holds, ModuleDecl, ModuleItem, Program, Stmt,
-    StmtPart, VarDecl,
+    BlockStmt, Class, ClassMember, Decl, Function, Holds, ModuleDecl, Program, Stmt, StmtPart,
+    VarDecl,
 };
 
-fn stmt<N: Holds<Stmt<N>> + Drop, S: Source, M: Make<N>>(
+/// A statement, and all that lies below it.
+pub fn read_stmt<N: Holds<Stmt<N>> + Drop, S: Source, M: Make<N>>(
     source: &mut S,
     make: &M,
 ) -> Result<N, Failed> {
@@ -44,13 +45,6 @@ fn decl<N: Holds<StmtPart<N>> + Drop, S: Source, M: Make<N>>(
     part!(Decl in StmtPart, source, make)
 }
 
-fn module_item<N: Holds<StmtPart<N>> + Drop, S: Source, M: Make<N>>(
-    source: &mut S,
-    make: &M,
-) -> Result<N, Failed> {
-    part!(ModuleItem in StmtPart, source, make)
-}
-
 fn module_decl<N: Holds<StmtPart<N>> + Drop, S: Source, M: Make<N>>(
     source: &mut S,
     make: &M,
@@ -72,22 +66,20 @@ fn class_member<N: Holds<StmtPart<N>> + Drop, S: Source, M: Make<N>>(
     part!(ClassMember in StmtPart, source, make)
 }
 
-/// A node of a sort, and all that lies below it.
-pub fn read_stmt_node<N: Holds<Stmt<N>> + Holds<StmtPart<N>> + Drop, S: Source, M: Make<N>>(
-    sort: StmtSort,
+/// A part of a statement, of a declaration, a class or a module, by its sort, and all that lies below it.
+pub fn read_stmt_part<N: Holds<StmtPart<N>> + Drop, S: Source, M: Make<N>>(
+    sort: StmtPartSort,
     source: &mut S,
     make: &M,
 ) -> Result<N, Failed> {
     match sort {
-        StmtSort::Stmt => stmt(source, make),
-        StmtSort::Function => function(source, make),
-        StmtSort::Class => class(source, make),
-        StmtSort::BlockStmt => block_stmt(source, make),
-        StmtSort::Decl => decl(source, make),
-        StmtSort::ModuleItem => module_item(source, make),
-        StmtSort::ModuleDecl => module_decl(source, make),
-        StmtSort::VarDecl => var_decl(source, make),
-        StmtSort::ClassMember => class_member(source, make),
+        StmtPartSort::Function => function(source, make),
+        StmtPartSort::Class => class(source, make),
+        StmtPartSort::BlockStmt => block_stmt(source, make),
+        StmtPartSort::Decl => decl(source, make),
+        StmtPartSort::ModuleDecl => module_decl(source, make),
+        StmtPartSort::VarDecl => var_decl(source, make),
+        StmtPartSort::ClassMember => class_member(source, make),
     }
 }
 

@@ -69,7 +69,7 @@ fn other_stmts<N: Drop, S: Source, M: Make<N>>(
 }
 
 impl<N: Drop> ReadFrom<N> for BlockStmt<N> {
-    type Parts = (Span, (Vec<StmtBox<N>>, ()));
+    type Parts = (Span, (Vec<Stmt<N>>, ()));
 
     fn names() -> &'static [Name<'static>] {
         names!(span, stmts)

@@ -7,11 +7,10 @@ use crate::{held, made, names, values};
 use serde::Name;
 use swc_ecma_codegen_common::Span;
 use swc_ecma_codegen_tree::{
-    ExprBox, Ident, ModuleItemBox, Str, TsEnumDecl, TsEnumMember, TsEnumMemberId,
-    TsExportAssignment, TsExprWithTypeArgs, TsExternalModuleRef, TsImportEqualsDecl,
-    TsInterfaceBody, TsInterfaceDecl, TsModuleBlock, TsModuleDecl, TsModuleName, TsModuleRef,
-    TsNamespaceBody, TsNamespaceBodyBox, TsNamespaceDecl, TsNamespaceExportDecl, TsTypeAliasDecl,
-    TsTypeBox, TsTypeParamDeclBox,
+    ExprBox, Ident, ModuleItem, Str, TsEnumDecl, TsEnumMember, TsEnumMemberId, TsExportAssignment,
+    TsExprWithTypeArgs, TsExternalModuleRef, TsImportEqualsDecl, TsInterfaceBody, TsInterfaceDecl,
+    TsModuleBlock, TsModuleDecl, TsModuleName, TsModuleRef, TsNamespaceBody, TsNamespaceBodyBox,
+    TsNamespaceDecl, TsNamespaceExportDecl, TsTypeAliasDecl, TsTypeBox, TsTypeParamDeclBox,
 };
 
 impl<N: Drop> ReadFrom<N> for TsInterfaceDecl<N> {
@@ -154,7 +153,7 @@ impl<N: Drop> ReadFrom<N> for TsNamespaceBody<N> {
 }
 
 impl<N: Drop> ReadFrom<N> for TsModuleBlock<N> {
-    type Parts = (Span, (Vec<ModuleItemBox<N>>, ()));
+    type Parts = (Span, (Vec<ModuleItem<N>>, ()));
 
     fn names() -> &'static [Name<'static>] {
         names!(span, body)

@@ -2,7 +2,7 @@
 //! sorts is dear.
 
 use crate::part;
-use crate::reading::{Make, TsSort};
+use crate::reading::{Make, TsPartSort};
 use crate::source::{Failed, Source};
 use swc_ecma_codegen_tree::{
     Holds, TsEntityName, TsFnParam, TsNamespaceBody, TsPart, TsType, TsTypeAnn, TsTypeElement,
@@ -65,20 +65,20 @@ fn ts_entity_name<N: Holds<TsPart<N>> + Drop, S: Source, M: Make<N>>(
     part!(TsEntityName in TsPart, source, make)
 }
 
-/// A node of a sort, and all that lies below it.
-pub fn read_ts_node<N: Holds<TsPart<N>> + Drop, S: Source, M: Make<N>>(
-    sort: TsSort,
+/// A part of TypeScript by its sort, and all that lies below it.
+pub fn read_ts_part<N: Holds<TsPart<N>> + Drop, S: Source, M: Make<N>>(
+    sort: TsPartSort,
     source: &mut S,
     make: &M,
 ) -> Result<N, Failed> {
     match sort {
-        TsSort::TsType => ts_type(source, make),
-        TsSort::TsNamespaceBody => ts_namespace_body(source, make),
-        TsSort::TsTypeAnn => ts_type_ann(source, make),
-        TsSort::TsTypeParamDecl => ts_type_param_decl(source, make),
-        TsSort::TsTypeParamInstantiation => ts_type_param_instantiation(source, make),
-        TsSort::TsFnParam => ts_fn_param(source, make),
-        TsSort::TsTypeElement => ts_type_element(source, make),
-        TsSort::TsEntityName => ts_entity_name(source, make),
+        TsPartSort::TsType => ts_type(source, make),
+        TsPartSort::TsNamespaceBody => ts_namespace_body(source, make),
+        TsPartSort::TsTypeAnn => ts_type_ann(source, make),
+        TsPartSort::TsTypeParamDecl => ts_type_param_decl(source, make),
+        TsPartSort::TsTypeParamInstantiation => ts_type_param_instantiation(source, make),
+        TsPartSort::TsFnParam => ts_fn_param(source, make),
+        TsPartSort::TsTypeElement => ts_type_element(source, make),
+        TsPartSort::TsEntityName => ts_entity_name(source, make),
     }
 }

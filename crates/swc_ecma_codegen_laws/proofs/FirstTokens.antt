@@ -56,7 +56,7 @@ use Rattle.swc_ecma_codegen_ast.specs.Phrases.{Phrase, Never, Nothing, One, Name
 use Rattle.swc_ecma_codegen_ast.specs.Phrases as phrases
 use Rattle.swc_ecma_codegen_ast.specs.Settings.{Settings}
 use Rattle.swc_ecma_codegen_ast.specs.declared.roles.Role.{Role}
-use Rattle.swc_ecma_codegen_ast.specs.declared.roles.Role.TheVariants.{Expression, Statement, MemberExpression, ChainMember, AssignmentTarget, Pattern, PlainParameter, PropertyName, PropertyDefinition, ObjectLiteral, Function, FunctionHead, MethodHead, Block, Declaration, VariableDeclaration, Callee as IsCallee, ChainCall, Template, TaggedTemplate, ClassHead, ClassTail, Member, MethodDecorators, MethodTail, PrivateTail, Item, ModuleDeclaration, ExportedHead, ExportedTail}
+use Rattle.swc_ecma_codegen_ast.specs.declared.roles.Role.TheVariants.{Expression, Statement, MemberExpression, ChainMember, AssignmentTarget, Pattern, PlainParameter, PropertyName, ObjectLiteral, Function, FunctionHead, MethodHead, Block, Declaration, VariableDeclaration, Callee as IsCallee, ChainCall, Template, TaggedTemplate, ClassHead, ClassTail, Member, MethodDecorators, MethodTail, PrivateTail, ModuleDeclaration, ExportedHead, ExportedTail}
 use Rattle.swc_ecma_codegen_ast.specs.NamePhrases as names
 use Rattle.swc_ecma_codegen_ast.specs.ExprPhrases as lists
 use Rattle.swc_ecma_codegen_ast.specs.LitPhrases as lit_lists
@@ -181,8 +181,8 @@ unfolding lit_starts lit_lists.lit lit_lists.str_lit lit_lists.string_token lit_
 begins_lit (lits.Str n) = begins_where _ _ _ (begins_other _ false refl)
 begins_lit (lits.Bool n) = begins_true _
 begins_lit (lits.Null n) = begins_true _
-begins_lit (lits.Num n) = begins_number n.value n.raw
-begins_lit (lits.BigInt n) = begins_where _ _ _ (begins_signed n.negative _)
+begins_lit (lits.Num n) = begins_number n.value.value n.value.raw
+begins_lit (lits.BigInt n) = begins_where _ _ _ (begins_signed n.value.negative _)
 begins_lit (lits.Regex n) = begins_where _ _ _ (begins_other _ false refl)
 begins_lit (lits.JSXText n) = begins_never false
 
@@ -203,7 +203,6 @@ begins_update false op f b h = begins_then f (phrases.same_line > mark op) b h
 -- In these roles something begins that is asked how it begins. A property and a member are never asked, and what stands before the
 -- name of a method or before a class may be nothing.
 leads : Role → Bool
-leads PropertyDefinition = false
 leads MethodHead = false
 leads ClassHead = false
 leads ClassTail = false
@@ -211,7 +210,6 @@ leads Member = false
 leads MethodDecorators = false
 leads MethodTail = false
 leads PrivateTail = false
-leads Item = false
 leads ModuleDeclaration = false
 leads ExportedHead = false
 leads ExportedTail = false
@@ -332,7 +330,7 @@ tpl_begins reads true tagged es (q ∷ qs) = begins_then _ _ _ (begins_where _ _
 tpl_begins reads false tagged es qs = begins_never false
 
 expr_begins : {X : Type 0} (reads : X → Role → Phrase) (starts : X → Bool) → Begin reads starts → (n : Expr X) → Begins (lists.expr reads n) (expr_starts starts n)
-unfolding expr_starts update_starts arrow_starts template_lists.tagged_tpl class_lists.class_expr function_lists.fn_expr function_lists.arrow_expr lists.expr lists.this_expr lists.unary_expr lists.update_expr lists.update_op lists.bin_expr lists.assign_expr lists.super_prop_expr lists.yield_expr lists.meta_prop_expr lists.await_expr lists.opt_chain_expr lists.cond_expr lists.seq_expr lists.paren_expr names.ident names.private_name call_lists.array_lit call_lists.call_expr leads begins_as
+unfolding expr_starts update_starts arrow_starts template_lists.tagged_tpl class_lists.class_expr function_lists.fn_expr function_lists.arrow_expr lists.expr lists.member_expr lists.this_expr lists.unary_expr lists.update_expr lists.update_op lists.bin_expr lists.assign_expr lists.super_prop_expr lists.yield_expr lists.meta_prop_expr lists.await_expr lists.opt_chain_expr lists.cond_expr lists.seq_expr lists.paren_expr names.ident names.private_name call_lists.array_lit call_lists.call_expr leads begins_as
 expr_begins reads starts law (exprs.This n) = begins_true _
 expr_begins reads starts law (exprs.Object n) = law n.node.value ObjectLiteral refl
 expr_begins reads starts law (exprs.Fn n) = begins_then _ _ _ (law n.function.node.value FunctionHead refl)
@@ -341,7 +339,7 @@ expr_begins reads starts law (exprs.Unary n) = begins_then _ _ _ (begins_unary n
 expr_begins reads starts law (exprs.Update n) = begins_update n.prefix (update_text n.op) _ _ (law n.arg.node.value Expression refl)
 expr_begins reads starts law (exprs.Bin n) = begins_then _ _ _ (law n.left.node.value Expression refl)
 expr_begins reads starts law (exprs.Assign n) = begins_then _ _ _ (law n.left.node.value AssignmentTarget refl)
-expr_begins reads starts law (exprs.Member n) = law n.node.value MemberExpression refl
+expr_begins reads starts law (exprs.Member n) = begins_then _ _ _ (law n.obj.node.value IsCallee refl)
 expr_begins reads starts law (exprs.SuperProp n) = begins_then _ _ _ (begins_true _)
 expr_begins reads starts law (exprs.Cond n) = begins_then _ _ _ (law n.test.node.value Expression refl)
 expr_begins reads starts law (exprs.Call n) = unless_begins (is_some n.type_args) _ _ (begins_then _ _ _ (callee_begins reads starts law n.callee))
@@ -351,7 +349,7 @@ expr_begins reads starts law (exprs.Ident n) = begins_then _ _ _ (begins_name _ 
 expr_begins reads starts law (exprs.Lit n) = begins_lit n
 expr_begins reads starts law (exprs.Tpl n) = law n.node.value Template refl
 expr_begins reads starts law (exprs.TaggedTpl n) = unless_begins (is_some n.type_params) _ _ (begins_then _ _ _ (law n.tag.node.value IsCallee refl))
-expr_begins reads starts law (exprs.Arrow n) = arrow_begins reads starts law (is_some n.type_params || is_some n.return_type) n.is_async n.is_generator n.params.items _
+expr_begins reads starts law (exprs.Arrow n) = arrow_begins reads starts law (is_some n.value.type_params || is_some n.value.return_type) n.value.is_async n.value.is_generator n.value.params.items _
 expr_begins reads starts law (exprs.Class n) = begins_before _ _ (begins_then _ _ _ (begins_true _))
 expr_begins reads starts law (exprs.Yield n) = begins_then _ _ _ (begins_true _)
 expr_begins reads starts law (exprs.MetaProp n) = meta_prop_begins n.kind
@@ -381,9 +379,9 @@ binding_begins true id = begins_never true
 binding_begins false id = begins_then _ _ _ (begins_name _ _)
 
 simple_target_begins : {X : Type 0} (reads : X → Role → Phrase) (starts : X → Bool) → Begin reads starts → (n : SimpleAssignTarget X) → Begins (target_lists.simple_assign_target reads n) (simple_target_starts starts n)
-unfolding simple_target_starts target_lists.simple_assign_target names.binding_ident lists.super_prop_expr lists.paren_expr lists.opt_chain_expr leads begins_as
+unfolding simple_target_starts target_lists.simple_assign_target lists.member_expr names.binding_ident lists.super_prop_expr lists.paren_expr lists.opt_chain_expr leads begins_as
 simple_target_begins reads starts law (simple_targets.Ident n) = binding_begins (is_some n.type_ann) n.id
-simple_target_begins reads starts law (simple_targets.Member n) = law n.node.value MemberExpression refl
+simple_target_begins reads starts law (simple_targets.Member n) = begins_then _ _ _ (law n.obj.node.value IsCallee refl)
 simple_target_begins reads starts law (simple_targets.SuperProp n) = begins_then _ _ _ (begins_true _)
 simple_target_begins reads starts law (simple_targets.Paren n) = begins_then _ _ _ (begins_mark _ false)
 simple_target_begins reads starts law (simple_targets.OptChain n) = chain_begins reads starts law n.optional n.base
@@ -427,8 +425,8 @@ prop_name_begins : {X : Type 0} (reads : X → Role → Phrase) (n : PropName X)
 unfolding prop_name_starts prop_lists.prop_name lit_lists.str_lit lit_lists.string_token lit_lists.number lit_lists.big_int lists.computed_prop_name joins_a_word
 prop_name_begins reads (prop_names.Ident n) = begins_key _ _
 prop_name_begins reads (prop_names.Str n) = begins_where _ _ _ (begins_other _ false refl)
-prop_name_begins reads (prop_names.Num n) = begins_number n.value n.raw
-prop_name_begins reads (prop_names.BigInt n) = begins_where _ _ _ (begins_signed n.negative _)
+prop_name_begins reads (prop_names.Num n) = begins_number n.value.value n.value.raw
+prop_name_begins reads (prop_names.BigInt n) = begins_where _ _ _ (begins_signed n.value.negative _)
 prop_name_begins reads (prop_names.Computed n) = begins_then _ _ _ (begins_mark _ false)
 
 part_begins : {X : Type 0} (reads : X → Role → Phrase) (starts : X → Bool) → Begin reads starts → (n : ExprPart X) (role : Role) → leads role ≡ true → Begins (part_lists.expr_part reads n role) (begins_as role (expr_part_starts starts n))
@@ -437,7 +435,6 @@ part_begins reads starts law (expr_parts.Pat n) Pattern h = pat_begins reads sta
 part_begins reads starts law (expr_parts.Pat n) PlainParameter h = plain_parameter_begins starts n
 part_begins reads starts law (expr_parts.ObjectLit n) ObjectLiteral h = begins_then _ _ _ (begins_mark _ false)
 part_begins reads starts law (expr_parts.PropName n) PropertyName h = prop_name_begins reads n
-part_begins reads starts law (expr_parts.Prop n) PropertyDefinition h = absurd (true≢false (sym h))
 part_begins reads starts law (expr_parts.OptCall n) (ChainCall optional) h = unless_begins (is_some n.type_args) _ _ (begins_then _ _ _ (law n.callee.node.value IsCallee refl))
 part_begins reads starts law (expr_parts.AssignTarget n) AssignmentTarget h = target_begins reads starts law n
 part_begins reads starts law (expr_parts.Tpl n) Template h = tpl_begins reads (template_lists.is_counted n.exprs.items n.quasis.items) false n.exprs.items n.quasis.items
@@ -477,7 +474,6 @@ stmt_part_begins reads starts law (stmt_parts.Function n) MethodTail h = absurd 
 stmt_part_begins reads starts law (stmt_parts.Function n) PrivateTail h = absurd (true≢false (sym h))
 stmt_part_begins reads starts law (stmt_parts.Decl n) ExportedHead h = absurd (true≢false (sym h))
 stmt_part_begins reads starts law (stmt_parts.Decl n) ExportedTail h = absurd (true≢false (sym h))
-stmt_part_begins reads starts law (stmt_parts.ModuleItem n) Item h = absurd (true≢false (sym h))
 stmt_part_begins reads starts law (stmt_parts.ModuleDecl n) ModuleDeclaration h = absurd (true≢false (sym h))
 stmt_part_begins reads starts law (stmt_parts.Class n) ClassHead h = absurd (true≢false (sym h))
 stmt_part_begins reads starts law (stmt_parts.Class n) ClassTail h = absurd (true≢false (sym h))

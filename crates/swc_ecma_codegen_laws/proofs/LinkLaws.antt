@@ -6,9 +6,7 @@ use Rattle.swc_ecma_codegen_tree.specs.declared.links.AnyNode.TheVariants as who
 use Rattle.swc_ecma_codegen_tree.specs.declared.exprs.MemberExpr.{MemberExpr}
 use Rattle.swc_ecma_codegen_tree.specs.declared.parts.ExprPart.{ExprPart}
 use Rattle.swc_ecma_codegen_tree.specs.declared.parts.ExprPart.TheVariants as expr_parts
-use Rattle.swc_ecma_codegen_tree.specs.declared.parts.StmtPart.TheVariants as stmt_parts
 use Rattle.swc_ecma_codegen_tree.specs.declared.pats.AssignTarget.{AssignTarget}
-use Rattle.swc_ecma_codegen_tree.specs.declared.programs.ModuleItem.{ModuleItem}
 use Rattle.swc_ecma_codegen_ast.specs.ExprPhrases.{member_expr}
 use Rattle.swc_ecma_codegen_ast.specs.AssignPhrases as target_lists
 use Rattle.swc_ecma_codegen_ast.specs.PartPhrases as part_lists
@@ -21,26 +19,21 @@ use Rattle.swc_ecma_codegen.specs.declared.nodes.Place.TheVariants.{Plain}
 use Rattle.swc_ecma_codegen.specs.Exprs.{member, member_at}
 use Rattle.swc_ecma_codegen.specs.Answers.{any_answers}
 use Rattle.swc_ecma_codegen.specs.Targets.{assign_target}
-use Rattle.swc_ecma_codegen.specs.Modules.{module_item}
-use Rattle.swc_ecma_codegen.specs.Parts.{expr_part, stmt_part}
+use Rattle.swc_ecma_codegen.specs.Parts.{expr_part}
 use Rattle.swc_ecma_codegen.specs.Lists.{if_some_at}
 use Rattle.swc_ecma_codegen.specs.Roots.{Root, OfExpr, OfStmt, OfItem, OfModule, OfScript, OfProgram, OfLink, root_items}
 use Rattle.swc_ecma_codegen_laws.specs.HeldRoots.{IsHeld}
 use Rattle.swc_ecma_codegen.specs.Tree.{any_items}
-use Rattle.swc_ecma_codegen.proofs.Knots.{any_items_expr, any_items_stmt, any_items_member_expr, any_items_expr_part, any_items_stmt_part}
+use Rattle.swc_ecma_codegen.proofs.Knots.{any_items_expr, any_items_stmt, any_items_member_expr, any_items_expr_part}
 
 -- ---- what is written
-
-item_written : (n : AnyNode) (i : ModuleItem AnyNode) → n ≡ whole.StmtPart (stmt_parts.ModuleItem i) → any_items n Plain ≡ module_item any_answers any_items i
-unfolding stmt_part
-item_written n i h = ap (λ z. any_items z Plain) h ∙ any_items_stmt_part (stmt_parts.ModuleItem i) Plain
 
 -- a link writes what it holds
 pub held_written : (n : AnyNode) (root : Root) → IsHeld n root → any_items n Plain ≡ root_items root
 held_written n (OfExpr e) h = ap (λ z. any_items z Plain) h ∙ any_items_expr e Plain
 held_written n (OfStmt s) h = ap (λ z. any_items z Plain) h ∙ any_items_stmt s Plain
 held_written n (OfLink m role) h = ap (λ z. any_items z Plain) h.0 ∙ ap (any_items m) (sym h.1)
-held_written n (OfItem i) h = item_written n i h
+held_written n (OfItem i) h = absurd h
 held_written n (OfModule m) h = absurd h
 held_written n (OfScript s) h = absurd h
 held_written n (OfProgram p) h = absurd h

@@ -2,18 +2,17 @@
 use Rattle.std.specs.Prelude.{◌≡◌}
 use Rattle.swc_ecma_codegen_tree.specs.declared.links.AnyNode.{AnyNode}
 use Rattle.swc_ecma_codegen_tree.specs.declared.links.AnyNode.TheVariants as nodes
-use Rattle.swc_ecma_codegen_tree.specs.declared.parts.StmtPart.TheVariants as stmt_parts
 use Rattle.swc_ecma_codegen.specs.declared.nodes.Place.TheVariants.{Plain}
 use Rattle.swc_ecma_codegen.specs.Places.{placed}
 use Rattle.swc_ecma_codegen.specs.Roots.{Root, OfExpr, OfStmt, OfItem, OfModule, OfScript, OfProgram, OfLink}
 
--- It is this expression, this statement, this item of a module, or this node in any role that it has by itself, as a callee and a
--- member of an optional chain have not; no link holds a program.
+-- It is this expression, this statement, or this node in any role that it has by itself, as a callee and a member of an optional
+-- chain have not; no link holds an item of a module or a program.
 abbrev pub IsHeld : AnyNode → Root → Type 0
 IsHeld n (OfExpr e) = n ≡ nodes.Expr e
 IsHeld n (OfStmt s) = n ≡ nodes.Stmt s
 IsHeld n (OfLink m role) = (n ≡ m) × (placed role Plain ≡ Plain)
-IsHeld n (OfItem i) = n ≡ nodes.StmtPart (stmt_parts.ModuleItem i)
+IsHeld n (OfItem i) = ⊥
 IsHeld n (OfModule m) = ⊥
 IsHeld n (OfScript s) = ⊥
 IsHeld n (OfProgram p) = ⊥

@@ -10,17 +10,11 @@ use swc_ecma_codegen_grammar::{Fits, WellFormed};
 use swc_ecma_codegen_json::{ReadError, program_from_slice};
 use swc_ecma_codegen_spans::Spanned;
 use swc_ecma_codegen_text_writer::JsWriter;
-use swc_ecma_codegen_tree::{AnyNode, Expr, Holds, MemberExpr, Program, Stmt};
+use swc_ecma_codegen_tree::{AnyNode, Expr, Holds, Program, Stmt};
 
 /// What links hold. All but [`look`] and what looks at depths is made for any of it, which costs a check less than to make it
 /// for `AnyNode`.
-pub trait Printed: Holds<Expr<Self>>
-    + Holds<MemberExpr<Self>>
-    + Holds<Stmt<Self>>
-    + Held
-    + Fits
-    + Spanned
-    + Drop {}
+pub trait Printed: Holds<Expr<Self>> + Held + Fits + Spanned + Drop {}
 
 impl Printed for AnyNode {}
 
@@ -48,10 +42,7 @@ pub struct Answers {
 /// The first statement of a script, and the expression of that one.
 fn parts<N: Printed>(tree: &Program<N>) -> (Option<&Stmt<N>>, Option<&Expr<N>>) {
     let stmt = match tree {
-        Program::Script(script) => match script.body.first() {
-            Some(link) => link.get(),
-            None => None,
-        },
+        Program::Script(script) => script.body.first(),
         Program::Module(_) => None,
     };
     match stmt {

@@ -20,11 +20,9 @@ use Rattle.swc_ecma_codegen_tree.specs.declared.jsx.JSXFragment.{JSXFragment}
 use Rattle.swc_ecma_codegen_tree.specs.declared.jsx.JSXObject.{JSXObject}
 use Rattle.swc_ecma_codegen_tree.specs.declared.exprs.MemberExpr.{MemberExpr}
 use Rattle.swc_ecma_codegen_tree.specs.declared.programs.ModuleDecl.{ModuleDecl}
-use Rattle.swc_ecma_codegen_tree.specs.declared.programs.ModuleItem.{ModuleItem}
 use Rattle.swc_ecma_codegen_tree.specs.declared.exprs.ObjectLit.{ObjectLit}
 use Rattle.swc_ecma_codegen_tree.specs.declared.exprs.OptCall.{OptCall}
 use Rattle.swc_ecma_codegen_tree.specs.declared.pats.Pat.{Pat}
-use Rattle.swc_ecma_codegen_tree.specs.declared.exprs.Prop.{Prop}
 use Rattle.swc_ecma_codegen_tree.specs.declared.exprs.PropName.{PropName}
 use Rattle.swc_ecma_codegen_tree.specs.declared.pats.SimpleAssignTarget.{SimpleAssignTarget}
 use Rattle.swc_ecma_codegen_tree.specs.declared.stmts.Stmt.{Stmt}
@@ -49,9 +47,7 @@ use Rattle.swc_ecma_codegen_tree.specs.declared.jsx.JSXAttrValue.TheVariants as 
 use Rattle.swc_ecma_codegen_tree.specs.declared.jsx.JSXElementChild.TheVariants as jsx_element_childs
 use Rattle.swc_ecma_codegen_tree.specs.declared.jsx.JSXObject.TheVariants as jsx_objects
 use Rattle.swc_ecma_codegen_tree.specs.declared.programs.ModuleDecl.TheVariants as module_decls
-use Rattle.swc_ecma_codegen_tree.specs.declared.programs.ModuleItem.TheVariants as module_items
 use Rattle.swc_ecma_codegen_tree.specs.declared.pats.Pat.TheVariants as pats
-use Rattle.swc_ecma_codegen_tree.specs.declared.exprs.Prop.TheVariants as props
 use Rattle.swc_ecma_codegen_tree.specs.declared.exprs.PropName.TheVariants as prop_names
 use Rattle.swc_ecma_codegen_tree.specs.declared.pats.SimpleAssignTarget.TheVariants as simple_assign_targets
 use Rattle.swc_ecma_codegen_tree.specs.declared.stmts.Stmt.TheVariants as stmts
@@ -71,7 +67,7 @@ use Rattle.swc_ecma_codegen_tree.specs.declared.parts.JSXPart.TheVariants as jsx
 use Rattle.swc_ecma_codegen_tree.specs.declared.parts.TsPart.{TsPart}
 use Rattle.swc_ecma_codegen_tree.specs.declared.parts.TsPart.TheVariants as ts_parts
 use Rattle.std.specs.Box.{with_value}
-use Rattle.swc_ecma_codegen_spans.specs.Spans.{assign_prop_span, assign_target_pat_span, assign_target_span, binding_ident_span, class_decl_span, class_expr_span, class_member_span, decl_span, expr_span, fn_decl_span, fn_expr_span, jsx_attr_value_span, jsx_element_child_span, jsx_member_expr_span, jsx_namespaced_name_span, jsx_object_span, key_value_prop_span, lit_span, method_prop_span, module_decl_span, module_item_span, pat_span, prop_name_span, prop_span, simple_assign_target_span, stmt_span, ts_entity_name_span, ts_fn_or_constructor_type_span, ts_fn_param_span, ts_namespace_body_span, ts_type_element_span, ts_type_span, ts_union_or_intersection_type_span, node_span, any_span, expr_part_span, stmt_part_span, jsx_part_span, ts_part_span}
+use Rattle.swc_ecma_codegen_spans.specs.Spans.{assign_target_pat_span, assign_target_span, binding_ident_span, class_decl_span, class_expr_span, class_member_span, decl_span, expr_span, fn_decl_span, fn_expr_span, jsx_attr_value_span, jsx_element_child_span, jsx_member_expr_span, jsx_namespaced_name_span, jsx_object_span, lit_span, module_decl_span, pat_span, prop_name_span, simple_assign_target_span, stmt_span, ts_entity_name_span, ts_fn_or_constructor_type_span, ts_fn_param_span, ts_namespace_body_span, ts_type_element_span, ts_type_span, ts_union_or_intersection_type_span, node_span, any_span, expr_part_span, stmt_part_span, jsx_part_span, ts_part_span}
 
 known_of : AnyNode-F AnyNode → AnyNode-F Span
 known_of = map-AnyNode AnyNode Span any_span
@@ -233,11 +229,6 @@ decl_known b (decls.TsTypeAlias n) = refl
 decl_known b (decls.TsEnum n) = refl
 decl_known b (decls.TsModule n) = refl
 
-module_item_known : (n : ModuleItem AnyNode) → node_span (λ known. known) (known_of (nodes.StmtPart (stmt_parts.ModuleItem n))) ≡ module_item_span any_span n
-unfolding node_span known_of stmt_part_span module_item_span
-module_item_known (module_items.ModuleDecl n) = refl
-module_item_known (module_items.Stmt n) = refl
-
 module_decl_known : (b : (Box (ModuleDecl AnyNode) Global)) (n : ModuleDecl AnyNode) → node_span (λ known. known) (known_of (nodes.StmtPart (stmt_parts.ModuleDecl (with_value b n)))) ≡ module_decl_span n
 unfolding node_span known_of stmt_part_span module_decl_span
 module_decl_known b (module_decls.Import n) = refl
@@ -293,24 +284,15 @@ jsx_fragment_known : (n : JSXFragment AnyNode) → node_span (λ known. known) (
 unfolding node_span known_of jsx_part_span
 jsx_fragment_known n = refl
 
-ts_type_element_known : (n : TsTypeElement AnyNode) → node_span (λ known. known) (known_of (nodes.TsPart (ts_parts.TsTypeElement n))) ≡ ts_type_element_span n
+ts_type_element_known : (b : (Box (TsTypeElement AnyNode) Global)) (n : TsTypeElement AnyNode) → node_span (λ known. known) (known_of (nodes.TsPart (ts_parts.TsTypeElement (with_value b n)))) ≡ ts_type_element_span n
 unfolding node_span known_of ts_part_span ts_type_element_span
-ts_type_element_known (ts_type_elements.TsCallSignatureDecl n) = refl
-ts_type_element_known (ts_type_elements.TsConstructSignatureDecl n) = refl
-ts_type_element_known (ts_type_elements.TsPropertySignature n) = refl
-ts_type_element_known (ts_type_elements.TsGetterSignature n) = refl
-ts_type_element_known (ts_type_elements.TsSetterSignature n) = refl
-ts_type_element_known (ts_type_elements.TsMethodSignature n) = refl
-ts_type_element_known (ts_type_elements.TsIndexSignature n) = refl
-
-prop_known : (n : Prop AnyNode) → node_span (λ known. known) (known_of (nodes.ExprPart (expr_parts.Prop n))) ≡ prop_span any_span n
-unfolding node_span known_of expr_part_span prop_span key_value_prop_span assign_prop_span method_prop_span
-prop_known (props.Shorthand n) = refl
-prop_known (props.KeyValue n) = refl
-prop_known (props.Assign n) = refl
-prop_known (props.Getter n) = refl
-prop_known (props.Setter n) = refl
-prop_known (props.Method n) = refl
+ts_type_element_known b (ts_type_elements.TsCallSignatureDecl n) = refl
+ts_type_element_known b (ts_type_elements.TsConstructSignatureDecl n) = refl
+ts_type_element_known b (ts_type_elements.TsPropertySignature n) = refl
+ts_type_element_known b (ts_type_elements.TsGetterSignature n) = refl
+ts_type_element_known b (ts_type_elements.TsSetterSignature n) = refl
+ts_type_element_known b (ts_type_elements.TsMethodSignature n) = refl
+ts_type_element_known b (ts_type_elements.TsIndexSignature n) = refl
 
 member_expr_known : (n : MemberExpr AnyNode) → node_span (λ known. known) (known_of (nodes.MemberExpr n)) ≡ n.span
 unfolding node_span known_of
@@ -353,7 +335,6 @@ expr_part_known (expr_parts.Pat n) = pat_known n
 expr_part_known (expr_parts.Tpl n) = tpl_known n
 expr_part_known (expr_parts.ObjectLit n) = object_lit_known n
 expr_part_known (expr_parts.PropName n) = prop_name_known n
-expr_part_known (expr_parts.Prop n) = prop_known n
 expr_part_known (expr_parts.OptCall n) = opt_call_known n
 expr_part_known (expr_parts.AssignTarget n) = assign_target_known n
 
@@ -363,7 +344,6 @@ stmt_part_known (stmt_parts.Function n) = function_known n n.value
 stmt_part_known (stmt_parts.Class n) = class_known n n.value
 stmt_part_known (stmt_parts.BlockStmt n) = block_stmt_known n
 stmt_part_known (stmt_parts.Decl n) = decl_known n n.value
-stmt_part_known (stmt_parts.ModuleItem n) = module_item_known n
 stmt_part_known (stmt_parts.ModuleDecl n) = module_decl_known n n.value
 stmt_part_known (stmt_parts.VarDecl n) = var_decl_known n
 stmt_part_known (stmt_parts.ClassMember n) = class_member_known n n.value
@@ -384,7 +364,7 @@ ts_part_known (ts_parts.TsTypeAnn n) = ts_type_ann_known n
 ts_part_known (ts_parts.TsTypeParamDecl n) = ts_type_param_decl_known n
 ts_part_known (ts_parts.TsTypeParamInstantiation n) = ts_type_param_instantiation_known n
 ts_part_known (ts_parts.TsFnParam n) = ts_fn_param_known n
-ts_part_known (ts_parts.TsTypeElement n) = ts_type_element_known n
+ts_part_known (ts_parts.TsTypeElement n) = ts_type_element_known n n.value
 ts_part_known (ts_parts.TsEntityName n) = ts_entity_name_known n
 
 layer_known : (n : AnyNode-F AnyNode) → node_span (λ known. known) (known_of n) ≡ node_span any_span n

@@ -187,10 +187,6 @@ unfoldable pub program_span : {X : Type 0} → Program X → Span
 program_span (programs.Module n) = n.span
 program_span (programs.Script n) = n.span
 
-unfoldable pub module_item_span : {X : Type 0} → (X → Span) → ModuleItem X → Span
-module_item_span f (module_items.ModuleDecl n) = f n.node.value
-module_item_span f (module_items.Stmt n) = f n.node.value
-
 unfoldable pub module_decl_span : {X : Type 0} → ModuleDecl X → Span
 module_decl_span (module_decls.Import n) = n.span
 module_decl_span (module_decls.ExportDecl n) = n.span
@@ -242,9 +238,13 @@ stmt_span f (stmts.ForOf n) = n.span
 stmt_span f (stmts.Decl n) = f n.node.value
 stmt_span f (stmts.Expr n) = n.span
 
+unfoldable pub module_item_span : {X : Type 0} → (X → Span) → ModuleItem X → Span
+module_item_span f (module_items.ModuleDecl n) = f n.node.value
+module_item_span f (module_items.Stmt n) = stmt_span f n
+
 unfoldable pub for_head_span : {X : Type 0} → (X → Span) → ForHead X → Span
 for_head_span f (for_heads.VarDecl n) = f n.node.value
-for_head_span f (for_heads.UsingDecl n) = n.span
+for_head_span f (for_heads.UsingDecl n) = n.value.span
 for_head_span f (for_heads.Pat n) = f n.node.value
 
 unfoldable pub var_decl_or_expr_span : {X : Type 0} → (X → Span) → VarDeclOrExpr X → Span
@@ -300,7 +300,7 @@ object_pat_prop_span f (object_pat_props.Rest n) = n.span
 
 unfoldable pub simple_assign_target_span : {X : Type 0} → (X → Span) → SimpleAssignTarget X → Span
 simple_assign_target_span f (simple_assign_targets.Ident n) = binding_ident_span n
-simple_assign_target_span f (simple_assign_targets.Member n) = f n.node.value
+simple_assign_target_span f (simple_assign_targets.Member n) = n.span
 simple_assign_target_span f (simple_assign_targets.SuperProp n) = n.span
 simple_assign_target_span f (simple_assign_targets.Paren n) = n.span
 simple_assign_target_span f (simple_assign_targets.OptChain n) = n.span
@@ -324,8 +324,8 @@ unfoldable pub lit_span : Lit → Span
 lit_span (lits.Str n) = n.span
 lit_span (lits.Bool n) = n.span
 lit_span (lits.Null n) = n.span
-lit_span (lits.Num n) = n.span
-lit_span (lits.BigInt n) = n.span
+lit_span (lits.Num n) = n.value.span
+lit_span (lits.BigInt n) = n.value.span
 lit_span (lits.Regex n) = n.span
 lit_span (lits.JSXText n) = n.span
 
@@ -338,7 +338,7 @@ expr_span f (exprs.Unary n) = n.span
 expr_span f (exprs.Update n) = n.span
 expr_span f (exprs.Bin n) = n.span
 expr_span f (exprs.Assign n) = n.span
-expr_span f (exprs.Member n) = f n.node.value
+expr_span f (exprs.Member n) = n.span
 expr_span f (exprs.SuperProp n) = n.span
 expr_span f (exprs.Cond n) = n.span
 expr_span f (exprs.Call n) = n.span
@@ -348,7 +348,7 @@ expr_span f (exprs.Ident n) = n.span
 expr_span f (exprs.Lit n) = lit_span n
 expr_span f (exprs.Tpl n) = f n.node.value
 expr_span f (exprs.TaggedTpl n) = n.span
-expr_span f (exprs.Arrow n) = n.span
+expr_span f (exprs.Arrow n) = n.value.span
 expr_span f (exprs.Class n) = class_expr_span f n
 expr_span f (exprs.Yield n) = n.span
 expr_span f (exprs.MetaProp n) = n.span
@@ -369,10 +369,6 @@ expr_span f (exprs.PrivateName n) = n.span
 expr_span f (exprs.OptChain n) = n.span
 expr_span f (exprs.Invalid n) = n.span
 
-unfoldable pub prop_or_spread_span : {X : Type 0} → (X → Span) → PropOrSpread X → Span
-prop_or_spread_span f (prop_or_spreads.Spread n) = spread_element_span f n
-prop_or_spread_span f (prop_or_spreads.Prop n) = f n.node.value
-
 unfoldable pub prop_span : {X : Type 0} → (X → Span) → Prop X → Span
 prop_span f (props.Shorthand n) = n.span
 prop_span f (props.KeyValue n) = key_value_prop_span f n
@@ -381,11 +377,15 @@ prop_span f (props.Getter n) = n.span
 prop_span f (props.Setter n) = n.span
 prop_span f (props.Method n) = method_prop_span f n
 
+unfoldable pub prop_or_spread_span : {X : Type 0} → (X → Span) → PropOrSpread X → Span
+prop_or_spread_span f (prop_or_spreads.Spread n) = spread_element_span f n
+prop_or_spread_span f (prop_or_spreads.Prop n) = prop_span f n
+
 unfoldable pub prop_name_span : {X : Type 0} → PropName X → Span
 prop_name_span (prop_names.Ident n) = n.span
 prop_name_span (prop_names.Str n) = n.span
-prop_name_span (prop_names.Num n) = n.span
-prop_name_span (prop_names.BigInt n) = n.span
+prop_name_span (prop_names.Num n) = n.value.span
+prop_name_span (prop_names.BigInt n) = n.value.span
 prop_name_span (prop_names.Computed n) = n.span
 
 unfoldable pub member_prop_span : {X : Type 0} → MemberProp X → Span
@@ -530,7 +530,6 @@ expr_part_span f (expr_parts.Pat n) = pat_span f n
 expr_part_span f (expr_parts.Tpl n) = n.span
 expr_part_span f (expr_parts.ObjectLit n) = n.span
 expr_part_span f (expr_parts.PropName n) = prop_name_span n
-expr_part_span f (expr_parts.Prop n) = prop_span f n
 expr_part_span f (expr_parts.OptCall n) = n.span
 expr_part_span f (expr_parts.AssignTarget n) = assign_target_span f n
 
@@ -539,7 +538,6 @@ stmt_part_span f (stmt_parts.Function n) = n.value.span
 stmt_part_span f (stmt_parts.Class n) = n.value.span
 stmt_part_span f (stmt_parts.BlockStmt n) = n.span
 stmt_part_span f (stmt_parts.Decl n) = decl_span f n.value
-stmt_part_span f (stmt_parts.ModuleItem n) = module_item_span f n
 stmt_part_span f (stmt_parts.ModuleDecl n) = module_decl_span n.value
 stmt_part_span f (stmt_parts.VarDecl n) = n.span
 stmt_part_span f (stmt_parts.ClassMember n) = class_member_span n.value
@@ -558,7 +556,7 @@ ts_part_span f (ts_parts.TsTypeAnn n) = n.span
 ts_part_span f (ts_parts.TsTypeParamDecl n) = n.span
 ts_part_span f (ts_parts.TsTypeParamInstantiation n) = n.span
 ts_part_span f (ts_parts.TsFnParam n) = ts_fn_param_span n
-ts_part_span f (ts_parts.TsTypeElement n) = ts_type_element_span n
+ts_part_span f (ts_parts.TsTypeElement n) = ts_type_element_span n.value
 ts_part_span f (ts_parts.TsEntityName n) = ts_entity_name_span n
 
 -- one node, where f says where what its links hold stands

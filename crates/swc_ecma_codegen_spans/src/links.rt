@@ -24,7 +24,6 @@ impl<N: Spanned> Spanned for ExprPart<N> {
             ExprPart::Tpl(node) => node.span(),
             ExprPart::ObjectLit(node) => node.span(),
             ExprPart::PropName(node) => node.span(),
-            ExprPart::Prop(node) => node.span(),
             ExprPart::OptCall(node) => node.span(),
             ExprPart::AssignTarget(node) => node.span(),
         }
@@ -41,7 +40,6 @@ impl<N: Spanned> Spanned for StmtPart<N> {
             StmtPart::Class(node) => node.span(),
             StmtPart::BlockStmt(node) => node.span(),
             StmtPart::Decl(node) => node.span(),
-            StmtPart::ModuleItem(node) => node.span(),
             StmtPart::ModuleDecl(node) => node.span(),
             StmtPart::VarDecl(node) => node.span(),
             StmtPart::ClassMember(node) => node.span(),

@@ -6,7 +6,7 @@ use crate::pipes::Page;
 use crate::trees;
 use crate::trees::{
     DECREMENT, EXPORT, MEMBER, NAME, Tree, expr_of, script_of, settings, statement_of,
-    written_whole,
+    written_by_links, written_whole,
 };
 use std::alloc::{AllocError, Global};
 use std::test::Fail;
@@ -17,8 +17,8 @@ use swc_ecma_codegen_common::{BinaryOp, DUMMY_SP, Error, UpdateOp};
 use swc_ecma_codegen_grammar::WellFormed;
 use swc_ecma_codegen_spans::{SpanEnds, Spanned};
 use swc_ecma_codegen_tree::{
-    EmptyStmt, Expr, ExprBox, ExprStmt, Ident, Invalid, MemberExpr, MemberProp, Module, Program,
-    Script, Stmt, StmtBox,
+    EmptyStmt, Expr, ExprBox, ExprStmt, Ident, IdentName, Invalid, MemberExpr, MemberExprBox,
+    MemberProp, Module, Program, Script, Stmt, StmtBox,
 };
 
 /// Whether a node has this text by `to_code`.
@@ -35,6 +35,33 @@ fn prints_prop<N: Tree>(alloc: Global, node: &MemberExpr<N>, text: &str) -> Resu
     }
 }
 
+/// `a.b`
+fn member<N: Tree>(alloc: Global) -> Result<MemberExpr<N>, AllocError> {
+    let span = DUMMY_SP;
+    let sym = String::from_str(alloc, "b")?;
+    let prop = MemberProp::Ident(IdentName { span, sym });
+    let sym = String::from_str(alloc, "a")?;
+    let name = Ident {
+        span,
+        sym,
+        optional: false,
+    };
+    let obj = ExprBox::new(alloc, Expr::Ident(name))?;
+    Ok(MemberExpr { span, obj, prop })
+}
+
+/// A link to `a.b`.
+fn linked_member<N: Tree>(alloc: Global) -> Result<MemberExprBox<N>, AllocError> {
+    MemberExprBox::new(alloc, member(alloc)?)
+}
+
+/// A link to the statement `a.b;`.
+fn linked_stmt<N: Tree>(alloc: Global) -> Result<StmtBox<N>, AllocError> {
+    let span = DUMMY_SP;
+    let expr = ExprBox::new(alloc, Expr::Member(member(alloc)?))?;
+    StmtBox::new(alloc, Stmt::Expr(ExprStmt { span, expr }))
+}
+
 /// Whether links, references, boxes and options have the text of what they hold.
 fn prints_through<N: Tree>(alloc: Global, tree: &Program<N>) -> Result<bool, Error> {
     let text = "a.b;\n";
@@ -42,11 +69,12 @@ fn prints_through<N: Tree>(alloc: Global, tree: &Program<N>) -> Result<bool, Err
         return Ok(false);
     };
     let empty = Box::new(alloc, EmptyStmt { span: DUMMY_SP })?;
+    let link = linked_stmt::<N>(alloc)?;
     Ok(
         prints(alloc, tree, text)?
             && prints(alloc, script, text)?
             && prints(alloc, &script, text)?
-            && prints(alloc, &script.body.first(), text)?
+            && prints(alloc, &Some(&link), text)?
             && prints(alloc, &statement_of(tree), text)?
             && prints(alloc, &expr_of(tree), "a.b")?
             && prints(alloc, &None::<Ident>, "")?
@@ -55,18 +83,21 @@ fn prints_through<N: Tree>(alloc: Global, tree: &Program<N>) -> Result<bool, Err
 }
 
 /// Whether the parts of a member have these texts, by themselves and as seen through their links.
+fn prints_parts<N: Tree>(alloc: Global, node: &MemberExpr<N>) -> Result<bool, Error> {
+    Ok(
+        prints(alloc, node, "a.b")?
+            && prints(alloc, &node.obj, "a")?
+            && prints_prop(alloc, node, "b")?,
+    )
+}
+
+/// The same of a member in place, and of one that is linked to.
 fn prints_member<N: Tree>(alloc: Global, tree: &Program<N>) -> Result<bool, Error> {
-    match expr_of(tree) {
-        Some(Expr::Member(link)) => match link.get() {
-            Some(node) => {
-                Ok(
-                    prints(alloc, node, "a.b")?
-                        && prints(alloc, &node.obj, "a")?
-                        && prints_prop(alloc, node, "b")?,
-                )
-            }
-            None => Ok(false),
-        },
+    let link = linked_member::<N>(alloc)?;
+    match (expr_of(tree), link.get()) {
+        (Some(Expr::Member(node)), Some(linked)) => {
+            Ok(prints_parts(alloc, node)? && prints_parts(alloc, linked)?)
+        }
         _ => Ok(false),
     }
 }
@@ -116,6 +147,12 @@ fn has_its_text_each_way<N: Tree>(alloc: Global, tree: &Program<N>) -> Result<bo
         None => Page::new(),
     };
     Ok(whole.holds("a.b;\r\na.b;\r\na.b;\r\n") && parts.holds("a.b;a.b;a.b;a.b;a.b"))
+}
+
+/// Whether a statement and a member have their texts by their links.
+fn have_their_texts_by_links<N: Tree>(alloc: Global) -> Result<bool, Fail> {
+    let (stmt, member) = (linked_stmt::<N>(alloc)?, linked_member(alloc)?);
+    Ok(written_by_links(alloc, &stmt, &member)?.holds("a.b;a.b"))
 }
 
 /// Whether a module, its item and what that exports have their texts.
@@ -200,7 +237,7 @@ fn stops_before_invalid<N: Tree>(alloc: Global) -> Result<bool, Fail> {
         let span = DUMMY_SP;
         let expr = ExprBox::new(alloc, Expr::Invalid(Invalid { span }))?;
         let stmt = Stmt::Expr(ExprStmt { span, expr });
-        script.body.push(StmtBox::new(alloc, stmt)?)?;
+        script.body.push(stmt)?;
     }
     let emission = Emission::of(alloc, &tree, settings(true), Page::new());
     Ok(
@@ -219,6 +256,10 @@ pub(crate) fn check<N: Tree>(alloc: Global, tally: &mut Tally) -> Result<(), Fai
     tally.unless(
         has_its_text_each_way(alloc, &tree)?,
         "what holds a node has its text",
+    )?;
+    tally.unless(
+        have_their_texts_by_links::<N>(alloc)?,
+        "a statement and a member have their texts by their links",
     )?;
     tally.unless(
         prints_a_module::<N>(alloc)?,

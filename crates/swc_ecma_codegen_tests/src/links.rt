@@ -93,7 +93,7 @@ fn links_hold_whatever_they_are_given(rt: HostRuntime) -> Result<(), Fail> {
 }
 
 #[test]
-fn a_link_takes_at_most_112_bytes(rt: HostRuntime) {
-    assert!(rt; size_of::<AnyNode>() <= 112);
+fn a_link_takes_at_most_88_bytes(rt: HostRuntime) {
+    assert!(rt; size_of::<AnyNode>() <= 88);
     assert_eq!(rt; size_of::<ExprBox>(), 8);
 }

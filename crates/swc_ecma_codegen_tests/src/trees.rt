@@ -26,8 +26,8 @@ use swc_ecma_codegen_laws::{
 use swc_ecma_codegen_spans::Spanned;
 use swc_ecma_codegen_text_writer::{JsWriter, WriteJs};
 use swc_ecma_codegen_tree::{
-    AnyNode, ExportSpecifier, Expr, ExprStmt, Holds, MemberExpr, Module, ModuleDecl,
-    ModuleExportName, ModuleItem, Program, Script, Stmt, StmtPart,
+    AnyNode, ExportSpecifier, Expr, ExprStmt, Holds, MemberExpr, MemberExprBox, ModuleDecl,
+    ModuleExportName, ModuleItem, Program, Script, Stmt, StmtBox, StmtPart,
 };
 
 /// `a`
@@ -191,17 +191,17 @@ pub(crate) fn written_whole<N: Tree>(
     Ok(emitter.wr.into_inner())
 }
 
-/// Writes the first statement of a script by its link, or the first item of a module, and the name that this one exports first.
+/// Writes the first statement of a script, or the first item of a module, and the name that this one exports first.
 fn write_first<N: Tree, W: WriteJs, S: SourceMapper, C: Comments>(
     tree: &Program<N>,
     e: &mut Emitter<'_, W, S, C>,
 ) -> Answer {
     match tree {
         Program::Script(script) => match script.body.first() {
-            Some(link) => emitted_link_reads(link, e),
+            Some(stmt) => N::write_stmt(stmt, e),
             None => Ok(()),
         },
-        Program::Module(module) => match item_of(module) {
+        Program::Module(module) => match module.body.first() {
             Some(item) => write_exporting(item, e),
             None => Ok(()),
         },
@@ -241,6 +241,19 @@ pub(crate) fn written_parts<N: Tree>(
     Ok(emitter.wr.into_inner())
 }
 
+/// What is written of a statement and of a member by their links.
+pub(crate) fn written_by_links<N: Tree>(
+    alloc: Global,
+    stmt: &StmtBox<N>,
+    member: &MemberExprBox<N>,
+) -> Result<Page, Error> {
+    let wr = JsWriter::new(alloc, &NoSource, "\n", Page::new(), None);
+    let mut emitter = Emitter::new(alloc, settings(true), &NoSource, None::<CommentMaps>, wr);
+    emitted_link_reads(stmt, &mut emitter)?;
+    emitted_link_reads(member, &mut emitter)?;
+    Ok(emitter.wr.into_inner())
+}
+
 /// The laws of links, of a new emitter, and of token lists: they do nothing.
 fn laws_of_links() {
     links_write_their_roots();
@@ -274,7 +287,7 @@ fn write_held<N: Tree, W: WriteJs, S: SourceMapper, C: Comments>(
     emitted_box_reads(boxed, e)
 }
 
-/// Writes an expression, what an option holds, and a member by its link.
+/// Writes an expression, what an option holds, and a member itself.
 fn write_within<N: Tree, W: WriteJs, S: SourceMapper, C: Comments>(
     expr: &Expr<N>,
     some: &Option<Stmt<N>>,
@@ -283,16 +296,8 @@ fn write_within<N: Tree, W: WriteJs, S: SourceMapper, C: Comments>(
     N::write_expr(expr, e)?;
     emitted_option_reads(some, e)?;
     match expr {
-        Expr::Member(link) => emitted_link_reads(link, e),
+        Expr::Member(node) => node.emit_with(e),
         _ => Ok(()),
-    }
-}
-
-/// The first item.
-fn item_of<N: Holds<StmtPart<N>> + Drop>(module: &Module<N>) -> Option<&ModuleItem<N>> {
-    match module.body.first() {
-        Some(link) => link.get(),
-        None => None,
     }
 }
 
@@ -318,17 +323,12 @@ pub(crate) fn script_of<N>(tree: &Program<N>) -> Option<&Script<N>> {
 }
 
 /// The first statement.
-pub(crate) fn statement_of<N: Holds<Stmt<N>> + Drop>(tree: &Program<N>) -> Option<&Stmt<N>> {
-    match script_of(tree)?.body.first() {
-        Some(link) => link.get(),
-        None => None,
-    }
+pub(crate) fn statement_of<N>(tree: &Program<N>) -> Option<&Stmt<N>> {
+    script_of(tree)?.body.first()
 }
 
 /// The expression of the first statement.
-pub(crate) fn expr_of<N: Holds<Stmt<N>> + Holds<Expr<N>> + Drop>(
-    tree: &Program<N>,
-) -> Option<&Expr<N>> {
+pub(crate) fn expr_of<N: Holds<Expr<N>> + Drop>(tree: &Program<N>) -> Option<&Expr<N>> {
     match statement_of(tree) {
         Some(Stmt::Expr(node)) => node.expr.get(),
         _ => None,

@@ -8,6 +8,7 @@ use Rattle.swc_ecma_codegen_text_writer.specs.Sheet.{Sheet, HoldsNone}
 use Rattle.swc_ecma_codegen_text_writer.specs.View.{keeping}
 use Rattle.swc_ecma_codegen_ast.specs.SourceLines.{no_lines}
 use Rattle.swc_ecma_codegen_base.specs.Run.{Part, printed, start}
+use Rattle.swc_ecma_codegen.specs.Answers.{any_answers}
 use Rattle.swc_ecma_codegen.specs.Programs.{program}
 use Rattle.swc_ecma_codegen.specs.Texts.{blank_sheet}
 use Rattle.swc_ecma_codegen.specs.Tree.{any_items}
@@ -35,7 +36,7 @@ text_with options part = (printed part (start no_lines (settings_of options) (sh
 
 -- a text is that of a program
 abbrev pub IsText : Options → List ℕ → Type 0
-IsText options text = (p : Program AnyNode) × (text ≡ text_with options (program any_items p))
+IsText options text = (p : Program AnyNode) × (text ≡ text_with options (program any_answers any_items p))
 
 -- the text of one program is added to what a writer tells
 abbrev pub AddsText : Options → Option (List ℕ) → Option (List ℕ) → Type 0

@@ -19,14 +19,12 @@ use Rattle.swc_ecma_codegen_tree.specs.declared.pats.Pat.{Pat}
 use Rattle.swc_ecma_codegen_tree.specs.declared.exprs.Tpl.{Tpl}
 use Rattle.swc_ecma_codegen_tree.specs.declared.exprs.ObjectLit.{ObjectLit}
 use Rattle.swc_ecma_codegen_tree.specs.declared.exprs.PropName.{PropName}
-use Rattle.swc_ecma_codegen_tree.specs.declared.exprs.Prop.{Prop}
 use Rattle.swc_ecma_codegen_tree.specs.declared.exprs.OptCall.{OptCall}
 use Rattle.swc_ecma_codegen_tree.specs.declared.pats.AssignTarget.{AssignTarget}
 use Rattle.swc_ecma_codegen_tree.specs.declared.decls.Function.{Function}
 use Rattle.swc_ecma_codegen_tree.specs.declared.classes.Class.{Class}
 use Rattle.swc_ecma_codegen_tree.specs.declared.stmts.BlockStmt.{BlockStmt}
 use Rattle.swc_ecma_codegen_tree.specs.declared.decls.Decl.{Decl}
-use Rattle.swc_ecma_codegen_tree.specs.declared.programs.ModuleItem.{ModuleItem}
 use Rattle.swc_ecma_codegen_tree.specs.declared.programs.ModuleDecl.{ModuleDecl}
 use Rattle.swc_ecma_codegen_tree.specs.declared.decls.VarDecl.{VarDecl}
 use Rattle.swc_ecma_codegen_tree.specs.declared.classes.ClassMember.{ClassMember}
@@ -74,10 +72,6 @@ abbrev pub prop_name_in : {N : Type 0} → ExprPart N → Option (PropName N)
 prop_name_in (expr_parts.PropName n) = Some n
 prop_name_in _ = None
 
-abbrev pub prop_in : {N : Type 0} → ExprPart N → Option (Prop N)
-prop_in (expr_parts.Prop n) = Some n
-prop_in _ = None
-
 abbrev pub opt_call_in : {N : Type 0} → ExprPart N → Option (OptCall N)
 opt_call_in (expr_parts.OptCall n) = Some n
 opt_call_in _ = None
@@ -102,10 +96,6 @@ block_stmt_in _ = None
 abbrev pub decl_in : {N : Type 0} → StmtPart N → Option (Decl N)
 decl_in (stmt_parts.Decl n) = Some n.value
 decl_in _ = None
-
-abbrev pub module_item_in : {N : Type 0} → StmtPart N → Option (ModuleItem N)
-module_item_in (stmt_parts.ModuleItem n) = Some n
-module_item_in _ = None
 
 abbrev pub module_decl_in : {N : Type 0} → StmtPart N → Option (ModuleDecl N)
 module_decl_in (stmt_parts.ModuleDecl n) = Some n.value
@@ -166,7 +156,7 @@ ts_fn_param_in (ts_parts.TsFnParam n) = Some n
 ts_fn_param_in _ = None
 
 abbrev pub ts_type_element_in : {N : Type 0} → TsPart N → Option (TsTypeElement N)
-ts_type_element_in (ts_parts.TsTypeElement n) = Some n
+ts_type_element_in (ts_parts.TsTypeElement n) = Some n.value
 ts_type_element_in _ = None
 
 abbrev pub ts_entity_name_in : {N : Type 0} → TsPart N → Option (TsEntityName N)

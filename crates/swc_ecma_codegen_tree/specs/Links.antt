@@ -5,7 +5,6 @@ use Rattle.swc_ecma_codegen_tree.specs.declared.sorts.ToPat.{ToPat}
 use Rattle.swc_ecma_codegen_tree.specs.declared.sorts.ToTpl.{ToTpl}
 use Rattle.swc_ecma_codegen_tree.specs.declared.sorts.ToObjectLit.{ToObjectLit}
 use Rattle.swc_ecma_codegen_tree.specs.declared.sorts.ToPropName.{ToPropName}
-use Rattle.swc_ecma_codegen_tree.specs.declared.sorts.ToProp.{ToProp}
 use Rattle.swc_ecma_codegen_tree.specs.declared.sorts.ToMemberExpr.{ToMemberExpr}
 use Rattle.swc_ecma_codegen_tree.specs.declared.sorts.ToOptCall.{ToOptCall}
 use Rattle.swc_ecma_codegen_tree.specs.declared.sorts.ToAssignTarget.{ToAssignTarget}
@@ -14,7 +13,6 @@ use Rattle.swc_ecma_codegen_tree.specs.declared.sorts.ToFunction.{ToFunction}
 use Rattle.swc_ecma_codegen_tree.specs.declared.sorts.ToClass.{ToClass}
 use Rattle.swc_ecma_codegen_tree.specs.declared.sorts.ToBlockStmt.{ToBlockStmt}
 use Rattle.swc_ecma_codegen_tree.specs.declared.sorts.ToDecl.{ToDecl}
-use Rattle.swc_ecma_codegen_tree.specs.declared.sorts.ToModuleItem.{ToModuleItem}
 use Rattle.swc_ecma_codegen_tree.specs.declared.sorts.ToModuleDecl.{ToModuleDecl}
 use Rattle.swc_ecma_codegen_tree.specs.declared.sorts.ToVarDecl.{ToVarDecl}
 use Rattle.swc_ecma_codegen_tree.specs.declared.sorts.ToClassMember.{ToClassMember}
@@ -47,9 +45,6 @@ ObjectLitBox N = Link ToObjectLit N
 abbrev pub PropNameBox : Type 0 → Type 0
 PropNameBox N = Link ToPropName N
 
-abbrev pub PropBox : Type 0 → Type 0
-PropBox N = Link ToProp N
-
 abbrev pub MemberExprBox : Type 0 → Type 0
 MemberExprBox N = Link ToMemberExpr N
 
@@ -73,9 +68,6 @@ BlockStmtBox N = Link ToBlockStmt N
 
 abbrev pub DeclBox : Type 0 → Type 0
 DeclBox N = Link ToDecl N
-
-abbrev pub ModuleItemBox : Type 0 → Type 0
-ModuleItemBox N = Link ToModuleItem N
 
 abbrev pub ModuleDeclBox : Type 0 → Type 0
 ModuleDeclBox N = Link ToModuleDecl N

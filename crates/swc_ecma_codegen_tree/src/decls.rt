@@ -2,9 +2,9 @@
 
 use crate::idents::Ident;
 use crate::links::AnyNode;
+use crate::pats::Pat;
 use crate::sorts::{
-    BlockStmtBox, ClassBox, ExprBox, FunctionBox, PatBox, TsTypeAnnBox, TsTypeParamDeclBox,
-    VarDeclBox,
+    BlockStmtBox, ClassBox, ExprBox, FunctionBox, TsTypeAnnBox, TsTypeParamDeclBox, VarDeclBox,
 };
 use crate::ts_decls::{TsEnumDecl, TsInterfaceDecl, TsModuleDecl, TsTypeAliasDecl};
 use swc_ecma_codegen_common::Span;
@@ -80,7 +80,7 @@ pub enum VarDeclKind {
 pub struct VarDeclarator<N = AnyNode> {
     pub span: Span,
     /// `a` of `let a = 1;`.
-    pub name: PatBox<N>,
+    pub name: Pat<N>,
     /// `1` of `let a = 1;`, or none of `let a;`.
     pub init: Option<ExprBox<N>>,
     /// TypeScript: whether `!` stands after the name, `let a!: T;`.
@@ -124,7 +124,7 @@ pub struct Param<N = AnyNode> {
     /// TypeScript: `@a` of `class A { b(@a c) {} }`.
     pub decorators: Vec<Decorator<N>>,
     /// `a = 1` of `function f(a = 1) {}`.
-    pub pat: PatBox<N>,
+    pub pat: Pat<N>,
 }
 
 /// `@a` of `@a class B {}`. A proposal, not in ECMA-262, 2024 edition.

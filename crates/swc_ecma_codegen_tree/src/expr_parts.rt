@@ -1,8 +1,8 @@
 //! How `ExprPart` holds its sorts.
 
-ghost use Rattle.swc_ecma_codegen_tree.specs.Held.{pat_in, tpl_in, object_lit_in, prop_name_in, prop_in, opt_call_in, assign_target_in};
+ghost use Rattle.swc_ecma_codegen_tree.specs.Held.{pat_in, tpl_in, object_lit_in, prop_name_in, opt_call_in, assign_target_in};
 
-use crate::exprs::{ObjectLit, OptCall, Prop, PropName, Tpl};
+use crate::exprs::{ObjectLit, OptCall, PropName, Tpl};
 use crate::holds::Holds;
 use crate::parts::ExprPart;
 use crate::pats::{AssignTarget, Pat};
@@ -91,28 +91,6 @@ impl<N: Drop> Holds<PropName<N>> for ExprPart<N> {
     fn into_node(self) -> Result<PropName<N>, ExprPart<N>> {
         match self {
             ExprPart::PropName(node) => Ok(node),
-            other => Err(other),
-        }
-    }
-}
-
-impl<N: Drop> Holds<Prop<N>> for ExprPart<N> {
-    ghost node_in = { prop_in };
-
-    fn hold(_: Global, node: Prop<N>) -> Result<ExprPart<N>, AllocError> {
-        Ok(ExprPart::Prop(node))
-    }
-
-    fn node(&self) -> Option<&Prop<N>> {
-        match self {
-            ExprPart::Prop(node) => Some(node),
-            _ => None,
-        }
-    }
-
-    fn into_node(self) -> Result<Prop<N>, ExprPart<N>> {
-        match self {
-            ExprPart::Prop(node) => Ok(node),
             other => Err(other),
         }
     }

@@ -7,7 +7,7 @@ use crate::lits::{BigInt, Lit, Number, Str};
 use crate::modules::ImportPhase;
 use crate::sorts::{
     AssignTargetBox, BlockStmtBox, ClassBox, ExprBox, FunctionBox, JSXElementBox, JSXFragmentBox,
-    MemberExprBox, ObjectLitBox, OptCallBox, PatBox, PropBox, PropNameBox, TplBox, TsTypeAnnBox,
+    MemberExprBox, ObjectLitBox, OptCallBox, PatBox, PropNameBox, TplBox, TsTypeAnnBox,
     TsTypeParamDeclBox, TsTypeParamInstantiationBox,
 };
 use crate::ts_exprs::{
@@ -35,7 +35,7 @@ pub enum Expr<N = AnyNode> {
     /// `a = b`
     Assign(AssignExpr<N>),
     /// `a.b`
-    Member(MemberExprBox<N>),
+    Member(MemberExpr<N>),
     /// `super.a`
     SuperProp(SuperPropExpr<N>),
     /// `a ? b : c`
@@ -55,7 +55,7 @@ pub enum Expr<N = AnyNode> {
     /// `f` and a template right after it.
     TaggedTpl(TaggedTpl<N>),
     /// `(a) => b`
-    Arrow(ArrowExpr<N>),
+    Arrow(Box<ArrowExpr<N>>),
     /// `class A {}` of `(class A {})`
     Class(ClassExpr<N>),
     /// `yield a`
@@ -133,7 +133,7 @@ pub enum PropOrSpread<N = AnyNode> {
     /// `...a` of `{ ...a }`
     Spread(SpreadElement<N>),
     /// `a: b` of `{ a: b }`
-    Prop(PropBox<N>),
+    Prop(Prop<N>),
 }
 
 /// `...a` of `{ ...a }`. ECMA-262, section 13.2.5.
@@ -223,9 +223,9 @@ pub enum PropName<N = AnyNode> {
     /// `"a"` of `{ "a": b }`
     Str(Str),
     /// `1` of `{ 1: a }`
-    Num(Number),
+    Num(Box<Number>),
     /// `1n` of `{ 1n: a }`
-    BigInt(BigInt),
+    BigInt(Box<BigInt>),
     /// `[a]` of `{ [a]: b }`
     Computed(ComputedPropName<N>),
 }

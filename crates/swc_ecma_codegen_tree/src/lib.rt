@@ -3,6 +3,9 @@
 //! Each type of node that holds other nodes is generic in what its links hold: `BinExpr<N = AnyNode>`. A link
 //! (`ExprBox`, `StmtBox`, ..) is to this tree what `Box<Expr>` is to swc's. One type alone refers to itself, `AnyNode`,
 //! and its name needs to be written nowhere: `Expr` is `Expr<AnyNode>`.
+//!
+//! Whatever need not be linked to stands in place, as the statements of a block in their list. A node that would make each
+//! link larger is in a `Box` of its own: `Expr::Arrow`, `Lit::Num`.
 #![tactic(auto)]
 
 mod classes;
@@ -190,11 +193,9 @@ pub use crate::sorts::JSXObjectBox;
 pub use crate::sorts::LinkSort;
 pub use crate::sorts::MemberExprBox;
 pub use crate::sorts::ModuleDeclBox;
-pub use crate::sorts::ModuleItemBox;
 pub use crate::sorts::ObjectLitBox;
 pub use crate::sorts::OptCallBox;
 pub use crate::sorts::PatBox;
-pub use crate::sorts::PropBox;
 pub use crate::sorts::PropNameBox;
 pub use crate::sorts::StmtBox;
 pub use crate::sorts::ToAssignTarget;
@@ -211,11 +212,9 @@ pub use crate::sorts::ToJSXFragment;
 pub use crate::sorts::ToJSXObject;
 pub use crate::sorts::ToMemberExpr;
 pub use crate::sorts::ToModuleDecl;
-pub use crate::sorts::ToModuleItem;
 pub use crate::sorts::ToObjectLit;
 pub use crate::sorts::ToOptCall;
 pub use crate::sorts::ToPat;
-pub use crate::sorts::ToProp;
 pub use crate::sorts::ToPropName;
 pub use crate::sorts::ToStmt;
 pub use crate::sorts::ToTpl;

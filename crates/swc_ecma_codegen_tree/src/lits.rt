@@ -12,9 +12,9 @@ pub enum Lit {
     /// `null`
     Null(Null),
     /// `1.5`
-    Num(Number),
+    Num(Box<Number>),
     /// `1n`
-    BigInt(BigInt),
+    BigInt(Box<BigInt>),
     /// `/a/g`
     Regex(Regex),
     /// JSX: `b` of `<a>b</a>`

@@ -4,11 +4,11 @@
 
 use crate::classes::{Class, ClassMember};
 use crate::decls::{Decl, Function, VarDecl};
-use crate::exprs::{ObjectLit, OptCall, Prop, PropName, Tpl};
+use crate::exprs::{ObjectLit, OptCall, PropName, Tpl};
 use crate::jsx::{JSXAttrValue, JSXElement, JSXElementChild, JSXFragment, JSXObject};
 use crate::links::AnyNode;
 use crate::pats::{AssignTarget, Pat};
-use crate::programs::{ModuleDecl, ModuleItem};
+use crate::programs::ModuleDecl;
 use crate::stmts::BlockStmt;
 use crate::ts_decls::TsNamespaceBody;
 use crate::ts_members::TsTypeElement;
@@ -23,7 +23,6 @@ pub enum ExprPart<N = AnyNode> {
     Tpl(Tpl<N>),
     ObjectLit(ObjectLit<N>),
     PropName(PropName<N>),
-    Prop(Prop<N>),
     OptCall(OptCall<N>),
     AssignTarget(AssignTarget<N>),
 }
@@ -35,7 +34,6 @@ pub enum StmtPart<N = AnyNode> {
     Class(Box<Class<N>>),
     BlockStmt(BlockStmt<N>),
     Decl(Box<Decl<N>>),
-    ModuleItem(ModuleItem<N>),
     ModuleDecl(Box<ModuleDecl<N>>),
     VarDecl(VarDecl<N>),
     ClassMember(Box<ClassMember<N>>),
@@ -60,6 +58,6 @@ pub enum TsPart<N = AnyNode> {
     TsTypeParamDecl(TsTypeParamDecl<N>),
     TsTypeParamInstantiation(TsTypeParamInstantiation<N>),
     TsFnParam(TsFnParam<N>),
-    TsTypeElement(TsTypeElement<N>),
+    TsTypeElement(Box<TsTypeElement<N>>),
     TsEntityName(TsEntityName<N>),
 }

@@ -1,9 +1,9 @@
 //! Patterns, and what is assigned to.
 
-use crate::exprs::{OptChainExpr, ParenExpr, SuperPropExpr};
+use crate::exprs::{MemberExpr, OptChainExpr, ParenExpr, SuperPropExpr};
 use crate::idents::{BindingIdent, Invalid};
 use crate::links::AnyNode;
-use crate::sorts::{ExprBox, MemberExprBox, PatBox, PropNameBox, TsTypeAnnBox};
+use crate::sorts::{ExprBox, PatBox, PropNameBox, TsTypeAnnBox};
 use crate::ts_exprs::{TsAsExpr, TsInstantiation, TsNonNullExpr, TsSatisfiesExpr, TsTypeAssertion};
 use swc_ecma_codegen_common::Span;
 
@@ -128,7 +128,7 @@ pub enum SimpleAssignTarget<N = AnyNode> {
     /// `a` of `a = b`
     Ident(BindingIdent<N>),
     /// `a.b` of `a.b = c`
-    Member(MemberExprBox<N>),
+    Member(MemberExpr<N>),
     /// `super.a` of `super.a = b`
     SuperProp(SuperPropExpr<N>),
     /// `(a)` of `(a) = b`

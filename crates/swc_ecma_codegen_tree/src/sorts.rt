@@ -3,17 +3,17 @@
 ghost use Rattle.std.specs.Prelude.{◌≡◌, Option, refl};
 ghost use Rattle.std.specs.Option.{option_and_then};
 ghost use Rattle.std.proofs.Common.{rules};
-ghost use Rattle.swc_ecma_codegen_tree.specs.Held.{pat_in, tpl_in, object_lit_in, prop_name_in, prop_in, opt_call_in, assign_target_in, function_in, class_in, block_stmt_in, decl_in, module_item_in, module_decl_in, var_decl_in, class_member_in, jsx_element_child_in, jsx_attr_value_in, jsx_element_in, jsx_fragment_in, jsx_object_in, ts_type_in, ts_namespace_body_in, ts_type_ann_in, ts_type_param_decl_in, ts_type_param_instantiation_in, ts_fn_param_in, ts_type_element_in, ts_entity_name_in};
+ghost use Rattle.swc_ecma_codegen_tree.specs.Held.{pat_in, tpl_in, object_lit_in, prop_name_in, opt_call_in, assign_target_in, function_in, class_in, block_stmt_in, decl_in, module_decl_in, var_decl_in, class_member_in, jsx_element_child_in, jsx_attr_value_in, jsx_element_in, jsx_fragment_in, jsx_object_in, ts_type_in, ts_namespace_body_in, ts_type_ann_in, ts_type_param_decl_in, ts_type_param_instantiation_in, ts_fn_param_in, ts_type_element_in, ts_entity_name_in};
 
 use crate::classes::{Class, ClassMember};
 use crate::decls::{Decl, Function, VarDecl};
-use crate::exprs::{Expr, MemberExpr, ObjectLit, OptCall, Prop, PropName, Tpl};
+use crate::exprs::{Expr, MemberExpr, ObjectLit, OptCall, PropName, Tpl};
 use crate::holds::Holds;
 use crate::jsx::{JSXAttrValue, JSXElement, JSXElementChild, JSXFragment, JSXObject};
 use crate::links::{AnyNode, Link};
 use crate::parts::{ExprPart, JSXPart, StmtPart, TsPart};
 use crate::pats::{AssignTarget, Pat};
-use crate::programs::{ModuleDecl, ModuleItem};
+use crate::programs::ModuleDecl;
 use crate::stmts::{BlockStmt, Stmt};
 use crate::ts_decls::TsNamespaceBody;
 use crate::ts_members::TsTypeElement;
@@ -111,22 +111,6 @@ impl<N: Drop> LinkSort<N> for ToPropName {
     type Part = ExprPart<N>;
 
     ghost linked = { option_and_then prop_name_in };
-
-    ghost linked_is_held = { λ part. refl };
-}
-
-/// A link to a property, as `Box<Prop>` in swc.
-pub type PropBox<N = AnyNode> = Link<ToProp, N>;
-
-/// To a property.
-pub enum ToProp {}
-
-impl<N: Drop> LinkSort<N> for ToProp {
-    type Node = Prop<N>;
-
-    type Part = ExprPart<N>;
-
-    ghost linked = { option_and_then prop_in };
 
     ghost linked_is_held = { λ part. refl };
 }
@@ -255,22 +239,6 @@ impl<N: Drop> LinkSort<N> for ToDecl {
     type Part = StmtPart<N>;
 
     ghost linked = { option_and_then decl_in };
-
-    ghost linked_is_held = { λ part. refl };
-}
-
-/// A link to an item of a module, as `Box<ModuleItem>` in swc.
-pub type ModuleItemBox<N = AnyNode> = Link<ToModuleItem, N>;
-
-/// To an item of a module.
-pub enum ToModuleItem {}
-
-impl<N: Drop> LinkSort<N> for ToModuleItem {
-    type Node = ModuleItem<N>;
-
-    type Part = StmtPart<N>;
-
-    ghost linked = { option_and_then module_item_in };
 
     ghost linked_is_held = { λ part. refl };
 }

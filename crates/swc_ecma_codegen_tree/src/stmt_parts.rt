@@ -1,12 +1,12 @@
 //! How `StmtPart` holds its sorts.
 
-ghost use Rattle.swc_ecma_codegen_tree.specs.Held.{function_in, class_in, block_stmt_in, decl_in, module_item_in, module_decl_in, var_decl_in, class_member_in};
+ghost use Rattle.swc_ecma_codegen_tree.specs.Held.{function_in, class_in, block_stmt_in, decl_in, module_decl_in, var_decl_in, class_member_in};
 
 use crate::classes::{Class, ClassMember};
 use crate::decls::{Decl, Function, VarDecl};
 use crate::holds::Holds;
 use crate::parts::StmtPart;
-use crate::programs::{ModuleDecl, ModuleItem};
+use crate::programs::ModuleDecl;
 use crate::stmts::BlockStmt;
 use std::alloc::{AllocError, Global};
 
@@ -93,28 +93,6 @@ impl<N: Drop> Holds<Decl<N>> for StmtPart<N> {
     fn into_node(self) -> Result<Decl<N>, StmtPart<N>> {
         match self {
             StmtPart::Decl(node) => Ok(Box::into_inner(node)),
-            other => Err(other),
-        }
-    }
-}
-
-impl<N: Drop> Holds<ModuleItem<N>> for StmtPart<N> {
-    ghost node_in = { module_item_in };
-
-    fn hold(_: Global, node: ModuleItem<N>) -> Result<StmtPart<N>, AllocError> {
-        Ok(StmtPart::ModuleItem(node))
-    }
-
-    fn node(&self) -> Option<&ModuleItem<N>> {
-        match self {
-            StmtPart::ModuleItem(node) => Some(node),
-            _ => None,
-        }
-    }
-
-    fn into_node(self) -> Result<ModuleItem<N>, StmtPart<N>> {
-        match self {
-            StmtPart::ModuleItem(node) => Ok(node),
             other => Err(other),
         }
     }

@@ -3,8 +3,9 @@
 use crate::idents::Ident;
 use crate::links::AnyNode;
 use crate::lits::Str;
+use crate::programs::ModuleItem;
 use crate::sorts::{
-    ExprBox, ModuleItemBox, TsEntityNameBox, TsNamespaceBodyBox, TsTypeBox, TsTypeParamDeclBox,
+    ExprBox, TsEntityNameBox, TsNamespaceBodyBox, TsTypeBox, TsTypeParamDeclBox,
     TsTypeParamInstantiationBox,
 };
 use crate::ts_members::TsInterfaceBody;
@@ -120,7 +121,7 @@ pub enum TsNamespaceBody<N = AnyNode> {
 pub struct TsModuleBlock<N = AnyNode> {
     pub span: Span,
     /// `b;` and `c;` of `namespace a {b; c;}`, in order.
-    pub body: Vec<ModuleItemBox<N>>,
+    pub body: Vec<ModuleItem<N>>,
 }
 
 /// `b {}` of `namespace a.b {}`. TypeScript, Namespaces.

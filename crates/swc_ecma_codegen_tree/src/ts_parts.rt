@@ -146,8 +146,8 @@ impl<N: Drop> Holds<TsFnParam<N>> for TsPart<N> {
 impl<N: Drop> Holds<TsTypeElement<N>> for TsPart<N> {
     ghost node_in = { ts_type_element_in };
 
-    fn hold(_: Global, node: TsTypeElement<N>) -> Result<TsPart<N>, AllocError> {
-        Ok(TsPart::TsTypeElement(node))
+    fn hold(alloc: Global, node: TsTypeElement<N>) -> Result<TsPart<N>, AllocError> {
+        Ok(TsPart::TsTypeElement(Box::new(alloc, node)?))
     }
 
     fn node(&self) -> Option<&TsTypeElement<N>> {
@@ -159,7 +159,7 @@ impl<N: Drop> Holds<TsTypeElement<N>> for TsPart<N> {
 
     fn into_node(self) -> Result<TsTypeElement<N>, TsPart<N>> {
         match self {
-            TsPart::TsTypeElement(node) => Ok(node),
+            TsPart::TsTypeElement(node) => Ok(Box::into_inner(node)),
             other => Err(other),
         }
     }

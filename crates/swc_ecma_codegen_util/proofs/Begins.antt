@@ -58,7 +58,7 @@ unfolding node_starts expr_starts update_starts arrow_starts
 expr_mapped g f (exprs.Seq n) = first_mapped _ f (λ x. f (g x)) (λ x. refl) n.exprs.items
 expr_mapped g f (exprs.Call n) = callee_mapped g f n n.callee
 expr_mapped g f (exprs.OptChain n) = chain_mapped g f n n.base
-expr_mapped g f (exprs.Arrow n) = ap (λ (b : Bool). if n.is_async then true else b) (only_mapped _ f (λ x. f (g x)) (λ x. refl) n.params.items)
+expr_mapped g f (exprs.Arrow n) = ap (λ (b : Bool). if n.value.is_async then true else b) (only_mapped _ f (λ x. f (g x)) (λ x. refl) n.value.params.items)
 expr_mapped g f n = refl
 
 stmt_mapped : {X Y : Type 0} (g : X → Y) (f : Y → Bool) (n : Stmt X) → node_starts f (map-AnyNode X Y g (nodes.Stmt n)) ≡ stmt_starts (λ x. f (g x)) n

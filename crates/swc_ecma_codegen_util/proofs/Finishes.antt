@@ -28,7 +28,7 @@ use Rattle.swc_ecma_codegen_util.specs.Ends.{prop_ends, expr_ends, pat_ends, ini
 -- ---- a word sees what links hold through f alone
 
 -- a declarator with an initializer, and one without
-declarator_mapped : {A B : Type 0} (g : VarDeclarator A → VarDeclarator B) (e : B → Bool) (d : A → Bool) → ((x : VarDeclarator A) (y : ExprBox A) → declarator_ends e (g (record x { init = Some y })) ≡ d y.node.value) → ((x : VarDeclarator A) → declarator_ends e (g (record x { init = None })) ≡ d x.name.node.value)
+declarator_mapped : {A B : Type 0} (g : VarDeclarator A → VarDeclarator B) (e : B → Bool) (d : A → Bool) → ((x : VarDeclarator A) (y : ExprBox A) → declarator_ends e (g (record x { init = Some y })) ≡ d y.node.value) → ((x : VarDeclarator A) → declarator_ends e (g (record x { init = None })) ≡ pat_ends d x.name)
     → (x : VarDeclarator A) (init : Option (ExprBox A)) → declarator_ends e (g (record x { init = init })) ≡ declarator_ends d (record x { init = init })
 unfolding declarator_ends init_ends
 declarator_mapped g e d with_init without x (Some y) = with_init x y
@@ -39,15 +39,20 @@ unfolding last_ends
 last_mapped g e d same (Some x) = same x
 last_mapped g e d same None = refl
 
-pub declarators_mapped : {A B : Type 0} (g : VarDeclarator A → VarDeclarator B) (e : B → Bool) (d : A → Bool) → ((x : VarDeclarator A) (y : ExprBox A) → declarator_ends e (g (record x { init = Some y })) ≡ d y.node.value) → ((x : VarDeclarator A) → declarator_ends e (g (record x { init = None })) ≡ d x.name.node.value)
+pub declarators_mapped : {A B : Type 0} (g : VarDeclarator A → VarDeclarator B) (e : B → Bool) (d : A → Bool) → ((x : VarDeclarator A) (y : ExprBox A) → declarator_ends e (g (record x { init = Some y })) ≡ d y.node.value) → ((x : VarDeclarator A) → declarator_ends e (g (record x { init = None })) ≡ pat_ends d x.name)
     → (xs : List (VarDeclarator A)) → declarators_end e (map g xs) ≡ declarators_end d xs
 unfolding declarators_end
 declarators_mapped g e d with_init without xs = ap (λ i. last_ends e (slice_get (map g xs) (i - 1))) (length-map xs g) ∙ ap (last_ends e) (slice_get-map g xs (length xs - 1))
     ∙ last_mapped g e d (λ x. declarator_mapped g e d with_init without x x.init) (slice_get xs (length xs - 1))
 
+pub pat_mapped : {X Y : Type 0} (g : X → Y) (f : Y → Bool) (n : Pat X) → node_ends f (map-AnyNode X Y g (nodes.ExprPart (expr_parts.Pat n))) ≡ pat_ends (λ x. f (g x)) n
+unfolding node_ends expr_part_ends pat_ends
+pat_mapped g f (pats.Invalid n) = refl
+pat_mapped g f n = refl
+
 var_decl_mapped : {X Y : Type 0} (g : X → Y) (f : Y → Bool) (n : VarDecl X) → node_ends f (map-AnyNode X Y g (nodes.StmtPart (stmt_parts.VarDecl n))) ≡ declarators_end (λ x. f (g x)) n.decls.items
-unfolding node_ends stmt_part_ends declarator_ends init_ends
-var_decl_mapped g f n = declarators_mapped _ f (λ x. f (g x)) (λ x y. refl) (λ x. refl) n.decls.items
+unfolding node_ends expr_part_ends stmt_part_ends declarator_ends init_ends
+var_decl_mapped g f n = declarators_mapped _ f (λ x. f (g x)) (λ x y. refl) (λ x. pat_mapped g f x.name) n.decls.items
 
 member_mapped : {X Y : Type 0} (g : X → Y) (f : Y → Bool) (n : MemberExpr X) (prop : MemberProp X) → node_ends f (map-AnyNode X Y g (nodes.MemberExpr (record n { prop = prop }))) ≡ prop_ends prop
 unfolding node_ends prop_ends
@@ -57,13 +62,9 @@ member_mapped g f n (member_props.Computed p) = refl
 
 expr_mapped : {X Y : Type 0} (g : X → Y) (f : Y → Bool) (n : Expr X) → node_ends f (map-AnyNode X Y g (nodes.Expr n)) ≡ expr_ends (λ x. f (g x)) n
 unfolding node_ends expr_ends
+expr_mapped g f (exprs.Member n) = member_mapped g f n n.prop
 expr_mapped g f (exprs.Paren n) = refl
 expr_mapped g f n = refl
-
-pat_mapped : {X Y : Type 0} (g : X → Y) (f : Y → Bool) (n : Pat X) → node_ends f (map-AnyNode X Y g (nodes.ExprPart (expr_parts.Pat n))) ≡ pat_ends (λ x. f (g x)) n
-unfolding node_ends expr_part_ends pat_ends
-pat_mapped g f (pats.Invalid n) = refl
-pat_mapped g f n = refl
 
 expr_part_mapped : {X Y : Type 0} (g : X → Y) (f : Y → Bool) (n : ExprPart X) → node_ends f (map-AnyNode X Y g (nodes.ExprPart n)) ≡ expr_part_ends (λ x. f (g x)) n
 unfolding node_ends expr_part_ends

@@ -35,7 +35,7 @@ lit_ends n = true
 unfoldable pub expr_ends : {X : Type 0} → (X → Bool) → Expr X → Bool
 expr_ends f (exprs.Array n) = false
 expr_ends f (exprs.Object n) = false
-expr_ends f (exprs.Member n) = f n.node.value
+expr_ends f (exprs.Member n) = prop_ends n.prop
 expr_ends f (exprs.Lit n) = lit_ends n
 expr_ends f (exprs.Paren n) = false
 expr_ends f n = true
@@ -56,7 +56,7 @@ init_ends f b None = b
 
 -- `a = 1` ends as `1` does, `a` as itself
 unfoldable pub declarator_ends : {X : Type 0} → (X → Bool) → VarDeclarator X → Bool
-declarator_ends f n = init_ends f (f n.name.node.value) n.init
+declarator_ends f n = init_ends f (pat_ends f n.name) n.init
 
 unfoldable pub last_ends : {X : Type 0} → (X → Bool) → Option (VarDeclarator X) → Bool
 last_ends f (Some x) = declarator_ends f x
@@ -69,7 +69,7 @@ declarators_end f xs = last_ends f (slice_get xs (length xs - 1))
 -- `let a` of `for (let a of b) c;` ends as itself, the pattern `a` of `for (a of b) c;` too
 unfoldable pub head_ends : {X : Type 0} → (X → Bool) → ForHead X → Bool
 head_ends f (heads.VarDecl n) = f n.node.value
-head_ends f (heads.UsingDecl n) = declarators_end f n.decls.items
+head_ends f (heads.UsingDecl n) = declarators_end f n.value.decls.items
 head_ends f (heads.Pat n) = f n.node.value
 
 -- a part of an expression that a link holds

@@ -86,7 +86,7 @@ expr_starts f (exprs.Unary n) = is_word_op n.op
 expr_starts f (exprs.Update n) = update_starts f n
 expr_starts f (exprs.Bin n) = f n.left.node.value
 expr_starts f (exprs.Assign n) = f n.left.node.value
-expr_starts f (exprs.Member n) = f n.node.value
+expr_starts f (exprs.Member n) = f n.obj.node.value
 expr_starts f (exprs.SuperProp n) = true
 expr_starts f (exprs.Cond n) = f n.test.node.value
 expr_starts f (exprs.Call n) = callee_starts f n.callee
@@ -95,7 +95,7 @@ expr_starts f (exprs.Seq n) = first_starts f n.exprs.items
 expr_starts f (exprs.Ident n) = true
 expr_starts f (exprs.Lit n) = lit_starts n
 expr_starts f (exprs.TaggedTpl n) = f n.tag.node.value
-expr_starts f (exprs.Arrow n) = arrow_starts f n
+expr_starts f (exprs.Arrow n) = arrow_starts f n.value
 expr_starts f (exprs.Class n) = true
 expr_starts f (exprs.Yield n) = true
 expr_starts f (exprs.MetaProp n) = true
@@ -136,7 +136,7 @@ pat_starts f n = false
 
 unfoldable pub simple_target_starts : {X : Type 0} → (X → Bool) → SimpleAssignTarget X → Bool
 simple_target_starts f (simple_targets.Ident n) = true
-simple_target_starts f (simple_targets.Member n) = f n.node.value
+simple_target_starts f (simple_targets.Member n) = f n.obj.node.value
 simple_target_starts f (simple_targets.SuperProp n) = true
 simple_target_starts f (simple_targets.Paren n) = false
 simple_target_starts f (simple_targets.OptChain n) = chain_starts f n.base

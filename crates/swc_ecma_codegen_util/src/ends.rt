@@ -126,7 +126,7 @@ impl<N: EndsWithAlphaNum> EndsWithAlphaNum for ExprPart<N> {
         match self {
             ExprPart::Pat(node) => node.ends_with_alpha_num(),
             ExprPart::Tpl(_) | ExprPart::ObjectLit(_) | ExprPart::PropName(_) => false,
-            ExprPart::Prop(_) | ExprPart::OptCall(_) | ExprPart::AssignTarget(_) => false,
+            ExprPart::OptCall(_) | ExprPart::AssignTarget(_) => false,
         }
     }
 }
@@ -139,8 +139,7 @@ impl<N: EndsWithAlphaNum> EndsWithAlphaNum for StmtPart<N> {
         match self {
             StmtPart::VarDecl(node) => node.ends_with_alpha_num(),
             StmtPart::Function(_) | StmtPart::Class(_) | StmtPart::BlockStmt(_) => false,
-            StmtPart::Decl(_) | StmtPart::ModuleItem(_) => false,
-            StmtPart::ModuleDecl(_) | StmtPart::ClassMember(_) => false,
+            StmtPart::Decl(_) | StmtPart::ModuleDecl(_) | StmtPart::ClassMember(_) => false,
         }
     }
 }

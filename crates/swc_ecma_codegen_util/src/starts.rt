@@ -332,7 +332,7 @@ impl<N: StartsWithAlphaNum> StartsWithAlphaNum for ExprPart<N> {
             ExprPart::PropName(node) => node.starts_with_alpha_num(),
             ExprPart::OptCall(node) => node.starts_with_alpha_num(),
             ExprPart::AssignTarget(node) => node.starts_with_alpha_num(),
-            ExprPart::Tpl(_) | ExprPart::ObjectLit(_) | ExprPart::Prop(_) => false,
+            ExprPart::Tpl(_) | ExprPart::ObjectLit(_) => false,
         }
     }
 }
@@ -345,8 +345,7 @@ impl<N: StartsWithAlphaNum> StartsWithAlphaNum for StmtPart<N> {
         match self {
             StmtPart::Decl(node) => node.starts_with_alpha_num(),
             StmtPart::Function(_) | StmtPart::Class(_) | StmtPart::BlockStmt(_) => false,
-            StmtPart::ModuleItem(_) | StmtPart::ModuleDecl(_) => false,
-            StmtPart::VarDecl(_) | StmtPart::ClassMember(_) => false,
+            StmtPart::ModuleDecl(_) | StmtPart::VarDecl(_) | StmtPart::ClassMember(_) => false,
         }
     }
 }

@@ -3,7 +3,7 @@ use Rattle.swc_ecma_codegen_tree.specs.Links.{PatBox}
 use Rattle.swc_ecma_codegen.specs.Standing.{Standing, Makes, standing_of}
 use Rattle.swc_ecma_codegen_base.specs.Lists.{list}
 use Rattle.swc_ecma_codegen.specs.Lists.{child_of}
-use Rattle.swc_ecma_codegen.specs.Functions.{comma_list_format}
+use Rattle.swc_ecma_codegen.specs.FunctionExprs.{comma_list_format}
 use Rattle.swc_ecma_codegen.proofs.emitter.Emitter.arrow_list.Goals as goal
 
 pub returns-clause-items : goal.returns-clause-items

@@ -4,7 +4,7 @@ use Rattle.swc_ecma_codegen.specs.Standing.{Standing, Makes, standing_of}
 use Rattle.swc_ecma_codegen_base.specs.Lists.{list}
 use Rattle.swc_ecma_codegen.specs.Lists.{child_of}
 use Rattle.swc_ecma_codegen.specs.Classes.{constructor_param_place, constructor_param}
-use Rattle.swc_ecma_codegen.specs.Functions.{comma_list_format}
+use Rattle.swc_ecma_codegen.specs.FunctionExprs.{comma_list_format}
 use Rattle.swc_ecma_codegen.proofs.emitter.Emitter.constructor_params.Goals as goal
 
 pub returns-clause-items : goal.returns-clause-items
@@ -12,6 +12,6 @@ returns-clause-items g c =
     let a : Standing = standing_of g.S.SourceMapper.lines g.W.WriteJs.sheet c.args.self.now in
     let b : Standing = standing_of g.S.SourceMapper.lines g.W.WriteJs.sheet c.list.new.self in
     let format : c.comma_list_format.result.0 ≡ comma_list_format = c.comma_list_format.ensures in
-    let P : ℕ → Type 0 = λ z. Makes (list z c.args.node.now.span (map (child_of (constructor_param_place) (λ p place. constructor_param g.N.EmitAt.items p)) c.args.node.now.params.items)) a b in
-    let Q : List (ParamOrTsParamProp _) → Type 0 = λ xs. Makes (list c.comma_list_format.result.0 c.args.node.now.span (map (child_of (constructor_param_place) (λ p place. constructor_param g.N.EmitAt.items p)) xs)) a b in
+    let P : ℕ → Type 0 = λ z. Makes (list z c.args.node.now.span (map (child_of (constructor_param_place) (λ p place. constructor_param g.N.Known.answers g.N.EmitAt.items p)) c.args.node.now.params.items)) a b in
+    let Q : List (ParamOrTsParamProp _) → Type 0 = λ xs. Makes (list c.comma_list_format.result.0 c.args.node.now.span (map (child_of (constructor_param_place) (λ p place. constructor_param g.N.Known.answers g.N.EmitAt.items p)) xs)) a b in
     subst P format (subst Q c.deref.ensures.value c.list.ensures.items)
