@@ -1,8 +1,9 @@
-//! What the words of the rows ask of the lexical grammar, of the spellings and of the formats of lists.
+//! What the words of the rows ask of the lexical grammar, of the spellings, of the formats of lists, of the writers and of the
+//! gaps between tokens.
 
 use crate::reading::tokens;
 use crate::values::has_value;
-use crate::{formats, numbers, spellings, sweeps};
+use crate::{formats, gaps, numbers, spellings, sweeps, writers};
 use std::alloc::Global;
 use swc_ecma_codegen_ast::reader::characters;
 use swc_ecma_codegen_common::Error;
@@ -40,6 +41,8 @@ pub fn holds(alloc: Global, word: &str, rest: &[String]) -> Result<bool, Error> 
             | "without_separators",
             _,
         ) => { spellings::holds(alloc, word, rest) }
+        ("writes" | "omits", _) => writers::holds(alloc, word, rest),
+        ("gap" | "gap_after" | "number_class" | "mark_start", _) => Ok(gaps::holds(word, rest)),
         _ => sweeps::holds(alloc, word, rest),
     }
 }

@@ -1,6 +1,6 @@
 //! Goes through the table on standard input: what is printed of trees, and what isn't read or printed; then what the
-//! lexical grammar, the spellings and the formats of lists must answer. Prints the rows that don't hold, and how many rows
-//! there are.
+//! lexical grammar, the spellings, the formats of lists, the writers and the gaps between tokens must answer. Prints the
+//! rows that don't hold, and how many rows there are.
 //!
 //! A row is a word and its fields, with a tab between. `‹e9›` stands for the character of that code, `‹3×ab›` for
 //! `ababab`, `‹›` for no text. In JSON `~` stands for a span that stands nowhere, and `@` for the expression `a`. Lines
@@ -17,6 +17,7 @@
 mod depths;
 mod fields;
 mod formats;
+mod gaps;
 mod lexical;
 mod literals;
 mod looks;
@@ -34,6 +35,7 @@ mod sweeps;
 mod templates;
 mod trees;
 mod values;
+mod writers;
 
 use crate::rows::holds;
 use crate::steps::steps;
