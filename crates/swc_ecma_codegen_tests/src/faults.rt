@@ -5,29 +5,15 @@ use crate::emissions::Emission;
 use crate::pipes::{Fault, Page};
 use crate::trees::{CROWDED, DIFFERENCE, DIFFERENCE_TEXT, Tree, UNCOUNTED, settings};
 use std::alloc::Global;
-use std::io;
 use std::io::ErrorKind;
 use std::test::Fail;
 use swc_ecma_codegen::Node;
-use swc_ecma_codegen_common::{Error, Result as Answer};
-
-/// Whether an answer has a fault of the writer.
-fn is_of(answer: &Answer, fault: Fault) -> bool {
-    match (answer, fault) {
-        (Err(Error::Writer(error)), Fault::Kind(kind)) => error.kind() == kind,
-        (Err(Error::Writer(error)), Fault::Code(code)) => {
-            error.raw_os_error() == Some(code)
-                && error.kind() == io::Error::from_raw_os_error(code).kind()
-        }
-        (Err(Error::Writer(error)), Fault::TakesNothing) => error.kind() == ErrorKind::WriteZero,
-        _ => false,
-    }
-}
+use swc_ecma_codegen_common::Error;
 
 /// Whether a writer that takes so many bytes of `a - -b * c` gets these and no further call, and its fault comes out.
 fn fails_after<P: Node>(alloc: Global, tree: &P, room: usize, fault: Fault) -> bool {
     let emission = Emission::of(alloc, tree, settings(false), Page::failing(room, fault));
-    is_of(&emission.answer, fault)
+    fault.is_of(&emission.answer)
         && emission.stopped_after(DIFFERENCE_TEXT.get(..room).unwrap_or(""))
         && emission.page.calls() == room.saturating_add(1)
 }

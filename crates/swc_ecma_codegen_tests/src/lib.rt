@@ -1,4 +1,4 @@
-//! Tests that go through several crates, of what no table can say: calls of the library, and streams that fail.
+//! Tests that go through several crates, of what no table can say: calls of the library and of its writers, and streams that fail.
 #![tactic(auto)]
 
 #[cfg(test)]
@@ -27,3 +27,5 @@ mod streams;
 mod trees;
 #[cfg(test)]
 mod values;
+#[cfg(test)]
+mod writers;

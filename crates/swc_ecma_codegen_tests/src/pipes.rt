@@ -4,6 +4,7 @@ ghost use Rattle.std.specs.Prelude.{None};
 
 use std::io;
 use std::io::{ErrorKind, Read, Write};
+use swc_ecma_codegen_common::{Error, Result as Answer};
 
 /// How a stream fails: with a kind of error, with an error code of the operating system, or by taking nothing.
 #[derive(Clone, Copy)]
@@ -11,6 +12,23 @@ pub(crate) enum Fault {
     Kind(ErrorKind),
     Code(i32),
     TakesNothing,
+}
+
+impl Fault {
+    /// Whether an answer has it.
+    pub(crate) fn is_of(self, answer: &Answer) -> bool {
+        match (answer, self) {
+            (Err(Error::Writer(error)), Fault::Kind(kind)) => error.kind() == kind,
+            (Err(Error::Writer(error)), Fault::Code(code)) => {
+                error.raw_os_error() == Some(code)
+                    && error.kind() == io::Error::from_raw_os_error(code).kind()
+            }
+            (Err(Error::Writer(error)), Fault::TakesNothing) => {
+                error.kind() == ErrorKind::WriteZero
+            }
+            _ => false,
+        }
+    }
 }
 
 /// Gives one byte a call, and fails after `room` of them.
