@@ -7,7 +7,7 @@ use swc_ecma_codegen::{Config, Emitter, Node, to_code};
 use swc_ecma_codegen_ast::comments::CommentMaps;
 use swc_ecma_codegen_common::Error;
 use swc_ecma_codegen_grammar::{Fits, WellFormed};
-use swc_ecma_codegen_json::{ReadError, program_from_slice};
+use swc_ecma_codegen_json::{ReadError, Tree, program_from_slice};
 use swc_ecma_codegen_spans::Spanned;
 use swc_ecma_codegen_text_writer::JsWriter;
 use swc_ecma_codegen_tree::{AnyNode, Expr, Holds, Program, Stmt};
@@ -69,17 +69,19 @@ fn node_text<N: Printed>(alloc: Global, expr: &Expr<N>) -> Result<String, Error>
 }
 
 /// The text of a program over a source text.
-fn text_over<N: Printed>(
+fn text_over<P: Node>(
     alloc: Global,
     source: &Source,
-    tree: &Program<N>,
+    tree: &P,
     minify: bool,
 ) -> Result<Vec<u8>, Error> {
     let wr = JsWriter::new(alloc, source, "\n", Vec::new(alloc), None);
     let config = Config::default().with_minify(minify);
     let mut emitter = Emitter::new(alloc, config, source, None::<CommentMaps>, wr);
-    tree.emit_with(&mut emitter)?;
-    Ok(emitter.wr.into_inner())
+    let answer = tree.emit_with(&mut emitter);
+    let text = emitter.wr.into_inner();
+    answer?;
+    Ok(text)
 }
 
 fn texts_of<N: Printed>(alloc: Global, source: &Source, tree: &Program<N>) -> Result<Texts, Error> {
@@ -94,10 +96,10 @@ fn texts_of<N: Printed>(alloc: Global, source: &Source, tree: &Program<N>) -> Re
     })
 }
 
-/// Asks a program, and lets it go.
-fn asked<N: Printed>(alloc: Global, source: &Source, tree: Program<N>) -> Answers {
+/// Asks a program.
+fn asked<N: Printed>(alloc: Global, source: &Source, tree: &Program<N>) -> Answers {
     let answer = tree.is_well_formed();
-    let (stmt, expr) = parts(&tree);
+    let (stmt, expr) = parts(tree);
     let agrees = match stmt {
         Some(stmt) => stmt.is_well_formed() == answer,
         None => true,
@@ -107,14 +109,17 @@ fn asked<N: Printed>(alloc: Global, source: &Source, tree: Program<N>) -> Answer
     };
     Answers {
         well_formed: if agrees { Some(answer) } else { None },
-        texts: texts_of(alloc, source, &tree),
+        texts: texts_of(alloc, source, tree),
     }
 }
 
 /// Reads a program, and asks it over a source text.
 pub fn look(alloc: Global, source: &Source, json: &[u8]) -> Result<Answers, ReadError> {
     match program_from_slice(alloc, json) {
-        Ok(tree) => Ok(asked::<AnyNode>(alloc, source, tree)),
+        Ok(program) => {
+            let tree = Tree(program);
+            Ok(asked(alloc, source, &tree.0))
+        }
         Err(error) => Err(error),
     }
 }

@@ -5,7 +5,7 @@ use std::alloc::Global;
 use std::test::Fail;
 use swc_ecma_codegen::Node;
 use swc_ecma_codegen_common::Error;
-use swc_ecma_codegen_json::program_from_slice;
+use swc_ecma_codegen_json::{Tree, program_from_slice};
 use swc_ecma_codegen_uses::{
     append_checked, checked_text, minified, minified_json, negation_text, print_into,
     print_with_positions,
@@ -35,12 +35,12 @@ fn callers_give_the_texts_of_swc(rt: HostRuntime) -> Result<(), Fail> {
     let alloc = rt.alloc();
     assert!(rt; negation_text(alloc, "a")?.as_str() == "-a;");
     assert!(rt; minified_json(alloc, MEMBER.as_bytes())?.as_slice() == b"a.b;".as_slice());
-    let program = program_from_slice(alloc, MEMBER.as_bytes())?;
-    assert!(rt; checked_text(alloc, &program)?.as_str() == "a.b;\n");
+    let tree = Tree(program_from_slice(alloc, MEMBER.as_bytes())?);
+    assert!(rt; checked_text(alloc, &tree.0)?.as_str() == "a.b;\n");
     let mut out = Vec::new(alloc);
-    append_checked(alloc, &program, &mut out)?;
+    append_checked(alloc, &tree.0, &mut out)?;
     assert!(rt; out.as_slice() == b"a.b;\n".as_slice());
-    assert!(rt; is_printed(alloc, &program)?);
-    assert!(rt; has_its_positions(alloc, &program)?);
+    assert!(rt; is_printed(alloc, &tree.0)?);
+    assert!(rt; has_its_positions(alloc, &tree.0)?);
     Ok(())
 }

@@ -3,10 +3,9 @@
 use crate::checks::Tally;
 use crate::emissions::Emission;
 use crate::pipes::Page;
-use crate::trees;
 use crate::trees::{
-    DECREMENT, EXPORT, MEMBER, NAME, Tree, expr_of, script_of, settings, statement_of,
-    written_by_links, written_whole,
+    DECREMENT, EXPORT, HASHBANGS, INVALID, MEMBER, Tree, expr_of, script_of, settings,
+    statement_of, written_by_links, written_parts, written_whole,
 };
 use std::alloc::{AllocError, Global};
 use std::test::Fail;
@@ -17,21 +16,24 @@ use swc_ecma_codegen_common::{BinaryOp, DUMMY_SP, Error, UpdateOp};
 use swc_ecma_codegen_grammar::WellFormed;
 use swc_ecma_codegen_spans::{SpanEnds, Spanned};
 use swc_ecma_codegen_tree::{
-    EmptyStmt, Expr, ExprBox, ExprStmt, Ident, IdentName, Invalid, MemberExpr, MemberExprBox,
-    MemberProp, Module, Program, Script, Stmt, StmtBox,
+    EmptyStmt, Expr, ExprBox, ExprStmt, Ident, IdentName, MemberExpr, MemberExprBox, MemberProp,
+    Program, Stmt, StmtBox,
 };
 
 /// Whether a node has this text by `to_code`.
-fn prints<N: Node>(alloc: Global, node: &N, text: &str) -> Result<bool, Error> {
-    Ok(to_code(alloc, node)?.as_str() == text)
+fn prints<N: Node>(alloc: Global, node: &N, text: &str) -> bool {
+    match to_code(alloc, node) {
+        Ok(code) => code.as_str() == text,
+        Err(_) => false,
+    }
 }
 
 /// Whether the part of a member after its object has this text.
-fn prints_prop<N: Tree>(alloc: Global, node: &MemberExpr<N>, text: &str) -> Result<bool, Error> {
+fn prints_prop<N: Tree>(alloc: Global, node: &MemberExpr<N>, text: &str) -> bool {
     match &node.prop {
         MemberProp::Ident(name) => prints(alloc, name, text),
         MemberProp::Computed(name) => prints(alloc, name, text),
-        MemberProp::PrivateName(_) => Ok(false),
+        MemberProp::PrivateName(_) => false,
     }
 }
 
@@ -62,80 +64,44 @@ fn linked_stmt<N: Tree>(alloc: Global) -> Result<StmtBox<N>, AllocError> {
     StmtBox::new(alloc, Stmt::Expr(ExprStmt { span, expr }))
 }
 
-/// Whether links, references, boxes and options have the text of what they hold.
-fn prints_through<N: Tree>(alloc: Global, tree: &Program<N>) -> Result<bool, Error> {
+/// Whether a program, what refers to it, and options of what lies in it have their texts.
+fn prints_through<N: Tree>(alloc: Global, tree: &Program<N>) -> bool {
     let text = "a.b;\n";
     let Some(script) = script_of(tree) else {
-        return Ok(false);
+        return false;
     };
+    prints(alloc, tree, text)
+        && prints(alloc, script, text)
+        && prints(alloc, &script, text)
+        && prints(alloc, &statement_of(tree), text)
+        && prints(alloc, &expr_of(tree), "a.b")
+}
+
+/// Whether an option of a link, one of none, and a box have the texts of what they hold.
+fn prints_held<N: Tree>(alloc: Global) -> Result<bool, AllocError> {
     let empty = Box::new(alloc, EmptyStmt { span: DUMMY_SP })?;
     let link = linked_stmt::<N>(alloc)?;
     Ok(
-        prints(alloc, tree, text)?
-            && prints(alloc, script, text)?
-            && prints(alloc, &script, text)?
-            && prints(alloc, &Some(&link), text)?
-            && prints(alloc, &statement_of(tree), text)?
-            && prints(alloc, &expr_of(tree), "a.b")?
-            && prints(alloc, &None::<Ident>, "")?
-            && prints(alloc, &empty, ";")?,
+        prints(alloc, &Some(&link), "a.b;\n")
+            && prints(alloc, &None::<Ident>, "")
+            && prints(alloc, &empty, ";"),
     )
 }
 
 /// Whether the parts of a member have these texts, by themselves and as seen through their links.
-fn prints_parts<N: Tree>(alloc: Global, node: &MemberExpr<N>) -> Result<bool, Error> {
-    Ok(
-        prints(alloc, node, "a.b")?
-            && prints(alloc, &node.obj, "a")?
-            && prints_prop(alloc, node, "b")?,
-    )
+fn prints_parts<N: Tree>(alloc: Global, node: &MemberExpr<N>) -> bool {
+    prints(alloc, node, "a.b") && prints(alloc, &node.obj, "a") && prints_prop(alloc, node, "b")
 }
 
 /// The same of a member in place, and of one that is linked to.
-fn prints_member<N: Tree>(alloc: Global, tree: &Program<N>) -> Result<bool, Error> {
+fn prints_member<N: Tree>(alloc: Global, tree: &Program<N>) -> Result<bool, AllocError> {
     let link = linked_member::<N>(alloc)?;
     match (expr_of(tree), link.get()) {
         (Some(Expr::Member(node)), Some(linked)) => {
-            Ok(prints_parts(alloc, node)? && prints_parts(alloc, linked)?)
+            Ok(prints_parts(alloc, node) && prints_parts(alloc, linked))
         }
         _ => Ok(false),
     }
-}
-
-/// Lets a statement go by a link: what lets go of a statement in place names all that may lie in one, and is dear to check.
-fn let_go<N: Tree>(alloc: Global, held: Option<Stmt<N>>) -> Result<(), AllocError> {
-    if let Some(stmt) = held {
-        let _ = StmtBox::new(alloc, stmt)?;
-    }
-    Ok(())
-}
-
-/// `;` in a box.
-fn boxed_semicolon<N: Tree>(alloc: Global) -> Result<Box<Stmt<N>>, AllocError> {
-    match Box::new(alloc, Stmt::Empty(EmptyStmt { span: DUMMY_SP })) {
-        Ok(boxed) => Ok(boxed),
-        Err(failed) => {
-            let_go(alloc, Some(failed.value))?;
-            Err(AllocError)
-        }
-    }
-}
-
-/// What is written of a statement and what lies in it, with `;` in a box and in an option between, and of none.
-fn written_parts<N: Tree>(alloc: Global, stmt: &Stmt<N>) -> Result<Page, Fail> {
-    let boxed = boxed_semicolon(alloc)?;
-    let some = Some(Stmt::Empty(EmptyStmt { span: DUMMY_SP }));
-    let none = None;
-    let written = trees::written_parts(alloc, stmt, (&boxed, &some, &none));
-    let gone = [
-        let_go(alloc, Some(Box::into_inner(boxed))),
-        let_go(alloc, some),
-        let_go(alloc, none),
-    ];
-    for answer in gone {
-        answer?;
-    }
-    Ok(written?)
 }
 
 /// Whether what holds a node has its text: a script itself and its first statement, and a statement, what lies in it, and what
@@ -158,7 +124,7 @@ fn have_their_texts_by_links<N: Tree>(alloc: Global) -> Result<bool, Fail> {
 /// Whether a module, its item and what that exports have their texts.
 fn prints_a_module<N: Tree>(alloc: Global) -> Result<bool, Fail> {
     let tree = N::read(alloc, EXPORT)?;
-    let written = written_whole(alloc, &tree, settings(true))?;
+    let written = written_whole(alloc, &tree.0, settings(true))?;
     // Three times `export{a}from"b"with{c:"d"};`, and then the name that the item exports.
     let three =
         r#"export{a}from"b"with{c:"d"};export{a}from"b"with{c:"d"};export{a}from"b"with{c:"d"};a"#;
@@ -178,11 +144,11 @@ fn tells<N: Tree>(expr: &Expr<N>) -> bool {
 /// Whether `--a` tells of its operator and its place.
 fn tells_of_itself<N: Tree>(alloc: Global) -> Result<bool, Fail> {
     let tree = N::read(alloc, DECREMENT)?;
-    let is_told = match expr_of(&tree) {
+    let is_told = match expr_of(&tree.0) {
         Some(expr) => tells(expr),
         None => false,
     };
-    Ok(is_told && tree.span().is_dummy() && tree.span_lo().is_dummy())
+    Ok(is_told && tree.0.span().is_dummy() && tree.0.span_lo().is_dummy())
 }
 
 /// Whether a program has this text, and is well-formed or not.
@@ -192,69 +158,43 @@ fn is_printed_as<P: Node + WellFormed>(
     text: &str,
     well_formed: bool,
 ) -> bool {
-    match to_code(alloc, program) {
-        Ok(code) => code.as_str() == text && program.is_well_formed() == well_formed,
-        Err(_) => false,
-    }
-}
-
-/// Whether a module and a script with this hashbang alone have this text, and are well-formed or not.
-fn prints_hashbang<N: Tree>(
-    alloc: Global,
-    hashbang: &str,
-    text: &str,
-    well_formed: bool,
-) -> Result<bool, Fail> {
-    let span = DUMMY_SP;
-    let module = Module {
-        span,
-        body: Vec::new(alloc),
-        shebang: Some(String::from_str(alloc, hashbang)?),
-    };
-    let script = Script {
-        span,
-        body: Vec::new(alloc),
-        shebang: Some(String::from_str(alloc, hashbang)?),
-    };
-    Ok(
-        is_printed_as(alloc, &Program::<N>::Module(module), text, well_formed)
-            && is_printed_as(alloc, &Program::<N>::Script(script), text, well_formed),
-    )
+    prints(alloc, program, text) && program.is_well_formed() == well_formed
 }
 
 /// Whether hashbangs are printed, and one that goes on in another line isn't well-formed.
 fn prints_hashbangs<N: Tree>(alloc: Global) -> Result<bool, Fail> {
-    Ok(
-        prints_hashbang::<N>(alloc, "a", "#!a\n", true)?
-            && prints_hashbang::<N>(alloc, "a\nb", "#!a\nb\n", false)?,
-    )
+    let mut all = true;
+    for (json, text, well_formed) in HASHBANGS {
+        let tree = N::read(alloc, json)?;
+        all = all && is_printed_as(alloc, &tree.0, text, well_formed);
+    }
+    Ok(all)
 }
 
-/// Whether `a` and then an expression that can't be printed isn't well-formed, and is refused before that one's first token.
+/// Whether a tree that can't be printed isn't well-formed, and is refused after what stands before it.
+fn stops_after<P: Node + WellFormed>(alloc: Global, tree: &P, front: &str) -> bool {
+    let emission = Emission::of(alloc, tree, settings(true), Page::new());
+    matches!(&emission.answer, Err(Error::UnsupportedNode))
+        && emission.stopped_after(front)
+        && !tree.is_well_formed()
+}
+
+/// Whether an expression that can't be printed is refused before its first token.
 fn stops_before_invalid<N: Tree>(alloc: Global) -> Result<bool, Fail> {
-    let mut tree = N::read(alloc, NAME)?;
-    if let Program::Script(script) = &mut tree {
-        let span = DUMMY_SP;
-        let expr = ExprBox::new(alloc, Expr::Invalid(Invalid { span }))?;
-        let stmt = Stmt::Expr(ExprStmt { span, expr });
-        script.body.push(stmt)?;
-    }
-    let emission = Emission::of(alloc, &tree, settings(true), Page::new());
-    Ok(
-        matches!(&emission.answer, Err(Error::UnsupportedNode))
-            && emission.stopped_after("a;")
-            && !tree.is_well_formed(),
-    )
+    let tree = N::read(alloc, INVALID)?;
+    Ok(stops_after(alloc, &tree.0, "a;"))
 }
 
 pub(crate) fn check<N: Tree>(alloc: Global, tally: &mut Tally) -> Result<(), Fail> {
     let tree = N::read(alloc, MEMBER)?;
     tally.unless(
-        prints_through(alloc, &tree)? && prints_member(alloc, &tree)?,
+        prints_through(alloc, &tree.0)
+            && prints_held::<N>(alloc)?
+            && prints_member(alloc, &tree.0)?,
         "a node prints through whatever holds it",
     )?;
     tally.unless(
-        has_its_text_each_way(alloc, &tree)?,
+        has_its_text_each_way(alloc, &tree.0)?,
         "what holds a node has its text",
     )?;
     tally.unless(

@@ -49,18 +49,18 @@ fn is_refused<P: Node>(alloc: Global, tree: &P) -> bool {
 pub(crate) fn check<N: Tree>(alloc: Global, tally: &mut Tally) -> Result<(), Fail> {
     let tree = N::read(alloc, DIFFERENCE)?;
     tally.unless(
-        fails_after_each_byte(alloc, &tree),
+        fails_after_each_byte(alloc, &tree.0),
         "a writer's fault comes out, after what it took",
     )?;
     tally.unless(
-        Emission::of(alloc, &tree, settings(false), Page::new()).is(DIFFERENCE_TEXT),
+        Emission::of(alloc, &tree.0, settings(false), Page::new()).is(DIFFERENCE_TEXT),
         "a text goes out in single bytes",
     )?;
     // A namespace among more than two specifiers, and a template without one part more than expressions.
     for text in [CROWDED, UNCOUNTED] {
         let tree = N::read(alloc, text)?;
         tally.unless(
-            is_refused(alloc, &tree),
+            is_refused(alloc, &tree.0),
             "nothing is written of a bad shape",
         )?;
     }

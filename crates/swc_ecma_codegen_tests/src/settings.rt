@@ -3,7 +3,7 @@
 use crate::checks::Tally;
 use crate::emissions::Emission;
 use crate::pipes::Page;
-use crate::trees::{LITERALS, Tree};
+use crate::trees::{LITERALS, Tree, page_of};
 use std::alloc::Global;
 use std::test::Fail;
 use swc_ecma_codegen::{Config, Emitter, Node};
@@ -17,8 +17,8 @@ fn written_when_held<P: Node>(alloc: Global, tree: &P, config: Config) -> Result
     let wr = JsWriter::new(alloc, &NoSource, "\n", Page::new(), None);
     let wr = omit_trailing_semi(wr);
     let mut emitter = Emitter::new(alloc, config, &NoSource, None::<CommentMaps>, wr);
-    tree.emit_with(&mut emitter)?;
-    Ok(emitter.wr.into_inner().into_inner())
+    let answer = tree.emit_with(&mut emitter);
+    page_of(answer, emitter.wr.into_inner().into_inner())
 }
 
 /// Whether each setting by itself changes what it is for.
@@ -74,15 +74,15 @@ fn refuse_a_name<P: Node>(alloc: Global, tree: &P) -> bool {
 pub(crate) fn check<N: Tree>(alloc: Global, tally: &mut Tally) -> Result<(), Fail> {
     let tree = N::read(alloc, LITERALS)?;
     tally.unless(
-        act_one_by_one(alloc, &tree),
+        act_one_by_one(alloc, &tree.0),
         "each setting changes what it is for",
     )?;
     tally.unless(
-        leave_out_the_last_semicolon(alloc, &tree)?,
+        leave_out_the_last_semicolon(alloc, &tree.0)?,
         "the last semicolon is left out where that is asked for",
     )?;
     tally.unless(
-        refuse_a_name(alloc, &tree),
+        refuse_a_name(alloc, &tree.0),
         "a name out of the target is refused after what stands before it",
     )?;
     Ok(())

@@ -12,9 +12,9 @@ use swc_ecma_codegen::{
 use swc_ecma_codegen_ast::comments::{CommentMaps, Comments};
 use swc_ecma_codegen_ast::mapper::{NoSource, SourceMapper};
 use swc_ecma_codegen_ast::reading_laws;
-use swc_ecma_codegen_common::{Error, EsVersion, Result as Answer};
+use swc_ecma_codegen_common::{DUMMY_SP, Error, EsVersion, Result as Answer};
 use swc_ecma_codegen_grammar::Fits;
-use swc_ecma_codegen_json::{ReadError, program_from_slice};
+use swc_ecma_codegen_json::{ReadError, Tree as ReadTree, program_from_slice};
 use swc_ecma_codegen_laws::{
     bad_shapes_are_refused_first, emitted_box_reads, emitted_expr_reads, emitted_link_reads,
     emitted_option_reads, emitted_ref_reads, emitted_stmt_reads, first_token_is_told,
@@ -26,8 +26,8 @@ use swc_ecma_codegen_laws::{
 use swc_ecma_codegen_spans::Spanned;
 use swc_ecma_codegen_text_writer::{JsWriter, WriteJs};
 use swc_ecma_codegen_tree::{
-    AnyNode, ExportSpecifier, Expr, ExprStmt, Holds, MemberExpr, MemberExprBox, ModuleDecl,
-    ModuleExportName, ModuleItem, Program, Script, Stmt, StmtBox, StmtPart,
+    AnyNode, EmptyStmt, ExportSpecifier, Expr, ExprStmt, Holds, MemberExpr, MemberExprBox,
+    ModuleDecl, ModuleExportName, ModuleItem, Program, Script, Stmt, StmtBox, StmtPart,
 };
 
 /// `a`
@@ -65,6 +65,35 @@ pub(crate) const CROWDED: &str =
 pub(crate) const UNCOUNTED: &str =
     r#"{"Script":{"span":{"lo":0,"hi":0},"body":[{"Expr":{"span":{"lo":0,"hi":0},"expr":{"Tpl":{"span":{"lo":0,"hi":0},"exprs":[{"Ident":{"span":{"lo":0,"hi":0},"sym":"a","optional":false}}],"quasis":[{"span":{"lo":0,"hi":0},"raw":"b"}]}}}}],"shebang":null}}"#;
 
+/// `a`, and then an expression that can't be printed, at no place
+pub(crate) const INVALID: &str =
+    r#"{"Script":{"span":{"lo":0,"hi":0},"body":[{"Expr":{"span":{"lo":0,"hi":0},"expr":{"Ident":{"span":{"lo":0,"hi":0},"sym":"a","optional":false}}}},{"Expr":{"span":{"lo":0,"hi":0},"expr":{"Invalid":{"span":{"lo":0,"hi":0}}}}}],"shebang":null}}"#;
+
+/// A module and a script with a hashbang alone, and with one that goes on in another line; their texts, and whether they are
+/// well-formed
+pub(crate) const HASHBANGS: [(&str, &str, bool); 4] = [
+    (
+        r#"{"Module":{"span":{"lo":0,"hi":0},"body":[],"shebang":"a"}}"#,
+        "#!a\n",
+        true,
+    ),
+    (
+        r#"{"Script":{"span":{"lo":0,"hi":0},"body":[],"shebang":"a"}}"#,
+        "#!a\n",
+        true,
+    ),
+    (
+        r#"{"Module":{"span":{"lo":0,"hi":0},"body":[],"shebang":"a\nb"}}"#,
+        "#!a\nb\n",
+        false,
+    ),
+    (
+        r#"{"Script":{"span":{"lo":0,"hi":0},"body":[],"shebang":"a\nb"}}"#,
+        "#!a\nb\n",
+        false,
+    ),
+];
+
 /// What links hold. A test is made for any of it, which costs a check less than to make it for `AnyNode`.
 pub(crate) trait Tree: Holds<Expr<Self>>
     + Holds<MemberExpr<Self>>
@@ -77,8 +106,8 @@ pub(crate) trait Tree: Holds<Expr<Self>>
     + EndsWithAlphaNum
     + Spanned
     + Drop {
-    /// Reads a program.
-    fn read(alloc: Global, json: &str) -> Result<Program<Self>, ReadError>;
+    /// Reads a program. It stays in what serde reads, which lets it go by a `drop` that is proved once.
+    fn read(alloc: Global, json: &str) -> Result<ReadTree<Self>, ReadError>;
 
     /// Whether an expression begins with a letter, a digit or the like, by the function that says what this tells.
     fn is_told_to_start_so(expr: &Expr<Self>) -> bool;
@@ -115,8 +144,8 @@ pub(crate) trait Tree: Holds<Expr<Self>>
 }
 
 impl Tree for AnyNode {
-    fn read(alloc: Global, json: &str) -> Result<Program, ReadError> {
-        program_from_slice(alloc, json.as_bytes())
+    fn read(alloc: Global, json: &str) -> Result<ReadTree, ReadError> {
+        Ok(ReadTree(program_from_slice(alloc, json.as_bytes())?))
     }
 
     fn is_told_to_start_so(expr: &Expr) -> bool {
@@ -174,6 +203,12 @@ impl Tree for AnyNode {
     }
 }
 
+/// The page, where all was written.
+pub(crate) fn page_of(answer: Answer, page: Page) -> Result<Page, Error> {
+    answer?;
+    Ok(page)
+}
+
 /// What is written of a tree by each call that takes it whole: of a script itself and of its first statement, of a module
 /// itself, of its first item and of the name that this one exports first.
 pub(crate) fn written_whole<N: Tree>(
@@ -185,10 +220,18 @@ pub(crate) fn written_whole<N: Tree>(
     laws_of_trees();
     let wr = JsWriter::new(alloc, &NoSource, "\r\n", Page::new(), None);
     let mut emitter = Emitter::new(alloc, config, &NoSource, None::<CommentMaps>, wr);
-    N::write_program(tree, &mut emitter)?;
-    N::write_root(tree, &mut emitter)?;
-    write_first(tree, &mut emitter)?;
-    Ok(emitter.wr.into_inner())
+    let answer = write_whole(tree, &mut emitter);
+    page_of(answer, emitter.wr.into_inner())
+}
+
+/// Writes a tree as a whole, and what is first in it.
+fn write_whole<N: Tree, W: WriteJs, S: SourceMapper, C: Comments>(
+    tree: &Program<N>,
+    e: &mut Emitter<'_, W, S, C>,
+) -> Answer {
+    N::write_program(tree, e)?;
+    N::write_root(tree, e)?;
+    write_first(tree, e)
 }
 
 /// Writes the first statement of a script, or the first item of a module, and the name that this one exports first.
@@ -221,24 +264,28 @@ fn write_exporting<N: Tree, W: WriteJs, S: SourceMapper, C: Comments>(
 }
 
 /// What is written of a statement that is an expression, and of what lies in it, by the functions that say how they read, with
-/// `;` in a box and in an option between, and an option of none at the end.
-pub(crate) fn written_parts<N: Tree>(
-    alloc: Global,
-    stmt: &Stmt<N>,
-    (boxed, some, none): (&Box<Stmt<N>>, &Option<Stmt<N>>, &Option<Stmt<N>>),
-) -> Result<Page, Error> {
+/// `;` in a box and in an option between, and an option of none.
+pub(crate) fn written_parts<N: Tree>(alloc: Global, stmt: &Stmt<N>) -> Result<Page, Error> {
+    let boxed = Box::new(alloc, EmptyStmt { span: DUMMY_SP })?;
     let wr = JsWriter::new(alloc, &NoSource, "\n", Page::new(), None);
     let mut emitter = Emitter::new(alloc, settings(true), &NoSource, None::<CommentMaps>, wr);
-    N::write_stmt(stmt, &mut emitter)?;
-    emitted_ref_reads(&stmt, &mut emitter)?;
-    if let Stmt::Expr(node) = stmt {
-        write_held(node, boxed, &mut emitter)?;
-        if let Some(expr) = node.expr.get() {
-            write_within(expr, some, &mut emitter)?;
-        }
+    let answer = write_parts(stmt, &boxed, &mut emitter);
+    page_of(answer, emitter.wr.into_inner())
+}
+
+/// Writes a statement, a reference to it, an option of none, and what lies in the statement.
+fn write_parts<N: Tree, W: WriteJs, S: SourceMapper, C: Comments>(
+    stmt: &Stmt<N>,
+    boxed: &Box<EmptyStmt>,
+    e: &mut Emitter<'_, W, S, C>,
+) -> Answer {
+    N::write_stmt(stmt, e)?;
+    emitted_ref_reads(&stmt, e)?;
+    emitted_option_reads(&None::<EmptyStmt>, e)?;
+    match stmt {
+        Stmt::Expr(node) => write_held(node, boxed, e),
+        _ => Ok(()),
     }
-    emitted_option_reads(none, &mut emitter)?;
-    Ok(emitter.wr.into_inner())
 }
 
 /// What is written of a statement and of a member by their links.
@@ -249,9 +296,18 @@ pub(crate) fn written_by_links<N: Tree>(
 ) -> Result<Page, Error> {
     let wr = JsWriter::new(alloc, &NoSource, "\n", Page::new(), None);
     let mut emitter = Emitter::new(alloc, settings(true), &NoSource, None::<CommentMaps>, wr);
-    emitted_link_reads(stmt, &mut emitter)?;
-    emitted_link_reads(member, &mut emitter)?;
-    Ok(emitter.wr.into_inner())
+    let answer = write_links(stmt, member, &mut emitter);
+    page_of(answer, emitter.wr.into_inner())
+}
+
+/// Writes a statement and a member by their links.
+fn write_links<N: Tree, W: WriteJs, S: SourceMapper, C: Comments>(
+    stmt: &StmtBox<N>,
+    member: &MemberExprBox<N>,
+    e: &mut Emitter<'_, W, S, C>,
+) -> Answer {
+    emitted_link_reads(stmt, e)?;
+    emitted_link_reads(member, e)
 }
 
 /// The laws of links, of a new emitter, and of token lists: they do nothing.
@@ -277,24 +333,27 @@ fn laws_of_trees() {
     layouts_keep_the_tokens();
 }
 
-/// Writes the expression of a statement by its link, and what a box holds.
+/// Writes the expression of a statement by its link, what a box holds, and the expression.
 fn write_held<N: Tree, W: WriteJs, S: SourceMapper, C: Comments>(
     node: &ExprStmt<N>,
-    boxed: &Box<Stmt<N>>,
+    boxed: &Box<EmptyStmt>,
     e: &mut Emitter<'_, W, S, C>,
 ) -> Answer {
     emitted_link_reads(&node.expr, e)?;
-    emitted_box_reads(boxed, e)
+    emitted_box_reads(boxed, e)?;
+    match node.expr.get() {
+        Some(expr) => write_within(expr, e),
+        None => Ok(()),
+    }
 }
 
 /// Writes an expression, what an option holds, and a member itself.
 fn write_within<N: Tree, W: WriteJs, S: SourceMapper, C: Comments>(
     expr: &Expr<N>,
-    some: &Option<Stmt<N>>,
     e: &mut Emitter<'_, W, S, C>,
 ) -> Answer {
     N::write_expr(expr, e)?;
-    emitted_option_reads(some, e)?;
+    emitted_option_reads(&Some(EmptyStmt { span: DUMMY_SP }), e)?;
     match expr {
         Expr::Member(node) => node.emit_with(e),
         _ => Ok(()),

@@ -18,7 +18,7 @@ use std::alloc::Global;
 use std::io;
 use std::io::{ErrorKind, Read, Write};
 use swc_ecma_codegen_common::{BytePos, LineCol};
-use swc_ecma_codegen_json::program_from_slice;
+use swc_ecma_codegen_json::{Tree, program_from_slice};
 
 /// A run of the program: `words` are those after its name. Standard input is one program as JSON, and its text goes to
 /// `out`, whole, after it was made in memory. The answer is the status.
@@ -104,9 +104,11 @@ fn print<R: Read, O: Write>(
     ensures begun { OnErr result ((out.new ≡ out.old) ⊎ AddsFrontOfText options (O.contents out.old) (O.contents out.new)) }
 {
     let bytes = read_bytes(alloc, input)?;
-    let tree = program_from_slice(alloc, bytes.as_slice()).map_err(Fault::of_reading)?;
+    let program = program_from_slice(alloc, bytes.as_slice()).map_err(Fault::of_reading)?;
+    // a `Tree` lets a program go by a `drop` that is proved once
+    let tree = Tree(program);
     let mut positions = Vec::new(alloc);
-    let text = text_of(alloc, options, &tree, &mut positions)?;
+    let text = text_of(alloc, options, &tree.0, &mut positions)?;
     send(&text, out)?;
     Ok(positions)
 }

@@ -22,7 +22,7 @@ use swc_ecma_codegen::{Config, Emitter, Node, is_well_formed, to_code};
 use swc_ecma_codegen_ast::comments::CommentMaps;
 use swc_ecma_codegen_ast::mapper::NoSource;
 use swc_ecma_codegen_common::{BytePos, DUMMY_SP, Error, LineCol, UnaryOp};
-use swc_ecma_codegen_json::{ReadError, program_from_slice};
+use swc_ecma_codegen_json::{ReadError, Tree, program_from_slice};
 use swc_ecma_codegen_text_writer::{JsWriter, WriteJs, omit_trailing_semi};
 use swc_ecma_codegen_tree::{AnyNode, Expr, ExprBox, ExprStmt, Holds, Ident, Program, UnaryExpr};
 use thiserror::Error as ThisError;
@@ -159,7 +159,11 @@ pub fn minified_json(alloc: Global, json: &[u8]) -> Result<Vec<u8>, NoText>
     ensures { IfOk result (λ text. (program : ProgramOf AnyNode) × (is_well_formed program ≡ true) × ReadsAs (record default_config { minify = true }) true (program_phrase program) text.items) }
 {
     match program_from_slice(alloc, json) {
-        Ok(program) => checked_minified(alloc, &program),
+        Ok(program) => {
+            // a `Tree` lets a program go by a `drop` that is proved once
+            let tree = Tree(program);
+            checked_minified(alloc, &tree.0)
+        }
         Err(error) => Err(NoText::Unread(error)),
     }
 }

@@ -9,7 +9,7 @@ returns-clause-printed g c =
     let text = c.in_ok-text.text.items in
     let same : c.deref.result.now ≡ text = search rules in
     let Sent : List ℕ → Type 0 = λ t. Appends (g.O.Write.contents c.args.out.now) (g.O.Write.contents c.send.new.out) t in
-    (text, (c.in_ok-tree.tree, c.in_ok-text.ensures.text), subst Sent same c.in_ok-send.ensures.sent)
+    (text, (c.in_ok-program.program, c.in_ok-text.ensures.text), subst Sent same c.in_ok-send.ensures.sent)
 
 -- what holds whatever comes holds after a fault
 after_fault : {T E P : Type 0} (r : Result T E) → P → OnErr r P
@@ -22,4 +22,4 @@ returns-in_err-send-clause-begun g c =
     let text = c.in_ok-text.text.items in
     let same : c.deref.result.now ≡ text = search rules in
     let Begun : List ℕ → Type 0 = λ t. AddsFront t (g.O.Write.contents c.args.out.now) (g.O.Write.contents c.send.new.out) in
-    after_fault _ (inr (text, (c.in_ok-tree.tree, c.in_ok-text.ensures.text), subst Begun same c.in_err-send.ensures.begun))
+    after_fault _ (inr (text, (c.in_ok-program.program, c.in_ok-text.ensures.text), subst Begun same c.in_err-send.ensures.begun))
