@@ -46,7 +46,7 @@ pub struct LowerEmitter {
     token: Snapshot<Last>,
     failed: bool,
     fault: Option<io::Error>,
-    ghost class: { class_of token.value ≡ last },
+    ghost class: { failed ≡ false → class_of token.value ≡ last },
     ghost of_class: { row ≡ row_of last },
     ghost below: { row < 63 },
 }

@@ -51,7 +51,12 @@ pub struct Lines<'a, W: Write, K: KeepsPositions> {
     indent: u32,
     line_start: bool,
     failed: bool,
+    // A text is only sent: nothing was refused, no line starts, and no positions are kept.
+    plain: bool,
     kept: K,
+    ghost plain_fresh: { plain ≡ true → failed ≡ false } by { Prim.hlevel props },
+    ghost plain_in_line: { plain ≡ true → line_start ≡ false } by { Prim.hlevel props },
+    ghost plain_bare: { plain ≡ true → K.keeps kept ≡ false } by { Prim.hlevel props },
     ghost counted: { failed ≡ false → IsCounted (K.keeps kept) (K.reached kept) (after_text outlet.log.bytes origin) } by { Prim.hlevel props },
 }
 
@@ -99,6 +104,7 @@ impl<'a, W: Write> JsWriter<'a, W> {
             indent: 0,
             line_start: true,
             failed: false,
+            plain: false,
             kept: Kept::new(srcmap),
         }
     }
@@ -155,6 +161,7 @@ impl<'a, W: Write, K: KeepsPositions> Lines<'a, W, K> {
             indent: _,
             line_start: _,
             failed: _,
+            plain: _,
             kept: _,
         } = self;
         outlet.into_inner()
@@ -165,6 +172,7 @@ impl<'a, W: Write, K: KeepsPositions> Lines<'a, W, K> {
         ensures { sheet_of self.new ≡ record (sheet_of self.old) { at_line_start = line_start } }
     {
         self.line_start = line_start;
+        self.plain = !line_start && !self.failed && !self.kept.is_kept();
     }
 
     /// Sends a text out as it is.
@@ -189,6 +197,23 @@ impl<'a, W: Write, K: KeepsPositions> Lines<'a, W, K> {
             }
             Err(_) => {
                 self.failed = true;
+                self.plain = false;
+                Err(Refusal::Writer)
+            }
+        }
+    }
+
+    /// The same where nothing else is to be done.
+    #[inline(always)]
+    fn send_plainly(&mut self, text: &str) -> Answer
+        requires { self.old.plain ≡ true }
+        ensures { Reaches (appended text.now (sheet_of self.old)) (sheet_of self.old) (sheet_of self.new) result }
+    {
+        match self.outlet.write_text(text) {
+            Ok(()) => Ok(()),
+            Err(_) => {
+                self.failed = true;
+                self.plain = false;
                 Err(Refusal::Writer)
             }
         }
@@ -227,6 +252,7 @@ impl<'a, W: Write, K: KeepsPositions> Lines<'a, W, K> {
             Ok(()) => Ok(()),
             Err(refusal) => {
                 self.failed = true;
+                self.plain = false;
                 Err(refusal)
             }
         }
@@ -374,16 +400,16 @@ impl<'a, W: Write, K: KeepsPositions> Lines<'a, W, K> {
         requires { length text.now ≡ 1 }
         ensures { WritesText None text.now (sheet_of self.old) (sheet_of self.new) result }
     {
-        if self.failed || self.line_start {
+        if !self.plain {
             return self.write_first_byte(text);
         }
         if text.len() != 1 {
             unreachable!();
         }
-        self.hand_on(text)
+        self.send_plainly(text)
     }
 
-    /// The same at a line's start.
+    /// The same at a line's start, or where positions are kept.
     #[inline(never)]
     fn write_first_byte(&mut self, text: &str) -> Answer
         requires { length text.now ≡ 1 }
@@ -398,6 +424,20 @@ impl<'a, W: Write, K: KeepsPositions> Lines<'a, W, K> {
     /// Writes a text of any length, without a span.
     #[inline(never)]
     fn write_bytes(&mut self, text: &str) -> Answer
+        ensures { WritesText None text.now (sheet_of self.old) (sheet_of self.new) result }
+    {
+        if !self.plain {
+            return self.write_first_bytes(text);
+        }
+        if text.is_empty() {
+            return Ok(());
+        }
+        self.send_plainly(text)
+    }
+
+    /// The same at a line's start, or where positions are kept.
+    #[inline(never)]
+    fn write_first_bytes(&mut self, text: &str) -> Answer
         ensures { WritesText None text.now (sheet_of self.old) (sheet_of self.new) result }
     {
         self.write_here(None, text)
@@ -438,9 +478,23 @@ impl<'a, W: Write, K: KeepsPositions> Lines<'a, W, K> {
         self.put_literal(span, text)
     }
 
-    /// Writes the line's end, unless at a line's start, where it forgets the position that is pending.
+    /// Writes the line's end, unless at a line's start. Mostly it is one byte, which is only sent.
     #[inline(always)]
     fn end_line(&mut self) -> Answer
+        ensures { WritesLine (sheet_of self.old) (sheet_of self.new) result }
+    {
+        let text = self.new_line;
+        if !self.plain || text.len() != 1 {
+            return self.end_any_line();
+        }
+        self.send_plainly(text)?;
+        self.set_line_start(true);
+        Ok(())
+    }
+
+    /// The same of any line: at a line's start the position that is pending is forgotten.
+    #[inline(never)]
+    fn end_any_line(&mut self) -> Answer
         ensures { WritesLine (sheet_of self.old) (sheet_of self.new) result }
     {
         if self.failed {
@@ -455,7 +509,7 @@ impl<'a, W: Write, K: KeepsPositions> Lines<'a, W, K> {
         Ok(())
     }
 
-    /// Sends the line's end, which mostly is one byte.
+    /// Sends the line's end.
     #[inline(always)]
     #[tactic(auto, unfolding(crate::specs::View::sheet_of))]
     fn send_line_end(&mut self) -> Answer
@@ -463,11 +517,7 @@ impl<'a, W: Write, K: KeepsPositions> Lines<'a, W, K> {
         ensures { Reaches (appended (sheet_of self.old).line_end (sheet_of self.old)) (sheet_of self.old) (sheet_of self.new) result }
     {
         let text = self.new_line;
-        if text.len() == 1 {
-            self.hand_on(text)
-        } else {
-            self.send(text)
-        }
+        self.send(text)
     }
 
     /// Records a position for what comes next: at a line's start, once the line has begun.
@@ -494,6 +544,7 @@ impl<'a, W: Write, K: KeepsPositions> Lines<'a, W, K> {
         let indent = self.indent;
         if indent == u32::MAX {
             self.failed = true;
+            self.plain = false;
             return Err(Refusal::PositionTooLarge);
         }
         self.indent = indent + 1;
