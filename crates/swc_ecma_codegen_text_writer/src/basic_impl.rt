@@ -48,12 +48,15 @@ pub struct Lines<'a, W: Write, K: KeepsPositions> {
     outlet: Outlet<W>,
     new_line: &'a str,
     indent_str: &'static str,
+    // One level writes four blanks.
+    usual_indent: bool,
     indent: u32,
     line_start: bool,
     failed: bool,
     // A text is only sent: nothing was refused, no line starts, and no positions are kept.
     plain: bool,
     kept: K,
+    ghost usual: { usual_indent ≡ true → indent_str.now ≡ codes "    " } by { Prim.hlevel props },
     ghost plain_fresh: { plain ≡ true → failed ≡ false } by { Prim.hlevel props },
     ghost plain_in_line: { plain ≡ true → line_start ≡ false } by { Prim.hlevel props },
     ghost plain_bare: { plain ≡ true → K.keeps kept ≡ false } by { Prim.hlevel props },
@@ -101,6 +104,7 @@ impl<'a, W: Write> JsWriter<'a, W> {
             outlet: Outlet::new(wr),
             new_line,
             indent_str: DEFAULT_INDENT,
+            usual_indent: true,
             indent: 0,
             line_start: true,
             failed: false,
@@ -125,6 +129,7 @@ impl<'a, W: Write, K: KeepsPositions> Lines<'a, W, K> {
         ensures tells { Tells self.old → Tells self.new }
     {
         self.indent_str = indent_str;
+        self.usual_indent = indent_str == DEFAULT_INDENT;
     }
 
     /// Writes a text as it is, ahead of the rest: a line's start stays one, and no indentation comes before it. It is
@@ -158,6 +163,7 @@ impl<'a, W: Write, K: KeepsPositions> Lines<'a, W, K> {
             outlet,
             new_line: _,
             indent_str: _,
+            usual_indent: _,
             indent: _,
             line_start: _,
             failed: _,
@@ -167,12 +173,23 @@ impl<'a, W: Write, K: KeepsPositions> Lines<'a, W, K> {
         outlet.into_inner()
     }
 
+    /// Notes that a line starts.
     #[tactic(auto, unfolding(crate::specs::View::sheet_of))]
-    fn set_line_start(&mut self, line_start: bool)
-        ensures { sheet_of self.new ≡ record (sheet_of self.old) { at_line_start = line_start } }
+    fn set_line_start(&mut self)
+        ensures { sheet_of self.new ≡ record (sheet_of self.old) { at_line_start = true } }
     {
-        self.line_start = line_start;
-        self.plain = !line_start && !self.failed && !self.kept.is_kept();
+        self.line_start = true;
+        self.plain = false;
+    }
+
+    /// Notes that a line has begun.
+    #[tactic(auto, unfolding(crate::specs::View::sheet_of))]
+    fn set_in_line(&mut self)
+        requires { (sheet_of self.old).refused ≡ false }
+        ensures { sheet_of self.new ≡ record (sheet_of self.old) { at_line_start = false } }
+    {
+        self.line_start = false;
+        self.plain = !self.kept.is_kept();
     }
 
     /// Sends a text out as it is.
@@ -219,13 +236,26 @@ impl<'a, W: Write, K: KeepsPositions> Lines<'a, W, K> {
         }
     }
 
-    /// Sends the indentation of a line: up to eight levels of four blanks at once.
+    /// Sends the indentation of a line, where there is one.
+    #[inline(always)]
     fn indent(&mut self) -> Answer
         requires { (sheet_of self.old).refused ≡ false }
         ensures { Reaches (indented (sheet_of self.old).indentation (sheet_of self.old)) (sheet_of self.old) (sheet_of self.new) result }
     {
+        if self.indent == 0 {
+            return Ok(());
+        }
+        self.indent_at_once()
+    }
+
+    /// The same of any number of levels: up to eight of four blanks at once.
+    #[inline(never)]
+    fn indent_at_once(&mut self) -> Answer
+        requires { (sheet_of self.old).refused ≡ false }
+        ensures { Reaches (indented (sheet_of self.old).indentation (sheet_of self.old)) (sheet_of self.old) (sheet_of self.new) result }
+    {
         match blanks(self.indent) {
-            Some(text) if self.indent_str == DEFAULT_INDENT => self.send(text),
+            Some(text) if self.usual_indent => self.send(text),
             _ => self.indent_by_levels(),
         }
     }
@@ -259,6 +289,7 @@ impl<'a, W: Write, K: KeepsPositions> Lines<'a, W, K> {
     }
 
     /// Records the position that is pending.
+    #[inline(never)]
     fn record_pending(&mut self) -> Answer
         requires { (sheet_of self.old).refused ≡ false }
         ensures { Reaches (pending_recorded (sheet_of self.old).pending (sheet_of self.old)) (sheet_of self.old) (sheet_of self.new) result }
@@ -316,14 +347,14 @@ impl<'a, W: Write, K: KeepsPositions> Lines<'a, W, K> {
     }
 
     /// Sends the indentation, and records the position that is pending.
-    #[inline(never)]
+    #[inline(always)]
     fn begin_line(&mut self) -> Answer
         requires fresh { (sheet_of self.old).refused ≡ false }
         requires start { (sheet_of self.old).at_line_start ≡ true }
         ensures { Reaches (started (sheet_of self.old)) (sheet_of self.old) (sheet_of self.new) result }
     {
         self.indent()?;
-        self.set_line_start(false);
+        self.set_in_line();
         self.record_pending()
     }
 
@@ -409,7 +440,7 @@ impl<'a, W: Write, K: KeepsPositions> Lines<'a, W, K> {
         self.send_plainly(text)
     }
 
-    /// The same at a line's start, or where positions are kept.
+    /// The same at a line's start, where positions are kept, or after a refusal.
     #[inline(never)]
     fn write_first_byte(&mut self, text: &str) -> Answer
         requires { length text.now ≡ 1 }
@@ -421,21 +452,31 @@ impl<'a, W: Write, K: KeepsPositions> Lines<'a, W, K> {
         self.write_here(None, text)
     }
 
-    /// Writes a text of any length, without a span.
-    #[inline(never)]
+    /// Writes a text of any length, without a span. Each way is a function of its own, so that none goes through the other.
+    #[inline(always)]
     fn write_bytes(&mut self, text: &str) -> Answer
         ensures { WritesText None text.now (sheet_of self.old) (sheet_of self.new) result }
     {
-        if !self.plain {
-            return self.write_first_bytes(text);
+        if self.plain {
+            self.send_bytes(text)
+        } else {
+            self.write_first_bytes(text)
         }
+    }
+
+    /// The same where it is only sent.
+    #[inline(never)]
+    fn send_bytes(&mut self, text: &str) -> Answer
+        requires { self.old.plain ≡ true }
+        ensures { WritesText None text.now (sheet_of self.old) (sheet_of self.new) result }
+    {
         if text.is_empty() {
             return Ok(());
         }
         self.send_plainly(text)
     }
 
-    /// The same at a line's start, or where positions are kept.
+    /// The same at a line's start, where positions are kept, or after a refusal.
     #[inline(never)]
     fn write_first_bytes(&mut self, text: &str) -> Answer
         ensures { WritesText None text.now (sheet_of self.old) (sheet_of self.new) result }
@@ -488,7 +529,7 @@ impl<'a, W: Write, K: KeepsPositions> Lines<'a, W, K> {
             return self.end_any_line();
         }
         self.send_plainly(text)?;
-        self.set_line_start(true);
+        self.set_line_start();
         Ok(())
     }
 
@@ -505,7 +546,7 @@ impl<'a, W: Write, K: KeepsPositions> Lines<'a, W, K> {
             return Ok(());
         }
         self.send_line_end()?;
-        self.set_line_start(true);
+        self.set_line_start();
         Ok(())
     }
 
