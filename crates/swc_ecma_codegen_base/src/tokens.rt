@@ -72,8 +72,8 @@ impl LowerEmitter {
         Ok(())
     }
 
-    /// Notes the last token ahead of the call that writes it, so that nothing of it is kept over that call, and answers which one was
-    /// it before.
+    /// Notes the last token ahead of the call that writes it, so that nothing of it is kept over that call, and answers which one
+    /// it was before.
     fn note(&mut self, last: Last) -> Snapshot<Last>
         ensures before { result.value ≡ self.old.token.value }
         ensures token { self.new.token.value ≡ last }
@@ -109,7 +109,8 @@ impl LowerEmitter {
         refusal
     }
 
-    /// Whether a punctuator doesn't go the shortest way: it is `!`, or a blank is due before it, or an earlier call was refused.
+    /// Whether a punctuator doesn't go the shortest way: it is `!`, or a blank is due before it, as before the second `-` of `a - -b`, or
+    /// an earlier call was refused.
     #[inline(always)]
     fn is_apart(&self, mark: Punctuator) -> bool {
         if self.failed {
@@ -418,7 +419,12 @@ impl LowerEmitter {
 
     /// The same in a function of its own: a token that goes the shortest way takes fewer registers.
     #[inline(never)]
-    pub(crate) fn punct_apart<W: WriteJs>(&mut self, cfg: &Config, wr: &mut W, mark: Punctuator) -> Answer
+    pub(crate) fn punct_apart<W: WriteJs>(
+        &mut self,
+        cfg: &Config,
+        wr: &mut W,
+        mark: Punctuator,
+    ) -> Answer
         ensures items { Does (punct (spelling mark)) (state_of cfg.now (W.sheet wr.old) self.old) (state_of cfg.now (W.sheet wr.new) self.new) result }
         // The text reads as the tokens so far and this one, whatever follows that doesn't fuse.
         ensures reads { (text_before : List ℕ) (tokens : List lexical.Token) → ReadsSoFar text_before tokens (state_of cfg.now (W.sheet wr.old) self.old) → OnOk result (ReadsSoFar text_before (tokens ++ lexical.punctuator (spelling mark) ∷ []) (state_of cfg.now (W.sheet wr.new) self.new)) }
