@@ -30,6 +30,6 @@ stmt_part asks items (stmt_parts.Function n) place rest = function asks items n.
 stmt_part asks items (stmt_parts.Class n) place rest = class asks items n.value place rest
 stmt_part asks items (stmt_parts.ClassMember n) place rest = class_member asks items n.value rest
 stmt_part asks items (stmt_parts.BlockStmt n) place rest = block_stmt asks items n place rest
-stmt_part asks items (stmt_parts.Decl n) place rest = decl asks items n.value place rest
+stmt_part asks items (stmt_parts.Decl n) place rest = decl asks items n place rest
 stmt_part asks items (stmt_parts.ModuleDecl n) place rest = module_decl asks items n.value rest
 stmt_part asks items (stmt_parts.VarDecl n) place rest = var_decl asks items n rest

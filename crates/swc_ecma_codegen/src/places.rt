@@ -1,13 +1,13 @@
 //! Where a node stands whose place is that of what it holds.
 
 ghost use Rattle.std.specs.Prelude.{◌≡◌};
-ghost use Rattle.swc_ecma_codegen_spans.specs.Spans.{expr_or_spread_span, expr_span, module_item_span, prop_span, spread_element_span, stmt_span};
+ghost use Rattle.swc_ecma_codegen_spans.specs.Spans.{decl_span, expr_or_spread_span, expr_span, module_item_span, prop_span, spread_element_span, stmt_span};
 ghost use Rattle.swc_ecma_codegen.specs.Answers.{place_of};
 
 use crate::nodes::AskPlace;
 use swc_ecma_codegen_common::Span;
 use swc_ecma_codegen_spans::Spanned;
-use swc_ecma_codegen_tree::{Expr, ExprOrSpread, ModuleItem, Prop, SpreadElement, Stmt};
+use swc_ecma_codegen_tree::{Decl, Expr, ExprOrSpread, ModuleItem, Prop, SpreadElement, Stmt};
 
 /// Where an expression stands.
 #[tactic(auto, unfolding(swc_ecma_codegen_spans::specs::Spans::expr_span, swc_ecma_codegen_spans::specs::Spans::fn_expr_span, swc_ecma_codegen_spans::specs::Spans::class_expr_span, swc_ecma_codegen_spans::specs::Spans::jsx_member_expr_span))]
@@ -82,8 +82,25 @@ pub(crate) fn stmt_place<N: AskPlace>(node: &Stmt<N>) -> Span
         Stmt::For(node) => node.span,
         Stmt::ForIn(node) => node.span,
         Stmt::ForOf(node) => node.span,
-        Stmt::Decl(node) => node.held().place(),
+        Stmt::Decl(node) => decl_place(node),
         Stmt::Expr(node) => node.span,
+    }
+}
+
+/// Where a declaration stands.
+#[tactic(auto, unfolding(swc_ecma_codegen_spans::specs::Spans::decl_span, swc_ecma_codegen_spans::specs::Spans::class_decl_span, swc_ecma_codegen_spans::specs::Spans::fn_decl_span))]
+fn decl_place<N: AskPlace>(node: &Decl<N>) -> Span
+    ensures { result ≡ decl_span (place_of N.answers) node.now }
+{
+    match node {
+        Decl::Class(node) => node.class.held().place(),
+        Decl::Fn(node) => node.function.held().place(),
+        Decl::Var(node) => node.span,
+        Decl::Using(node) => node.span,
+        Decl::TsInterface(node) => node.span,
+        Decl::TsTypeAlias(node) => node.span,
+        Decl::TsEnum(node) => node.span,
+        Decl::TsModule(node) => node.span,
     }
 }
 

@@ -54,7 +54,7 @@ fn stmt_parts<N: Held, W: WriteJs, S: SourceMapper, C: Comments>(
         Stmt::For(node) => node.emit_at(e, Place::Plain),
         Stmt::ForIn(node) => node.emit_at(e, Place::Plain),
         Stmt::ForOf(node) => node.emit_at(e, Place::Plain),
-        Stmt::Decl(node) => node.held().emit_at(e, Place::Statement),
+        Stmt::Decl(node) => node.emit_at(e, Place::Statement),
     }
 }
 

@@ -217,6 +217,16 @@ default_decl_span f (default_decls.Class n) = class_expr_span f n
 default_decl_span f (default_decls.Fn n) = fn_expr_span f n
 default_decl_span f (default_decls.TsInterfaceDecl n) = n.span
 
+unfoldable pub decl_span : {X : Type 0} → (X → Span) → Decl X → Span
+decl_span f (decls.Class n) = class_decl_span f n
+decl_span f (decls.Fn n) = fn_decl_span f n
+decl_span f (decls.Var n) = n.span
+decl_span f (decls.Using n) = n.span
+decl_span f (decls.TsInterface n) = n.value.span
+decl_span f (decls.TsTypeAlias n) = n.value.span
+decl_span f (decls.TsEnum n) = n.value.span
+decl_span f (decls.TsModule n) = n.value.span
+
 unfoldable pub stmt_span : {X : Type 0} → (X → Span) → Stmt X → Span
 stmt_span f (stmts.Block n) = f n.node.value
 stmt_span f (stmts.Empty n) = n.span
@@ -235,7 +245,7 @@ stmt_span f (stmts.DoWhile n) = n.span
 stmt_span f (stmts.For n) = n.span
 stmt_span f (stmts.ForIn n) = n.span
 stmt_span f (stmts.ForOf n) = n.span
-stmt_span f (stmts.Decl n) = f n.node.value
+stmt_span f (stmts.Decl n) = decl_span f n
 stmt_span f (stmts.Expr n) = n.span
 
 unfoldable pub module_item_span : {X : Type 0} → (X → Span) → ModuleItem X → Span
@@ -250,16 +260,6 @@ for_head_span f (for_heads.Pat n) = f n.node.value
 unfoldable pub var_decl_or_expr_span : {X : Type 0} → (X → Span) → VarDeclOrExpr X → Span
 var_decl_or_expr_span f (var_decl_or_exprs.VarDecl n) = f n.node.value
 var_decl_or_expr_span f (var_decl_or_exprs.Expr n) = f n.node.value
-
-unfoldable pub decl_span : {X : Type 0} → (X → Span) → Decl X → Span
-decl_span f (decls.Class n) = class_decl_span f n
-decl_span f (decls.Fn n) = fn_decl_span f n
-decl_span f (decls.Var n) = f n.node.value
-decl_span f (decls.Using n) = n.span
-decl_span f (decls.TsInterface n) = n.span
-decl_span f (decls.TsTypeAlias n) = n.span
-decl_span f (decls.TsEnum n) = n.span
-decl_span f (decls.TsModule n) = n.span
 
 unfoldable pub class_member_span : {X : Type 0} → ClassMember X → Span
 class_member_span (class_members.Constructor n) = n.span
@@ -537,7 +537,7 @@ unfoldable pub stmt_part_span : {X : Type 0} → (X → Span) → StmtPart X →
 stmt_part_span f (stmt_parts.Function n) = n.value.span
 stmt_part_span f (stmt_parts.Class n) = n.value.span
 stmt_part_span f (stmt_parts.BlockStmt n) = n.span
-stmt_part_span f (stmt_parts.Decl n) = decl_span f n.value
+stmt_part_span f (stmt_parts.Decl n) = decl_span f n
 stmt_part_span f (stmt_parts.ModuleDecl n) = module_decl_span n.value
 stmt_part_span f (stmt_parts.VarDecl n) = n.span
 stmt_part_span f (stmt_parts.ClassMember n) = class_member_span n.value
