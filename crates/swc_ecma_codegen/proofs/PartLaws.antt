@@ -20,7 +20,8 @@ use Rattle.swc_ecma_codegen.proofs.FunctionParts.{fn_trailing_prints, head_print
 use Rattle.swc_ecma_codegen.proofs.Linked.{Linked, role_shape}
 use Rattle.swc_ecma_codegen.proofs.ModuleParts.{module_decl_prints}
 use Rattle.swc_ecma_codegen.proofs.PatParts.{pat_prints, plain_prints}
-use Rattle.swc_ecma_codegen.proofs.PropParts.{object_lit_prints, prop_name_prints}
+use Rattle.swc_ecma_codegen.proofs.NameParts.{prop_name_prints}
+use Rattle.swc_ecma_codegen.proofs.PropParts.{object_lit_prints}
 use Rattle.swc_ecma_codegen.proofs.CallParts.{chain_call_prints}
 use Rattle.swc_ecma_codegen.proofs.TemplateParts.{tpl_prints}
 use Rattle.swc_ecma_codegen.proofs.TargetParts.{assign_target_prints}

@@ -13,7 +13,8 @@ use Rattle.swc_ecma_codegen.specs.Functions.{function}
 use Rattle.swc_ecma_codegen.specs.Calls.{chain_call, is_optional}
 use Rattle.swc_ecma_codegen.specs.Modules.{module_decl}
 use Rattle.swc_ecma_codegen.specs.Pats.{pat}
-use Rattle.swc_ecma_codegen.specs.Props.{object_lit, prop_name}
+use Rattle.swc_ecma_codegen.specs.Names.{prop_name}
+use Rattle.swc_ecma_codegen.specs.Props.{object_lit}
 use Rattle.swc_ecma_codegen.specs.Targets.{assign_target}
 use Rattle.swc_ecma_codegen.specs.Templates.{tpl, is_tagged}
 

@@ -15,6 +15,7 @@ use swc_ecma_codegen_ast::comments::Comments;
 use swc_ecma_codegen_ast::mapper::SourceMapper;
 use swc_ecma_codegen_common::Span;
 use swc_ecma_codegen_literals::Punctuator;
+use swc_ecma_codegen_spans::Spanned;
 use swc_ecma_codegen_text_writer::WriteJs;
 use swc_ecma_codegen_tree::{
     ArrayPat, AssignPat, AssignPatProp, AssignTargetPat, ExprBox, KeyValuePatProp, ObjectPat,
@@ -177,7 +178,7 @@ impl<N: Held> Child for ObjectPatProp<N> {
     fn place(&self) -> Span {
         match self {
             ObjectPatProp::KeyValue(node) => Span {
-                lo: node.key.held().place().lo,
+                lo: node.key.span().lo,
                 hi: node.value.held().place().hi,
             },
             ObjectPatProp::Assign(node) => node.span,
@@ -195,8 +196,8 @@ impl<N: Held> EmitAt for KeyValuePatProp<N> {
         e: &mut Emitter<'_, W, S, C>,
         place: Place,
     ) {
-        e.opened(self.key.held().place());
-        self.key.held().emit_at(e, Place::Plain);
+        e.opened(self.key.span());
+        self.key.emit_at(e, Place::Plain);
         e.punct(Punctuator::Colon);
         e.formatting_space();
         self.value.held().emit_at(e, Place::Plain);

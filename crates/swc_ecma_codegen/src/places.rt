@@ -149,7 +149,7 @@ pub(crate) fn prop_place<N: AskPlace>(node: &Prop<N>) -> Span
     match node {
         Prop::Shorthand(node) => node.span,
         Prop::KeyValue(node) => Span {
-            lo: node.key.held().place().lo,
+            lo: node.key.span().lo,
             hi: node.value.held().place().hi,
         },
         Prop::Assign(node) => Span {
@@ -159,7 +159,7 @@ pub(crate) fn prop_place<N: AskPlace>(node: &Prop<N>) -> Span
         Prop::Getter(node) => node.span,
         Prop::Setter(node) => node.span,
         Prop::Method(node) => Span {
-            lo: node.key.held().place().lo,
+            lo: node.key.span().lo,
             hi: node.function.held().place().hi,
         },
     }

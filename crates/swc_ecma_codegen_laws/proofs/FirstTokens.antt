@@ -66,6 +66,7 @@ use Rattle.swc_ecma_codegen_ast.specs.PartPhrases as part_lists
 use Rattle.swc_ecma_codegen_ast.specs.DeclPhrases as decl_lists
 use Rattle.swc_ecma_codegen_ast.specs.FunctionPhrases as function_lists
 use Rattle.swc_ecma_codegen_ast.specs.PatPhrases as pat_lists
+use Rattle.swc_ecma_codegen_ast.specs.KeyPhrases as key_lists
 use Rattle.swc_ecma_codegen_ast.specs.PropPhrases as prop_lists
 use Rattle.swc_ecma_codegen_ast.specs.ClassPhrases as class_lists
 use Rattle.swc_ecma_codegen_ast.specs.TemplatePhrases as template_lists
@@ -444,8 +445,8 @@ begins_key : (at : BytePos) (bytes : List ℕ) → Begins (KeyOf at bytes) true
 unfolding Generates
 begins_key at bytes = record { some = λ s k. nothing_first _ [] k; told = λ s y ys k j. refl }
 
-prop_name_begins : {X : Type 0} (reads : X → Role → Phrase) (n : PropName X) → Begins (prop_lists.prop_name reads n) (prop_name_starts n)
-unfolding prop_name_starts prop_lists.prop_name lit_lists.str_lit lit_lists.string_token lit_lists.number lit_lists.big_int lists.computed_prop_name joins_a_word
+prop_name_begins : {X : Type 0} (reads : X → Role → Phrase) (n : PropName X) → Begins (key_lists.prop_name reads n) (prop_name_starts n)
+unfolding prop_name_starts key_lists.prop_name lit_lists.str_lit lit_lists.string_token lit_lists.number lit_lists.big_int key_lists.computed_prop_name joins_a_word
 prop_name_begins reads (prop_names.Ident n) = begins_key _ _
 prop_name_begins reads (prop_names.Str n) = begins_where _ _ _ (begins_other _ false refl)
 prop_name_begins reads (prop_names.Num n) = begins_number n.value.value n.value.raw

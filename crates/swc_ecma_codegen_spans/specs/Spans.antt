@@ -153,8 +153,15 @@ class_decl_span f n = f n.class.node.value
 unfoldable pub fn_decl_span : {X : Type 0} → (X → Span) → FnDecl X → Span
 fn_decl_span f n = f n.function.node.value
 
+unfoldable pub prop_name_span : {X : Type 0} → PropName X → Span
+prop_name_span (prop_names.Ident n) = n.span
+prop_name_span (prop_names.Str n) = n.value.span
+prop_name_span (prop_names.Num n) = n.value.span
+prop_name_span (prop_names.BigInt n) = n.value.span
+prop_name_span (prop_names.Computed n) = n.span
+
 unfoldable pub key_value_pat_prop_span : {X : Type 0} → (X → Span) → KeyValuePatProp X → Span
-key_value_pat_prop_span f n = between (f n.key.node.value) (f n.value.node.value)
+key_value_pat_prop_span f n = between (prop_name_span n.key) (f n.value.node.value)
 
 unfoldable pub expr_or_spread_span : {X : Type 0} → (X → Span) → ExprOrSpread X → Span
 expr_or_spread_span f n = from_first n.spread (f n.expr.node.value)
@@ -163,13 +170,13 @@ unfoldable pub spread_element_span : {X : Type 0} → (X → Span) → SpreadEle
 spread_element_span f n = between n.dot3_token (f n.expr.node.value)
 
 unfoldable pub key_value_prop_span : {X : Type 0} → (X → Span) → KeyValueProp X → Span
-key_value_prop_span f n = between (f n.key.node.value) (f n.value.node.value)
+key_value_prop_span f n = between (prop_name_span n.key) (f n.value.node.value)
 
 unfoldable pub assign_prop_span : {X : Type 0} → (X → Span) → AssignProp X → Span
 assign_prop_span f n = between n.key.span (f n.value.node.value)
 
 unfoldable pub method_prop_span : {X : Type 0} → (X → Span) → MethodProp X → Span
-method_prop_span f n = between (f n.key.node.value) (f n.function.node.value)
+method_prop_span f n = between (prop_name_span n.key) (f n.function.node.value)
 
 unfoldable pub fn_expr_span : {X : Type 0} → (X → Span) → FnExpr X → Span
 fn_expr_span f n = f n.function.node.value
@@ -380,13 +387,6 @@ prop_span f (props.Method n) = method_prop_span f n
 unfoldable pub prop_or_spread_span : {X : Type 0} → (X → Span) → PropOrSpread X → Span
 prop_or_spread_span f (prop_or_spreads.Spread n) = spread_element_span f n
 prop_or_spread_span f (prop_or_spreads.Prop n) = prop_span f n
-
-unfoldable pub prop_name_span : {X : Type 0} → PropName X → Span
-prop_name_span (prop_names.Ident n) = n.span
-prop_name_span (prop_names.Str n) = n.span
-prop_name_span (prop_names.Num n) = n.value.span
-prop_name_span (prop_names.BigInt n) = n.value.span
-prop_name_span (prop_names.Computed n) = n.span
 
 unfoldable pub member_prop_span : {X : Type 0} → MemberProp X → Span
 member_prop_span (member_props.Ident n) = n.span
