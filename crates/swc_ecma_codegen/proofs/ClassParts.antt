@@ -17,7 +17,6 @@ use Rattle.swc_ecma_codegen_tree.specs.declared.classes.AutoAccessor.{AutoAccess
 use Rattle.swc_ecma_codegen_tree.specs.declared.classes.Key.{Key}
 use Rattle.swc_ecma_codegen_tree.specs.declared.classes.Key.TheVariants as keys
 use Rattle.swc_ecma_codegen_tree.specs.declared.classes.StaticBlock.{StaticBlock}
-use Rattle.swc_ecma_codegen_tree.specs.declared.decls.ClassDecl.{ClassDecl}
 use Rattle.swc_ecma_codegen_tree.specs.declared.stmts.EmptyStmt.{EmptyStmt}
 use Rattle.swc_ecma_codegen_ast.specs.ClassPhrases as lists
 use Rattle.swc_ecma_codegen_ast.specs.ClassPhrases.{is_typed_class, is_typed_prop, is_typed_private, is_typed_accessor}
@@ -25,7 +24,7 @@ use Rattle.swc_ecma_codegen_ast.specs.FunctionPhrases.{word_if}
 use Rattle.swc_ecma_codegen_ast.specs.FunctionPhrases as function_lists
 use Rattle.swc_ecma_codegen_ast.specs.Phrases as phrases
 use Rattle.swc_ecma_codegen_ast.specs.Phrases.{◌>◌, mark, word}
-use Rattle.swc_ecma_codegen_ast.specs.declared.roles.Role.TheVariants.{ClassHead as HeadOfClass, ClassTail, Member, MethodHead as HeadOfMethod, MethodDecorators as DecoratorsOfMethod, MethodTail as TailOfMethod, PrivateTail as TailOfPrivate}
+use Rattle.swc_ecma_codegen_ast.specs.declared.roles.Role.TheVariants.{Member, MethodHead as HeadOfMethod, MethodDecorators as DecoratorsOfMethod, MethodTail as TailOfMethod, PrivateTail as TailOfPrivate}
 use Rattle.swc_ecma_codegen_base.specs.Choices.{optional_parentheses}
 use Rattle.swc_ecma_codegen_base.specs.Run.{Env}
 use Rattle.swc_ecma_codegen_base.specs.Words.{keyword, punct, last_of}
@@ -39,7 +38,7 @@ use Rattle.swc_ecma_codegen.specs.declared.nodes.Place.TheVariants.{Plain, Metho
 use Rattle.swc_ecma_codegen.specs.Classes as words
 use Rattle.swc_ecma_codegen.specs.FunctionExprs.{comma_list_format}
 use Rattle.swc_ecma_codegen.specs.Functions.{decorators_format, decorator, decorator_lines, decorator_place}
-use Rattle.swc_ecma_codegen.proofs.ExprParts.{ident_prints, private_name_prints, writes_blank}
+use Rattle.swc_ecma_codegen.proofs.ExprParts.{private_name_prints, writes_blank}
 use Rattle.swc_ecma_codegen.proofs.FunctionParts.{decorator_prints, decorators_print, param_prints, undelimited}
 use Rattle.swc_ecma_codegen.proofs.Impossible.{refused_or}
 use Rattle.swc_ecma_codegen.proofs.Linked.{Linked, expr_at, prop_name_at, block_at}
@@ -79,15 +78,6 @@ pub class_head_prints : {X : Type 0} (l : Linked X) (n : class_nodes.Class X) �
 unfolding lists.class_head
 class_head_prints l n = decorators_print l n.decorators.items
 
-pub class_decl_prints : {X : Type 0} (l : Linked X) (n : ClassDecl X) → Prints l.env (words.class_decl l.asks l.items n) (lists.class_decl l.reads n)
-unfolding words.class_decl words.class_decl_parts lists.class_decl
-class_decl_prints l n = refused_or n.declare
-    (after (writes_leading l.env (l.asks n.class.node.value).place.lo)
-    (after (writes_position l.env (l.asks n.class.node.value).place.lo)
-    (then (l.law n.class.node.value Plain HeadOfClass)
-    (then (prints_keyword l.env None (codes "class") marks.class_word)
-    (after (writes_space l.env) (then (ident_prints l n.ident) (l.law n.class.node.value Plain ClassTail)))))))
-
 -- ---- members
 
 constructor_param_prints : {X : Type 0} (l : Linked X) (n : ParamOrTsParamProp X) → PrintsAt closed l.env (words.constructor_param l.asks l.items n) (lists.constructor_param l.reads n)
@@ -95,8 +85,8 @@ unfolding words.constructor_param lists.constructor_param
 constructor_param_prints l (params.Param n) = param_prints l n
 constructor_param_prints l (params.TsParamProp n) = prints_never
 
-constructor_body_prints : {X : Type 0} (l : Linked X) (body : Option (BlockStmtBox X)) → Prints l.env (words.constructor_body l.items body) (lists.method_body l.reads body)
-unfolding words.constructor_body lists.method_body
+constructor_body_prints : {X : Type 0} (l : Linked X) (body : Option (BlockStmtBox X)) → Prints l.env (words.constructor_body l.items body) (lists.constructor_body l.reads body)
+unfolding words.constructor_body lists.constructor_body
 constructor_body_prints l None = prints_punct l.env (codes ";") marks.semicolon
 constructor_body_prints l (Some n) = block_at l n Plain
 

@@ -16,8 +16,7 @@ use Rattle.swc_ecma_codegen_base.specs.Words.{keyword, semi, space, commit_pendi
 use Rattle.swc_ecma_codegen.specs.declared.nodes.Place.{Place}
 use Rattle.swc_ecma_codegen.specs.declared.nodes.Place.TheVariants.{Plain}
 use Rattle.swc_ecma_codegen.specs.Answers.{Answers, place_of}
-use Rattle.swc_ecma_codegen.specs.Decls.{declarators_format, fn_decl_parts, fn_decl, var_declarator_parts, var_declarator, declarator_place, var_kind, is_unmarked, first_is_unmarked, var_decl_parts, var_decl, await_word, using_decl, decl_end, without_head, exported_class_parts, exported_class, variables, resources, decl}
-use Rattle.swc_ecma_codegen.specs.Classes.{class_decl, class_decl_parts}
+use Rattle.swc_ecma_codegen.specs.Decls.{declarators_format, class_decl_parts, class_decl, fn_decl_parts, fn_decl, var_declarator_parts, var_declarator, declarator_place, var_kind, is_unmarked, first_is_unmarked, var_decl_parts, var_decl, await_word, using_decl, decl_end, without_head, exported_class_parts, exported_class, variables, resources, decl}
 use Rattle.swc_ecma_codegen.specs.Exprs.{blank, opened}
 use Rattle.swc_ecma_codegen.specs.Lists.{child_at, child_of, unsupported}
 use Rattle.swc_ecma_codegen.specs.Parts.{expr_part, stmt_part}

@@ -14,6 +14,7 @@ use Rattle.swc_ecma_codegen_ast.specs.declared.roles.Role.TheVariants.{Function,
 use Rattle.swc_ecma_codegen_ast.specs.Phrases as phrases
 use Rattle.swc_ecma_codegen_ast.specs.Phrases.{Never, ◌>◌}
 use Rattle.swc_ecma_codegen_ast.specs.NamePhrases.{ident as ident_list}
+use Rattle.swc_ecma_codegen_ast.specs.ClassPhrases as class_lists
 use Rattle.swc_ecma_codegen_ast.specs.ModulePhrases as module_lists
 use Rattle.swc_ecma_codegen_ast.specs.DeclPhrases as lists
 use Rattle.swc_ecma_codegen_base.specs.Run.{Env, Part}
@@ -26,12 +27,20 @@ use Rattle.swc_ecma_codegen.specs.Places.{declared}
 use Rattle.swc_ecma_codegen.specs.Decls as words
 use Rattle.swc_ecma_codegen.specs.Decls.{declarators_format, declarator_place}
 use Rattle.swc_ecma_codegen.proofs.ExprParts.{writes_blank, writes_opened, ident_prints}
-use Rattle.swc_ecma_codegen.proofs.ClassParts.{class_decl_prints}
 use Rattle.swc_ecma_codegen.proofs.Impossible.{refused_or}
 use Rattle.swc_ecma_codegen.proofs.Linked.{Linked}
 use Rattle.swc_ecma_codegen.proofs.MarkWords as marks
 use Rattle.swc_ecma_codegen.proofs.PatParts.{initializer_prints, pat_prints}
 use Rattle.swc_ecma_codegen_base.proofs.Shapes.{ended, ended_if_any}
+
+class_decl_prints : {X : Type 0} (l : Linked X) (n : ClassDecl X) → Prints l.env (words.class_decl l.asks l.items n) (class_lists.class_decl l.reads n)
+unfolding words.class_decl words.class_decl_parts class_lists.class_decl
+class_decl_prints l n = refused_or n.declare
+    (after (writes_leading l.env (l.asks n.class.node.value).place.lo)
+    (after (writes_position l.env (l.asks n.class.node.value).place.lo)
+    (then (l.law n.class.node.value Plain HeadOfClass)
+    (then (prints_keyword l.env None (codes "class") marks.class_word)
+    (after (writes_space l.env) (then (ident_prints l n.ident) (l.law n.class.node.value Plain ClassTail)))))))
 
 fn_decl_prints : {X : Type 0} (l : Linked X) (n : FnDecl X) → Prints l.env (words.fn_decl l.asks l.items n) (lists.fn_decl l.reads n)
 unfolding words.fn_decl words.fn_decl_parts lists.fn_decl

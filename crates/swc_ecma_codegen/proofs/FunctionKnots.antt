@@ -1,9 +1,10 @@
--- What is written of functions and blocks sees what links hold through `asks` and `items` alone.
-use Rattle.std.proofs.Common.{◌≡◌, refl, ◌∙◌, ap, List, [], ◌∷◌, map, codes, Bool, cond, Option, Some, None, Box, Global}
+-- What is written of blocks and functions sees what links hold through `asks` and `items` alone.
+use Rattle.std.proofs.Common.{◌≡◌, refl, ◌∙◌, ap, ℕ, List, [], ◌∷◌, map, codes, Bool, cond, Option, Some, None, Box, Global}
 use Rattle.swc_ecma_codegen_common.specs.declared.positions.Span.{Span}
 use Rattle.swc_ecma_codegen_tree.specs.declared.links.AnyNode.{map-AnyNode}
 use Rattle.swc_ecma_codegen_tree.specs.declared.links.AnyNode.TheOpen as nodes
-use Rattle.swc_ecma_codegen_tree.specs.Links.{BlockStmtBox, PatBox, TsTypeAnnBox, TsTypeParamDeclBox}
+use Rattle.swc_ecma_codegen_tree.specs.Links.{PatBox, TsTypeAnnBox, TsTypeParamDeclBox}
+use Rattle.swc_ecma_codegen_tree.specs.declared.parts.ExprPart.TheVariants as expr_parts
 use Rattle.swc_ecma_codegen_tree.specs.declared.parts.StmtPart.TheVariants as stmt_parts
 use Rattle.swc_ecma_codegen_tree.specs.declared.decls.Decorator.{Decorator}
 use Rattle.swc_ecma_codegen_tree.specs.declared.decls.Param.{Param}
@@ -19,9 +20,9 @@ use Rattle.swc_ecma_codegen_ast.proofs.Mapped.{list_mapped}
 use Rattle.swc_ecma_codegen_ast.proofs.MappedFunctions.{some_mapped}
 use Rattle.swc_ecma_codegen_base.specs.Run.{Plan, Part, refuse}
 use Rattle.swc_ecma_codegen_base.specs.Lists.{ListChild, list}
-use Rattle.swc_ecma_codegen_base.specs.Words.{punct, leading_comments, start_of, end_of}
+use Rattle.swc_ecma_codegen_base.specs.Words.{punct, formatting_space, leading_comments, start_of, end_of}
 use Rattle.swc_ecma_codegen.specs.declared.nodes.Place.{Place}
-use Rattle.swc_ecma_codegen.specs.declared.nodes.Place.TheVariants.{Plain, FunctionHead, MethodHead, DeclarationHead, StaticHead, MethodDecorators, MethodTail, PrivateTail}
+use Rattle.swc_ecma_codegen.specs.declared.nodes.Place.TheVariants.{Plain, Body, FunctionHead, MethodHead, DeclarationHead, StaticHead, MethodDecorators, MethodTail, PrivateTail}
 use Rattle.swc_ecma_codegen.specs.declared.patterns.PatternKind.{PatternKind}
 use Rattle.swc_ecma_codegen.specs.Answers.{Answers, place_of}
 use Rattle.swc_ecma_codegen.specs.Blocks.{block_list, block_start, block_stmt}
@@ -35,6 +36,17 @@ use Rattle.swc_ecma_codegen.specs.Tree.{node_items}
 use Rattle.swc_ecma_codegen.proofs.PatKnots.{children_mapped, pat_mapped}
 use Rattle.swc_ecma_codegen.proofs.StmtKnots.{stmt_child_mapped}
 
+-- ---- blocks
+
+statements_same : {X : Type 0} (place : Place) (n : BlockStmt X) (some other : Bool) (cs ds : List ListChild) (after : Plan) → some ≡ other → cs ≡ ds → leading_comments n.span.lo (block_start place n.span (punct (codes "{") (block_list some n.span cs after))) ≡ leading_comments n.span.lo (block_start place n.span (punct (codes "{") (block_list other n.span ds after)))
+statements_same place n some other cs ds after e h =
+    ap (λ z. leading_comments n.span.lo (block_start place n.span (punct (codes "{") (block_list z n.span cs after)))) e
+    ∙ ap (λ z. leading_comments n.span.lo (block_start place n.span (punct (codes "{") (block_list other n.span z after)))) h
+
+pub block_mapped : {X Y : Type 0} (g : X → Y) (asks : Y → Answers) (items : Y → Place → Part) (n : BlockStmt X) (place : Place) (rest : Plan) → node_items asks items (map-AnyNode X Y g (nodes.ExprPart (expr_parts.BlockStmt n))) place rest ≡ block_stmt (λ x. asks (g x)) (λ x. items (g x)) n place rest
+unfolding node_items node_span expr_part block_stmt
+block_mapped {X} g asks items n place rest = statements_same place n _ _ _ _ _ (some_mapped _ n.stmts.items) (list_mapped {A = Stmt X} _ _ (child_of (stmt_span (place_of (λ x. asks (g x)))) (λ s place. stmt (λ x. asks (g x)) (λ x. items (g x)) s)) (stmt_child_mapped g asks items) n.stmts.items)
+
 -- ---- functions
 
 -- a parameter, by its parts
@@ -44,16 +56,20 @@ param_child span ds pat = record { place = span; part = λ rest. leading_comment
 pub param_same : (span : Span) (cs ds : List ListChild) (p q : Part) → cs ≡ ds → ((rest : Plan) → p rest ≡ q rest) → param_child span cs p ≡ param_child span ds q
 param_same span cs ds p q e h = ap (λ z. param_child span z p) e ∙ ap (param_child span ds) (λ i. λ rest. h rest i)
 
+-- what comes behind a list
+pub behind_same : (format : ℕ) (span : Span) (cs : List ListChild) (after other : Plan) → after ≡ other → list format span cs after ≡ list format span cs other
+behind_same format span cs after other e = ap (list format span cs) e
+
 pub either_same : {A : Type 0} (b c : Bool) (r p q : A) → b ≡ c → p ≡ q → cond b r p ≡ cond c r q
 either_same b c r p q e h = ap (λ z. cond z r p) e ∙ ap (λ z. cond c r z) h
 
-abbrev with_parts : {X : Type 0} → functions.Function X → Option (BlockStmtBox X) → Option (TsTypeParamDeclBox X) → Option (TsTypeAnnBox X) → functions.Function X
+abbrev with_parts : {X : Type 0} → functions.Function X → Option (BlockStmt X) → Option (TsTypeParamDeclBox X) → Option (TsTypeAnnBox X) → functions.Function X
 with_parts n body type_params return_type = record n { body = body; type_params = type_params; return_type = return_type }
 
-trailing_mapped : {X Y : Type 0} (g : X → Y) (asks : Y → Answers) (items : Y → Place → Part) (b : Box (functions.Function X) Global) (n : functions.Function X) (body : Option (BlockStmtBox X)) (type_params : Option (TsTypeParamDeclBox X)) (return_type : Option (TsTypeAnnBox X)) (rest : Plan) → node_items asks items (map-AnyNode X Y g (nodes.StmtPart (stmt_parts.Function (record b { value = with_parts n body type_params return_type })))) Plain rest ≡ fn_trailing (λ x. asks (g x)) (λ x. items (g x)) (with_parts n body type_params return_type) rest
+trailing_mapped : {X Y : Type 0} (g : X → Y) (asks : Y → Answers) (items : Y → Place → Part) (b : Box (functions.Function X) Global) (n : functions.Function X) (body : Option (BlockStmt X)) (type_params : Option (TsTypeParamDeclBox X)) (return_type : Option (TsTypeAnnBox X)) (rest : Plan) → node_items asks items (map-AnyNode X Y g (nodes.StmtPart (stmt_parts.Function (record b { value = with_parts n body type_params return_type })))) Plain rest ≡ fn_trailing (λ x. asks (g x)) (λ x. items (g x)) (with_parts n body type_params return_type) rest
 unfolding node_items expr_part stmt_part function fn_trailing fn_trailing_parts function_body param decorator unsupported refuse
 trailing_mapped {X} {Y} g asks items b n None None None rest = either_same _ _ _ _ _ (some_mapped _ n.decorators.items) (ap (λ z. punct (codes "(") z) (children_mapped {A = Param X} _ _ _ (λ p. param_same p.span _ _ _ _ (list_mapped {A = Decorator X} _ _ (child_of decorator_place (λ d place. decorator (λ x. items (g x)) d)) (λ d. refl) p.decorators.items) (pat_mapped g asks items p.pat Plain)) comma_list_format n.span n.params.items _))
-trailing_mapped {X} {Y} g asks items b n (Some body) None None rest = either_same _ _ _ _ _ (some_mapped _ n.decorators.items) (ap (λ z. punct (codes "(") z) (children_mapped {A = Param X} _ _ _ (λ p. param_same p.span _ _ _ _ (list_mapped {A = Decorator X} _ _ (child_of decorator_place (λ d place. decorator (λ x. items (g x)) d)) (λ d. refl) p.decorators.items) (pat_mapped g asks items p.pat Plain)) comma_list_format n.span n.params.items _))
+trailing_mapped {X} {Y} g asks items b n (Some body) None None rest = either_same _ _ _ _ _ (some_mapped _ n.decorators.items) (ap (λ z. punct (codes "(") z) (children_mapped {A = Param X} _ _ _ (λ p. param_same p.span _ _ _ _ (list_mapped {A = Decorator X} _ _ (child_of decorator_place (λ d place. decorator (λ x. items (g x)) d)) (λ d. refl) p.decorators.items) (pat_mapped g asks items p.pat Plain)) comma_list_format n.span n.params.items _ ∙ behind_same _ _ _ _ _ (ap (λ z. punct (codes ")") (formatting_space z)) (block_mapped g asks items body Body rest))))
 trailing_mapped g asks items b n None None (Some t) rest = refl
 trailing_mapped g asks items b n None (Some p) t rest = refl
 trailing_mapped g asks items b n (Some body) None (Some t) rest = refl
@@ -67,19 +83,19 @@ in_order_mapped g e d same (x ∷ xs) rest = ap (λ part. part (in_order e (map 
 pub decorators_mapped : {X Y : Type 0} (g : Decorator X → Decorator Y) (items : Y → Place → Part) (put : X → Place → Part) → ((n : Decorator X) → decorator items (g n) ≡ decorator put n) → (ns : List (Decorator X)) (rest : Plan) → decorator_lines items (map g ns) rest ≡ decorator_lines put ns rest
 decorators_mapped g items put same ns rest = in_order_mapped g (decorator items) (decorator put) same ns rest
 
-tail_mapped : {X Y : Type 0} (g : X → Y) (asks : Y → Answers) (items : Y → Place → Part) (b : Box (functions.Function X) Global) (n : functions.Function X) (body : Option (BlockStmtBox X)) (type_params : Option (TsTypeParamDeclBox X)) (return_type : Option (TsTypeAnnBox X)) (rest : Plan) → node_items asks items (map-AnyNode X Y g (nodes.StmtPart (stmt_parts.Function (record b { value = with_parts n body type_params return_type })))) MethodTail rest ≡ method_tail (λ x. asks (g x)) (λ x. items (g x)) (with_parts n body type_params return_type) rest
+tail_mapped : {X Y : Type 0} (g : X → Y) (asks : Y → Answers) (items : Y → Place → Part) (b : Box (functions.Function X) Global) (n : functions.Function X) (body : Option (BlockStmt X)) (type_params : Option (TsTypeParamDeclBox X)) (return_type : Option (TsTypeAnnBox X)) (rest : Plan) → node_items asks items (map-AnyNode X Y g (nodes.StmtPart (stmt_parts.Function (record b { value = with_parts n body type_params return_type })))) MethodTail rest ≡ method_tail (λ x. asks (g x)) (λ x. items (g x)) (with_parts n body type_params return_type) rest
 unfolding node_items expr_part stmt_part function method_tail method_tail_parts method_body param decorator unsupported refuse
 tail_mapped {X} {Y} g asks items b n None None None rest = ap (λ z. punct (codes "(") z) (children_mapped {A = Param X} _ _ _ (λ p. param_same p.span _ _ _ _ (list_mapped {A = Decorator X} _ _ (child_of decorator_place (λ d place. decorator (λ x. items (g x)) d)) (λ d. refl) p.decorators.items) (pat_mapped g asks items p.pat Plain)) comma_list_format n.span n.params.items _)
-tail_mapped {X} {Y} g asks items b n (Some body) None None rest = ap (λ z. punct (codes "(") z) (children_mapped {A = Param X} _ _ _ (λ p. param_same p.span _ _ _ _ (list_mapped {A = Decorator X} _ _ (child_of decorator_place (λ d place. decorator (λ x. items (g x)) d)) (λ d. refl) p.decorators.items) (pat_mapped g asks items p.pat Plain)) comma_list_format n.span n.params.items _)
+tail_mapped {X} {Y} g asks items b n (Some body) None None rest = ap (λ z. punct (codes "(") z) (children_mapped {A = Param X} _ _ _ (λ p. param_same p.span _ _ _ _ (list_mapped {A = Decorator X} _ _ (child_of decorator_place (λ d place. decorator (λ x. items (g x)) d)) (λ d. refl) p.decorators.items) (pat_mapped g asks items p.pat Plain)) comma_list_format n.span n.params.items _ ∙ behind_same _ _ _ _ _ (ap (λ z. punct (codes ")") (formatting_space z)) (block_mapped g asks items body Plain rest)))
 tail_mapped g asks items b n None None (Some t) rest = refl
 tail_mapped g asks items b n None (Some p) t rest = refl
 tail_mapped g asks items b n (Some body) None (Some t) rest = refl
 tail_mapped g asks items b n (Some body) (Some p) t rest = refl
 
-private_tail_mapped : {X Y : Type 0} (g : X → Y) (asks : Y → Answers) (items : Y → Place → Part) (b : Box (functions.Function X) Global) (n : functions.Function X) (body : Option (BlockStmtBox X)) (type_params : Option (TsTypeParamDeclBox X)) (return_type : Option (TsTypeAnnBox X)) (rest : Plan) → node_items asks items (map-AnyNode X Y g (nodes.StmtPart (stmt_parts.Function (record b { value = with_parts n body type_params return_type })))) PrivateTail rest ≡ private_tail (λ x. asks (g x)) (λ x. items (g x)) (with_parts n body type_params return_type) rest
+private_tail_mapped : {X Y : Type 0} (g : X → Y) (asks : Y → Answers) (items : Y → Place → Part) (b : Box (functions.Function X) Global) (n : functions.Function X) (body : Option (BlockStmt X)) (type_params : Option (TsTypeParamDeclBox X)) (return_type : Option (TsTypeAnnBox X)) (rest : Plan) → node_items asks items (map-AnyNode X Y g (nodes.StmtPart (stmt_parts.Function (record b { value = with_parts n body type_params return_type })))) PrivateTail rest ≡ private_tail (λ x. asks (g x)) (λ x. items (g x)) (with_parts n body type_params return_type) rest
 unfolding node_items expr_part stmt_part function private_tail fn_trailing_parts function_body param decorator unsupported refuse
 private_tail_mapped {X} {Y} g asks items b n None None None rest = ap (λ z. punct (codes "(") z) (children_mapped {A = Param X} _ _ _ (λ p. param_same p.span _ _ _ _ (list_mapped {A = Decorator X} _ _ (child_of decorator_place (λ d place. decorator (λ x. items (g x)) d)) (λ d. refl) p.decorators.items) (pat_mapped g asks items p.pat Plain)) comma_list_format n.span n.params.items _)
-private_tail_mapped {X} {Y} g asks items b n (Some body) None None rest = ap (λ z. punct (codes "(") z) (children_mapped {A = Param X} _ _ _ (λ p. param_same p.span _ _ _ _ (list_mapped {A = Decorator X} _ _ (child_of decorator_place (λ d place. decorator (λ x. items (g x)) d)) (λ d. refl) p.decorators.items) (pat_mapped g asks items p.pat Plain)) comma_list_format n.span n.params.items _)
+private_tail_mapped {X} {Y} g asks items b n (Some body) None None rest = ap (λ z. punct (codes "(") z) (children_mapped {A = Param X} _ _ _ (λ p. param_same p.span _ _ _ _ (list_mapped {A = Decorator X} _ _ (child_of decorator_place (λ d place. decorator (λ x. items (g x)) d)) (λ d. refl) p.decorators.items) (pat_mapped g asks items p.pat Plain)) comma_list_format n.span n.params.items _ ∙ behind_same _ _ _ _ _ (ap (λ z. punct (codes ")") (formatting_space z)) (block_mapped g asks items body Body rest)))
 private_tail_mapped g asks items b n None None (Some t) rest = refl
 private_tail_mapped g asks items b n None (Some p) t rest = refl
 private_tail_mapped g asks items b n (Some body) None (Some t) rest = refl
@@ -99,17 +115,6 @@ function_mapped g asks items b MethodDecorators rest = method_decorators_mapped 
 function_mapped g asks items b MethodTail rest = tail_mapped g asks items b b.value b.value.body b.value.type_params b.value.return_type rest
 function_mapped g asks items b PrivateTail rest = private_tail_mapped g asks items b b.value b.value.body b.value.type_params b.value.return_type rest
 function_mapped g asks items b place rest = trailing_mapped g asks items b b.value b.value.body b.value.type_params b.value.return_type rest
-
--- ---- blocks
-
-statements_same : {X : Type 0} (place : Place) (n : BlockStmt X) (some other : Bool) (cs ds : List ListChild) (after : Plan) → some ≡ other → cs ≡ ds → leading_comments n.span.lo (block_start place n.span (punct (codes "{") (block_list some n.span cs after))) ≡ leading_comments n.span.lo (block_start place n.span (punct (codes "{") (block_list other n.span ds after)))
-statements_same place n some other cs ds after e h =
-    ap (λ z. leading_comments n.span.lo (block_start place n.span (punct (codes "{") (block_list z n.span cs after)))) e
-    ∙ ap (λ z. leading_comments n.span.lo (block_start place n.span (punct (codes "{") (block_list other n.span z after)))) h
-
-pub block_mapped : {X Y : Type 0} (g : X → Y) (asks : Y → Answers) (items : Y → Place → Part) (n : BlockStmt X) (place : Place) (rest : Plan) → node_items asks items (map-AnyNode X Y g (nodes.StmtPart (stmt_parts.BlockStmt n))) place rest ≡ block_stmt (λ x. asks (g x)) (λ x. items (g x)) n place rest
-unfolding node_items node_span stmt_part block_stmt
-block_mapped {X} g asks items n place rest = statements_same place n _ _ _ _ _ (some_mapped _ n.stmts.items) (list_mapped {A = Stmt X} _ _ (child_of (stmt_span (place_of (λ x. asks (g x)))) (λ s place. stmt (λ x. asks (g x)) (λ x. items (g x)) s)) (stmt_child_mapped g asks items) n.stmts.items)
 
 -- ---- arrow functions
 

@@ -1,11 +1,12 @@
 -- What is written of functions and blocks is what it reads as.
 use Rattle.std.proofs.Common.{refl, Bool, true, false, ◌||◌, is_some, List, [], map, codes, Option, Some, None}
-use Rattle.swc_ecma_codegen_tree.specs.Links.{BlockStmtBox}
 use Rattle.swc_ecma_codegen_tree.specs.declared.decls.Decorator.{Decorator}
 use Rattle.swc_ecma_codegen_tree.specs.declared.decls.Param.{Param}
 use Rattle.swc_ecma_codegen_tree.specs.declared.decls.Function as functions
+use Rattle.swc_ecma_codegen_tree.specs.declared.stmts.BlockStmt.{BlockStmt}
 use Rattle.swc_ecma_codegen_ast.specs.Phrases.{Phrase, ◌>◌, mark, word}
 use Rattle.swc_ecma_codegen_ast.specs.Phrases as phrases
+use Rattle.swc_ecma_codegen_ast.specs.BodyPhrases as bodies
 use Rattle.swc_ecma_codegen_ast.specs.ClassPhrases as classes
 use Rattle.swc_ecma_codegen_ast.specs.FunctionPhrases as lists
 use Rattle.swc_ecma_codegen_ast.specs.FunctionPhrases.{is_some_listed}
@@ -20,9 +21,10 @@ use Rattle.swc_ecma_codegen.specs.Places.{before_name, before_method}
 use Rattle.swc_ecma_codegen.specs.Functions as words
 use Rattle.swc_ecma_codegen.specs.FunctionExprs.{comma_list_format}
 use Rattle.swc_ecma_codegen.specs.Functions.{decorators_format, decorator_place, param_place}
+use Rattle.swc_ecma_codegen.proofs.BlockParts.{block_stmt_prints}
 use Rattle.swc_ecma_codegen.proofs.Impossible.{refused_or}
 use Rattle.swc_ecma_codegen.proofs.FunctionExprParts.{star_prints}
-use Rattle.swc_ecma_codegen.proofs.Linked.{Linked, expr_at, block_at}
+use Rattle.swc_ecma_codegen.proofs.Linked.{Linked, expr_at}
 use Rattle.swc_ecma_codegen.proofs.ListParts.{in_order_prints}
 use Rattle.swc_ecma_codegen.proofs.MarkWords as marks
 use Rattle.swc_ecma_codegen.proofs.PatParts.{pat_prints}
@@ -52,20 +54,20 @@ param_prints l n =
 
 -- ---- functions
 
-pub body_prints : {X : Type 0} (l : Linked X) (body : Option (BlockStmtBox X)) → Prints l.env (words.function_body l.items body) (lists.function_body l.reads body)
-unfolding words.function_body lists.function_body
+pub body_prints : {X : Type 0} (l : Linked X) (body : Option (BlockStmt X)) → Prints l.env (words.function_body l.asks l.items body) (bodies.function_body l.reads body)
+unfolding words.function_body bodies.function_body
 body_prints l None = prints_semi l.env
-body_prints l (Some n) = after (writes_formatting_space l.env) (block_at l n Body)
+body_prints l (Some n) = after (writes_formatting_space l.env) (block_stmt_prints l n Body)
 
-trailing_prints : {X : Type 0} (l : Linked X) (n : functions.Function X) → Prints l.env (words.fn_trailing_parts l.asks l.items n) (mark (codes "(") > phrases.listed (codes ",") (map (lists.param l.reads) n.params.items) > mark (codes ")") > lists.function_body l.reads n.body)
+trailing_prints : {X : Type 0} (l : Linked X) (n : functions.Function X) → Prints l.env (words.fn_trailing_parts l.asks l.items n) (mark (codes "(") > phrases.listed (codes ",") (map (lists.param l.reads) n.params.items) > mark (codes ")") > bodies.function_body l.reads n.body)
 unfolding words.fn_trailing_parts
 trailing_prints l n =
     then (prints_punct l.env (codes "(") marks.left_parenthesis)
     (then (prints_list l.env comma_list_format n.span param_place (words.param l.asks l.items) (lists.param l.reads) (λ p. prints_wider loose refl (param_prints l p)) refl refl refl refl n.params.items)
     (then (prints_punct l.env (codes ")") marks.right_parenthesis) (body_prints l n.body)))
 
-pub fn_trailing_prints : {X : Type 0} (l : Linked X) (n : functions.Function X) → Prints l.env (words.fn_trailing l.asks l.items n) (lists.function l.reads n)
-unfolding words.fn_trailing lists.function
+pub fn_trailing_prints : {X : Type 0} (l : Linked X) (n : functions.Function X) → Prints l.env (words.fn_trailing l.asks l.items n) (bodies.function l.reads n)
+unfolding words.fn_trailing bodies.function
 fn_trailing_prints l n = refused_or (is_some n.type_params || (is_some n.return_type || is_some_listed n.decorators.items)) (trailing_prints l n)
 
 async_prints : (env : Env) (wanted : Bool) → PrintsAt open_ env (words.async_word wanted) (lists.word_if wanted (word (codes "async")))
@@ -130,22 +132,22 @@ pub method_decorators_print : {X : Type 0} (l : Linked X) (n : functions.Functio
 unfolding classes.method_decorators
 method_decorators_print l n = decorators_print l n.decorators.items
 
-method_body_prints : {X : Type 0} (l : Linked X) (body : Option (BlockStmtBox X)) → Prints l.env (words.method_body l.items body) (classes.method_body l.reads body)
-unfolding words.method_body classes.method_body
+method_body_prints : {X : Type 0} (l : Linked X) (body : Option (BlockStmt X)) → Prints l.env (words.method_body l.asks l.items body) (bodies.method_body l.reads body)
+unfolding words.method_body bodies.method_body
 method_body_prints l None = prints_punct l.env (codes ";") marks.semicolon
-method_body_prints l (Some n) = after (writes_formatting_space l.env) (block_at l n Plain)
+method_body_prints l (Some n) = after (writes_formatting_space l.env) (block_stmt_prints l n Plain)
 
-method_trailing_prints : {X : Type 0} (l : Linked X) (n : functions.Function X) → Prints l.env (words.method_tail_parts l.asks l.items n) (mark (codes "(") > phrases.listed (codes ",") (map (lists.param l.reads) n.params.items) > mark (codes ")") > classes.method_body l.reads n.body)
+method_trailing_prints : {X : Type 0} (l : Linked X) (n : functions.Function X) → Prints l.env (words.method_tail_parts l.asks l.items n) (mark (codes "(") > phrases.listed (codes ",") (map (lists.param l.reads) n.params.items) > mark (codes ")") > bodies.method_body l.reads n.body)
 unfolding words.method_tail_parts
 method_trailing_prints l n =
     then (prints_punct l.env (codes "(") marks.left_parenthesis)
     (then (prints_list l.env comma_list_format n.span param_place (words.param l.asks l.items) (lists.param l.reads) (λ p. prints_wider loose refl (param_prints l p)) refl refl refl refl n.params.items)
     (then (prints_punct l.env (codes ")") marks.right_parenthesis) (method_body_prints l n.body)))
 
-pub method_tail_prints : {X : Type 0} (l : Linked X) (n : functions.Function X) → Prints l.env (words.method_tail l.asks l.items n) (classes.method_tail l.reads n)
-unfolding words.method_tail classes.method_tail
+pub method_tail_prints : {X : Type 0} (l : Linked X) (n : functions.Function X) → Prints l.env (words.method_tail l.asks l.items n) (bodies.method_tail l.reads n)
+unfolding words.method_tail bodies.method_tail
 method_tail_prints l n = refused_or (is_some n.type_params || is_some n.return_type) (method_trailing_prints l n)
 
-pub private_tail_prints : {X : Type 0} (l : Linked X) (n : functions.Function X) → Prints l.env (words.private_tail l.asks l.items n) (classes.private_tail l.reads n)
-unfolding words.private_tail classes.private_tail
+pub private_tail_prints : {X : Type 0} (l : Linked X) (n : functions.Function X) → Prints l.env (words.private_tail l.asks l.items n) (bodies.private_tail l.reads n)
+unfolding words.private_tail bodies.private_tail
 private_tail_prints l n = refused_or (is_some n.type_params || is_some n.return_type) (trailing_prints l n)

@@ -142,13 +142,13 @@ part_mapped g asks items (expr_parts.PropName n) place rest = prop_name_mapped g
 part_mapped g asks items (expr_parts.Tpl n) place rest = tpl_mapped g asks items n place rest
 part_mapped g asks items (expr_parts.OptCall n) place rest = chain_call_mapped g asks items n place rest
 part_mapped g asks items (expr_parts.AssignTarget n) place rest = target_mapped g asks items n place rest
+part_mapped g asks items (expr_parts.BlockStmt n) place rest = block_mapped g asks items n place rest
 
 stmt_part_mapped : {X Y : Type 0} (g : X → Y) (asks : Y → Answers) (items : Y → Place → Part) (n : StmtPart X) (place : Place) (rest : Plan) → node_items asks items (map-AnyNode X Y g (nodes.StmtPart n)) place rest ≡ stmt_part (λ x. asks (g x)) (λ x. items (g x)) n place rest
 unfolding node_items stmt_part unsupported refuse
 stmt_part_mapped g asks items (stmt_parts.Function n) place rest = function_mapped g asks items n place rest
 stmt_part_mapped g asks items (stmt_parts.Class n) place rest = class_mapped g asks items n place rest
 stmt_part_mapped g asks items (stmt_parts.ClassMember n) place rest = class_member_mapped g asks items n place rest
-stmt_part_mapped g asks items (stmt_parts.BlockStmt n) place rest = block_mapped g asks items n place rest
 stmt_part_mapped g asks items (stmt_parts.Decl n) place rest = decl_mapped g asks items n place rest
 stmt_part_mapped g asks items (stmt_parts.VarDecl n) place rest = var_decl_mapped g asks items n place rest
 stmt_part_mapped g asks items (stmt_parts.ModuleDecl n) place rest = module_decl_mapped g asks items n place rest

@@ -36,6 +36,7 @@ part_prints l (expr_parts.OptCall n) place (ChainCall optional) = chain_call_pri
 part_prints l (expr_parts.AssignTarget n) place AssignmentTarget = assign_target_prints l n
 part_prints l (expr_parts.Tpl n) place Template = tpl_prints l false n
 part_prints l (expr_parts.Tpl n) place TaggedTemplate = tpl_prints l true n
+part_prints l (expr_parts.BlockStmt n) place Block = block_stmt_prints l n place
 part_prints l n place role = prints_never
 
 pub stmt_part_prints : {X : Type 0} (l : Linked X) (n : StmtPart X) (place : Place) (role : Role) → PrintsAt (role_shape role) l.env (words.stmt_part l.asks l.items n (placed role place)) (lists.stmt_part l.reads n role)
@@ -49,7 +50,6 @@ stmt_part_prints l (stmt_parts.Function n) place PrivateTail = private_tail_prin
 stmt_part_prints l (stmt_parts.Class n) place ClassHead = class_head_prints l n.value
 stmt_part_prints l (stmt_parts.Class n) place ClassTail = class_tail_prints l n.value
 stmt_part_prints l (stmt_parts.ClassMember n) place Member = class_member_prints l n.value
-stmt_part_prints l (stmt_parts.BlockStmt n) place Block = block_stmt_prints l n place
 stmt_part_prints l (stmt_parts.Decl n) place Declaration = decl_prints l n place
 stmt_part_prints l (stmt_parts.Decl n) place ExportedHead = exported_head_prints l n
 stmt_part_prints l (stmt_parts.Decl n) place ExportedTail = exported_tail_prints l n

@@ -54,7 +54,6 @@ part_plain f n = refl
 stmt_part_plain : {X : Type 0} (f : X → Role → Phrase) (n : StmtPart X) → stmt_part f n PlainParameter ≡ Never
 unfolding stmt_part
 stmt_part_plain f (stmt_parts.Function n) = refl
-stmt_part_plain f (stmt_parts.BlockStmt n) = refl
 stmt_part_plain f n = refl
 
 node_plain : {X : Type 0} (f : X → Role → Phrase) (n : AnyNode-F X) → node_phrase f n PlainParameter ≡ cond (is_plain (node_pattern n)) (node_phrase f n Pattern) Never

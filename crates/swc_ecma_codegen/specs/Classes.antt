@@ -18,7 +18,6 @@ use Rattle.swc_ecma_codegen_tree.specs.declared.classes.AutoAccessor.{AutoAccess
 use Rattle.swc_ecma_codegen_tree.specs.declared.classes.Key.{Key}
 use Rattle.swc_ecma_codegen_tree.specs.declared.classes.Key.TheVariants as keys
 use Rattle.swc_ecma_codegen_tree.specs.declared.classes.StaticBlock.{StaticBlock}
-use Rattle.swc_ecma_codegen_tree.specs.declared.decls.ClassDecl.{ClassDecl}
 use Rattle.swc_ecma_codegen_tree.specs.declared.stmts.EmptyStmt.{EmptyStmt}
 use Rattle.swc_ecma_codegen_ast.specs.ClassPhrases.{is_typed_class, is_typed_prop, is_typed_private, is_typed_accessor}
 use Rattle.swc_ecma_codegen_base.specs.Run.{Part}
@@ -29,7 +28,7 @@ use Rattle.swc_ecma_codegen.specs.declared.nodes.Place.TheVariants.{Plain, Class
 use Rattle.swc_ecma_codegen.specs.Answers.{Answers}
 use Rattle.swc_ecma_codegen.specs.FunctionExprs.{comma_list_format}
 use Rattle.swc_ecma_codegen.specs.Functions.{decorator, decorator_lines, decorators_format, decorator_place, param}
-use Rattle.swc_ecma_codegen.specs.Exprs.{blank, ident, private_name}
+use Rattle.swc_ecma_codegen.specs.Exprs.{blank, private_name}
 use Rattle.swc_ecma_codegen.specs.Lists.{child_of, unsupported}
 use Rattle.swc_ecma_codegen.specs.Pats.{initializer}
 
@@ -58,15 +57,6 @@ class_tail asks items n rest = if is_typed_class n then unsupported rest else cl
 unfoldable pub class : {X : Type 0} → (X → Answers) → (X → Place → Part) → classes.Class X → Place → Part
 class asks items n ClassHead rest = decorator_lines items n.decorators.items rest
 class asks items n place rest = class_tail asks items n rest
-
-unfoldable pub class_decl_parts : {X : Type 0} → (X → Answers) → (X → Place → Part) → ClassDecl X → Part
-class_decl_parts asks items n rest =
-    let class = n.class.node.value in
-    leading_comments (asks class).place.lo
-    (start_of (asks class).place (items class ClassHead (keyword None (codes "class") (space (ident n.ident (items class Plain rest))))))
-
-unfoldable pub class_decl : {X : Type 0} → (X → Answers) → (X → Place → Part) → ClassDecl X → Part
-class_decl asks items n rest = if n.declare then unsupported rest else class_decl_parts asks items n rest
 
 -- ---- members
 

@@ -18,7 +18,6 @@ use Rattle.swc_ecma_codegen.specs.declared.nodes.Place.TheVariants.{Plain, Class
 use Rattle.swc_ecma_codegen.specs.declared.patterns.PatternKind.{PatternKind}
 use Rattle.swc_ecma_codegen.specs.declared.patterns.PatternKind.TheVariants.{Marked}
 use Rattle.swc_ecma_codegen.specs.Answers.{Answers}
-use Rattle.swc_ecma_codegen.specs.Classes.{class_decl}
 use Rattle.swc_ecma_codegen.specs.Exprs.{blank, opened, ident}
 use Rattle.swc_ecma_codegen.specs.Lists.{child_of, unsupported}
 use Rattle.swc_ecma_codegen.specs.Pats.{initializer, pat}
@@ -27,6 +26,16 @@ use Rattle.swc_ecma_codegen.specs.Patterns.{pat_kind}
 -- `VariableDeclarationList`
 abbrev pub declarators_format : ℕ
 declarators_format = 272
+
+-- `class A {}`
+unfoldable pub class_decl_parts : {X : Type 0} → (X → Answers) → (X → Place → Part) → ClassDecl X → Part
+class_decl_parts asks items n rest =
+    let class = n.class.node.value in
+    leading_comments (asks class).place.lo
+    (start_of (asks class).place (items class ClassHead (keyword None (codes "class") (space (ident n.ident (items class Plain rest))))))
+
+unfoldable pub class_decl : {X : Type 0} → (X → Answers) → (X → Place → Part) → ClassDecl X → Part
+class_decl asks items n rest = if n.declare then unsupported rest else class_decl_parts asks items n rest
 
 -- `function f(a) { b; }`
 unfoldable pub fn_decl_parts : {X : Type 0} → (X → Answers) → (X → Place → Part) → FnDecl X → Part

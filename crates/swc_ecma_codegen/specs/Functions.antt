@@ -1,10 +1,10 @@
 -- What is written of functions. What TypeScript adds, types and their parameters, isn't printed yet.
 use Rattle.std.specs.Prelude.{ℕ, ◌||◌, ◌&&◌, not, Bool, if◌then◌else◌, is_some, List, map, codes, Option, Some, None}
 use Rattle.swc_ecma_codegen_common.specs.declared.positions.Span.{Span}
-use Rattle.swc_ecma_codegen_tree.specs.Links.{BlockStmtBox}
 use Rattle.swc_ecma_codegen_tree.specs.declared.decls.Decorator.{Decorator}
 use Rattle.swc_ecma_codegen_tree.specs.declared.decls.Param.{Param}
 use Rattle.swc_ecma_codegen_tree.specs.declared.decls.Function as functions
+use Rattle.swc_ecma_codegen_tree.specs.declared.stmts.BlockStmt.{BlockStmt}
 use Rattle.swc_ecma_codegen_ast.specs.FunctionPhrases.{is_some_listed}
 use Rattle.swc_ecma_codegen_base.specs.Run.{Part}
 use Rattle.swc_ecma_codegen_base.specs.Lists.{list}
@@ -12,6 +12,7 @@ use Rattle.swc_ecma_codegen_base.specs.Words.{keyword, punct, semi, space, forma
 use Rattle.swc_ecma_codegen.specs.declared.nodes.Place.{Place}
 use Rattle.swc_ecma_codegen.specs.declared.nodes.Place.TheVariants.{Plain, Body, FunctionHead, MethodHead, DeclarationHead, StaticHead, MethodDecorators, MethodTail, PrivateTail}
 use Rattle.swc_ecma_codegen.specs.Answers.{Answers}
+use Rattle.swc_ecma_codegen.specs.Blocks.{block_stmt}
 use Rattle.swc_ecma_codegen.specs.FunctionExprs.{comma_list_format, star}
 use Rattle.swc_ecma_codegen.specs.Lists.{child_of, in_order, unsupported}
 use Rattle.swc_ecma_codegen.specs.Pats.{pat}
@@ -43,9 +44,9 @@ abbrev pub param_place : {X : Type 0} → Param X → Span
 param_place n = n.span
 
 -- `{ a; }`, or the semicolon in its place
-unfoldable pub function_body : {X : Type 0} → (X → Place → Part) → Option (BlockStmtBox X) → Part
-function_body items None rest = semi rest
-function_body items (Some n) rest = formatting_space (items n.node.value Body rest)
+unfoldable pub function_body : {X : Type 0} → (X → Answers) → (X → Place → Part) → Option (BlockStmt X) → Part
+function_body asks items None rest = semi rest
+function_body asks items (Some n) rest = formatting_space (block_stmt asks items n Body rest)
 
 -- the parameters of a function, with commas between
 abbrev pub parameters : {X : Type 0} → (X → Answers) → (X → Place → Part) → functions.Function X → Part
@@ -56,7 +57,7 @@ unfoldable pub fn_trailing_parts : {X : Type 0} → (X → Answers) → (X → P
 fn_trailing_parts asks items n rest =
     punct (codes "(")
     (parameters asks items n
-    (punct (codes ")") (function_body items n.body rest)))
+    (punct (codes ")") (function_body asks items n.body rest)))
 
 -- Only methods of classes have decorators.
 unfoldable pub fn_trailing : {X : Type 0} → (X → Answers) → (X → Place → Part) → functions.Function X → Part
@@ -96,15 +97,15 @@ abbrev pub decorator_lines : {X : Type 0} → (X → Place → Part) → List (D
 decorator_lines items ns = in_order (decorator items) ns
 
 -- the body of a method, or a semicolon, which is never left out
-unfoldable pub method_body : {X : Type 0} → (X → Place → Part) → Option (BlockStmtBox X) → Part
-method_body items None rest = punct (codes ";") rest
-method_body items (Some n) rest = formatting_space (items n.node.value Plain rest)
+unfoldable pub method_body : {X : Type 0} → (X → Answers) → (X → Place → Part) → Option (BlockStmt X) → Part
+method_body asks items None rest = punct (codes ";") rest
+method_body asks items (Some n) rest = formatting_space (block_stmt asks items n Plain rest)
 
 unfoldable pub method_tail_parts : {X : Type 0} → (X → Answers) → (X → Place → Part) → functions.Function X → Part
 method_tail_parts asks items n rest =
     punct (codes "(")
     (parameters asks items n
-    (punct (codes ")") (method_body items n.body rest)))
+    (punct (codes ")") (method_body asks items n.body rest)))
 
 -- `(a) { b; }` of a method, whose decorators stand elsewhere
 unfoldable pub method_tail : {X : Type 0} → (X → Answers) → (X → Place → Part) → functions.Function X → Part

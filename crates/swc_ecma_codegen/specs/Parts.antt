@@ -25,12 +25,12 @@ expr_part asks items (expr_parts.PropName n) place rest = prop_name items n rest
 expr_part asks items (expr_parts.AssignTarget n) place rest = assign_target asks items n rest
 expr_part asks items (expr_parts.Tpl n) place rest = tpl items (is_tagged place) n rest
 expr_part asks items (expr_parts.OptCall n) place rest = chain_call asks items (is_optional place) n rest
+expr_part asks items (expr_parts.BlockStmt n) place rest = block_stmt asks items n place rest
 
 unfoldable pub stmt_part : {X : Type 0} → (X → Answers) → (X → Place → Part) → StmtPart X → Place → Part
 stmt_part asks items (stmt_parts.Function n) place rest = function asks items n.value place rest
 stmt_part asks items (stmt_parts.Class n) place rest = class asks items n.value place rest
 stmt_part asks items (stmt_parts.ClassMember n) place rest = class_member asks items n.value rest
-stmt_part asks items (stmt_parts.BlockStmt n) place rest = block_stmt asks items n place rest
 stmt_part asks items (stmt_parts.Decl n) place rest = decl asks items n place rest
 stmt_part asks items (stmt_parts.ModuleDecl n) place rest = module_decl asks items n.value rest
 stmt_part asks items (stmt_parts.VarDecl n) place rest = var_decl asks items n rest

@@ -4,7 +4,8 @@ ghost use Rattle.std.specs.Prelude.{◌≡◌, codes};
 ghost use Rattle.swc_ecma_codegen.specs.Standing.{Makes, Stays, standing_of};
 ghost use Rattle.swc_ecma_codegen_ast.specs.ClassPhrases.{is_typed_class, is_typed_prop, is_typed_private, is_typed_accessor};
 ghost use Rattle.swc_ecma_codegen.specs.ClassExprs.{class_expr};
-ghost use Rattle.swc_ecma_codegen.specs.Classes.{class_members_format, heritage, member_list, class, class_tail, class_decl, constructor_param, constructor_param_place, constructor_params, constructor_body, constructor_tail, constructor_word, class_constructor, static_word, accessor_word, method_word, method_kind, class_method, private_kind, private_method, wrapped, prop_value, class_prop, private_decorators, private_prop_tail, private_prop, accessor_key, accessor_decorators, accessor_tail, auto_accessor, static_block, empty_member, class_member};
+ghost use Rattle.swc_ecma_codegen.specs.Decls.{class_decl};
+ghost use Rattle.swc_ecma_codegen.specs.Classes.{class_members_format, heritage, member_list, class, class_tail, constructor_param, constructor_param_place, constructor_params, constructor_body, constructor_tail, constructor_word, class_constructor, static_word, accessor_word, method_word, method_kind, class_method, private_kind, private_method, wrapped, prop_value, class_prop, private_decorators, private_prop_tail, private_prop, accessor_key, accessor_decorators, accessor_tail, auto_accessor, static_block, empty_member, class_member};
 
 use crate::blocks::is_some_listed;
 use crate::emitter::Emitter;
@@ -79,7 +80,7 @@ fn is_typed_accessor<N>(node: &AutoAccessor<N>) -> bool
 impl<N: Held> EmitAt for ClassDecl<N> {
     ghost items = { λ n _. class_decl N.answers N.items n };
 
-    #[tactic(auto, unfolding(crate::specs::Classes::class_decl, crate::specs::Classes::class_decl_parts))]
+    #[tactic(auto, unfolding(crate::specs::Decls::class_decl, crate::specs::Decls::class_decl_parts))]
     fn emit_at<W: WriteJs, S: SourceMapper, C: Comments>(
         &self,
         e: &mut Emitter<'_, W, S, C>,

@@ -2,9 +2,8 @@
 
 ghost use Rattle.std.specs.Prelude.{◌≡◌};
 ghost use Rattle.swc_ecma_codegen.specs.Standing.{Makes, Stays, standing_of};
-ghost use Rattle.swc_ecma_codegen.specs.Decls.{declarators_format, fn_decl, var_declarator, declarators, var_kind, is_unmarked, first_is_unmarked, var_decl, await_word, using_decl, decl_end, by_export, without_head, exported_class, variables, resources, decl};
+ghost use Rattle.swc_ecma_codegen.specs.Decls.{declarators_format, class_decl, fn_decl, var_declarator, declarators, var_kind, is_unmarked, first_is_unmarked, var_decl, await_word, using_decl, decl_end, by_export, without_head, exported_class, variables, resources, decl};
 ghost use Rattle.swc_ecma_codegen.specs.declared.nodes.Place.TheVariants.{ClassHead};
-ghost use Rattle.swc_ecma_codegen.specs.Classes.{class_decl};
 ghost use Rattle.swc_ecma_codegen.specs.Lists.{unsupported};
 
 use crate::emitter::Emitter;

@@ -17,7 +17,7 @@ use swc_ecma_codegen_common::Span;
 use swc_ecma_codegen_literals::Punctuator;
 use swc_ecma_codegen_text_writer::WriteJs;
 use swc_ecma_codegen_tree::{
-    ArrowExpr, BlockStmtBox, BlockStmtOrExpr, Decorator, FnExpr, Function, Ident, Param, PatBox,
+    ArrowExpr, BlockStmt, BlockStmtOrExpr, Decorator, FnExpr, Function, Ident, Param, PatBox,
 };
 
 /// The format of parameters.
@@ -287,14 +287,14 @@ impl<W: WriteJs, S: SourceMapper, C: Comments> Emitter<'_, W, S, C> {
 
     /// Writes the body of a method, or a semicolon in its place.
     #[tactic(auto, unfolding(crate::specs::Functions::method_body))]
-    fn method_body<N: Held>(&mut self, body: &Option<BlockStmtBox<N>>)
-        ensures items { Makes (method_body N.items body.now) (standing_of S.lines W.sheet self.old) (standing_of S.lines W.sheet self.new) }
+    fn method_body<N: Held>(&mut self, body: &Option<BlockStmt<N>>)
+        ensures items { Makes (method_body N.answers N.items body.now) (standing_of S.lines W.sheet self.old) (standing_of S.lines W.sheet self.new) }
         ensures level { Stays (standing_of S.lines W.sheet self.old) (standing_of S.lines W.sheet self.new) }
     {
         match body {
             Some(body) => {
                 self.formatting_space();
-                body.held().emit_at(self, Place::Plain)
+                body.emit_at(self, Place::Plain)
             }
             None => self.punct(Punctuator::Semicolon),
         }
@@ -390,14 +390,14 @@ impl<W: WriteJs, S: SourceMapper, C: Comments> Emitter<'_, W, S, C> {
 
     /// Writes a blank and a body, or a semicolon.
     #[tactic(auto, unfolding(crate::specs::Functions::function_body))]
-    fn function_body<N: Held>(&mut self, body: &Option<BlockStmtBox<N>>)
-        ensures items { Makes (function_body N.items body.now) (standing_of S.lines W.sheet self.old) (standing_of S.lines W.sheet self.new) }
+    fn function_body<N: Held>(&mut self, body: &Option<BlockStmt<N>>)
+        ensures items { Makes (function_body N.answers N.items body.now) (standing_of S.lines W.sheet self.old) (standing_of S.lines W.sheet self.new) }
         ensures level { Stays (standing_of S.lines W.sheet self.old) (standing_of S.lines W.sheet self.new) }
     {
         match body {
             Some(body) => {
                 self.formatting_space();
-                body.held().emit_at(self, Place::Body)
+                body.emit_at(self, Place::Body)
             }
             None => self.semi(),
         }

@@ -26,6 +26,7 @@ impl<N: Held> EmitAt for ExprPart<N> {
             ExprPart::Tpl(node) => node.emit_at(e, place),
             ExprPart::OptCall(node) => node.emit_at(e, place),
             ExprPart::AssignTarget(node) => node.emit_at(e, place),
+            ExprPart::BlockStmt(node) => node.emit_at(e, place),
         }
     }
 }
@@ -44,7 +45,6 @@ impl<N: Held> EmitAt for StmtPart<N> {
             StmtPart::Function(node) => (**node).emit_at(e, place),
             StmtPart::Class(node) => (**node).emit_at(e, place),
             StmtPart::ClassMember(node) => (**node).emit_at(e, place),
-            StmtPart::BlockStmt(node) => node.emit_at(e, place),
             StmtPart::Decl(node) => node.emit_at(e, place),
             StmtPart::ModuleDecl(node) => (**node).emit_at(e, place),
             StmtPart::VarDecl(node) => node.emit_at(e, place),

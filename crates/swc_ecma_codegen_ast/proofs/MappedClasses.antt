@@ -23,16 +23,18 @@ use Rattle.swc_ecma_codegen_tree.specs.declared.classes.PrivateProp.{PrivateProp
 use Rattle.swc_ecma_codegen_tree.specs.declared.decls.Decorator.{Decorator}
 use Rattle.swc_ecma_codegen_tree.specs.declared.decls.Param.{Param}
 use Rattle.swc_ecma_codegen_tree.specs.declared.decls.Function as functions
+use Rattle.swc_ecma_codegen_tree.specs.declared.stmts.BlockStmt.{BlockStmt}
 use Rattle.swc_ecma_codegen_ast.specs.Phrases.{Phrase, Never, ◌>◌, mark, word, listed, in_order}
 use Rattle.swc_ecma_codegen_ast.specs.declared.roles.Role.{Role}
 use Rattle.swc_ecma_codegen_ast.specs.declared.roles.Role.TheVariants.{ClassHead, ClassTail, Member, MethodDecorators, MethodTail, PrivateTail}
 use Rattle.swc_ecma_codegen_ast.specs.PatPhrases.{initializer}
-use Rattle.swc_ecma_codegen_ast.specs.FunctionPhrases.{decorator, param, function_body}
-use Rattle.swc_ecma_codegen_ast.specs.ClassPhrases.{member_at, decorators, class_head, heritage, class_tail, constructor_param, class_constructor, method_decorators, method_body, method_tail, private_tail, kind_head, method_kind, class_method, private_method, prop_value, class_prop, private_prop, accessor_key, auto_accessor, static_block, class_member}
+use Rattle.swc_ecma_codegen_ast.specs.FunctionPhrases.{decorator, param}
+use Rattle.swc_ecma_codegen_ast.specs.ClassPhrases.{member_at, decorators, class_head, heritage, class_tail, constructor_param, constructor_body, class_constructor, method_decorators, kind_head, method_kind, class_method, private_method, prop_value, class_prop, private_prop, accessor_key, auto_accessor, static_block, class_member}
+use Rattle.swc_ecma_codegen_ast.specs.BodyPhrases.{function_body, method_body, method_tail, private_tail}
 use Rattle.swc_ecma_codegen_ast.specs.PartPhrases.{expr_part, stmt_part}
 use Rattle.swc_ecma_codegen_ast.specs.TreePhrases.{node_phrase}
 use Rattle.swc_ecma_codegen_ast.proofs.Mapped.{list_mapped}
-use Rattle.swc_ecma_codegen_ast.proofs.MappedFunctions.{some_mapped, param_mapped, with_parts}
+use Rattle.swc_ecma_codegen_ast.proofs.MappedFunctions.{some_mapped, param_mapped, with_parts, block_mapped}
 use Rattle.swc_ecma_codegen_ast.proofs.MappedPats.{pat_mapped}
 
 pub decorators_mapped : {X Y : Type 0} (g : Decorator X → Decorator Y) (f : Y → Role → Phrase) (d : X → Role → Phrase) → ((n : Decorator X) → decorator f (g n) ≡ decorator d n) → (ns : List (Decorator X)) → decorators f (map g ns) ≡ decorators d ns
@@ -44,14 +46,18 @@ decorated g f d same typed rest ns = ap (λ p. cond typed Never (p > rest)) (dec
 
 -- ---- functions of methods
 
+-- `(a) { b; }`, by its parts
+called_same : (ps qs : List Phrase) (body other : Phrase) → ps ≡ qs → body ≡ other → (mark (codes "(") > listed (codes ",") ps > mark (codes ")") > body) ≡ (mark (codes "(") > listed (codes ",") qs > mark (codes ")") > other)
+called_same ps qs body other e h = ap (λ z. mark (codes "(") > listed (codes ",") z > mark (codes ")") > body) e ∙ ap (λ z. mark (codes "(") > listed (codes ",") qs > mark (codes ")") > z) h
+
 pub method_decorators_mapped : {X Y : Type 0} (g : X → Y) (f : Y → Role → Phrase) (b : Box (functions.Function X) Global) → node_phrase f (map-AnyNode X Y g (nodes.StmtPart (stmt_parts.Function b))) MethodDecorators ≡ method_decorators (λ x. f (g x)) b.value
 unfolding node_phrase stmt_part method_decorators decorator
 method_decorators_mapped g f b = decorators_mapped _ f (λ x. f (g x)) (λ n. refl) b.value.decorators.items
 
-tail_by : {X Y : Type 0} (g : X → Y) (f : Y → Role → Phrase) (b : Box (functions.Function X) Global) (n : functions.Function X) (body : Option (BlockStmtBox X)) (type_params : Option (TsTypeParamDeclBox X)) (return_type : Option (TsTypeAnnBox X)) → node_phrase f (map-AnyNode X Y g (nodes.StmtPart (stmt_parts.Function (record b { value = with_parts n body type_params return_type })))) MethodTail ≡ method_tail (λ x. f (g x)) (with_parts n body type_params return_type)
+tail_by : {X Y : Type 0} (g : X → Y) (f : Y → Role → Phrase) (b : Box (functions.Function X) Global) (n : functions.Function X) (body : Option (BlockStmt X)) (type_params : Option (TsTypeParamDeclBox X)) (return_type : Option (TsTypeAnnBox X)) → node_phrase f (map-AnyNode X Y g (nodes.StmtPart (stmt_parts.Function (record b { value = with_parts n body type_params return_type })))) MethodTail ≡ method_tail (λ x. f (g x)) (with_parts n body type_params return_type)
 unfolding node_phrase expr_part stmt_part method_tail method_body decorator
-tail_by {X} {Y} g f b n None None None = ap (λ ps. mark (codes "(") > listed (codes ",") ps > mark (codes ")") > method_body (λ x. f (g x)) None) (list_mapped _ (param f) (param (λ x. f (g x))) (param_mapped {X = X} {Y = Y} _ _ f (λ x. f (g x)) (λ x. refl) (λ x. pat_mapped g f x.pat) (λ x. refl)) n.params.items)
-tail_by {X} {Y} g f b n (Some body) None None = ap (λ ps. mark (codes "(") > listed (codes ",") ps > mark (codes ")") > method_body (λ x. f (g x)) (Some body)) (list_mapped _ (param f) (param (λ x. f (g x))) (param_mapped {X = X} {Y = Y} _ _ f (λ x. f (g x)) (λ x. refl) (λ x. pat_mapped g f x.pat) (λ x. refl)) n.params.items)
+tail_by {X} {Y} g f b n None None None = called_same _ _ _ _ (list_mapped _ (param f) (param (λ x. f (g x))) (param_mapped {X = X} {Y = Y} _ _ f (λ x. f (g x)) (λ x. refl) (λ x. pat_mapped g f x.pat) (λ x. refl)) n.params.items) refl
+tail_by {X} {Y} g f b n (Some body) None None = called_same _ _ _ _ (list_mapped _ (param f) (param (λ x. f (g x))) (param_mapped {X = X} {Y = Y} _ _ f (λ x. f (g x)) (λ x. refl) (λ x. pat_mapped g f x.pat) (λ x. refl)) n.params.items) (block_mapped g f body)
 tail_by g f b n None None (Some t) = refl
 tail_by g f b n (Some body) None (Some t) = refl
 tail_by g f b n None (Some p) t = refl
@@ -60,10 +66,10 @@ tail_by g f b n (Some body) (Some p) t = refl
 pub method_tail_mapped : {X Y : Type 0} (g : X → Y) (f : Y → Role → Phrase) (b : Box (functions.Function X) Global) → node_phrase f (map-AnyNode X Y g (nodes.StmtPart (stmt_parts.Function b))) MethodTail ≡ method_tail (λ x. f (g x)) b.value
 method_tail_mapped g f b = tail_by g f b b.value b.value.body b.value.type_params b.value.return_type
 
-private_tail_by : {X Y : Type 0} (g : X → Y) (f : Y → Role → Phrase) (b : Box (functions.Function X) Global) (n : functions.Function X) (body : Option (BlockStmtBox X)) (type_params : Option (TsTypeParamDeclBox X)) (return_type : Option (TsTypeAnnBox X)) → node_phrase f (map-AnyNode X Y g (nodes.StmtPart (stmt_parts.Function (record b { value = with_parts n body type_params return_type })))) PrivateTail ≡ private_tail (λ x. f (g x)) (with_parts n body type_params return_type)
+private_tail_by : {X Y : Type 0} (g : X → Y) (f : Y → Role → Phrase) (b : Box (functions.Function X) Global) (n : functions.Function X) (body : Option (BlockStmt X)) (type_params : Option (TsTypeParamDeclBox X)) (return_type : Option (TsTypeAnnBox X)) → node_phrase f (map-AnyNode X Y g (nodes.StmtPart (stmt_parts.Function (record b { value = with_parts n body type_params return_type })))) PrivateTail ≡ private_tail (λ x. f (g x)) (with_parts n body type_params return_type)
 unfolding node_phrase expr_part stmt_part private_tail function_body decorator
-private_tail_by {X} {Y} g f b n None None None = ap (λ ps. mark (codes "(") > listed (codes ",") ps > mark (codes ")") > function_body (λ x. f (g x)) None) (list_mapped _ (param f) (param (λ x. f (g x))) (param_mapped {X = X} {Y = Y} _ _ f (λ x. f (g x)) (λ x. refl) (λ x. pat_mapped g f x.pat) (λ x. refl)) n.params.items)
-private_tail_by {X} {Y} g f b n (Some body) None None = ap (λ ps. mark (codes "(") > listed (codes ",") ps > mark (codes ")") > function_body (λ x. f (g x)) (Some body)) (list_mapped _ (param f) (param (λ x. f (g x))) (param_mapped {X = X} {Y = Y} _ _ f (λ x. f (g x)) (λ x. refl) (λ x. pat_mapped g f x.pat) (λ x. refl)) n.params.items)
+private_tail_by {X} {Y} g f b n None None None = called_same _ _ _ _ (list_mapped _ (param f) (param (λ x. f (g x))) (param_mapped {X = X} {Y = Y} _ _ f (λ x. f (g x)) (λ x. refl) (λ x. pat_mapped g f x.pat) (λ x. refl)) n.params.items) refl
+private_tail_by {X} {Y} g f b n (Some body) None None = called_same _ _ _ _ (list_mapped _ (param f) (param (λ x. f (g x))) (param_mapped {X = X} {Y = Y} _ _ f (λ x. f (g x)) (λ x. refl) (λ x. pat_mapped g f x.pat) (λ x. refl)) n.params.items) (block_mapped g f body)
 private_tail_by g f b n None None (Some t) = refl
 private_tail_by g f b n (Some body) None (Some t) = refl
 private_tail_by g f b n None (Some p) t = refl
@@ -112,9 +118,9 @@ each_param P typed plain (params.TsParamProp n) = typed n
 each_param P typed plain (params.Param n) = plain n
 
 constructor_by : {X Y : Type 0} (g : X → Y) (f : Y → Role → Phrase) (b : Box (class_members.ClassMember X) Global) (n : Constructor X) (body : Option (BlockStmtBox X)) → node_phrase f (map-AnyNode X Y g (as_member b (members.Constructor (record n { body = body })))) Member ≡ class_constructor (λ x. f (g x)) (record n { body = body })
-unfolding node_phrase expr_part stmt_part class_member class_constructor constructor_param method_body decorator
-constructor_by {X} {Y} g f b n None = ap (λ ps. cond (is_some n.accessibility) Never (word (codes "constructor") > mark (codes "(") > listed (codes ",") ps > mark (codes ")") > method_body (λ x. f (g x)) None)) (list_mapped {A = ParamOrTsParamProp X} _ (constructor_param f) (constructor_param (λ x. f (g x))) (each_param {X = X} _ (λ m. refl) (param_mapped {X = X} {Y = Y} _ _ f (λ x. f (g x)) (λ x. refl) (λ x. pat_mapped g f x.pat) (λ x. refl))) n.params.items)
-constructor_by {X} {Y} g f b n (Some body) = ap (λ ps. cond (is_some n.accessibility) Never (word (codes "constructor") > mark (codes "(") > listed (codes ",") ps > mark (codes ")") > method_body (λ x. f (g x)) (Some body))) (list_mapped {A = ParamOrTsParamProp X} _ (constructor_param f) (constructor_param (λ x. f (g x))) (each_param {X = X} _ (λ m. refl) (param_mapped {X = X} {Y = Y} _ _ f (λ x. f (g x)) (λ x. refl) (λ x. pat_mapped g f x.pat) (λ x. refl))) n.params.items)
+unfolding node_phrase expr_part stmt_part class_member class_constructor constructor_param constructor_body decorator
+constructor_by {X} {Y} g f b n None = ap (λ ps. cond (is_some n.accessibility) Never (word (codes "constructor") > mark (codes "(") > listed (codes ",") ps > mark (codes ")") > constructor_body (λ x. f (g x)) None)) (list_mapped {A = ParamOrTsParamProp X} _ (constructor_param f) (constructor_param (λ x. f (g x))) (each_param {X = X} _ (λ m. refl) (param_mapped {X = X} {Y = Y} _ _ f (λ x. f (g x)) (λ x. refl) (λ x. pat_mapped g f x.pat) (λ x. refl))) n.params.items)
+constructor_by {X} {Y} g f b n (Some body) = ap (λ ps. cond (is_some n.accessibility) Never (word (codes "constructor") > mark (codes "(") > listed (codes ",") ps > mark (codes ")") > constructor_body (λ x. f (g x)) (Some body))) (list_mapped {A = ParamOrTsParamProp X} _ (constructor_param f) (constructor_param (λ x. f (g x))) (each_param {X = X} _ (λ m. refl) (param_mapped {X = X} {Y = Y} _ _ f (λ x. f (g x)) (λ x. refl) (λ x. pat_mapped g f x.pat) (λ x. refl))) n.params.items)
 
 method_by : {X Y : Type 0} (g : X → Y) (f : Y → Role → Phrase) (b : Box (class_members.ClassMember X) Global) (n : ClassMethod X) (kind : MethodKind) → node_phrase f (map-AnyNode X Y g (as_member b (members.Method (record n { kind = kind })))) Member ≡ class_method (λ x. f (g x)) (record n { kind = kind })
 unfolding node_phrase stmt_part class_member class_method method_kind kind_head

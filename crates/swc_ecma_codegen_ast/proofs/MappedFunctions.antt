@@ -2,7 +2,8 @@
 use Rattle.std.proofs.Common.{◌≡◌, refl, ◌∙◌, ap, List, [], ◌∷◌, map, codes, Bool, cond, Option, Some, None, Box, Global}
 use Rattle.swc_ecma_codegen_tree.specs.declared.links.AnyNode.{map-AnyNode}
 use Rattle.swc_ecma_codegen_tree.specs.declared.links.AnyNode.TheOpen as nodes
-use Rattle.swc_ecma_codegen_tree.specs.Links.{BlockStmtBox, PatBox, TsTypeAnnBox, TsTypeParamDeclBox}
+use Rattle.swc_ecma_codegen_tree.specs.Links.{PatBox, TsTypeAnnBox, TsTypeParamDeclBox}
+use Rattle.swc_ecma_codegen_tree.specs.declared.parts.ExprPart.TheVariants as expr_parts
 use Rattle.swc_ecma_codegen_tree.specs.declared.parts.StmtPart.TheVariants as stmt_parts
 use Rattle.swc_ecma_codegen_tree.specs.declared.decls.Decorator.{Decorator}
 use Rattle.swc_ecma_codegen_tree.specs.declared.decls.Param.{Param}
@@ -17,14 +18,21 @@ use Rattle.swc_ecma_codegen_ast.specs.Phrases.{Phrase, Never, ◌>◌, mark, lis
 use Rattle.swc_ecma_codegen_ast.specs.declared.roles.Role.{Role}
 use Rattle.swc_ecma_codegen_ast.specs.declared.roles.Role.TheVariants.{Expression, Function, Block}
 use Rattle.swc_ecma_codegen_ast.specs.PatPhrases.{pat_at, pat}
-use Rattle.swc_ecma_codegen_ast.specs.FunctionPhrases.{word_if, is_some_listed, decorator, param, function_body, function, only_parameter, arrow_parameters, arrow_body, arrow_expr, after_async}
+use Rattle.swc_ecma_codegen_ast.specs.FunctionPhrases.{word_if, is_some_listed, decorator, param, only_parameter, arrow_parameters, arrow_body, arrow_expr, after_async}
 use Rattle.swc_ecma_codegen_ast.specs.ExprPhrases.{expr}
 use Rattle.swc_ecma_codegen_ast.specs.StmtPhrases.{stmt, block_stmt}
+use Rattle.swc_ecma_codegen_ast.specs.BodyPhrases.{function_body, function}
 use Rattle.swc_ecma_codegen_ast.specs.PartPhrases.{expr_part, stmt_part}
 use Rattle.swc_ecma_codegen_ast.specs.TreePhrases.{node_phrase}
 use Rattle.swc_ecma_codegen_ast.proofs.Mapped.{list_mapped}
 use Rattle.swc_ecma_codegen_ast.proofs.MappedPats.{pat_mapped}
 use Rattle.swc_ecma_codegen_ast.proofs.MappedStmts.{stmt_mapped}
+
+-- ---- blocks
+
+pub block_mapped : {X Y : Type 0} (g : X → Y) (f : Y → Role → Phrase) (n : BlockStmt X) → node_phrase f (map-AnyNode X Y g (nodes.ExprPart (expr_parts.BlockStmt n))) Block ≡ block_stmt (λ x. f (g x)) n
+unfolding node_phrase expr_part block_stmt
+block_mapped {X} g f n = ap (λ ps. mark (codes "{") > in_order ps > mark (codes "}")) (list_mapped {A = Stmt X} _ (stmt f) (stmt (λ x. f (g x))) (stmt_mapped g f) n.stmts.items)
 
 -- ---- functions
 
@@ -43,16 +51,16 @@ param_mapped g h f d items pattern same n =
 abbrev undecorated : Bool → List Phrase → Phrase → Phrase
 undecorated decorated ps body = cond decorated Never (mark (codes "(") > listed (codes ",") ps > mark (codes ")") > body)
 
-undecorated_same : (b c : Bool) (ps qs : List Phrase) (body : Phrase) → b ≡ c → ps ≡ qs → undecorated b ps body ≡ undecorated c qs body
-undecorated_same b c ps qs body e k = ap (λ z. undecorated z ps body) e ∙ ap (λ z. undecorated c z body) k
+undecorated_same : (b c : Bool) (ps qs : List Phrase) (body other : Phrase) → b ≡ c → ps ≡ qs → body ≡ other → undecorated b ps body ≡ undecorated c qs other
+undecorated_same b c ps qs body other e k h = ap (λ z. undecorated z ps body) e ∙ ap (λ z. undecorated c z body) k ∙ ap (undecorated c qs) h
 
-abbrev pub with_parts : {X : Type 0} → functions.Function X → Option (BlockStmtBox X) → Option (TsTypeParamDeclBox X) → Option (TsTypeAnnBox X) → functions.Function X
+abbrev pub with_parts : {X : Type 0} → functions.Function X → Option (BlockStmt X) → Option (TsTypeParamDeclBox X) → Option (TsTypeAnnBox X) → functions.Function X
 with_parts n body type_params return_type = record n { body = body; type_params = type_params; return_type = return_type }
 
-function_mapped : {X Y : Type 0} (g : X → Y) (f : Y → Role → Phrase) (b : Box (functions.Function X) Global) (n : functions.Function X) (body : Option (BlockStmtBox X)) (type_params : Option (TsTypeParamDeclBox X)) (return_type : Option (TsTypeAnnBox X)) → node_phrase f (map-AnyNode X Y g (nodes.StmtPart (stmt_parts.Function (record b { value = with_parts n body type_params return_type })))) Function ≡ function (λ x. f (g x)) (with_parts n body type_params return_type)
+function_mapped : {X Y : Type 0} (g : X → Y) (f : Y → Role → Phrase) (b : Box (functions.Function X) Global) (n : functions.Function X) (body : Option (BlockStmt X)) (type_params : Option (TsTypeParamDeclBox X)) (return_type : Option (TsTypeAnnBox X)) → node_phrase f (map-AnyNode X Y g (nodes.StmtPart (stmt_parts.Function (record b { value = with_parts n body type_params return_type })))) Function ≡ function (λ x. f (g x)) (with_parts n body type_params return_type)
 unfolding node_phrase expr_part stmt_part function function_body decorator
-function_mapped {X} {Y} g f b n None None None = undecorated_same _ _ _ _ _ (some_mapped _ n.decorators.items) (list_mapped _ (param f) (param (λ x. f (g x))) (param_mapped {X = X} {Y = Y} _ _ f (λ x. f (g x)) (λ x. refl) (λ x. pat_mapped g f x.pat) (λ x. refl)) n.params.items)
-function_mapped {X} {Y} g f b n (Some body) None None = undecorated_same _ _ _ _ _ (some_mapped _ n.decorators.items) (list_mapped _ (param f) (param (λ x. f (g x))) (param_mapped {X = X} {Y = Y} _ _ f (λ x. f (g x)) (λ x. refl) (λ x. pat_mapped g f x.pat) (λ x. refl)) n.params.items)
+function_mapped {X} {Y} g f b n None None None = undecorated_same _ _ _ _ _ _ (some_mapped _ n.decorators.items) (list_mapped _ (param f) (param (λ x. f (g x))) (param_mapped {X = X} {Y = Y} _ _ f (λ x. f (g x)) (λ x. refl) (λ x. pat_mapped g f x.pat) (λ x. refl)) n.params.items) refl
+function_mapped {X} {Y} g f b n (Some body) None None = undecorated_same _ _ _ _ _ _ (some_mapped _ n.decorators.items) (list_mapped _ (param f) (param (λ x. f (g x))) (param_mapped {X = X} {Y = Y} _ _ f (λ x. f (g x)) (λ x. refl) (λ x. pat_mapped g f x.pat) (λ x. refl)) n.params.items) (block_mapped g f body)
 function_mapped g f b n None None (Some t) = refl
 function_mapped g f b n (Some body) None (Some t) = refl
 function_mapped g f b n None (Some p) t = refl
@@ -60,10 +68,6 @@ function_mapped g f b n (Some body) (Some p) t = refl
 
 pub function_part_mapped : {X Y : Type 0} (g : X → Y) (f : Y → Role → Phrase) (b : Box (functions.Function X) Global) → node_phrase f (map-AnyNode X Y g (nodes.StmtPart (stmt_parts.Function b))) Function ≡ function (λ x. f (g x)) b.value
 function_part_mapped g f b = function_mapped g f b b.value b.value.body b.value.type_params b.value.return_type
-
-pub block_mapped : {X Y : Type 0} (g : X → Y) (f : Y → Role → Phrase) (n : BlockStmt X) → node_phrase f (map-AnyNode X Y g (nodes.StmtPart (stmt_parts.BlockStmt n))) Block ≡ block_stmt (λ x. f (g x)) n
-unfolding node_phrase stmt_part block_stmt
-block_mapped {X} g f n = ap (λ ps. mark (codes "{") > in_order ps > mark (codes "}")) (list_mapped {A = Stmt X} _ (stmt f) (stmt (λ x. f (g x))) (stmt_mapped g f) n.stmts.items)
 
 -- ---- arrow functions
 

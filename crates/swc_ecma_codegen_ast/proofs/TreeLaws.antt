@@ -147,6 +147,7 @@ part_mapped g f (expr_parts.OptCall n) (ChainCall optional) = chain_call_mapped 
 part_mapped g f (expr_parts.AssignTarget n) AssignmentTarget = target_mapped g f n
 part_mapped g f (expr_parts.Tpl n) Template = tpl_mapped g f n
 part_mapped g f (expr_parts.Tpl n) TaggedTemplate = tagged_mapped g f n
+part_mapped g f (expr_parts.BlockStmt n) Block = block_mapped g f n
 part_mapped g f n role = refl
 
 stmt_part_mapped : {X Y : Type 0} (g : X → Y) (f : Y → Role → Phrase) (n : StmtPart X) (role : Role) → node_phrase f (map-AnyNode X Y g (nodes.StmtPart n)) role ≡ stmt_part (λ x. f (g x)) n role
@@ -158,7 +159,6 @@ stmt_part_mapped g f (stmt_parts.Function n) PrivateTail = private_tail_mapped g
 stmt_part_mapped g f (stmt_parts.Class n) ClassHead = class_head_mapped g f n
 stmt_part_mapped g f (stmt_parts.Class n) ClassTail = class_tail_mapped g f n
 stmt_part_mapped g f (stmt_parts.ClassMember n) Member = class_member_mapped g f n
-stmt_part_mapped g f (stmt_parts.BlockStmt n) Block = block_mapped g f n
 stmt_part_mapped g f (stmt_parts.Decl n) Declaration = decl_mapped g f n
 stmt_part_mapped g f (stmt_parts.Decl n) ExportedHead = exported_head_mapped g f n
 stmt_part_mapped g f (stmt_parts.Decl n) ExportedTail = exported_tail_mapped g f n

@@ -25,7 +25,7 @@ use Rattle.swc_ecma_codegen_tree.specs.declared.exprs.ClassExpr.{ClassExpr}
 use Rattle.swc_ecma_codegen_ast.specs.Phrases.{Phrase, Never, Nothing, OptionalParentheses, ◌>◌, word, mark, same_line, ending, listed, in_order}
 use Rattle.swc_ecma_codegen_ast.specs.NamePhrases.{ident, private_name}
 use Rattle.swc_ecma_codegen_ast.specs.PatPhrases.{value_at, prop_name_at, initializer}
-use Rattle.swc_ecma_codegen_ast.specs.FunctionPhrases.{block_at, word_if, is_some_listed, decorator, param, function_body, optional_name}
+use Rattle.swc_ecma_codegen_ast.specs.FunctionPhrases.{block_at, word_if, is_some_listed, decorator, param, optional_name}
 use Rattle.swc_ecma_codegen_ast.specs.declared.roles.Role.{Role}
 use Rattle.swc_ecma_codegen_ast.specs.declared.roles.Role.TheVariants.{ClassHead, ClassTail, Member, MethodHead, MethodDecorators, MethodTail, PrivateTail}
 
@@ -69,30 +69,19 @@ constructor_param f (params.Param n) = param f n
 constructor_param f (params.TsParamProp n) = Never
 
 -- `{ a; }`, or a semicolon, which is never left out
-unfoldable pub method_body : {X : Type 0} → (X → Role → Phrase) → Option (BlockStmtBox X) → Phrase
-method_body f None = mark (codes ";")
-method_body f (Some n) = block_at f n
+unfoldable pub constructor_body : {X : Type 0} → (X → Role → Phrase) → Option (BlockStmtBox X) → Phrase
+constructor_body f None = mark (codes ";")
+constructor_body f (Some n) = block_at f n
 
 -- `constructor(a) { b; }`
 unfoldable pub class_constructor : {X : Type 0} → (X → Role → Phrase) → Constructor X → Phrase
 class_constructor f n =
     if is_some n.accessibility then Never
-    else (word (codes "constructor") > mark (codes "(") > listed (codes ",") (map (constructor_param f) n.params.items) > mark (codes ")") > method_body f n.body)
+    else (word (codes "constructor") > mark (codes "(") > listed (codes ",") (map (constructor_param f) n.params.items) > mark (codes ")") > constructor_body f n.body)
 
--- what of a method stands before its modifiers, and `(a) { b; }`
+-- what of a method stands before its modifiers
 unfoldable pub method_decorators : {X : Type 0} → (X → Role → Phrase) → functions.Function X → Phrase
 method_decorators f n = decorators f n.decorators.items
-
-unfoldable pub method_tail : {X : Type 0} → (X → Role → Phrase) → functions.Function X → Phrase
-method_tail f n =
-    if is_some n.type_params || is_some n.return_type then Never
-    else (mark (codes "(") > listed (codes ",") (map (param f) n.params.items) > mark (codes ")") > method_body f n.body)
-
--- the same of a private method, with a semicolon that may be left out
-unfoldable pub private_tail : {X : Type 0} → (X → Role → Phrase) → functions.Function X → Phrase
-private_tail f n =
-    if is_some n.type_params || is_some n.return_type then Never
-    else (mark (codes "(") > listed (codes ",") (map (param f) n.params.items) > mark (codes ")") > function_body f n.body)
 
 -- section 15.4: `async *`, `get` or `set`
 unfoldable pub kind_head : {X : Type 0} → (X → Role → Phrase) → MethodKind → FunctionBox X → Phrase

@@ -10,7 +10,7 @@ use Rattle.swc_ecma_codegen_tree.specs.declared.exprs.ArrowExpr.{ArrowExpr}
 use Rattle.swc_ecma_codegen_tree.specs.declared.exprs.BlockStmtOrExpr.{BlockStmtOrExpr}
 use Rattle.swc_ecma_codegen_tree.specs.declared.exprs.BlockStmtOrExpr.TheVariants as bodies
 use Rattle.swc_ecma_codegen_tree.specs.declared.idents.Ident.{Ident}
-use Rattle.swc_ecma_codegen_ast.specs.Phrases.{Phrase, Never, Nothing, OptionalParentheses, ◌>◌, word, mark, ending, listed, in_order, same_line}
+use Rattle.swc_ecma_codegen_ast.specs.Phrases.{Phrase, Never, Nothing, OptionalParentheses, ◌>◌, word, mark, listed, in_order, same_line}
 use Rattle.swc_ecma_codegen_ast.specs.NamePhrases.{ident}
 use Rattle.swc_ecma_codegen_ast.specs.PatPhrases.{value_at, pat_at, pat}
 use Rattle.swc_ecma_codegen_ast.specs.declared.roles.Role.{Role}
@@ -45,17 +45,6 @@ decorator f n = mark (codes "@") > value_at f n.expr
 -- ECMA-262, section 15.1: `@a b`
 unfoldable pub param : {X : Type 0} → (X → Role → Phrase) → Param X → Phrase
 param f n = in_order (map (decorator f) n.decorators.items) > pat f n.pat
-
--- `{ a; }`, or the semicolon in its place
-unfoldable pub function_body : {X : Type 0} → (X → Role → Phrase) → Option (BlockStmtBox X) → Phrase
-function_body f None = ending
-function_body f (Some n) = block_at f n
-
--- section 15.2: `(a) { b; }`. Only methods of classes have decorators.
-unfoldable pub function : {X : Type 0} → (X → Role → Phrase) → functions.Function X → Phrase
-function f n =
-    if is_some n.type_params || (is_some n.return_type || is_some_listed n.decorators.items) then Never
-    else (mark (codes "(") > listed (codes ",") (map (param f) n.params.items) > mark (codes ")") > function_body f n.body)
 
 -- sections 15.2, 15.5, 15.6 and 15.8: `function`, `function*`, `async function`, `async function*`
 unfoldable pub function_head : {X : Type 0} → functions.Function X → Phrase

@@ -41,6 +41,7 @@ pub mod RegularExpressions
 pub mod Settings
 pub mod Skipping
 pub mod StmtPhrases
+pub mod BodyPhrases
 pub mod StringValues
 pub mod Strings
 pub mod TemplateValues

@@ -13,9 +13,10 @@ use Rattle.swc_ecma_codegen_ast.specs.KeyPhrases.{prop_name}
 use Rattle.swc_ecma_codegen_ast.specs.ModulePhrases.{exported_head, exported_tail, module_decl}
 use Rattle.swc_ecma_codegen_ast.specs.PatPhrases.{pat, plain_parameter}
 use Rattle.swc_ecma_codegen_ast.specs.PropPhrases.{object_lit}
-use Rattle.swc_ecma_codegen_ast.specs.FunctionPhrases.{function, function_head, method_head}
+use Rattle.swc_ecma_codegen_ast.specs.FunctionPhrases.{function_head, method_head}
 use Rattle.swc_ecma_codegen_ast.specs.TemplatePhrases.{tpl}
-use Rattle.swc_ecma_codegen_ast.specs.ClassPhrases.{class_head, class_tail, class_member, method_decorators, method_tail, private_tail}
+use Rattle.swc_ecma_codegen_ast.specs.ClassPhrases.{class_head, class_tail, class_member, method_decorators}
+use Rattle.swc_ecma_codegen_ast.specs.BodyPhrases.{function, method_tail, private_tail}
 use Rattle.swc_ecma_codegen_ast.specs.DeclPhrases.{decl, var_decl}
 use Rattle.swc_ecma_codegen_ast.specs.StmtPhrases.{block_stmt}
 
@@ -28,6 +29,7 @@ expr_part f (expr_parts.OptCall n) (ChainCall optional) = chain_call f optional 
 expr_part f (expr_parts.AssignTarget n) AssignmentTarget = assign_target f n
 expr_part f (expr_parts.Tpl n) Template = tpl f false n
 expr_part f (expr_parts.Tpl n) TaggedTemplate = tpl f true n
+expr_part f (expr_parts.BlockStmt n) Block = block_stmt f n
 expr_part f n role = Never
 
 unfoldable pub stmt_part : {X : Type 0} → (X → Role → Phrase) → StmtPart X → Role → Phrase
@@ -40,7 +42,6 @@ stmt_part f (stmt_parts.Function n) PrivateTail = private_tail f n.value
 stmt_part f (stmt_parts.Class n) ClassHead = class_head f n.value
 stmt_part f (stmt_parts.Class n) ClassTail = class_tail f n.value
 stmt_part f (stmt_parts.ClassMember n) Member = class_member f n.value
-stmt_part f (stmt_parts.BlockStmt n) Block = block_stmt f n
 stmt_part f (stmt_parts.Decl n) Declaration = decl f n
 stmt_part f (stmt_parts.Decl n) ExportedHead = exported_head f n
 stmt_part f (stmt_parts.Decl n) ExportedTail = exported_tail f n

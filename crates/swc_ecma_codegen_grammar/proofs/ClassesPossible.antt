@@ -16,8 +16,9 @@ use Rattle.swc_ecma_codegen_tree.specs.declared.decls.Function as functions
 use Rattle.swc_ecma_codegen_ast.specs.Phrases.{Phrase, Never, word, in_order, is_possible}
 use Rattle.swc_ecma_codegen_ast.specs.NamePhrases.{ident, private_name}
 use Rattle.swc_ecma_codegen_ast.specs.PatPhrases.{prop_name_at, initializer}
-use Rattle.swc_ecma_codegen_ast.specs.FunctionPhrases.{word_if, is_some_listed, decorator, param, function_body}
-use Rattle.swc_ecma_codegen_ast.specs.ClassPhrases.{member_at, decorators, class_head, heritage, is_typed_class, class_tail, class_decl, constructor_param, method_body, class_constructor, method_decorators, method_tail, private_tail, kind_head, method_kind, class_method, private_method, prop_value, is_typed_prop, class_prop, is_typed_private, private_prop, accessor_key, is_typed_accessor, auto_accessor}
+use Rattle.swc_ecma_codegen_ast.specs.FunctionPhrases.{word_if, is_some_listed, decorator, param}
+use Rattle.swc_ecma_codegen_ast.specs.ClassPhrases.{member_at, decorators, class_head, heritage, is_typed_class, class_tail, class_decl, constructor_param, constructor_body, class_constructor, method_decorators, kind_head, method_kind, class_method, private_method, prop_value, is_typed_prop, class_prop, is_typed_private, private_prop, accessor_key, is_typed_accessor, auto_accessor}
+use Rattle.swc_ecma_codegen_ast.specs.BodyPhrases.{function_body, method_body, method_tail, private_tail}
 use Rattle.swc_ecma_codegen_ast.specs.declared.roles.Role.{Role}
 use Rattle.swc_ecma_codegen_ast.specs.declared.roles.Role.TheVariants.{ClassHead, ClassTail, MethodDecorators, MethodTail, PrivateTail}
 use Rattle.swc_ecma_codegen_grammar.specs.Possible.{all_possible}
@@ -66,11 +67,11 @@ class_decl_possible f n = typed n.declare _ _ refl
 
 -- ---- members
 
-pub constructor_possible : {X : Type 0} (f : X → Role → Phrase) (n : Constructor X) → is_possible (class_constructor f n) ≡ (is_none n.accessibility && (all_possible (constructor_param f) n.params.items && is_possible (method_body f n.body)))
+pub constructor_possible : {X : Type 0} (f : X → Role → Phrase) (n : Constructor X) → is_possible (class_constructor f n) ≡ (is_none n.accessibility && (all_possible (constructor_param f) n.params.items && is_possible (constructor_body f n.body)))
 unfolding is_possible class_constructor
 constructor_possible f n =
-    typed (is_some n.accessibility) _ _ (ap (λ b. b && is_possible (method_body f n.body)) (listed_possible (codes ",") (constructor_param f) n.params.items))
-    ∙ ap (λ b. b && (all_possible (constructor_param f) n.params.items && is_possible (method_body f n.body))) (not_some n.accessibility)
+    typed (is_some n.accessibility) _ _ (ap (λ b. b && is_possible (constructor_body f n.body)) (listed_possible (codes ",") (constructor_param f) n.params.items))
+    ∙ ap (λ b. b && (all_possible (constructor_param f) n.params.items && is_possible (constructor_body f n.body))) (not_some n.accessibility)
 
 pub method_decorators_possible : {X : Type 0} (f : X → Role → Phrase) (n : functions.Function X) → is_possible (method_decorators f n) ≡ all_possible (decorator f) n.decorators.items
 unfolding method_decorators

@@ -8,7 +8,8 @@ use Rattle.swc_ecma_codegen_tree.specs.declared.stmts.BlockStmt.{BlockStmt}
 use Rattle.swc_ecma_codegen_ast.specs.declared.roles.Role.{Role}
 use Rattle.swc_ecma_codegen_ast.specs.declared.roles.Role.TheVariants.{PlainParameter}
 use Rattle.swc_ecma_codegen_ast.specs.PatPhrases.{pat_at}
-use Rattle.swc_ecma_codegen_ast.specs.FunctionPhrases.{after_async, word_if, is_some_listed, param, function_body, function, function_head, method_head, is_never, only_parameter, arrow_parameters, arrow_body, arrow_expr}
+use Rattle.swc_ecma_codegen_ast.specs.FunctionPhrases.{after_async, word_if, is_some_listed, param, function_head, method_head, is_never, only_parameter, arrow_parameters, arrow_body, arrow_expr}
+use Rattle.swc_ecma_codegen_ast.specs.BodyPhrases.{function_body, function}
 use Rattle.swc_ecma_codegen_ast.specs.StmtPhrases.{stmt, block_stmt}
 use Rattle.swc_ecma_codegen_ast.specs.Phrases.{Phrase, Never, OptionalParentheses, ◌>◌, mark, word, in_order, is_possible}
 use Rattle.swc_ecma_codegen_grammar.specs.Possible.{all_possible}

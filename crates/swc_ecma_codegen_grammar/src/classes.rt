@@ -2,15 +2,16 @@
 
 ghost use Rattle.std.specs.Prelude.{◌≡◌};
 ghost use Rattle.swc_ecma_codegen_ast.specs.Phrases.{is_possible};
-ghost use Rattle.swc_ecma_codegen_ast.specs.ClassPhrases.{class_head, heritage, is_typed_class, class_tail, class_decl, class_expr, constructor_param, method_body, class_constructor, method_decorators, method_tail, private_tail, kind_head, class_method, private_method, prop_value, is_typed_prop, class_prop, is_typed_private, private_prop, accessor_key, is_typed_accessor, auto_accessor, static_block, class_member};
+ghost use Rattle.swc_ecma_codegen_ast.specs.ClassPhrases.{class_head, heritage, is_typed_class, class_tail, class_decl, class_expr, constructor_param, constructor_body, class_constructor, method_decorators, kind_head, class_method, private_method, prop_value, is_typed_prop, class_prop, is_typed_private, private_prop, accessor_key, is_typed_accessor, auto_accessor, static_block, class_member};
+ghost use Rattle.swc_ecma_codegen_ast.specs.BodyPhrases.{method_body, method_tail, private_tail};
 
 use crate::forms::{Fits, WellFormed, all_well_formed};
 use crate::functions::{is_body, is_optional_name};
 use crate::pats::is_initializer;
 use swc_ecma_codegen_ast::roles::Role;
 use swc_ecma_codegen_tree::{
-    AutoAccessor, BlockStmtBox, Class, ClassDecl, ClassExpr, ClassMember, ClassMethod, ClassProp,
-    Constructor, ExprBox, Function, FunctionBox, Key, MethodKind, ParamOrTsParamProp,
+    AutoAccessor, BlockStmt, BlockStmtBox, Class, ClassDecl, ClassExpr, ClassMember, ClassMethod,
+    ClassProp, Constructor, ExprBox, Function, FunctionBox, Key, MethodKind, ParamOrTsParamProp,
     PrivateMethod, PrivateProp, StaticBlock,
 };
 
@@ -89,9 +90,20 @@ impl<N: Fits> WellFormed for ParamOrTsParamProp<N> {
 }
 
 /// Whether the body of a method is well-formed, or there is none.
-#[tactic(auto, unfolding(swc_ecma_codegen_ast::specs::ClassPhrases::method_body, swc_ecma_codegen_ast::specs::Phrases::is_possible))]
-fn is_method_body<N: Fits>(body: &Option<BlockStmtBox<N>>) -> bool
+#[tactic(auto, unfolding(swc_ecma_codegen_ast::specs::BodyPhrases::method_body, swc_ecma_codegen_ast::specs::Phrases::is_possible))]
+fn is_method_body<N: Fits>(body: &Option<BlockStmt<N>>) -> bool
     ensures { result ≡ is_possible (method_body N.reads body.now) }
+{
+    match body {
+        Some(body) => body.is_well_formed(),
+        None => true,
+    }
+}
+
+/// Whether the body of a constructor is well-formed, or there is none.
+#[tactic(auto, unfolding(swc_ecma_codegen_ast::specs::ClassPhrases::constructor_body, swc_ecma_codegen_ast::specs::Phrases::is_possible))]
+fn is_constructor_body<N: Fits>(body: &Option<BlockStmtBox<N>>) -> bool
+    ensures { result ≡ is_possible (constructor_body N.reads body.now) }
 {
     match body {
         Some(body) => body.is_well_formed(),
@@ -104,7 +116,9 @@ impl<N: Fits> WellFormed for Constructor<N> {
 
     #[tactic(auto, using(crate::proofs::ClassesPossible::constructor_possible))]
     fn is_well_formed(&self) -> bool {
-        self.accessibility.is_none() && all_well_formed(&self.params) && is_method_body(&self.body)
+        self.accessibility.is_none()
+            && all_well_formed(&self.params)
+            && is_constructor_body(&self.body)
     }
 }
 

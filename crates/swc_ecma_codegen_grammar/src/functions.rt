@@ -2,12 +2,13 @@
 
 ghost use Rattle.std.specs.Prelude.{◌≡◌};
 ghost use Rattle.swc_ecma_codegen_ast.specs.Phrases.{is_possible};
-ghost use Rattle.swc_ecma_codegen_ast.specs.FunctionPhrases.{decorator, param, function_body, function, optional_name, fn_expr, arrow_body, arrow_expr};
+ghost use Rattle.swc_ecma_codegen_ast.specs.FunctionPhrases.{decorator, param, optional_name, fn_expr, arrow_body, arrow_expr};
+ghost use Rattle.swc_ecma_codegen_ast.specs.BodyPhrases.{function_body, function};
 
 use crate::forms::{Fits, WellFormed, all_well_formed};
 use swc_ecma_codegen_ast::roles::Role;
 use swc_ecma_codegen_tree::{
-    ArrowExpr, BlockStmtBox, BlockStmtOrExpr, Decorator, FnExpr, Function, Ident, Param,
+    ArrowExpr, BlockStmt, BlockStmtOrExpr, Decorator, FnExpr, Function, Ident, Param,
 };
 
 impl<N: Fits> WellFormed for Decorator<N> {
@@ -29,8 +30,8 @@ impl<N: Fits> WellFormed for Param<N> {
 }
 
 /// Whether a body is well-formed, or the semicolon in its place.
-#[tactic(auto, unfolding(swc_ecma_codegen_ast::specs::FunctionPhrases::function_body, swc_ecma_codegen_ast::specs::Phrases::is_possible))]
-pub(crate) fn is_body<N: Fits>(body: &Option<BlockStmtBox<N>>) -> bool
+#[tactic(auto, unfolding(swc_ecma_codegen_ast::specs::BodyPhrases::function_body, swc_ecma_codegen_ast::specs::Phrases::is_possible))]
+pub(crate) fn is_body<N: Fits>(body: &Option<BlockStmt<N>>) -> bool
     ensures { result ≡ is_possible (function_body N.reads body.now) }
 {
     match body {

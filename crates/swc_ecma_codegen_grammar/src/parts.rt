@@ -27,6 +27,7 @@ pub(crate) fn expr_part_fits<N: Fits>(part: &ExprPart<N>, role: Role) -> bool
         // `a?.(b)` is where `a(b)` is.
         (ExprPart::OptCall(node), Role::ChainCall(_)) => node.is_well_formed(),
         (ExprPart::AssignTarget(node), Role::AssignmentTarget) => node.is_well_formed(),
+        (ExprPart::BlockStmt(node), Role::Block) => node.is_well_formed(),
         _ => false,
     }
 }
@@ -45,7 +46,6 @@ pub(crate) fn stmt_part_fits<N: Fits>(part: &StmtPart<N>, role: Role) -> bool
         (StmtPart::Class(node), Role::ClassHead) => is_class_head(node),
         (StmtPart::Class(node), Role::ClassTail) => node.is_well_formed(),
         (StmtPart::ClassMember(node), Role::Member) => node.is_well_formed(),
-        (StmtPart::BlockStmt(node), Role::Block) => node.is_well_formed(),
         (StmtPart::Decl(node), Role::Declaration) => node.is_well_formed(),
         (StmtPart::Decl(node), Role::ExportedHead) => is_exported_head(node),
         (StmtPart::Decl(node), Role::ExportedTail) => is_exported_tail(node),

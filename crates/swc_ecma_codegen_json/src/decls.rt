@@ -7,8 +7,8 @@ use crate::{held, made, names, spelled, values};
 use serde::Name;
 use swc_ecma_codegen_common::Span;
 use swc_ecma_codegen_tree::{
-    BlockStmtBox, ClassBox, ClassDecl, Decl, Decorator, FnDecl, Function, FunctionBox, Ident,
-    Param, TsTypeAnnBox, TsTypeParamDeclBox, UsingDecl, VarDecl, VarDeclKind, VarDeclarator,
+    BlockStmt, ClassBox, ClassDecl, Decl, Decorator, FnDecl, Function, FunctionBox, Ident, Param,
+    TsTypeAnnBox, TsTypeParamDeclBox, UsingDecl, VarDecl, VarDeclKind, VarDeclarator,
 };
 
 impl<N: Drop> ReadFrom<N> for Decl<N> {
@@ -157,7 +157,7 @@ impl<N: Drop> ReadFrom<N> for Function<N> {
             Span,
             (
                 Vec<Param<N>>,
-                (Vec<Decorator<N>>, (Option<BlockStmtBox<N>>, ())),
+                (Vec<Decorator<N>>, (Option<BlockStmt<N>>, ())),
             ),
         ),
         (

@@ -5,7 +5,8 @@ use crate::reading::{ExprPartSort, Make};
 use crate::source::{Failed, Source};
 use crate::{own, part};
 use swc_ecma_codegen_tree::{
-    AssignTarget, Expr, ExprPart, Holds, MemberExpr, ObjectLit, OptCall, Pat, PropName, Tpl,
+    AssignTarget, BlockStmt, Expr, ExprPart, Holds, MemberExpr, ObjectLit, OptCall, Pat, PropName,
+    Tpl,
 };
 
 /// An expression, and all that lies below it.
@@ -66,7 +67,14 @@ fn assign_target<N: Holds<ExprPart<N>> + Drop, S: Source, M: Make<N>>(
     part!(AssignTarget in ExprPart, source, make)
 }
 
-/// A part of an expression, or a pattern, by its sort, and all that lies below it.
+fn block_stmt<N: Holds<ExprPart<N>> + Drop, S: Source, M: Make<N>>(
+    source: &mut S,
+    make: &M,
+) -> Result<N, Failed> {
+    part!(BlockStmt in ExprPart, source, make)
+}
+
+/// A part of an expression, a pattern or a block, by its sort, and all that lies below it.
 pub fn read_expr_part<N: Holds<ExprPart<N>> + Drop, S: Source, M: Make<N>>(
     sort: ExprPartSort,
     source: &mut S,
@@ -79,5 +87,6 @@ pub fn read_expr_part<N: Holds<ExprPart<N>> + Drop, S: Source, M: Make<N>>(
         ExprPartSort::PropName => prop_name(source, make),
         ExprPartSort::OptCall => opt_call(source, make),
         ExprPartSort::AssignTarget => assign_target(source, make),
+        ExprPartSort::BlockStmt => block_stmt(source, make),
     }
 }

@@ -79,7 +79,7 @@ impl ReadSort for ToClass {
 }
 
 impl ReadSort for ToBlockStmt {
-    const SORT: Sort = Sort::StmtPart(StmtPartSort::BlockStmt);
+    const SORT: Sort = Sort::ExprPart(ExprPartSort::BlockStmt);
 }
 
 impl ReadSort for ToDecl {

@@ -17,7 +17,7 @@ pub enum Sort {
     TsPart(TsPartSort),
 }
 
-/// The sorts of patterns and of parts of expressions.
+/// The sorts of patterns, of parts of expressions, and of blocks.
 #[derive(Debug, Clone, Copy, PartialEq, Eq)]
 pub enum ExprPartSort {
     Pat,
@@ -26,6 +26,7 @@ pub enum ExprPartSort {
     PropName,
     OptCall,
     AssignTarget,
+    BlockStmt,
 }
 
 /// The sorts of parts of statements, of declarations, classes and modules.
@@ -33,7 +34,6 @@ pub enum ExprPartSort {
 pub enum StmtPartSort {
     Function,
     Class,
-    BlockStmt,
     Decl,
     ModuleDecl,
     VarDecl,

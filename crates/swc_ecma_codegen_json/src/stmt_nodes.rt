@@ -5,8 +5,7 @@ use crate::reading::{Make, StmtPartSort, read};
 use crate::source::{Failed, Source};
 use crate::{own, part};
 use swc_ecma_codegen_tree::{
-    BlockStmt, Class, ClassMember, Decl, Function, Holds, ModuleDecl, Program, Stmt, StmtPart,
-    VarDecl,
+    Class, ClassMember, Decl, Function, Holds, ModuleDecl, Program, Stmt, StmtPart, VarDecl,
 };
 
 /// A statement, and all that lies below it.
@@ -29,13 +28,6 @@ fn class<N: Holds<StmtPart<N>> + Drop, S: Source, M: Make<N>>(
     make: &M,
 ) -> Result<N, Failed> {
     part!(Class in StmtPart, source, make)
-}
-
-fn block_stmt<N: Holds<StmtPart<N>> + Drop, S: Source, M: Make<N>>(
-    source: &mut S,
-    make: &M,
-) -> Result<N, Failed> {
-    part!(BlockStmt in StmtPart, source, make)
 }
 
 fn decl<N: Holds<StmtPart<N>> + Drop, S: Source, M: Make<N>>(
@@ -75,7 +67,6 @@ pub fn read_stmt_part<N: Holds<StmtPart<N>> + Drop, S: Source, M: Make<N>>(
     match sort {
         StmtPartSort::Function => function(source, make),
         StmtPartSort::Class => class(source, make),
-        StmtPartSort::BlockStmt => block_stmt(source, make),
         StmtPartSort::Decl => decl(source, make),
         StmtPartSort::ModuleDecl => module_decl(source, make),
         StmtPartSort::VarDecl => var_decl(source, make),

@@ -65,6 +65,7 @@ use Rattle.swc_ecma_codegen_ast.specs.CallPhrases as call_lists
 use Rattle.swc_ecma_codegen_ast.specs.PartPhrases as part_lists
 use Rattle.swc_ecma_codegen_ast.specs.DeclPhrases as decl_lists
 use Rattle.swc_ecma_codegen_ast.specs.FunctionPhrases as function_lists
+use Rattle.swc_ecma_codegen_ast.specs.BodyPhrases as body_lists
 use Rattle.swc_ecma_codegen_ast.specs.PatPhrases as pat_lists
 use Rattle.swc_ecma_codegen_ast.specs.KeyPhrases as key_lists
 use Rattle.swc_ecma_codegen_ast.specs.PropPhrases as prop_lists
@@ -454,19 +455,20 @@ prop_name_begins reads (prop_names.BigInt n) = begins_where _ _ _ (begins_signed
 prop_name_begins reads (prop_names.Computed n) = begins_then _ _ _ (begins_mark _ false)
 
 part_begins : {X : Type 0} (reads : X → Role → Phrase) (starts : X → Bool) → Begin reads starts → (n : ExprPart X) (role : Role) → leads role ≡ true → Begins (part_lists.expr_part reads n role) (begins_as role (expr_part_starts starts n))
-unfolding leads begins_as part_lists.expr_part expr_part_starts prop_lists.object_lit call_lists.chain_call template_lists.tpl
+unfolding leads begins_as part_lists.expr_part expr_part_starts stmt_lists.block_stmt prop_lists.object_lit call_lists.chain_call template_lists.tpl
 part_begins reads starts law (expr_parts.Pat n) Pattern h = pat_begins reads starts law n
 part_begins reads starts law (expr_parts.Pat n) PlainParameter h = plain_parameter_begins starts n
 part_begins reads starts law (expr_parts.ObjectLit n) ObjectLiteral h = begins_then _ _ _ (begins_mark _ false)
 part_begins reads starts law (expr_parts.PropName n) PropertyName h = prop_name_begins reads n
 part_begins reads starts law (expr_parts.OptCall n) (ChainCall optional) h = unless_begins (is_some n.type_args) _ _ (begins_then _ _ _ (law n.callee.node.value IsCallee refl))
 part_begins reads starts law (expr_parts.AssignTarget n) AssignmentTarget h = target_begins reads starts law n
+part_begins reads starts law (expr_parts.BlockStmt n) Block h = begins_then _ _ _ (begins_mark _ false)
 part_begins reads starts law (expr_parts.Tpl n) Template h = tpl_begins reads (template_lists.is_counted n.exprs.items n.quasis.items) false n.exprs.items n.quasis.items
 part_begins reads starts law (expr_parts.Tpl n) TaggedTemplate h = tpl_begins reads (template_lists.is_counted n.exprs.items n.quasis.items) true n.exprs.items n.quasis.items
 part_begins reads starts law n role h = begins_never _
 
 stmt_part_begins : {X : Type 0} (reads : X → Role → Phrase) (starts : X → Bool) → Begin reads starts → (n : StmtPart X) (role : Role) → leads role ≡ true → Begins (part_lists.stmt_part reads n role) (begins_as role (stmt_part_starts n))
-unfolding leads begins_as part_lists.stmt_part stmt_part_starts function_lists.function function_lists.function_head stmt_lists.block_stmt
+unfolding leads begins_as part_lists.stmt_part stmt_part_starts body_lists.function function_lists.function_head
 stmt_part_begins reads starts law (stmt_parts.Function n) Function h = function_begins (is_some n.value.type_params || (is_some n.value.return_type || function_lists.is_some_listed n.value.decorators.items)) _
 stmt_part_begins reads starts law (stmt_parts.Function n) FunctionHead h = function_head_begins n.value n.value.is_async _
 stmt_part_begins reads starts law (stmt_parts.Function n) MethodHead h = absurd (true≢false (sym h))
@@ -479,7 +481,6 @@ stmt_part_begins reads starts law (stmt_parts.ModuleDecl n) ModuleDeclaration h 
 stmt_part_begins reads starts law (stmt_parts.Class n) ClassHead h = absurd (true≢false (sym h))
 stmt_part_begins reads starts law (stmt_parts.Class n) ClassTail h = absurd (true≢false (sym h))
 stmt_part_begins reads starts law (stmt_parts.ClassMember n) Member h = absurd (true≢false (sym h))
-stmt_part_begins reads starts law (stmt_parts.BlockStmt n) Block h = begins_then _ _ _ (begins_mark _ false)
 stmt_part_begins reads starts law (stmt_parts.Decl n) Declaration h = decl_begins reads starts law n
 stmt_part_begins reads starts law (stmt_parts.VarDecl n) VariableDeclaration h = var_decl_begins reads n
 stmt_part_begins reads starts law n role h = begins_never _

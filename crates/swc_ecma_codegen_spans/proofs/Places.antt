@@ -225,8 +225,8 @@ tpl_known : (n : Tpl AnyNode) → node_span (λ known. known) (known_of (nodes.E
 unfolding node_span known_of expr_part_span
 tpl_known n = refl
 
-block_stmt_known : (n : BlockStmt AnyNode) → node_span (λ known. known) (known_of (nodes.StmtPart (stmt_parts.BlockStmt n))) ≡ n.span
-unfolding node_span known_of stmt_part_span
+block_stmt_known : (n : BlockStmt AnyNode) → node_span (λ known. known) (known_of (nodes.ExprPart (expr_parts.BlockStmt n))) ≡ n.span
+unfolding node_span known_of expr_part_span
 block_stmt_known n = refl
 
 module_decl_known : (b : (Box (ModuleDecl AnyNode) Global)) (n : ModuleDecl AnyNode) → node_span (λ known. known) (known_of (nodes.StmtPart (stmt_parts.ModuleDecl (with_value b n)))) ≡ module_decl_span n
@@ -337,12 +337,12 @@ expr_part_known (expr_parts.ObjectLit n) = object_lit_known n
 expr_part_known (expr_parts.PropName n) = prop_name_known n
 expr_part_known (expr_parts.OptCall n) = opt_call_known n
 expr_part_known (expr_parts.AssignTarget n) = assign_target_known n
+expr_part_known (expr_parts.BlockStmt n) = block_stmt_known n
 
 stmt_part_known : (n : StmtPart AnyNode) → node_span (λ known. known) (known_of (nodes.StmtPart n)) ≡ stmt_part_span any_span n
 unfolding node_span known_of stmt_part_span
 stmt_part_known (stmt_parts.Function n) = function_known n n.value
 stmt_part_known (stmt_parts.Class n) = class_known n n.value
-stmt_part_known (stmt_parts.BlockStmt n) = block_stmt_known n
 stmt_part_known (stmt_parts.Decl n) = decl_known n
 stmt_part_known (stmt_parts.ModuleDecl n) = module_decl_known n n.value
 stmt_part_known (stmt_parts.VarDecl n) = var_decl_known n

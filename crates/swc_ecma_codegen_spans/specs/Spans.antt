@@ -532,11 +532,11 @@ expr_part_span f (expr_parts.ObjectLit n) = n.span
 expr_part_span f (expr_parts.PropName n) = prop_name_span n
 expr_part_span f (expr_parts.OptCall n) = n.span
 expr_part_span f (expr_parts.AssignTarget n) = assign_target_span f n
+expr_part_span f (expr_parts.BlockStmt n) = n.span
 
 unfoldable pub stmt_part_span : {X : Type 0} → (X → Span) → StmtPart X → Span
 stmt_part_span f (stmt_parts.Function n) = n.value.span
 stmt_part_span f (stmt_parts.Class n) = n.value.span
-stmt_part_span f (stmt_parts.BlockStmt n) = n.span
 stmt_part_span f (stmt_parts.Decl n) = decl_span f n
 stmt_part_span f (stmt_parts.ModuleDecl n) = module_decl_span n.value
 stmt_part_span f (stmt_parts.VarDecl n) = n.span

@@ -26,6 +26,7 @@ impl<N: Spanned> Spanned for ExprPart<N> {
             ExprPart::PropName(node) => node.span(),
             ExprPart::OptCall(node) => node.span(),
             ExprPart::AssignTarget(node) => node.span(),
+            ExprPart::BlockStmt(node) => node.span(),
         }
     }
 }
@@ -38,7 +39,6 @@ impl<N: Spanned> Spanned for StmtPart<N> {
         match self {
             StmtPart::Function(node) => node.span(),
             StmtPart::Class(node) => node.span(),
-            StmtPart::BlockStmt(node) => node.span(),
             StmtPart::Decl(node) => node.span(),
             StmtPart::ModuleDecl(node) => node.span(),
             StmtPart::VarDecl(node) => node.span(),

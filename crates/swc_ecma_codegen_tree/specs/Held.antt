@@ -80,6 +80,10 @@ abbrev pub assign_target_in : {N : Type 0} → ExprPart N → Option (AssignTarg
 assign_target_in (expr_parts.AssignTarget n) = Some n
 assign_target_in _ = None
 
+abbrev pub block_stmt_in : {N : Type 0} → ExprPart N → Option (BlockStmt N)
+block_stmt_in (expr_parts.BlockStmt n) = Some n
+block_stmt_in _ = None
+
 -- the part of a statement, where it is of one sort
 abbrev pub function_in : {N : Type 0} → StmtPart N → Option (Function N)
 function_in (stmt_parts.Function n) = Some n.value
@@ -88,10 +92,6 @@ function_in _ = None
 abbrev pub class_in : {N : Type 0} → StmtPart N → Option (Class N)
 class_in (stmt_parts.Class n) = Some n.value
 class_in _ = None
-
-abbrev pub block_stmt_in : {N : Type 0} → StmtPart N → Option (BlockStmt N)
-block_stmt_in (stmt_parts.BlockStmt n) = Some n
-block_stmt_in _ = None
 
 abbrev pub decl_in : {N : Type 0} → StmtPart N → Option (Decl N)
 decl_in (stmt_parts.Decl n) = Some n

@@ -3,7 +3,8 @@
 use crate::idents::Ident;
 use crate::links::AnyNode;
 use crate::pats::Pat;
-use crate::sorts::{BlockStmtBox, ClassBox, ExprBox, FunctionBox, TsTypeAnnBox, TsTypeParamDeclBox};
+use crate::sorts::{ClassBox, ExprBox, FunctionBox, TsTypeAnnBox, TsTypeParamDeclBox};
+use crate::stmts::BlockStmt;
 use crate::ts_decls::{TsEnumDecl, TsInterfaceDecl, TsModuleDecl, TsTypeAliasDecl};
 use swc_ecma_codegen_common::Span;
 
@@ -104,7 +105,7 @@ pub struct Function<N = AnyNode> {
     /// `@a` of the method `@a b() {}`. A proposal.
     pub decorators: Vec<Decorator<N>>,
     /// `{ a; }` of `function f() { a; }`, or none of TypeScript's `function f();`.
-    pub body: Option<BlockStmtBox<N>>,
+    pub body: Option<BlockStmt<N>>,
     /// Whether it is a generator, `function* f() {}`.
     pub is_generator: bool,
     /// Whether it is asynchronous, `async function f() {}`.

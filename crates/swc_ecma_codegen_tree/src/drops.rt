@@ -124,6 +124,7 @@ pub(crate) fn let_expr_part_go<N: Drop>(node: ExprPart<N>) {
         ExprPart::PropName(node) => let_go_apart(node),
         ExprPart::OptCall(node) => let_go_apart(node),
         ExprPart::AssignTarget(node) => let_go_apart(node),
+        ExprPart::BlockStmt(node) => let_go_apart(node),
     }
 }
 
@@ -132,7 +133,6 @@ pub(crate) fn let_stmt_part_go<N: Drop>(node: StmtPart<N>) {
     match node {
         StmtPart::Function(node) => let_go_apart(node),
         StmtPart::Class(node) => let_go_apart(node),
-        StmtPart::BlockStmt(node) => let_go_apart(node),
         StmtPart::Decl(node) => let_go_apart(node),
         StmtPart::ModuleDecl(node) => let_go_apart(node),
         StmtPart::VarDecl(node) => let_go_apart(node),

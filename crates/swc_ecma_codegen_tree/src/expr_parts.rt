@@ -1,11 +1,12 @@
 //! How `ExprPart` holds its sorts.
 
-ghost use Rattle.swc_ecma_codegen_tree.specs.Held.{pat_in, tpl_in, object_lit_in, prop_name_in, opt_call_in, assign_target_in};
+ghost use Rattle.swc_ecma_codegen_tree.specs.Held.{pat_in, tpl_in, object_lit_in, prop_name_in, opt_call_in, assign_target_in, block_stmt_in};
 
 use crate::exprs::{ObjectLit, OptCall, PropName, Tpl};
 use crate::holds::Holds;
 use crate::parts::ExprPart;
 use crate::pats::{AssignTarget, Pat};
+use crate::stmts::BlockStmt;
 use std::alloc::{AllocError, Global};
 
 impl<N: Drop> Holds<Pat<N>> for ExprPart<N> {
@@ -135,6 +136,28 @@ impl<N: Drop> Holds<AssignTarget<N>> for ExprPart<N> {
     fn into_node(self) -> Result<AssignTarget<N>, ExprPart<N>> {
         match self {
             ExprPart::AssignTarget(node) => Ok(node),
+            other => Err(other),
+        }
+    }
+}
+
+impl<N: Drop> Holds<BlockStmt<N>> for ExprPart<N> {
+    ghost node_in = { block_stmt_in };
+
+    fn hold(_: Global, node: BlockStmt<N>) -> Result<ExprPart<N>, AllocError> {
+        Ok(ExprPart::BlockStmt(node))
+    }
+
+    fn node(&self) -> Option<&BlockStmt<N>> {
+        match self {
+            ExprPart::BlockStmt(node) => Some(node),
+            _ => None,
+        }
+    }
+
+    fn into_node(self) -> Result<BlockStmt<N>, ExprPart<N>> {
+        match self {
+            ExprPart::BlockStmt(node) => Ok(node),
             other => Err(other),
         }
     }

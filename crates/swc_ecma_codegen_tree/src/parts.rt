@@ -16,7 +16,7 @@ use crate::ts_types::{
     TsEntityName, TsFnParam, TsType, TsTypeAnn, TsTypeParamDecl, TsTypeParamInstantiation,
 };
 
-/// A part of an expression or a pattern that a link can hold.
+/// A part of an expression or a pattern that a link can hold, and a block, as that of an arrow function.
 #[derive(Drop)]
 pub enum ExprPart<N = AnyNode> {
     Pat(Pat<N>),
@@ -25,6 +25,7 @@ pub enum ExprPart<N = AnyNode> {
     PropName(PropName<N>),
     OptCall(OptCall<N>),
     AssignTarget(AssignTarget<N>),
+    BlockStmt(BlockStmt<N>),
 }
 
 /// A part of a statement, a declaration, a class or a module that a link can hold.
@@ -32,7 +33,6 @@ pub enum ExprPart<N = AnyNode> {
 pub enum StmtPart<N = AnyNode> {
     Function(Box<Function<N>>),
     Class(Box<Class<N>>),
-    BlockStmt(BlockStmt<N>),
     Decl(Decl<N>),
     ModuleDecl(Box<ModuleDecl<N>>),
     VarDecl(VarDecl<N>),

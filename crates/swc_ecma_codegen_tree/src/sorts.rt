@@ -220,7 +220,7 @@ pub enum ToBlockStmt {}
 impl<N: Drop> LinkSort<N> for ToBlockStmt {
     type Node = BlockStmt<N>;
 
-    type Part = StmtPart<N>;
+    type Part = ExprPart<N>;
 
     ghost linked = { option_and_then block_stmt_in };
 

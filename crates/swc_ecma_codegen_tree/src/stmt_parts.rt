@@ -1,13 +1,12 @@
 //! How `StmtPart` holds its sorts.
 
-ghost use Rattle.swc_ecma_codegen_tree.specs.Held.{function_in, class_in, block_stmt_in, decl_in, module_decl_in, var_decl_in, class_member_in};
+ghost use Rattle.swc_ecma_codegen_tree.specs.Held.{function_in, class_in, decl_in, module_decl_in, var_decl_in, class_member_in};
 
 use crate::classes::{Class, ClassMember};
 use crate::decls::{Decl, Function, VarDecl};
 use crate::holds::Holds;
 use crate::parts::StmtPart;
 use crate::programs::ModuleDecl;
-use crate::stmts::BlockStmt;
 use std::alloc::{AllocError, Global};
 
 impl<N: Drop> Holds<Function<N>> for StmtPart<N> {
@@ -49,28 +48,6 @@ impl<N: Drop> Holds<Class<N>> for StmtPart<N> {
     fn into_node(self) -> Result<Class<N>, StmtPart<N>> {
         match self {
             StmtPart::Class(node) => Ok(Box::into_inner(node)),
-            other => Err(other),
-        }
-    }
-}
-
-impl<N: Drop> Holds<BlockStmt<N>> for StmtPart<N> {
-    ghost node_in = { block_stmt_in };
-
-    fn hold(_: Global, node: BlockStmt<N>) -> Result<StmtPart<N>, AllocError> {
-        Ok(StmtPart::BlockStmt(node))
-    }
-
-    fn node(&self) -> Option<&BlockStmt<N>> {
-        match self {
-            StmtPart::BlockStmt(node) => Some(node),
-            _ => None,
-        }
-    }
-
-    fn into_node(self) -> Result<BlockStmt<N>, StmtPart<N>> {
-        match self {
-            StmtPart::BlockStmt(node) => Ok(node),
             other => Err(other),
         }
     }

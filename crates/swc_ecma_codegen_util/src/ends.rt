@@ -126,7 +126,7 @@ impl<N: EndsWithAlphaNum> EndsWithAlphaNum for ExprPart<N> {
         match self {
             ExprPart::Pat(node) => node.ends_with_alpha_num(),
             ExprPart::Tpl(_) | ExprPart::ObjectLit(_) | ExprPart::PropName(_) => false,
-            ExprPart::OptCall(_) | ExprPart::AssignTarget(_) => false,
+            ExprPart::OptCall(_) | ExprPart::AssignTarget(_) | ExprPart::BlockStmt(_) => false,
         }
     }
 }
@@ -138,8 +138,8 @@ impl<N: EndsWithAlphaNum> EndsWithAlphaNum for StmtPart<N> {
     fn ends_with_alpha_num(&self) -> bool {
         match self {
             StmtPart::VarDecl(node) => node.ends_with_alpha_num(),
-            StmtPart::Function(_) | StmtPart::Class(_) | StmtPart::BlockStmt(_) => false,
-            StmtPart::Decl(_) | StmtPart::ModuleDecl(_) | StmtPart::ClassMember(_) => false,
+            StmtPart::Function(_) | StmtPart::Class(_) | StmtPart::Decl(_) => false,
+            StmtPart::ModuleDecl(_) | StmtPart::ClassMember(_) => false,
         }
     }
 }

@@ -332,7 +332,7 @@ impl<N: StartsWithAlphaNum> StartsWithAlphaNum for ExprPart<N> {
             ExprPart::PropName(node) => node.starts_with_alpha_num(),
             ExprPart::OptCall(node) => node.starts_with_alpha_num(),
             ExprPart::AssignTarget(node) => node.starts_with_alpha_num(),
-            ExprPart::Tpl(_) | ExprPart::ObjectLit(_) => false,
+            ExprPart::Tpl(_) | ExprPart::ObjectLit(_) | ExprPart::BlockStmt(_) => false,
         }
     }
 }
@@ -344,8 +344,8 @@ impl<N: StartsWithAlphaNum> StartsWithAlphaNum for StmtPart<N> {
     fn starts_with_alpha_num(&self) -> bool {
         match self {
             StmtPart::Decl(node) => node.starts_with_alpha_num(),
-            StmtPart::Function(_) | StmtPart::Class(_) | StmtPart::BlockStmt(_) => false,
-            StmtPart::ModuleDecl(_) | StmtPart::VarDecl(_) | StmtPart::ClassMember(_) => false,
+            StmtPart::Function(_) | StmtPart::Class(_) | StmtPart::ModuleDecl(_) => false,
+            StmtPart::VarDecl(_) | StmtPart::ClassMember(_) => false,
         }
     }
 }
