@@ -26,7 +26,7 @@ use swc_ecma_codegen_laws::{
 use swc_ecma_codegen_spans::Spanned;
 use swc_ecma_codegen_text_writer::{JsWriter, WriteJs};
 use swc_ecma_codegen_tree::{
-    AnyNode, EmptyStmt, ExportSpecifier, Expr, ExprStmt, Holds, MemberExpr, MemberExprBox,
+    AnyNode, EmptyStmt, ExportSpecifier, Expr, ExprStmt, Holds, MemberExpr, MemberExprBox, Module,
     ModuleDecl, ModuleExportName, ModuleItem, Program, Script, Stmt, StmtBox, StmtPart,
 };
 
@@ -112,35 +112,24 @@ pub(crate) trait Tree: Holds<Expr<Self>>
     /// Whether an expression begins with a letter, a digit or the like, by the function that says what this tells.
     fn is_told_to_start_so(expr: &Expr<Self>) -> bool;
 
-    /// Writes a program that is well-formed.
-    fn write_program<W: WriteJs, S: SourceMapper, C: Comments>(
-        tree: &Program<Self>,
+    /// Writes what is well-formed of a tree. It is one function, since a check of each that names `AnyNode` is dear.
+    fn write<W: WriteJs, S: SourceMapper, C: Comments>(
+        whole: Whole<'_, Self>,
         e: &mut Emitter<'_, W, S, C>,
     ) -> Answer;
+}
 
-    /// Writes a script, or a module, itself.
-    fn write_root<W: WriteJs, S: SourceMapper, C: Comments>(
-        tree: &Program<Self>,
-        e: &mut Emitter<'_, W, S, C>,
-    ) -> Answer;
-
-    /// Writes an item that is well-formed.
-    fn write_item<W: WriteJs, S: SourceMapper, C: Comments>(
-        item: &ModuleItem<Self>,
-        e: &mut Emitter<'_, W, S, C>,
-    ) -> Answer;
-
-    /// Writes a statement that is well-formed, by the function that says how it reads.
-    fn write_stmt<W: WriteJs, S: SourceMapper, C: Comments>(
-        stmt: &Stmt<Self>,
-        e: &mut Emitter<'_, W, S, C>,
-    ) -> Answer;
-
-    /// Writes an expression that is well-formed, by the function that says how it reads.
-    fn write_expr<W: WriteJs, S: SourceMapper, C: Comments>(
-        expr: &Expr<Self>,
-        e: &mut Emitter<'_, W, S, C>,
-    ) -> Answer;
+/// What has a call of its own that writes it.
+#[derive(Drop)]
+pub(crate) enum Whole<'a, N> {
+    Program(&'a Program<N>),
+    Script(&'a Script<N>),
+    Module(&'a Module<N>),
+    Item(&'a ModuleItem<N>),
+    /// Written by the function that says how it reads.
+    Stmt(&'a Stmt<N>),
+    /// The same.
+    Expr(&'a Expr<N>),
 }
 
 impl Tree for AnyNode {
@@ -152,54 +141,19 @@ impl Tree for AnyNode {
         first_token_is_told(expr)
     }
 
-    fn write_program<W: WriteJs, S: SourceMapper, C: Comments>(
-        tree: &Program,
+    fn write<W: WriteJs, S: SourceMapper, C: Comments>(
+        whole: Whole<'_, AnyNode>,
         e: &mut Emitter<'_, W, S, C>,
     ) -> Answer {
-        if is_well_formed(tree) {
-            e.emit_program(tree)?;
+        match whole {
+            Whole::Program(tree) if is_well_formed(tree) => e.emit_program(tree),
+            Whole::Script(script) => e.emit_script(script),
+            Whole::Module(module) => e.emit_module(module),
+            Whole::Item(item) if is_well_formed_item(item) => e.emit_module_item(item),
+            Whole::Stmt(stmt) if is_well_formed_stmt(stmt) => emitted_stmt_reads(stmt, e),
+            Whole::Expr(expr) if is_well_formed_expr(expr) => emitted_expr_reads(expr, e),
+            _ => Ok(()),
         }
-        Ok(())
-    }
-
-    fn write_root<W: WriteJs, S: SourceMapper, C: Comments>(
-        tree: &Program,
-        e: &mut Emitter<'_, W, S, C>,
-    ) -> Answer {
-        match tree {
-            Program::Script(script) => e.emit_script(script),
-            Program::Module(module) => e.emit_module(module),
-        }
-    }
-
-    fn write_item<W: WriteJs, S: SourceMapper, C: Comments>(
-        item: &ModuleItem,
-        e: &mut Emitter<'_, W, S, C>,
-    ) -> Answer {
-        if is_well_formed_item(item) {
-            e.emit_module_item(item)?;
-        }
-        Ok(())
-    }
-
-    fn write_stmt<W: WriteJs, S: SourceMapper, C: Comments>(
-        stmt: &Stmt,
-        e: &mut Emitter<'_, W, S, C>,
-    ) -> Answer {
-        if is_well_formed_stmt(stmt) {
-            emitted_stmt_reads(stmt, e)?;
-        }
-        Ok(())
-    }
-
-    fn write_expr<W: WriteJs, S: SourceMapper, C: Comments>(
-        expr: &Expr,
-        e: &mut Emitter<'_, W, S, C>,
-    ) -> Answer {
-        if is_well_formed_expr(expr) {
-            emitted_expr_reads(expr, e)?;
-        }
-        Ok(())
     }
 }
 
@@ -229,9 +183,20 @@ fn write_whole<N: Tree, W: WriteJs, S: SourceMapper, C: Comments>(
     tree: &Program<N>,
     e: &mut Emitter<'_, W, S, C>,
 ) -> Answer {
-    N::write_program(tree, e)?;
-    N::write_root(tree, e)?;
+    N::write(Whole::Program(tree), e)?;
+    write_root(tree, e)?;
     write_first(tree, e)
+}
+
+/// Writes a script, or a module, itself.
+fn write_root<N: Tree, W: WriteJs, S: SourceMapper, C: Comments>(
+    tree: &Program<N>,
+    e: &mut Emitter<'_, W, S, C>,
+) -> Answer {
+    match tree {
+        Program::Script(script) => N::write(Whole::Script(script), e),
+        Program::Module(module) => N::write(Whole::Module(module), e),
+    }
 }
 
 /// Writes the first statement of a script, or the first item of a module, and the name that this one exports first.
@@ -241,7 +206,7 @@ fn write_first<N: Tree, W: WriteJs, S: SourceMapper, C: Comments>(
 ) -> Answer {
     match tree {
         Program::Script(script) => match script.body.first() {
-            Some(stmt) => N::write_stmt(stmt, e),
+            Some(stmt) => N::write(Whole::Stmt(stmt), e),
             None => Ok(()),
         },
         Program::Module(module) => match module.body.first() {
@@ -256,7 +221,7 @@ fn write_exporting<N: Tree, W: WriteJs, S: SourceMapper, C: Comments>(
     item: &ModuleItem<N>,
     e: &mut Emitter<'_, W, S, C>,
 ) -> Answer {
-    N::write_item(item, e)?;
+    N::write(Whole::Item(item), e)?;
     match exported_name(item) {
         Some(name) => e.emit_module_export_name(name),
         None => Ok(()),
@@ -279,7 +244,7 @@ fn write_parts<N: Tree, W: WriteJs, S: SourceMapper, C: Comments>(
     boxed: &Box<EmptyStmt>,
     e: &mut Emitter<'_, W, S, C>,
 ) -> Answer {
-    N::write_stmt(stmt, e)?;
+    N::write(Whole::Stmt(stmt), e)?;
     emitted_ref_reads(&stmt, e)?;
     emitted_option_reads(&None::<EmptyStmt>, e)?;
     match stmt {
@@ -352,7 +317,7 @@ fn write_within<N: Tree, W: WriteJs, S: SourceMapper, C: Comments>(
     expr: &Expr<N>,
     e: &mut Emitter<'_, W, S, C>,
 ) -> Answer {
-    N::write_expr(expr, e)?;
+    N::write(Whole::Expr(expr), e)?;
     emitted_option_reads(&Some(EmptyStmt { span: DUMMY_SP }), e)?;
     match expr {
         Expr::Member(node) => node.emit_with(e),
