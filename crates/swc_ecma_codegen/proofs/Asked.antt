@@ -8,6 +8,7 @@ use Rattle.swc_ecma_codegen.specs.FunctionExprs.{parenthesis}
 use Rattle.swc_ecma_codegen_ast.specs.Settings.{is_up_to_es5}
 use Rattle.swc_ecma_codegen_base.specs.Choices.{empty_arguments, loop_ending, attributes_word}
 use Rattle.swc_ecma_codegen_base.proofs.Choices.{ended_same, not_ended_same, assert_same, with_same}
+use Rattle.swc_ecma_codegen_common.specs.declared.positions.BytePos.{BytePos}
 use Rattle.swc_ecma_codegen_common.specs.declared.positions.Span.{Span}
 use Rattle.swc_ecma_codegen.specs.Calls.{parentheses}
 use Rattle.swc_ecma_codegen.specs.Exprs.{expr_closed}
@@ -82,7 +83,12 @@ unfolding expr_closed trailing_comments
 closed_bare true span a = λ rest c k. k
 closed_bare false span a = λ rest c k. k
 
--- they are, unless they are left where they are
+-- nor after a statement
+pub stmt_bare : (pos : BytePos) (a : Standing) → Makes (trailing_comments true pos) a a
+unfolding trailing_comments
+stmt_bare pos a = λ rest c k. k
+
+-- after an expression they are, unless they are left where they are
 pub closed_commented : (left : Bool) (span : Span) (a b : Standing) → left ≡ false → Makes (trailing_comments true span.hi) a b → Makes (expr_closed left span) a b
 unfolding expr_closed
 closed_commented true span a b h k = absurd (true≢false h)

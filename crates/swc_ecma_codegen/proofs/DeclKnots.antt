@@ -1,5 +1,5 @@
 -- What is written of declarations sees what links hold through `asks` and `items` alone.
-use Rattle.std.proofs.Common.{◌≡◌, refl, ◌∙◌, ap, List, [], ◌∷◌, map, codes, Bool, true, false, cond, Some, None, Box, Global}
+use Rattle.std.proofs.Common.{◌≡◌, refl, ◌∙◌, ap, List, [], ◌∷◌, map, codes, Bool, true, false, cond, Some, None}
 use Rattle.swc_ecma_codegen_common.specs.declared.positions.Span.{Span}
 use Rattle.swc_ecma_codegen_tree.specs.declared.links.AnyNode.{map-AnyNode}
 use Rattle.swc_ecma_codegen_tree.specs.declared.links.AnyNode.TheOpen as nodes
@@ -8,14 +8,15 @@ use Rattle.swc_ecma_codegen_tree.specs.declared.decls.Decl.{Decl}
 use Rattle.swc_ecma_codegen_tree.specs.declared.decls.Decl.TheVariants as decls
 use Rattle.swc_ecma_codegen_tree.specs.declared.decls.VarDecl.{VarDecl}
 use Rattle.swc_ecma_codegen_tree.specs.declared.decls.VarDeclarator.{VarDeclarator}
+use Rattle.swc_ecma_codegen_spans.specs.Spans.{class_decl_span, fn_decl_span, decl_span, stmt_part_span, node_span}
 use Rattle.swc_ecma_codegen_ast.proofs.MappedStmts.{by_init}
 use Rattle.swc_ecma_codegen_base.specs.Lists.{ListChild, list}
 use Rattle.swc_ecma_codegen_base.specs.Run.{Plan, Part, refuse}
 use Rattle.swc_ecma_codegen_base.specs.Words.{keyword, semi, space, commit_pending_semi, start_of, leading_comments}
 use Rattle.swc_ecma_codegen.specs.declared.nodes.Place.{Place}
 use Rattle.swc_ecma_codegen.specs.declared.nodes.Place.TheVariants.{Plain}
-use Rattle.swc_ecma_codegen.specs.Answers.{Answers}
-use Rattle.swc_ecma_codegen.specs.Decls.{declarators_format, fn_decl_parts, fn_decl, var_declarator_parts, var_declarator, declarator_place, var_kind, is_unmarked, first_is_unmarked, var_decl_parts, var_decl, await_word, using_decl, without_head, exported_class_parts, exported_class, variables, resources, decl}
+use Rattle.swc_ecma_codegen.specs.Answers.{Answers, place_of}
+use Rattle.swc_ecma_codegen.specs.Decls.{declarators_format, fn_decl_parts, fn_decl, var_declarator_parts, var_declarator, declarator_place, var_kind, is_unmarked, first_is_unmarked, var_decl_parts, var_decl, await_word, using_decl, decl_end, without_head, exported_class_parts, exported_class, variables, resources, decl}
 use Rattle.swc_ecma_codegen.specs.Classes.{class_decl, class_decl_parts}
 use Rattle.swc_ecma_codegen.specs.Exprs.{blank, opened}
 use Rattle.swc_ecma_codegen.specs.Lists.{child_at, child_of, unsupported}
@@ -56,13 +57,15 @@ var_decl_mapped g asks items n place rest = var_by g asks items n n.declare plac
 without_head_same : (place : Place) (p q : Part) → ((rest : Plan) → p rest ≡ q rest) → (rest : Plan) → without_head place p rest ≡ without_head place q rest
 without_head_same place p q h rest = ap (λ z. without_head place z rest) (λ i. λ after. h after i)
 
-decl_by : {X Y : Type 0} (g : X → Y) (asks : Y → Answers) (items : Y → Place → Part) (b : Box (Decl X) Global) (n : Decl X) (place : Place) (rest : Plan) → node_items asks items (map-AnyNode X Y g (nodes.StmtPart (stmt_parts.Decl (record b { value = n })))) place rest ≡ decl (λ x. asks (g x)) (λ x. items (g x)) n place rest
+pub decl_mapped : {X Y : Type 0} (g : X → Y) (asks : Y → Answers) (items : Y → Place → Part) (n : Decl X) (place : Place) (rest : Plan) → node_items asks items (map-AnyNode X Y g (nodes.StmtPart (stmt_parts.Decl n))) place rest ≡ decl (λ x. asks (g x)) (λ x. items (g x)) n place rest
 unfolding node_items expr_part stmt_part decl without_head variables resources exported_class exported_class_parts class_decl class_decl_parts fn_decl fn_decl_parts using_decl var_declarator var_declarator_parts initializer unsupported refuse
-decl_by g asks items b (decls.Fn n) place rest = refl
-decl_by g asks items b (decls.Var n) place rest = refl
-decl_by {X} g asks items b (decls.Using n) place rest = without_head_same place _ _ (λ after. ap (λ z. leading_comments n.span.lo (await_word n.is_await (keyword None (codes "using") (space z))))
+decl_mapped g asks items (decls.Fn n) place rest = refl
+decl_mapped g asks items (decls.Var n) place rest = without_head_same place _ _ (λ after. var_decl_mapped g asks items n place (semi (decl_end place n.span after))) rest
+decl_mapped {X} g asks items (decls.Using n) place rest = without_head_same place _ _ (λ after. ap (λ z. leading_comments n.span.lo (await_word n.is_await (keyword None (codes "using") (space z))))
     (children_mapped {A = VarDeclarator X} _ _ _ (by_init {X = X} _ (λ span name definite. declarator_same span definite _ (pat (λ x. asks (g x)) (λ x. items (g x)) name) (λ after. after) (pat_mapped g asks items name Plain)) (λ span name init definite. declarator_same span definite _ (pat (λ x. asks (g x)) (λ x. items (g x)) name) (initializer (λ x. items (g x)) (Some init)) (pat_mapped g asks items name Plain))) declarators_format n.span n.decls.items (semi after))) rest
-decl_by g asks items b n place rest = refl
+decl_mapped g asks items n place rest = refl
 
-pub decl_mapped : {X Y : Type 0} (g : X → Y) (asks : Y → Answers) (items : Y → Place → Part) (b : Box (Decl X) Global) (place : Place) (rest : Plan) → node_items asks items (map-AnyNode X Y g (nodes.StmtPart (stmt_parts.Decl b))) place rest ≡ decl (λ x. asks (g x)) (λ x. items (g x)) b.value place rest
-decl_mapped g asks items b place rest = decl_by g asks items b b.value place rest
+pub decl_placed : {X Y : Type 0} (g : X → Y) (asks : Y → Answers) (n : Decl X) → node_span (place_of asks) (map-AnyNode X Y g (nodes.StmtPart (stmt_parts.Decl n))) ≡ decl_span (place_of (λ x. asks (g x))) n
+unfolding node_span stmt_part_span decl_span class_decl_span fn_decl_span
+decl_placed g asks (decls.Var n) = refl
+decl_placed g asks n = refl

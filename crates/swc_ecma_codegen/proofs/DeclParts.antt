@@ -28,7 +28,7 @@ use Rattle.swc_ecma_codegen.specs.Decls.{declarators_format, declarator_place}
 use Rattle.swc_ecma_codegen.proofs.ExprParts.{writes_blank, writes_opened, ident_prints}
 use Rattle.swc_ecma_codegen.proofs.ClassParts.{class_decl_prints}
 use Rattle.swc_ecma_codegen.proofs.Impossible.{refused_or}
-use Rattle.swc_ecma_codegen.proofs.Linked.{Linked, var_decl_at}
+use Rattle.swc_ecma_codegen.proofs.Linked.{Linked}
 use Rattle.swc_ecma_codegen.proofs.MarkWords as marks
 use Rattle.swc_ecma_codegen.proofs.PatParts.{initializer_prints, pat_prints}
 use Rattle.swc_ecma_codegen_base.proofs.Shapes.{ended, ended_if_any}
@@ -100,7 +100,7 @@ pub decl_prints : {X : Type 0} (l : Linked X) (n : Decl X) (place : Place) → P
 unfolding words.decl words.without_head words.variables words.resources lists.decl
 decl_prints l (decls.Class n) place = by_prints l.env place _ _ (class_decl_prints l n)
 decl_prints l (decls.Fn n) place = by_prints l.env place _ _ (fn_decl_prints l n)
-decl_prints l (decls.Var n) place = by_prints l.env place _ _ (then (var_decl_at l n) (before (prints_semi l.env) (writes_decl_end l.env (declared place) (l.asks n.node.value).place)))
+decl_prints l (decls.Var n) place = by_prints l.env place _ _ (then (var_decl_prints l n) (before (prints_semi l.env) (writes_decl_end l.env (declared place) n.span)))
 decl_prints l (decls.Using n) place = by_prints l.env place _ _ (then (using_decl_prints l n) (prints_semi l.env))
 decl_prints l n place = prints_never
 
@@ -123,6 +123,6 @@ pub exported_tail_prints : {X : Type 0} (l : Linked X) (n : Decl X) → Prints l
 unfolding words.decl words.without_head words.by_export words.variables words.resources words.decl_end lists.decl module_lists.exported_tail
 exported_tail_prints l (decls.Class n) = exported_class_prints l n
 exported_tail_prints l (decls.Fn n) = fn_decl_prints l n
-exported_tail_prints l (decls.Var n) = then (var_decl_at l n) (before (prints_semi l.env) (writes_position l.env (l.asks n.node.value).place.hi))
+exported_tail_prints l (decls.Var n) = then (var_decl_prints l n) (before (prints_semi l.env) (writes_position l.env n.span.hi))
 exported_tail_prints l (decls.Using n) = prints_never
 exported_tail_prints l n = prints_never

@@ -53,6 +53,7 @@ use Rattle.swc_ecma_codegen_ast.specs.Texts.{is_same, is_among}
 use Rattle.swc_ecma_codegen_ast.specs.Phrases.{Phrase, One, ◌>◌, mark, word}
 use Rattle.swc_ecma_codegen_ast.specs.NamePhrases as names
 use Rattle.swc_ecma_codegen_ast.specs.ExprPhrases as lists
+use Rattle.swc_ecma_codegen_ast.specs.KeyPhrases as keys
 use Rattle.swc_ecma_codegen_ast.specs.CallPhrases.{callee_at}
 use Rattle.swc_ecma_codegen_ast.specs.LitPhrases as lit_lists
 use Rattle.swc_ecma_codegen_ast.specs.declared.roles.Role.TheVariants.{ChainMember, AssignmentTarget, ObjectLiteral, Callee as IsCallee, ChainCall, Template}
@@ -294,8 +295,8 @@ bin_prints l n place =
     (then (binary_op_prints l.env n.op)
     (after (writes_blank l.env (words.after_op n.op (l.asks n.right.node.value))) (expr_at l n.right Plain)))))
 
-pub computed_prints : {X : Type 0} (l : Linked X) (n : ComputedPropName X) → Prints l.env (words.computed_prop_name l.items n) (lists.computed_prop_name l.reads n)
-unfolding words.computed_prop_name lists.computed_prop_name
+pub computed_prints : {X : Type 0} (l : Linked X) (n : ComputedPropName X) → Prints l.env (words.computed_prop_name l.items n) (keys.computed_prop_name l.reads n)
+unfolding words.computed_prop_name keys.computed_prop_name
 computed_prints l n =
     after (writes_position l.env n.span.lo)
     (then (prints_punct l.env (codes "[") opens_is_mark)

@@ -49,8 +49,8 @@ use Rattle.swc_ecma_codegen.proofs.ModuleKnots.{module_decl_mapped}
 use Rattle.swc_ecma_codegen.proofs.ClassKnots.{class_mapped, class_member_mapped}
 use Rattle.swc_ecma_codegen.proofs.StmtKnots.{stmt_mapped}
 use Rattle.swc_ecma_codegen.proofs.FunctionKnots.{function_mapped, block_mapped, arrow_expr_mapped}
-use Rattle.swc_ecma_codegen.proofs.PatKnots.{pat_mapped, target_pat_mapped}
-use Rattle.swc_ecma_codegen.proofs.PropKnots.{prop_name_mapped, object_lit_mapped}
+use Rattle.swc_ecma_codegen.proofs.PatKnots.{prop_name_mapped, pat_mapped, target_pat_mapped}
+use Rattle.swc_ecma_codegen.proofs.PropKnots.{object_lit_mapped}
 use Rattle.swc_ecma_codegen.proofs.TemplateKnots.{tpl_mapped, tagged_tpl_mapped}
 use Rattle.swc_ecma_codegen.proofs.CallKnots.{array_lit_mapped, call_mapped, new_mapped, chain_call_mapped}
 

@@ -2,8 +2,8 @@
 use Rattle.std.proofs.Common.{◌≡◌, false, cond}
 use Rattle.swc_ecma_codegen_ast.specs.Phrases.{Phrase, Never}
 use Rattle.swc_ecma_codegen_ast.specs.declared.roles.Role.{Role}
-use Rattle.swc_ecma_codegen_ast.specs.declared.roles.Role.TheVariants.{Expression, Statement, Pattern, PlainParameter, PropertyName, Block, Declaration, VariableDeclaration, MethodHead, ClassHead, MethodDecorators, Member, ExportedHead, ModuleDeclaration}
-use Rattle.swc_ecma_codegen_tree.specs.Links.{BlockStmtBox, DeclBox, ExprBox, PatBox, PropNameBox, StmtBox, VarDeclBox}
+use Rattle.swc_ecma_codegen_ast.specs.declared.roles.Role.TheVariants.{Expression, Statement, Pattern, PlainParameter, PropertyName, Block, VariableDeclaration, MethodHead, ClassHead, MethodDecorators, Member, ExportedHead, ModuleDeclaration}
+use Rattle.swc_ecma_codegen_tree.specs.Links.{BlockStmtBox, ExprBox, PatBox, PropNameBox, StmtBox, VarDeclBox}
 use Rattle.swc_ecma_codegen_base.specs.Run.{Env, Part}
 use Rattle.swc_ecma_codegen_base.proofs.Phrased.{Prints, PrintsAt}
 use Rattle.swc_ecma_codegen.specs.declared.nodes.Place.{Place}
@@ -52,9 +52,6 @@ prop_name_at l n = l.law n.node.value Plain PropertyName
 
 pub block_at : {X : Type 0} (l : Linked X) (n : BlockStmtBox X) (place : Place) → Prints l.env (l.items n.node.value place) (l.reads n.node.value Block)
 block_at l n place = l.law n.node.value place Block
-
-pub decl_at : {X : Type 0} (l : Linked X) (n : DeclBox X) (place : Place) → Prints l.env (l.items n.node.value (placed Declaration place)) (l.reads n.node.value Declaration)
-decl_at l n place = l.law n.node.value place Declaration
 
 pub var_decl_at : {X : Type 0} (l : Linked X) (n : VarDeclBox X) → PrintsAt ended l.env (l.items n.node.value Plain) (l.reads n.node.value VariableDeclaration)
 var_decl_at l n = l.law n.node.value Plain VariableDeclaration

@@ -1,15 +1,22 @@
--- What is written of names that are bound is what it reads as.
-use Rattle.std.proofs.Common.{Bool, true, false, cond, is_some}
+-- What is written of names that are bound, and of those of properties, is what it reads as.
+use Rattle.std.proofs.Common.{Bool, true, false, cond, is_some, string_bytes}
+use Rattle.swc_ecma_codegen_tree.specs.declared.exprs.PropName.{PropName}
+use Rattle.swc_ecma_codegen_tree.specs.declared.exprs.PropName.TheVariants as prop_names
 use Rattle.swc_ecma_codegen_tree.specs.declared.idents.Ident.{Ident}
 use Rattle.swc_ecma_codegen_tree.specs.declared.idents.BindingIdent.{BindingIdent}
 use Rattle.swc_ecma_codegen_ast.specs.Phrases.{Never}
+use Rattle.swc_ecma_codegen_ast.specs.KeyPhrases as keys
 use Rattle.swc_ecma_codegen_ast.specs.NamePhrases as names
+use Rattle.swc_ecma_codegen_base.proofs.BigPrints.{prints_big_int}
+use Rattle.swc_ecma_codegen_base.proofs.KeyPrints.{prints_key}
+use Rattle.swc_ecma_codegen_base.proofs.NumberPrints.{prints_number}
 use Rattle.swc_ecma_codegen_base.proofs.Phrased.{Prints, prints_never}
+use Rattle.swc_ecma_codegen_base.proofs.StringPrints.{prints_str}
 use Rattle.swc_ecma_codegen.specs.Exprs.{ident}
 use Rattle.swc_ecma_codegen.specs.Lists.{unsupported}
 use Rattle.swc_ecma_codegen.specs.Names as bound
 use Rattle.swc_ecma_codegen.proofs.Linked.{Linked}
-use Rattle.swc_ecma_codegen.proofs.ExprParts.{ident_prints}
+use Rattle.swc_ecma_codegen.proofs.ExprParts.{ident_prints, computed_prints}
 
 binding_case : {X : Type 0} (l : Linked X) (typed : Bool) (id : Ident) → Prints l.env (λ rest. cond typed (unsupported rest) (ident id rest)) (cond typed Never (names.ident id))
 binding_case l true id = prints_never
@@ -18,3 +25,11 @@ binding_case l false id = ident_prints l id
 pub binding_ident_prints : {X : Type 0} (l : Linked X) (n : BindingIdent X) → Prints l.env (bound.binding_ident n) (names.binding_ident n)
 unfolding bound.binding_ident names.binding_ident
 binding_ident_prints l n = binding_case l (is_some n.type_ann) n.id
+
+pub prop_name_prints : {X : Type 0} (l : Linked X) (n : PropName X) → Prints l.env (bound.prop_name l.items n) (keys.prop_name l.reads n)
+unfolding bound.prop_name keys.prop_name
+prop_name_prints l (prop_names.Ident n) = prints_key l.env n.span (string_bytes n.sym) l.leaves_out
+prop_name_prints l (prop_names.Str n) = prints_str l.env n.value
+prop_name_prints l (prop_names.Num n) = prints_number l.env n.value
+prop_name_prints l (prop_names.BigInt n) = prints_big_int l.env n.value
+prop_name_prints l (prop_names.Computed n) = computed_prints l n

@@ -20,7 +20,8 @@ use Rattle.swc_ecma_codegen.proofs.FunctionParts.{fn_trailing_prints, head_print
 use Rattle.swc_ecma_codegen.proofs.Linked.{Linked, role_shape}
 use Rattle.swc_ecma_codegen.proofs.ModuleParts.{module_decl_prints}
 use Rattle.swc_ecma_codegen.proofs.PatParts.{pat_prints, plain_prints}
-use Rattle.swc_ecma_codegen.proofs.PropParts.{object_lit_prints, prop_name_prints}
+use Rattle.swc_ecma_codegen.proofs.NameParts.{prop_name_prints}
+use Rattle.swc_ecma_codegen.proofs.PropParts.{object_lit_prints}
 use Rattle.swc_ecma_codegen.proofs.CallParts.{chain_call_prints}
 use Rattle.swc_ecma_codegen.proofs.TemplateParts.{tpl_prints}
 use Rattle.swc_ecma_codegen.proofs.TargetParts.{assign_target_prints}
@@ -49,9 +50,9 @@ stmt_part_prints l (stmt_parts.Class n) place ClassHead = class_head_prints l n.
 stmt_part_prints l (stmt_parts.Class n) place ClassTail = class_tail_prints l n.value
 stmt_part_prints l (stmt_parts.ClassMember n) place Member = class_member_prints l n.value
 stmt_part_prints l (stmt_parts.BlockStmt n) place Block = block_stmt_prints l n place
-stmt_part_prints l (stmt_parts.Decl n) place Declaration = decl_prints l n.value place
-stmt_part_prints l (stmt_parts.Decl n) place ExportedHead = exported_head_prints l n.value
-stmt_part_prints l (stmt_parts.Decl n) place ExportedTail = exported_tail_prints l n.value
+stmt_part_prints l (stmt_parts.Decl n) place Declaration = decl_prints l n place
+stmt_part_prints l (stmt_parts.Decl n) place ExportedHead = exported_head_prints l n
+stmt_part_prints l (stmt_parts.Decl n) place ExportedTail = exported_tail_prints l n
 stmt_part_prints l (stmt_parts.ModuleDecl n) place ModuleDeclaration = module_decl_prints l n.value
 stmt_part_prints l (stmt_parts.VarDecl n) place VariableDeclaration = var_decl_prints l n
 stmt_part_prints l n place role = prints_never

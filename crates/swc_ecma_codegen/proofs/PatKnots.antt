@@ -4,6 +4,8 @@ use Rattle.swc_ecma_codegen_common.specs.declared.positions.Span.{Span}
 use Rattle.swc_ecma_codegen_tree.specs.declared.links.AnyNode.{map-AnyNode}
 use Rattle.swc_ecma_codegen_tree.specs.declared.links.AnyNode.TheOpen as nodes
 use Rattle.swc_ecma_codegen_tree.specs.Links.{PatBox, TsTypeAnnBox}
+use Rattle.swc_ecma_codegen_tree.specs.declared.exprs.PropName.{PropName}
+use Rattle.swc_ecma_codegen_tree.specs.declared.exprs.PropName.TheVariants as prop_names
 use Rattle.swc_ecma_codegen_tree.specs.declared.idents.Ident.{Ident}
 use Rattle.swc_ecma_codegen_tree.specs.declared.parts.ExprPart.TheVariants as expr_parts
 use Rattle.swc_ecma_codegen_tree.specs.declared.pats.Pat.{Pat}
@@ -15,18 +17,19 @@ use Rattle.swc_ecma_codegen_tree.specs.declared.pats.ObjectPatProp.{ObjectPatPro
 use Rattle.swc_ecma_codegen_tree.specs.declared.pats.AssignTarget.TheVariants as targets
 use Rattle.swc_ecma_codegen_tree.specs.declared.pats.AssignTargetPat.{AssignTargetPat}
 use Rattle.swc_ecma_codegen_tree.specs.declared.pats.AssignTargetPat.TheVariants as target_pats
-use Rattle.swc_ecma_codegen_spans.specs.Spans.{option_span, pat_span, binding_ident_span, object_pat_prop_span, key_value_pat_prop_span}
+use Rattle.swc_ecma_codegen_spans.specs.Spans.{between, option_span, pat_span, prop_name_span, binding_ident_span, object_pat_prop_span, key_value_pat_prop_span, expr_part_span, node_span}
 use Rattle.swc_ecma_codegen_ast.specs.ElementPhrases.{last_is_hole}
 use Rattle.swc_ecma_codegen_ast.proofs.Mapped.{list_mapped, hole_mapped}
 use Rattle.swc_ecma_codegen_ast.proofs.MappedPats.{by_cases}
 use Rattle.swc_ecma_codegen_base.specs.Run.{Plan, Part, refuse}
 use Rattle.swc_ecma_codegen_base.specs.Lists.{ListChild, list}
-use Rattle.swc_ecma_codegen_base.specs.Words.{punct}
+use Rattle.swc_ecma_codegen_base.specs.Words.{punct, formatting_space, end_of}
 use Rattle.swc_ecma_codegen.specs.declared.nodes.Place.{Place}
-use Rattle.swc_ecma_codegen.specs.Answers.{Answers}
-use Rattle.swc_ecma_codegen.specs.Exprs.{opened}
+use Rattle.swc_ecma_codegen.specs.declared.nodes.Place.TheVariants.{Plain}
+use Rattle.swc_ecma_codegen.specs.Answers.{Answers, place_of}
+use Rattle.swc_ecma_codegen.specs.Exprs.{opened, computed_prop_name}
 use Rattle.swc_ecma_codegen.specs.Lists.{child_at, child_of, if_some_at, unsupported}
-use Rattle.swc_ecma_codegen.specs.Names.{binding_ident}
+use Rattle.swc_ecma_codegen.specs.Names.{binding_ident, prop_name}
 use Rattle.swc_ecma_codegen.specs.Pats.{pat_place, pat_items, initializer, array_pat_format, array_pat_parts, array_pat, rest_pat_parts, rest_pat, assign_pat, key_value_pat_prop, assign_pat_prop, object_pat_prop, object_pat_format, object_pat_parts, object_pat, pat_parts, pat, assign_target_pat}
 use Rattle.swc_ecma_codegen.specs.Parts.{expr_part}
 use Rattle.swc_ecma_codegen.specs.Patterns.{name_kind, pat_kind, part_pattern, node_pattern}
@@ -52,6 +55,32 @@ child_same p q a b e h = λ i. child_at (e i) (λ rest. h rest i)
 pub children_mapped : {A B : Type 0} (g : A → B) (e : B → ListChild) (d : A → ListChild) → ((x : A) → e (g x) ≡ d x) → (format : ℕ) (parent : Span) (xs : List A) (after : Plan) → list format parent (map e (map g xs)) after ≡ list format parent (map d xs) after
 children_mapped g e d same format parent xs after = ap (λ cs. list format parent cs after) (list_mapped g e d same xs)
 
+-- ---- names of properties
+
+pub prop_name_mapped : {X Y : Type 0} (g : X → Y) (asks : Y → Answers) (items : Y → Place → Part) (n : PropName X) (place : Place) (rest : Plan) → node_items asks items (map-AnyNode X Y g (nodes.ExprPart (expr_parts.PropName n))) place rest ≡ prop_name (λ x. items (g x)) n rest
+unfolding node_items expr_part prop_name computed_prop_name
+prop_name_mapped g asks items (prop_names.Ident n) place rest = refl
+prop_name_mapped g asks items (prop_names.Str n) place rest = refl
+prop_name_mapped g asks items (prop_names.Num n) place rest = refl
+prop_name_mapped g asks items (prop_names.BigInt n) place rest = refl
+prop_name_mapped g asks items (prop_names.Computed n) place rest = refl
+
+-- where it stands
+pub prop_name_placed : {X Y : Type 0} (g : X → Y) (asks : Y → Answers) (n : PropName X) → node_span (place_of asks) (map-AnyNode X Y g (nodes.ExprPart (expr_parts.PropName n))) ≡ prop_name_span n
+unfolding node_span expr_part_span prop_name_span
+prop_name_placed g asks (prop_names.Ident n) = refl
+prop_name_placed g asks (prop_names.Str n) = refl
+prop_name_placed g asks (prop_names.Num n) = refl
+prop_name_placed g asks (prop_names.BigInt n) = refl
+prop_name_placed g asks (prop_names.Computed n) = refl
+
+-- `a: b`, by its parts
+abbrev key_value_child : (name value : Span) → Part → Part → ListChild
+key_value_child name value p v = child_at (between name value) (λ rest. opened name (p (punct (codes ":") (formatting_space (v (end_of value rest))))))
+
+key_value_same : (name other value : Span) (p q v : Part) → name ≡ other → ((rest : Plan) → p rest ≡ q rest) → key_value_child name value p v ≡ key_value_child other value q v
+key_value_same name other value p q v e h = ap (λ z. key_value_child z value p v) e ∙ ap (λ z. key_value_child other value z v) (λ i. λ rest. h rest i)
+
 -- ---- patterns
 
 ident_mapped : {X Y : Type 0} (g : X → Y) (asks : Y → Answers) (items : Y → Place → Part) (id : Ident) (type_ann : Option (TsTypeAnnBox X)) (place : Place) (rest : Plan) → node_items asks items (map-AnyNode X Y g (nodes.ExprPart (expr_parts.Pat (pats.Ident (record { id = id; type_ann = type_ann }))))) place rest ≡ pat {X = X} (λ x. asks (g x)) (λ x. items (g x)) (pats.Ident (record { id = id; type_ann = type_ann })) rest
@@ -71,12 +100,12 @@ rest_mapped g asks items n None place rest = refl
 rest_mapped g asks items n (Some t) place rest = refl
 
 object_mapped : {X Y : Type 0} (g : X → Y) (asks : Y → Answers) (items : Y → Place → Part) (n : ObjectPat X) (optional : Bool) (type_ann : Option (TsTypeAnnBox X)) (place : Place) (rest : Plan) → node_items asks items (map-AnyNode X Y g (nodes.ExprPart (expr_parts.Pat (pats.Object (record n { optional = optional; type_ann = type_ann }))))) place rest ≡ pat (λ x. asks (g x)) (λ x. items (g x)) (pats.Object (record n { optional = optional; type_ann = type_ann })) rest
-unfolding node_items expr_part pat pat_parts pat_span object_pat object_pat_parts object_pat_prop object_pat_prop_span key_value_pat_prop_span key_value_pat_prop assign_pat_prop rest_pat rest_pat_parts initializer binding_ident unsupported refuse
+unfolding node_items node_span expr_part expr_part_span pat pat_parts pat_span object_pat object_pat_parts object_pat_prop object_pat_prop_span key_value_pat_prop_span key_value_pat_prop assign_pat_prop rest_pat rest_pat_parts initializer binding_ident unsupported refuse
 object_mapped g asks items n true type_ann place rest = refl
 object_mapped g asks items n false (Some t) place rest = refl
 object_mapped {X} {Y} g asks items n false None place rest =
     ap (λ z. opened n.span (punct (codes "{") z)) (children_mapped {A = ObjectPatProp X} _ _ _ (by_cases {X = X} _
-    (λ p. refl) (λ span id. refl) (λ span id x. refl) (λ span id t. refl) (λ span id t x. refl) (λ span dots arg. refl) (λ span dots arg t. refl)) object_pat_format n.span n.props.items _)
+    (λ p. key_value_same _ _ (asks (g p.value.node.value)).place _ _ (items (g p.value.node.value) Plain) (prop_name_placed g asks p.key) (prop_name_mapped g asks items p.key Plain)) (λ span id. refl) (λ span id x. refl) (λ span id t. refl) (λ span id t x. refl) (λ span dots arg. refl) (λ span dots arg t. refl)) object_pat_format n.span n.props.items _)
 
 pub pat_mapped : {X Y : Type 0} (g : X → Y) (asks : Y → Answers) (items : Y → Place → Part) (n : Pat X) (place : Place) (rest : Plan) → node_items asks items (map-AnyNode X Y g (nodes.ExprPart (expr_parts.Pat n))) place rest ≡ pat (λ x. asks (g x)) (λ x. items (g x)) n rest
 unfolding node_items expr_part pat pat_parts pat_span assign_pat unsupported refuse
@@ -108,12 +137,12 @@ target_array_mapped g asks items n false (Some t) place rest = refl
 target_array_mapped {X} {Y} g asks items n false None place rest = ap (λ z. opened n.span (punct (codes "[") z)) (elements_mapped {A = PatBox X} {B = PatBox Y} _ _ (pat_place asks) (pat_place (λ x. asks (g x))) (pat_items items) (pat_items (λ x. items (g x))) refl (λ x. refl) (λ x. refl) n.span n.elems.items _)
 
 target_object_mapped : {X Y : Type 0} (g : X → Y) (asks : Y → Answers) (items : Y → Place → Part) (n : ObjectPat X) (optional : Bool) (type_ann : Option (TsTypeAnnBox X)) (place : Place) (rest : Plan) → node_items asks items (map-AnyNode X Y g (nodes.ExprPart (expr_parts.AssignTarget (targets.Pat (target_pats.Object (record n { optional = optional; type_ann = type_ann })))))) place rest ≡ object_pat (λ x. asks (g x)) (λ x. items (g x)) (record n { optional = optional; type_ann = type_ann }) rest
-unfolding node_items expr_part assign_target assign_target_pat object_pat object_pat_parts object_pat_prop object_pat_prop_span key_value_pat_prop_span key_value_pat_prop assign_pat_prop rest_pat rest_pat_parts initializer binding_ident unsupported refuse
+unfolding node_items node_span expr_part expr_part_span assign_target assign_target_pat object_pat object_pat_parts object_pat_prop object_pat_prop_span key_value_pat_prop_span key_value_pat_prop assign_pat_prop rest_pat rest_pat_parts initializer binding_ident unsupported refuse
 target_object_mapped g asks items n true type_ann place rest = refl
 target_object_mapped g asks items n false (Some t) place rest = refl
 target_object_mapped {X} {Y} g asks items n false None place rest =
     ap (λ z. opened n.span (punct (codes "{") z)) (children_mapped {A = ObjectPatProp X} _ _ _ (by_cases {X = X} _
-    (λ p. refl) (λ span id. refl) (λ span id x. refl) (λ span id t. refl) (λ span id t x. refl) (λ span dots arg. refl) (λ span dots arg t. refl)) object_pat_format n.span n.props.items _)
+    (λ p. key_value_same _ _ (asks (g p.value.node.value)).place _ _ (items (g p.value.node.value) Plain) (prop_name_placed g asks p.key) (prop_name_mapped g asks items p.key Plain)) (λ span id. refl) (λ span id x. refl) (λ span id t. refl) (λ span id t x. refl) (λ span dots arg. refl) (λ span dots arg t. refl)) object_pat_format n.span n.props.items _)
 
 pub target_pat_mapped : {X Y : Type 0} (g : X → Y) (asks : Y → Answers) (items : Y → Place → Part) (n : AssignTargetPat X) (place : Place) (rest : Plan) → node_items asks items (map-AnyNode X Y g (nodes.ExprPart (expr_parts.AssignTarget (targets.Pat n)))) place rest ≡ assign_target_pat (λ x. asks (g x)) (λ x. items (g x)) n rest
 unfolding node_items expr_part assign_target assign_target_pat unsupported refuse

@@ -14,7 +14,7 @@ use Rattle.swc_ecma_codegen_tree.specs.declared.pats.KeyValuePatProp.{KeyValuePa
 use Rattle.swc_ecma_codegen_tree.specs.declared.pats.AssignPatProp.{AssignPatProp}
 use Rattle.swc_ecma_codegen_tree.specs.declared.pats.AssignTargetPat.{AssignTargetPat}
 use Rattle.swc_ecma_codegen_tree.specs.declared.pats.AssignTargetPat.TheVariants as target_pats
-use Rattle.swc_ecma_codegen_spans.specs.Spans.{option_span, pat_span, object_pat_prop_span}
+use Rattle.swc_ecma_codegen_spans.specs.Spans.{prop_name_span, option_span, pat_span, object_pat_prop_span}
 use Rattle.swc_ecma_codegen_ast.specs.Phrases.{Phrase, OptionalComma, ◌>◌, mark}
 use Rattle.swc_ecma_codegen_ast.specs.Phrases as phrases
 use Rattle.swc_ecma_codegen_ast.specs.ElementPhrases.{element, last_is_hole, elements_end, trailing_comma}
@@ -32,9 +32,9 @@ use Rattle.swc_ecma_codegen.specs.Pats as words
 use Rattle.swc_ecma_codegen.specs.Pats.{pat_place, pat_items, array_pat_format, object_pat_format}
 use Rattle.swc_ecma_codegen.proofs.ExprParts.{spaced_prints, writes_opened}
 use Rattle.swc_ecma_codegen.proofs.Impossible.{refused_or}
-use Rattle.swc_ecma_codegen.proofs.Linked.{Linked, expr_at, pat_at, prop_name_at}
+use Rattle.swc_ecma_codegen.proofs.Linked.{Linked, expr_at, pat_at}
 use Rattle.swc_ecma_codegen.proofs.MarkWords as marks
-use Rattle.swc_ecma_codegen.proofs.NameParts.{binding_ident_prints}
+use Rattle.swc_ecma_codegen.proofs.NameParts.{binding_ident_prints, prop_name_prints}
 use Rattle.swc_ecma_codegen_base.proofs.Shapes.{open_, loose, closed}
 
 pub initializer_prints : {X : Type 0} (l : Linked X) (n : Option (ExprBox X)) → PrintsAt open_ l.env (words.initializer l.items n) (lists.initializer l.reads n)
@@ -106,8 +106,8 @@ assign_pat_prints l n =
 key_value_prints : {X : Type 0} (l : Linked X) (n : KeyValuePatProp X) → Prints l.env (words.key_value_pat_prop l.asks l.items n) (lists.key_value_pat_prop l.reads n)
 unfolding words.key_value_pat_prop lists.key_value_pat_prop
 key_value_prints l n =
-    after (writes_opened l.env (l.asks n.key.node.value).place)
-    (then (prop_name_at l n.key)
+    after (writes_opened l.env (prop_name_span n.key))
+    (then (prop_name_prints l n.key)
     (then (before (prints_punct l.env (codes ":") marks.colon) (writes_formatting_space l.env))
     (before (pat_at l n.value) (writes_position l.env (l.asks n.value.node.value).place.hi))))
 

@@ -1,5 +1,5 @@
 -- What is written of objects and their properties is what it reads as.
-use Rattle.std.proofs.Common.{refl, ℕ, Bool, true, false, cond, ◌==◌, is_some, List, [], map, codes, string_bytes, Option, Some, None, inl, inr}
+use Rattle.std.proofs.Common.{refl, ℕ, Bool, true, false, cond, ◌==◌, is_some, List, [], map, codes, Option, Some, None, inl, inr}
 use Rattle.std.proofs.lemmas.Bool.{cases_Bool}
 use Rattle.swc_ecma_codegen_common.specs.declared.positions.Span.{Span}
 use Rattle.swc_ecma_codegen_tree.specs.Links.{BlockStmtBox, PropNameBox}
@@ -13,9 +13,7 @@ use Rattle.swc_ecma_codegen_tree.specs.declared.exprs.AssignProp.{AssignProp}
 use Rattle.swc_ecma_codegen_tree.specs.declared.exprs.GetterProp.{GetterProp}
 use Rattle.swc_ecma_codegen_tree.specs.declared.exprs.SetterProp.{SetterProp}
 use Rattle.swc_ecma_codegen_tree.specs.declared.exprs.MethodProp.{MethodProp}
-use Rattle.swc_ecma_codegen_tree.specs.declared.exprs.PropName.{PropName}
-use Rattle.swc_ecma_codegen_tree.specs.declared.exprs.PropName.TheVariants as prop_names
-use Rattle.swc_ecma_codegen_spans.specs.Spans.{prop_or_spread_span}
+use Rattle.swc_ecma_codegen_spans.specs.Spans.{prop_name_span, prop_or_spread_span}
 use Rattle.swc_ecma_codegen_ast.specs.FunctionPhrases.{is_some_listed}
 use Rattle.swc_ecma_codegen_ast.specs.Phrases.{Phrase, ◌>◌, mark, word}
 use Rattle.swc_ecma_codegen_ast.specs.Phrases as phrases
@@ -26,32 +24,21 @@ use Rattle.swc_ecma_codegen_base.specs.Run.{Env, Part, when_minified}
 use Rattle.swc_ecma_codegen_base.specs.Lists.{list}
 use Rattle.swc_ecma_codegen_base.specs.Words.{punct, line_end, position, position_before}
 use Rattle.swc_ecma_codegen_base.specs.Written.{IsWord}
-use Rattle.swc_ecma_codegen_base.proofs.BigPrints.{prints_big_int}
 use Rattle.swc_ecma_codegen_base.proofs.Emitting.{minified_same, pretty_same}
-use Rattle.swc_ecma_codegen_base.proofs.KeyPrints.{prints_key}
 use Rattle.swc_ecma_codegen_base.proofs.ListLaws.{children_of, prints_list, prints_bracketed}
-use Rattle.swc_ecma_codegen_base.proofs.NumberPrints.{prints_number}
 use Rattle.swc_ecma_codegen_base.proofs.Phrased.{Prints, then, after, before, prints_nothing, prints_same, prints_keyword, prints_punct, PrintsAt, prints_wider, loosened}
 use Rattle.swc_ecma_codegen_base.proofs.Printed.{writes_if, writes_nothing, writes_formatting_space, writes_line, writes_position, writes_position_before, Fills}
-use Rattle.swc_ecma_codegen_base.proofs.StringPrints.{prints_str}
 use Rattle.swc_ecma_codegen.specs.declared.nodes.Place.TheVariants.{Plain}
 use Rattle.swc_ecma_codegen.specs.Answers.{place_of}
 use Rattle.swc_ecma_codegen.specs.Props as words
 use Rattle.swc_ecma_codegen.specs.Props.{object_format, flat_object_format}
 use Rattle.swc_ecma_codegen.proofs.BlockParts.{behind_bracket}
-use Rattle.swc_ecma_codegen.proofs.ExprParts.{ident_prints, computed_prints, spread_element_prints, writes_blank, writes_opened}
+use Rattle.swc_ecma_codegen.proofs.ExprParts.{ident_prints, spread_element_prints, writes_blank, writes_opened}
 use Rattle.swc_ecma_codegen.proofs.Impossible.{refused_or}
 use Rattle.swc_ecma_codegen.proofs.Linked.{Linked, expr_at, pat_at, prop_name_at, block_at}
 use Rattle.swc_ecma_codegen.proofs.MarkWords as marks
+use Rattle.swc_ecma_codegen.proofs.NameParts.{prop_name_prints}
 use Rattle.swc_ecma_codegen_base.proofs.Shapes.{open_}
-
-pub prop_name_prints : {X : Type 0} (l : Linked X) (n : PropName X) → Prints l.env (words.prop_name l.items n) (lists.prop_name l.reads n)
-unfolding words.prop_name lists.prop_name
-prop_name_prints l (prop_names.Ident n) = prints_key l.env n.span (string_bytes n.sym) l.leaves_out
-prop_name_prints l (prop_names.Str n) = prints_str l.env n
-prop_name_prints l (prop_names.Num n) = prints_number l.env n.value
-prop_name_prints l (prop_names.BigInt n) = prints_big_int l.env n.value
-prop_name_prints l (prop_names.Computed n) = computed_prints l n
 
 -- ---- properties
 
@@ -66,10 +53,10 @@ writes_value_start env key value = writes_if env (key.lo.0 == 0) (position value
 key_value_prints : {X : Type 0} (l : Linked X) (n : KeyValueProp X) → Prints l.env (words.key_value_prop l.asks l.items n) (lists.key_value_prop l.reads n)
 unfolding words.key_value_prop lists.key_value_prop
 key_value_prints l n =
-    let name : Span = (l.asks n.key.node.value).place in
+    let name : Span = prop_name_span n.key in
     let value : Span = (l.asks n.value.node.value).place in
     after (writes_opened l.env name)
-    (then (prop_name_at l n.key)
+    (then (prop_name_prints l n.key)
     (after (writes_key_end l.env name value)
     (then (before (prints_punct l.env (codes ":") marks.colon) (writes_formatting_space l.env))
     (after (writes_value_start l.env name value) (expr_at l n.value Plain)))))
@@ -116,9 +103,9 @@ setter_prints l n = refused_or (is_some n.this_param) (setter_parts_prints l n)
 method_prints : {X : Type 0} (l : Linked X) (n : MethodProp X) → Prints l.env (words.method_prop l.asks l.items n) (lists.method_prop l.reads n)
 unfolding words.method_prop lists.method_prop
 method_prints l n =
-    after (writes_opened l.env (l.asks n.key.node.value).place)
+    after (writes_opened l.env (prop_name_span n.key))
     (then (l.law n.function.node.value Plain MethodHead)
-    (then (before (prop_name_at l n.key) (writes_formatting_space l.env)) (l.law n.function.node.value Plain Function)))
+    (then (before (prop_name_prints l n.key) (writes_formatting_space l.env)) (l.law n.function.node.value Plain Function)))
 
 prop_prints : {X : Type 0} (l : Linked X) (n : Prop X) → Prints l.env (words.prop l.asks l.items n) (lists.prop l.reads n)
 unfolding words.prop lists.prop

@@ -4,6 +4,8 @@ use Rattle.swc_ecma_codegen_common.specs.declared.positions.Span.{Span}
 use Rattle.swc_ecma_codegen_tree.specs.declared.links.AnyNode.{map-AnyNode}
 use Rattle.swc_ecma_codegen_tree.specs.declared.links.AnyNode.TheOpen as nodes
 use Rattle.swc_ecma_codegen_tree.specs.Links.{BlockStmtBox, ExprBox, PatBox, StmtBox}
+use Rattle.swc_ecma_codegen_tree.specs.declared.parts.StmtPart.TheVariants as stmt_parts
+use Rattle.swc_ecma_codegen_tree.specs.declared.decls.Decl.{Decl}
 use Rattle.swc_ecma_codegen_tree.specs.declared.decls.UsingDecl.{UsingDecl}
 use Rattle.swc_ecma_codegen_tree.specs.declared.decls.VarDeclarator.{VarDeclarator}
 use Rattle.swc_ecma_codegen_tree.specs.declared.stmts.CatchClause.{CatchClause}
@@ -21,7 +23,7 @@ use Rattle.swc_ecma_codegen_tree.specs.declared.stmts.SwitchStmt.{SwitchStmt}
 use Rattle.swc_ecma_codegen_tree.specs.declared.stmts.TryStmt.{TryStmt}
 use Rattle.swc_ecma_codegen_tree.specs.declared.stmts.VarDeclOrExpr.{VarDeclOrExpr}
 use Rattle.swc_ecma_codegen_tree.specs.declared.stmts.VarDeclOrExpr.TheVariants as inits
-use Rattle.swc_ecma_codegen_spans.specs.Spans.{stmt_span, node_span}
+use Rattle.swc_ecma_codegen_spans.specs.Spans.{decl_span, stmt_span, stmt_part_span, node_span}
 use Rattle.swc_ecma_codegen_ast.specs.ListFormats.{leading_line}
 use Rattle.swc_ecma_codegen_ast.specs.SourceLines.{Lines}
 use Rattle.swc_ecma_codegen_ast.proofs.Mapped.{list_mapped}
@@ -32,17 +34,17 @@ use Rattle.swc_ecma_codegen_base.specs.Lists.{ListChild, by_lines, list}
 use Rattle.swc_ecma_codegen_base.specs.Run.{Plan, Part, refuse}
 use Rattle.swc_ecma_codegen_base.specs.Words.{keyword, punct, space, formatting_space, last_of, leading_comments, trailing_comments, formatting_line}
 use Rattle.swc_ecma_codegen.specs.declared.nodes.Place.{Place}
-use Rattle.swc_ecma_codegen.specs.declared.nodes.Place.TheVariants.{Plain}
+use Rattle.swc_ecma_codegen.specs.declared.nodes.Place.TheVariants.{Plain, Statement}
 use Rattle.swc_ecma_codegen.specs.Answers.{Answers, place_of}
 use Rattle.swc_ecma_codegen.specs.Branches.{is_block}
 use Rattle.swc_ecma_codegen.specs.Decls.{declarators_format, var_declarator_parts, var_declarator, await_word, using_decl}
 use Rattle.swc_ecma_codegen.specs.Exprs.{opened}
 use Rattle.swc_ecma_codegen.specs.Lists.{child_at, unsupported}
-use Rattle.swc_ecma_codegen.specs.Parts.{expr_part}
+use Rattle.swc_ecma_codegen.specs.Parts.{expr_part, stmt_part}
 use Rattle.swc_ecma_codegen.specs.Pats.{initializer, pat}
 use Rattle.swc_ecma_codegen.specs.Stmts.{enclosed, spaced, stmt_word, empty_stmt, expr_stmt, debugger_stmt, with_stmt, return_arg, return_stmt, labeled_stmt, break_stmt, continue_stmt, else_branch, if_stmt, catch_param, catch_clause, handler, finalizer, try_stmt, throw_stmt, lines_format, cases_format, case_test, is_single, case_list, switch_case, switch_cases, switch_stmt, while_stmt, loop_test, do_while_stmt, var_decl_or_expr, for_init, for_value, for_clause, for_control, for_stmt, for_head, for_right, for_each, for_in_stmt, for_await, for_of_stmt, stmt_parts, stmt_closed, stmt}
 use Rattle.swc_ecma_codegen.specs.Tree.{node_items}
-use Rattle.swc_ecma_codegen.proofs.DeclKnots.{declarator_child, declarator_same}
+use Rattle.swc_ecma_codegen.proofs.DeclKnots.{declarator_child, declarator_same, decl_mapped, decl_placed}
 use Rattle.swc_ecma_codegen.proofs.PatKnots.{child_same, children_mapped, pat_mapped}
 
 -- the end of a statement that is no block
@@ -142,6 +144,12 @@ for_of_by {X} g asks items n (heads.UsingDecl h) place rest = both_same
     (ends_mapped _ (λ y. (asks y).ends) (λ x. (asks (g x)).ends) (λ x y. refl) (λ x. pat_ends_mapped g (λ y. (asks y).ends) x.name) h.value.decls.items)
 for_of_by g asks items n (heads.Pat h) place rest = refl
 
+decl_by : {X Y : Type 0} (g : X → Y) (asks : Y → Answers) (items : Y → Place → Part) (n : Decl X) (place : Place) (rest : Plan) → node_items asks items (map-AnyNode X Y g (nodes.Stmt (stmts.Decl n))) place rest ≡ stmt (λ x. asks (g x)) (λ x. items (g x)) (stmts.Decl n) rest
+unfolding node_items node_span stmt_part stmt_part_span stmt stmt_parts stmt_closed is_block stmt_span
+decl_by {X} {Y} g asks items n place rest =
+    ap (λ z. node_items asks items (map-AnyNode X Y g (nodes.StmtPart (stmt_parts.Decl n))) Statement (ended z rest)) (decl_placed g asks n)
+    ∙ decl_mapped g asks items n Statement (ended (decl_span (place_of (λ x. asks (g x))) n) rest)
+
 pub stmt_mapped : {X Y : Type 0} (g : X → Y) (asks : Y → Answers) (items : Y → Place → Part) (n : Stmt X) (place : Place) (rest : Plan) → node_items asks items (map-AnyNode X Y g (nodes.Stmt n)) place rest ≡ stmt (λ x. asks (g x)) (λ x. items (g x)) n rest
 unfolding node_items stmt stmt_parts stmt_closed is_block stmt_span empty_stmt expr_stmt debugger_stmt with_stmt labeled_stmt break_stmt continue_stmt throw_stmt while_stmt loop_test do_while_stmt enclosed spaced
 stmt_mapped g asks items (stmts.Return n) place rest = return_by g asks items n n.arg place rest
@@ -151,11 +159,13 @@ stmt_mapped g asks items (stmts.Try n) place rest = try_by g asks items n n.hand
 stmt_mapped g asks items (stmts.For n) place rest = for_by g asks items n n.init n.test n.update place rest
 stmt_mapped g asks items (stmts.ForIn n) place rest = for_in_by g asks items n n.left place rest
 stmt_mapped g asks items (stmts.ForOf n) place rest = for_of_by g asks items n n.left place rest
+stmt_mapped g asks items (stmts.Decl n) place rest = decl_by g asks items n place rest
 stmt_mapped g asks items n place rest = refl
 
 stmt_placed : {X Y : Type 0} (g : X → Y) (asks : Y → Answers) (n : Stmt X) → node_span (place_of asks) (map-AnyNode X Y g (nodes.Stmt n)) ≡ stmt_span (place_of (λ x. asks (g x))) n
-unfolding node_span stmt_span
+unfolding node_span stmt_span stmt_part_span
 stmt_placed g asks (stmts.Block n) = refl
+stmt_placed g asks (stmts.Decl n) = decl_placed g asks n
 stmt_placed g asks n = refl
 
 -- a statement, as a child of a list

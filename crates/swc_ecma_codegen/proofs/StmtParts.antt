@@ -31,8 +31,9 @@ use Rattle.swc_ecma_codegen.specs.declared.nodes.Place.TheVariants.{Plain, State
 use Rattle.swc_ecma_codegen.specs.Answers.{place_of}
 use Rattle.swc_ecma_codegen.specs.Branches.{is_block}
 use Rattle.swc_ecma_codegen.specs.Stmts as words
+use Rattle.swc_ecma_codegen.proofs.DeclParts.{decl_prints}
 use Rattle.swc_ecma_codegen.proofs.ExprParts.{writes_opened, ident_prints}
-use Rattle.swc_ecma_codegen.proofs.Linked.{Linked, expr_at, stmt_at, pat_at, block_at, decl_at}
+use Rattle.swc_ecma_codegen.proofs.Linked.{Linked, expr_at, stmt_at, pat_at, block_at}
 use Rattle.swc_ecma_codegen.proofs.LoopParts.{begun, begun_joined, enclosed_then, spaced_expr, spaced_stmt, switch_prints, while_prints, do_while_prints, for_prints, for_in_prints, for_of_prints}
 use Rattle.swc_ecma_codegen.proofs.MarkWords as marks
 use Rattle.swc_ecma_codegen_base.proofs.Shapes.{open_, ended, loose}
@@ -176,7 +177,7 @@ parts_print l (stmts.DoWhile n) = prints_wider ended refl (do_while_prints l n)
 parts_print l (stmts.For n) = for_prints l n
 parts_print l (stmts.ForIn n) = for_in_prints l n
 parts_print l (stmts.ForOf n) = for_of_prints l n
-parts_print l (stmts.Decl n) = prints_wider ended refl (decl_at l n Statement)
+parts_print l (stmts.Decl n) = prints_wider ended refl (decl_prints l n Statement)
 parts_print l (stmts.Expr n) = prints_wider ended refl (expr_stmt_prints l n)
 
 -- the comments after it, and the end of its line, which a block doesn't end

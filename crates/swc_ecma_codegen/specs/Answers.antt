@@ -8,6 +8,10 @@ use Rattle.swc_ecma_codegen_util.specs.Starts.{any_starts}
 use Rattle.swc_ecma_codegen_util.specs.Ends.{any_ends}
 use Rattle.swc_ecma_codegen.specs.declared.operands.OperandKind.{OperandKind}
 use Rattle.swc_ecma_codegen.specs.declared.patterns.PatternKind.{PatternKind}
+use Rattle.swc_ecma_codegen.specs.declared.nodes.Question.{Question}
+use Rattle.swc_ecma_codegen.specs.declared.nodes.Question.TheVariants as questions
+use Rattle.swc_ecma_codegen.specs.declared.nodes.Reply.{Reply}
+use Rattle.swc_ecma_codegen.specs.declared.nodes.Reply.TheVariants as replies
 use Rattle.swc_ecma_codegen.specs.Operands.{any_kind, any_space}
 use Rattle.swc_ecma_codegen.specs.Branches.{any_block}
 use Rattle.swc_ecma_codegen.specs.Patterns.{any_pattern}
@@ -34,3 +38,13 @@ place_of asks x = (asks x).place
 
 unfoldable pub any_answers : AnyNode → Answers
 any_answers n = record { place = any_span n; starts = any_starts n; ends = any_ends n; kind = any_kind n; space = any_space n; pattern = any_pattern n; block = any_block n }
+
+-- what it answers to a question
+unfoldable pub reply_of : Answers → Question → Reply
+reply_of a questions.Place = replies.Place a.place
+reply_of a questions.Starts = replies.Truth a.starts
+reply_of a questions.Ends = replies.Truth a.ends
+reply_of a questions.Kind = replies.Kind a.kind
+reply_of a (questions.Space op) = replies.Truth (a.space op)
+reply_of a questions.Pattern = replies.Pattern a.pattern
+reply_of a questions.Block = replies.Truth a.block

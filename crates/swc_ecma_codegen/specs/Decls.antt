@@ -10,7 +10,6 @@ use Rattle.swc_ecma_codegen_tree.specs.declared.decls.VarDecl.{VarDecl}
 use Rattle.swc_ecma_codegen_tree.specs.declared.decls.VarDeclKind.{VarDeclKind}
 use Rattle.swc_ecma_codegen_tree.specs.declared.decls.VarDeclKind.TheVariants.{Var, Let, Const}
 use Rattle.swc_ecma_codegen_tree.specs.declared.decls.VarDeclarator.{VarDeclarator}
-use Rattle.swc_ecma_codegen_tree.specs.Links.{VarDeclBox}
 use Rattle.swc_ecma_codegen_base.specs.Run.{Part}
 use Rattle.swc_ecma_codegen_base.specs.Lists.{list}
 use Rattle.swc_ecma_codegen_base.specs.Words.{keyword, semi, space, commit_pending_semi, start_of, end_of, leading_comments}
@@ -113,8 +112,8 @@ unfoldable pub without_head : Place → Part → Part
 without_head place part rest = by_export place (λ after. after) part part rest
 
 -- `let a = b;`
-unfoldable pub variables : {X : Type 0} → (X → Answers) → (X → Place → Part) → VarDeclBox X → Place → Part
-variables asks items n place rest = items n.node.value Plain (semi (decl_end place (asks n.node.value).place rest))
+unfoldable pub variables : {X : Type 0} → (X → Answers) → (X → Place → Part) → VarDecl X → Place → Part
+variables asks items n place rest = var_decl asks items n (semi (decl_end place n.span rest))
 
 -- `using a = b;`
 unfoldable pub resources : {X : Type 0} → (X → Answers) → (X → Place → Part) → UsingDecl X → Part

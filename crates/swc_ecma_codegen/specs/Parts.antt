@@ -13,7 +13,8 @@ use Rattle.swc_ecma_codegen.specs.Functions.{function}
 use Rattle.swc_ecma_codegen.specs.Calls.{chain_call, is_optional}
 use Rattle.swc_ecma_codegen.specs.Modules.{module_decl}
 use Rattle.swc_ecma_codegen.specs.Pats.{pat}
-use Rattle.swc_ecma_codegen.specs.Props.{object_lit, prop_name}
+use Rattle.swc_ecma_codegen.specs.Names.{prop_name}
+use Rattle.swc_ecma_codegen.specs.Props.{object_lit}
 use Rattle.swc_ecma_codegen.specs.Targets.{assign_target}
 use Rattle.swc_ecma_codegen.specs.Templates.{tpl, is_tagged}
 
@@ -30,6 +31,6 @@ stmt_part asks items (stmt_parts.Function n) place rest = function asks items n.
 stmt_part asks items (stmt_parts.Class n) place rest = class asks items n.value place rest
 stmt_part asks items (stmt_parts.ClassMember n) place rest = class_member asks items n.value rest
 stmt_part asks items (stmt_parts.BlockStmt n) place rest = block_stmt asks items n place rest
-stmt_part asks items (stmt_parts.Decl n) place rest = decl asks items n.value place rest
+stmt_part asks items (stmt_parts.Decl n) place rest = decl asks items n place rest
 stmt_part asks items (stmt_parts.ModuleDecl n) place rest = module_decl asks items n.value rest
 stmt_part asks items (stmt_parts.VarDecl n) place rest = var_decl asks items n rest

@@ -14,7 +14,7 @@ use Rattle.swc_ecma_codegen_tree.specs.declared.pats.KeyValuePatProp.{KeyValuePa
 use Rattle.swc_ecma_codegen_tree.specs.declared.pats.AssignPatProp.{AssignPatProp}
 use Rattle.swc_ecma_codegen_tree.specs.declared.pats.AssignTargetPat.{AssignTargetPat}
 use Rattle.swc_ecma_codegen_tree.specs.declared.pats.AssignTargetPat.TheVariants as target_pats
-use Rattle.swc_ecma_codegen_spans.specs.Spans.{option_span, pat_span, object_pat_prop_span}
+use Rattle.swc_ecma_codegen_spans.specs.Spans.{option_span, pat_span, prop_name_span, object_pat_prop_span}
 use Rattle.swc_ecma_codegen_ast.specs.ElementPhrases.{last_is_hole}
 use Rattle.swc_ecma_codegen_base.specs.Run.{Part}
 use Rattle.swc_ecma_codegen_base.specs.Lists.{list}
@@ -24,7 +24,7 @@ use Rattle.swc_ecma_codegen.specs.declared.nodes.Place.TheVariants.{Plain}
 use Rattle.swc_ecma_codegen.specs.Answers.{Answers, place_of}
 use Rattle.swc_ecma_codegen.specs.Exprs.{opened, spaced_punct}
 use Rattle.swc_ecma_codegen.specs.Lists.{child_of, if_some_at, unsupported}
-use Rattle.swc_ecma_codegen.specs.Names.{binding_ident}
+use Rattle.swc_ecma_codegen.specs.Names.{binding_ident, prop_name}
 
 -- a pattern that a link holds: where it stands, and what is written of it
 abbrev pub pat_place : {X : Type 0} → (X → Answers) → PatBox X → Span
@@ -71,8 +71,8 @@ assign_pat items n rest = opened n.span (items n.left.node.value Plain (spaced_p
 -- `a: b`, from where its name begins to where its pattern ends
 unfoldable pub key_value_pat_prop : {X : Type 0} → (X → Answers) → (X → Place → Part) → KeyValuePatProp X → Part
 key_value_pat_prop asks items n rest =
-    opened (asks n.key.node.value).place
-    (items n.key.node.value Plain (punct (codes ":") (formatting_space (items n.value.node.value Plain (end_of (asks n.value.node.value).place rest)))))
+    opened (prop_name_span n.key)
+    (prop_name items n.key (punct (codes ":") (formatting_space (items n.value.node.value Plain (end_of (asks n.value.node.value).place rest)))))
 
 -- `a`, `a = b`
 unfoldable pub assign_pat_prop : {X : Type 0} → (X → Place → Part) → AssignPatProp X → Part

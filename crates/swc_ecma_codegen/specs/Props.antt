@@ -1,6 +1,6 @@
 -- What is written of objects and their properties. What TypeScript adds, the type of a getter and `this` before the parameter of a
 -- setter, isn't printed yet.
-use Rattle.std.specs.Prelude.{ℕ, ◌==◌, Bool, true, if◌then◌else◌, is_some, List, map, codes, string_bytes, Option, Some, None}
+use Rattle.std.specs.Prelude.{ℕ, ◌==◌, Bool, true, if◌then◌else◌, is_some, List, map, codes, Option, Some, None}
 use Rattle.swc_ecma_codegen_common.specs.declared.positions.Span.{Span}
 use Rattle.swc_ecma_codegen_tree.specs.Links.{BlockStmtBox}
 use Rattle.swc_ecma_codegen_tree.specs.declared.exprs.ObjectLit.{ObjectLit}
@@ -13,27 +13,17 @@ use Rattle.swc_ecma_codegen_tree.specs.declared.exprs.AssignProp.{AssignProp}
 use Rattle.swc_ecma_codegen_tree.specs.declared.exprs.GetterProp.{GetterProp}
 use Rattle.swc_ecma_codegen_tree.specs.declared.exprs.SetterProp.{SetterProp}
 use Rattle.swc_ecma_codegen_tree.specs.declared.exprs.MethodProp.{MethodProp}
-use Rattle.swc_ecma_codegen_tree.specs.declared.exprs.PropName.{PropName}
-use Rattle.swc_ecma_codegen_tree.specs.declared.exprs.PropName.TheVariants as prop_names
-use Rattle.swc_ecma_codegen_spans.specs.Spans.{prop_or_spread_span}
+use Rattle.swc_ecma_codegen_spans.specs.Spans.{prop_name_span, prop_or_spread_span}
 use Rattle.swc_ecma_codegen_ast.specs.FunctionPhrases.{is_some_listed}
-use Rattle.swc_ecma_codegen_base.specs.Keys.{key}
 use Rattle.swc_ecma_codegen_base.specs.Lists.{ListChild, list}
-use Rattle.swc_ecma_codegen_base.specs.Lits.{str_lit, number_lit, big_int_lit}
 use Rattle.swc_ecma_codegen_base.specs.Run.{Part, when_minified}
 use Rattle.swc_ecma_codegen_base.specs.Words.{keyword, punct, formatting_space, line_end, position, last_of}
 use Rattle.swc_ecma_codegen.specs.declared.nodes.Place.{Place}
 use Rattle.swc_ecma_codegen.specs.declared.nodes.Place.TheVariants.{Plain, MethodHead}
 use Rattle.swc_ecma_codegen.specs.Answers.{Answers, place_of}
-use Rattle.swc_ecma_codegen.specs.Exprs.{blank, opened, ident, computed_prop_name, spread_element}
+use Rattle.swc_ecma_codegen.specs.Exprs.{blank, opened, ident, spread_element}
 use Rattle.swc_ecma_codegen.specs.Lists.{child_of, unsupported}
-
-unfoldable pub prop_name : {X : Type 0} → (X → Place → Part) → PropName X → Part
-prop_name items (prop_names.Ident n) rest = key n.span (string_bytes n.sym) rest
-prop_name items (prop_names.Str n) rest = str_lit n rest
-prop_name items (prop_names.Num n) rest = number_lit n.value rest
-prop_name items (prop_names.BigInt n) rest = big_int_lit n.value rest
-prop_name items (prop_names.Computed n) rest = computed_prop_name items n rest
+use Rattle.swc_ecma_codegen.specs.Names.{prop_name}
 
 -- The end of a name is recorded where the value stands nowhere, and the start of the value where the name does.
 unfoldable pub key_end : Span → Span → Part
@@ -45,9 +35,9 @@ value_start key value rest = if key.lo.0 == 0 then position value.lo rest else r
 -- `a: b`
 unfoldable pub key_value_prop : {X : Type 0} → (X → Answers) → (X → Place → Part) → KeyValueProp X → Part
 key_value_prop asks items n rest =
-    let name = (asks n.key.node.value).place in
+    let name = prop_name_span n.key in
     let value = (asks n.value.node.value).place in
-    opened name (items n.key.node.value Plain (key_end name value (punct (codes ":") (formatting_space (value_start name value (items n.value.node.value Plain rest))))))
+    opened name (prop_name items n.key (key_end name value (punct (codes ":") (formatting_space (value_start name value (items n.value.node.value Plain rest))))))
 
 -- `a=b`
 unfoldable pub assign_prop : {X : Type 0} → (X → Place → Part) → AssignProp X → Part
@@ -86,8 +76,8 @@ setter_prop asks items n rest = if is_some n.this_param then unsupported rest el
 unfoldable pub method_prop : {X : Type 0} → (X → Answers) → (X → Place → Part) → MethodProp X → Part
 method_prop asks items n rest =
     let function = n.function.node.value in
-    opened (asks n.key.node.value).place
-    (items function MethodHead (items n.key.node.value Plain (formatting_space (items function Plain rest))))
+    opened (prop_name_span n.key)
+    (items function MethodHead (prop_name items n.key (formatting_space (items function Plain rest))))
 
 unfoldable pub prop : {X : Type 0} → (X → Answers) → (X → Place → Part) → Prop X → Part
 prop asks items (props.Shorthand n) rest = ident n rest

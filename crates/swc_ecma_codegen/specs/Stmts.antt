@@ -40,7 +40,7 @@ use Rattle.swc_ecma_codegen.specs.declared.nodes.Place.{Place}
 use Rattle.swc_ecma_codegen.specs.declared.nodes.Place.TheVariants.{Plain, Statement}
 use Rattle.swc_ecma_codegen.specs.Answers.{Answers, place_of}
 use Rattle.swc_ecma_codegen.specs.Branches.{is_block}
-use Rattle.swc_ecma_codegen.specs.Decls.{using_decl}
+use Rattle.swc_ecma_codegen.specs.Decls.{using_decl, decl}
 use Rattle.swc_ecma_codegen.specs.Exprs.{blank, space_if, opened, ident}
 use Rattle.swc_ecma_codegen.specs.FunctionExprs.{optional_name}
 use Rattle.swc_ecma_codegen.specs.Lists.{child_of}
@@ -284,7 +284,7 @@ stmt_parts asks items (stmts.DoWhile n) rest = do_while_stmt asks items n rest
 stmt_parts asks items (stmts.For n) rest = for_stmt items n rest
 stmt_parts asks items (stmts.ForIn n) rest = for_in_stmt asks items n rest
 stmt_parts asks items (stmts.ForOf n) rest = for_of_stmt asks items n rest
-stmt_parts asks items (stmts.Decl n) rest = items n.node.value Statement rest
+stmt_parts asks items (stmts.Decl n) rest = decl asks items n Statement rest
 stmt_parts asks items (stmts.Expr n) rest = expr_stmt items n rest
 
 -- the comments after a statement, and the end of its line, which a block doesn't end

@@ -7,7 +7,7 @@ ghost use Rattle.swc_ecma_codegen.specs.Standing.{Makes, Stays, standing_of};
 ghost use Rattle.swc_ecma_codegen.specs.Calls.{spread_mark, argument_place, argument_items, array_format, array_elements, array_lit, call_format, new_format, arguments, import_phase, import_callee, super_keyword, callee, call_expr, keeps_arguments, listed_arguments, new_arguments, new_gap, parentheses, new_expr, call_mark, chain_call, is_optional};
 
 use crate::emitter::Emitter;
-use crate::nodes::{AskStarts, Child, EmitAt, Held, Place};
+use crate::nodes::{Asked, Child, EmitAt, Held, Place};
 use crate::places::expr_or_spread_place;
 use bitflags::Flags;
 use swc_ecma_codegen_ast::ListFormat;

@@ -9,7 +9,7 @@ ghost use Rattle.swc_ecma_codegen.specs.Classes.{class_members_format, heritage,
 use crate::blocks::is_some_listed;
 use crate::emitter::Emitter;
 use crate::functions::{comma_list_format, decorators_format};
-use crate::nodes::{AskBlock, AskPlace, AskStarts, Child, EmitAt, Held, Place};
+use crate::nodes::{Asked, Child, EmitAt, Held, Place};
 use swc_ecma_codegen_ast::ListFormat;
 use swc_ecma_codegen_ast::comments::Comments;
 use swc_ecma_codegen_ast::mapper::SourceMapper;

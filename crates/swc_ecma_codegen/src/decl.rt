@@ -16,7 +16,7 @@ use swc_ecma_codegen_ast::mapper::SourceMapper;
 use swc_ecma_codegen_common::Span;
 use swc_ecma_codegen_text_writer::WriteJs;
 use swc_ecma_codegen_tree::{
-    ClassDecl, Decl, FnDecl, UsingDecl, VarDecl, VarDeclBox, VarDeclKind, VarDeclarator,
+    ClassDecl, Decl, FnDecl, UsingDecl, VarDecl, VarDeclKind, VarDeclarator,
 };
 
 /// The format of declarators.
@@ -232,16 +232,16 @@ impl<W: WriteJs, S: SourceMapper, C: Comments> Emitter<'_, W, S, C> {
 
     /// Writes variables, before `export` nothing.
     #[tactic(auto, unfolding(crate::specs::Decls::without_head, crate::specs::Decls::by_export, crate::specs::Decls::variables))]
-    fn var_by_place<N: Held>(&mut self, node: &VarDeclBox<N>, place: Place)
+    fn var_by_place<N: Held>(&mut self, node: &VarDecl<N>, place: Place)
         ensures items { Makes (without_head place (variables N.answers N.items node.now place)) (standing_of S.lines W.sheet self.old) (standing_of S.lines W.sheet self.new) }
         ensures level { Stays (standing_of S.lines W.sheet self.old) (standing_of S.lines W.sheet self.new) }
     {
         match place {
             Place::ExportedHead => {}
             _ => {
-                node.held().emit_at(self, Place::Plain);
+                node.emit_at(self, Place::Plain);
                 self.semi();
-                self.decl_end(place, node.held().place())
+                self.decl_end(place, node.span)
             }
         }
     }

@@ -6,12 +6,14 @@ ghost use Rattle.swc_ecma_codegen.specs.Standing.{Makes, Stays, standing_of};
 ghost use Rattle.swc_ecma_codegen.specs.Exprs.{ident, ident_name, private_name, this, unary_op, unary_gap, unary, update_parts, update, binary_op, before_op, after_op, bin_operator, tight_operator, spaced_operator, word_between, bin_trailing, bin_opened, bin, computed_prop_name, choice, meta_prop_expr, assign, yield_star, yield_arg, yield_expr, spread_element, await_expr, seq, paren, expr_parts, is_left_operand, leaves_comments, expr_closed, expr};
 ghost use Rattle.swc_ecma_codegen_spans.specs.Spans.{expr_span};
 ghost use Rattle.swc_ecma_codegen.specs.Answers.{place_of};
+ghost use Rattle.swc_ecma_codegen.specs.Operands.{operand_space};
+ghost use Rattle.swc_ecma_codegen.specs.declared.nodes.Place.TheVariants.{Plain};
 ghost use Rattle.swc_ecma_codegen_util.specs.Starts.{is_word_op as is_word_unary};
 
 use crate::emitter::Emitter;
 use crate::lits::is_number_object;
 use crate::marks::{assign_mark, binary_mark, unary_mark, update_mark};
-use crate::nodes::{AskEnds, AskKind, AskSpace, AskStarts, Asked, EmitAt, Held, Place};
+use crate::nodes::{Asked, EmitAt, Held, Place};
 use crate::operands::{begins_greater, is_word_op, operand_space, space_after};
 use crate::places::{expr_place, spread_element_place};
 use swc_ecma_codegen_ast::comments::Comments;
@@ -46,6 +48,18 @@ fn leaves_comments<N>(node: &Expr<N>, place: Place) -> bool
     }
 }
 
+/// Writes an object or a template. The place that it is told would be part of the frame that is there at each level of a tree.
+#[inline(never)]
+fn plainly<N: Held, W: WriteJs, S: SourceMapper, C: Comments>(
+    node: &N,
+    e: &mut Emitter<'_, W, S, C>,
+)
+    ensures items { Makes (N.items node.now Plain) (standing_of S.lines W.sheet e.old) (standing_of S.lines W.sheet e.new) }
+    ensures level { Stays (standing_of S.lines W.sheet e.old) (standing_of S.lines W.sheet e.new) }
+{
+    node.emit_at(e, Place::Plain);
+}
+
 /// Writes an expression by its variant, without the comments after it.
 #[inline(always)]
 #[tactic(auto, unfolding(crate::specs::Exprs::expr_parts, crate::specs::Exprs::member_at))]
@@ -59,7 +73,7 @@ fn expr_parts<N: Held, W: WriteJs, S: SourceMapper, C: Comments>(
 {
     match node {
         Expr::This(node) => node.emit_at(e, place),
-        Expr::Object(node) => node.held().emit_at(e, Place::Plain),
+        Expr::Object(node) => plainly(node.held(), e),
         Expr::Fn(node) => node.emit_at(e, place),
         Expr::Array(node) => node.emit_at(e, place),
         Expr::Unary(node) => node.emit_at(e, place),
@@ -74,7 +88,7 @@ fn expr_parts<N: Held, W: WriteJs, S: SourceMapper, C: Comments>(
         Expr::Seq(node) => node.emit_at(e, place),
         Expr::Ident(node) => node.emit_at(e, place),
         Expr::Lit(node) => node.emit_at(e, place),
-        Expr::Tpl(node) => node.held().emit_at(e, Place::Plain),
+        Expr::Tpl(node) => plainly(node.held(), e),
         Expr::TaggedTpl(node) => node.emit_at(e, place),
         Expr::Arrow(node) => (**node).emit_at(e, place),
         Expr::Class(node) => node.emit_at(e, place),
@@ -103,15 +117,33 @@ impl<N: Held> EmitAt for Expr<N> {
     ghost items = { expr N.answers N.items };
 
     #[inline(always)]
-    #[tactic(auto, unfolding(crate::specs::Exprs::expr))]
+    #[tactic(auto, unfolding(crate::specs::Exprs::expr), using(crate::proofs::Asked::closed_bare))]
     fn emit_at<W: WriteJs, S: SourceMapper, C: Comments>(
         &self,
         e: &mut Emitter<'_, W, S, C>,
         place: Place,
     ) {
+        if e.comments.is_some() {
+            return commented(self, e, place);
+        }
+        // Nothing comes after it, so there is no frame for it at each level of a tree.
         expr_parts(self, e, place);
-        e.expr_closed(self, place);
     }
+}
+
+/// Writes an expression and the comments after it.
+#[inline(never)]
+#[tactic(auto, unfolding(crate::specs::Exprs::expr))]
+fn commented<N: Held, W: WriteJs, S: SourceMapper, C: Comments>(
+    node: &Expr<N>,
+    e: &mut Emitter<'_, W, S, C>,
+    place: Place,
+)
+    ensures items { Makes (expr N.answers N.items node.now place) (standing_of S.lines W.sheet e.old) (standing_of S.lines W.sheet e.new) }
+    ensures level { Stays (standing_of S.lines W.sheet e.old) (standing_of S.lines W.sheet e.new) }
+{
+    expr_parts(node, e, place);
+    e.expr_closed(node, place);
 }
 
 impl EmitAt for MetaPropExpr {
@@ -427,6 +459,7 @@ impl<W: WriteJs, S: SourceMapper, C: Comments> Emitter<'_, W, S, C> {
 
     /// Writes the operator with what stands beside it. Unless the settings are to minify these are blanks, whatever the operands are:
     /// `a + b`.
+    #[inline(always)]
     #[tactic(auto, unfolding(crate::specs::Exprs::bin_operator, crate::specs::Exprs::tight_operator), using(crate::proofs::Between::binary_tight, crate::proofs::Between::binary_between))]
     fn bin_operator<N: Asked>(&mut self, node: &BinExpr<N>)
         ensures items { Makes (bin_operator N.answers node.now) (standing_of S.lines W.sheet self.old) (standing_of S.lines W.sheet self.new) }
@@ -487,6 +520,7 @@ impl<W: WriteJs, S: SourceMapper, C: Comments> Emitter<'_, W, S, C> {
     }
 
     /// Writes what stands between a unary operator and its operand.
+    #[inline(always)]
     #[tactic(auto, unfolding(crate::specs::Exprs::unary_gap))]
     fn unary_gap<N: Asked>(&mut self, op: UnaryOp, arg: &N)
         ensures items { Makes (unary_gap op (N.answers arg.now)) (standing_of S.lines W.sheet self.old) (standing_of S.lines W.sheet self.new) }
@@ -495,7 +529,7 @@ impl<W: WriteJs, S: SourceMapper, C: Comments> Emitter<'_, W, S, C> {
         if is_word_unary(op) {
             self.blank(arg.starts())
         } else {
-            self.space_if(operand_space(op, arg.kind()))
+            self.space_if(sign_space(op, arg))
         }
     }
 
@@ -534,6 +568,17 @@ fn is_word_unary(op: UnaryOp) -> bool
     match op {
         UnaryOp::TypeOf | UnaryOp::Void | UnaryOp::Delete => true,
         UnaryOp::Minus | UnaryOp::Plus | UnaryOp::Bang | UnaryOp::Tilde => false,
+    }
+}
+
+/// Whether a blank is due between a sign and its operand: `- -a`. What the operand is, is only asked after `+` and `-`.
+#[tactic(auto, unfolding(crate::specs::Operands::operand_space))]
+fn sign_space<N: Asked>(op: UnaryOp, arg: &N) -> bool
+    ensures { result ≡ operand_space op (N.answers arg.now).kind }
+{
+    match op {
+        UnaryOp::Plus | UnaryOp::Minus => operand_space(op, arg.kind()),
+        _ => false,
     }
 }
 

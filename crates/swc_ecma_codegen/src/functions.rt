@@ -8,7 +8,7 @@ ghost use Rattle.swc_ecma_codegen.specs.Functions.{decorators_format, decorator,
 
 use crate::blocks::is_some_listed;
 use crate::emitter::Emitter;
-use crate::nodes::{AskPattern, Child, EmitAt, Held, Place};
+use crate::nodes::{Asked, Child, EmitAt, Held, Place};
 use crate::patterns::PatternKind;
 use swc_ecma_codegen_ast::ListFormat;
 use swc_ecma_codegen_ast::comments::Comments;
@@ -36,7 +36,7 @@ pub(crate) fn decorators_format() -> ListFormat
 
 /// Whether the only parameter is a name alone.
 #[tactic(auto, unfolding(crate::specs::FunctionExprs::is_only, crate::specs::FunctionExprs::is_plain))]
-fn is_only_plain<N: AskPattern>(params: &[PatBox<N>]) -> bool
+fn is_only_plain<N: Asked>(params: &[PatBox<N>]) -> bool
     ensures { result ≡ is_only is_plain N.answers params.now }
 {
     match params {
@@ -47,7 +47,7 @@ fn is_only_plain<N: AskPattern>(params: &[PatBox<N>]) -> bool
 
 /// Whether the only parameter is a name, with or without a type.
 #[tactic(auto, unfolding(crate::specs::FunctionExprs::is_only, crate::specs::FunctionExprs::is_name))]
-fn is_only_name<N: AskPattern>(params: &[PatBox<N>]) -> bool
+fn is_only_name<N: Asked>(params: &[PatBox<N>]) -> bool
     ensures { result ≡ is_only is_name N.answers params.now }
 {
     match params {

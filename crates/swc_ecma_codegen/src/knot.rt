@@ -6,15 +6,11 @@ ghost use Rattle.swc_ecma_codegen.specs.Tree.{any_items};
 
 use crate::branches::{is_block, is_sequence};
 use crate::emitter::Emitter;
-use crate::nodes::{
-    AskBlock, AskEnds, AskKind, AskPattern, AskPlace, AskSpace, AskStarts, Asked, EmitAt, Held,
-    Known, Place,
-};
-use crate::operands::{Operand, OperandKind, SpaceBefore};
+use crate::nodes::{Asked, EmitAt, Held, Known, Place, Question, Reply};
+use crate::operands::{Operand, SpaceBefore};
 use crate::patterns::{PatternKind, kind_of_part};
 use swc_ecma_codegen_ast::comments::Comments;
 use swc_ecma_codegen_ast::mapper::SourceMapper;
-use swc_ecma_codegen_common::{BinaryOp, Span};
 use swc_ecma_codegen_spans::Spanned;
 use swc_ecma_codegen_text_writer::WriteJs;
 use swc_ecma_codegen_tree::AnyNode;
@@ -24,63 +20,24 @@ impl Known for AnyNode {
     ghost answers = { any_answers };
 }
 
-impl AskPlace for AnyNode {
-    #[tactic(auto, unfolding(crate::specs::Answers::any_answers))]
-    fn place(&self) -> Span {
-        self.span()
-    }
-}
-
-impl AskStarts for AnyNode {
-    #[tactic(auto, unfolding(crate::specs::Answers::any_answers))]
-    fn starts(&self) -> bool {
-        self.starts_with_alpha_num()
-    }
-}
-
-impl AskEnds for AnyNode {
-    #[tactic(auto, unfolding(crate::specs::Answers::any_answers))]
-    fn ends(&self) -> bool {
-        self.ends_with_alpha_num()
-    }
-}
-
-impl AskKind for AnyNode {
-    #[tactic(auto, unfolding(crate::specs::Answers::any_answers))]
-    fn kind(&self) -> OperandKind {
-        self.operand_kind()
-    }
-}
-
-impl AskSpace for AnyNode {
-    #[tactic(auto, unfolding(crate::specs::Answers::any_answers))]
-    fn space_before(&self, op: BinaryOp) -> bool {
-        self.require_space_before(op)
-    }
-}
-
-impl AskPattern for AnyNode {
-    #[tactic(auto, using(crate::proofs::PatternLaws::any_pattern_of, crate::proofs::PatternLaws::any_pattern_part), unfolding(crate::specs::Answers::any_answers, crate::specs::Patterns::node_pattern))]
-    fn pattern(&self) -> PatternKind {
-        match self {
-            AnyNode::ExprPart(part) => kind_of_part(part),
-            _ => PatternKind::Other,
+impl Asked for AnyNode {
+    #[inline(always)]
+    #[tactic(auto, using(crate::proofs::PatternLaws::any_pattern_of, crate::proofs::PatternLaws::any_pattern_part, crate::proofs::BranchLaws::any_block_of, crate::proofs::BranchLaws::any_block_stmt, crate::proofs::BranchLaws::any_block_expr), unfolding(crate::specs::Answers::reply_of, crate::specs::Answers::any_answers, crate::specs::Patterns::node_pattern, crate::specs::Branches::node_block))]
+    fn reply(&self, question: Question) -> Reply {
+        match (question, self) {
+            (Question::Place, _) => Reply::Place(self.span()),
+            (Question::Starts, _) => Reply::Truth(self.starts_with_alpha_num()),
+            (Question::Ends, _) => Reply::Truth(self.ends_with_alpha_num()),
+            (Question::Kind, _) => Reply::Kind(self.operand_kind()),
+            (Question::Space(op), _) => Reply::Truth(self.require_space_before(op)),
+            (Question::Pattern, AnyNode::ExprPart(part)) => Reply::Pattern(kind_of_part(part)),
+            (Question::Pattern, _) => Reply::Pattern(PatternKind::Other),
+            (Question::Block, AnyNode::Stmt(node)) => Reply::Truth(is_block(node)),
+            (Question::Block, AnyNode::Expr(node)) => Reply::Truth(is_sequence(node)),
+            (Question::Block, _) => Reply::Truth(false),
         }
     }
 }
-
-impl AskBlock for AnyNode {
-    #[tactic(auto, using(crate::proofs::BranchLaws::any_block_of, crate::proofs::BranchLaws::any_block_stmt, crate::proofs::BranchLaws::any_block_expr), unfolding(crate::specs::Answers::any_answers, crate::specs::Branches::node_block))]
-    fn block(&self) -> bool {
-        match self {
-            AnyNode::Stmt(node) => is_block(node),
-            AnyNode::Expr(node) => is_sequence(node),
-            _ => false,
-        }
-    }
-}
-
-impl Asked for AnyNode {}
 
 impl EmitAt for AnyNode {
     ghost items = { any_items };

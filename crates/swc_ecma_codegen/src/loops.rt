@@ -9,7 +9,7 @@ ghost use Rattle.swc_ecma_codegen_base.specs.Starts.{begins_letter};
 ghost use Rattle.swc_ecma_codegen.specs.Stmts.{case_body, cases_format, lines_format, case_format, case_test, is_single, case_list, case_children, case_stmts, switch_case, cases, switch_cases, switch_stmt, while_stmt, loop_test, do_while_stmt, var_decl_or_expr, for_init, for_value, for_clause, for_control, for_stmt, for_head, for_right, for_each, for_in_stmt, for_await, for_of_stmt};
 
 use crate::emitter::Emitter;
-use crate::nodes::{AskEnds, AskPlace, Child, EmitAt, Held, Place};
+use crate::nodes::{Asked, Child, EmitAt, Held, Place};
 use bitflags::Flags;
 use swc_ecma_codegen_ast::ListFormat;
 use swc_ecma_codegen_ast::comments::Comments;
@@ -59,7 +59,7 @@ fn is_up_to_es5(version: EsVersion) -> bool
 
 /// Whether there is one statement, on the line of its case as far as the source text says.
 #[tactic(auto, unfolding(crate::specs::Stmts::is_single))]
-fn is_single<S: SourceMapper, N: AskPlace>(cm: &S, span: Span, nodes: &[StmtBox<N>]) -> bool
+fn is_single<S: SourceMapper, N: Asked>(cm: &S, span: Span, nodes: &[StmtBox<N>]) -> bool
     ensures { result ≡ is_single N.answers (S.lines cm.now) span nodes.now }
 {
     match nodes {
@@ -70,7 +70,7 @@ fn is_single<S: SourceMapper, N: AskPlace>(cm: &S, span: Span, nodes: &[StmtBox<
 
 /// Whether a pattern ends with a character of a name.
 #[tactic(auto, unfolding(swc_ecma_codegen_util::specs::Ends::pat_ends))]
-fn pat_ends<N: AskEnds>(pat: &Pat<N>) -> bool
+fn pat_ends<N: Asked>(pat: &Pat<N>) -> bool
     ensures { result ≡ pat_ends (λ x. (N.answers x).ends) pat.now }
 {
     match pat {
@@ -84,7 +84,7 @@ fn pat_ends<N: AskEnds>(pat: &Pat<N>) -> bool
 
 /// Whether a declarator ends with a character of a name.
 #[tactic(auto, unfolding(swc_ecma_codegen_util::specs::Ends::declarator_ends, swc_ecma_codegen_util::specs::Ends::init_ends))]
-fn declarator_ends<N: AskEnds>(declarator: &VarDeclarator<N>) -> bool
+fn declarator_ends<N: Asked>(declarator: &VarDeclarator<N>) -> bool
     ensures { result ≡ declarator_ends (λ x. (N.answers x).ends) declarator.now }
 {
     match &declarator.init {
@@ -95,7 +95,7 @@ fn declarator_ends<N: AskEnds>(declarator: &VarDeclarator<N>) -> bool
 
 /// Whether the last declarator does.
 #[tactic(auto, unfolding(swc_ecma_codegen_util::specs::Ends::declarators_end, swc_ecma_codegen_util::specs::Ends::last_ends))]
-fn declarators_end<N: AskEnds>(declarators: &[VarDeclarator<N>]) -> bool
+fn declarators_end<N: Asked>(declarators: &[VarDeclarator<N>]) -> bool
     ensures { result ≡ declarators_end (λ x. (N.answers x).ends) declarators.now }
 {
     match declarators.last() {
@@ -106,7 +106,7 @@ fn declarators_end<N: AskEnds>(declarators: &[VarDeclarator<N>]) -> bool
 
 /// Whether what the head of a `for` begins with does.
 #[tactic(auto, unfolding(swc_ecma_codegen_util::specs::Ends::head_ends))]
-fn head_ends<N: AskEnds>(head: &ForHead<N>) -> bool
+fn head_ends<N: Asked>(head: &ForHead<N>) -> bool
     ensures { result ≡ head_ends (λ x. (N.answers x).ends) head.now }
 {
     match head {

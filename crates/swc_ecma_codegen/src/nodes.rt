@@ -4,7 +4,7 @@ ghost use Rattle.std.specs.Prelude.{◌≡◌};
 ghost use Rattle.swc_ecma_codegen_base.specs.Run.{Part};
 ghost use Rattle.swc_ecma_codegen.specs.Standing.{Makes, Stays, standing_of};
 ghost use Rattle.swc_ecma_codegen.specs.declared.nodes.Place.{Place as At};
-ghost use Rattle.swc_ecma_codegen.specs.Answers.{Answers};
+ghost use Rattle.swc_ecma_codegen.specs.Answers.{Answers, reply_of};
 ghost use Rattle.swc_ecma_codegen_common.specs.declared.positions.Span.{Span as Stretch};
 ghost use Rattle.swc_ecma_codegen_spans.specs.Spans.{option_span};
 
@@ -65,50 +65,111 @@ pub trait Known {
     ghost answers: { Self → Answers };
 }
 
-/// Where it stands.
-pub trait AskPlace: Known {
-    fn place(&self) -> Span
-        ensures { result ≡ (Self.answers self.now).place };
+/// What those above a node ask it.
+#[derive(Clone, Copy)]
+pub enum Question {
+    /// Where it stands.
+    Place,
+    /// Whether its text begins with a character of a name.
+    Starts,
+    /// Whether its text ends with a character of a name.
+    Ends,
+    /// Its operator.
+    Kind,
+    /// Whether a blank is due between an operator and it.
+    Space(BinaryOp),
+    /// What it begins with, where it is a pattern.
+    Pattern,
+    /// Whether it is a block, where it is a statement, or a sequence, where it is an expression.
+    Block,
 }
 
-/// Whether its text begins with a character of a name.
-pub trait AskStarts: Known {
-    fn starts(&self) -> bool
-        ensures { result ≡ (Self.answers self.now).starts };
+/// What a node answers.
+#[derive(Clone, Copy)]
+pub enum Reply {
+    Place(Span),
+    Truth(bool),
+    Kind(OperandKind),
+    Pattern(PatternKind),
 }
 
-/// Whether its text ends with a character of a name.
-pub trait AskEnds: Known {
-    fn ends(&self) -> bool
-        ensures { result ≡ (Self.answers self.now).ends };
-}
+/// The questions that those above it ask. What answers them is one function, since a check of each that names `AnyNode` is dear.
+pub trait Asked: Known {
+    fn reply(&self, question: Question) -> Reply
+        ensures { result ≡ reply_of (Self.answers self.now) question };
 
-/// Its operator.
-pub trait AskKind: Known {
-    fn kind(&self) -> OperandKind
-        ensures { result ≡ (Self.answers self.now).kind };
-}
+    /// Where it stands.
+    #[inline(always)]
+    #[tactic(auto, unfolding(crate::specs::Answers::reply_of))]
+    final fn place(&self) -> Span
+        ensures { result ≡ (Self.answers self.now).place }
+    {
+        match self.reply(Question::Place) {
+            Reply::Place(span) => span,
+            _ => DUMMY_SP,
+        }
+    }
 
-/// Whether a blank is due between an operator and it.
-pub trait AskSpace: Known {
-    fn space_before(&self, op: BinaryOp) -> bool
-        ensures { result ≡ (Self.answers self.now).space op };
-}
+    /// Whether its text begins with a character of a name.
+    #[inline(always)]
+    #[tactic(auto, unfolding(crate::specs::Answers::reply_of))]
+    final fn starts(&self) -> bool
+        ensures { result ≡ (Self.answers self.now).starts }
+    {
+        matches!(self.reply(Question::Starts), Reply::Truth(true))
+    }
 
-/// What it begins with, where it is a pattern.
-pub trait AskPattern: Known {
-    fn pattern(&self) -> PatternKind
-        ensures { result ≡ (Self.answers self.now).pattern };
-}
+    /// Whether its text ends with a character of a name.
+    #[inline(always)]
+    #[tactic(auto, unfolding(crate::specs::Answers::reply_of))]
+    final fn ends(&self) -> bool
+        ensures { result ≡ (Self.answers self.now).ends }
+    {
+        matches!(self.reply(Question::Ends), Reply::Truth(true))
+    }
 
-/// Whether it is a block, where it is a statement, or a sequence, where it is an expression.
-pub trait AskBlock: Known {
-    fn block(&self) -> bool
-        ensures { result ≡ (Self.answers self.now).block };
-}
+    /// Its operator.
+    #[inline(always)]
+    #[tactic(auto, unfolding(crate::specs::Answers::reply_of))]
+    final fn kind(&self) -> OperandKind
+        ensures { result ≡ (Self.answers self.now).kind }
+    {
+        match self.reply(Question::Kind) {
+            Reply::Kind(kind) => kind,
+            _ => OperandKind::Other,
+        }
+    }
 
-/// The questions that those above it ask.
-pub trait Asked: AskPlace + AskStarts + AskEnds + AskKind + AskSpace + AskPattern + AskBlock {}
+    /// Whether a blank is due between an operator and it.
+    #[inline(always)]
+    #[tactic(auto, unfolding(crate::specs::Answers::reply_of))]
+    final fn space_before(&self, op: BinaryOp) -> bool
+        ensures { result ≡ (Self.answers self.now).space op }
+    {
+        matches!(self.reply(Question::Space(op)), Reply::Truth(true))
+    }
+
+    /// What it begins with, where it is a pattern.
+    #[inline(always)]
+    #[tactic(auto, unfolding(crate::specs::Answers::reply_of))]
+    final fn pattern(&self) -> PatternKind
+        ensures { result ≡ (Self.answers self.now).pattern }
+    {
+        match self.reply(Question::Pattern) {
+            Reply::Pattern(kind) => kind,
+            _ => PatternKind::Other,
+        }
+    }
+
+    /// Whether it is a block, where it is a statement, or a sequence, where it is an expression.
+    #[inline(always)]
+    #[tactic(auto, unfolding(crate::specs::Answers::reply_of))]
+    final fn block(&self) -> bool
+        ensures { result ≡ (Self.answers self.now).block }
+    {
+        matches!(self.reply(Question::Block), Reply::Truth(true))
+    }
+}
 
 /// What can be printed, where the one above puts it.
 pub trait EmitAt {

@@ -6,7 +6,7 @@ ghost use Rattle.swc_ecma_codegen.specs.declared.operands.OperandKind.{OperandKi
 ghost use Rattle.swc_ecma_codegen.specs.Operands.{update_kind, is_negative, lit_kind, expr_kind, any_kind, is_word_op, begins_greater, is_less, space_after, sign_repeats, update_repeats, is_decrement, bang_space, update_space, negative_space, expr_space, any_space, operand_space};
 
 use swc_ecma_codegen_common::{BinaryOp, UnaryOp, UpdateOp};
-use swc_ecma_codegen_tree::{AnyNode, Expr, Lit, NumberValue, UpdateExpr};
+use swc_ecma_codegen_tree::{AnyNode, Expr, Lit, NumberValue, UnaryExpr, UpdateExpr};
 
 /// An operand, by its operator or its sign.
 #[derive(Debug, Clone, Copy, PartialEq, Eq)]
@@ -178,14 +178,15 @@ fn is_decrement(kind: OperandKind) -> bool
     }
 }
 
-/// Whether a blank is due between an operator and a sign with its operand: `a< !--b`
+/// Whether a blank is due between an operator and a sign with its operand: `a< !--b`. What the operand is, is only asked between
+/// `<` and `!`.
 #[tactic(auto, unfolding(crate::specs::Operands::bang_space))]
-fn bang_space(arg: OperandKind, op: BinaryOp, sign: UnaryOp) -> bool
-    ensures { result ≡ bang_space arg op sign }
+fn bang_space<N: Operand>(node: &UnaryExpr<N>, op: BinaryOp) -> bool
+    ensures { result ≡ bang_space (N.kind node.now.arg.node.value) op node.now.op }
 {
-    match sign {
-        UnaryOp::Bang if is_less(op) => is_decrement(arg),
-        _ => sign_repeats(op, sign),
+    match node.op {
+        UnaryOp::Bang if is_less(op) => is_decrement(node.arg.held().operand_kind()),
+        _ => sign_repeats(op, node.op),
     }
 }
 
@@ -206,7 +207,7 @@ impl<N: SpaceBefore> SpaceBefore for Expr<N> {
     #[tactic(auto, unfolding(crate::specs::Operands::expr_space, crate::specs::Operands::update_space))]
     fn require_space_before(&self, op: BinaryOp) -> bool {
         match self {
-            Expr::Unary(node) => bang_space(node.arg.held().operand_kind(), op, node.op),
+            Expr::Unary(node) => bang_space(node, op),
             Expr::Update(node) => node.prefix && update_repeats(op, node.op),
             Expr::Bin(node) => node.left.held().require_space_before(op),
             Expr::Lit(node) => negative_space(kind_of_lit(node), op),

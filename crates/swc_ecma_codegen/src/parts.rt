@@ -45,7 +45,7 @@ impl<N: Held> EmitAt for StmtPart<N> {
             StmtPart::Class(node) => (**node).emit_at(e, place),
             StmtPart::ClassMember(node) => (**node).emit_at(e, place),
             StmtPart::BlockStmt(node) => node.emit_at(e, place),
-            StmtPart::Decl(node) => (**node).emit_at(e, place),
+            StmtPart::Decl(node) => node.emit_at(e, place),
             StmtPart::ModuleDecl(node) => (**node).emit_at(e, place),
             StmtPart::VarDecl(node) => node.emit_at(e, place),
         }

@@ -8,13 +8,14 @@ ghost use Rattle.swc_ecma_codegen.specs.Pats.{initializer, array_pat_format, arr
 
 use crate::calls::ends_with_hole;
 use crate::emitter::Emitter;
-use crate::nodes::{AskPlace, Child, EmitAt, Held, Place};
+use crate::nodes::{Asked, Child, EmitAt, Held, Place};
 use bitflags::Flags;
 use swc_ecma_codegen_ast::ListFormat;
 use swc_ecma_codegen_ast::comments::Comments;
 use swc_ecma_codegen_ast::mapper::SourceMapper;
 use swc_ecma_codegen_common::Span;
 use swc_ecma_codegen_literals::Punctuator;
+use swc_ecma_codegen_spans::Spanned;
 use swc_ecma_codegen_text_writer::WriteJs;
 use swc_ecma_codegen_tree::{
     ArrayPat, AssignPat, AssignPatProp, AssignTargetPat, ExprBox, KeyValuePatProp, ObjectPat,
@@ -177,7 +178,7 @@ impl<N: Held> Child for ObjectPatProp<N> {
     fn place(&self) -> Span {
         match self {
             ObjectPatProp::KeyValue(node) => Span {
-                lo: node.key.held().place().lo,
+                lo: node.key.span().lo,
                 hi: node.value.held().place().hi,
             },
             ObjectPatProp::Assign(node) => node.span,
@@ -195,8 +196,8 @@ impl<N: Held> EmitAt for KeyValuePatProp<N> {
         e: &mut Emitter<'_, W, S, C>,
         place: Place,
     ) {
-        e.opened(self.key.held().place());
-        self.key.held().emit_at(e, Place::Plain);
+        e.opened(self.key.span());
+        self.key.emit_at(e, Place::Plain);
         e.punct(Punctuator::Colon);
         e.formatting_space();
         self.value.held().emit_at(e, Place::Plain);
@@ -222,7 +223,7 @@ impl<N: Held> EmitAt for AssignPatProp<N> {
 
 /// Where a pattern stands.
 #[tactic(auto, unfolding(swc_ecma_codegen_spans::specs::Spans::pat_span, swc_ecma_codegen_spans::specs::Spans::binding_ident_span))]
-fn pat_place<N: AskPlace>(node: &Pat<N>) -> Span
+fn pat_place<N: Asked>(node: &Pat<N>) -> Span
     ensures { result ≡ pat_span (place_of N.answers) node.now }
 {
     match node {

@@ -1,17 +1,17 @@
 //! Where a node stands whose place is that of what it holds.
 
 ghost use Rattle.std.specs.Prelude.{◌≡◌};
-ghost use Rattle.swc_ecma_codegen_spans.specs.Spans.{expr_or_spread_span, expr_span, module_item_span, prop_span, spread_element_span, stmt_span};
+ghost use Rattle.swc_ecma_codegen_spans.specs.Spans.{decl_span, expr_or_spread_span, expr_span, module_item_span, prop_span, spread_element_span, stmt_span};
 ghost use Rattle.swc_ecma_codegen.specs.Answers.{place_of};
 
-use crate::nodes::AskPlace;
+use crate::nodes::Asked;
 use swc_ecma_codegen_common::Span;
 use swc_ecma_codegen_spans::Spanned;
-use swc_ecma_codegen_tree::{Expr, ExprOrSpread, ModuleItem, Prop, SpreadElement, Stmt};
+use swc_ecma_codegen_tree::{Decl, Expr, ExprOrSpread, ModuleItem, Prop, SpreadElement, Stmt};
 
 /// Where an expression stands.
 #[tactic(auto, unfolding(swc_ecma_codegen_spans::specs::Spans::expr_span, swc_ecma_codegen_spans::specs::Spans::fn_expr_span, swc_ecma_codegen_spans::specs::Spans::class_expr_span, swc_ecma_codegen_spans::specs::Spans::jsx_member_expr_span))]
-pub(crate) fn expr_place<N: AskPlace>(node: &Expr<N>) -> Span
+pub(crate) fn expr_place<N: Asked>(node: &Expr<N>) -> Span
     ensures { result ≡ expr_span (place_of N.answers) node.now }
 {
     match node {
@@ -61,7 +61,7 @@ pub(crate) fn expr_place<N: AskPlace>(node: &Expr<N>) -> Span
 
 /// Where a statement stands.
 #[tactic(auto, unfolding(swc_ecma_codegen_spans::specs::Spans::stmt_span))]
-pub(crate) fn stmt_place<N: AskPlace>(node: &Stmt<N>) -> Span
+pub(crate) fn stmt_place<N: Asked>(node: &Stmt<N>) -> Span
     ensures { result ≡ stmt_span (place_of N.answers) node.now }
 {
     match node {
@@ -82,14 +82,31 @@ pub(crate) fn stmt_place<N: AskPlace>(node: &Stmt<N>) -> Span
         Stmt::For(node) => node.span,
         Stmt::ForIn(node) => node.span,
         Stmt::ForOf(node) => node.span,
-        Stmt::Decl(node) => node.held().place(),
+        Stmt::Decl(node) => decl_place(node),
         Stmt::Expr(node) => node.span,
+    }
+}
+
+/// Where a declaration stands.
+#[tactic(auto, unfolding(swc_ecma_codegen_spans::specs::Spans::decl_span, swc_ecma_codegen_spans::specs::Spans::class_decl_span, swc_ecma_codegen_spans::specs::Spans::fn_decl_span))]
+fn decl_place<N: Asked>(node: &Decl<N>) -> Span
+    ensures { result ≡ decl_span (place_of N.answers) node.now }
+{
+    match node {
+        Decl::Class(node) => node.class.held().place(),
+        Decl::Fn(node) => node.function.held().place(),
+        Decl::Var(node) => node.span,
+        Decl::Using(node) => node.span,
+        Decl::TsInterface(node) => node.span,
+        Decl::TsTypeAlias(node) => node.span,
+        Decl::TsEnum(node) => node.span,
+        Decl::TsModule(node) => node.span,
     }
 }
 
 /// Where an item of a module stands.
 #[tactic(auto, unfolding(swc_ecma_codegen_spans::specs::Spans::module_item_span))]
-pub(crate) fn module_item_place<N: AskPlace>(node: &ModuleItem<N>) -> Span
+pub(crate) fn module_item_place<N: Asked>(node: &ModuleItem<N>) -> Span
     ensures { result ≡ module_item_span (place_of N.answers) node.now }
 {
     match node {
@@ -100,7 +117,7 @@ pub(crate) fn module_item_place<N: AskPlace>(node: &ModuleItem<N>) -> Span
 
 /// Where an argument or an element stands: `a` or `...a`.
 #[tactic(auto, unfolding(swc_ecma_codegen_spans::specs::Spans::expr_or_spread_span))]
-pub(crate) fn expr_or_spread_place<N: AskPlace>(node: &ExprOrSpread<N>) -> Span
+pub(crate) fn expr_or_spread_place<N: Asked>(node: &ExprOrSpread<N>) -> Span
     ensures { result ≡ expr_or_spread_span (place_of N.answers) node.now }
 {
     let span = node.expr.held().place();
@@ -115,7 +132,7 @@ pub(crate) fn expr_or_spread_place<N: AskPlace>(node: &ExprOrSpread<N>) -> Span
 
 /// Where `...a` stands.
 #[tactic(auto, unfolding(swc_ecma_codegen_spans::specs::Spans::spread_element_span))]
-pub(crate) fn spread_element_place<N: AskPlace>(node: &SpreadElement<N>) -> Span
+pub(crate) fn spread_element_place<N: Asked>(node: &SpreadElement<N>) -> Span
     ensures { result ≡ spread_element_span (place_of N.answers) node.now }
 {
     Span {
@@ -126,13 +143,13 @@ pub(crate) fn spread_element_place<N: AskPlace>(node: &SpreadElement<N>) -> Span
 
 /// Where a property stands.
 #[tactic(auto, unfolding(swc_ecma_codegen_spans::specs::Spans::prop_span, swc_ecma_codegen_spans::specs::Spans::key_value_prop_span, swc_ecma_codegen_spans::specs::Spans::assign_prop_span, swc_ecma_codegen_spans::specs::Spans::method_prop_span))]
-pub(crate) fn prop_place<N: AskPlace>(node: &Prop<N>) -> Span
+pub(crate) fn prop_place<N: Asked>(node: &Prop<N>) -> Span
     ensures { result ≡ prop_span (place_of N.answers) node.now }
 {
     match node {
         Prop::Shorthand(node) => node.span,
         Prop::KeyValue(node) => Span {
-            lo: node.key.held().place().lo,
+            lo: node.key.span().lo,
             hi: node.value.held().place().hi,
         },
         Prop::Assign(node) => Span {
@@ -142,7 +159,7 @@ pub(crate) fn prop_place<N: AskPlace>(node: &Prop<N>) -> Span
         Prop::Getter(node) => node.span,
         Prop::Setter(node) => node.span,
         Prop::Method(node) => Span {
-            lo: node.key.held().place().lo,
+            lo: node.key.span().lo,
             hi: node.function.held().place().hi,
         },
     }

@@ -7,7 +7,8 @@ ghost use Rattle.swc_ecma_codegen_base.specs.Lists.{list};
 ghost use Rattle.swc_ecma_codegen.specs.Standing.{Makes, Stays, standing_of};
 ghost use Rattle.swc_ecma_codegen_base.specs.Starts.{begins_letter};
 ghost use Rattle.swc_ecma_codegen.specs.Answers.{place_of};
-ghost use Rattle.swc_ecma_codegen.specs.Props.{prop_name, key_end, value_start, key_value_prop, assign_prop, accessor, optional_body, getter_prop, setter_prop, method_prop, prop, prop_or_spread, object_format, flat_object_format, object_children, lined_object_list, object_lines, object_list, object_lit};
+ghost use Rattle.swc_ecma_codegen.specs.Names.{prop_name};
+ghost use Rattle.swc_ecma_codegen.specs.Props.{key_end, value_start, key_value_prop, assign_prop, accessor, optional_body, getter_prop, setter_prop, method_prop, prop, prop_or_spread, object_format, flat_object_format, object_children, lined_object_list, object_lines, object_list, object_lit};
 
 use crate::blocks::is_some_listed;
 use crate::emitter::Emitter;
@@ -19,6 +20,7 @@ use swc_ecma_codegen_ast::comments::Comments;
 use swc_ecma_codegen_ast::mapper::SourceMapper;
 use swc_ecma_codegen_common::Span;
 use swc_ecma_codegen_literals::Punctuator;
+use swc_ecma_codegen_spans::Spanned;
 use swc_ecma_codegen_text_writer::WriteJs;
 use swc_ecma_codegen_tree::{
     AssignProp, BlockStmtBox, GetterProp, KeyValueProp, MethodProp, ObjectLit, Prop, PropName,
@@ -44,7 +46,7 @@ fn flat_object_format() -> ListFormat
 impl<N: Held> EmitAt for PropName<N> {
     ghost items = { λ n _. prop_name N.items n };
 
-    #[tactic(auto, unfolding(crate::specs::Props::prop_name))]
+    #[tactic(auto, unfolding(crate::specs::Names::prop_name))]
     fn emit_at<W: WriteJs, S: SourceMapper, C: Comments>(
         &self,
         e: &mut Emitter<'_, W, S, C>,
@@ -52,7 +54,7 @@ impl<N: Held> EmitAt for PropName<N> {
     ) {
         match self {
             PropName::Ident(name) => e.key(name.span, &name.sym),
-            PropName::Str(node) => node.emit_at(e, Place::Plain),
+            PropName::Str(node) => (**node).emit_at(e, Place::Plain),
             PropName::Num(node) => (**node).emit_at(e, Place::Plain),
             PropName::BigInt(node) => (**node).emit_at(e, Place::Plain),
             PropName::Computed(node) => node.emit_at(e, Place::Plain),
@@ -106,10 +108,10 @@ impl<N: Held> EmitAt for KeyValueProp<N> {
         e: &mut Emitter<'_, W, S, C>,
         place: Place,
     ) {
-        let name = self.key.held().place();
+        let name = self.key.span();
         let value = self.value.held().place();
         e.opened(name);
-        self.key.held().emit_at(e, Place::Plain);
+        self.key.emit_at(e, Place::Plain);
         e.key_end(name, value);
         e.punct(Punctuator::Colon);
         e.formatting_space();
@@ -185,9 +187,9 @@ impl<N: Held> EmitAt for MethodProp<N> {
         e: &mut Emitter<'_, W, S, C>,
         place: Place,
     ) {
-        e.opened(self.key.held().place());
+        e.opened(self.key.span());
         self.function.held().emit_at(e, Place::MethodHead);
-        self.key.held().emit_at(e, Place::Plain);
+        self.key.emit_at(e, Place::Plain);
         e.formatting_space();
         self.function.held().emit_at(e, Place::Plain);
     }

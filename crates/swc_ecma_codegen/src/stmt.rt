@@ -4,9 +4,11 @@ ghost use Rattle.std.specs.Prelude.{◌≡◌, true};
 ghost use Rattle.swc_ecma_codegen_base.specs.Lists.{blank_if};
 ghost use Rattle.swc_ecma_codegen_spans.specs.Spans.{stmt_span};
 ghost use Rattle.swc_ecma_codegen.specs.Answers.{place_of};
+ghost use Rattle.swc_ecma_codegen.specs.Branches.{is_block};
 ghost use Rattle.swc_ecma_codegen.specs.Lists.{in_order};
 ghost use Rattle.swc_ecma_codegen.specs.Standing.{Makes, Stays, standing_of};
 ghost use Rattle.swc_ecma_codegen_base.specs.Starts.{begins_letter};
+ghost use Rattle.swc_ecma_codegen_base.specs.Words.{trailing_comments};
 ghost use Rattle.swc_ecma_codegen.specs.Stmts.{enclosed, spaced, stmt_word, spaced_word, jump, empty_stmt, expr_stmt, debugger_stmt, with_stmt, return_arg, return_stmt, labeled_stmt, break_stmt, continue_stmt, else_branch, if_stmt, catch_param, catch_clause, handler, finalizer, try_stmt, throw_stmt, stmt_parts, stmt_closed, stmt};
 ghost use Rattle.swc_ecma_codegen.specs.Programs.{start_if_empty, program_start, script, program};
 
@@ -54,7 +56,7 @@ fn stmt_parts<N: Held, W: WriteJs, S: SourceMapper, C: Comments>(
         Stmt::For(node) => node.emit_at(e, Place::Plain),
         Stmt::ForIn(node) => node.emit_at(e, Place::Plain),
         Stmt::ForOf(node) => node.emit_at(e, Place::Plain),
-        Stmt::Decl(node) => node.held().emit_at(e, Place::Statement),
+        Stmt::Decl(node) => node.emit_at(e, Place::Statement),
     }
 }
 
@@ -69,7 +71,7 @@ impl<N: Held> EmitAt for Stmt<N> {
         place: Place,
     ) {
         stmt_parts(self, e);
-        e.stmt_closed(is_block(self), stmt_place(self));
+        e.stmt_closed(self);
     }
 }
 
@@ -312,15 +314,28 @@ impl<W: WriteJs, S: SourceMapper, C: Comments> Emitter<'_, W, S, C> {
 
     /// Writes the comments after a statement and the end of its line, but for a block.
     #[tactic(auto, unfolding(crate::specs::Stmts::stmt_closed))]
-    fn stmt_closed(&mut self, block: bool, span: Span)
-        ensures items { Makes (stmt_closed block span) (standing_of S.lines W.sheet self.old) (standing_of S.lines W.sheet self.new) }
+    fn stmt_closed<N: Held>(&mut self, node: &Stmt<N>)
+        ensures items { Makes (stmt_closed (is_block node.now) (stmt_span (place_of N.answers) node.now)) (standing_of S.lines W.sheet self.old) (standing_of S.lines W.sheet self.new) }
         ensures level { Stays (standing_of S.lines W.sheet self.old) (standing_of S.lines W.sheet self.new) }
     {
-        if block {
+        if is_block(node) {
             return;
         }
-        self.trailing_comments(span.hi, true);
+        self.stmt_comments(node);
         self.formatting_line()
+    }
+
+    /// Writes the comments after a statement. Where it stands is asked only where there are comments.
+    #[inline(always)]
+    #[tactic(auto, using(crate::proofs::Asked::stmt_bare))]
+    fn stmt_comments<N: Held>(&mut self, node: &Stmt<N>)
+        ensures items { Makes (trailing_comments true (stmt_span (place_of N.answers) node.now).hi) (standing_of S.lines W.sheet self.old) (standing_of S.lines W.sheet self.new) }
+        ensures level { Stays (standing_of S.lines W.sheet self.old) (standing_of S.lines W.sheet self.new) }
+    {
+        if self.comments.is_none() {
+            return;
+        }
+        self.trailing_comments(stmt_place(node).hi, true)
     }
 
     /// Writes an expression in parentheses.

@@ -9,6 +9,7 @@ pub mod Lists
 pub mod Longest
 pub mod Mapped
 pub mod MappedFunctions
+pub mod MappedKeys
 pub mod MappedPats
 pub mod MappedProps
 pub mod MappedStmts

@@ -62,19 +62,13 @@ decl_by g f b n = refl
 pub module_decl_mapped : {X Y : Type 0} (g : X → Y) (f : Y → Role → Phrase) (b : Box (ModuleDecl X) Global) → node_phrase f (map-AnyNode X Y g (nodes.StmtPart (stmt_parts.ModuleDecl b))) ModuleDeclaration ≡ module_decl (λ x. f (g x)) b.value
 module_decl_mapped g f b = decl_by g f b b.value
 
-head_by : {X Y : Type 0} (g : X → Y) (f : Y → Role → Phrase) (b : Box (Decl X) Global) (n : Decl X) → node_phrase f (map-AnyNode X Y g (nodes.StmtPart (stmt_parts.Decl (record b { value = n })))) ExportedHead ≡ exported_head (λ x. f (g x)) n
+pub exported_head_mapped : {X Y : Type 0} (g : X → Y) (f : Y → Role → Phrase) (n : Decl X) → node_phrase f (map-AnyNode X Y g (nodes.StmtPart (stmt_parts.Decl n))) ExportedHead ≡ exported_head (λ x. f (g x)) n
 unfolding node_phrase stmt_part exported_head
-head_by g f b (decls.Class n) = refl
-head_by g f b n = refl
+exported_head_mapped g f (decls.Class n) = refl
+exported_head_mapped g f n = refl
 
-pub exported_head_mapped : {X Y : Type 0} (g : X → Y) (f : Y → Role → Phrase) (b : Box (Decl X) Global) → node_phrase f (map-AnyNode X Y g (nodes.StmtPart (stmt_parts.Decl b))) ExportedHead ≡ exported_head (λ x. f (g x)) b.value
-exported_head_mapped g f b = head_by g f b b.value
-
-tail_by : {X Y : Type 0} (g : X → Y) (f : Y → Role → Phrase) (b : Box (Decl X) Global) (n : Decl X) → node_phrase f (map-AnyNode X Y g (nodes.StmtPart (stmt_parts.Decl (record b { value = n })))) ExportedTail ≡ exported_tail (λ x. f (g x)) n
+pub exported_tail_mapped : {X Y : Type 0} (g : X → Y) (f : Y → Role → Phrase) (n : Decl X) → node_phrase f (map-AnyNode X Y g (nodes.StmtPart (stmt_parts.Decl n))) ExportedTail ≡ exported_tail (λ x. f (g x)) n
 unfolding node_phrase stmt_part exported_tail
-tail_by g f b (decls.Class n) = refl
-tail_by g f b (decls.Using n) = refl
-tail_by g f b n = decl_mapped g f (record b { value = n })
-
-pub exported_tail_mapped : {X Y : Type 0} (g : X → Y) (f : Y → Role → Phrase) (b : Box (Decl X) Global) → node_phrase f (map-AnyNode X Y g (nodes.StmtPart (stmt_parts.Decl b))) ExportedTail ≡ exported_tail (λ x. f (g x)) b.value
-exported_tail_mapped g f b = tail_by g f b b.value
+exported_tail_mapped g f (decls.Class n) = refl
+exported_tail_mapped g f (decls.Using n) = refl
+exported_tail_mapped g f n = decl_mapped g f n

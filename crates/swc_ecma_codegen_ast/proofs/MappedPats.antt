@@ -27,6 +27,7 @@ use Rattle.swc_ecma_codegen_ast.specs.AssignPhrases.{assign_target}
 use Rattle.swc_ecma_codegen_ast.specs.PartPhrases.{expr_part}
 use Rattle.swc_ecma_codegen_ast.specs.TreePhrases.{node_phrase}
 use Rattle.swc_ecma_codegen_ast.proofs.Mapped.{list_mapped, element_mapped, hole_mapped, comma_mapped}
+use Rattle.swc_ecma_codegen_ast.proofs.MappedKeys.{prop_name_mapped}
 
 -- ---- elements and properties
 
@@ -107,7 +108,7 @@ unfolding node_phrase expr_part pat object_pat object_pat_prop key_value_pat_pro
 object_mapped g f n true type_ann = refl
 object_mapped g f n false (Some t) = refl
 object_mapped {X} {Y} g f n false None = props_mapped {X = X} {Y = Y} _ f (λ x. f (g x)) (by_cases {X = X} _
-    (λ p. refl) (λ span id. refl) (λ span id x. refl) (λ span id t. refl) (λ span id t x. refl) (λ span dots arg. refl) (λ span dots arg t. refl)) n.props.items
+    (λ p. ap (λ z. z > mark (codes ":") > pat_at (λ x. f (g x)) p.value) (prop_name_mapped g f p.key)) (λ span id. refl) (λ span id x. refl) (λ span id t. refl) (λ span id t x. refl) (λ span dots arg. refl) (λ span dots arg t. refl)) n.props.items
 
 pub pat_mapped : {X Y : Type 0} (g : X → Y) (f : Y → Role → Phrase) (n : Pat X) → node_phrase f (map-AnyNode X Y g (nodes.ExprPart (expr_parts.Pat n))) Pattern ≡ pat (λ x. f (g x)) n
 unfolding node_phrase expr_part pat assign_pat
@@ -142,7 +143,7 @@ unfolding node_phrase expr_part assign_target assign_target_pat object_pat objec
 target_object_mapped g f n true type_ann = refl
 target_object_mapped g f n false (Some t) = refl
 target_object_mapped {X} {Y} g f n false None = props_mapped {X = X} {Y = Y} _ f (λ x. f (g x)) (by_cases {X = X} _
-    (λ p. refl) (λ span id. refl) (λ span id x. refl) (λ span id t. refl) (λ span id t x. refl) (λ span dots arg. refl) (λ span dots arg t. refl)) n.props.items
+    (λ p. ap (λ z. z > mark (codes ":") > pat_at (λ x. f (g x)) p.value) (prop_name_mapped g f p.key)) (λ span id. refl) (λ span id x. refl) (λ span id t. refl) (λ span id t x. refl) (λ span dots arg. refl) (λ span dots arg t. refl)) n.props.items
 
 pub target_pat_mapped : {X Y : Type 0} (g : X → Y) (f : Y → Role → Phrase) (n : AssignTargetPat X) → node_phrase f (map-AnyNode X Y g (nodes.ExprPart (expr_parts.AssignTarget (targets.Pat n)))) AssignmentTarget ≡ assign_target_pat (λ x. f (g x)) n
 unfolding node_phrase expr_part assign_target assign_target_pat

@@ -16,24 +16,17 @@ use Rattle.swc_ecma_codegen_tree.specs.declared.exprs.AssignProp.{AssignProp}
 use Rattle.swc_ecma_codegen_tree.specs.declared.exprs.MethodProp.{MethodProp}
 use Rattle.swc_ecma_codegen_tree.specs.declared.exprs.GetterProp.{GetterProp}
 use Rattle.swc_ecma_codegen_tree.specs.declared.exprs.SetterProp.{SetterProp}
-use Rattle.swc_ecma_codegen_tree.specs.declared.exprs.PropName.{PropName}
-use Rattle.swc_ecma_codegen_tree.specs.declared.exprs.PropName.TheVariants as prop_names
 use Rattle.swc_ecma_codegen_ast.specs.Phrases.{Phrase, ◌>◌, mark, listed}
 use Rattle.swc_ecma_codegen_ast.specs.declared.roles.Role.{Role}
-use Rattle.swc_ecma_codegen_ast.specs.declared.roles.Role.TheVariants.{PropertyName, ObjectLiteral}
-use Rattle.swc_ecma_codegen_ast.specs.ExprPhrases.{computed_prop_name, spread_element}
-use Rattle.swc_ecma_codegen_ast.specs.PropPhrases.{prop_name, key_value_prop, assign_prop, optional_body, getter_prop, setter_prop, method_prop, prop, prop_or_spread, object_lit}
+use Rattle.swc_ecma_codegen_ast.specs.declared.roles.Role.TheVariants.{ObjectLiteral, MethodHead}
+use Rattle.swc_ecma_codegen_ast.specs.ExprPhrases.{spread_element}
+use Rattle.swc_ecma_codegen_ast.specs.FunctionPhrases.{function_at}
+use Rattle.swc_ecma_codegen_ast.specs.PatPhrases.{value_at}
+use Rattle.swc_ecma_codegen_ast.specs.PropPhrases.{key_value_prop, assign_prop, optional_body, getter_prop, setter_prop, method_prop, prop, prop_or_spread, object_lit}
 use Rattle.swc_ecma_codegen_ast.specs.PartPhrases.{expr_part}
 use Rattle.swc_ecma_codegen_ast.specs.TreePhrases.{node_phrase}
 use Rattle.swc_ecma_codegen_ast.proofs.Mapped.{list_mapped}
-
-pub prop_name_mapped : {X Y : Type 0} (g : X → Y) (f : Y → Role → Phrase) (n : PropName X) → node_phrase f (map-AnyNode X Y g (nodes.ExprPart (expr_parts.PropName n))) PropertyName ≡ prop_name (λ x. f (g x)) n
-unfolding node_phrase expr_part prop_name computed_prop_name
-prop_name_mapped g f (prop_names.Ident n) = refl
-prop_name_mapped g f (prop_names.Str n) = refl
-prop_name_mapped g f (prop_names.Num n) = refl
-prop_name_mapped g f (prop_names.BigInt n) = refl
-prop_name_mapped g f (prop_names.Computed n) = refl
+use Rattle.swc_ecma_codegen_ast.proofs.MappedKeys.{prop_name_mapped}
 
 -- what holds of each getter and setter, by what is there, holds of all
 getter_by : {X : Type 0} (P : GetterProp X → Type 0)
@@ -82,4 +75,5 @@ each_prop P spread prop (prop_or_spreads.Prop n) = prop n
 pub object_lit_mapped : {X Y : Type 0} (g : X → Y) (f : Y → Role → Phrase) (n : ObjectLit X) → node_phrase f (map-AnyNode X Y g (nodes.ExprPart (expr_parts.ObjectLit n))) ObjectLiteral ≡ object_lit (λ x. f (g x)) n
 unfolding node_phrase expr_part object_lit prop_or_spread spread_element prop key_value_prop assign_prop getter_prop setter_prop method_prop optional_body
 object_lit_mapped {X} g f n = ap (λ ps. mark (codes "{") > listed (codes ",") ps > mark (codes "}")) (list_mapped {A = PropOrSpread X} _ (prop_or_spread f) (prop_or_spread (λ x. f (g x))) (each_prop {X = X} _ (λ m. refl) (by_prop {X = X} _
-    (λ m. refl) (λ m. refl) (λ m. refl) (λ m. refl) (λ m body. refl) (λ m t body. refl) (λ m. refl) (λ m body. refl) (λ m this body. refl) (λ m. refl))) n.props.items)
+    (λ m. refl) (λ m. ap (λ p. p > mark (codes ":") > value_at (λ x. f (g x)) m.value) (prop_name_mapped g f m.key)) (λ m. refl) (λ m. refl) (λ m body. refl) (λ m t body. refl) (λ m. refl) (λ m body. refl) (λ m this body. refl)
+    (λ m. ap (λ p. f (g m.function.node.value) MethodHead > p > function_at (λ x. f (g x)) m.function) (prop_name_mapped g f m.key)))) n.props.items)

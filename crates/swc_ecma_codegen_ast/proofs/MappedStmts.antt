@@ -1,5 +1,5 @@
 -- The productions of statements and declarations see what links hold through f alone.
-use Rattle.std.proofs.Common.{◌≡◌, refl, ap, List, map, codes, Bool, true, false, cond, Option, Some, None, Box, Vec, Global}
+use Rattle.std.proofs.Common.{◌≡◌, refl, ap, List, map, codes, Bool, true, false, cond, Option, Some, None, Vec, Global}
 use Rattle.swc_ecma_codegen_common.specs.declared.positions.Span.{Span}
 use Rattle.swc_ecma_codegen_tree.specs.declared.links.AnyNode.{map-AnyNode}
 use Rattle.swc_ecma_codegen_tree.specs.declared.links.AnyNode.TheOpen as nodes
@@ -62,15 +62,12 @@ var_by {X} {Y} g f n false = ap (λ p. var_kind n.kind > p) (declarators_mapped 
 pub var_decl_mapped : {X Y : Type 0} (g : X → Y) (f : Y → Role → Phrase) (n : VarDecl X) → node_phrase f (map-AnyNode X Y g (nodes.StmtPart (stmt_parts.VarDecl n))) VariableDeclaration ≡ var_decl (λ x. f (g x)) n
 var_decl_mapped g f n = var_by g f n n.declare
 
-decl_by : {X Y : Type 0} (g : X → Y) (f : Y → Role → Phrase) (b : Box (Decl X) Global) (n : Decl X) → node_phrase f (map-AnyNode X Y g (nodes.StmtPart (stmt_parts.Decl (record b { value = n })))) Declaration ≡ decl (λ x. f (g x)) n
+pub decl_mapped : {X Y : Type 0} (g : X → Y) (f : Y → Role → Phrase) (n : Decl X) → node_phrase f (map-AnyNode X Y g (nodes.StmtPart (stmt_parts.Decl n))) Declaration ≡ decl (λ x. f (g x)) n
 unfolding node_phrase expr_part stmt_part decl fn_decl using_decl var_declarator initializer class_decl
-decl_by {X} {Y} g f b (decls.Using n) = ap (λ p. after_await n.is_await (word (codes "using") > same_line > p) > ending) (declarators_mapped {X = X} {Y = Y} _ f (λ x. f (g x)) (by_init {X = X} _ (λ span name definite. named definite _ _ _ (pat_mapped g f name)) (λ span name init definite. named definite _ _ _ (pat_mapped g f name))) n.decls.items)
-decl_by g f b (decls.Fn n) = refl
-decl_by g f b (decls.Var n) = refl
-decl_by g f b n = refl
-
-pub decl_mapped : {X Y : Type 0} (g : X → Y) (f : Y → Role → Phrase) (b : Box (Decl X) Global) → node_phrase f (map-AnyNode X Y g (nodes.StmtPart (stmt_parts.Decl b))) Declaration ≡ decl (λ x. f (g x)) b.value
-decl_mapped g f b = decl_by g f b b.value
+decl_mapped {X} {Y} g f (decls.Using n) = ap (λ p. after_await n.is_await (word (codes "using") > same_line > p) > ending) (declarators_mapped {X = X} {Y = Y} _ f (λ x. f (g x)) (by_init {X = X} _ (λ span name definite. named definite _ _ _ (pat_mapped g f name)) (λ span name init definite. named definite _ _ _ (pat_mapped g f name))) n.decls.items)
+decl_mapped g f (decls.Fn n) = refl
+decl_mapped g f (decls.Var n) = ap (λ p. p > ending) (var_decl_mapped g f n)
+decl_mapped g f n = refl
 
 -- ---- statements
 
@@ -148,7 +145,7 @@ for_of_by {X} {Y} g f n (heads.UsingDecl h) = ap (λ p. word (codes "for") > wor
 for_of_by g f n (heads.Pat h) = refl
 
 pub stmt_mapped : {X Y : Type 0} (g : X → Y) (f : Y → Role → Phrase) (n : Stmt X) → node_phrase f (map-AnyNode X Y g (nodes.Stmt n)) Statement ≡ stmt (λ x. f (g x)) n
-unfolding node_phrase stmt empty_stmt expr_stmt debugger_stmt with_stmt labeled_stmt break_stmt continue_stmt throw_stmt while_stmt do_while_stmt
+unfolding node_phrase stmt stmt_part empty_stmt expr_stmt debugger_stmt with_stmt labeled_stmt break_stmt continue_stmt throw_stmt while_stmt do_while_stmt
 stmt_mapped g f (stmts.Return n) = return_by g f n n.arg
 stmt_mapped g f (stmts.If n) = if_by g f n n.alt
 stmt_mapped g f (stmts.Switch n) = switch_mapped g f n
@@ -156,4 +153,5 @@ stmt_mapped g f (stmts.Try n) = try_by g f n n.handler n.finalizer
 stmt_mapped g f (stmts.For n) = for_by g f n n.init n.test n.update
 stmt_mapped g f (stmts.ForIn n) = for_in_by g f n n.left
 stmt_mapped g f (stmts.ForOf n) = for_of_by g f n n.left
+stmt_mapped g f (stmts.Decl n) = decl_mapped g f n
 stmt_mapped g f n = refl

@@ -32,7 +32,8 @@ use Rattle.swc_ecma_codegen_tree.specs.declared.stmts.Stmt.{Stmt}
 use Rattle.swc_ecma_codegen_ast.specs.Phrases.{Phrase, some_listed}
 use Rattle.swc_ecma_codegen_ast.specs.declared.roles.Role.{Role}
 use Rattle.swc_ecma_codegen_ast.specs.declared.roles.Role.TheVariants.{Expression, Statement, MemberExpression, ChainMember, AssignmentTarget, Pattern, PlainParameter, PropertyName, ObjectLiteral, Function, Block, Declaration, VariableDeclaration, Callee, ChainCall, Template, TaggedTemplate, ClassHead, ClassTail, Member, MethodDecorators, MethodTail, PrivateTail, ModuleDeclaration, ExportedHead, ExportedTail}
-use Rattle.swc_ecma_codegen_ast.specs.ExprPhrases.{expr, expr_at, this_expr, unary_expr, update_expr, bin_expr, computed_prop_name, member_prop, member_expr, super_prop, super_prop_expr, chain_mark, chain_prop, chain_member, chain_base, opt_chain_expr, meta_prop_expr, assign_expr, yield_arg, yield_expr, await_expr, cond_expr, seq_expr, paren_expr, expr_in, yield_rest}
+use Rattle.swc_ecma_codegen_ast.specs.ExprPhrases.{expr, expr_at, this_expr, unary_expr, update_expr, bin_expr, member_prop, member_expr, super_prop, super_prop_expr, chain_mark, chain_prop, chain_member, chain_base, opt_chain_expr, meta_prop_expr, assign_expr, yield_arg, yield_expr, await_expr, cond_expr, seq_expr, paren_expr, expr_in, yield_rest}
+use Rattle.swc_ecma_codegen_ast.specs.KeyPhrases.{computed_prop_name}
 use Rattle.swc_ecma_codegen_ast.specs.NamePhrases.{binding_ident}
 use Rattle.swc_ecma_codegen_ast.specs.AssignPhrases.{assign_target, simple_assign_target}
 use Rattle.swc_ecma_codegen_ast.specs.PartPhrases.{expr_part, stmt_part}
@@ -43,7 +44,8 @@ use Rattle.swc_ecma_codegen_ast.proofs.Mapped.{list_mapped}
 use Rattle.swc_ecma_codegen_ast.proofs.MappedFunctions.{function_part_mapped, block_mapped, arrow_expr_mapped}
 use Rattle.swc_ecma_codegen_ast.proofs.MappedStmts.{stmt_mapped, decl_mapped, var_decl_mapped}
 use Rattle.swc_ecma_codegen_ast.proofs.MappedPats.{pat_mapped, plain_mapped, target_pat_mapped}
-use Rattle.swc_ecma_codegen_ast.proofs.MappedProps.{prop_name_mapped, object_lit_mapped}
+use Rattle.swc_ecma_codegen_ast.proofs.MappedKeys.{prop_name_mapped}
+use Rattle.swc_ecma_codegen_ast.proofs.MappedProps.{object_lit_mapped}
 use Rattle.swc_ecma_codegen_ast.proofs.MappedClasses.{method_decorators_mapped, method_tail_mapped, private_tail_mapped, class_head_mapped, class_tail_mapped, class_member_mapped}
 use Rattle.swc_ecma_codegen_ast.proofs.MappedModules.{module_decl_mapped, exported_head_mapped, exported_tail_mapped}
 use Rattle.swc_ecma_codegen_ast.proofs.MappedTemplates.{tpl_mapped, tagged_mapped, tagged_tpl_mapped}

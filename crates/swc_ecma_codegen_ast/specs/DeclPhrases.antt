@@ -1,7 +1,7 @@
 -- Declarations: one production a node. `f` says what is read of what a link holds, in its role. What TypeScript adds, `declare` and
 -- `!` after a name, isn't printed yet.
 use Rattle.std.specs.Prelude.{Bool, true, false, if◌then◌else◌, map, codes}
-use Rattle.swc_ecma_codegen_tree.specs.Links.{DeclBox, VarDeclBox}
+use Rattle.swc_ecma_codegen_tree.specs.Links.{VarDeclBox}
 use Rattle.swc_ecma_codegen_tree.specs.declared.decls.Decl.{Decl}
 use Rattle.swc_ecma_codegen_tree.specs.declared.decls.Decl.TheVariants as decls
 use Rattle.swc_ecma_codegen_tree.specs.declared.decls.FnDecl.{FnDecl}
@@ -16,12 +16,9 @@ use Rattle.swc_ecma_codegen_ast.specs.PatPhrases.{pat, initializer}
 use Rattle.swc_ecma_codegen_ast.specs.ClassPhrases.{class_decl}
 use Rattle.swc_ecma_codegen_ast.specs.FunctionPhrases.{function_at}
 use Rattle.swc_ecma_codegen_ast.specs.declared.roles.Role.{Role}
-use Rattle.swc_ecma_codegen_ast.specs.declared.roles.Role.TheVariants.{FunctionHead, Declaration, VariableDeclaration}
+use Rattle.swc_ecma_codegen_ast.specs.declared.roles.Role.TheVariants.{FunctionHead, VariableDeclaration}
 
--- a declaration, and one of variables, that a link holds
-abbrev pub decl_at : {X : Type 0} → (X → Role → Phrase) → DeclBox X → Phrase
-decl_at f n = f n.node.value Declaration
-
+-- a declaration of variables that a link holds
 abbrev pub var_decl_at : {X : Type 0} → (X → Role → Phrase) → VarDeclBox X → Phrase
 var_decl_at f n = f n.node.value VariableDeclaration
 
@@ -55,7 +52,7 @@ using_decl f n = after_await n.is_await (word (codes "using") > same_line > some
 unfoldable pub decl : {X : Type 0} → (X → Role → Phrase) → Decl X → Phrase
 decl f (decls.Class n) = class_decl f n
 decl f (decls.Fn n) = fn_decl f n
-decl f (decls.Var n) = var_decl_at f n > ending
+decl f (decls.Var n) = var_decl f n > ending
 decl f (decls.Using n) = using_decl f n > ending
 -- what isn't printed yet
 decl f n = Never

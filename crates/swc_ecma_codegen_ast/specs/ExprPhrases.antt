@@ -17,7 +17,6 @@ use Rattle.swc_ecma_codegen_tree.specs.declared.exprs.BinExpr.{BinExpr}
 use Rattle.swc_ecma_codegen_tree.specs.declared.exprs.MemberExpr.{MemberExpr}
 use Rattle.swc_ecma_codegen_tree.specs.declared.exprs.MemberProp.{MemberProp}
 use Rattle.swc_ecma_codegen_tree.specs.declared.exprs.MemberProp.TheVariants as member_props
-use Rattle.swc_ecma_codegen_tree.specs.declared.exprs.ComputedPropName.{ComputedPropName}
 use Rattle.swc_ecma_codegen_tree.specs.declared.exprs.AssignExpr.{AssignExpr}
 use Rattle.swc_ecma_codegen_tree.specs.declared.exprs.SuperPropExpr.{SuperPropExpr}
 use Rattle.swc_ecma_codegen_tree.specs.declared.exprs.SuperProp.{SuperProp}
@@ -43,6 +42,7 @@ use Rattle.swc_ecma_codegen_ast.specs.FunctionPhrases.{fn_expr, arrow_expr}
 use Rattle.swc_ecma_codegen_ast.specs.TemplatePhrases.{tagged_tpl}
 use Rattle.swc_ecma_codegen_ast.specs.ClassPhrases.{class_expr}
 use Rattle.swc_ecma_codegen_ast.specs.CallPhrases.{callee_at, array_lit, call_expr, new_expr}
+use Rattle.swc_ecma_codegen_ast.specs.KeyPhrases.{computed_prop_name}
 use Rattle.swc_ecma_codegen_ast.specs.LitPhrases.{lit}
 use Rattle.swc_ecma_codegen_ast.specs.NamePhrases.{ident, ident_name, private_name}
 
@@ -82,9 +82,6 @@ unfoldable pub bin_expr : {X : Type 0} → (X → Role → Phrase) → BinExpr X
 bin_expr f n = expr_at f n.left > One (binary_op n.op) > expr_at f n.right
 
 -- section 13.3.2
-unfoldable pub computed_prop_name : {X : Type 0} → (X → Role → Phrase) → ComputedPropName X → Phrase
-computed_prop_name f n = mark (codes "[") > expr_at f n.expr > mark (codes "]")
-
 unfoldable pub member_prop : {X : Type 0} → (X → Role → Phrase) → MemberProp X → Phrase
 member_prop f (member_props.Ident n) = mark (codes ".") > ident_name n
 member_prop f (member_props.PrivateName n) = mark (codes ".") > private_name n

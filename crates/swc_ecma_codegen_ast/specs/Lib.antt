@@ -19,6 +19,7 @@ pub mod Jsx
 pub mod Keys
 pub mod Layouts
 pub mod ListFormats
+pub mod KeyPhrases
 pub mod LitPhrases
 pub mod LongestMatch
 pub mod SourceLines

@@ -9,9 +9,10 @@ use Rattle.swc_ecma_codegen_ast.specs.declared.roles.Role.{Role}
 use Rattle.swc_ecma_codegen_ast.specs.declared.roles.Role.TheVariants.{AssignmentTarget, Pattern, PlainParameter, PropertyName, ObjectLiteral, Function, FunctionHead, MethodHead, Block, Declaration, VariableDeclaration, ChainCall, Template, TaggedTemplate, ClassHead, ClassTail, Member, MethodDecorators, MethodTail, PrivateTail, ModuleDeclaration, ExportedHead, ExportedTail}
 use Rattle.swc_ecma_codegen_ast.specs.AssignPhrases.{assign_target}
 use Rattle.swc_ecma_codegen_ast.specs.CallPhrases.{chain_call}
+use Rattle.swc_ecma_codegen_ast.specs.KeyPhrases.{prop_name}
 use Rattle.swc_ecma_codegen_ast.specs.ModulePhrases.{exported_head, exported_tail, module_decl}
 use Rattle.swc_ecma_codegen_ast.specs.PatPhrases.{pat, plain_parameter}
-use Rattle.swc_ecma_codegen_ast.specs.PropPhrases.{object_lit, prop_name}
+use Rattle.swc_ecma_codegen_ast.specs.PropPhrases.{object_lit}
 use Rattle.swc_ecma_codegen_ast.specs.FunctionPhrases.{function, function_head, method_head}
 use Rattle.swc_ecma_codegen_ast.specs.TemplatePhrases.{tpl}
 use Rattle.swc_ecma_codegen_ast.specs.ClassPhrases.{class_head, class_tail, class_member, method_decorators, method_tail, private_tail}
@@ -40,9 +41,9 @@ stmt_part f (stmt_parts.Class n) ClassHead = class_head f n.value
 stmt_part f (stmt_parts.Class n) ClassTail = class_tail f n.value
 stmt_part f (stmt_parts.ClassMember n) Member = class_member f n.value
 stmt_part f (stmt_parts.BlockStmt n) Block = block_stmt f n
-stmt_part f (stmt_parts.Decl n) Declaration = decl f n.value
-stmt_part f (stmt_parts.Decl n) ExportedHead = exported_head f n.value
-stmt_part f (stmt_parts.Decl n) ExportedTail = exported_tail f n.value
+stmt_part f (stmt_parts.Decl n) Declaration = decl f n
+stmt_part f (stmt_parts.Decl n) ExportedHead = exported_head f n
+stmt_part f (stmt_parts.Decl n) ExportedTail = exported_tail f n
 stmt_part f (stmt_parts.ModuleDecl n) ModuleDeclaration = module_decl f n.value
 stmt_part f (stmt_parts.VarDecl n) VariableDeclaration = var_decl f n
 stmt_part f n role = Never

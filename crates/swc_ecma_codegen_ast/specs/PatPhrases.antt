@@ -17,6 +17,7 @@ use Rattle.swc_ecma_codegen_tree.specs.declared.pats.AssignTargetPat.TheVariants
 use Rattle.swc_ecma_codegen_tree.specs.declared.idents.BindingIdent.{BindingIdent}
 use Rattle.swc_ecma_codegen_ast.specs.Phrases.{Phrase, Never, Nothing, ◌>◌, mark, listed}
 use Rattle.swc_ecma_codegen_ast.specs.ElementPhrases.{element, elements_end, trailing_comma}
+use Rattle.swc_ecma_codegen_ast.specs.KeyPhrases.{prop_name}
 use Rattle.swc_ecma_codegen_ast.specs.NamePhrases.{binding_ident}
 use Rattle.swc_ecma_codegen_ast.specs.declared.roles.Role.{Role}
 use Rattle.swc_ecma_codegen_ast.specs.declared.roles.Role.TheVariants.{Expression, Pattern, PropertyName}
@@ -52,7 +53,7 @@ assign_pat f n = pat_at f n.left > mark (codes "=") > value_at f n.right
 
 -- `a: b`
 unfoldable pub key_value_pat_prop : {X : Type 0} → (X → Role → Phrase) → KeyValuePatProp X → Phrase
-key_value_pat_prop f n = prop_name_at f n.key > mark (codes ":") > pat_at f n.value
+key_value_pat_prop f n = prop_name f n.key > mark (codes ":") > pat_at f n.value
 
 -- `a`, `a = b`
 unfoldable pub assign_pat_prop : {X : Type 0} → (X → Role → Phrase) → AssignPatProp X → Phrase

@@ -1,6 +1,6 @@
 -- Objects and their properties: one production a node. `f` says what is read of what a link holds, in its role. What TypeScript
 -- adds, the type of a getter and `this` before the parameter of a setter, isn't printed yet.
-use Rattle.std.specs.Prelude.{is_some, if◌then◌else◌, map, codes, string_bytes, Option, Some, None}
+use Rattle.std.specs.Prelude.{is_some, if◌then◌else◌, map, codes, Option, Some, None}
 use Rattle.swc_ecma_codegen_tree.specs.declared.exprs.ObjectLit.{ObjectLit}
 use Rattle.swc_ecma_codegen_tree.specs.declared.exprs.PropOrSpread.{PropOrSpread}
 use Rattle.swc_ecma_codegen_tree.specs.declared.exprs.PropOrSpread.TheVariants as prop_or_spreads
@@ -11,29 +11,19 @@ use Rattle.swc_ecma_codegen_tree.specs.declared.exprs.AssignProp.{AssignProp}
 use Rattle.swc_ecma_codegen_tree.specs.declared.exprs.GetterProp.{GetterProp}
 use Rattle.swc_ecma_codegen_tree.specs.declared.exprs.SetterProp.{SetterProp}
 use Rattle.swc_ecma_codegen_tree.specs.declared.exprs.MethodProp.{MethodProp}
-use Rattle.swc_ecma_codegen_tree.specs.declared.exprs.PropName.{PropName}
-use Rattle.swc_ecma_codegen_tree.specs.declared.exprs.PropName.TheVariants as prop_names
 use Rattle.swc_ecma_codegen_tree.specs.Links.{BlockStmtBox}
-use Rattle.swc_ecma_codegen_ast.specs.Phrases.{Phrase, Never, Nothing, KeyOf, ◌>◌, word, mark, listed}
+use Rattle.swc_ecma_codegen_ast.specs.Phrases.{Phrase, Never, Nothing, ◌>◌, word, mark, listed}
 use Rattle.swc_ecma_codegen_ast.specs.NamePhrases.{ident}
-use Rattle.swc_ecma_codegen_ast.specs.LitPhrases.{str_lit, number, big_int}
-use Rattle.swc_ecma_codegen_ast.specs.ExprPhrases.{computed_prop_name, spread_element}
+use Rattle.swc_ecma_codegen_ast.specs.ExprPhrases.{spread_element}
+use Rattle.swc_ecma_codegen_ast.specs.KeyPhrases.{prop_name}
 use Rattle.swc_ecma_codegen_ast.specs.PatPhrases.{value_at, pat_at, prop_name_at}
 use Rattle.swc_ecma_codegen_ast.specs.FunctionPhrases.{block_at, function_at}
 use Rattle.swc_ecma_codegen_ast.specs.declared.roles.Role.{Role}
 use Rattle.swc_ecma_codegen_ast.specs.declared.roles.Role.TheVariants.{MethodHead}
 
--- ECMA-262, section 13.2.5
-unfoldable pub prop_name : {X : Type 0} → (X → Role → Phrase) → PropName X → Phrase
-prop_name f (prop_names.Ident n) = KeyOf n.span.lo (string_bytes n.sym)
-prop_name f (prop_names.Str n) = str_lit n
-prop_name f (prop_names.Num n) = number n.value
-prop_name f (prop_names.BigInt n) = big_int n.value
-prop_name f (prop_names.Computed n) = computed_prop_name f n
-
--- `a: b`
+-- ECMA-262, section 13.2.5: `a: b`
 unfoldable pub key_value_prop : {X : Type 0} → (X → Role → Phrase) → KeyValueProp X → Phrase
-key_value_prop f n = prop_name_at f n.key > mark (codes ":") > value_at f n.value
+key_value_prop f n = prop_name f n.key > mark (codes ":") > value_at f n.value
 
 -- `a = b`, which only a pattern may follow from
 unfoldable pub assign_prop : {X : Type 0} → (X → Role → Phrase) → AssignProp X → Phrase
@@ -58,7 +48,7 @@ setter_prop f n =
 
 -- `async *a() { b; }`
 unfoldable pub method_prop : {X : Type 0} → (X → Role → Phrase) → MethodProp X → Phrase
-method_prop f n = f n.function.node.value MethodHead > prop_name_at f n.key > function_at f n.function
+method_prop f n = f n.function.node.value MethodHead > prop_name f n.key > function_at f n.function
 
 -- section 13.2.5
 unfoldable pub prop : {X : Type 0} → (X → Role → Phrase) → Prop X → Phrase

@@ -45,7 +45,7 @@ use Rattle.swc_ecma_codegen_ast.specs.declared.roles.Role.TheVariants.{Statement
 use Rattle.swc_ecma_codegen_ast.specs.NamePhrases.{ident}
 use Rattle.swc_ecma_codegen_ast.specs.PatPhrases.{value_at, pat_at}
 use Rattle.swc_ecma_codegen_ast.specs.FunctionPhrases.{word_if, block_at}
-use Rattle.swc_ecma_codegen_ast.specs.DeclPhrases.{decl_at, var_decl_at, using_decl}
+use Rattle.swc_ecma_codegen_ast.specs.DeclPhrases.{var_decl_at, using_decl, decl}
 use Rattle.swc_ecma_codegen_ast.specs.ExprPhrases.{expr_at}
 
 -- a statement that a link holds
@@ -194,7 +194,7 @@ stmt f (stmts.DoWhile n) = do_while_stmt f n
 stmt f (stmts.For n) = for_stmt f n
 stmt f (stmts.ForIn n) = for_in_stmt f n
 stmt f (stmts.ForOf n) = for_of_stmt f n
-stmt f (stmts.Decl n) = decl_at f n
+stmt f (stmts.Decl n) = decl f n
 stmt f (stmts.Expr n) = expr_stmt f n
 
 -- section 14.2

@@ -85,6 +85,15 @@ on_err : {A B : Type 0} (r : Result (Unit {0}) Refusal) → (A → B) → OnErr 
 on_err (Ok u) f h = tt
 on_err (Err e) f h = f h
 
+-- the last token was noted ahead of the call
+pub noted_ok : (r : Result (Unit {0}) Refusal) (f n e : LowerEmitter) (l : Last) → n.token.value ≡ l → n.failed ≡ e.failed
+    → OnOk r ((f.token.value ≡ n.token.value) × (f.failed ≡ n.failed)) → OnOk r ((f.token.value ≡ l) × (f.failed ≡ e.failed))
+noted_ok r f n e l t q = on_ok r (λ h. (h.0 ∙ t, h.1 ∙ q))
+
+pub noted_err : (r : Result (Unit {0}) Refusal) (f e : LowerEmitter) (before : Last) → before ≡ e.token.value
+    → OnErr r ((f.token.value ≡ before) × (f.failed ≡ true)) → OnErr r ((f.token.value ≡ e.token.value) × (f.failed ≡ true))
+noted_err r f e before t = on_err r (λ h. (h.0 ∙ t, h.1))
+
 -- a step by one call, and what is noted of it
 step_called : (x : Step) (item : Item) (config : Config) (e f : LowerEmitter) (old new : Sheet) (r : Result (Unit {0}) Refusal)
     → put x (state_of config old e) ≡ record (state_of config old e) { sheet = effect item old; last = (put x (state_of config old e)).last }

@@ -45,7 +45,7 @@ rows : length tokens ≡ 63
 unfolding tokens punctuators
 rows = refl
 
-columns : length samples ≡ 30
+columns : length samples ≡ 32
 unfolding samples
 columns = refl
 

@@ -7,7 +7,7 @@ use lib.Utf8.{scalar, scalars}
 use Rattle.swc_ecma_codegen_common.specs.declared.versions.EsVersion.{EsVersion}
 use Rattle.swc_ecma_codegen_ast.specs.declared.kinds.Kind.{Kind}
 use Rattle.swc_ecma_codegen_ast.specs.declared.kinds.Kind.TheVariants.{Punctuator, Number, BigInt, Str, Regex}
-use Rattle.swc_ecma_codegen_ast.specs.Chars.{begins_digit, is_digit, is_part}
+use Rattle.swc_ecma_codegen_ast.specs.Chars.{begins_digit, is_digit}
 use Rattle.swc_ecma_codegen_ast.specs.GapRules.{IntegerEnd, WordEnd, Mark, allows, fuses, grows, is_choice, last_after, mark_fuses}
 use Rattle.swc_ecma_codegen_ast.specs.Numbers.{is_big_integer, is_number, takes_dot}
 use Rattle.swc_ecma_codegen_ast.specs.NumberValues.{exact_value, numeric_value}
@@ -32,9 +32,9 @@ use Rattle.swc_ecma_codegen_base.specs.declared.starts.StartClass.TheVariants as
 use Rattle.swc_ecma_codegen_base.specs.Run.{spelling}
 use Rattle.swc_ecma_codegen_base.specs.Lits.{joined, may_join}
 use Rattle.swc_ecma_codegen_base.specs.Literals.{signed, size_of}
-use Rattle.swc_ecma_codegen_base.specs.Starts.{start_class, char_start, mark_start, order}
+use Rattle.swc_ecma_codegen_base.specs.Starts.{start_class, order}
 use Rattle.swc_ecma_codegen_base.proofs.OwnDots.{dotted_is_number, dotted_same}
-use Rattle.swc_ecma_codegen_base.proofs.Starting.{dash_class, dot_class, plain_class, same_beginning, sample, samples}
+use Rattle.swc_ecma_codegen_base.proofs.Starting.{dash_class, digit_class, dot_class, same_beginning, sample, samples}
 use Rattle.swc_ecma_codegen_base.proofs.Texts.{SpelledAs, minus_chars, minus_is_mark, owns, spelled_one, spelled_signed}
 use Rattle.swc_ecma_codegen_base.proofs.Written.{Spelled}
 
@@ -98,12 +98,6 @@ spelled_big_integer t u h = record {
 }
 
 -- ---- how numbers begin
-
-digit_class : (t : List ℕ) → begins_digit t ≡ true → start_class t ≡ start.Digit
-unfolding begins_digit is_digit char_start
-digit_class [] h = absurd (true≢false (sym h))
-digit_class (c ∷ cs) h =
-    plain_class c cs (λ e. true≢false (sym h ∙ ap is_digit e)) (λ e. true≢false (sym h ∙ ap is_digit e)) ∙ ap (λ b. cond b start.Digit (cond (is_part c || (c == 92)) start.NameCharacter (mark_start c))) h
 
 -- a minus sign and a number don't fuse
 digit_apart : (t : List ℕ) → start_class t ≡ start.Digit → fuses (Mark (codes "-")) t ≡ false

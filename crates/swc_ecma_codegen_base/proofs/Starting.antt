@@ -1,20 +1,20 @@
 -- What a text begins with is all that the gap rules look at.
 use Rattle.std.proofs.Common.{◌≡◌, ◌⊎◌, inl, inr, ℕ, Bool, true, false, not, ◌&&◌, ◌||◌, ◌==◌, cond, List, [], ◌∷◌, codes, refl, sym, ◌∙◌, ap, get_or, nat_lt, nat_le, ◌≤◌, ◌-◌, arith}
 use Rattle.std.specs.Str.{chars, chars_after}
-use Rattle.std.proofs.lemmas.Bool.{and_parts, eqb-true, leb-true, lt-ltb, ne_eqb, or_left, or_right, false_from_ne_true, true≢false}
+use Rattle.std.proofs.lemmas.Bool.{and_parts, eqb-true, leb-true, lt-ltb, ne_eqb, or_cases, or_left, or_right, false_from_ne_true, true≢false}
 use Rattle.swc_ecma_codegen_ast.proofs.CharLaws.{digit_part, part_below}
 use Rattle.swc_ecma_codegen_ast.specs.Chars.{begins_digit, is_digit, is_part, is_letter}
 use Rattle.swc_ecma_codegen_ast.specs.Texts.{is_same, begins}
 use Rattle.swc_ecma_codegen_ast.specs.GapRules.{Last, fuses}
 use Rattle.swc_ecma_codegen_base.specs.Starts as starts
-use Rattle.swc_ecma_codegen_base.specs.Starts.{order, class_in, mark_start, char_start, start_class, begins_letter}
+use Rattle.swc_ecma_codegen_base.specs.Starts.{order, class_in, mark_start, char_start, start_class, begins_letter, begins_quote}
 use Rattle.swc_ecma_codegen_base.specs.declared.starts.StartClass.{StartClass}
 use Rattle.swc_ecma_codegen_base.specs.declared.starts.StartClass.TheVariants as start
 use Rattle.swc_ecma_codegen_base.proofs.Strangers.{is_in, all_pass, passes, marks, and_false, stranger_same, stranger_apart, dot_same, dash_same, other_same}
 
--- a text of each class
+-- a text of each class, and two that stand for none
 unfoldable pub samples : List (List ℕ)
-samples = codes "a" ∷ codes "0" ∷ codes ".0" ∷ codes "." ∷ codes "--" ∷ codes "{" ∷ codes "}" ∷ codes "(" ∷ codes ")" ∷ codes "[" ∷ codes "]" ∷ codes ";" ∷ codes "," ∷ codes "<" ∷ codes ">" ∷ codes "=" ∷ codes "!" ∷ codes "+" ∷ codes "-" ∷ codes "*" ∷ codes "%" ∷ codes "&" ∷ codes "|" ∷ codes "^" ∷ codes "~" ∷ codes "?" ∷ codes ":" ∷ codes "/" ∷ codes "@" ∷ codes "" ∷ []
+samples = codes "a" ∷ codes "0" ∷ codes ".0" ∷ codes "." ∷ codes "--" ∷ codes "{" ∷ codes "}" ∷ codes "(" ∷ codes ")" ∷ codes "[" ∷ codes "]" ∷ codes ";" ∷ codes "," ∷ codes "<" ∷ codes ">" ∷ codes "=" ∷ codes "!" ∷ codes "+" ∷ codes "-" ∷ codes "*" ∷ codes "%" ∷ codes "&" ∷ codes "|" ∷ codes "^" ∷ codes "~" ∷ codes "?" ∷ codes ":" ∷ codes "/" ∷ codes "@" ∷ codes "" ∷ codes "" ∷ codes "" ∷ []
 
 unfoldable pub sample : StartClass → List ℕ
 sample s = get_or samples (order s) []
@@ -156,3 +156,30 @@ unfolding start_class
 plain_class c n h k =
     ap (λ b. cond (b && begins_digit n) start.DotDigit (cond ((c == 45) && begins (codes "-") n) start.MinusMinus (char_start c))) (ne_eqb c 46 h)
     ∙ ap (λ b. cond (b && begins (codes "-") n) start.MinusMinus (char_start c)) (ne_eqb c 45 k)
+
+-- ---- strings and numbers
+
+-- a text that begins with a digit is of the class of digits
+pub digit_class : (t : List ℕ) → begins_digit t ≡ true → start_class t ≡ start.Digit
+unfolding begins_digit is_digit char_start
+digit_class [] h = absurd (true≢false (sym h))
+digit_class (c ∷ cs) h =
+    plain_class c cs (λ e. true≢false (sym h ∙ ap is_digit e)) (λ e. true≢false (sym h ∙ ap is_digit e)) ∙ ap (λ b. cond b start.Digit (cond (is_part c || (c == 92)) start.NameCharacter (mark_start c))) h
+
+-- the same of a text whose first byte is that of a digit
+pub digit_start : (t : List ℕ) → begins_digit t ≡ true → start_class (chars t) ≡ start.Digit
+unfolding begins_digit is_digit
+digit_start [] h = absurd (true≢false (sym h))
+digit_start (c ∷ cs) h =
+    let high : c ≤ 57 = leb-true c 57 (and_parts (nat_le 48 c) (nat_le c 57) h).1 in
+    let ascii : nat_lt c 128 ≡ true = lt-ltb c 128 (omega arith) in
+    ap start_class (first_letter c cs ascii) ∙ digit_class (c ∷ chars cs) h
+
+-- a text that begins with the byte of a quotation mark is of no class that a token may fuse with
+pub quote_start : (t : List ℕ) → begins_quote t ≡ true → start_class (chars t) ≡ start.Rest
+unfolding start_class char_start mark_start starts.marks class_in is_digit is_part is_letter
+quote_start [] h = absurd (true≢false (sym h))
+quote_start (c ∷ cs) h = elim (or_cases (c == 34) (c == 39) h) [
+  | inl e ↦ ap (λ z. start_class (chars (z ∷ cs))) (eqb-true c 34 e) ∙ ap start_class (first_letter 34 cs refl)
+  | inr e ↦ ap (λ z. start_class (chars (z ∷ cs))) (eqb-true c 39 e) ∙ ap start_class (first_letter 39 cs refl)
+]

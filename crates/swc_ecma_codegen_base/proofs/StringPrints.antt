@@ -69,7 +69,7 @@ quoted_string : (a : Bool) (v : EsVersion) (text : List ℕ) → scalars text �
 quoted_string a v text s = record {
   utf8 = (quoted_text a v text, (quoted_scalars a v text s, refl));
   value = strict_same _ (units text) (ap (string_value false) (literal_chars a v text (encode_utf8_all (quoted_text a v text)) s refl) ∙ quoted_value a v text s);
-  ascii = λ e. ascii_or_kept _ (literal_ascii v text _ s (ap (λ z. encode_utf8_all (quoted_text z v text)) e));
+  ascii = λ e. ascii_or_kept _ (literal_ascii a v text _ e s refl);
 }
 
 value_string : (inline a : Bool) (v : EsVersion) (text : List ℕ) → scalars text ≡ true → IsStringOf a (units text) (encode_utf8_all (cond inline (inline_text (quoted_text a v text)) (quoted_text a v text)))

@@ -63,6 +63,11 @@ abbrev pub begins_letter : List ℕ → Bool
 begins_letter [] = false
 begins_letter (c ∷ cs) = nat_le 97 c && nat_le c 122
 
+-- a text begins with a quotation mark
+abbrev pub begins_quote : List ℕ → Bool
+begins_quote [] = false
+begins_quote (c ∷ cs) = (c == 34) || (c == 39)
+
 -- the order of the classes
 unfoldable pub order : StartClass → ℕ
 order start.NameCharacter = 0

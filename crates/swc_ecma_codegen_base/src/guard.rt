@@ -51,17 +51,20 @@ const TOKEN_CLASSES: usize = PUNCTUATORS + 5;
 
 const START_CLASSES: usize = StartClass::Rest as usize + 1;
 
-const _: () = prove!(BLANKS.len() * BLANKS[0].len() == TOKEN_CLASSES * START_CLASSES);
+const _: () = prove!(BLANKS.len() == TOKEN_CLASSES);
+
+const _: () = prove!(BLANKS[0].len() == START_CLASSES + 2);
 
 const T: bool = true;
 
 const F: bool = false;
 
 /// The row of a class that nothing fuses with.
-const NONE: [bool; 30] = [F; 30];
+const NONE: [bool; 32] = [F; 32];
 
 /// Whether a blank is due: a row for each class of tokens, in their order, and a column for each class of texts.
-const BLANKS: [[bool; 30]; 63] = [
+/// Two more columns stand for no class: a row of 32 is found by a shift.
+const BLANKS: [[bool; 32]; 63] = [
     // `{`
     NONE,
     // `}`
@@ -77,6 +80,7 @@ const BLANKS: [[bool; 30]; 63] = [
     // `.`
     [
         F, T, T, T, F, F, F, F, F, F, F, F, F, F, F, F, F, F, F, F, F, F, F, F, F, F, F, F, F, F,
+        F, F,
     ],
     // `...`
     NONE,
@@ -87,10 +91,12 @@ const BLANKS: [[bool; 30]; 63] = [
     // `<`
     [
         F, F, F, F, F, F, F, F, F, F, F, F, F, T, F, T, F, F, F, F, F, F, F, F, F, F, F, F, F, F,
+        F, F,
     ],
     // `>`
     [
         F, F, F, F, F, F, F, F, F, F, F, F, F, F, T, T, F, F, F, F, F, F, F, F, F, F, F, F, F, F,
+        F, F,
     ],
     // `<=`
     NONE,
@@ -99,10 +105,12 @@ const BLANKS: [[bool; 30]; 63] = [
     // `==`
     [
         F, F, F, F, F, F, F, F, F, F, F, F, F, F, F, T, F, F, F, F, F, F, F, F, F, F, F, F, F, F,
+        F, F,
     ],
     // `!=`
     [
         F, F, F, F, F, F, F, F, F, F, F, F, F, F, F, T, F, F, F, F, F, F, F, F, F, F, F, F, F, F,
+        F, F,
     ],
     // `===`
     NONE,
@@ -111,80 +119,98 @@ const BLANKS: [[bool; 30]; 63] = [
     // `+`
     [
         F, F, F, F, F, F, F, F, F, F, F, F, F, F, F, T, F, T, F, F, F, F, F, F, F, F, F, F, F, F,
+        F, F,
     ],
     // `-`
     [
         F, F, F, F, T, F, F, F, F, F, F, F, F, F, F, T, F, F, T, F, F, F, F, F, F, F, F, F, F, F,
+        F, F,
     ],
     // `*`
     [
         F, F, F, F, F, F, F, F, F, F, F, F, F, F, F, T, F, F, F, T, F, F, F, F, F, F, F, F, F, F,
+        F, F,
     ],
     // `%`
     [
         F, F, F, F, F, F, F, F, F, F, F, F, F, F, F, T, F, F, F, F, F, F, F, F, F, F, F, F, F, F,
+        F, F,
     ],
     // `**`
     [
         F, F, F, F, F, F, F, F, F, F, F, F, F, F, F, T, F, F, F, F, F, F, F, F, F, F, F, F, F, F,
+        F, F,
     ],
     // `++`
     NONE,
     // `--`
     [
         F, F, F, F, F, F, F, F, F, F, F, F, F, F, T, F, F, F, F, F, F, F, F, F, F, F, F, F, F, F,
+        F, F,
     ],
     // `<<`
     [
         F, F, F, F, F, F, F, F, F, F, F, F, F, F, F, T, F, F, F, F, F, F, F, F, F, F, F, F, F, F,
+        F, F,
     ],
     // `>>`
     [
         F, F, F, F, F, F, F, F, F, F, F, F, F, F, T, T, F, F, F, F, F, F, F, F, F, F, F, F, F, F,
+        F, F,
     ],
     // `>>>`
     [
         F, F, F, F, F, F, F, F, F, F, F, F, F, F, F, T, F, F, F, F, F, F, F, F, F, F, F, F, F, F,
+        F, F,
     ],
     // `&`
     [
         F, F, F, F, F, F, F, F, F, F, F, F, F, F, F, T, F, F, F, F, F, T, F, F, F, F, F, F, F, F,
+        F, F,
     ],
     // `|`
     [
         F, F, F, F, F, F, F, F, F, F, F, F, F, F, F, T, F, F, F, F, F, F, T, F, F, F, F, F, F, F,
+        F, F,
     ],
     // `^`
     [
         F, F, F, F, F, F, F, F, F, F, F, F, F, F, F, T, F, F, F, F, F, F, F, F, F, F, F, F, F, F,
+        F, F,
     ],
     // `!`
     [
         F, F, F, F, F, F, F, F, F, F, F, F, F, F, F, T, F, F, F, F, F, F, F, F, F, F, F, F, F, F,
+        F, F,
     ],
     // `~`
     NONE,
     // `&&`
     [
         F, F, F, F, F, F, F, F, F, F, F, F, F, F, F, T, F, F, F, F, F, F, F, F, F, F, F, F, F, F,
+        F, F,
     ],
     // `||`
     [
         F, F, F, F, F, F, F, F, F, F, F, F, F, F, F, T, F, F, F, F, F, F, F, F, F, F, F, F, F, F,
+        F, F,
     ],
     // `??`
     [
         F, F, F, F, F, F, F, F, F, F, F, F, F, F, F, T, F, F, F, F, F, F, F, F, F, F, F, F, F, F,
+        F, F,
     ],
     // `?`
     [
         F, F, F, T, F, F, F, F, F, F, F, F, F, F, F, F, F, F, F, F, F, F, F, F, F, T, F, F, F, F,
+        F, F,
     ],
     // `:`
     NONE,
     // `=`
     [
         F, F, F, F, F, F, F, F, F, F, F, F, F, F, T, T, F, F, F, F, F, F, F, F, F, F, F, F, F, F,
+        F, F,
     ],
     // `+=`
     NONE,
@@ -219,26 +245,31 @@ const BLANKS: [[bool; 30]; 63] = [
     // `/`
     [
         F, F, F, F, F, F, F, F, F, F, F, F, F, F, F, T, F, F, F, T, F, F, F, F, F, F, F, T, F, F,
+        F, F,
     ],
     // `/=`
     NONE,
     // `?.`
     [
         F, T, F, F, F, F, F, F, F, F, F, F, F, F, F, F, F, F, F, F, F, F, F, F, F, F, F, F, F, F,
+        F, F,
     ],
     // `@`
     NONE,
     // `!` right after `<`
     [
         F, F, F, F, T, F, F, F, F, F, F, F, F, F, F, T, F, F, F, F, F, F, F, F, F, F, F, F, F, F,
+        F, F,
     ],
     // a word
     [
         T, T, F, F, F, F, F, F, F, F, F, F, F, F, F, F, F, F, F, F, F, F, F, F, F, F, F, F, F, F,
+        F, F,
     ],
     // a decimal integer
     [
         T, T, T, T, F, F, F, F, F, F, F, F, F, F, F, F, F, F, F, F, F, F, F, F, F, F, F, F, F, F,
+        F, F,
     ],
     // a closing `>`
     NONE,

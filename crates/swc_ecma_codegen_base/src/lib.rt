@@ -37,7 +37,7 @@ use swc_ecma_codegen_literals::TokenClass;
 
 /// What an emission keeps from one call to the next: the allocator, the class of the last token with its row in the table of
 /// blanks, which the next token asks for, whether a call was refused, and the error that the writer gave. Proofs see the last
-/// token itself.
+/// token itself. Once a call was refused no class is asked for, and it may be that of the token that wasn't written.
 #[derive(Drop)]
 pub struct LowerEmitter {
     alloc: Global,
@@ -46,7 +46,7 @@ pub struct LowerEmitter {
     token: Snapshot<Last>,
     failed: bool,
     fault: Option<io::Error>,
-    ghost class: { class_of token.value ≡ last },
+    ghost class: { failed ≡ false → class_of token.value ≡ last },
     ghost of_class: { row ≡ row_of last },
     ghost below: { row < 63 },
 }

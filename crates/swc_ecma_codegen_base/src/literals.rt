@@ -251,7 +251,7 @@ impl LowerEmitter {
         ensures items { Does (string text.now) (state_of cfg.now (W.sheet wr.old) self.old) (state_of cfg.now (W.sheet wr.new) self.new) result }
         ensures level { OnOk result ((W.sheet wr.new).indentation ≡ (W.sheet wr.old).indentation) }
     {
-        self.guard(cfg, wr, text, StartClass::of_text(text))?;
+        self.guard(cfg, wr, text, StartClass::of_literal(text))?;
         self.put_string(cfg, wr, text)?;
         Ok(())
     }
@@ -262,7 +262,7 @@ impl LowerEmitter {
         ensures items { Does (number text.now) (state_of cfg.now (W.sheet wr.old) self.old) (state_of cfg.now (W.sheet wr.new) self.new) result }
         ensures level { OnOk result ((W.sheet wr.new).indentation ≡ (W.sheet wr.old).indentation) }
     {
-        self.guard(cfg, wr, text, StartClass::of_text(text))?;
+        self.guard(cfg, wr, text, StartClass::of_literal(text))?;
         self.put_number(cfg, wr, text)?;
         Ok(())
     }
@@ -274,7 +274,7 @@ impl LowerEmitter {
         ensures items { Does (dotted_number text.now) (state_of cfg.now (W.sheet wr.old) self.old) (state_of cfg.now (W.sheet wr.new) self.new) result }
         ensures level { OnOk result ((W.sheet wr.new).indentation ≡ (W.sheet wr.old).indentation) }
     {
-        self.guard(cfg, wr, text, StartClass::of_text(text))?;
+        self.guard(cfg, wr, text, StartClass::of_literal(text))?;
         self.put_before_dot(cfg, wr, text)?;
         self.put_dot(cfg, wr, text)?;
         Ok(())
@@ -311,7 +311,7 @@ impl LowerEmitter {
         ensures items { Does (number_name span text.now) (state_of cfg.now (W.sheet wr.old) self.old) (state_of cfg.now (W.sheet wr.new) self.new) result }
         ensures level { OnOk result ((W.sheet wr.new).indentation ≡ (W.sheet wr.old).indentation) }
     {
-        self.guard(cfg, wr, text, StartClass::of_text(text))?;
+        self.guard(cfg, wr, text, StartClass::of_literal(text))?;
         self.put_number_name(cfg, wr, span, text)?;
         Ok(())
     }
@@ -328,7 +328,7 @@ impl LowerEmitter {
         ensures items { Does (big_digits span text.now) (state_of cfg.now (W.sheet wr.old) self.old) (state_of cfg.now (W.sheet wr.new) self.new) result }
         ensures level { OnOk result ((W.sheet wr.new).indentation ≡ (W.sheet wr.old).indentation) }
     {
-        self.guard(cfg, wr, text, StartClass::of_text(text))?;
+        self.guard(cfg, wr, text, StartClass::of_literal(text))?;
         self.put_digits(cfg, wr, span, text)?;
         self.put_suffix(cfg, wr, span, text)?;
         Ok(())
@@ -346,7 +346,7 @@ impl LowerEmitter {
         ensures items { Does (big_integer span text.now) (state_of cfg.now (W.sheet wr.old) self.old) (state_of cfg.now (W.sheet wr.new) self.new) result }
         ensures level { OnOk result ((W.sheet wr.new).indentation ≡ (W.sheet wr.old).indentation) }
     {
-        self.guard(cfg, wr, text, StartClass::of_text(text))?;
+        self.guard(cfg, wr, text, StartClass::of_literal(text))?;
         self.put_big_integer(cfg, wr, span, text)?;
         Ok(())
     }

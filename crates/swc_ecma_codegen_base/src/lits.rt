@@ -102,7 +102,7 @@ impl LowerEmitter {
         ensures level { OnOk result ((W.sheet wr.new).indentation ≡ (W.sheet wr.old).indentation) }
     {
         self.leading_comments(cfg, comments, wr, span.lo)?;
-        self.guard(cfg, wr, text, StartClass::of_text(text))?;
+        self.guard(cfg, wr, text, StartClass::of_literal(text))?;
         self.position(cfg, wr, span.lo)?;
         Ok(())
     }

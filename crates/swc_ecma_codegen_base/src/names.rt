@@ -194,7 +194,7 @@ impl LowerEmitter {
         ensures level { OnOk result ((W.sheet wr.new).indentation ≡ (W.sheet wr.old).indentation) }
     {
         if optional {
-            self.punct(cfg, wr, Punctuator::Question)?;
+            self.punct_apart(cfg, wr, Punctuator::Question)?;
         }
         Ok(())
     }

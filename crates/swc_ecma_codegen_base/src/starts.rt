@@ -5,7 +5,7 @@ ghost use Rattle.std.specs.Str.{chars};
 ghost use Rattle.swc_ecma_codegen_ast.specs.Chars.{is_part, begins_digit};
 ghost use Rattle.swc_ecma_codegen_ast.specs.Texts.{begins};
 ghost use Rattle.swc_ecma_codegen_literals.specs.Punctuators.{spelling};
-ghost use Rattle.swc_ecma_codegen_base.specs.Starts.{mark_start, order, start_class, char_start, begins_letter};
+ghost use Rattle.swc_ecma_codegen_base.specs.Starts.{mark_start, order, start_class, char_start, begins_letter, begins_quote};
 
 use swc_ecma_codegen_literals::Punctuator;
 use unicode_ident::is_xid_continue;
@@ -151,6 +151,21 @@ impl StartClass {
         }
     }
 
+    /// The same of a text that mostly is a string or a number: `"a"` or `1`.
+    #[inline(always)]
+    #[tactic(auto, using(crate::proofs::Starting::quote_start, crate::proofs::Starting::digit_start))]
+    pub fn of_literal(text: &str) -> StartClass
+        ensures { result ≡ start_class (chars text.now) }
+    {
+        if begins_quote(text) {
+            StartClass::Rest
+        } else if begins_number(text) {
+            StartClass::Digit
+        } else {
+            StartClass::of_any(text)
+        }
+    }
+
     /// The same, whatever it begins with.
     #[inline(never)]
     fn of_any(text: &str) -> StartClass
@@ -283,6 +298,29 @@ fn begins_letter(text: &str) -> bool
 {
     match text.as_bytes().first() {
         Some(first) => first.is_ascii_lowercase(),
+        None => false,
+    }
+}
+
+/// Whether a text begins with a quotation mark.
+#[inline(always)]
+fn begins_quote(text: &str) -> bool
+    ensures { result ≡ begins_quote text.now }
+{
+    match text.as_bytes().first() {
+        Some(first) => matches!(*first, b'"' | b'\''),
+        None => false,
+    }
+}
+
+/// Whether a text begins with the byte of a decimal digit.
+#[inline(always)]
+#[tactic(auto, unfolding(swc_ecma_codegen_ast::specs::Chars::begins_digit, swc_ecma_codegen_ast::specs::Chars::is_digit))]
+fn begins_number(text: &str) -> bool
+    ensures { result ≡ begins_digit text.now }
+{
+    match text.as_bytes().first() {
+        Some(first) => first.is_ascii_digit(),
         None => false,
     }
 }

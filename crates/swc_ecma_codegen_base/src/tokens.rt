@@ -24,6 +24,7 @@ use crate::LowerEmitter;
 use crate::guard::{blank_due_after, row};
 use crate::last::Last;
 use crate::starts::StartClass;
+use std::mem::replace;
 use std::snapshot::Snapshot;
 use swc_ecma_codegen_common::{Answer, BytePos, DUMMY_SP, Error, Refusal, Result, Span};
 use swc_ecma_codegen_literals::Punctuator;
@@ -69,6 +70,56 @@ impl LowerEmitter {
         self.row = row(self.last);
         self.token = Snapshot::of(&last);
         Ok(())
+    }
+
+    /// Notes the last token ahead of the call that writes it, so that nothing of it is kept over that call, and answers which one
+    /// it was before.
+    fn note(&mut self, last: Last) -> Snapshot<Last>
+        ensures before { result.value ≡ self.old.token.value }
+        ensures token { self.new.token.value ≡ last }
+        ensures failed { self.new.failed ≡ self.old.failed }
+    {
+        self.last = last.class();
+        self.row = row(self.last);
+        replace(&mut self.token, Snapshot::of(&last))
+    }
+
+    /// What a call of the writer answered whose token was noted ahead is passed on in short: a refused one wrote no token.
+    fn settle_noted(&mut self, answer: Result, before: Snapshot<Last>) -> Answer
+        ensures same { result ≡ in_short answer }
+        ensures ok { OnOk result ((self.new.token.value ≡ self.old.token.value) × (self.new.failed ≡ self.old.failed)) }
+        ensures err { OnErr result ((self.new.token.value ≡ before.value) × (self.new.failed ≡ true)) }
+    {
+        match answer {
+            Ok(()) => Ok(()),
+            Err(error) => Err(self.give_up_noted(error, before)),
+        }
+    }
+
+    /// Notes the error that a call of the writer was refused with, whose token was noted ahead, and says it in short.
+    #[cold]
+    #[inline(never)]
+    fn give_up_noted(&mut self, error: Error, before: Snapshot<Last>) -> Refusal
+        ensures same { result ≡ reason_of error }
+        ensures token { self.new.token.value ≡ before.value }
+        ensures failed { self.new.failed ≡ true }
+    {
+        let refusal = self.give_up(error);
+        self.token = before;
+        refusal
+    }
+
+    /// Whether a punctuator doesn't go the shortest way: it is `!`, or a blank is due before it, as before the second `-` of `a - -b`, or
+    /// an earlier call was refused.
+    #[inline(always)]
+    fn is_apart(&self, mark: Punctuator) -> bool {
+        if self.failed {
+            return true;
+        }
+        match mark {
+            Punctuator::Bang => true,
+            _ => blank_due_after(self.row, StartClass::of_mark(mark)),
+        }
     }
 
     /// Writes a blank where the last token and `text`, which begins so, would fuse.
@@ -149,8 +200,9 @@ impl LowerEmitter {
         ensures level { OnOk result ((W.sheet wr.new).indentation ≡ (W.sheet wr.old).indentation) }
     {
         let _ = cfg;
+        let before = self.note(Last::WordEnd);
         let answer = wr.write_keyword(span, text);
-        self.settle(answer, Last::WordEnd)
+        self.settle_noted(answer, before)
     }
 
     /// The call of an operator that is a punctuator.
@@ -162,8 +214,9 @@ impl LowerEmitter {
     {
         let _ = cfg;
         let last = Last::after(self.last, mark);
+        let before = self.note(last);
         let answer = wr.write_operator(None, mark.as_str());
-        self.settle(answer, last)
+        self.settle_noted(answer, before)
     }
 
     /// The call of an operator that is a word.
@@ -179,8 +232,9 @@ impl LowerEmitter {
         ensures level { OnOk result ((W.sheet wr.new).indentation ≡ (W.sheet wr.old).indentation) }
     {
         let _ = cfg;
+        let before = self.note(Last::WordEnd);
         let answer = wr.write_operator(None, text);
-        self.settle(answer, Last::WordEnd)
+        self.settle_noted(answer, before)
     }
 
     /// The call of a punctuator.
@@ -198,8 +252,9 @@ impl LowerEmitter {
     {
         let _ = cfg;
         let last = Last::after(self.last, mark);
+        let before = self.note(last);
         let answer = wr.write_punct(span, mark.as_str());
-        self.settle(answer, last)
+        self.settle_noted(answer, before)
     }
 
     /// The call of a semicolon.
@@ -211,8 +266,9 @@ impl LowerEmitter {
     {
         let _ = cfg;
         let last = Last::after(self.last, Punctuator::Semicolon);
+        let before = self.note(last);
         let answer = wr.write_semi(None);
-        self.settle(answer, last)
+        self.settle_noted(answer, before)
     }
 
     /// The call of a name.
@@ -223,14 +279,54 @@ impl LowerEmitter {
         ensures level { OnOk result ((W.sheet wr.new).indentation ≡ (W.sheet wr.old).indentation) }
     {
         let _ = cfg;
+        let before = self.note(Last::WordEnd);
         let answer = wr.write_symbol(DUMMY_SP, text);
-        self.settle(answer, Last::WordEnd)
+        self.settle_noted(answer, before)
     }
 
     /// Writes a keyword.
     #[inline(always)]
-    #[tactic(auto, unfolding(crate::specs::Words::keyword))]
     pub fn keyword<W: WriteJs>(
+        &mut self,
+        cfg: &Config,
+        wr: &mut W,
+        span: Option<Span>,
+        word: &'static str,
+    ) -> Answer
+        requires { begins_letter word.now ≡ true }
+        ensures items { Does (keyword span word.now) (state_of cfg.now (W.sheet wr.old) self.old) (state_of cfg.now (W.sheet wr.new) self.new) result }
+        // The text reads as the tokens so far and this one, whatever follows that doesn't fuse.
+        ensures reads { (text_before : List ℕ) (tokens : List lexical.Token) → IsWord word.now → ReadsSoFar text_before tokens (state_of cfg.now (W.sheet wr.old) self.old) → OnOk result (ReadsSoFar text_before (tokens ++ lexical.word word.now ∷ []) (state_of cfg.now (W.sheet wr.new) self.new)) }
+        ensures level { OnOk result ((W.sheet wr.new).indentation ≡ (W.sheet wr.old).indentation) }
+    {
+        if self.failed || blank_due_after(self.row, StartClass::NameCharacter) {
+            return self.keyword_apart(cfg, wr, span, word);
+        }
+        self.keyword_here(cfg, wr, span, word)
+    }
+
+    /// The same in a function of its own: a token that goes the shortest way takes fewer registers.
+    #[inline(never)]
+    fn keyword_apart<W: WriteJs>(
+        &mut self,
+        cfg: &Config,
+        wr: &mut W,
+        span: Option<Span>,
+        word: &'static str,
+    ) -> Answer
+        requires { begins_letter word.now ≡ true }
+        ensures items { Does (keyword span word.now) (state_of cfg.now (W.sheet wr.old) self.old) (state_of cfg.now (W.sheet wr.new) self.new) result }
+        // The text reads as the tokens so far and this one, whatever follows that doesn't fuse.
+        ensures reads { (text_before : List ℕ) (tokens : List lexical.Token) → IsWord word.now → ReadsSoFar text_before tokens (state_of cfg.now (W.sheet wr.old) self.old) → OnOk result (ReadsSoFar text_before (tokens ++ lexical.word word.now ∷ []) (state_of cfg.now (W.sheet wr.new) self.new)) }
+        ensures level { OnOk result ((W.sheet wr.new).indentation ≡ (W.sheet wr.old).indentation) }
+    {
+        self.keyword_here(cfg, wr, span, word)
+    }
+
+    /// The same, where it is called.
+    #[inline(always)]
+    #[tactic(auto, unfolding(crate::specs::Words::keyword))]
+    fn keyword_here<W: WriteJs>(
         &mut self,
         cfg: &Config,
         wr: &mut W,
@@ -250,8 +346,33 @@ impl LowerEmitter {
 
     /// Writes an operator that is a punctuator.
     #[inline(always)]
-    #[tactic(auto, unfolding(crate::specs::Words::operator))]
     pub fn operator<W: WriteJs>(&mut self, cfg: &Config, wr: &mut W, mark: Punctuator) -> Answer
+        ensures items { Does (operator (spelling mark)) (state_of cfg.now (W.sheet wr.old) self.old) (state_of cfg.now (W.sheet wr.new) self.new) result }
+        // The text reads as the tokens so far and this one, whatever follows that doesn't fuse.
+        ensures reads { (text_before : List ℕ) (tokens : List lexical.Token) → ReadsSoFar text_before tokens (state_of cfg.now (W.sheet wr.old) self.old) → OnOk result (ReadsSoFar text_before (tokens ++ lexical.punctuator (spelling mark) ∷ []) (state_of cfg.now (W.sheet wr.new) self.new)) }
+        ensures level { OnOk result ((W.sheet wr.new).indentation ≡ (W.sheet wr.old).indentation) }
+    {
+        if self.is_apart(mark) {
+            return self.operator_apart(cfg, wr, mark);
+        }
+        self.operator_here(cfg, wr, mark)
+    }
+
+    /// The same in a function of its own: a token that goes the shortest way takes fewer registers.
+    #[inline(never)]
+    fn operator_apart<W: WriteJs>(&mut self, cfg: &Config, wr: &mut W, mark: Punctuator) -> Answer
+        ensures items { Does (operator (spelling mark)) (state_of cfg.now (W.sheet wr.old) self.old) (state_of cfg.now (W.sheet wr.new) self.new) result }
+        // The text reads as the tokens so far and this one, whatever follows that doesn't fuse.
+        ensures reads { (text_before : List ℕ) (tokens : List lexical.Token) → ReadsSoFar text_before tokens (state_of cfg.now (W.sheet wr.old) self.old) → OnOk result (ReadsSoFar text_before (tokens ++ lexical.punctuator (spelling mark) ∷ []) (state_of cfg.now (W.sheet wr.new) self.new)) }
+        ensures level { OnOk result ((W.sheet wr.new).indentation ≡ (W.sheet wr.old).indentation) }
+    {
+        self.operator_here(cfg, wr, mark)
+    }
+
+    /// The same, where it is called.
+    #[inline(always)]
+    #[tactic(auto, unfolding(crate::specs::Words::operator))]
+    fn operator_here<W: WriteJs>(&mut self, cfg: &Config, wr: &mut W, mark: Punctuator) -> Answer
         ensures items { Does (operator (spelling mark)) (state_of cfg.now (W.sheet wr.old) self.old) (state_of cfg.now (W.sheet wr.new) self.new) result }
         // The text reads as the tokens so far and this one, whatever follows that doesn't fuse.
         ensures reads { (text_before : List ℕ) (tokens : List lexical.Token) → ReadsSoFar text_before tokens (state_of cfg.now (W.sheet wr.old) self.old) → OnOk result (ReadsSoFar text_before (tokens ++ lexical.punctuator (spelling mark) ∷ []) (state_of cfg.now (W.sheet wr.new) self.new)) }
@@ -284,8 +405,38 @@ impl LowerEmitter {
 
     /// Writes a punctuator.
     #[inline(always)]
-    #[tactic(auto, unfolding(crate::specs::Words::punct))]
     pub fn punct<W: WriteJs>(&mut self, cfg: &Config, wr: &mut W, mark: Punctuator) -> Answer
+        ensures items { Does (punct (spelling mark)) (state_of cfg.now (W.sheet wr.old) self.old) (state_of cfg.now (W.sheet wr.new) self.new) result }
+        // The text reads as the tokens so far and this one, whatever follows that doesn't fuse.
+        ensures reads { (text_before : List ℕ) (tokens : List lexical.Token) → ReadsSoFar text_before tokens (state_of cfg.now (W.sheet wr.old) self.old) → OnOk result (ReadsSoFar text_before (tokens ++ lexical.punctuator (spelling mark) ∷ []) (state_of cfg.now (W.sheet wr.new) self.new)) }
+        ensures level { OnOk result ((W.sheet wr.new).indentation ≡ (W.sheet wr.old).indentation) }
+    {
+        if self.is_apart(mark) {
+            return self.punct_apart(cfg, wr, mark);
+        }
+        self.punct_here(cfg, wr, mark)
+    }
+
+    /// The same in a function of its own: a token that goes the shortest way takes fewer registers.
+    #[inline(never)]
+    pub(crate) fn punct_apart<W: WriteJs>(
+        &mut self,
+        cfg: &Config,
+        wr: &mut W,
+        mark: Punctuator,
+    ) -> Answer
+        ensures items { Does (punct (spelling mark)) (state_of cfg.now (W.sheet wr.old) self.old) (state_of cfg.now (W.sheet wr.new) self.new) result }
+        // The text reads as the tokens so far and this one, whatever follows that doesn't fuse.
+        ensures reads { (text_before : List ℕ) (tokens : List lexical.Token) → ReadsSoFar text_before tokens (state_of cfg.now (W.sheet wr.old) self.old) → OnOk result (ReadsSoFar text_before (tokens ++ lexical.punctuator (spelling mark) ∷ []) (state_of cfg.now (W.sheet wr.new) self.new)) }
+        ensures level { OnOk result ((W.sheet wr.new).indentation ≡ (W.sheet wr.old).indentation) }
+    {
+        self.punct_here(cfg, wr, mark)
+    }
+
+    /// The same, where it is called.
+    #[inline(always)]
+    #[tactic(auto, unfolding(crate::specs::Words::punct))]
+    fn punct_here<W: WriteJs>(&mut self, cfg: &Config, wr: &mut W, mark: Punctuator) -> Answer
         ensures items { Does (punct (spelling mark)) (state_of cfg.now (W.sheet wr.old) self.old) (state_of cfg.now (W.sheet wr.new) self.new) result }
         // The text reads as the tokens so far and this one, whatever follows that doesn't fuse.
         ensures reads { (text_before : List ℕ) (tokens : List lexical.Token) → ReadsSoFar text_before tokens (state_of cfg.now (W.sheet wr.old) self.old) → OnOk result (ReadsSoFar text_before (tokens ++ lexical.punctuator (spelling mark) ∷ []) (state_of cfg.now (W.sheet wr.new) self.new)) }
@@ -316,8 +467,33 @@ impl LowerEmitter {
 
     /// Writes a semicolon that may be left out where it isn't needed.
     #[inline(always)]
-    #[tactic(auto, unfolding(crate::specs::Words::semi))]
     pub fn semi<W: WriteJs>(&mut self, cfg: &Config, wr: &mut W) -> Answer
+        ensures items { Does (semi) (state_of cfg.now (W.sheet wr.old) self.old) (state_of cfg.now (W.sheet wr.new) self.new) result }
+        // The text reads as the tokens so far and this one, whatever follows that doesn't fuse.
+        ensures reads { (text_before : List ℕ) (tokens : List lexical.Token) → ReadsSoFar text_before tokens (state_of cfg.now (W.sheet wr.old) self.old) → OnOk result (ReadsSoFar text_before (tokens ++ lexical.ending ∷ []) (state_of cfg.now (W.sheet wr.new) self.new)) }
+        ensures level { OnOk result ((W.sheet wr.new).indentation ≡ (W.sheet wr.old).indentation) }
+    {
+        if self.is_apart(Punctuator::Semicolon) {
+            return self.semi_apart(cfg, wr);
+        }
+        self.semi_here(cfg, wr)
+    }
+
+    /// The same in a function of its own: a token that goes the shortest way takes fewer registers.
+    #[inline(never)]
+    fn semi_apart<W: WriteJs>(&mut self, cfg: &Config, wr: &mut W) -> Answer
+        ensures items { Does (semi) (state_of cfg.now (W.sheet wr.old) self.old) (state_of cfg.now (W.sheet wr.new) self.new) result }
+        // The text reads as the tokens so far and this one, whatever follows that doesn't fuse.
+        ensures reads { (text_before : List ℕ) (tokens : List lexical.Token) → ReadsSoFar text_before tokens (state_of cfg.now (W.sheet wr.old) self.old) → OnOk result (ReadsSoFar text_before (tokens ++ lexical.ending ∷ []) (state_of cfg.now (W.sheet wr.new) self.new)) }
+        ensures level { OnOk result ((W.sheet wr.new).indentation ≡ (W.sheet wr.old).indentation) }
+    {
+        self.semi_here(cfg, wr)
+    }
+
+    /// The same, where it is called.
+    #[inline(always)]
+    #[tactic(auto, unfolding(crate::specs::Words::semi))]
+    fn semi_here<W: WriteJs>(&mut self, cfg: &Config, wr: &mut W) -> Answer
         ensures items { Does (semi) (state_of cfg.now (W.sheet wr.old) self.old) (state_of cfg.now (W.sheet wr.new) self.new) result }
         // The text reads as the tokens so far and this one, whatever follows that doesn't fuse.
         ensures reads { (text_before : List ℕ) (tokens : List lexical.Token) → ReadsSoFar text_before tokens (state_of cfg.now (W.sheet wr.old) self.old) → OnOk result (ReadsSoFar text_before (tokens ++ lexical.ending ∷ []) (state_of cfg.now (W.sheet wr.new) self.new)) }
@@ -347,8 +523,9 @@ impl LowerEmitter {
         if self.failed {
             return Err(Refusal::Failed);
         }
+        let before = self.note(Last::Apart);
         let answer = wr.write_space();
-        self.settle(answer, Last::Apart)
+        self.settle_noted(answer, before)
     }
 
     /// Writes an operator that is a punctuator, between two blanks: ` + `.
@@ -397,8 +574,9 @@ impl LowerEmitter {
         if self.failed {
             return Err(Refusal::Failed);
         }
+        let before = self.note(Last::Apart);
         let answer = wr.write_line();
-        self.settle(answer, Last::Apart)
+        self.settle_noted(answer, before)
     }
 
     /// Writes a semicolon that is held back.

@@ -46,7 +46,7 @@ pub(crate) fn stmt_part_fits<N: Fits>(part: &StmtPart<N>, role: Role) -> bool
         (StmtPart::Class(node), Role::ClassTail) => node.is_well_formed(),
         (StmtPart::ClassMember(node), Role::Member) => node.is_well_formed(),
         (StmtPart::BlockStmt(node), Role::Block) => node.is_well_formed(),
-        (StmtPart::Decl(node), Role::Declaration) => (**node).is_well_formed(),
+        (StmtPart::Decl(node), Role::Declaration) => node.is_well_formed(),
         (StmtPart::Decl(node), Role::ExportedHead) => is_exported_head(node),
         (StmtPart::Decl(node), Role::ExportedTail) => is_exported_tail(node),
         (StmtPart::ModuleDecl(node), Role::ModuleDeclaration) => (**node).is_well_formed(),

@@ -2,7 +2,8 @@
 
 ghost use Rattle.std.specs.Prelude.{◌≡◌};
 ghost use Rattle.swc_ecma_codegen_ast.specs.Phrases.{is_possible};
-ghost use Rattle.swc_ecma_codegen_ast.specs.PropPhrases.{prop_name, key_value_prop, assign_prop, optional_body, getter_prop, setter_prop, method_prop, prop, prop_or_spread, object_lit};
+ghost use Rattle.swc_ecma_codegen_ast.specs.KeyPhrases.{prop_name};
+ghost use Rattle.swc_ecma_codegen_ast.specs.PropPhrases.{key_value_prop, assign_prop, optional_body, getter_prop, setter_prop, method_prop, prop, prop_or_spread, object_lit};
 
 use crate::forms::{Fits, WellFormed, all_well_formed};
 use swc_ecma_codegen_ast::roles::Role;
@@ -14,7 +15,7 @@ use swc_ecma_codegen_tree::{
 impl<N: Fits> WellFormed for PropName<N> {
     ghost phrase = { prop_name N.reads };
 
-    #[tactic(auto, unfolding(swc_ecma_codegen_ast::specs::PropPhrases::prop_name, swc_ecma_codegen_ast::specs::NamePhrases::ident_name, swc_ecma_codegen_ast::specs::Phrases::is_possible))]
+    #[tactic(auto, unfolding(swc_ecma_codegen_ast::specs::KeyPhrases::prop_name, swc_ecma_codegen_ast::specs::NamePhrases::ident_name, swc_ecma_codegen_ast::specs::Phrases::is_possible))]
     fn is_well_formed(&self) -> bool {
         match self {
             PropName::Ident(node) => node.is_well_formed(),

@@ -1,77 +1,71 @@
 //! Nodes of the sorts of expressions, as links hold them. A function each, since a check of one that names the readers of many
 //! sorts is dear.
 
-use crate::reading::{ExprPartSort, Make};
+use crate::part;
+use crate::reading::{ExprPartSort, Make, read};
 use crate::source::{Failed, Source};
-use crate::{own, part};
 use swc_ecma_codegen_tree::{
-    AssignTarget, Expr, ExprPart, Holds, MemberExpr, ObjectLit, OptCall, Pat, PropName, Tpl,
+    AssignTarget, Expr, ExprPart, MemberExpr, ObjectLit, OptCall, Pat, PropName, Tpl,
 };
 
 /// An expression, and all that lies below it.
-pub fn read_expr<N: Holds<Expr<N>> + Drop, S: Source, M: Make<N>>(
+pub fn read_expr<N: Drop, S: Source, M: Make<N>>(
     source: &mut S,
     make: &M,
-) -> Result<N, Failed> {
-    own!(Expr, source, make)
+) -> Result<Expr<N>, Failed> {
+    read(source, make)
 }
 
 /// A member expression, and all that lies below it.
-pub fn read_member_expr<N: Holds<MemberExpr<N>> + Drop, S: Source, M: Make<N>>(
+pub fn read_member_expr<N: Drop, S: Source, M: Make<N>>(
     source: &mut S,
     make: &M,
-) -> Result<N, Failed> {
-    own!(MemberExpr, source, make)
+) -> Result<MemberExpr<N>, Failed> {
+    read(source, make)
 }
 
-fn pat<N: Holds<ExprPart<N>> + Drop, S: Source, M: Make<N>>(
-    source: &mut S,
-    make: &M,
-) -> Result<N, Failed> {
-    part!(Pat in ExprPart, source, make)
+fn pat<N: Drop, S: Source, M: Make<N>>(source: &mut S, make: &M) -> Result<ExprPart<N>, Failed> {
+    part!(Pat, source, make)
 }
 
-fn tpl<N: Holds<ExprPart<N>> + Drop, S: Source, M: Make<N>>(
-    source: &mut S,
-    make: &M,
-) -> Result<N, Failed> {
-    part!(Tpl in ExprPart, source, make)
+fn tpl<N: Drop, S: Source, M: Make<N>>(source: &mut S, make: &M) -> Result<ExprPart<N>, Failed> {
+    part!(Tpl, source, make)
 }
 
-fn object_lit<N: Holds<ExprPart<N>> + Drop, S: Source, M: Make<N>>(
+fn object_lit<N: Drop, S: Source, M: Make<N>>(
     source: &mut S,
     make: &M,
-) -> Result<N, Failed> {
-    part!(ObjectLit in ExprPart, source, make)
+) -> Result<ExprPart<N>, Failed> {
+    part!(ObjectLit, source, make)
 }
 
-fn prop_name<N: Holds<ExprPart<N>> + Drop, S: Source, M: Make<N>>(
+fn prop_name<N: Drop, S: Source, M: Make<N>>(
     source: &mut S,
     make: &M,
-) -> Result<N, Failed> {
-    part!(PropName in ExprPart, source, make)
+) -> Result<ExprPart<N>, Failed> {
+    part!(PropName, source, make)
 }
 
-fn opt_call<N: Holds<ExprPart<N>> + Drop, S: Source, M: Make<N>>(
+fn opt_call<N: Drop, S: Source, M: Make<N>>(
     source: &mut S,
     make: &M,
-) -> Result<N, Failed> {
-    part!(OptCall in ExprPart, source, make)
+) -> Result<ExprPart<N>, Failed> {
+    part!(OptCall, source, make)
 }
 
-fn assign_target<N: Holds<ExprPart<N>> + Drop, S: Source, M: Make<N>>(
+fn assign_target<N: Drop, S: Source, M: Make<N>>(
     source: &mut S,
     make: &M,
-) -> Result<N, Failed> {
-    part!(AssignTarget in ExprPart, source, make)
+) -> Result<ExprPart<N>, Failed> {
+    part!(AssignTarget, source, make)
 }
 
 /// A part of an expression, or a pattern, by its sort, and all that lies below it.
-pub fn read_expr_part<N: Holds<ExprPart<N>> + Drop, S: Source, M: Make<N>>(
+pub fn read_expr_part<N: Drop, S: Source, M: Make<N>>(
     sort: ExprPartSort,
     source: &mut S,
     make: &M,
-) -> Result<N, Failed> {
+) -> Result<ExprPart<N>, Failed> {
     match sort {
         ExprPartSort::Pat => pat(source, make),
         ExprPartSort::Tpl => tpl(source, make),

@@ -113,7 +113,7 @@ impl<N: Drop> ReadFrom<N> for Prop<N> {
 }
 
 impl<N: Drop> ReadFrom<N> for KeyValueProp<N> {
-    type Parts = (PropNameBox<N>, (ExprBox<N>, ()));
+    type Parts = (PropName<N>, (ExprBox<N>, ()));
 
     fn names() -> &'static [Name<'static>] {
         names!(key, value)
@@ -186,7 +186,7 @@ impl<N: Drop> ReadFrom<N> for SetterProp<N> {
 }
 
 impl<N: Drop> ReadFrom<N> for MethodProp<N> {
-    type Parts = (PropNameBox<N>, (FunctionBox<N>, ()));
+    type Parts = (PropName<N>, (FunctionBox<N>, ()));
 
     fn names() -> &'static [Name<'static>] {
         names!(key, function)

@@ -5,50 +5,50 @@ use crate::part;
 use crate::reading::{JSXPartSort, Make};
 use crate::source::{Failed, Source};
 use swc_ecma_codegen_tree::{
-    Holds, JSXAttrValue, JSXElement, JSXElementChild, JSXFragment, JSXObject, JSXPart,
+    JSXAttrValue, JSXElement, JSXElementChild, JSXFragment, JSXObject, JSXPart,
 };
 
-fn jsx_element_child<N: Holds<JSXPart<N>> + Drop, S: Source, M: Make<N>>(
+fn jsx_element_child<N: Drop, S: Source, M: Make<N>>(
     source: &mut S,
     make: &M,
-) -> Result<N, Failed> {
-    part!(JSXElementChild in JSXPart, source, make)
+) -> Result<JSXPart<N>, Failed> {
+    part!(JSXElementChild, source, make)
 }
 
-fn jsx_attr_value<N: Holds<JSXPart<N>> + Drop, S: Source, M: Make<N>>(
+fn jsx_attr_value<N: Drop, S: Source, M: Make<N>>(
     source: &mut S,
     make: &M,
-) -> Result<N, Failed> {
-    part!(JSXAttrValue in JSXPart, source, make)
+) -> Result<JSXPart<N>, Failed> {
+    part!(JSXAttrValue, source, make)
 }
 
-fn jsx_element<N: Holds<JSXPart<N>> + Drop, S: Source, M: Make<N>>(
+fn jsx_element<N: Drop, S: Source, M: Make<N>>(
     source: &mut S,
     make: &M,
-) -> Result<N, Failed> {
-    part!(JSXElement in JSXPart, source, make)
+) -> Result<JSXPart<N>, Failed> {
+    part!(JSXElement, source, make)
 }
 
-fn jsx_fragment<N: Holds<JSXPart<N>> + Drop, S: Source, M: Make<N>>(
+fn jsx_fragment<N: Drop, S: Source, M: Make<N>>(
     source: &mut S,
     make: &M,
-) -> Result<N, Failed> {
-    part!(JSXFragment in JSXPart, source, make)
+) -> Result<JSXPart<N>, Failed> {
+    part!(JSXFragment, source, make)
 }
 
-fn jsx_object<N: Holds<JSXPart<N>> + Drop, S: Source, M: Make<N>>(
+fn jsx_object<N: Drop, S: Source, M: Make<N>>(
     source: &mut S,
     make: &M,
-) -> Result<N, Failed> {
-    part!(JSXObject in JSXPart, source, make)
+) -> Result<JSXPart<N>, Failed> {
+    part!(JSXObject, source, make)
 }
 
 /// A part of JSX by its sort, and all that lies below it.
-pub fn read_jsx_part<N: Holds<JSXPart<N>> + Drop, S: Source, M: Make<N>>(
+pub fn read_jsx_part<N: Drop, S: Source, M: Make<N>>(
     sort: JSXPartSort,
     source: &mut S,
     make: &M,
-) -> Result<N, Failed> {
+) -> Result<JSXPart<N>, Failed> {
     match sort {
         JSXPartSort::JSXElementChild => jsx_element_child(source, make),
         JSXPartSort::JSXAttrValue => jsx_attr_value(source, make),

@@ -44,16 +44,17 @@ impl Make<AnyNode> for Levels {
     }
 }
 
-/// A node of a sort, and all that lies below it, read by its area.
+/// A node of a sort, and all that lies below it, read by its area. What a link holds is made of it here, by its variant: that a
+/// link may hold a sort, said to a reader of that sort, would be compared with the whole tree.
 #[cycle(tie)]
 fn read_node<S: Source>(sort: Sort, source: &mut S, make: &Levels) -> Result<AnyNode, Failed> {
-    match sort {
-        Sort::Expr => read_expr(source, make),
-        Sort::Stmt => read_stmt(source, make),
-        Sort::MemberExpr => read_member_expr(source, make),
-        Sort::ExprPart(sort) => read_expr_part(sort, source, make),
-        Sort::StmtPart(sort) => read_stmt_part(sort, source, make),
-        Sort::JSXPart(sort) => read_jsx_part(sort, source, make),
-        Sort::TsPart(sort) => read_ts_part(sort, source, make),
-    }
+    Ok(match sort {
+        Sort::Expr => AnyNode::Expr(read_expr(source, make)?),
+        Sort::Stmt => AnyNode::Stmt(read_stmt(source, make)?),
+        Sort::MemberExpr => AnyNode::MemberExpr(read_member_expr(source, make)?),
+        Sort::ExprPart(sort) => AnyNode::ExprPart(read_expr_part(sort, source, make)?),
+        Sort::StmtPart(sort) => AnyNode::StmtPart(read_stmt_part(sort, source, make)?),
+        Sort::JSXPart(sort) => AnyNode::JSXPart(read_jsx_part(sort, source, make)?),
+        Sort::TsPart(sort) => AnyNode::TsPart(read_ts_part(sort, source, make)?),
+    })
 }

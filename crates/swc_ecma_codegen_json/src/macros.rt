@@ -114,20 +114,11 @@ macro_rules! spelled {
     };
 }
 
-/// A node of a sort that a link holds by itself.
+/// A node of a sort that a link holds in a part: the part.
 #[macro_export]
-macro_rules! own {
+macro_rules! part {
     ($sort:ident, $source:ident, $make:ident) => {{
         let node: $sort<N> = $crate::reading::read($source, $make)?;
         $crate::reading::held($source, node)
-    }};
-}
-
-/// A node of a sort that a link holds in a part.
-#[macro_export]
-macro_rules! part {
-    ($sort:ident in $part:ident, $source:ident, $make:ident) => {{
-        let node: $sort<N> = $crate::reading::read($source, $make)?;
-        $crate::reading::held_in_part::<$part<N>, $sort<N>, N, S>($source, node)
     }};
 }

@@ -7,7 +7,7 @@ use serde::Name;
 use swc_ecma_codegen_common::Span;
 use swc_ecma_codegen_tree::{
     ArrayPat, AssignPat, AssignPatProp, AssignTargetPat, BindingIdent, ExprBox, KeyValuePatProp,
-    ObjectPat, ObjectPatProp, Pat, PatBox, PropNameBox, RestPat, TsTypeAnnBox,
+    ObjectPat, ObjectPatProp, Pat, PatBox, PropName, RestPat, TsTypeAnnBox,
 };
 
 impl<N: Drop> ReadFrom<N> for Pat<N> {
@@ -116,7 +116,7 @@ impl<N: Drop> ReadFrom<N> for ObjectPatProp<N> {
 }
 
 impl<N: Drop> ReadFrom<N> for KeyValuePatProp<N> {
-    type Parts = (PropNameBox<N>, (PatBox<N>, ()));
+    type Parts = (PropName<N>, (PatBox<N>, ()));
 
     fn names() -> &'static [Name<'static>] {
         names!(key, value)

@@ -200,21 +200,11 @@ pub fn members<N: Drop, V: Parts<N>, S: Source, M: Make<N>>(
     V::begin(names, source, make)
 }
 
-/// What a link holds, once it is read.
+/// The part that holds a node, once it is read.
 #[inline(always)]
-pub fn held<T, N: Holds<T>, S: Source>(source: &mut S, node: T) -> Result<N, Failed> {
-    match N::hold(source.alloc(), node) {
-        Ok(holder) => Ok(holder),
+pub fn held<T, P: Holds<T>, S: Source>(source: &mut S, node: T) -> Result<P, Failed> {
+    match P::hold(source.alloc(), node) {
+        Ok(part) => Ok(part),
         Err(_) => Err(source.fail(Fault::NoMemory)),
     }
-}
-
-/// What a link holds, once a node in one of its parts is read.
-#[inline(always)]
-pub fn held_in_part<P: Holds<T>, T, N: Holds<P>, S: Source>(
-    source: &mut S,
-    node: T,
-) -> Result<N, Failed> {
-    let part: P = held(source, node)?;
-    held(source, part)
 }

@@ -1,77 +1,70 @@
 //! Nodes of the sorts of statements, as links hold them. A function each, since a check of one that names the readers of many
 //! sorts is dear.
 
+use crate::part;
 use crate::reading::{Make, StmtPartSort, read};
 use crate::source::{Failed, Source};
-use crate::{own, part};
 use swc_ecma_codegen_tree::{
-    BlockStmt, Class, ClassMember, Decl, Function, Holds, ModuleDecl, Program, Stmt, StmtPart,
-    VarDecl,
+    BlockStmt, Class, ClassMember, Decl, Function, ModuleDecl, Program, Stmt, StmtPart, VarDecl,
 };
 
 /// A statement, and all that lies below it.
-pub fn read_stmt<N: Holds<Stmt<N>> + Drop, S: Source, M: Make<N>>(
+pub fn read_stmt<N: Drop, S: Source, M: Make<N>>(
     source: &mut S,
     make: &M,
-) -> Result<N, Failed> {
-    own!(Stmt, source, make)
+) -> Result<Stmt<N>, Failed> {
+    read(source, make)
 }
 
-fn function<N: Holds<StmtPart<N>> + Drop, S: Source, M: Make<N>>(
+fn function<N: Drop, S: Source, M: Make<N>>(
     source: &mut S,
     make: &M,
-) -> Result<N, Failed> {
-    part!(Function in StmtPart, source, make)
+) -> Result<StmtPart<N>, Failed> {
+    part!(Function, source, make)
 }
 
-fn class<N: Holds<StmtPart<N>> + Drop, S: Source, M: Make<N>>(
-    source: &mut S,
-    make: &M,
-) -> Result<N, Failed> {
-    part!(Class in StmtPart, source, make)
+fn class<N: Drop, S: Source, M: Make<N>>(source: &mut S, make: &M) -> Result<StmtPart<N>, Failed> {
+    part!(Class, source, make)
 }
 
-fn block_stmt<N: Holds<StmtPart<N>> + Drop, S: Source, M: Make<N>>(
+fn block_stmt<N: Drop, S: Source, M: Make<N>>(
     source: &mut S,
     make: &M,
-) -> Result<N, Failed> {
-    part!(BlockStmt in StmtPart, source, make)
+) -> Result<StmtPart<N>, Failed> {
+    part!(BlockStmt, source, make)
 }
 
-fn decl<N: Holds<StmtPart<N>> + Drop, S: Source, M: Make<N>>(
-    source: &mut S,
-    make: &M,
-) -> Result<N, Failed> {
-    part!(Decl in StmtPart, source, make)
+fn decl<N: Drop, S: Source, M: Make<N>>(source: &mut S, make: &M) -> Result<StmtPart<N>, Failed> {
+    part!(Decl, source, make)
 }
 
-fn module_decl<N: Holds<StmtPart<N>> + Drop, S: Source, M: Make<N>>(
+fn module_decl<N: Drop, S: Source, M: Make<N>>(
     source: &mut S,
     make: &M,
-) -> Result<N, Failed> {
-    part!(ModuleDecl in StmtPart, source, make)
+) -> Result<StmtPart<N>, Failed> {
+    part!(ModuleDecl, source, make)
 }
 
-fn var_decl<N: Holds<StmtPart<N>> + Drop, S: Source, M: Make<N>>(
+fn var_decl<N: Drop, S: Source, M: Make<N>>(
     source: &mut S,
     make: &M,
-) -> Result<N, Failed> {
-    part!(VarDecl in StmtPart, source, make)
+) -> Result<StmtPart<N>, Failed> {
+    part!(VarDecl, source, make)
 }
 
-fn class_member<N: Holds<StmtPart<N>> + Drop, S: Source, M: Make<N>>(
+fn class_member<N: Drop, S: Source, M: Make<N>>(
     source: &mut S,
     make: &M,
-) -> Result<N, Failed> {
-    part!(ClassMember in StmtPart, source, make)
+) -> Result<StmtPart<N>, Failed> {
+    part!(ClassMember, source, make)
 }
 
 /// A part of a statement, of a declaration, a class or a module, by its sort, and all that lies below it.
-pub fn read_stmt_part<N: Holds<StmtPart<N>> + Drop, S: Source, M: Make<N>>(
+pub fn read_stmt_part<N: Drop, S: Source, M: Make<N>>(
     sort: StmtPartSort,
     source: &mut S,
     make: &M,
-) -> Result<N, Failed> {
+) -> Result<StmtPart<N>, Failed> {
     match sort {
         StmtPartSort::Function => function(source, make),
         StmtPartSort::Class => class(source, make),

@@ -5,72 +5,69 @@ use crate::part;
 use crate::reading::{Make, TsPartSort};
 use crate::source::{Failed, Source};
 use swc_ecma_codegen_tree::{
-    Holds, TsEntityName, TsFnParam, TsNamespaceBody, TsPart, TsType, TsTypeAnn, TsTypeElement,
+    TsEntityName, TsFnParam, TsNamespaceBody, TsPart, TsType, TsTypeAnn, TsTypeElement,
     TsTypeParamDecl, TsTypeParamInstantiation,
 };
 
-fn ts_type<N: Holds<TsPart<N>> + Drop, S: Source, M: Make<N>>(
-    source: &mut S,
-    make: &M,
-) -> Result<N, Failed> {
-    part!(TsType in TsPart, source, make)
+fn ts_type<N: Drop, S: Source, M: Make<N>>(source: &mut S, make: &M) -> Result<TsPart<N>, Failed> {
+    part!(TsType, source, make)
 }
 
-fn ts_namespace_body<N: Holds<TsPart<N>> + Drop, S: Source, M: Make<N>>(
+fn ts_namespace_body<N: Drop, S: Source, M: Make<N>>(
     source: &mut S,
     make: &M,
-) -> Result<N, Failed> {
-    part!(TsNamespaceBody in TsPart, source, make)
+) -> Result<TsPart<N>, Failed> {
+    part!(TsNamespaceBody, source, make)
 }
 
-fn ts_type_ann<N: Holds<TsPart<N>> + Drop, S: Source, M: Make<N>>(
+fn ts_type_ann<N: Drop, S: Source, M: Make<N>>(
     source: &mut S,
     make: &M,
-) -> Result<N, Failed> {
-    part!(TsTypeAnn in TsPart, source, make)
+) -> Result<TsPart<N>, Failed> {
+    part!(TsTypeAnn, source, make)
 }
 
-fn ts_type_param_decl<N: Holds<TsPart<N>> + Drop, S: Source, M: Make<N>>(
+fn ts_type_param_decl<N: Drop, S: Source, M: Make<N>>(
     source: &mut S,
     make: &M,
-) -> Result<N, Failed> {
-    part!(TsTypeParamDecl in TsPart, source, make)
+) -> Result<TsPart<N>, Failed> {
+    part!(TsTypeParamDecl, source, make)
 }
 
-fn ts_type_param_instantiation<N: Holds<TsPart<N>> + Drop, S: Source, M: Make<N>>(
+fn ts_type_param_instantiation<N: Drop, S: Source, M: Make<N>>(
     source: &mut S,
     make: &M,
-) -> Result<N, Failed> {
-    part!(TsTypeParamInstantiation in TsPart, source, make)
+) -> Result<TsPart<N>, Failed> {
+    part!(TsTypeParamInstantiation, source, make)
 }
 
-fn ts_fn_param<N: Holds<TsPart<N>> + Drop, S: Source, M: Make<N>>(
+fn ts_fn_param<N: Drop, S: Source, M: Make<N>>(
     source: &mut S,
     make: &M,
-) -> Result<N, Failed> {
-    part!(TsFnParam in TsPart, source, make)
+) -> Result<TsPart<N>, Failed> {
+    part!(TsFnParam, source, make)
 }
 
-fn ts_type_element<N: Holds<TsPart<N>> + Drop, S: Source, M: Make<N>>(
+fn ts_type_element<N: Drop, S: Source, M: Make<N>>(
     source: &mut S,
     make: &M,
-) -> Result<N, Failed> {
-    part!(TsTypeElement in TsPart, source, make)
+) -> Result<TsPart<N>, Failed> {
+    part!(TsTypeElement, source, make)
 }
 
-fn ts_entity_name<N: Holds<TsPart<N>> + Drop, S: Source, M: Make<N>>(
+fn ts_entity_name<N: Drop, S: Source, M: Make<N>>(
     source: &mut S,
     make: &M,
-) -> Result<N, Failed> {
-    part!(TsEntityName in TsPart, source, make)
+) -> Result<TsPart<N>, Failed> {
+    part!(TsEntityName, source, make)
 }
 
 /// A part of TypeScript by its sort, and all that lies below it.
-pub fn read_ts_part<N: Holds<TsPart<N>> + Drop, S: Source, M: Make<N>>(
+pub fn read_ts_part<N: Drop, S: Source, M: Make<N>>(
     sort: TsPartSort,
     source: &mut S,
     make: &M,
-) -> Result<N, Failed> {
+) -> Result<TsPart<N>, Failed> {
     match sort {
         TsPartSort::TsType => ts_type(source, make),
         TsPartSort::TsNamespaceBody => ts_namespace_body(source, make),

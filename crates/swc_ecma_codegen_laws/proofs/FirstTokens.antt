@@ -66,6 +66,7 @@ use Rattle.swc_ecma_codegen_ast.specs.PartPhrases as part_lists
 use Rattle.swc_ecma_codegen_ast.specs.DeclPhrases as decl_lists
 use Rattle.swc_ecma_codegen_ast.specs.FunctionPhrases as function_lists
 use Rattle.swc_ecma_codegen_ast.specs.PatPhrases as pat_lists
+use Rattle.swc_ecma_codegen_ast.specs.KeyPhrases as key_lists
 use Rattle.swc_ecma_codegen_ast.specs.PropPhrases as prop_lists
 use Rattle.swc_ecma_codegen_ast.specs.ClassPhrases as class_lists
 use Rattle.swc_ecma_codegen_ast.specs.TemplatePhrases as template_lists
@@ -364,12 +365,35 @@ unfolding lists.expr_in expr_starts
 callee_expr_begins reads starts law (exprs.New n) = new_begins reads true n
 callee_expr_begins reads starts law n = expr_begins reads starts law n
 
+kind_begins : (kind : VarDeclKind) → Begins (decl_lists.var_kind kind) true
+unfolding decl_lists.var_kind
+kind_begins Var = begins_true _
+kind_begins Let = begins_true _
+kind_begins Const = begins_true _
+
+var_decl_begins : {X : Type 0} (reads : X → Role → Phrase) (n : VarDecl X) → Begins (decl_lists.var_decl reads n) true
+unfolding decl_lists.var_decl
+var_decl_begins reads n = unless_begins n.declare _ true (begins_then _ _ _ (kind_begins n.kind))
+
+using_begins : (is_await : Bool) (rest : Phrase) → Begins (decl_lists.after_await is_await (phrases.word (codes "using") > rest)) true
+unfolding decl_lists.after_await
+using_begins true rest = begins_then _ _ _ (begins_true _)
+using_begins false rest = begins_then _ _ _ (begins_true _)
+
+decl_begins : {X : Type 0} (reads : X → Role → Phrase) (starts : X → Bool) → Begin reads starts → (n : Decl X) → Begins (decl_lists.decl reads n) true
+unfolding leads begins_as decl_lists.decl class_lists.class_decl decl_lists.fn_decl decl_lists.using_decl
+decl_begins reads starts law (decls.Class n) = unless_begins n.declare _ true (begins_before _ _ (begins_then _ _ _ (begins_true _)))
+decl_begins reads starts law (decls.Fn n) = unless_begins n.declare _ true (begins_then _ _ _ (law n.function.node.value FunctionHead refl))
+decl_begins reads starts law (decls.Var n) = begins_then _ _ _ (var_decl_begins reads n)
+decl_begins reads starts law (decls.Using n) = begins_then _ _ _ (using_begins n.is_await _)
+decl_begins reads starts law n = begins_never true
+
 stmt_begins : {X : Type 0} (reads : X → Role → Phrase) (starts : X → Bool) → Begin reads starts → (n : Stmt X) → Begins (stmt_lists.stmt reads n) (stmt_starts starts n)
 unfolding leads begins_as stmt_starts names.ident stmt_lists.stmt stmt_lists.empty_stmt stmt_lists.expr_stmt stmt_lists.debugger_stmt stmt_lists.with_stmt stmt_lists.return_stmt stmt_lists.labeled_stmt stmt_lists.break_stmt stmt_lists.continue_stmt stmt_lists.if_stmt stmt_lists.switch_stmt stmt_lists.throw_stmt stmt_lists.try_stmt stmt_lists.while_stmt stmt_lists.do_while_stmt stmt_lists.for_stmt stmt_lists.for_in_stmt stmt_lists.for_of_stmt
 stmt_begins reads starts law (stmts.Block n) = law n.node.value Block refl
 stmt_begins reads starts law (stmts.Empty n) = begins_mark _ false
 stmt_begins reads starts law (stmts.Expr n) = begins_then _ _ _ (law n.expr.node.value Expression refl)
-stmt_begins reads starts law (stmts.Decl n) = law n.node.value Declaration refl
+stmt_begins reads starts law (stmts.Decl n) = decl_begins reads starts law n
 stmt_begins reads starts law (stmts.Labeled n) = begins_then _ _ _ (begins_then _ _ _ (begins_name _ _))
 stmt_begins reads starts law n = begins_then _ _ _ (begins_true _)
 
@@ -421,8 +445,8 @@ begins_key : (at : BytePos) (bytes : List ℕ) → Begins (KeyOf at bytes) true
 unfolding Generates
 begins_key at bytes = record { some = λ s k. nothing_first _ [] k; told = λ s y ys k j. refl }
 
-prop_name_begins : {X : Type 0} (reads : X → Role → Phrase) (n : PropName X) → Begins (prop_lists.prop_name reads n) (prop_name_starts n)
-unfolding prop_name_starts prop_lists.prop_name lit_lists.str_lit lit_lists.string_token lit_lists.number lit_lists.big_int lists.computed_prop_name joins_a_word
+prop_name_begins : {X : Type 0} (reads : X → Role → Phrase) (n : PropName X) → Begins (key_lists.prop_name reads n) (prop_name_starts n)
+unfolding prop_name_starts key_lists.prop_name lit_lists.str_lit lit_lists.string_token lit_lists.number lit_lists.big_int key_lists.computed_prop_name joins_a_word
 prop_name_begins reads (prop_names.Ident n) = begins_key _ _
 prop_name_begins reads (prop_names.Str n) = begins_where _ _ _ (begins_other _ false refl)
 prop_name_begins reads (prop_names.Num n) = begins_number n.value.value n.value.raw
@@ -441,29 +465,6 @@ part_begins reads starts law (expr_parts.Tpl n) Template h = tpl_begins reads (t
 part_begins reads starts law (expr_parts.Tpl n) TaggedTemplate h = tpl_begins reads (template_lists.is_counted n.exprs.items n.quasis.items) true n.exprs.items n.quasis.items
 part_begins reads starts law n role h = begins_never _
 
-kind_begins : (kind : VarDeclKind) → Begins (decl_lists.var_kind kind) true
-unfolding decl_lists.var_kind
-kind_begins Var = begins_true _
-kind_begins Let = begins_true _
-kind_begins Const = begins_true _
-
-var_decl_begins : {X : Type 0} (reads : X → Role → Phrase) (n : VarDecl X) → Begins (decl_lists.var_decl reads n) true
-unfolding decl_lists.var_decl
-var_decl_begins reads n = unless_begins n.declare _ true (begins_then _ _ _ (kind_begins n.kind))
-
-using_begins : (is_await : Bool) (rest : Phrase) → Begins (decl_lists.after_await is_await (phrases.word (codes "using") > rest)) true
-unfolding decl_lists.after_await
-using_begins true rest = begins_then _ _ _ (begins_true _)
-using_begins false rest = begins_then _ _ _ (begins_true _)
-
-decl_begins : {X : Type 0} (reads : X → Role → Phrase) (starts : X → Bool) → Begin reads starts → (n : Decl X) → Begins (decl_lists.decl reads n) true
-unfolding leads begins_as decl_lists.decl class_lists.class_decl decl_lists.fn_decl decl_lists.using_decl
-decl_begins reads starts law (decls.Class n) = unless_begins n.declare _ true (begins_before _ _ (begins_then _ _ _ (begins_true _)))
-decl_begins reads starts law (decls.Fn n) = unless_begins n.declare _ true (begins_then _ _ _ (law n.function.node.value FunctionHead refl))
-decl_begins reads starts law (decls.Var n) = begins_then _ _ _ (law n.node.value VariableDeclaration refl)
-decl_begins reads starts law (decls.Using n) = begins_then _ _ _ (using_begins n.is_await _)
-decl_begins reads starts law n = begins_never true
-
 stmt_part_begins : {X : Type 0} (reads : X → Role → Phrase) (starts : X → Bool) → Begin reads starts → (n : StmtPart X) (role : Role) → leads role ≡ true → Begins (part_lists.stmt_part reads n role) (begins_as role (stmt_part_starts n))
 unfolding leads begins_as part_lists.stmt_part stmt_part_starts function_lists.function function_lists.function_head stmt_lists.block_stmt
 stmt_part_begins reads starts law (stmt_parts.Function n) Function h = function_begins (is_some n.value.type_params || (is_some n.value.return_type || function_lists.is_some_listed n.value.decorators.items)) _
@@ -479,7 +480,7 @@ stmt_part_begins reads starts law (stmt_parts.Class n) ClassHead h = absurd (tru
 stmt_part_begins reads starts law (stmt_parts.Class n) ClassTail h = absurd (true≢false (sym h))
 stmt_part_begins reads starts law (stmt_parts.ClassMember n) Member h = absurd (true≢false (sym h))
 stmt_part_begins reads starts law (stmt_parts.BlockStmt n) Block h = begins_then _ _ _ (begins_mark _ false)
-stmt_part_begins reads starts law (stmt_parts.Decl n) Declaration h = decl_begins reads starts law n.value
+stmt_part_begins reads starts law (stmt_parts.Decl n) Declaration h = decl_begins reads starts law n
 stmt_part_begins reads starts law (stmt_parts.VarDecl n) VariableDeclaration h = var_decl_begins reads n
 stmt_part_begins reads starts law n role h = begins_never _
 

@@ -5,21 +5,21 @@
 //! the start of a comment, nor `a - -b` as a decrement.
 #![tactic(auto)]
 
-ghost use Rattle.std.specs.Prelude.{◌≡◌, ℕ, Bool, true, false, if◌then◌else◌, List, [], ◌∷◌, OnOk, Ok, Err, Some, None};
+ghost use Rattle.std.specs.Prelude.{◌≡◌, ℕ, Bool, true, false, if◌then◌else◌, List, [], ◌∷◌, Ok, Err, Some, None};
 ghost use Rattle.swc_ecma_codegen_common.specs.declared.errors.Refusal.TheVariants as refusals;
-ghost use Rattle.swc_ecma_codegen_common.specs.Refusals.{in_short};
 ghost use Rattle.std.specs.String.{string_bytes};
 ghost use Rattle.swc_ecma_codegen_tree.specs.declared.exprs.Tpl.{Tpl};
+ghost use Rattle.swc_ecma_codegen_tree.specs.declared.stmts.Stmt.{Stmt};
 ghost use Rattle.swc_ecma_codegen_tree.specs.declared.links.AnyNode.{AnyNode};
 ghost use Rattle.swc_ecma_codegen_tree.specs.declared.lits.Str.{Str};
 ghost use Rattle.swc_ecma_codegen_tree.specs.declared.modules.ImportDecl.{ImportDecl};
 ghost use Rattle.swc_ecma_codegen_util.specs.declared.config.Config.{Config};
 ghost use Rattle.swc_ecma_codegen_ast.specs.Tokens.{Token};
-ghost use Rattle.swc_ecma_codegen_ast.specs.Phrases.{Phrase, Generates, is_possible};
+ghost use Rattle.swc_ecma_codegen_ast.specs.Phrases.{Phrase, Generates};
 ghost use Rattle.swc_ecma_codegen_ast.specs.Settings.{Settings};
 ghost use Rattle.swc_ecma_codegen_ast.specs.Layouts.{AreAlike, AreSameBut, IsWritten};
 ghost use Rattle.swc_ecma_codegen_ast.specs.TemplatePhrases.{is_counted};
-ghost use Rattle.swc_ecma_codegen_ast.specs.TreePhrases.{expr_phrase, stmt_phrase};
+ghost use Rattle.swc_ecma_codegen_ast.specs.TreePhrases.{expr_phrase};
 ghost use Rattle.swc_ecma_codegen_text_writer.specs.Sheet.{HoldsNone};
 ghost use Rattle.swc_ecma_codegen_text_writer.specs.View.{new_sheet};
 ghost use Rattle.swc_ecma_codegen_base.specs.declared.refusals.Unprintable.TheVariants.{BadShape, NameOutOfTarget};
@@ -28,7 +28,7 @@ ghost use Rattle.swc_ecma_codegen_base.specs.Run.{Env, Follows, Plan, State, not
 ghost use Rattle.swc_ecma_codegen_base.specs.Lits.{prints_raw, string_at, value_text};
 ghost use Rattle.swc_ecma_codegen_base.specs.Scripts.{value_strings};
 ghost use Rattle.swc_ecma_codegen_base.specs.Targets.{is_out};
-ghost use Rattle.swc_ecma_codegen_base.specs.Written.{IsLineEnd, IsNew, AddsReading, all_indent};
+ghost use Rattle.swc_ecma_codegen_base.specs.Written.{IsLineEnd, IsNew, all_indent};
 ghost use Rattle.swc_ecma_codegen_base.specs.Ready.{IsReady};
 ghost use Rattle.swc_ecma_codegen_util.specs.Starts.{expr_starts, any_starts};
 ghost use Rattle.swc_ecma_codegen.specs.declared.nodes.Place.TheVariants.{Plain};
@@ -40,9 +40,8 @@ ghost use Rattle.swc_ecma_codegen.specs.Templates.{tpl};
 ghost use Rattle.swc_ecma_codegen.specs.Tree.{any_items};
 ghost use Rattle.swc_ecma_codegen_base.specs.Escapes.{may_make_text};
 ghost use Rattle.swc_ecma_codegen_base.specs.Ascii.{keeps_other, may_keep_other, WantsAscii};
-ghost use Rattle.swc_ecma_codegen.specs.Roots.{Root, root_items, root_phrase, is_well_formed_root, MayBegin};
+ghost use Rattle.swc_ecma_codegen.specs.Roots.{Root, OfExpr, OfStmt, root_items, root_phrase, root_hashbang, is_well_formed_root, MayBegin};
 ghost use Rattle.swc_ecma_codegen_laws.specs.FirstTokens.{joins_a_word};
-ghost use Rattle.swc_ecma_codegen.specs.View.{state_of};
 
 mod links;
 
@@ -50,40 +49,20 @@ pub use crate::links::{
     emitted_box_reads, emitted_link_reads, emitted_option_reads, emitted_ref_reads,
     links_write_members, links_write_targets, links_write_their_roots,
 };
-use swc_ecma_codegen::{Emitter, Node};
-use swc_ecma_codegen_ast::comments::Comments;
-use swc_ecma_codegen_ast::mapper::SourceMapper;
 pub use swc_ecma_codegen_ast::reading_laws::{
     one_reading, reduced_tokens_read, spaced_tokens_read,
 };
-use swc_ecma_codegen_common::Result;
-use swc_ecma_codegen_text_writer::WriteJs;
-use swc_ecma_codegen_tree::{Expr, Stmt};
+use swc_ecma_codegen_tree::Expr;
 use swc_ecma_codegen_util::util::StartsWithAlphaNum;
 
-/// What `emit_with` of an expression adds to the text reads as one of the expression's token lists.
-pub fn emitted_expr_reads<W: WriteJs, S: SourceMapper, C: Comments>(
-    expr: &Expr,
-    e: &mut Emitter<'_, W, S, C>,
-) -> Result
-    // It is what `emit_with` does.
-    ensures items { Follows (expr_items any_answers any_items expr.now Plain nothing) (state_of S.lines W.sheet e.old) (state_of S.lines W.sheet e.new) (in_short result) }
-    ensures reads { is_possible (expr_phrase expr.now) ≡ true → IsNew (state_of S.lines W.sheet e.old) → OnOk result (AddsReading e.old.cfg (expr_phrase expr.now) (W.sheet e.old.wr) (W.sheet e.new.wr)) }
-{
-    expr.emit_with(e)
-}
-
-/// What `emit_with` of a statement adds to the text reads as one of the statement's token lists.
-pub fn emitted_stmt_reads<W: WriteJs, S: SourceMapper, C: Comments>(
-    stmt: &Stmt,
-    e: &mut Emitter<'_, W, S, C>,
-) -> Result
-    // It is what `emit_with` does.
-    ensures items { Follows (stmt_items any_answers any_items stmt.now nothing) (state_of S.lines W.sheet e.old) (state_of S.lines W.sheet e.new) (in_short result) }
-    ensures reads { is_possible (stmt_phrase stmt.now) ≡ true → IsNew (state_of S.lines W.sheet e.old) → OnOk result (AddsReading e.old.cfg (stmt_phrase stmt.now) (W.sheet e.old.wr) (W.sheet e.new.wr)) }
-{
-    stmt.emit_with(e)
-}
+/// What is written of an expression, and of a statement, is what is written of the root that it is, which may begin wherever an
+/// emission is new. So the clauses of `emit_with` that speak of roots speak of these.
+#[tactic(auto, using(swc_ecma_codegen::proofs::TreeReads::may_begin))]
+pub fn expressions_and_statements_are_roots()
+    ensures expr { (expr : Expr AnyNode) → expr_items any_answers any_items expr Plain ≡ root_items (OfExpr expr) }
+    ensures stmt { (stmt : Stmt AnyNode) → stmt_items any_answers any_items stmt ≡ root_items (OfStmt stmt) }
+    ensures begin { (root : Root) (s : State) → root_hashbang root ≡ false → IsNew s → MayBegin root s }
+{}
 
 /// A new emitter over a new `JsWriter`, whose lines end with LF or with CR and LF, is one that these laws speak of, whatever the root; and
 /// after `set_indent_str` of blanks and tabs, and inside `omit_trailing_semi`. It is ready, whatever its lines end with. Under

@@ -14,6 +14,7 @@ pub mod NameTexts
 pub mod Nulls
 pub mod NumberLiterals
 pub mod Numerals
+pub mod PlainTexts
 pub mod QuotedTexts
 pub mod Runs
 pub mod SpelledTexts

@@ -169,7 +169,13 @@ quoted_scalars a v text s =
 pub literal_chars : (a : Bool) (v : EsVersion) (text bytes : List ℕ) → scalars text ≡ true → bytes ≡ encodes (quoted_text a v text) → chars bytes ≡ quoted_text a v text
 literal_chars a v text bytes s e = ap chars e ∙ chars-encodes (quoted_text a v text) (quoted_scalars a v text s)
 
-pub literal_ascii : (v : EsVersion) (text bytes : List ℕ) → scalars text ≡ true → bytes ≡ encodes (quoted_text true v text) → IsAscii bytes
-literal_ascii v text bytes s e =
-    let i = ascii_from_all (quoted_text true v text) (quoted_ascii v text s) in
-    subst (λ x. IsAscii x) (sym (e ∙ encodes-IsAscii (quoted_text true v text) i)) i
+pub literal_ascii : (a : Bool) (v : EsVersion) (text bytes : List ℕ) → a ≡ true → scalars text ≡ true → bytes ≡ encodes (quoted_text a v text) → IsAscii bytes
+literal_ascii a v text bytes only s e =
+    let i = ascii_from_all (quoted_text a v text) (subst (λ x. list_all is_ascii_char (quoted_text x v text) ≡ true) (sym only) (quoted_ascii v text s)) in
+    subst (λ x. IsAscii x) (sym (e ∙ encodes-IsAscii (quoted_text a v text) i)) i
+
+pub literal_value : (a : Bool) (v : EsVersion) (text bytes : List ℕ) → scalars text ≡ true → bytes ≡ encodes (quoted_text a v text) → string_value false (chars bytes) ≡ Some (units text)
+literal_value a v text bytes s e = ap (λ x. string_value false x) (literal_chars a v text bytes s e) ∙ quoted_value a v text s
+
+pub literal_is_string : (a : Bool) (v : EsVersion) (text bytes : List ℕ) → scalars text ≡ true → bytes ≡ encodes (quoted_text a v text) → is_string (chars bytes) ≡ true
+literal_is_string a v text bytes s e = ap is_string (literal_chars a v text bytes s e) ∙ quoted_is_string a v text s

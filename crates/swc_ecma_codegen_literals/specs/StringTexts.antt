@@ -44,6 +44,10 @@ stands q ascii v c =
     else if nat_lt c 65536 then not (ascii || is_unseen c)
     else not (ascii || up_to_es5 v)
 
+-- a printable ASCII character but `"` and the backslash: it stands for itself between `"` in each style
+unfoldable pub is_plain_ascii : ℕ → Bool
+is_plain_ascii c = nat_le 32 c && (nat_lt c 127 && not ((c == 34) || (c == 92)))
+
 -- U+0000: `\0`, but not before a digit, where it would be an octal escape, nor for ECMAScript 3
 unfoldable pub null_escape : EsVersion → List ℕ → List ℕ
 null_escape v next = if below_es5 v || begins_digit next then codes "\\x00" else codes "\\0"

@@ -1,6 +1,6 @@
 //! Strings.
 
-ghost use Rattle.std.specs.Prelude.{◌≡◌, ◌++◌, ◌∷◌, ℕ, true, false, List, OnOk, IfOk, IfErr, Some, count_by, ◌==◌, ◌<◌, ◌≤◌, drop, length};
+ghost use Rattle.std.specs.Prelude.{◌≡◌, ◌++◌, ◌∷◌, [], ℕ, true, false, List, OnOk, IfOk, IfErr, Some, count_by, ◌==◌, ◌<◌, ◌≤◌, drop, length};
 ghost use Rattle.std.specs.List.{list_all};
 ghost use Rattle.std.specs.Str.{encode_utf8_all};
 ghost use Rattle.std.specs.Str.{chars, IsUtf8, IsAscii};
@@ -9,7 +9,7 @@ ghost use Rattle.swc_ecma_codegen_common.specs.declared.errors.Error.TheVariants
 ghost use Rattle.swc_ecma_codegen_ast.specs.Strings.{is_string};
 ghost use Rattle.swc_ecma_codegen_ast.specs.CodeUnits.{units};
 ghost use Rattle.swc_ecma_codegen_ast.specs.StringValues.{string_value};
-ghost use Rattle.swc_ecma_codegen_literals.specs.StringTexts.{stands, spelled_all, first_escape, quote_of, quoted_text};
+ghost use Rattle.swc_ecma_codegen_literals.specs.StringTexts.{stands, is_plain_ascii, spelled_all, first_escape, quote_of, quoted_text};
 
 use crate::escapes::{Style, push_escape, stands};
 use std::alloc::{AllocError, Global};
@@ -31,6 +31,61 @@ pub fn quoted_utf16(
     ensures token { IfOk result (λ literal. is_string (chars (string_bytes literal)) ≡ true) }
     ensures ascii { ascii_only ≡ true → IfOk result (λ literal. IsAscii (string_bytes literal)) }
     ensures refused { IfErr result (λ error. error ≡ OutOfMemory) }
+{
+    if is_plain(text, ascii_only, target) {
+        return Ok(plain_literal(alloc, text)?);
+    }
+    Ok(spelled_literal(alloc, text, ascii_only, target)?)
+}
+
+// Whether each character of a text stands for itself between `"`.
+fn is_plain(text: &str, ascii_only: bool, target: EsVersion) -> bool
+    ensures { result ≡ list_all (stands 34 ascii_only target) (chars text.now) }
+{
+    if is_plain_ascii(text.as_bytes()) {
+        return true;
+    }
+    let style = Style {
+        quote: '"',
+        ascii_only,
+        target,
+    };
+    text.chars().all(|c| stands(c, style))
+}
+
+// Whether a text stands for itself between `"` in each style: `it's`, but not `say "no"`, `C:\\temp` or `café`.
+fn is_plain_ascii(text: &[u8]) -> bool
+    ensures { result ≡ list_all is_plain_ascii text.now }
+{
+    text.iter().all(|c| is_plain_byte(*c))
+}
+
+#[tactic(auto, unfolding(crate::specs::StringTexts::is_plain_ascii))]
+fn is_plain_byte(c: u8) -> bool
+    ensures { result ≡ is_plain_ascii c }
+{
+    c >= b' ' && c < 0x7F && c != b'"' && c != b'\\'
+}
+
+// `"it's"`
+fn plain_literal(alloc: Global, text: &str) -> Result<String, AllocError>
+    ensures { IfOk result (λ literal. string_bytes literal ≡ 34 ∷ (text.now ++ 34 ∷ [])) }
+{
+    let mut literal = String::with_capacity(alloc, text.len() + 2)?;
+    literal.push('"')?;
+    literal.push_str(text)?;
+    literal.push('"')?;
+    Ok(literal)
+}
+
+// `'say "no"'` or `"C:\\temp"`
+fn spelled_literal(
+    alloc: Global,
+    text: &str,
+    ascii_only: bool,
+    target: EsVersion,
+) -> Result<String, AllocError>
+    ensures { IfOk result (λ literal. string_bytes literal ≡ encode_utf8_all (quoted_text ascii_only target (chars text.now))) }
 {
     let quote = quote_of(text);
     let style = Style {

@@ -113,8 +113,19 @@ expr_known (exprs.PrivateName n) = refl
 expr_known (exprs.OptChain n) = refl
 expr_known (exprs.Invalid n) = refl
 
+decl_known : (n : Decl AnyNode) → node_span (λ known. known) (known_of (nodes.StmtPart (stmt_parts.Decl n))) ≡ decl_span any_span n
+unfolding node_span known_of stmt_part_span decl_span class_decl_span fn_decl_span
+decl_known (decls.Class n) = refl
+decl_known (decls.Fn n) = refl
+decl_known (decls.Var n) = refl
+decl_known (decls.Using n) = refl
+decl_known (decls.TsInterface n) = refl
+decl_known (decls.TsTypeAlias n) = refl
+decl_known (decls.TsEnum n) = refl
+decl_known (decls.TsModule n) = refl
+
 stmt_known : (n : Stmt AnyNode) → node_span (λ known. known) (known_of (nodes.Stmt n)) ≡ stmt_span any_span n
-unfolding node_span known_of stmt_span
+unfolding node_span known_of stmt_span stmt_part_span
 stmt_known (stmts.Block n) = refl
 stmt_known (stmts.Empty n) = refl
 stmt_known (stmts.Debugger n) = refl
@@ -132,7 +143,7 @@ stmt_known (stmts.DoWhile n) = refl
 stmt_known (stmts.For n) = refl
 stmt_known (stmts.ForIn n) = refl
 stmt_known (stmts.ForOf n) = refl
-stmt_known (stmts.Decl n) = refl
+stmt_known (stmts.Decl n) = decl_known n
 stmt_known (stmts.Expr n) = refl
 
 pat_known : (n : Pat AnyNode) → node_span (λ known. known) (known_of (nodes.ExprPart (expr_parts.Pat n))) ≡ pat_span any_span n
@@ -217,17 +228,6 @@ tpl_known n = refl
 block_stmt_known : (n : BlockStmt AnyNode) → node_span (λ known. known) (known_of (nodes.StmtPart (stmt_parts.BlockStmt n))) ≡ n.span
 unfolding node_span known_of stmt_part_span
 block_stmt_known n = refl
-
-decl_known : (b : (Box (Decl AnyNode) Global)) (n : Decl AnyNode) → node_span (λ known. known) (known_of (nodes.StmtPart (stmt_parts.Decl (with_value b n)))) ≡ decl_span any_span n
-unfolding node_span known_of stmt_part_span decl_span class_decl_span fn_decl_span
-decl_known b (decls.Class n) = refl
-decl_known b (decls.Fn n) = refl
-decl_known b (decls.Var n) = refl
-decl_known b (decls.Using n) = refl
-decl_known b (decls.TsInterface n) = refl
-decl_known b (decls.TsTypeAlias n) = refl
-decl_known b (decls.TsEnum n) = refl
-decl_known b (decls.TsModule n) = refl
 
 module_decl_known : (b : (Box (ModuleDecl AnyNode) Global)) (n : ModuleDecl AnyNode) → node_span (λ known. known) (known_of (nodes.StmtPart (stmt_parts.ModuleDecl (with_value b n)))) ≡ module_decl_span n
 unfolding node_span known_of stmt_part_span module_decl_span
@@ -343,7 +343,7 @@ unfolding node_span known_of stmt_part_span
 stmt_part_known (stmt_parts.Function n) = function_known n n.value
 stmt_part_known (stmt_parts.Class n) = class_known n n.value
 stmt_part_known (stmt_parts.BlockStmt n) = block_stmt_known n
-stmt_part_known (stmt_parts.Decl n) = decl_known n n.value
+stmt_part_known (stmt_parts.Decl n) = decl_known n
 stmt_part_known (stmt_parts.ModuleDecl n) = module_decl_known n n.value
 stmt_part_known (stmt_parts.VarDecl n) = var_decl_known n
 stmt_part_known (stmt_parts.ClassMember n) = class_member_known n n.value

@@ -153,8 +153,15 @@ class_decl_span f n = f n.class.node.value
 unfoldable pub fn_decl_span : {X : Type 0} → (X → Span) → FnDecl X → Span
 fn_decl_span f n = f n.function.node.value
 
+unfoldable pub prop_name_span : {X : Type 0} → PropName X → Span
+prop_name_span (prop_names.Ident n) = n.span
+prop_name_span (prop_names.Str n) = n.value.span
+prop_name_span (prop_names.Num n) = n.value.span
+prop_name_span (prop_names.BigInt n) = n.value.span
+prop_name_span (prop_names.Computed n) = n.span
+
 unfoldable pub key_value_pat_prop_span : {X : Type 0} → (X → Span) → KeyValuePatProp X → Span
-key_value_pat_prop_span f n = between (f n.key.node.value) (f n.value.node.value)
+key_value_pat_prop_span f n = between (prop_name_span n.key) (f n.value.node.value)
 
 unfoldable pub expr_or_spread_span : {X : Type 0} → (X → Span) → ExprOrSpread X → Span
 expr_or_spread_span f n = from_first n.spread (f n.expr.node.value)
@@ -163,13 +170,13 @@ unfoldable pub spread_element_span : {X : Type 0} → (X → Span) → SpreadEle
 spread_element_span f n = between n.dot3_token (f n.expr.node.value)
 
 unfoldable pub key_value_prop_span : {X : Type 0} → (X → Span) → KeyValueProp X → Span
-key_value_prop_span f n = between (f n.key.node.value) (f n.value.node.value)
+key_value_prop_span f n = between (prop_name_span n.key) (f n.value.node.value)
 
 unfoldable pub assign_prop_span : {X : Type 0} → (X → Span) → AssignProp X → Span
 assign_prop_span f n = between n.key.span (f n.value.node.value)
 
 unfoldable pub method_prop_span : {X : Type 0} → (X → Span) → MethodProp X → Span
-method_prop_span f n = between (f n.key.node.value) (f n.function.node.value)
+method_prop_span f n = between (prop_name_span n.key) (f n.function.node.value)
 
 unfoldable pub fn_expr_span : {X : Type 0} → (X → Span) → FnExpr X → Span
 fn_expr_span f n = f n.function.node.value
@@ -217,6 +224,16 @@ default_decl_span f (default_decls.Class n) = class_expr_span f n
 default_decl_span f (default_decls.Fn n) = fn_expr_span f n
 default_decl_span f (default_decls.TsInterfaceDecl n) = n.span
 
+unfoldable pub decl_span : {X : Type 0} → (X → Span) → Decl X → Span
+decl_span f (decls.Class n) = class_decl_span f n
+decl_span f (decls.Fn n) = fn_decl_span f n
+decl_span f (decls.Var n) = n.span
+decl_span f (decls.Using n) = n.span
+decl_span f (decls.TsInterface n) = n.value.span
+decl_span f (decls.TsTypeAlias n) = n.value.span
+decl_span f (decls.TsEnum n) = n.value.span
+decl_span f (decls.TsModule n) = n.value.span
+
 unfoldable pub stmt_span : {X : Type 0} → (X → Span) → Stmt X → Span
 stmt_span f (stmts.Block n) = f n.node.value
 stmt_span f (stmts.Empty n) = n.span
@@ -235,7 +252,7 @@ stmt_span f (stmts.DoWhile n) = n.span
 stmt_span f (stmts.For n) = n.span
 stmt_span f (stmts.ForIn n) = n.span
 stmt_span f (stmts.ForOf n) = n.span
-stmt_span f (stmts.Decl n) = f n.node.value
+stmt_span f (stmts.Decl n) = decl_span f n
 stmt_span f (stmts.Expr n) = n.span
 
 unfoldable pub module_item_span : {X : Type 0} → (X → Span) → ModuleItem X → Span
@@ -250,16 +267,6 @@ for_head_span f (for_heads.Pat n) = f n.node.value
 unfoldable pub var_decl_or_expr_span : {X : Type 0} → (X → Span) → VarDeclOrExpr X → Span
 var_decl_or_expr_span f (var_decl_or_exprs.VarDecl n) = f n.node.value
 var_decl_or_expr_span f (var_decl_or_exprs.Expr n) = f n.node.value
-
-unfoldable pub decl_span : {X : Type 0} → (X → Span) → Decl X → Span
-decl_span f (decls.Class n) = class_decl_span f n
-decl_span f (decls.Fn n) = fn_decl_span f n
-decl_span f (decls.Var n) = f n.node.value
-decl_span f (decls.Using n) = n.span
-decl_span f (decls.TsInterface n) = n.span
-decl_span f (decls.TsTypeAlias n) = n.span
-decl_span f (decls.TsEnum n) = n.span
-decl_span f (decls.TsModule n) = n.span
 
 unfoldable pub class_member_span : {X : Type 0} → ClassMember X → Span
 class_member_span (class_members.Constructor n) = n.span
@@ -380,13 +387,6 @@ prop_span f (props.Method n) = method_prop_span f n
 unfoldable pub prop_or_spread_span : {X : Type 0} → (X → Span) → PropOrSpread X → Span
 prop_or_spread_span f (prop_or_spreads.Spread n) = spread_element_span f n
 prop_or_spread_span f (prop_or_spreads.Prop n) = prop_span f n
-
-unfoldable pub prop_name_span : {X : Type 0} → PropName X → Span
-prop_name_span (prop_names.Ident n) = n.span
-prop_name_span (prop_names.Str n) = n.span
-prop_name_span (prop_names.Num n) = n.value.span
-prop_name_span (prop_names.BigInt n) = n.value.span
-prop_name_span (prop_names.Computed n) = n.span
 
 unfoldable pub member_prop_span : {X : Type 0} → MemberProp X → Span
 member_prop_span (member_props.Ident n) = n.span
@@ -537,7 +537,7 @@ unfoldable pub stmt_part_span : {X : Type 0} → (X → Span) → StmtPart X →
 stmt_part_span f (stmt_parts.Function n) = n.value.span
 stmt_part_span f (stmt_parts.Class n) = n.value.span
 stmt_part_span f (stmt_parts.BlockStmt n) = n.span
-stmt_part_span f (stmt_parts.Decl n) = decl_span f n.value
+stmt_part_span f (stmt_parts.Decl n) = decl_span f n
 stmt_part_span f (stmt_parts.ModuleDecl n) = module_decl_span n.value
 stmt_part_span f (stmt_parts.VarDecl n) = n.span
 stmt_part_span f (stmt_parts.ClassMember n) = class_member_span n.value

@@ -16,8 +16,8 @@ use swc_ecma_codegen_common::{DUMMY_SP, Error, EsVersion, Result as Answer};
 use swc_ecma_codegen_grammar::Fits;
 use swc_ecma_codegen_json::{ReadError, Tree as ReadTree, program_from_slice};
 use swc_ecma_codegen_laws::{
-    bad_shapes_are_refused_first, emitted_box_reads, emitted_expr_reads, emitted_link_reads,
-    emitted_option_reads, emitted_ref_reads, emitted_stmt_reads, first_token_is_told,
+    bad_shapes_are_refused_first, emitted_box_reads, emitted_link_reads, emitted_option_reads,
+    emitted_ref_reads, expressions_and_statements_are_roots, first_token_is_told,
     layouts_keep_the_tokens, links_write_members, links_write_targets, links_write_their_roots,
     names_out_of_target_are_refused, new_emitter_reads, one_reading,
     plain_trees_keep_no_other_text, plain_trees_take_no_memory, reduced_tokens_read,
@@ -98,7 +98,6 @@ pub(crate) const HASHBANGS: [(&str, &str, bool); 4] = [
 pub(crate) trait Tree: Holds<Expr<Self>>
     + Holds<MemberExpr<Self>>
     + Holds<Stmt<Self>>
-    + Holds<StmtPart<Self>>
     + Held
     + Fits
     + SpaceBefore
@@ -111,6 +110,10 @@ pub(crate) trait Tree: Holds<Expr<Self>>
 
     /// Whether an expression begins with a letter, a digit or the like, by the function that says what this tells.
     fn is_told_to_start_so(expr: &Expr<Self>) -> bool;
+
+    /// The first name that an item exports. It isn't asked of what a link holds by its sort (`Holds<StmtPart<Self>>`), since what
+    /// that says of `AnyNode` takes more steps than a check has.
+    fn exported_name(item: &ModuleItem<Self>) -> Option<&ModuleExportName>;
 
     /// Writes what is well-formed of a tree. It is one function, since a check of each that names `AnyNode` is dear.
     fn write<W: WriteJs, S: SourceMapper, C: Comments>(
@@ -126,9 +129,7 @@ pub(crate) enum Whole<'a, N> {
     Script(&'a Script<N>),
     Module(&'a Module<N>),
     Item(&'a ModuleItem<N>),
-    /// Written by the function that says how it reads.
     Stmt(&'a Stmt<N>),
-    /// The same.
     Expr(&'a Expr<N>),
 }
 
@@ -141,6 +142,16 @@ impl Tree for AnyNode {
         first_token_is_told(expr)
     }
 
+    fn exported_name(item: &ModuleItem) -> Option<&ModuleExportName> {
+        match item {
+            ModuleItem::ModuleDecl(link) => match link.held() {
+                AnyNode::StmtPart(part) => name_in_part(part),
+                _ => None,
+            },
+            ModuleItem::Stmt(_) => None,
+        }
+    }
+
     fn write<W: WriteJs, S: SourceMapper, C: Comments>(
         whole: Whole<'_, AnyNode>,
         e: &mut Emitter<'_, W, S, C>,
@@ -150,8 +161,8 @@ impl Tree for AnyNode {
             Whole::Script(script) => e.emit_script(script),
             Whole::Module(module) => e.emit_module(module),
             Whole::Item(item) if is_well_formed_item(item) => e.emit_module_item(item),
-            Whole::Stmt(stmt) if is_well_formed_stmt(stmt) => emitted_stmt_reads(stmt, e),
-            Whole::Expr(expr) if is_well_formed_expr(expr) => emitted_expr_reads(expr, e),
+            Whole::Stmt(stmt) if is_well_formed_stmt(stmt) => stmt.emit_with(e),
+            Whole::Expr(expr) if is_well_formed_expr(expr) => expr.emit_with(e),
             _ => Ok(()),
         }
     }
@@ -222,7 +233,7 @@ fn write_exporting<N: Tree, W: WriteJs, S: SourceMapper, C: Comments>(
     e: &mut Emitter<'_, W, S, C>,
 ) -> Answer {
     N::write(Whole::Item(item), e)?;
-    match exported_name(item) {
+    match N::exported_name(item) {
         Some(name) => e.emit_module_export_name(name),
         None => Ok(()),
     }
@@ -280,6 +291,7 @@ fn laws_of_links() {
     links_write_their_roots();
     links_write_members();
     links_write_targets();
+    expressions_and_statements_are_roots();
     new_emitter_reads();
     one_reading();
     reading_laws::layouts_keep_the_tokens();
@@ -325,17 +337,17 @@ fn write_within<N: Tree, W: WriteJs, S: SourceMapper, C: Comments>(
     }
 }
 
-/// The first name that an item exports.
-fn exported_name<N: Holds<StmtPart<N>> + Drop>(item: &ModuleItem<N>) -> Option<&ModuleExportName> {
-    match item {
-        ModuleItem::ModuleDecl(link) => match link.get() {
-            Some(ModuleDecl::ExportNamed(node)) => match node.specifiers.first() {
+/// The first name that an export exports.
+fn name_in_part<N>(part: &StmtPart<N>) -> Option<&ModuleExportName> {
+    match part {
+        StmtPart::ModuleDecl(decl) => match &**decl {
+            ModuleDecl::ExportNamed(node) => match node.specifiers.first() {
                 Some(ExportSpecifier::Named(node)) => Some(&node.orig),
                 _ => None,
             },
             _ => None,
         },
-        ModuleItem::Stmt(_) => None,
+        _ => None,
     }
 }
 

@@ -193,6 +193,19 @@ unfolding literal_written
 literal_some span [] s h = absurd (omega (arith, h))
 literal_some span (c ∷ cs) s h = refl
 
+-- no position is recorded where none are kept
+recorded_bare : (pos : BytePos) (s : Sheet) → s.keeps_positions ≡ false → recorded pos s ≡ s
+unfolding recorded
+recorded_bare pos s h = ap (λ b. cond b (record s { pairs = with_pair pos s.place s.pairs }) s) h
+
+-- so in a line a literal is written as it is
+pub literal_in_line : (span : Span) (t : List ℕ) (s : Sheet) → 0 < length t → s.at_line_start ≡ false → s.keeps_positions ≡ false → appended t s ≡ literal_written span t s
+literal_in_line span t s h k b =
+    let bare : (appended t s).keeps_positions ≡ false = unfold appended in b in
+    sym (recorded_bare span.hi (appended t s) bare)
+    ∙ ap (recorded span.hi) (written_in_line t s h k ∙ ap (written None t) (sym (recorded_bare span.lo s b)))
+    ∙ literal_some span t s h
+
 -- the place after what was sent before and now
 pub place_on : (before t after : List ℕ) → after ≡ before ++ t → after_text after origin ≡ after_text t (after_text before origin)
 place_on before t after h = ap (λ z. after_text z origin) h ∙ after_append before t origin

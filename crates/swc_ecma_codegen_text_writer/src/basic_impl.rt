@@ -48,10 +48,18 @@ pub struct Lines<'a, W: Write, K: KeepsPositions> {
     outlet: Outlet<W>,
     new_line: &'a str,
     indent_str: &'static str,
+    // One level writes four blanks.
+    usual_indent: bool,
     indent: u32,
     line_start: bool,
     failed: bool,
+    // A text is only sent: nothing was refused, no line starts, and no positions are kept.
+    plain: bool,
     kept: K,
+    ghost usual: { usual_indent ≡ true → indent_str.now ≡ codes "    " } by { Prim.hlevel props },
+    ghost plain_fresh: { plain ≡ true → failed ≡ false } by { Prim.hlevel props },
+    ghost plain_in_line: { plain ≡ true → line_start ≡ false } by { Prim.hlevel props },
+    ghost plain_bare: { plain ≡ true → K.keeps kept ≡ false } by { Prim.hlevel props },
     ghost counted: { failed ≡ false → IsCounted (K.keeps kept) (K.reached kept) (after_text outlet.log.bytes origin) } by { Prim.hlevel props },
 }
 
@@ -96,9 +104,11 @@ impl<'a, W: Write> JsWriter<'a, W> {
             outlet: Outlet::new(wr),
             new_line,
             indent_str: DEFAULT_INDENT,
+            usual_indent: true,
             indent: 0,
             line_start: true,
             failed: false,
+            plain: false,
             kept: Kept::new(srcmap),
         }
     }
@@ -119,6 +129,7 @@ impl<'a, W: Write, K: KeepsPositions> Lines<'a, W, K> {
         ensures tells { Tells self.old → Tells self.new }
     {
         self.indent_str = indent_str;
+        self.usual_indent = indent_str == DEFAULT_INDENT;
     }
 
     /// Writes a text as it is, ahead of the rest: a line's start stays one, and no indentation comes before it. It is
@@ -152,19 +163,33 @@ impl<'a, W: Write, K: KeepsPositions> Lines<'a, W, K> {
             outlet,
             new_line: _,
             indent_str: _,
+            usual_indent: _,
             indent: _,
             line_start: _,
             failed: _,
+            plain: _,
             kept: _,
         } = self;
         outlet.into_inner()
     }
 
+    /// Notes that a line starts.
     #[tactic(auto, unfolding(crate::specs::View::sheet_of))]
-    fn set_line_start(&mut self, line_start: bool)
-        ensures { sheet_of self.new ≡ record (sheet_of self.old) { at_line_start = line_start } }
+    fn set_line_start(&mut self)
+        ensures { sheet_of self.new ≡ record (sheet_of self.old) { at_line_start = true } }
     {
-        self.line_start = line_start;
+        self.line_start = true;
+        self.plain = false;
+    }
+
+    /// Notes that a line has begun.
+    #[tactic(auto, unfolding(crate::specs::View::sheet_of))]
+    fn set_in_line(&mut self)
+        requires { (sheet_of self.old).refused ≡ false }
+        ensures { sheet_of self.new ≡ record (sheet_of self.old) { at_line_start = false } }
+    {
+        self.line_start = false;
+        self.plain = !self.kept.is_kept();
     }
 
     /// Sends a text out as it is.
@@ -189,18 +214,48 @@ impl<'a, W: Write, K: KeepsPositions> Lines<'a, W, K> {
             }
             Err(_) => {
                 self.failed = true;
+                self.plain = false;
                 Err(Refusal::Writer)
             }
         }
     }
 
-    /// Sends the indentation of a line: up to eight levels of four blanks at once.
+    /// The same where nothing else is to be done.
+    #[inline(always)]
+    fn send_plainly(&mut self, text: &str) -> Answer
+        requires { self.old.plain ≡ true }
+        ensures { Reaches (appended text.now (sheet_of self.old)) (sheet_of self.old) (sheet_of self.new) result }
+    {
+        match self.outlet.write_text(text) {
+            Ok(()) => Ok(()),
+            Err(_) => {
+                self.failed = true;
+                self.plain = false;
+                Err(Refusal::Writer)
+            }
+        }
+    }
+
+    /// Sends the indentation of a line, where there is one.
+    #[inline(always)]
     fn indent(&mut self) -> Answer
         requires { (sheet_of self.old).refused ≡ false }
         ensures { Reaches (indented (sheet_of self.old).indentation (sheet_of self.old)) (sheet_of self.old) (sheet_of self.new) result }
     {
+        if self.indent == 0 {
+            return Ok(());
+        }
+        self.indent_at_once()
+    }
+
+    /// The same of any number of levels: up to eight of four blanks at once.
+    #[inline(never)]
+    fn indent_at_once(&mut self) -> Answer
+        requires { (sheet_of self.old).refused ≡ false }
+        ensures { Reaches (indented (sheet_of self.old).indentation (sheet_of self.old)) (sheet_of self.old) (sheet_of self.new) result }
+    {
         match blanks(self.indent) {
-            Some(text) if self.indent_str == DEFAULT_INDENT => self.send(text),
+            Some(text) if self.usual_indent => self.send(text),
             _ => self.indent_by_levels(),
         }
     }
@@ -227,12 +282,14 @@ impl<'a, W: Write, K: KeepsPositions> Lines<'a, W, K> {
             Ok(()) => Ok(()),
             Err(refusal) => {
                 self.failed = true;
+                self.plain = false;
                 Err(refusal)
             }
         }
     }
 
     /// Records the position that is pending.
+    #[inline(never)]
     fn record_pending(&mut self) -> Answer
         requires { (sheet_of self.old).refused ≡ false }
         ensures { Reaches (pending_recorded (sheet_of self.old).pending (sheet_of self.old)) (sheet_of self.old) (sheet_of self.new) result }
@@ -290,14 +347,14 @@ impl<'a, W: Write, K: KeepsPositions> Lines<'a, W, K> {
     }
 
     /// Sends the indentation, and records the position that is pending.
-    #[inline(never)]
+    #[inline(always)]
     fn begin_line(&mut self) -> Answer
         requires fresh { (sheet_of self.old).refused ≡ false }
         requires start { (sheet_of self.old).at_line_start ≡ true }
         ensures { Reaches (started (sheet_of self.old)) (sheet_of self.old) (sheet_of self.new) result }
     {
         self.indent()?;
-        self.set_line_start(false);
+        self.set_in_line();
         self.record_pending()
     }
 
@@ -374,16 +431,27 @@ impl<'a, W: Write, K: KeepsPositions> Lines<'a, W, K> {
         requires { length text.now ≡ 1 }
         ensures { WritesText None text.now (sheet_of self.old) (sheet_of self.new) result }
     {
-        if self.failed || self.line_start {
-            return self.write_first_byte(text);
+        if self.plain {
+            self.send_byte(text)
+        } else {
+            self.write_first_byte(text)
         }
+    }
+
+    /// The same where it is only sent: that of one byte takes no call that copies bytes.
+    #[inline(always)]
+    fn send_byte(&mut self, text: &str) -> Answer
+        requires plain { self.old.plain ≡ true }
+        requires byte { length text.now ≡ 1 }
+        ensures { WritesText None text.now (sheet_of self.old) (sheet_of self.new) result }
+    {
         if text.len() != 1 {
             unreachable!();
         }
-        self.hand_on(text)
+        self.send_plainly(text)
     }
 
-    /// The same at a line's start.
+    /// The same at a line's start, where positions are kept, or after a refusal.
     #[inline(never)]
     fn write_first_byte(&mut self, text: &str) -> Answer
         requires { length text.now ≡ 1 }
@@ -395,11 +463,41 @@ impl<'a, W: Write, K: KeepsPositions> Lines<'a, W, K> {
         self.write_here(None, text)
     }
 
-    /// Writes a text of any length, without a span.
-    #[inline(never)]
+    /// Writes a text of any length, without a span. Each way is a function of its own, so that none goes through the other.
+    #[inline(always)]
     fn write_bytes(&mut self, text: &str) -> Answer
         ensures { WritesText None text.now (sheet_of self.old) (sheet_of self.new) result }
     {
+        if self.plain {
+            self.send_bytes(text)
+        } else {
+            self.write_first_bytes(text)
+        }
+    }
+
+    /// The same where it is only sent.
+    #[inline(never)]
+    fn send_bytes(&mut self, text: &str) -> Answer
+        requires { self.old.plain ≡ true }
+        ensures { WritesText None text.now (sheet_of self.old) (sheet_of self.new) result }
+    {
+        if text.len() == 1 {
+            return self.send_byte(text);
+        }
+        if text.is_empty() {
+            return Ok(());
+        }
+        self.send_plainly(text)
+    }
+
+    /// The same at a line's start, where positions are kept, or after a refusal.
+    #[inline(never)]
+    fn write_first_bytes(&mut self, text: &str) -> Answer
+        ensures { WritesText None text.now (sheet_of self.old) (sheet_of self.new) result }
+    {
+        if text.len() == 1 {
+            return self.write_first_byte(text);
+        }
         self.write_here(None, text)
     }
 
@@ -429,6 +527,30 @@ impl<'a, W: Write, K: KeepsPositions> Lines<'a, W, K> {
     fn literal(&mut self, span: Span, text: &str) -> Answer
         ensures { WritesLiteral span text.now (sheet_of self.old) (sheet_of self.new) result }
     {
+        if self.plain {
+            return self.send_literal(span, text);
+        }
+        self.write_first_literal(span, text)
+    }
+
+    /// The same where it is only sent.
+    #[inline(always)]
+    fn send_literal(&mut self, span: Span, text: &str) -> Answer
+        requires { self.old.plain ≡ true }
+        ensures { WritesLiteral span text.now (sheet_of self.old) (sheet_of self.new) result }
+    {
+        let _ = span;
+        if text.is_empty() {
+            return Ok(());
+        }
+        self.send_plainly(text)
+    }
+
+    /// The same at a line's start, where positions are kept, or after a refusal.
+    #[inline(never)]
+    fn write_first_literal(&mut self, span: Span, text: &str) -> Answer
+        ensures { WritesLiteral span text.now (sheet_of self.old) (sheet_of self.new) result }
+    {
         if self.failed {
             return Err(Refusal::Failed);
         }
@@ -438,9 +560,23 @@ impl<'a, W: Write, K: KeepsPositions> Lines<'a, W, K> {
         self.put_literal(span, text)
     }
 
-    /// Writes the line's end, unless at a line's start, where it forgets the position that is pending.
+    /// Writes the line's end, unless at a line's start. Mostly it is one byte, which is only sent.
     #[inline(always)]
     fn end_line(&mut self) -> Answer
+        ensures { WritesLine (sheet_of self.old) (sheet_of self.new) result }
+    {
+        let text = self.new_line;
+        if !self.plain || text.len() != 1 {
+            return self.end_any_line();
+        }
+        self.send_plainly(text)?;
+        self.set_line_start();
+        Ok(())
+    }
+
+    /// The same of any line: at a line's start the position that is pending is forgotten.
+    #[inline(never)]
+    fn end_any_line(&mut self) -> Answer
         ensures { WritesLine (sheet_of self.old) (sheet_of self.new) result }
     {
         if self.failed {
@@ -451,11 +587,11 @@ impl<'a, W: Write, K: KeepsPositions> Lines<'a, W, K> {
             return Ok(());
         }
         self.send_line_end()?;
-        self.set_line_start(true);
+        self.set_line_start();
         Ok(())
     }
 
-    /// Sends the line's end, which mostly is one byte.
+    /// Sends the line's end.
     #[inline(always)]
     #[tactic(auto, unfolding(crate::specs::View::sheet_of))]
     fn send_line_end(&mut self) -> Answer
@@ -463,11 +599,7 @@ impl<'a, W: Write, K: KeepsPositions> Lines<'a, W, K> {
         ensures { Reaches (appended (sheet_of self.old).line_end (sheet_of self.old)) (sheet_of self.old) (sheet_of self.new) result }
     {
         let text = self.new_line;
-        if text.len() == 1 {
-            self.hand_on(text)
-        } else {
-            self.send(text)
-        }
+        self.send(text)
     }
 
     /// Records a position for what comes next: at a line's start, once the line has begun.
@@ -494,6 +626,7 @@ impl<'a, W: Write, K: KeepsPositions> Lines<'a, W, K> {
         let indent = self.indent;
         if indent == u32::MAX {
             self.failed = true;
+            self.plain = false;
             return Err(Refusal::PositionTooLarge);
         }
         self.indent = indent + 1;

@@ -94,7 +94,7 @@ block_stmt_in (stmt_parts.BlockStmt n) = Some n
 block_stmt_in _ = None
 
 abbrev pub decl_in : {N : Type 0} → StmtPart N → Option (Decl N)
-decl_in (stmt_parts.Decl n) = Some n.value
+decl_in (stmt_parts.Decl n) = Some n
 decl_in _ = None
 
 abbrev pub module_decl_in : {N : Type 0} → StmtPart N → Option (ModuleDecl N)

@@ -4,7 +4,7 @@ use crate::idents::Ident;
 use crate::links::AnyNode;
 use crate::pats::Pat;
 use crate::sorts::{
-    BlockStmtBox, ClassBox, ExprBox, FunctionBox, TsTypeAnnBox, TsTypeParamDeclBox, VarDeclBox,
+    BlockStmtBox, ClassBox, ExprBox, FunctionBox, TsTypeAnnBox, TsTypeParamDeclBox,
 };
 use crate::ts_decls::{TsEnumDecl, TsInterfaceDecl, TsModuleDecl, TsTypeAliasDecl};
 use swc_ecma_codegen_common::Span;
@@ -17,17 +17,17 @@ pub enum Decl<N = AnyNode> {
     /// `function f() {}`
     Fn(FnDecl<N>),
     /// `let a = 1, b;`
-    Var(VarDeclBox<N>),
+    Var(VarDecl<N>),
     /// `using a = b;`
     Using(UsingDecl<N>),
     /// TypeScript: `interface A {}`
-    TsInterface(TsInterfaceDecl<N>),
+    TsInterface(Box<TsInterfaceDecl<N>>),
     /// TypeScript: `type A = T;`
-    TsTypeAlias(TsTypeAliasDecl<N>),
+    TsTypeAlias(Box<TsTypeAliasDecl<N>>),
     /// TypeScript: `enum A { B }`
-    TsEnum(TsEnumDecl<N>),
+    TsEnum(Box<TsEnumDecl<N>>),
     /// TypeScript: `namespace A {}`
-    TsModule(TsModuleDecl<N>),
+    TsModule(Box<TsModuleDecl<N>>),
 }
 
 /// `class A {}` as a declaration. ECMA-262, section 15.7.

@@ -166,7 +166,7 @@ pub enum Prop<N = AnyNode> {
 #[derive(Drop)]
 pub struct KeyValueProp<N = AnyNode> {
     /// `a` of `{ a: b }`.
-    pub key: PropNameBox<N>,
+    pub key: PropName<N>,
     /// `b` of `{ a: b }`.
     pub value: ExprBox<N>,
 }
@@ -210,7 +210,7 @@ pub struct SetterProp<N = AnyNode> {
 #[derive(Drop)]
 pub struct MethodProp<N = AnyNode> {
     /// `a` of `{ a() {} }`.
-    pub key: PropNameBox<N>,
+    pub key: PropName<N>,
     /// `() {}` of `{ a() {} }`, all but the name.
     pub function: FunctionBox<N>,
 }
@@ -221,7 +221,7 @@ pub enum PropName<N = AnyNode> {
     /// `a` of `{ a: b }`
     Ident(IdentName),
     /// `"a"` of `{ "a": b }`
-    Str(Str),
+    Str(Box<Str>),
     /// `1` of `{ 1: a }`
     Num(Box<Number>),
     /// `1n` of `{ 1n: a }`

@@ -33,7 +33,7 @@ pub enum StmtPart<N = AnyNode> {
     Function(Box<Function<N>>),
     Class(Box<Class<N>>),
     BlockStmt(BlockStmt<N>),
-    Decl(Box<Decl<N>>),
+    Decl(Decl<N>),
     ModuleDecl(Box<ModuleDecl<N>>),
     VarDecl(VarDecl<N>),
     ClassMember(Box<ClassMember<N>>),

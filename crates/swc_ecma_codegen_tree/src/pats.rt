@@ -1,9 +1,9 @@
 //! Patterns, and what is assigned to.
 
-use crate::exprs::{MemberExpr, OptChainExpr, ParenExpr, SuperPropExpr};
+use crate::exprs::{MemberExpr, OptChainExpr, ParenExpr, PropName, SuperPropExpr};
 use crate::idents::{BindingIdent, Invalid};
 use crate::links::AnyNode;
-use crate::sorts::{ExprBox, PatBox, PropNameBox, TsTypeAnnBox};
+use crate::sorts::{ExprBox, PatBox, TsTypeAnnBox};
 use crate::ts_exprs::{TsAsExpr, TsInstantiation, TsNonNullExpr, TsSatisfiesExpr, TsTypeAssertion};
 use swc_ecma_codegen_common::Span;
 
@@ -87,7 +87,7 @@ pub enum ObjectPatProp<N = AnyNode> {
 #[derive(Drop)]
 pub struct KeyValuePatProp<N = AnyNode> {
     /// `a` of `let { a: b } = c;`.
-    pub key: PropNameBox<N>,
+    pub key: PropName<N>,
     /// `b` of `let { a: b } = c;`.
     pub value: PatBox<N>,
 }

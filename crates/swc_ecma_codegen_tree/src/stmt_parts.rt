@@ -79,8 +79,8 @@ impl<N: Drop> Holds<BlockStmt<N>> for StmtPart<N> {
 impl<N: Drop> Holds<Decl<N>> for StmtPart<N> {
     ghost node_in = { decl_in };
 
-    fn hold(alloc: Global, node: Decl<N>) -> Result<StmtPart<N>, AllocError> {
-        Ok(StmtPart::Decl(Box::new(alloc, node)?))
+    fn hold(_: Global, node: Decl<N>) -> Result<StmtPart<N>, AllocError> {
+        Ok(StmtPart::Decl(node))
     }
 
     fn node(&self) -> Option<&Decl<N>> {
@@ -92,7 +92,7 @@ impl<N: Drop> Holds<Decl<N>> for StmtPart<N> {
 
     fn into_node(self) -> Result<Decl<N>, StmtPart<N>> {
         match self {
-            StmtPart::Decl(node) => Ok(Box::into_inner(node)),
+            StmtPart::Decl(node) => Ok(node),
             other => Err(other),
         }
     }

@@ -152,11 +152,10 @@ unfoldable pub target_starts : {X : Type 0} → (X → Bool) → AssignTarget X 
 target_starts f (targets.Simple n) = simple_target_starts f n
 target_starts f (targets.Pat n) = false
 
--- `{ a; }` and `;` begin with a sign, `a;` and `let a;` as what they hold does, the others with a word
+-- `{ a; }` and `;` begin with a sign, `a;` as `a` does, the others with a word
 unfoldable pub stmt_starts : {X : Type 0} → (X → Bool) → Stmt X → Bool
 stmt_starts f (stmts.Block n) = false
 stmt_starts f (stmts.Empty n) = false
-stmt_starts f (stmts.Decl n) = f n.node.value
 stmt_starts f (stmts.Expr n) = f n.expr.node.value
 stmt_starts f n = true
 

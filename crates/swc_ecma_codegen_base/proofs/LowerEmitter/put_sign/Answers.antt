@@ -13,7 +13,7 @@ pub returns-clause-items : goal.returns-clause-items
 unfolding after_token last_after text_of characters
 returns-clause-items g c =
     let last : last_at c.after-last.result ≡ mark_after (last_at c.args.self.now.token.value) (codes "-") =
-    ap last_at (c.after-last.ensures ∙ ap (λ k. after_mark k Minus) (sym c.args.self.now.class)) ∙ after_is c.args.self.now.token.value Minus in
+    ap last_at (c.after-last.ensures ∙ ap (λ k. after_mark k Minus) (sym (c.args.self.now.class c.requires))) ∙ after_is c.args.self.now.token.value Minus in
     called Punctuator (StrLit c.args.span (codes "-")) _ c.args.self.now c.settle.new.self _ _ _ _ _ c.requires c.write_str_lit-answer.ensures c.settle.ensures.ok c.settle.ensures.err c.settle.ensures.same last
 
 pub returns-clause-level : goal.returns-clause-level

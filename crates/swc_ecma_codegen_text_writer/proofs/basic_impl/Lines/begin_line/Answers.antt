@@ -11,12 +11,16 @@ returns-in_err-indent g c =
     let p = err_from_is_err_and c.from_residual.result c.from_residual.ensures.1 in
     rw (p.1, p.2) (first_halted _ _ _ _ _ (begun_on _ c.requires.start) c.in_err-indent.ensures)
 
+pub set_in_line-requires : goal.set_in_line-requires
+unfolding Reaches indented appended
+set_in_line-requires g c = ap (λ (s : Sheet). s.refused) c.in_ok-indent.ensures ∙ c.requires.fresh
+
 pub record_pending-requires : goal.record_pending-requires
 unfolding sheet_of Reaches indented appended
-record_pending-requires g c = ap (λ (s : Sheet). s.refused) (c.set_line_start.ensures ∙ ap (λ (s : Sheet). record s { at_line_start = false }) c.in_ok-indent.ensures) ∙ c.requires.fresh
+record_pending-requires g c = ap (λ (s : Sheet). s.refused) (c.set_in_line.ensures ∙ ap (λ (s : Sheet). record s { at_line_start = false }) c.in_ok-indent.ensures) ∙ c.requires.fresh
 
 pub returns : goal.returns
 unfolding indented appended
 returns g c =
-    let there : sheet_of c.set_line_start.new.self ≡ begun_sheet (sheet_of c.args.self.now) = c.set_line_start.ensures ∙ ap (λ (s : Sheet). record s { at_line_start = false }) (reached _ _ _ _ c.in_ok-indent.ensures) in
+    let there : sheet_of c.set_in_line.new.self ≡ begun_sheet (sheet_of c.args.self.now) = c.set_in_line.ensures ∙ ap (λ (s : Sheet). record s { at_line_start = false }) (reached _ _ _ _ c.in_ok-indent.ensures) in
     reaches_then _ _ _ _ _ _ there (begun_sheet_alike _) refl (λ e. reaches_to _ _ _ _ _ (ap (λ (s : Sheet). pending_recorded s.pending s) e ∙ sym (started_true (sheet_of c.args.self.now) c.requires.start)) c.record_pending.ensures)

@@ -1,4 +1,4 @@
-use Rattle.std.proofs.Common.{refl, sym, subst}
+use Rattle.std.proofs.Common.{refl, sym, subst, ◌∙◌}
 use Rattle.swc_ecma_codegen_text_writer.specs.Sheet.{appended}
 use Rattle.swc_ecma_codegen_text_writer.specs.Reach.{Shows}
 use Rattle.swc_ecma_codegen_text_writer.specs.View.{sheet_of, Reaches, HasReason}
@@ -23,5 +23,8 @@ returns-in-Err g c = record {
 }
 
 -- the place is that after what went out before and the text
-pub invariant_of-self : goal.invariant_of-self
-invariant_of-self g c = record { counted = λ f e. subst (λ z. Shows (g.K.KeepsPositions.reached c.pass.new.self) z) (sym (place_on _ _ _ c.in-Ok.ensures.logged)) (c.pass.ensures.counted _ (c.args.self.now.counted f) e) }
+pub invariant_of-self-clause-counted : goal.invariant_of-self-clause-counted
+invariant_of-self-clause-counted g c = λ f e. subst (λ z. Shows (g.K.KeepsPositions.reached c.pass.new.self) z) (sym (place_on _ _ _ c.in-Ok.ensures.logged)) (c.pass.ensures.counted _ (c.args.self.now.counted f) e)
+
+pub invariant_of-self-clause-plain_bare : goal.invariant_of-self-clause-plain_bare
+invariant_of-self-clause-plain_bare g c = λ p. c.pass.ensures.keeps ∙ c.args.self.now.plain_bare p

@@ -1,13 +1,12 @@
-use Rattle.std.proofs.Common.{◌∙◌, ℕ, List, ap, sym, subst}
-use Rattle.std.specs.List.{repeat}
-use Rattle.std.specs.Cmp.Lexicographic.{same_text}
-use Rattle.swc_ecma_codegen_text_writer.specs.Sheet.{appended, indented}
+use Rattle.std.proofs.Common.{◌∙◌, ap, sym}
+use Rattle.swc_ecma_codegen_text_writer.specs.Sheet.{indented}
 use Rattle.swc_ecma_codegen_text_writer.specs.View.{sheet_of, Reaches}
+use Rattle.swc_ecma_codegen_text_writer.proofs.Steps.{indented_zero}
 use Rattle.swc_ecma_codegen_text_writer.proofs.basic_impl.Lines.indent.Goals as goal
 
-pub returns-in-Some : goal.returns-in-Some
-unfolding sheet_of indented
-returns-in-Some g c =
-    let old = sheet_of c.args.self.now in
-    let P : List ℕ → Type 0 = λ t. Reaches (appended t old) old (sheet_of c.send.new.self) c.send.result in
-    subst P (c.in-Some.ensures ∙ ap (repeat c.args.self.now.indent) (sym (same_text _ _ c.if-eq.ensures))) c.send.ensures
+-- no level is sent as nothing
+pub returns-then-self-eq0 : goal.returns-then-self-eq0
+unfolding sheet_of Reaches
+returns-then-self-eq0 g c =
+    let s = sheet_of c.args.self.now in
+    indented_zero s ∙ ap (λ n. indented n s) (sym c.if-self-eq0.true)

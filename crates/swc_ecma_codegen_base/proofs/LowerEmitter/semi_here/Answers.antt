@@ -2,7 +2,7 @@ use Rattle.swc_ecma_codegen_base.specs.Run.{with_lines}
 use Rattle.swc_ecma_codegen_ast.specs.SourceLines.{no_lines}
 use Rattle.swc_ecma_codegen_base.specs.Words as words
 use Rattle.swc_ecma_codegen_base.proofs.SoFar.{semi_so_far}
-use Rattle.swc_ecma_codegen_base.proofs.LowerEmitter.semi.Goals as goal
+use Rattle.swc_ecma_codegen_base.proofs.LowerEmitter.semi_here.Goals as goal
 
 pub returns-clause-reads : goal.returns-clause-reads
 unfolding words.semi with_lines

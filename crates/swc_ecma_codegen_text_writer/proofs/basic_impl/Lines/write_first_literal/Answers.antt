@@ -1,7 +1,7 @@
 use Rattle.std.proofs.Common.{◌≡◌, length, refl, sym, ◌∙◌, rules}
 use Rattle.swc_ecma_codegen_text_writer.specs.View.{sheet_of}
 use Rattle.swc_ecma_codegen_text_writer.proofs.Steps.{literal_nil, writes_failed, writes_ok, writes_way}
-use Rattle.swc_ecma_codegen_text_writer.proofs.basic_impl.Lines.literal.Goals as goal
+use Rattle.swc_ecma_codegen_text_writer.proofs.basic_impl.Lines.write_first_literal.Goals as goal
 
 pub returns-then-self : goal.returns-then-self
 unfolding sheet_of

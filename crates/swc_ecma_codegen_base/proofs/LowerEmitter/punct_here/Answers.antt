@@ -4,7 +4,7 @@ use Rattle.swc_ecma_codegen_literals.specs.Punctuators.{spelling}
 use Rattle.swc_ecma_codegen_base.proofs.Marks.{is_mark}
 use Rattle.swc_ecma_codegen_base.specs.Words as words
 use Rattle.swc_ecma_codegen_base.proofs.SoFar.{punct_so_far}
-use Rattle.swc_ecma_codegen_base.proofs.LowerEmitter.punct.Goals as goal
+use Rattle.swc_ecma_codegen_base.proofs.LowerEmitter.punct_here.Goals as goal
 
 pub returns-clause-reads : goal.returns-clause-reads
 unfolding words.punct with_lines
