@@ -87,9 +87,13 @@ pub enum Question {
 /// What a node answers.
 #[derive(Clone, Copy)]
 pub enum Reply {
+    /// To where it stands.
     Place(Span),
+    /// To whether something holds of it.
     Truth(bool),
+    /// To its operator.
     Kind(OperandKind),
+    /// To what it begins with, where it is a pattern.
     Pattern(PatternKind),
 }
 
