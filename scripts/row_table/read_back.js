@@ -44,11 +44,17 @@ function tokensByAcorn(text) {
   }
 }
 
+// What stands before a text and after it. A hashbang is one at the very beginning alone.
+function frame(text) {
+  return text.startsWith('#!') ? ['', ''] : [OPEN, CLOSE];
+}
+
 // As a script, or else as a module, which alone has `import.meta`.
 function parsed(text) {
+  const [open, close] = frame(text);
   for (const sourceType of ['script', 'module']) {
     try {
-      return babel.parse(OPEN + text + CLOSE, { sourceType, plugins: PLUGINS, tokens: true, allowSuperOutsideMethod: true, allowImportExportEverywhere: true });
+      return babel.parse(open + text + close, { sourceType, plugins: PLUGINS, tokens: true, allowSuperOutsideMethod: true, allowImportExportEverywhere: true });
     } catch (error) {
       // (the other may have it)
     }
@@ -58,9 +64,9 @@ function parsed(text) {
 
 function tokensByBabel(text, file) {
   if (file === null) return null;
-  const src = OPEN + text + CLOSE, found = [];
+  const [open, close] = frame(text), src = open + text + close, found = [];
   for (const token of file.tokens) {
-    if (token.start >= OPEN.length && token.end <= OPEN.length + text.length) {
+    if (token.start >= open.length && token.end <= open.length + text.length) {
       const spelled = src.slice(token.start, token.end);
       // (some versions have `#` for itself)
       if (found.length && found[found.length - 1] === '#') found.push(found.pop() + spelled);

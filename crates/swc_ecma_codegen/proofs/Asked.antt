@@ -11,7 +11,7 @@ use Rattle.swc_ecma_codegen_base.proofs.Choices.{ended_same, not_ended_same, ass
 use Rattle.swc_ecma_codegen_common.specs.declared.positions.BytePos.{BytePos}
 use Rattle.swc_ecma_codegen_common.specs.declared.positions.Span.{Span}
 use Rattle.swc_ecma_codegen.specs.Calls.{parentheses}
-use Rattle.swc_ecma_codegen.specs.Exprs.{expr_closed}
+use Rattle.swc_ecma_codegen.specs.AnyExpr.{expr_closed}
 use Rattle.swc_ecma_codegen.specs.Programs.{last_semi}
 use Rattle.swc_ecma_codegen.specs.Standing.{Standing, Makes}
 use Rattle.swc_ecma_codegen.proofs.Standings.{makes_same}

@@ -24,8 +24,8 @@ use Rattle.swc_ecma_codegen.specs.declared.nodes.Place.{Place}
 use Rattle.swc_ecma_codegen.specs.declared.nodes.Place.TheVariants as places
 use Rattle.swc_ecma_codegen.specs.Answers.{Answers}
 use Rattle.swc_ecma_codegen.specs.Calls.{expr_or_spread, argument_place, argument_items, array_format, array_lit, call_format, new_format, arguments, super_keyword, import_callee, callee, call_parts, call_expr, keeps_arguments, listed_arguments, new_arguments, new_gap, new_parts, new_expr, call_mark, chain_call_parts, chain_call, is_optional}
-use Rattle.swc_ecma_codegen.specs.Exprs as words
-use Rattle.swc_ecma_codegen.specs.Exprs.{expr}
+use Rattle.swc_ecma_codegen.specs.AnyExpr as words
+use Rattle.swc_ecma_codegen.specs.AnyExpr.{expr}
 use Rattle.swc_ecma_codegen.specs.Lists.{child_of, if_some_at, unsupported}
 use Rattle.swc_ecma_codegen.specs.Parts.{expr_part}
 use Rattle.swc_ecma_codegen.specs.Tree.{node_items}

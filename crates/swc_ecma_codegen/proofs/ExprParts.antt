@@ -1,5 +1,5 @@
 -- What is written of each expression is what it reads as.
-use Rattle.std.proofs.Common.{◌≡◌, ℕ, Bool, true, false, cond, List, [], ◌==◌, ◌-◌, codes, refl, ap, ◌∙◌, subst, Option, Some, None, string_bytes}
+use Rattle.std.proofs.Common.{◌≡◌, ℕ, Bool, true, false, cond, List, [], ◌==◌, ◌-◌, codes, refl, Option, Some, None, string_bytes}
 use Rattle.std.specs.Str.{chars, is_utf8}
 use Rattle.swc_ecma_codegen_common.specs.declared.positions.BytePos.{BytePos}
 use Rattle.swc_ecma_codegen_common.specs.declared.positions.Span.{Span}
@@ -39,12 +39,10 @@ use Rattle.swc_ecma_codegen_tree.specs.declared.exprs.MemberProp.{MemberProp}
 use Rattle.swc_ecma_codegen_tree.specs.declared.exprs.MemberProp.TheVariants as member_props
 use Rattle.swc_ecma_codegen_tree.specs.declared.exprs.SeqExpr.{SeqExpr}
 use Rattle.swc_ecma_codegen_tree.specs.declared.exprs.ParenExpr.{ParenExpr}
-use Rattle.swc_ecma_codegen_tree.specs.declared.exprs.Expr.{Expr}
-use Rattle.swc_ecma_codegen_tree.specs.declared.exprs.Expr.TheVariants as exprs
 use Rattle.swc_ecma_codegen_tree.specs.declared.lits.Lit.{Lit}
 use Rattle.swc_ecma_codegen_tree.specs.declared.lits.Lit.TheVariants as lits
 use Rattle.swc_ecma_codegen_common.specs.Operators.{assign_text, unary_text, binary_text, update_text}
-use Rattle.swc_ecma_codegen_spans.specs.Spans.{expr_span, spread_element_span}
+use Rattle.swc_ecma_codegen_spans.specs.Spans.{spread_element_span}
 use Rattle.swc_ecma_codegen_util.specs.Starts as starts
 use Rattle.swc_ecma_codegen_ast.specs.Chars.{is_start, is_part, is_letter, is_digit}
 use Rattle.swc_ecma_codegen_ast.specs.Names.{is_word, all_part}
@@ -53,15 +51,15 @@ use Rattle.swc_ecma_codegen_ast.specs.Texts.{is_same, is_among}
 use Rattle.swc_ecma_codegen_ast.specs.Phrases.{Phrase, One, ◌>◌, mark, word}
 use Rattle.swc_ecma_codegen_ast.specs.NamePhrases as names
 use Rattle.swc_ecma_codegen_ast.specs.ExprPhrases as lists
+use Rattle.swc_ecma_codegen_ast.specs.PropPhrases as prop_lists
 use Rattle.swc_ecma_codegen_ast.specs.KeyPhrases as keys
 use Rattle.swc_ecma_codegen_ast.specs.CallPhrases.{callee_at}
 use Rattle.swc_ecma_codegen_ast.specs.LitPhrases as lit_lists
-use Rattle.swc_ecma_codegen_ast.specs.declared.roles.Role.TheVariants.{ChainMember, AssignmentTarget, ObjectLiteral, Callee as IsCallee, ChainCall, Template}
-use Rattle.swc_ecma_codegen_ast.specs.declared.roles.Role.{Role}
+use Rattle.swc_ecma_codegen_ast.specs.declared.roles.Role.TheVariants.{ChainMember, AssignmentTarget, Callee as IsCallee, ChainCall}
 use Rattle.swc_ecma_codegen_base.specs.Run.{Env, Part}
-use Rattle.swc_ecma_codegen_base.specs.Words.{operator, space, formatting_space, position, leading_comments, trailing_comments, keyword}
+use Rattle.swc_ecma_codegen_base.specs.Words.{operator, space, formatting_space, position, leading_comments, keyword}
 use Rattle.swc_ecma_codegen_base.proofs.PrivatePrints.{prints_private}
-use Rattle.swc_ecma_codegen_base.proofs.Printed.{writes_then, writes_if, writes_nothing, writes_space, writes_formatting_space, writes_commit, writes_position, writes_position_before, writes_leading, writes_trailing, Fills}
+use Rattle.swc_ecma_codegen_base.proofs.Printed.{writes_then, writes_if, writes_nothing, writes_space, writes_formatting_space, writes_commit, writes_position, writes_position_before, writes_leading, Fills}
 use Rattle.swc_ecma_codegen_base.specs.Written.{IsWord, IsMark}
 use Rattle.swc_ecma_codegen_base.proofs.Choices.{prints_bare}
 use Rattle.swc_ecma_codegen_base.proofs.EachLit.{prints_lit}
@@ -74,9 +72,7 @@ use Rattle.swc_ecma_codegen.specs.Operands.{is_word_op, operand_space}
 use Rattle.swc_ecma_codegen.specs.Exprs as words
 use Rattle.swc_ecma_codegen.specs.Calls as calls
 use Rattle.swc_ecma_codegen.specs.Lits.{lit_at}
-use Rattle.swc_ecma_codegen.proofs.FunctionExprParts.{fn_expr_prints, arrow_expr_prints, class_expr_prints}
-use Rattle.swc_ecma_codegen.proofs.CallParts.{super_is_word, array_lit_prints, call_prints, new_prints}
-use Rattle.swc_ecma_codegen.proofs.TemplateParts.{tagged_tpl_prints}
+use Rattle.swc_ecma_codegen.proofs.CallParts.{super_is_word}
 use Rattle.swc_ecma_codegen.proofs.Linked.{Linked, expr_at}
 use Rattle.swc_ecma_codegen.proofs.ListParts.{some_listed_prints}
 use Rattle.swc_ecma_codegen_base.proofs.Shapes.{open_, joined}
@@ -108,10 +104,6 @@ writes_unary_gap env op arg = writes_if env (starts.is_word_op op) (words.blank 
 pub writes_comments_before : (env : Env) (pos : BytePos) → Fills env (words.comments_before pos)
 unfolding words.comments_before
 writes_comments_before env pos = writes_if env (pos.0 == 0) (λ rest. rest) (leading_comments (record { 0 = pos.0 - 1 })) [] (writes_nothing env) (writes_leading env (record { 0 = pos.0 - 1 }))
-
-writes_closed : (env : Env) (left : Bool) (span : Span) → Fills env (words.expr_closed left span)
-unfolding words.expr_closed
-writes_closed env left span = writes_if env left (λ rest. rest) (trailing_comments true span.hi) [] (writes_nothing env) (writes_trailing env true span.hi)
 
 -- ---- operators
 
@@ -252,7 +244,7 @@ spaced_prints env t w = after (writes_formatting_space env) (before (prints_punc
 
 -- ---- expressions
 
-this_prints : (env : Env) (n : this_exprs.ThisExpr) → Prints env (words.this n) (lists.this_expr n)
+pub this_prints : (env : Env) (n : this_exprs.ThisExpr) → Prints env (words.this n) (lists.this_expr n)
 unfolding words.this lists.this_expr
 this_prints env n = after (writes_leading env n.span.lo) (prints_keyword env (Some n.span) (codes "this") this_is_word)
 
@@ -268,7 +260,7 @@ pub private_name_prints : {X : Type 0} (l : Linked X) (n : PrivateName) → Prin
 unfolding words.private_name names.private_name
 private_name_prints l n = prints_private l.env n.span (string_bytes n.name) l.leaves_out
 
-unary_prints : {X : Type 0} (l : Linked X) (n : UnaryExpr X) → Prints l.env (words.unary l.asks l.items n) (lists.unary_expr l.reads n)
+pub unary_prints : {X : Type 0} (l : Linked X) (n : UnaryExpr X) → Prints l.env (words.unary l.asks l.items n) (lists.unary_expr l.reads n)
 unfolding words.unary lists.unary_expr
 unary_prints l n = after (writes_opened l.env n.span) (then (unary_op_prints l.env n.op) (after (writes_unary_gap l.env n.op (l.asks n.arg.node.value)) (expr_at l n.arg Plain)))
 
@@ -282,11 +274,11 @@ update_case : (env : Env) (prefix : Bool) (op : UpdateOp) (p : Part) (f : Phrase
 update_case env true op p f h = then (update_op_prints env op) h
 update_case env false op p f h = then h (joined_op_prints env op)
 
-update_prints : {X : Type 0} (l : Linked X) (n : UpdateExpr X) → Prints l.env (words.update l.items n) (lists.update_expr l.reads n)
+pub update_prints : {X : Type 0} (l : Linked X) (n : UpdateExpr X) → Prints l.env (words.update l.items n) (lists.update_expr l.reads n)
 unfolding words.update words.update_parts lists.update_expr
 update_prints l n = after (writes_opened l.env n.span) (update_case l.env n.prefix n.op _ _ (expr_at l n.arg Plain))
 
-bin_prints : {X : Type 0} (l : Linked X) (n : BinExpr X) (place : Place) → Prints l.env (words.bin l.asks l.items n place) (lists.bin_expr l.reads n)
+pub bin_prints : {X : Type 0} (l : Linked X) (n : BinExpr X) (place : Place) → Prints l.env (words.bin l.asks l.items n place) (lists.bin_expr l.reads n)
 unfolding words.bin words.bin_trailing words.bin_operator lists.bin_expr
 bin_prints l n place =
     after (writes_bin_opened l.env place n.span)
@@ -363,11 +355,11 @@ unfolding words.meta_prop lists.meta_prop
 meta_prop_prints env meta_props.NewTarget = then (prints_keyword env None (codes "new") new_is_word) (then (prints_punct env (codes ".") dot_is_mark) (prints_keyword env None (codes "target") target_is_word))
 meta_prop_prints env meta_props.ImportMeta = then (prints_keyword env None (codes "import") import_is_word) (then (prints_punct env (codes ".") dot_is_mark) (prints_keyword env None (codes "meta") meta_is_word))
 
-meta_prop_expr_prints : (env : Env) (n : MetaPropExpr) → Prints env (words.meta_prop_expr n) (lists.meta_prop_expr n)
+pub meta_prop_expr_prints : (env : Env) (n : MetaPropExpr) → Prints env (words.meta_prop_expr n) (lists.meta_prop_expr n)
 unfolding words.meta_prop_expr lists.meta_prop_expr
 meta_prop_expr_prints env n = after (writes_opened env n.span) (meta_prop_prints env n.kind)
 
-assign_prints : {X : Type 0} (l : Linked X) (n : AssignExpr X) → Prints l.env (words.assign l.items n) (lists.assign_expr l.reads n)
+pub assign_prints : {X : Type 0} (l : Linked X) (n : AssignExpr X) → Prints l.env (words.assign l.items n) (lists.assign_expr l.reads n)
 unfolding words.assign lists.assign_expr
 assign_prints l n =
     after (writes_leading l.env n.span.lo)
@@ -386,21 +378,21 @@ yield_case l true arg = joined_then l.env None (codes "yield") yield_is_word (th
 yield_case l false None = then (prints_keyword l.env None (codes "yield") yield_is_word) prints_nothing
 yield_case l false (Some n) = joined_then l.env None (codes "yield") yield_is_word (after (writes_blank l.env (l.asks n.node.value).starts) (prints_bare (expr_at l n Plain)))
 
-yield_prints : {X : Type 0} (l : Linked X) (n : YieldExpr X) → Prints l.env (words.yield_expr l.asks l.items n) (lists.yield_expr l.reads n)
+pub yield_prints : {X : Type 0} (l : Linked X) (n : YieldExpr X) → Prints l.env (words.yield_expr l.asks l.items n) (lists.yield_expr l.reads n)
 unfolding words.yield_expr lists.yield_expr
 yield_prints l n = after (writes_opened l.env n.span) (yield_case l n.delegate n.arg)
 
-await_prints : {X : Type 0} (l : Linked X) (n : AwaitExpr X) → Prints l.env (words.await_expr l.items n) (lists.await_expr l.reads n)
+pub await_prints : {X : Type 0} (l : Linked X) (n : AwaitExpr X) → Prints l.env (words.await_expr l.items n) (lists.await_expr l.reads n)
 unfolding words.await_expr lists.await_expr
 await_prints l n = after (writes_opened l.env n.span) (then (prints_keyword l.env None (codes "await") await_is_word) (after (writes_space l.env) (expr_at l n.arg Plain)))
 
-pub spread_element_prints : {X : Type 0} (l : Linked X) (n : SpreadElement X) → Prints l.env (words.spread_element l.asks l.items n) (lists.spread_element l.reads n)
-unfolding words.spread_element lists.spread_element
+pub spread_element_prints : {X : Type 0} (l : Linked X) (n : SpreadElement X) → Prints l.env (words.spread_element l.asks l.items n) (prop_lists.spread_element l.reads n)
+unfolding words.spread_element prop_lists.spread_element
 spread_element_prints l n =
     let span : Span = spread_element_span (place_of l.asks) n in
     after (writes_opened l.env span) (then (prints_punct l.env (codes "...") ellipsis_is_mark) (before (expr_at l n.expr Plain) (writes_position l.env span.hi)))
 
-cond_prints : {X : Type 0} (l : Linked X) (n : CondExpr X) → Prints l.env (words.choice l.items n) (lists.cond_expr l.reads n)
+pub cond_prints : {X : Type 0} (l : Linked X) (n : CondExpr X) → Prints l.env (words.choice l.items n) (lists.cond_expr l.reads n)
 unfolding words.choice lists.cond_expr
 cond_prints l n =
     after (writes_opened l.env n.span)
@@ -408,7 +400,7 @@ cond_prints l n =
     (then (spaced_prints l.env (codes "?") question_is_mark)
     (then (expr_at l n.cons Plain) (then (spaced_prints l.env (codes ":") colon_is_mark) (expr_at l n.alt Plain)))))
 
-seq_prints : {X : Type 0} (l : Linked X) (n : SeqExpr X) → Prints l.env (words.seq l.items n) (lists.seq_expr l.reads n)
+pub seq_prints : {X : Type 0} (l : Linked X) (n : SeqExpr X) → Prints l.env (words.seq l.items n) (lists.seq_expr l.reads n)
 unfolding words.seq lists.seq_expr
 seq_prints l n = after (writes_opened l.env n.span) (some_listed_prints l.env (words.held l.items) (lists.expr_at l.reads) (λ x. expr_at l x Plain) n.exprs.items)
 
@@ -421,60 +413,9 @@ paren_prints l n =
     (then (expr_at l n.expr Plain)
     (after (writes_position_before l.env n.span.hi) (prints_punct l.env (codes ")") paren_closes_is_mark)))))
 
-lit_prints : (env : Env) (n : Lit) (place : Place) → Prints env (lit_at n place) (lit_lists.lit n)
+pub lit_prints : (env : Env) (n : Lit) (place : Place) → Prints env (lit_at n place) (lit_lists.lit n)
 unfolding lit_at lit_lists.lit
 lit_prints env (lits.Num n) Object = prints_number env n.value
 lit_prints env (lits.Num n) (DottedObject prop) = prints_number_object env n.value prop
 lit_prints env (lits.JSXText n) place = prints_never
 lit_prints env n place = prints_lit env n
-
-parts_print : {X : Type 0} (l : Linked X) (n : Expr X) (place : Place) → Prints l.env (words.expr_parts l.asks l.items n place) (lists.expr_in l.reads (calls.keeps_arguments place) n)
-unfolding words.expr_parts lists.expr lists.expr_in
-parts_print l (exprs.This n) place = this_prints l.env n
-parts_print l (exprs.Object n) place = l.law n.node.value Plain ObjectLiteral
-parts_print l (exprs.Fn n) place = fn_expr_prints l n
-parts_print l (exprs.Array n) place = array_lit_prints l n
-parts_print l (exprs.Unary n) place = unary_prints l n
-parts_print l (exprs.Update n) place = update_prints l n
-parts_print l (exprs.Bin n) place = bin_prints l n place
-parts_print l (exprs.Assign n) place = assign_prints l n
-parts_print l (exprs.Member n) place = member_prints l n
-parts_print l (exprs.SuperProp n) place = super_prop_expr_prints l n
-parts_print l (exprs.Cond n) place = cond_prints l n
-parts_print l (exprs.Call n) place = call_prints l n
-parts_print l (exprs.New n) place = new_prints l (calls.keeps_arguments place) n
-parts_print l (exprs.Seq n) place = seq_prints l n
-parts_print l (exprs.Ident n) place = ident_prints l n
-parts_print l (exprs.Lit n) place = lit_prints l.env n place
-parts_print l (exprs.Tpl n) place = l.law n.node.value Plain Template
-parts_print l (exprs.TaggedTpl n) place = tagged_tpl_prints l n
-parts_print l (exprs.Arrow n) place = arrow_expr_prints l n.value
-parts_print l (exprs.Class n) place = class_expr_prints l n
-parts_print l (exprs.Yield n) place = yield_prints l n
-parts_print l (exprs.MetaProp n) place = meta_prop_expr_prints l.env n
-parts_print l (exprs.Await n) place = await_prints l n
-parts_print l (exprs.Paren n) place = paren_prints l n
-parts_print l (exprs.PrivateName n) place = private_name_prints l n
-parts_print l (exprs.OptChain n) place = opt_chain_prints l n
-parts_print l n place = prints_never
-
--- the comments after it
-expr_prints : {X : Type 0} (l : Linked X) (n : Expr X) (place : Place) → Prints l.env (words.expr l.asks l.items n place) (lists.expr_in l.reads (calls.keeps_arguments place) n)
-unfolding words.expr
-expr_prints l n place = before (parts_print l n place) (writes_closed l.env (words.leaves_comments n place) (expr_span (place_of l.asks) n))
-
--- where it is no callee, and where it is one
-plain_same : {X : Type 0} (f : X → Role → Phrase) (n : Expr X) → lists.expr_in f false n ≡ lists.expr f n
-unfolding lists.expr_in lists.expr
-plain_same f (exprs.New n) = refl
-plain_same f n = refl
-
-pub plain_expr_prints : {X : Type 0} (l : Linked X) (n : Expr X) (place : Place) → calls.keeps_arguments place ≡ false → Prints l.env (words.expr l.asks l.items n place) (lists.expr l.reads n)
-plain_expr_prints l n place h =
-    let P : Phrase → Type 0 = λ f. Prints l.env (words.expr l.asks l.items n place) f in
-    subst P (ap (λ b. lists.expr_in l.reads b n) h ∙ plain_same l.reads n) (expr_prints l n place)
-
-pub callee_expr_prints : {X : Type 0} (l : Linked X) (n : Expr X) (place : Place) → calls.keeps_arguments place ≡ true → Prints l.env (words.expr l.asks l.items n place) (lists.expr_in l.reads true n)
-callee_expr_prints l n place h =
-    let P : Phrase → Type 0 = λ f. Prints l.env (words.expr l.asks l.items n place) f in
-    subst P (ap (λ b. lists.expr_in l.reads b n) h) (expr_prints l n place)

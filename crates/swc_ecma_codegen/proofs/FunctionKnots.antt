@@ -25,7 +25,7 @@ use Rattle.swc_ecma_codegen.specs.declared.nodes.Place.TheVariants.{Plain, Funct
 use Rattle.swc_ecma_codegen.specs.declared.patterns.PatternKind.{PatternKind}
 use Rattle.swc_ecma_codegen.specs.Answers.{Answers, place_of}
 use Rattle.swc_ecma_codegen.specs.Blocks.{block_list, block_start, block_stmt}
-use Rattle.swc_ecma_codegen.specs.Exprs.{expr, expr_parts, expr_closed, leaves_comments}
+use Rattle.swc_ecma_codegen.specs.AnyExpr.{expr, expr_parts, expr_closed, leaves_comments}
 use Rattle.swc_ecma_codegen.specs.FunctionExprs.{comma_list_format, is_plain, is_name, is_only, async_arrow, star, parenthesis, arrow_parameters, arrow_body, arrow_parts, arrow_expr}
 use Rattle.swc_ecma_codegen.specs.Functions.{decorators_format, decorator, decorator_place, param, function_body, fn_trailing_parts, fn_trailing, function_head, declaration_head, method_head, static_head, decorator_lines, method_body, method_tail_parts, method_tail, private_tail, function}
 use Rattle.swc_ecma_codegen.specs.Lists.{child_of, in_order, unsupported}

@@ -36,7 +36,8 @@ use Rattle.swc_ecma_codegen.specs.declared.nodes.Place.{Place}
 use Rattle.swc_ecma_codegen.specs.declared.nodes.Place.TheVariants.{Plain, Chain}
 use Rattle.swc_ecma_codegen.specs.Answers.{Answers, any_answers}
 use Rattle.swc_ecma_codegen.specs.Lists.{comma, listed, unsupported}
-use Rattle.swc_ecma_codegen.specs.Exprs.{this, unary, update, update_parts, bin, bin_operator, bin_trailing, member, member_at, member_prop, object_place, computed_prop_name, super_prop, super_prop_expr, chain_mark, chain_prop, chain_member, chain_base, opt_chain, meta_prop_expr, assign, yield_arg, yield_expr, await_expr, choice, seq, held, paren, ident, opened, expr_parts, expr_closed, leaves_comments, expr}
+use Rattle.swc_ecma_codegen.specs.Exprs.{this, unary, update, update_parts, bin, bin_operator, bin_trailing, member, member_at, member_prop, object_place, computed_prop_name, super_prop, super_prop_expr, chain_mark, chain_prop, chain_member, chain_base, opt_chain, meta_prop_expr, assign, yield_arg, yield_expr, await_expr, choice, seq, held, paren, ident, opened}
+use Rattle.swc_ecma_codegen.specs.AnyExpr.{expr_parts, expr_closed, leaves_comments, expr}
 use Rattle.swc_ecma_codegen.specs.FunctionExprs.{fn_expr, optional_name}
 use Rattle.swc_ecma_codegen.specs.ClassExprs.{class_expr}
 use Rattle.swc_ecma_codegen.specs.Names.{binding_ident}
@@ -89,9 +90,10 @@ yield_mapped g asks items n None place rest = refl
 yield_mapped g asks items n (Some x) place rest = refl
 
 expr_mapped : {X Y : Type 0} (g : X → Y) (asks : Y → Answers) (items : Y → Place → Part) (n : Expr X) (place : Place) (rest : Plan) → node_items asks items (map-AnyNode X Y g (nodes.Expr n)) place rest ≡ expr (λ x. asks (g x)) (λ x. items (g x)) n place rest
-unfolding node_items expr expr_parts expr_closed expr_span fn_expr_span class_expr_span leaves_comments member_at unsupported refuse fn_expr class_expr optional_name this unary update update_parts bin bin_operator bin_trailing assign meta_prop_expr await_expr choice seq paren ident
+unfolding node_items expr expr_parts expr_closed expr_span fn_expr_span class_expr_span leaves_comments member_at unsupported refuse fn_expr class_expr optional_name this unary update update_parts bin bin_operator bin_trailing assign meta_prop_expr await_expr choice seq paren ident expr_part
 expr_mapped {X} g asks items (exprs.Seq n) place rest = ap (opened n.span) (listed_mapped {A = ExprBox X} _ (held items) (held (λ x. items (g x))) (λ x. refl) true n.exprs.items (trailing_comments true n.span.hi rest))
 expr_mapped g asks items (exprs.Array n) place rest = array_lit_mapped g asks items n place rest
+expr_mapped g asks items (exprs.Object n) place rest = object_lit_mapped g asks items n Plain (trailing_comments true n.span.hi rest)
 expr_mapped g asks items (exprs.Call n) place rest = call_mapped g asks items n place rest
 expr_mapped g asks items (exprs.New n) place rest = new_mapped g asks items n place rest
 expr_mapped g asks items (exprs.Member n) place rest = member_mapped g asks items n.span n.obj n.prop Plain (trailing_comments true n.span.hi rest)

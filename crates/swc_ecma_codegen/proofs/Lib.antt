@@ -31,6 +31,7 @@ pub mod LoopParts
 pub mod StmtParts
 pub mod BlockParts
 pub mod PropParts
+pub mod AnyExprParts
 pub mod TargetParts
 pub mod ModuleParts
 pub mod ProgramParts

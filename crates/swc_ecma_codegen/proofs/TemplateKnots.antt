@@ -18,8 +18,8 @@ use Rattle.swc_ecma_codegen_base.specs.Words.{start_of, end_of, leading_comments
 use Rattle.swc_ecma_codegen.specs.declared.nodes.Place.{Place}
 use Rattle.swc_ecma_codegen.specs.declared.nodes.Place.TheVariants.{Plain}
 use Rattle.swc_ecma_codegen.specs.Answers.{Answers}
-use Rattle.swc_ecma_codegen.specs.Exprs as words
-use Rattle.swc_ecma_codegen.specs.Exprs.{expr}
+use Rattle.swc_ecma_codegen.specs.AnyExpr as words
+use Rattle.swc_ecma_codegen.specs.AnyExpr.{expr}
 use Rattle.swc_ecma_codegen.specs.Lists.{unsupported}
 use Rattle.swc_ecma_codegen.specs.Parts.{expr_part}
 use Rattle.swc_ecma_codegen.specs.Templates.{tpl_rest, tpl_parts, tpl_placed, bad_shape, tpl, is_tagged, tagged_tpl, tagged_tpl_parts}

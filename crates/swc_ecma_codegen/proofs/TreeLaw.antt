@@ -21,7 +21,8 @@ use Rattle.swc_ecma_codegen.specs.Places.{placed, outside, inside}
 use Rattle.swc_ecma_codegen.specs.Tree.{node_items, any_items}
 use Rattle.swc_ecma_codegen.proofs.Knots.{items_of}
 use Rattle.swc_ecma_codegen.proofs.Linked.{Linked, role_shape}
-use Rattle.swc_ecma_codegen.proofs.ExprParts.{member_prints, chain_member_prints, plain_expr_prints, callee_expr_prints}
+use Rattle.swc_ecma_codegen.proofs.ExprParts.{member_prints, chain_member_prints}
+use Rattle.swc_ecma_codegen.proofs.AnyExprParts.{plain_expr_prints, callee_expr_prints}
 use Rattle.swc_ecma_codegen.proofs.PartLaws.{part_prints, stmt_part_prints}
 use Rattle.swc_ecma_codegen.proofs.PatternLaws.{plain_reads}
 use Rattle.swc_ecma_codegen.proofs.StmtParts.{stmt_prints}

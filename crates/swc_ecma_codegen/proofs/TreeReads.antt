@@ -43,7 +43,7 @@ use Rattle.swc_ecma_codegen.specs.Programs as programs
 use Rattle.swc_ecma_codegen.specs.Templates.{tpl_placed, bad_shape, tpl}
 use Rattle.swc_ecma_codegen.specs.Tree.{any_items}
 use Rattle.swc_ecma_codegen.specs.Roots.{Root, OfExpr, OfStmt, OfItem, OfModule, OfScript, OfProgram, OfLink, root_items, root_phrase, is_well_formed_root, root_hashbang, MayBegin}
-use Rattle.swc_ecma_codegen.proofs.ExprParts.{plain_expr_prints}
+use Rattle.swc_ecma_codegen.proofs.AnyExprParts.{plain_expr_prints}
 use Rattle.swc_ecma_codegen.proofs.ModuleParts.{module_item_prints}
 use Rattle.swc_ecma_codegen.proofs.ProgramParts.{module_prints, script_prints, program_prints}
 use Rattle.swc_ecma_codegen.proofs.StmtParts.{stmt_prints}

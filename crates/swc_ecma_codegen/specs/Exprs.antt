@@ -1,4 +1,4 @@
--- What is written of each expression. A word is generic in what a link holds, X. It takes what is known of that:
+-- What is written of expressions, one word a type. A word is generic in what a link holds, X. It takes what is known of that:
 -- `asks` says what it answers, `items` what is written of it, where its parent puts it.
 use Rattle.std.specs.Prelude.{ℕ, ◌-◌, ◌==◌, Bool, true, false, if◌then◌else◌, List, codes, Option, Some, None, string_bytes}
 use Rattle.swc_ecma_codegen_common.specs.declared.positions.BytePos.{BytePos}
@@ -33,24 +33,18 @@ use Rattle.swc_ecma_codegen_tree.specs.declared.exprs.SpreadElement.{SpreadEleme
 use Rattle.swc_ecma_codegen_tree.specs.declared.exprs.CondExpr.{CondExpr}
 use Rattle.swc_ecma_codegen_tree.specs.declared.exprs.SeqExpr.{SeqExpr}
 use Rattle.swc_ecma_codegen_tree.specs.declared.exprs.ParenExpr.{ParenExpr}
-use Rattle.swc_ecma_codegen_tree.specs.declared.exprs.Expr.{Expr}
-use Rattle.swc_ecma_codegen_tree.specs.declared.exprs.Expr.TheVariants as exprs
 use Rattle.swc_ecma_codegen_common.specs.Operators.{assign_text, unary_text, binary_text, update_text}
-use Rattle.swc_ecma_codegen_spans.specs.Spans.{expr_span, spread_element_span}
+use Rattle.swc_ecma_codegen_spans.specs.Spans.{spread_element_span}
 use Rattle.swc_ecma_codegen_util.specs.Starts as starts
 use Rattle.swc_ecma_codegen_base.specs.PrivateNames as names
 use Rattle.swc_ecma_codegen_base.specs.Run.{Part}
-use Rattle.swc_ecma_codegen_base.specs.Words.{keyword, operator, word_operator, punct, space, formatting_space, commit_pending_semi, start_of, end_of, last_of, leading_comments, trailing_comments, name}
+use Rattle.swc_ecma_codegen_base.specs.Words.{keyword, operator, word_operator, punct, space, formatting_space, commit_pending_semi, start_of, end_of, last_of, leading_comments, name}
 use Rattle.swc_ecma_codegen.specs.declared.nodes.Place.{Place}
 use Rattle.swc_ecma_codegen.specs.declared.nodes.Place.TheVariants.{Plain, LeftOperand, Object, DottedObject, Callee, Chain}
 use Rattle.swc_ecma_codegen.specs.Answers.{Answers, place_of}
 use Rattle.swc_ecma_codegen.specs.Operands.{is_word_op, space_after, operand_space}
-use Rattle.swc_ecma_codegen.specs.FunctionExprs.{fn_expr, arrow_expr}
-use Rattle.swc_ecma_codegen.specs.ClassExprs.{class_expr}
-use Rattle.swc_ecma_codegen.specs.Templates.{tagged_tpl}
-use Rattle.swc_ecma_codegen.specs.Calls.{super_keyword, array_lit, call_expr, keeps_arguments, new_expr}
-use Rattle.swc_ecma_codegen.specs.Lists.{listed, unsupported}
-use Rattle.swc_ecma_codegen.specs.Lits.{lit_at, is_number_object}
+use Rattle.swc_ecma_codegen.specs.Calls.{super_keyword}
+use Rattle.swc_ecma_codegen.specs.Lists.{listed}
 
 -- one blank where it is needed, else what the settings want
 unfoldable pub blank : Bool → Part
@@ -254,50 +248,3 @@ seq items n rest = opened n.span (listed (held items) true n.exprs.items rest)
 
 unfoldable pub paren : {X : Type 0} → (X → Place → Part) → ParenExpr X → Part
 paren items n rest = commit_pending_semi (opened n.span (punct (codes "(") (items n.expr.node.value Plain (last_of n.span (punct (codes ")") rest)))))
-
--- an expression by its variant
-unfoldable pub expr_parts : {X : Type 0} → (X → Answers) → (X → Place → Part) → Expr X → Place → Part
-expr_parts asks items (exprs.This n) place rest = this n rest
-expr_parts asks items (exprs.Object n) place rest = items n.node.value Plain rest
-expr_parts asks items (exprs.Fn n) place rest = fn_expr asks items n rest
-expr_parts asks items (exprs.Array n) place rest = array_lit asks items n rest
-expr_parts asks items (exprs.Unary n) place rest = unary asks items n rest
-expr_parts asks items (exprs.Update n) place rest = update items n rest
-expr_parts asks items (exprs.Bin n) place rest = bin asks items n place rest
-expr_parts asks items (exprs.Assign n) place rest = assign items n rest
-expr_parts asks items (exprs.Member n) place rest = member items n rest
-expr_parts asks items (exprs.SuperProp n) place rest = super_prop_expr items n rest
-expr_parts asks items (exprs.Cond n) place rest = choice items n rest
-expr_parts asks items (exprs.Call n) place rest = call_expr asks items n rest
-expr_parts asks items (exprs.New n) place rest = new_expr asks items (keeps_arguments place) n rest
-expr_parts asks items (exprs.Seq n) place rest = seq items n rest
-expr_parts asks items (exprs.Ident n) place rest = ident n rest
-expr_parts asks items (exprs.Lit n) place rest = lit_at n place rest
-expr_parts asks items (exprs.Tpl n) place rest = items n.node.value Plain rest
-expr_parts asks items (exprs.TaggedTpl n) place rest = tagged_tpl items n rest
-expr_parts asks items (exprs.Arrow n) place rest = arrow_expr asks items n.value rest
-expr_parts asks items (exprs.Class n) place rest = class_expr asks items n rest
-expr_parts asks items (exprs.Yield n) place rest = yield_expr asks items n rest
-expr_parts asks items (exprs.MetaProp n) place rest = meta_prop_expr n rest
-expr_parts asks items (exprs.Await n) place rest = await_expr items n rest
-expr_parts asks items (exprs.Paren n) place rest = paren items n rest
-expr_parts asks items (exprs.PrivateName n) place rest = private_name n rest
-expr_parts asks items (exprs.OptChain n) place rest = opt_chain items n rest
-expr_parts asks items n place rest = unsupported rest
-
-unfoldable pub is_left_operand : Place → Bool
-is_left_operand LeftOperand = true
-is_left_operand place = false
-
--- Its comments are left where they are: those of an inner left operand, and of a number that is an object.
-unfoldable pub leaves_comments : {X : Type 0} → Expr X → Place → Bool
-leaves_comments (exprs.Bin n) place = is_left_operand place
-leaves_comments (exprs.Lit n) place = is_number_object n place
-leaves_comments n place = false
-
--- the comments after an expression
-unfoldable pub expr_closed : Bool → Span → Part
-expr_closed left span rest = if left then rest else trailing_comments true span.hi rest
-
-unfoldable pub expr : {X : Type 0} → (X → Answers) → (X → Place → Part) → Expr X → Place → Part
-expr asks items n place rest = expr_parts asks items n place (expr_closed (leaves_comments n place) (expr_span (place_of asks) n) rest)

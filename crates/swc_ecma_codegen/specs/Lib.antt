@@ -17,6 +17,7 @@ pub mod Pats
 pub mod Functions
 pub mod Classes
 pub mod Props
+pub mod AnyExpr
 pub mod Targets
 pub mod Decls
 pub mod Stmts

@@ -17,7 +17,7 @@ use Rattle.swc_ecma_codegen_base.specs.Written.{IsNew, IsAtMargin}
 use Rattle.swc_ecma_codegen.specs.declared.nodes.Place.TheVariants.{Plain}
 use Rattle.swc_ecma_codegen.specs.Answers.{any_answers}
 use Rattle.swc_ecma_codegen.specs.Places.{placed}
-use Rattle.swc_ecma_codegen.specs.Exprs.{expr}
+use Rattle.swc_ecma_codegen.specs.AnyExpr.{expr}
 use Rattle.swc_ecma_codegen.specs.Stmts.{stmt}
 use Rattle.swc_ecma_codegen.specs.Modules.{module_item}
 use Rattle.swc_ecma_codegen.specs.Programs.{whole_module, script, program, has_hashbang}

@@ -5,7 +5,8 @@ use Rattle.swc_ecma_codegen_tree.specs.declared.links.AnyNode.TheFolds.{para-Any
 use Rattle.swc_ecma_codegen_base.specs.Run.{Part}
 use Rattle.swc_ecma_codegen.specs.declared.nodes.Place.{Place}
 use Rattle.swc_ecma_codegen.specs.Answers.{Answers, any_answers}
-use Rattle.swc_ecma_codegen.specs.Exprs.{expr, member_at}
+use Rattle.swc_ecma_codegen.specs.AnyExpr.{expr}
+use Rattle.swc_ecma_codegen.specs.Exprs.{member_at}
 use Rattle.swc_ecma_codegen.specs.Parts.{expr_part, stmt_part}
 use Rattle.swc_ecma_codegen.specs.Stmts.{stmt}
 use Rattle.swc_ecma_codegen.specs.Lists.{unsupported}

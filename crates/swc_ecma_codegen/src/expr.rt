@@ -3,7 +3,8 @@
 ghost use Rattle.std.specs.Prelude.{◌≡◌, Some, None, true};
 ghost use Rattle.swc_ecma_codegen_base.specs.Starts.{begins_letter};
 ghost use Rattle.swc_ecma_codegen.specs.Standing.{Makes, Stays, standing_of};
-ghost use Rattle.swc_ecma_codegen.specs.Exprs.{ident, ident_name, private_name, this, unary_op, unary_gap, unary, update_parts, update, binary_op, before_op, after_op, bin_operator, tight_operator, spaced_operator, word_between, bin_trailing, bin_opened, bin, computed_prop_name, choice, meta_prop_expr, assign, yield_star, yield_arg, yield_expr, spread_element, await_expr, seq, paren, expr_parts, is_left_operand, leaves_comments, expr_closed, expr};
+ghost use Rattle.swc_ecma_codegen.specs.Exprs.{ident, ident_name, private_name, this, unary_op, unary_gap, unary, update_parts, update, binary_op, before_op, after_op, bin_operator, tight_operator, spaced_operator, word_between, bin_trailing, bin_opened, bin, computed_prop_name, choice, meta_prop_expr, assign, yield_star, yield_arg, yield_expr, spread_element, await_expr, seq, paren};
+ghost use Rattle.swc_ecma_codegen.specs.AnyExpr.{expr_parts, is_left_operand, leaves_comments, expr_closed, expr};
 ghost use Rattle.swc_ecma_codegen_spans.specs.Spans.{expr_span};
 ghost use Rattle.swc_ecma_codegen.specs.Answers.{place_of};
 ghost use Rattle.swc_ecma_codegen.specs.Operands.{operand_space};
@@ -28,7 +29,7 @@ use swc_ecma_codegen_tree::{
 };
 
 /// Whether it is the place of a left operand.
-#[tactic(auto, unfolding(crate::specs::Exprs::is_left_operand))]
+#[tactic(auto, unfolding(crate::specs::AnyExpr::is_left_operand))]
 fn is_left_operand(place: Place) -> bool
     ensures { result ≡ is_left_operand place }
 {
@@ -37,7 +38,7 @@ fn is_left_operand(place: Place) -> bool
 
 /// Whether the comments after it are left where they are: those of an inner left operand, as `a + b` in `a + b + c`, and of
 /// a number that is an object, as `10` in `10..x`.
-#[tactic(auto, unfolding(crate::specs::Exprs::leaves_comments))]
+#[tactic(auto, unfolding(crate::specs::AnyExpr::leaves_comments))]
 fn leaves_comments<N>(node: &Expr<N>, place: Place) -> bool
     ensures { result ≡ leaves_comments node.now place }
 {
@@ -48,7 +49,7 @@ fn leaves_comments<N>(node: &Expr<N>, place: Place) -> bool
     }
 }
 
-/// Writes an object or a template. The place that it is told would be part of the frame that is there at each level of a tree.
+/// Writes a template. The place that it is told would be part of the frame that is there at each level of a tree.
 #[inline(never)]
 fn plainly<N: Held, W: WriteJs, S: SourceMapper, C: Comments>(
     node: &N,
@@ -62,7 +63,7 @@ fn plainly<N: Held, W: WriteJs, S: SourceMapper, C: Comments>(
 
 /// Writes an expression by its variant, without the comments after it.
 #[inline(always)]
-#[tactic(auto, unfolding(crate::specs::Exprs::expr_parts, crate::specs::Exprs::member_at))]
+#[tactic(auto, unfolding(crate::specs::AnyExpr::expr_parts, crate::specs::Exprs::member_at))]
 fn expr_parts<N: Held, W: WriteJs, S: SourceMapper, C: Comments>(
     node: &Expr<N>,
     e: &mut Emitter<'_, W, S, C>,
@@ -73,7 +74,7 @@ fn expr_parts<N: Held, W: WriteJs, S: SourceMapper, C: Comments>(
 {
     match node {
         Expr::This(node) => node.emit_at(e, place),
-        Expr::Object(node) => plainly(node.held(), e),
+        Expr::Object(node) => node.emit_at(e, Place::Plain),
         Expr::Fn(node) => node.emit_at(e, place),
         Expr::Array(node) => node.emit_at(e, place),
         Expr::Unary(node) => node.emit_at(e, place),
@@ -117,7 +118,7 @@ impl<N: Held> EmitAt for Expr<N> {
     ghost items = { expr N.answers N.items };
 
     #[inline(always)]
-    #[tactic(auto, unfolding(crate::specs::Exprs::expr), using(crate::proofs::Asked::closed_bare))]
+    #[tactic(auto, unfolding(crate::specs::AnyExpr::expr), using(crate::proofs::Asked::closed_bare))]
     fn emit_at<W: WriteJs, S: SourceMapper, C: Comments>(
         &self,
         e: &mut Emitter<'_, W, S, C>,
@@ -133,7 +134,7 @@ impl<N: Held> EmitAt for Expr<N> {
 
 /// Writes an expression and the comments after it.
 #[inline(never)]
-#[tactic(auto, unfolding(crate::specs::Exprs::expr))]
+#[tactic(auto, unfolding(crate::specs::AnyExpr::expr))]
 fn commented<N: Held, W: WriteJs, S: SourceMapper, C: Comments>(
     node: &Expr<N>,
     e: &mut Emitter<'_, W, S, C>,
@@ -409,7 +410,7 @@ impl<N: Held> EmitAt for SpreadElement<N> {
 
 impl<W: WriteJs, S: SourceMapper, C: Comments> Emitter<'_, W, S, C> {
     /// Writes the comments after an expression, unless they are left where they are. Where it stands is asked only where there are comments.
-    #[tactic(auto, unfolding(crate::specs::Exprs::expr_closed), using(crate::proofs::Asked::closed_bare, crate::proofs::Asked::closed_commented))]
+    #[tactic(auto, unfolding(crate::specs::AnyExpr::expr_closed), using(crate::proofs::Asked::closed_bare, crate::proofs::Asked::closed_commented))]
     fn expr_closed<N: Held>(&mut self, node: &Expr<N>, place: Place)
         ensures items { Makes (expr_closed (leaves_comments node.now place) (expr_span (place_of N.answers) node.now)) (standing_of S.lines W.sheet self.old) (standing_of S.lines W.sheet self.new) }
         ensures level { Stays (standing_of S.lines W.sheet self.old) (standing_of S.lines W.sheet self.new) }

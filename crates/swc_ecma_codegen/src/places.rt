@@ -17,7 +17,7 @@ pub(crate) fn expr_place<N: Asked>(node: &Expr<N>) -> Span
     match node {
         Expr::This(node) => node.span,
         Expr::Array(node) => node.span,
-        Expr::Object(node) => node.held().place(),
+        Expr::Object(node) => node.span,
         Expr::Fn(node) => node.function.held().place(),
         Expr::Unary(node) => node.span,
         Expr::Update(node) => node.span,

@@ -19,10 +19,9 @@ use Rattle.swc_ecma_codegen_tree.specs.declared.exprs.SetterProp.{SetterProp}
 use Rattle.swc_ecma_codegen_ast.specs.Phrases.{Phrase, ◌>◌, mark, listed}
 use Rattle.swc_ecma_codegen_ast.specs.declared.roles.Role.{Role}
 use Rattle.swc_ecma_codegen_ast.specs.declared.roles.Role.TheVariants.{ObjectLiteral, MethodHead}
-use Rattle.swc_ecma_codegen_ast.specs.ExprPhrases.{spread_element}
 use Rattle.swc_ecma_codegen_ast.specs.FunctionPhrases.{function_at}
 use Rattle.swc_ecma_codegen_ast.specs.PatPhrases.{value_at}
-use Rattle.swc_ecma_codegen_ast.specs.PropPhrases.{key_value_prop, assign_prop, optional_body, getter_prop, setter_prop, method_prop, prop, prop_or_spread, object_lit}
+use Rattle.swc_ecma_codegen_ast.specs.PropPhrases.{key_value_prop, assign_prop, optional_body, getter_prop, setter_prop, method_prop, prop, spread_element, prop_or_spread, object_lit}
 use Rattle.swc_ecma_codegen_ast.specs.PartPhrases.{expr_part}
 use Rattle.swc_ecma_codegen_ast.specs.TreePhrases.{node_phrase}
 use Rattle.swc_ecma_codegen_ast.proofs.Mapped.{list_mapped}

@@ -77,7 +77,7 @@ member_mapped g f span obj (member_props.Computed n) = refl
 member_mapped g f span obj (member_props.PrivateName n) = refl
 
 expr_mapped : {X Y : Type 0} (g : X → Y) (f : Y → Role → Phrase) (n : Expr X) → node_phrase f (map-AnyNode X Y g (nodes.Expr n)) Expression ≡ expr (λ x. f (g x)) n
-unfolding node_phrase expr this_expr unary_expr update_expr bin_expr assign_expr meta_prop_expr await_expr cond_expr seq_expr paren_expr fn_expr class_expr expr_in
+unfolding node_phrase expr this_expr unary_expr update_expr bin_expr assign_expr meta_prop_expr await_expr cond_expr seq_expr paren_expr fn_expr class_expr expr_in expr_part
 expr_mapped {X} g f (exprs.Seq n) = ap (some_listed (codes ",")) (list_mapped {A = ExprBox X} _ (expr_at f) (expr_at (λ x. f (g x))) (λ x. refl) n.exprs.items)
 expr_mapped g f (exprs.Member n) = member_mapped g f n.span n.obj n.prop
 expr_mapped g f (exprs.SuperProp n) = super_mapped g f n n.prop
@@ -85,6 +85,7 @@ expr_mapped g f (exprs.OptChain n) = chain_mapped g f n n.base
 expr_mapped g f (exprs.Yield n) = yield_mapped g f n n.delegate n.arg
 expr_mapped g f (exprs.Arrow n) = arrow_expr_mapped g f n
 expr_mapped g f (exprs.Array n) = array_lit_mapped g f n
+expr_mapped g f (exprs.Object n) = object_lit_mapped g f n
 expr_mapped g f (exprs.Call n) = call_mapped g f n
 expr_mapped g f (exprs.New n) = new_mapped g f false n
 expr_mapped g f (exprs.TaggedTpl n) = tagged_tpl_mapped g f n

@@ -29,7 +29,6 @@ use Rattle.swc_ecma_codegen_tree.specs.declared.exprs.MetaPropKind.{MetaPropKind
 use Rattle.swc_ecma_codegen_tree.specs.declared.exprs.MetaPropKind.TheVariants as meta_props
 use Rattle.swc_ecma_codegen_tree.specs.declared.exprs.YieldExpr.{YieldExpr}
 use Rattle.swc_ecma_codegen_tree.specs.declared.exprs.AwaitExpr.{AwaitExpr}
-use Rattle.swc_ecma_codegen_tree.specs.declared.exprs.SpreadElement.{SpreadElement}
 use Rattle.swc_ecma_codegen_tree.specs.declared.exprs.CondExpr.{CondExpr}
 use Rattle.swc_ecma_codegen_tree.specs.declared.exprs.SeqExpr.{SeqExpr}
 use Rattle.swc_ecma_codegen_tree.specs.declared.exprs.ParenExpr.{ParenExpr}
@@ -37,8 +36,9 @@ use Rattle.swc_ecma_codegen_ast.specs.Phrases.{Phrase, Never, Nothing, One, Opti
 use Rattle.swc_ecma_codegen_ast.specs.Tokens.{Token}
 use Rattle.swc_ecma_codegen_ast.specs.Tokens as tokens
 use Rattle.swc_ecma_codegen_ast.specs.declared.roles.Role.{Role}
-use Rattle.swc_ecma_codegen_ast.specs.declared.roles.Role.TheVariants.{Expression, ChainMember, AssignmentTarget, ObjectLiteral, ChainCall, Template}
+use Rattle.swc_ecma_codegen_ast.specs.declared.roles.Role.TheVariants.{Expression, ChainMember, AssignmentTarget, ChainCall, Template}
 use Rattle.swc_ecma_codegen_ast.specs.FunctionPhrases.{fn_expr, arrow_expr}
+use Rattle.swc_ecma_codegen_ast.specs.PropPhrases.{object_lit}
 use Rattle.swc_ecma_codegen_ast.specs.TemplatePhrases.{tagged_tpl}
 use Rattle.swc_ecma_codegen_ast.specs.ClassPhrases.{class_expr}
 use Rattle.swc_ecma_codegen_ast.specs.CallPhrases.{callee_at, array_lit, call_expr, new_expr}
@@ -97,10 +97,6 @@ super_prop f (super_props.Computed n) = computed_prop_name f n
 
 unfoldable pub super_prop_expr : {X : Type 0} → (X → Role → Phrase) → SuperPropExpr X → Phrase
 super_prop_expr f n = word (codes "super") > super_prop f n.prop
-
--- section 13.2.5
-unfoldable pub spread_element : {X : Type 0} → (X → Role → Phrase) → SpreadElement X → Phrase
-spread_element f n = mark (codes "...") > expr_at f n.expr
 
 -- section 13.3.9: `a?.b` and `a?.[b]`; `.c` and `[c]` of `a?.b.c` and `a?.b[c]`
 unfoldable pub chain_mark : {X : Type 0} → Bool → MemberProp X → Phrase
@@ -170,7 +166,7 @@ paren_expr f n = mark (codes "(") > expr_at f n.expr > mark (codes ")")
 
 unfoldable pub expr : {X : Type 0} → (X → Role → Phrase) → Expr X → Phrase
 expr f (exprs.This n) = this_expr n
-expr f (exprs.Object n) = f n.node.value ObjectLiteral
+expr f (exprs.Object n) = object_lit f n
 expr f (exprs.Fn n) = fn_expr f n
 expr f (exprs.Array n) = array_lit f n
 expr f (exprs.Unary n) = unary_expr f n

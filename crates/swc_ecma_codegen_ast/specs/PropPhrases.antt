@@ -2,6 +2,7 @@
 -- adds, the type of a getter and `this` before the parameter of a setter, isn't printed yet.
 use Rattle.std.specs.Prelude.{is_some, if◌then◌else◌, map, codes, Option, Some, None}
 use Rattle.swc_ecma_codegen_tree.specs.declared.exprs.ObjectLit.{ObjectLit}
+use Rattle.swc_ecma_codegen_tree.specs.declared.exprs.SpreadElement.{SpreadElement}
 use Rattle.swc_ecma_codegen_tree.specs.declared.exprs.PropOrSpread.{PropOrSpread}
 use Rattle.swc_ecma_codegen_tree.specs.declared.exprs.PropOrSpread.TheVariants as prop_or_spreads
 use Rattle.swc_ecma_codegen_tree.specs.declared.exprs.Prop.{Prop}
@@ -14,7 +15,6 @@ use Rattle.swc_ecma_codegen_tree.specs.declared.exprs.MethodProp.{MethodProp}
 use Rattle.swc_ecma_codegen_tree.specs.Links.{BlockStmtBox}
 use Rattle.swc_ecma_codegen_ast.specs.Phrases.{Phrase, Never, Nothing, ◌>◌, word, mark, listed}
 use Rattle.swc_ecma_codegen_ast.specs.NamePhrases.{ident}
-use Rattle.swc_ecma_codegen_ast.specs.ExprPhrases.{spread_element}
 use Rattle.swc_ecma_codegen_ast.specs.KeyPhrases.{prop_name}
 use Rattle.swc_ecma_codegen_ast.specs.PatPhrases.{value_at, pat_at, prop_name_at}
 use Rattle.swc_ecma_codegen_ast.specs.FunctionPhrases.{block_at, function_at}
@@ -58,6 +58,10 @@ prop f (props.Assign n) = assign_prop f n
 prop f (props.Getter n) = getter_prop f n
 prop f (props.Setter n) = setter_prop f n
 prop f (props.Method n) = method_prop f n
+
+-- `...a`
+unfoldable pub spread_element : {X : Type 0} → (X → Role → Phrase) → SpreadElement X → Phrase
+spread_element f n = mark (codes "...") > value_at f n.expr
 
 unfoldable pub prop_or_spread : {X : Type 0} → (X → Role → Phrase) → PropOrSpread X → Phrase
 prop_or_spread f (prop_or_spreads.Spread n) = spread_element f n

@@ -37,6 +37,7 @@ pub mod ScriptTexts
 pub mod Appended
 pub mod Shapes
 pub mod Made
+pub mod OwnDigits
 pub mod OwnDots
 pub mod LitTexts
 pub mod Remade

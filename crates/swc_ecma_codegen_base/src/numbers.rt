@@ -50,12 +50,28 @@ fn decimal_text(alloc: Global, minify: bool, number: &Decimal) -> std::result::R
     }
 }
 
+/// A finite number by its value. Where its digits are all that is printed of it, as of `12`, they are lent.
+#[tactic(auto, using(crate::proofs::OwnDigits::own_digits))]
+fn number_by_value<'a>(
+    alloc: Global,
+    minify: bool,
+    number: &'a Decimal,
+) -> std::result::Result<CowStr<'a>, Error>
+    ensures exactly { IfOk result (λ text. cow_str_bytes text ≡ decimal_text minify number.now) }
+    ensures refused { IfErr result (λ error. error ≡ OutOfMemory) }
+{
+    if minify || number.negative() || number.exponent() != 0 {
+        return Ok(CowStr::Owned(decimal_text(alloc, minify, number)?));
+    }
+    Ok(CowStr::Borrowed(number.digits()))
+}
+
 /// A number by its value. Of one that is infinite the raw stays.
 #[tactic(auto, unfolding(crate::specs::Lits::by_value, crate::specs::Lits::is_finite))]
 fn by_value<'a>(
     alloc: Global,
     minify: bool,
-    value: &NumberValue,
+    value: &'a NumberValue,
     raw: &'a str,
 ) -> std::result::Result<CowStr<'a>, Error>
     ensures exactly { IfOk result (λ text. cow_str_bytes text ≡ by_value minify value.now raw.now) }
@@ -63,7 +79,7 @@ fn by_value<'a>(
     ensures due { IfErr result (λ error. is_finite value.now ≡ true) }
 {
     match value {
-        NumberValue::Finite(number) => { Ok(CowStr::Owned(decimal_text(alloc, minify, number)?)) }
+        NumberValue::Finite(number) => number_by_value(alloc, minify, number),
         NumberValue::NaN => Ok(CowStr::Borrowed("NaN")),
         _ => Ok(CowStr::Borrowed(raw)),
     }

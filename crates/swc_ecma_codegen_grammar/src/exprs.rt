@@ -2,7 +2,8 @@
 
 ghost use Rattle.std.specs.Prelude.{◌≡◌};
 ghost use Rattle.swc_ecma_codegen_ast.specs.KeyPhrases.{computed_prop_name};
-ghost use Rattle.swc_ecma_codegen_ast.specs.ExprPhrases.{this_expr, unary_expr, update_expr, bin_expr, member_prop, member_expr, super_prop, super_prop_expr, spread_element, opt_chain_expr, meta_prop_expr, assign_expr, yield_expr, await_expr, cond_expr, seq_expr, paren_expr, expr};
+ghost use Rattle.swc_ecma_codegen_ast.specs.PropPhrases.{spread_element};
+ghost use Rattle.swc_ecma_codegen_ast.specs.ExprPhrases.{this_expr, unary_expr, update_expr, bin_expr, member_prop, member_expr, super_prop, super_prop_expr, opt_chain_expr, meta_prop_expr, assign_expr, yield_expr, await_expr, cond_expr, seq_expr, paren_expr, expr};
 
 use crate::forms::{Fits, WellFormed, all_well_formed};
 use swc_ecma_codegen_ast::roles::Role;
@@ -103,7 +104,7 @@ impl<N: Fits> WellFormed for SuperPropExpr<N> {
 impl<N: Fits> WellFormed for SpreadElement<N> {
     ghost phrase = { spread_element N.reads };
 
-    #[tactic(auto, unfolding(swc_ecma_codegen_ast::specs::ExprPhrases::spread_element, swc_ecma_codegen_ast::specs::Phrases::is_possible))]
+    #[tactic(auto, unfolding(swc_ecma_codegen_ast::specs::PropPhrases::spread_element, swc_ecma_codegen_ast::specs::Phrases::is_possible))]
     fn is_well_formed(&self) -> bool {
         self.expr.is_well_formed()
     }

@@ -69,6 +69,7 @@ impl<N: Drop, T: ReadFrom<N> + Drop> ReadFrom<N> for Vec<T> {
                 return Err(source.fail(Fault::NoMemory));
             }
         }
+        found.shrink_to_fit();
         Ok(found)
     }
 }

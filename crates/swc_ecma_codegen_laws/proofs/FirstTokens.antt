@@ -331,9 +331,9 @@ tpl_begins reads true tagged es (q ∷ qs) = begins_then _ _ _ (begins_where _ _
 tpl_begins reads false tagged es qs = begins_never false
 
 expr_begins : {X : Type 0} (reads : X → Role → Phrase) (starts : X → Bool) → Begin reads starts → (n : Expr X) → Begins (lists.expr reads n) (expr_starts starts n)
-unfolding expr_starts update_starts arrow_starts template_lists.tagged_tpl class_lists.class_expr function_lists.fn_expr function_lists.arrow_expr lists.expr lists.member_expr lists.this_expr lists.unary_expr lists.update_expr lists.update_op lists.bin_expr lists.assign_expr lists.super_prop_expr lists.yield_expr lists.meta_prop_expr lists.await_expr lists.opt_chain_expr lists.cond_expr lists.seq_expr lists.paren_expr names.ident names.private_name call_lists.array_lit call_lists.call_expr leads begins_as
+unfolding expr_starts update_starts arrow_starts template_lists.tagged_tpl class_lists.class_expr function_lists.fn_expr function_lists.arrow_expr lists.expr lists.member_expr lists.this_expr lists.unary_expr lists.update_expr lists.update_op lists.bin_expr lists.assign_expr lists.super_prop_expr lists.yield_expr lists.meta_prop_expr lists.await_expr lists.opt_chain_expr lists.cond_expr lists.seq_expr lists.paren_expr names.ident names.private_name call_lists.array_lit call_lists.call_expr prop_lists.object_lit leads begins_as
 expr_begins reads starts law (exprs.This n) = begins_true _
-expr_begins reads starts law (exprs.Object n) = law n.node.value ObjectLiteral refl
+expr_begins reads starts law (exprs.Object n) = begins_then _ _ _ (begins_mark _ false)
 expr_begins reads starts law (exprs.Fn n) = begins_then _ _ _ (law n.function.node.value FunctionHead refl)
 expr_begins reads starts law (exprs.Array n) = begins_then _ _ _ (begins_mark _ false)
 expr_begins reads starts law (exprs.Unary n) = begins_then _ _ _ (begins_unary n.op)

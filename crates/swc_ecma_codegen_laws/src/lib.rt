@@ -33,7 +33,7 @@ ghost use Rattle.swc_ecma_codegen_base.specs.Ready.{IsReady};
 ghost use Rattle.swc_ecma_codegen_util.specs.Starts.{expr_starts, any_starts};
 ghost use Rattle.swc_ecma_codegen.specs.declared.nodes.Place.TheVariants.{Plain};
 ghost use Rattle.swc_ecma_codegen.specs.Answers.{any_answers};
-ghost use Rattle.swc_ecma_codegen.specs.Exprs.{expr as expr_items};
+ghost use Rattle.swc_ecma_codegen.specs.AnyExpr.{expr as expr_items};
 ghost use Rattle.swc_ecma_codegen.specs.Modules.{is_crowded, import_decl};
 ghost use Rattle.swc_ecma_codegen.specs.Stmts.{stmt as stmt_items};
 ghost use Rattle.swc_ecma_codegen.specs.Templates.{tpl};

@@ -339,7 +339,7 @@ lit_span (lits.JSXText n) = n.span
 unfoldable pub expr_span : {X : Type 0} → (X → Span) → Expr X → Span
 expr_span f (exprs.This n) = n.span
 expr_span f (exprs.Array n) = n.span
-expr_span f (exprs.Object n) = f n.node.value
+expr_span f (exprs.Object n) = n.span
 expr_span f (exprs.Fn n) = fn_expr_span f n
 expr_span f (exprs.Unary n) = n.span
 expr_span f (exprs.Update n) = n.span

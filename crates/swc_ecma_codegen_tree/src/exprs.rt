@@ -7,8 +7,8 @@ use crate::lits::{BigInt, Lit, Number, Str};
 use crate::modules::ImportPhase;
 use crate::sorts::{
     AssignTargetBox, BlockStmtBox, ClassBox, ExprBox, FunctionBox, JSXElementBox, JSXFragmentBox,
-    MemberExprBox, ObjectLitBox, OptCallBox, PatBox, PropNameBox, TplBox, TsTypeAnnBox,
-    TsTypeParamDeclBox, TsTypeParamInstantiationBox,
+    MemberExprBox, OptCallBox, PatBox, PropNameBox, TplBox, TsTypeAnnBox, TsTypeParamDeclBox,
+    TsTypeParamInstantiationBox,
 };
 use crate::ts_exprs::{
     TsAsExpr, TsConstAssertion, TsInstantiation, TsNonNullExpr, TsSatisfiesExpr, TsTypeAssertion,
@@ -23,7 +23,7 @@ pub enum Expr<N = AnyNode> {
     /// `[a, b]`
     Array(ArrayLit<N>),
     /// `{ a, b: c }`
-    Object(ObjectLitBox<N>),
+    Object(ObjectLit<N>),
     /// `function f() {}` of `(function f() {})`
     Fn(FnExpr<N>),
     /// `typeof a`
