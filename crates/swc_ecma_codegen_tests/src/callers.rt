@@ -5,9 +5,9 @@ use std::alloc::Global;
 use std::test::Fail;
 use swc_ecma_codegen::Node;
 use swc_ecma_codegen_common::Error;
-use swc_ecma_codegen_json::{Tree, program_from_slice};
+use swc_ecma_codegen_json::{ReadError, Tree, program_from_slice};
 use swc_ecma_codegen_uses::{
-    append_checked, checked_text, minified, minified_json, negation_text, print_into,
+    NoText, append_checked, checked_text, minified, minified_json, negation_text, print_into,
     print_with_positions,
 };
 
@@ -33,7 +33,7 @@ fn has_its_positions<P: Node>(alloc: Global, node: &P) -> Result<bool, Error> {
 #[test]
 fn callers_give_the_texts_of_swc(rt: HostRuntime) -> Result<(), Fail> {
     let alloc = rt.alloc();
-    assert!(rt; negation_text(alloc, "a")?.as_str() == "-a;");
+    assert!(rt; negation_text(alloc, "a")?.as_str() == "-a;\n");
     assert!(rt; minified_json(alloc, MEMBER.as_bytes())?.as_slice() == b"a.b;".as_slice());
     let tree = Tree(program_from_slice(alloc, MEMBER.as_bytes())?);
     assert!(rt; checked_text(alloc, &tree.0)?.as_str() == "a.b;\n");
@@ -43,4 +43,28 @@ fn callers_give_the_texts_of_swc(rt: HostRuntime) -> Result<(), Fail> {
     assert!(rt; is_printed(alloc, &tree.0)?);
     assert!(rt; has_its_positions(alloc, &tree.0)?);
     Ok(())
+}
+
+/// A script with an expression that a parser left as invalid.
+const INVALID: &str =
+    r#"{"Script":{"span":{"lo":0,"hi":0},"body":[{"Expr":{"span":{"lo":0,"hi":0},"expr":{"Invalid":{"span":{"lo":0,"hi":0}}}}}],"shebang":null}}"#;
+
+/// Why there is no minified text of a program in JSON.
+fn reason(alloc: Global, json: &[u8]) -> &'static str {
+    match minified_json(alloc, json) {
+        Ok(_) => "none",
+        Err(NoText::Unread(ReadError::CannotRead)) => "cannot read",
+        Err(NoText::Unread(_)) => "unread",
+        Err(NoText::NotWellFormed) => "not well-formed",
+        Err(NoText::Refused(_)) => "refused",
+    }
+}
+
+#[test]
+fn callers_say_why_there_is_no_text(rt: HostRuntime) {
+    let alloc = rt.alloc();
+    assert!(rt; reason(alloc, b"\xff") == "cannot read");
+    assert!(rt; reason(alloc, b"{}") == "unread");
+    assert!(rt; reason(alloc, INVALID.as_bytes()) == "not well-formed");
+    assert!(rt; reason(alloc, MEMBER.as_bytes()) == "none");
 }

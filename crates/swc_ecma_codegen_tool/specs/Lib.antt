@@ -1,2 +1,3 @@
+pub mod Faults
 pub mod Prints
 pub mod Words

@@ -1,6 +1,8 @@
 //! Why a run prints nothing.
 
 ghost use Rattle.std.specs.Prelude.{◌≡◌, ◌≢◌};
+ghost use Rattle.swc_ecma_codegen_common.specs.Refusals.{reason_of};
+ghost use Rattle.swc_ecma_codegen_tool.specs.Faults.{fault_of_emission, fault_of_reading, line_of};
 
 use swc_ecma_codegen_common::Error;
 use swc_ecma_codegen_json::ReadError;
@@ -23,7 +25,8 @@ pub enum Fault {
 impl Fault {
     /// The fault of a tree that isn't read.
     pub fn of_reading(error: ReadError) -> Fault
-        ensures { result ≢ Fault.Usage }
+        ensures fault { result ≡ fault_of_reading error }
+        ensures no_usage { result ≢ Fault.Usage }
     {
         match error {
             ReadError::CannotRead => Fault::CannotRead,
@@ -34,7 +37,8 @@ impl Fault {
 
     /// The fault of an emission that is refused. Its text is made in memory, so a fault of its writer is want of memory.
     pub fn of_emission(error: &Error) -> Fault
-        ensures { result ≢ Fault.Usage }
+        ensures fault { result ≡ fault_of_emission (reason_of error.now) }
+        ensures no_usage { result ≢ Fault.Usage }
     {
         match error {
             Error::Writer(_) | Error::OutOfMemory => Fault::Memory,
@@ -47,7 +51,9 @@ impl Fault {
     }
 
     /// The line that tells of it.
-    pub fn line(self) -> &'static str {
+    pub fn line(self) -> &'static str
+        ensures { result.now ≡ line_of self }
+    {
         match self {
             Fault::Usage => "usage: ecmagen [options]\n",
             Fault::CannotRead => "cannot read\n",

@@ -4,8 +4,10 @@
 ghost use Rattle.std.specs.Prelude.{◌≡◌, ◌≢◌, ◌⊎◌, ◌≤◌, false, true, [], length, take, Err, OnOk, OnErr, IfOk};
 ghost use Rattle.std.specs.Io.KnownBytes.{Appends};
 ghost use Rattle.std.specs.IoError.{error_kind};
+ghost use Rattle.swc_ecma_codegen_tool.specs.Faults.{line_of};
 ghost use Rattle.swc_ecma_codegen_tool.specs.Prints.{AddsText, AddsFront, AddsFrontOfText};
 ghost use Rattle.swc_ecma_codegen_tool.specs.Words.{are_options, options_of};
+ghost use Rattle.swc_ecma_codegen_tool.specs.declared.faults.Fault.{Fault as AnyFault};
 
 mod faults;
 mod texts;
@@ -46,7 +48,10 @@ pub fn run<R: Read, O: Write, E: Write>(
     // Wrong words leave `input` and `out` alone; a text that went out whole leaves `err` alone without `--positions`.
     ensures unread { are_options words.now ≡ false → (input.new ≡ input.old) × (out.new ≡ out.old) }
     ensures silent { result ≡ 0 → (options_of words.now).positions ≡ false → err.new ≡ err.old }
-    // Otherwise `out` is as it was, or took a beginning of such a text and no more.
+    // Otherwise `err` gets the line of a fault, or a beginning of it where it fails itself: that of wrong words for these, and else another.
+    ensures told_usage { result ≡ 2 → AddsFront (line_of Fault.Usage) (E.contents err.old) (E.contents err.new) }
+    ensures told { result ≡ 1 → (fault : AnyFault) × (fault ≢ Fault.Usage) × AddsFront (line_of fault) (E.contents err.old) (E.contents err.new) }
+    // And `out` is as it was, or took a beginning of such a text and no more.
     ensures begun { result ≢ 0 → (out.new ≡ out.old) ⊎ AddsFrontOfText (options_of words.now) (O.contents out.old) (O.contents out.new) }
 {
     let options = match Options::of_words(words) {
@@ -67,8 +72,8 @@ pub fn run<R: Read, O: Write, E: Write>(
 /// The answer where the words can't be had, by the error that says why. The status is 1 for want of memory, with
 /// `refused: memory` to `err`; else a word isn't UTF-8, and so is a wrong word: the status is 2.
 pub fn refuse_words<E: Write>(error: &io::Error, err: &mut E) -> u8
-    ensures memory { error_kind error.now ≡ ErrorKind.OutOfMemory → result ≡ 1 }
-    ensures usage { error_kind error.now ≢ ErrorKind.OutOfMemory → result ≡ 2 }
+    ensures memory { error_kind error.now ≡ ErrorKind.OutOfMemory → (result ≡ 1) × AddsFront (line_of Fault.Memory) (E.contents err.old) (E.contents err.new) }
+    ensures usage { error_kind error.now ≢ ErrorKind.OutOfMemory → (result ≡ 2) × AddsFront (line_of Fault.Usage) (E.contents err.old) (E.contents err.new) }
 {
     match error.kind() {
         ErrorKind::OutOfMemory => tell(Fault::Memory, err),
@@ -80,8 +85,9 @@ pub fn refuse_words<E: Write>(error: &io::Error, err: &mut E) -> u8
 fn tell<E: Write>(fault: Fault, err: &mut E) -> u8
     ensures usage { fault ≡ Fault.Usage → result ≡ 2 }
     ensures others { fault ≢ Fault.Usage → result ≡ 1 }
+    ensures told { AddsFront (line_of fault) (E.contents err.old) (E.contents err.new) }
 {
-    let _ = err.write_all(fault.line().as_bytes());
+    let _ = send(fault.line().as_bytes(), err);
     fault.status()
 }
 

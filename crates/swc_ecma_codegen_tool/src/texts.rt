@@ -1,10 +1,13 @@
 //! The text of a tree, in memory. A function for whatever can be printed costs a check less than one for a program.
 
-ghost use Rattle.std.specs.Prelude.{◌≡◌, ◌≢◌, [], Err, IfOk};
+ghost use Rattle.std.specs.Prelude.{◌≡◌, ◌≢◌, [], Err, IfErr, IfOk};
+ghost use Rattle.swc_ecma_codegen_common.specs.Refusals.{reason_of};
+ghost use Rattle.swc_ecma_codegen_common.specs.declared.errors.Error.{Error};
 ghost use Rattle.swc_ecma_codegen_text_writer.specs.View.{sheet_of};
 ghost use Rattle.swc_ecma_codegen_ast.specs.SourceLines.{no_lines};
 ghost use Rattle.swc_ecma_codegen_base.specs.Run.{printed, start};
-ghost use Rattle.swc_ecma_codegen.specs.Texts.{blank_sheet};
+ghost use Rattle.swc_ecma_codegen.specs.Texts.{blank_sheet, GivesCause};
+ghost use Rattle.swc_ecma_codegen_tool.specs.Faults.{fault_of_emission, GivesFault};
 ghost use Rattle.swc_ecma_codegen_tool.specs.Prints.{text_with, with_positions};
 
 use crate::faults::Fault;
@@ -30,6 +33,8 @@ pub(crate) fn text_of<P: Node>(
 ) -> Result<Vec<u8>, Fault>
     requires { positions.old.items ≡ [] }
     ensures text { IfOk result (λ text. text.items ≡ text_with options (P.part tree.now)) }
+    // It is refused for the cause that the fault names.
+    ensures cause { IfErr result (GivesFault options (P.part tree.now)) }
     ensures no_usage { result ≢ Err Fault.Usage }
 {
     let config = options.settings();
@@ -69,6 +74,7 @@ fn printed_on<P: Node, W: WriteJs + Drop>(
     wr: W,
 ) -> Result<W, Fault>
     ensures sheet { IfOk result (λ w. W.sheet w ≡ (printed (P.part tree.now) (start no_lines config (W.sheet wr))).sheet) }
+    ensures cause { IfErr result (λ fault. (error : Error) × (fault ≡ fault_of_emission (reason_of error)) × GivesCause (P.part tree.now) (start no_lines config (W.sheet wr)) error) }
     ensures no_usage { result ≢ Err Fault.Usage }
 {
     let mut emitter = Emitter::new(alloc, config, &NoSource, None::<CommentMaps>, wr);

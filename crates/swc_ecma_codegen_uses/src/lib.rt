@@ -2,19 +2,25 @@
 //! from the clauses of what it calls; docs/CALLING.md quotes them.
 #![tactic(auto)]
 
-ghost use Rattle.std.specs.Prelude.{◌≡◌, ◌<◌, ◌^◌, ℕ, List, true, false, IfOk, IfErr, IsErrOf, OnOk, string_bytes};
+ghost use Rattle.std.specs.Prelude.{◌≡◌, ◌≢◌, ◌⊎◌, ◌<◌, ◌^◌, ℕ, List, [], true, false, Err, IfOk, IfErr, IsErrOf, IsSome, OnOk, codes, string_bytes};
+ghost use Rattle.std.specs.Str.{IsUtf8, chars};
 ghost use Rattle.std.specs.Io.KnownBytes.{Appends};
 ghost use Rattle.swc_ecma_codegen_tree.specs.declared.programs.Program.{Program as ProgramOf};
+ghost use Rattle.swc_ecma_codegen_ast.specs.Reads.{Reads};
 ghost use Rattle.swc_ecma_codegen_ast.specs.SourceLines.{no_lines};
+ghost use Rattle.swc_ecma_codegen_ast.specs.SpelledNames.{is_well_formed_name};
 ghost use Rattle.swc_ecma_codegen_ast.specs.TreePhrases.{program_phrase, is_well_formed};
 ghost use Rattle.swc_ecma_codegen_util.specs.Defaults.{default_config};
 ghost use Rattle.swc_ecma_codegen_text_writer.specs.Recorded.{RecordsTruly};
-ghost use Rattle.swc_ecma_codegen_text_writer.specs.View.{sheet_of, keeping};
+ghost use Rattle.swc_ecma_codegen_text_writer.specs.Told.{told};
+ghost use Rattle.swc_ecma_codegen_text_writer.specs.View.{sheet_of, new_sheet, keeping};
 ghost use Rattle.swc_ecma_codegen_base.specs.Ready.{token_count};
 ghost use Rattle.swc_ecma_codegen_base.specs.Run.{start};
-ghost use Rattle.swc_ecma_codegen_base.specs.Written.{AddsReading, ReadsAs};
+ghost use Rattle.swc_ecma_codegen_base.specs.Written.{AddsReading, AddsText, ReadsAs};
 ghost use Rattle.swc_ecma_codegen.specs.Roots.{Root, root_items, root_phrase, is_well_formed_root, MayBegin};
-ghost use Rattle.swc_ecma_codegen.specs.Texts.{blank_sheet};
+ghost use Rattle.swc_ecma_codegen.specs.Texts.{blank_sheet, GivesCause};
+ghost use Rattle.swc_ecma_codegen_uses.specs.Causes.{minified_config, minified_start, IsOfMachine, IsUnread, LacksText};
+ghost use Rattle.swc_ecma_codegen_uses.specs.Negation.{negation_tokens, IsNegation};
 
 use std::alloc::{AllocError, Global};
 use std::io::Write;
@@ -24,7 +30,9 @@ use swc_ecma_codegen_ast::mapper::NoSource;
 use swc_ecma_codegen_common::{BytePos, DUMMY_SP, Error, LineCol, UnaryOp};
 use swc_ecma_codegen_json::{ReadError, Tree, program_from_slice};
 use swc_ecma_codegen_text_writer::{JsWriter, WriteJs, omit_trailing_semi};
-use swc_ecma_codegen_tree::{AnyNode, Expr, ExprBox, ExprStmt, Holds, Ident, Program, UnaryExpr};
+use swc_ecma_codegen_tree::{
+    AnyNode, Expr, ExprBox, ExprStmt, Holds, Ident, Program, Stmt, UnaryExpr,
+};
 use thiserror::Error as ThisError;
 
 /// Why there is no text.
@@ -42,10 +50,9 @@ pub enum NoText {
 }
 
 /// `-a;` of the name `a`, in a tree whose links hold `N`.
-fn negation<N: Holds<Expr<N>> + Drop>(
-    alloc: Global,
-    name: &str,
-) -> Result<ExprStmt<N>, AllocError> {
+fn negation<N: Holds<Expr<N>> + Drop>(alloc: Global, name: &str) -> Result<ExprStmt<N>, AllocError>
+    ensures { IfOk result (IsNegation N.node_in name.now) }
+{
     let span = DUMMY_SP;
     let sym = String::from_str(alloc, name)?;
     let name = Ident {
@@ -59,9 +66,12 @@ fn negation<N: Holds<Expr<N>> + Drop>(
     Ok(ExprStmt { span, expr })
 }
 
-/// The text of `-a;`, a tree made by hand.
-pub fn negation_text(alloc: Global, name: &str) -> Result<String, Error> {
-    let statement: ExprStmt = negation(alloc, name)?;
+/// The text of `-a;`, a tree made by hand: it reads as a minus, the name and a semicolon, where the name is one.
+pub fn negation_text(alloc: Global, name: &str) -> Result<String, Error>
+    ensures reads { is_well_formed_name name.now ≡ true → IfOk result (λ text. Reads (chars (string_bytes text)) (negation_tokens name.now) []) }
+    ensures made { is_well_formed_name name.now ≡ true → IfErr result (λ error. error ≡ Error.OutOfMemory) }
+{
+    let statement: Stmt = Stmt::Expr(negation(alloc, name)?);
     to_code(alloc, &statement)
 }
 
@@ -84,7 +94,11 @@ pub fn checked_text(alloc: Global, program: &Program) -> Result<String, NoText>
 /// Prints a program to any writer of bytes by way of memory, so that nothing is out unless the whole text was made. A writer that
 /// tells its bytes, as a `Vec` does, tells more by a text that reads as the program.
 pub fn append_checked<W: Write>(alloc: Global, program: &Program, out: &mut W) -> Result<(), NoText>
-    ensures { OnOk result ((text : List ℕ) × ReadsAs default_config false (program_phrase program.now) text × Appends (W.contents out.old) (W.contents out.new) text) }
+    ensures reads { OnOk result ((text : List ℕ) × ReadsAs default_config false (program_phrase program.now) text × Appends (W.contents out.old) (W.contents out.new) text) }
+    ensures not_well_formed { is_well_formed program.now ≡ false → IsErrOf result NoText.NotWellFormed × (out.new ≡ out.old) }
+    // A well-formed program of fewer than 2 ^ 32 tokens is refused for want of memory alone, or since `out` failed.
+    ensures made { is_well_formed program.now ≡ true → token_count (program_phrase program.now) < 2 ^ 32 → IfErr result IsOfMachine }
+    ensures kept { result ≡ Err (NoText.Refused Error.OutOfMemory) → out.new ≡ out.old }
 {
     let text = checked_text(alloc, program)?;
     match out.write_all(text.as_bytes()) {
@@ -104,6 +118,8 @@ fn printed_on<P: Node, W: WriteJs + Drop>(
     ensures reads { (root : Root) → P.part node.now ≡ root_items root → is_well_formed_root root ≡ true → MayBegin root (start no_lines config (W.sheet wr)) → IfOk result (λ w. AddsReading config (root_phrase root) (W.sheet wr) (W.sheet w)) }
     // Each position that it records holds the line and column that the text had reached.
     ensures recorded { IfOk result (λ w. RecordsTruly (W.sheet wr) (W.sheet w)) }
+    // It is refused for the cause that the error names.
+    ensures cause { IfErr result (GivesCause (P.part node.now) (start no_lines config (W.sheet wr))) }
 {
     let mut emitter = Emitter::new(alloc, config, &NoSource, None::<CommentMaps>, wr);
     node.emit_with(&mut emitter)?;
@@ -111,7 +127,11 @@ fn printed_on<P: Node, W: WriteJs + Drop>(
 }
 
 /// Prints a node to any writer of bytes, as a file, and gives that back. A `&mut` of one is one too.
-pub fn print_into<P: Node, W: Write + Drop>(alloc: Global, node: &P, out: W) -> Result<W, Error> {
+pub fn print_into<P: Node, W: Write + Drop>(alloc: Global, node: &P, out: W) -> Result<W, Error>
+    // Where all writers of this type tell their bytes, as each `Vec` does, it tells more by a text that reads as the root that `node` prints.
+    ensures reads { (root : Root) → P.part node.now ≡ root_items root → is_well_formed_root root ≡ true → ((w : W) → IsSome (W.contents w)) → IfOk result (λ w. AddsText default_config false (root_phrase root) (told (W.contents out)) (told (W.contents w))) }
+    ensures cause { IfErr result (GivesCause (P.part node.now) (start no_lines default_config (new_sheet (told (W.contents out)) (codes "\n")))) }
+{
     let writer = JsWriter::new(alloc, &NoSource, "\n", out, None);
     let printed = printed_on(alloc, Config::default(), node, writer)?;
     Ok(printed.into_inner())
@@ -124,7 +144,9 @@ pub fn print_with_positions<'a, P: Node>(
     node: &P,
     pairs: &'a mut Vec<(BytePos, LineCol)>,
 ) -> Result<JsWriter<'a, Vec<u8>>, Error>
-    ensures { IfOk result (λ writer. RecordsTruly (keeping pairs.old.items blank_sheet) (sheet_of writer)) }
+    ensures reads { (root : Root) → P.part node.now ≡ root_items root → is_well_formed_root root ≡ true → IfOk result (λ writer. ReadsAs default_config false (root_phrase root) (sheet_of writer).text) }
+    ensures recorded { IfOk result (λ writer. RecordsTruly (keeping pairs.old.items blank_sheet) (sheet_of writer)) }
+    ensures cause { IfErr result (GivesCause (P.part node.now) (start no_lines default_config (keeping pairs.old.items blank_sheet))) }
 {
     let writer = JsWriter::new(alloc, &NoSource, "\n", Vec::new(alloc), Some(pairs));
     printed_on(alloc, Config::default(), node, writer)
@@ -132,7 +154,8 @@ pub fn print_with_positions<'a, P: Node>(
 
 /// The text of a node, minified, without semicolons that aren't needed: `{a;}` is `{a}`.
 pub fn minified<P: Node>(alloc: Global, node: &P) -> Result<Vec<u8>, Error>
-    ensures { (root : Root) → P.part node.now ≡ root_items root → is_well_formed_root root ≡ true → IfOk result (λ text. ReadsAs (record default_config { minify = true }) true (root_phrase root) text.items) }
+    ensures reads { (root : Root) → P.part node.now ≡ root_items root → is_well_formed_root root ≡ true → IfOk result (λ text. ReadsAs minified_config true (root_phrase root) text.items) }
+    ensures cause { IfErr result (GivesCause (P.part node.now) minified_start) }
 {
     let config = Config::default().with_minify(true);
     let writer = JsWriter::new(alloc, &NoSource, "\n", Vec::new(alloc), None);
@@ -143,7 +166,8 @@ pub fn minified<P: Node>(alloc: Global, node: &P) -> Result<Vec<u8>, Error>
 
 /// The same of a program, where it is well-formed.
 fn checked_minified(alloc: Global, program: &Program) -> Result<Vec<u8>, NoText>
-    ensures { IfOk result (λ text. (is_well_formed program.now ≡ true) × ReadsAs (record default_config { minify = true }) true (program_phrase program.now) text.items) }
+    ensures reads { IfOk result (λ text. (is_well_formed program.now ≡ true) × ReadsAs minified_config true (program_phrase program.now) text.items) }
+    ensures cause { IfErr result (LacksText minified_start program.now) }
 {
     if !is_well_formed(program) {
         return Err(NoText::NotWellFormed);
@@ -156,7 +180,11 @@ fn checked_minified(alloc: Global, program: &Program) -> Result<Vec<u8>, NoText>
 
 /// The minified text of a program in JSON: it reads as some well-formed program.
 pub fn minified_json(alloc: Global, json: &[u8]) -> Result<Vec<u8>, NoText>
-    ensures { IfOk result (λ text. (program : ProgramOf AnyNode) × (is_well_formed program ≡ true) × ReadsAs (record default_config { minify = true }) true (program_phrase program) text.items) }
+    ensures reads { IfOk result (λ text. (program : ProgramOf AnyNode) × (is_well_formed program ≡ true) × ReadsAs minified_config true (program_phrase program) text.items) }
+    ensures not_utf8 { (IsUtf8 json.now → ⊥) → IsErrOf result (NoText.Unread ReadError.CannotRead) }
+    ensures utf8 { IsUtf8 json.now → result ≢ Err (NoText.Unread ReadError.CannotRead) }
+    // Else nothing is read of it, or some program that is read of it lacks a text.
+    ensures cause { IfErr result (λ error. IsUnread error ⊎ (program : ProgramOf AnyNode) × LacksText minified_start program error) }
 {
     match program_from_slice(alloc, json) {
         Ok(program) => {

@@ -1,6 +1,9 @@
-use Rattle.std.proofs.Common.{◌≡◌, ◌⊎◌, Bool, true, false, Result, Ok, Err, refl, subst}
-use Rattle.swc_ecma_codegen_tool.specs.Prints.{AddsText, AddsFrontOfText}
+use Rattle.std.proofs.Common.{◌≡◌, ◌⊎◌, Bool, true, false, Result, Ok, Err, ap, refl, subst}
+use Rattle.swc_ecma_codegen_tool.specs.Faults.{line_of}
+use Rattle.swc_ecma_codegen_tool.specs.Prints.{AddsFront, AddsText, AddsFrontOfText}
 use Rattle.swc_ecma_codegen_tool.specs.Words.{are_options, options_of}
+use Rattle.swc_ecma_codegen_tool.specs.declared.faults.Fault.{Fault}
+use Rattle.swc_ecma_codegen_tool.specs.declared.faults.Fault.TheVariants.{Usage}
 use Rattle.swc_ecma_codegen_tool.specs.declared.words.Options.{Options}
 use Rattle.swc_ecma_codegen_tool.proofs.run.Goals as goal
 
@@ -20,3 +23,18 @@ returns-in-Err-print-clause-begun g c = λ _.
     let same : c.in-Ok.options ≡ options_of c.args.words.now = is_asked (are_options c.args.words.now) _ _ c.in-Ok.ensures.taken c.in-Ok.ensures.wrong in
     let Begun : Options → Type 0 = λ o. (c.print.new.out ≡ c.args.out.now) ⊎ AddsFrontOfText o (g.O.Write.contents c.args.out.now) (g.O.Write.contents c.print.new.out) in
     subst Begun same c.in-Err-print.ensures.begun
+
+-- what is told of words that are no options is that they are wrong
+is_usage : {T : Type 0} {x : T} (all : Bool) (fault : Fault) → (all ≡ true → ◌≡◌ {A = Result T Fault} (Err fault) (Ok x)) → (all ≡ false → ◌≡◌ {A = Result T Fault} (Err fault) (Err Usage)) → fault ≡ Usage
+is_usage true fault taken wrong = let same = taken refl in absurd (cc)
+is_usage false fault taken wrong = let same = wrong refl in cc
+
+pub returns-in-Err-clause-told_usage : goal.returns-in-Err-clause-told_usage
+returns-in-Err-clause-told_usage g c = λ _.
+    let same : c.in-Err.fault ≡ Usage = is_usage (are_options c.args.words.now) _ c.in-Err.ensures.taken c.in-Err.ensures.wrong in
+    let Told : Fault → Type 0 = λ f. AddsFront (line_of f) (g.E.Write.contents c.args.err.now) (g.E.Write.contents c.tell.new.err) in
+    subst Told same c.tell.ensures.told
+
+pub returns-in-Err-print-clause-told : goal.returns-in-Err-print-clause-told
+returns-in-Err-print-clause-told g c = λ _.
+    (c.in-Err-print.fault, (λ same. c.in-Err-print.ensures.no_usage (ap Err same)), c.tell-in-Err-print.ensures.told)

@@ -1,11 +1,18 @@
-use Rattle.std.proofs.Common.{◌≡◌, refl, sym, ap, ◌∙◌, Bool, true, false}
+use Rattle.std.proofs.Common.{◌≡◌, refl, sym, ap, ◌∙◌, subst, Bool, true, false}
+use Rattle.std.proofs.lemmas.Result.{err_from_is_err_and}
+use Rattle.swc_ecma_codegen_common.specs.declared.errors.Error.{Error}
+use Rattle.swc_ecma_codegen_common.specs.Refusals.{reason_of}
+use Rattle.swc_ecma_codegen_util.specs.declared.config.Config.{Config}
 use Rattle.swc_ecma_codegen_text_writer.specs.Told.{told}
 use Rattle.swc_ecma_codegen_text_writer.specs.Sheet.{Sheet, HoldsNone, holds_semicolons}
 use Rattle.swc_ecma_codegen_text_writer.specs.Held.{with_held}
 use Rattle.swc_ecma_codegen_text_writer.specs.View.{sheet_of}
 use Rattle.swc_ecma_codegen_ast.specs.SourceLines.{no_lines}
-use Rattle.swc_ecma_codegen_base.specs.Run.{printed, start}
-use Rattle.swc_ecma_codegen.specs.Texts.{blank_sheet}
+use Rattle.swc_ecma_codegen_base.specs.Run.{Part, printed, start}
+use Rattle.swc_ecma_codegen.specs.Texts.{blank_sheet, GivesCause}
+use Rattle.swc_ecma_codegen_tool.specs.Faults.{fault_of_emission, GivesFault}
+use Rattle.swc_ecma_codegen_tool.specs.declared.faults.Fault.{Fault}
+use Rattle.swc_ecma_codegen_tool.specs.declared.words.Options.{Options}
 use Rattle.swc_ecma_codegen_tool.specs.Prints.{sheet_for, text_with, with_positions, with_semicolons}
 use Rattle.swc_ecma_codegen_tool.specs.Words.{settings_of}
 use Rattle.swc_ecma_codegen_tool.proofs.texts.text_of.Goals as goal
@@ -32,3 +39,25 @@ returns-in_ok-writer-clause-text g c =
     c.omit_trailing_semi.ensures ∙ ap (λ (s : Sheet). record s { semicolons = HoldsNone }) c.new_writer-writer.ensures ∙ ap (λ minify. with_semicolons minify (with_positions options.positions blank_sheet)) (sym c.if-options.true) in
     let end : (sheet_of c.in_ok-writer.writer.inner).text ≡ (printed part (start no_lines c.settings-config.result held)).sheet.text = ap (λ (s : Sheet). s.text) c.in_ok-writer.ensures.sheet in
     all ∙ under ∙ end ∙ ap (λ config. (printed part (start no_lines config held)).sheet.text) c.settings-config.ensures ∙ ap (λ s. (printed part (start no_lines (settings_of options) s)).sheet.text) begun
+
+-- an emission with these settings from this sheet is the one that the options ask for
+gives_fault : (options : Options) (part : Part) (config : Config) (s : Sheet) (fault : Fault) → config ≡ settings_of options → s ≡ sheet_for options → ((error : Error) × (fault ≡ fault_of_emission (reason_of error)) × GivesCause part (start no_lines config s) error) → GivesFault options part fault
+gives_fault options part config s fault asked begun (error, named, cause) =
+    (error, named, subst (λ a. GivesCause part a error) (ap (λ k. start no_lines k s) asked ∙ ap (start no_lines (settings_of options)) begun) cause)
+
+pub returns-in_err-writer-clause-cause : goal.returns-in_err-writer-clause-cause
+unfolding with_held with_semicolons
+returns-in_err-writer-clause-cause g c =
+    let options = c.args.options in
+    let begun : with_held c.omit_trailing_semi.result.pending (sheet_of c.omit_trailing_semi.result.inner) ≡ sheet_for options =
+    c.omit_trailing_semi.ensures ∙ ap (λ (s : Sheet). record s { semicolons = HoldsNone }) c.new_writer-writer.ensures ∙ ap (λ minify. with_semicolons minify (with_positions options.positions blank_sheet)) (sym c.if-options.true) in
+    let p = err_from_is_err_and c.from_residual.result c.from_residual.ensures.1 in
+    rw (p.1, p.2) (gives_fault options (g.P.Node.part c.args.tree.now) c.settings-config.result _ _ c.settings-config.ensures begun c.in_err-writer.ensures.cause)
+
+pub returns-in_err-writer-2-clause-cause : goal.returns-in_err-writer-2-clause-cause
+unfolding with_semicolons
+returns-in_err-writer-2-clause-cause g c =
+    let options = c.args.options in
+    let begun : sheet_of c.new_writer-writer.result ≡ sheet_for options = c.new_writer-writer.ensures ∙ ap (λ minify. with_semicolons minify (with_positions options.positions blank_sheet)) (sym c.if-options.false) in
+    let p = err_from_is_err_and c.from_residual-in_err-writer-2.result c.from_residual-in_err-writer-2.ensures.1 in
+    rw (p.1, p.2) (gives_fault options (g.P.Node.part c.args.tree.now) c.settings-config.result _ _ c.settings-config.ensures begun c.in_err-writer-2.ensures.cause)

@@ -1,0 +1,50 @@
+-- Which fault a run tells of, and how.
+use Rattle.std.specs.Prelude.{◌≡◌, ℕ, List, codes}
+use Rattle.swc_ecma_codegen_common.specs.declared.errors.Error.{Error}
+use Rattle.swc_ecma_codegen_common.specs.declared.errors.Refusal.{Refusal}
+use Rattle.swc_ecma_codegen_common.specs.declared.errors.Refusal.TheVariants as refusals
+use Rattle.swc_ecma_codegen_common.specs.Refusals.{reason_of}
+use Rattle.swc_ecma_codegen_ast.specs.SourceLines.{no_lines}
+use Rattle.swc_ecma_codegen_json.specs.declared.errors.ReadError.{ReadError}
+use Rattle.swc_ecma_codegen_json.specs.declared.errors.ReadError.TheVariants as unread
+use Rattle.swc_ecma_codegen_base.specs.Run.{Part, start}
+use Rattle.swc_ecma_codegen.specs.Texts.{GivesCause}
+use Rattle.swc_ecma_codegen_tool.specs.declared.faults.Fault.{Fault}
+use Rattle.swc_ecma_codegen_tool.specs.declared.faults.Fault.TheVariants.{Usage, CannotRead, BadTree, Writer, Memory, UnsupportedNode, BadShape, NameOutOfTarget, PositionTooLarge, Failed}
+use Rattle.swc_ecma_codegen_tool.specs.declared.words.Options.{Options}
+use Rattle.swc_ecma_codegen_tool.specs.Prints.{sheet_for}
+use Rattle.swc_ecma_codegen_tool.specs.Words.{settings_of}
+
+-- a tree isn't read
+abbrev pub fault_of_reading : ReadError → Fault
+fault_of_reading unread.CannotRead = CannotRead
+fault_of_reading unread.BadTree = BadTree
+fault_of_reading unread.OutOfMemory = Memory
+
+-- an emission is refused: its text is made in memory, so a fault of its writer is want of memory
+abbrev pub fault_of_emission : Refusal → Fault
+fault_of_emission refusals.Writer = Memory
+fault_of_emission refusals.OutOfMemory = Memory
+fault_of_emission refusals.UnsupportedNode = UnsupportedNode
+fault_of_emission refusals.BadShape = BadShape
+fault_of_emission refusals.NameOutOfTarget = NameOutOfTarget
+fault_of_emission refusals.PositionTooLarge = PositionTooLarge
+fault_of_emission refusals.Failed = Failed
+
+-- an emission of a part, as the options ask for it, gives cause for a fault
+abbrev pub GivesFault : Options → Part → Fault → Type 0
+GivesFault options part fault =
+    (error : Error) × (fault ≡ fault_of_emission (reason_of error)) × GivesCause part (start no_lines (settings_of options) (sheet_for options)) error
+
+-- the line that tells of a fault
+abbrev pub line_of : Fault → List ℕ
+line_of Usage = codes "usage: ecmagen [options]\n"
+line_of CannotRead = codes "cannot read\n"
+line_of BadTree = codes "bad tree\n"
+line_of Writer = codes "refused: writer\n"
+line_of Memory = codes "refused: memory\n"
+line_of UnsupportedNode = codes "refused: unsupported node\n"
+line_of BadShape = codes "refused: bad shape\n"
+line_of NameOutOfTarget = codes "refused: name out of target\n"
+line_of PositionTooLarge = codes "refused: position too large\n"
+line_of Failed = codes "refused: failed\n"
