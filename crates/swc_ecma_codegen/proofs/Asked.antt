@@ -1,10 +1,20 @@
 -- What is done where a setting says so.
-use Rattle.std.proofs.Common.{◌≡◌, ℕ, List, Bool, true, false, ◌&&◌, cond, codes, None, ap, sym}
+use Rattle.std.proofs.Common.{◌≡◌, ℕ, List, Bool, true, false, ◌&&◌, ◌||◌, not, cond, codes, None, ap, sym, refl, subst}
 use Rattle.std.proofs.lemmas.Bool.{true≢false}
 use Rattle.swc_ecma_codegen_base.specs.Run.{Env, Plan, Part, when_minified, no_part}
-use Rattle.swc_ecma_codegen_base.specs.Words.{commit_pending_semi, keyword, punct, semi, trailing_comments}
+use Rattle.swc_ecma_codegen_base.specs.Words.{by_maps, commit_pending_semi, keyword, punct, semi, trailing_comments}
 use Rattle.swc_ecma_codegen_base.proofs.Emitting.{minified_same, pretty_same}
-use Rattle.swc_ecma_codegen.specs.FunctionExprs.{parenthesis}
+use Rattle.swc_ecma_codegen.specs.FunctionExprs.{parenthesis, is_only, is_plain, has_comment_behind, arrow_children, arrow_within, arrow_parameters}
+use Rattle.swc_ecma_codegen_ast.specs.CommentMaps.{Maps}
+use Rattle.swc_ecma_codegen_base.specs.Lists.{ListChild}
+use Rattle.swc_ecma_codegen_tree.specs.declared.exprs.ArrowExpr.{ArrowExpr}
+use Rattle.swc_ecma_codegen.specs.Answers.{Answers}
+use Rattle.swc_ecma_codegen.specs.Blocks.{block_list, block_lines}
+use Rattle.swc_ecma_codegen.specs.Commented.{has_comment_inside}
+use Rattle.swc_ecma_codegen.specs.Exprs.{yield_argument, yield_argument_in}
+use Rattle.swc_ecma_codegen.specs.Props.{object_list, object_by_maps}
+use Rattle.swc_ecma_codegen.specs.Stmts.{argument, argument_in}
+use Rattle.swc_ecma_codegen.specs.declared.nodes.Place.{Place}
 use Rattle.swc_ecma_codegen_ast.specs.Settings.{is_up_to_es5}
 use Rattle.swc_ecma_codegen_base.specs.Choices.{empty_arguments, loop_ending, attributes_word}
 use Rattle.swc_ecma_codegen_base.proofs.Choices.{ended_same, not_ended_same, assert_same, with_same}
@@ -77,19 +87,44 @@ attributes_by_assert a b h k = makes_same attributes_word (keyword None (codes "
 pub attributes_by_with : (a b : Standing) → a.state.env.config.emit_assert_for_import_attributes ≡ false → Makes (keyword None (codes "with")) a b → Makes attributes_word a b
 attributes_by_with a b h k = makes_same attributes_word (keyword None (codes "with")) a b (λ rest. with_same rest a.state.env h) k
 
--- no comments are written after an expression
-pub closed_bare : (left : Bool) (span : Span) (a : Standing) → Makes (expr_closed left span) a a
-unfolding expr_closed trailing_comments
-closed_bare true span a = λ rest c k. k
-closed_bare false span a = λ rest c k. k
-
--- nor after a statement
-pub stmt_bare : (pos : BytePos) (a : Standing) → Makes (trailing_comments true pos) a a
-unfolding trailing_comments
-stmt_bare pos a = λ rest c k. k
+-- comments after an expression may be left where they are
+pub closed_left : (left : Bool) (span : Span) (a : Standing) → left ≡ true → Makes (expr_closed left span) a a
+unfolding expr_closed
+closed_left true span a h = λ rest c k. k
+closed_left false span a h = absurd (true≢false (sym h))
 
 -- after an expression they are, unless they are left where they are
 pub closed_commented : (left : Bool) (span : Span) (a b : Standing) → left ≡ false → Makes (trailing_comments true span.hi) a b → Makes (expr_closed left span) a b
 unfolding expr_closed
 closed_commented true span a b h k = absurd (true≢false h)
 closed_commented false span a b h k = λ rest c f. k rest c f
+
+-- ---- by the comments that are still to be taken
+
+pub asked_maps : (ask : Maps → Part) (a b : Standing) → Makes (ask a.state.env.maps) a b → Makes (by_maps ask) a b
+unfolding by_maps
+asked_maps ask a b h = makes_same (by_maps ask) (ask a.state.env.maps) a b (λ rest. refl) h
+
+-- what a bool says, where it is what they say
+by_answer : (ask : Bool → Part) (says : Maps → Bool) (b : Bool) (x y : Standing) → b ≡ says x.state.env.maps → Makes (ask b) x y → Makes (by_maps (λ maps. ask (says maps))) x y
+by_answer ask says b x y e h = asked_maps (λ maps. ask (says maps)) x y (subst (λ (z : Bool). Makes (ask z) x y) e h)
+
+pub block_asked : (some more : Bool) (span : Span) (cs : List ListChild) (a b : Standing) → more ≡ (some || has_comment_inside span a.state.env.maps) → Makes (block_list more span cs) a b → Makes (block_lines some span cs) a b
+unfolding block_lines
+block_asked some more span cs a b e h = by_answer (λ z. block_list z span cs) (λ maps. some || has_comment_inside span maps) more a b e h
+
+pub object_asked : (some more : Bool) (span : Span) (cs : List ListChild) (a b : Standing) → more ≡ (some || has_comment_inside span a.state.env.maps) → Makes (object_list more span cs) a b → Makes (object_by_maps some span cs) a b
+unfolding object_by_maps
+object_asked some more span cs a b e h = by_answer (λ z. object_list z span cs) (λ maps. some || has_comment_inside span maps) more a b e h
+
+pub argument_asked : {X : Type 0} (asks : X → Answers) (items : X → Place → Part) (x : X) (breaks : Bool) (a b : Standing) → breaks ≡ (asks x).breaks a.state.env.maps → Makes (argument_in asks items x breaks) a b → Makes (argument asks items x) a b
+unfolding argument
+argument_asked asks items x breaks a b e h = by_answer (argument_in asks items x) (asks x).breaks breaks a b e h
+
+pub yield_asked : {X : Type 0} (asks : X → Answers) (items : X → Place → Part) (delegate : Bool) (x : X) (breaks : Bool) (a b : Standing) → breaks ≡ (asks x).breaks a.state.env.maps → Makes (yield_argument_in asks items delegate x breaks) a b → Makes (yield_argument asks items delegate x) a b
+unfolding yield_argument
+yield_asked asks items delegate x breaks a b e h = by_answer (yield_argument_in asks items delegate x) (asks x).breaks breaks a b e h
+
+pub arrow_asked : {X : Type 0} (asks : X → Answers) (items : X → Place → Part) (n : ArrowExpr X) (plain : Bool) (a b : Standing) → plain ≡ (is_only is_plain asks n.params.items && not (has_comment_behind asks n.params.items a.state.env.maps)) → Makes (arrow_within plain n.span (arrow_children asks items n)) a b → Makes (arrow_parameters asks items n) a b
+unfolding arrow_parameters
+arrow_asked asks items n plain a b e h = by_answer (λ z. arrow_within z n.span (arrow_children asks items n)) (λ maps. is_only is_plain asks n.params.items && not (has_comment_behind asks n.params.items maps)) plain a b e h

@@ -4,7 +4,7 @@ use Rattle.swc_ecma_codegen_common.specs.declared.operators.BinaryOp.{BinaryOp}
 use Rattle.swc_ecma_codegen_common.specs.Operators.{binary_text}
 use Rattle.swc_ecma_codegen_ast.specs.declared.kinds.Kind.TheVariants.{Word, Punctuator}
 use Rattle.swc_ecma_codegen_text_writer.specs.Sheet.{Space, Operator, Punct}
-use Rattle.swc_ecma_codegen_base.specs.Run.{Env, Plan, Steps, next, Guard, Token, Plain, step, no_part}
+use Rattle.swc_ecma_codegen_base.specs.Run.{Env, Plan, Steps, next, Guard, Token, Plain, step, after_step, no_part}
 use Rattle.swc_ecma_codegen_base.specs.Words.{operator, word_operator, punct, space, formatting_space, operator_between, punct_between}
 use Rattle.swc_ecma_codegen_base.proofs.Emitting.{minified_same, pretty_same}
 use Rattle.swc_ecma_codegen.specs.Exprs.{blank, space_if, binary_op, spaced_operator, spaced_punct, formatted_operator, word_between}
@@ -25,15 +25,15 @@ one_blank rest env h = pretty_same no_part space rest env h
 -- ---- an operator, and a punctuator
 
 operator_in : (t : List ℕ) (p q : Plan) (env : Env) → p env ≡ q env → operator t p env ≡ operator t q env
-unfolding operator step
+unfolding operator step after_step
 operator_in t p q env h = ap (λ (x : Steps). next (Guard t) (next (Token Punctuator (Operator None t)) x)) h
 
 punct_in : (t : List ℕ) (p q : Plan) (env : Env) → p env ≡ q env → punct t p env ≡ punct t q env
-unfolding punct step
+unfolding punct step after_step
 punct_in t p q env h = ap (λ (x : Steps). next (Guard t) (next (Token Punctuator (Punct None t)) x)) h
 
 space_in : (p q : Plan) (env : Env) → p env ≡ q env → space p env ≡ space q env
-unfolding space step
+unfolding space step after_step
 space_in p q env h = ap (λ (x : Steps). next (Plain Space) x) h
 
 -- minified there is no blank
@@ -65,7 +65,7 @@ spaced_between t a b h k =
 -- ---- a binary operator
 
 binary_in : (op : BinaryOp) (p q : Plan) (env : Env) → p env ≡ q env → binary_op op p env ≡ binary_op op q env
-unfolding binary_op word_operator step
+unfolding binary_op word_operator step after_step
 binary_in op p q env h =
     elim (is_word_op op) as (λ w. cond w (word_operator (binary_text op) p) (operator (binary_text op) p) env ≡ cond w (word_operator (binary_text op) q) (operator (binary_text op) q) env)
     [ true ↦ ap (λ (x : Steps). next (Guard (binary_text op)) (next (Token Word (Operator None (binary_text op))) x)) h | false ↦ operator_in (binary_text op) p q env h ]

@@ -48,12 +48,12 @@ use Rattle.swc_ecma_codegen_ast.specs.Chars.{is_start, is_part, is_letter, is_di
 use Rattle.swc_ecma_codegen_ast.specs.Names.{is_word, all_part}
 use Rattle.swc_ecma_codegen_ast.specs.Punctuators.{is_punctuator, punctuators}
 use Rattle.swc_ecma_codegen_ast.specs.Texts.{is_same, is_among}
-use Rattle.swc_ecma_codegen_ast.specs.Phrases.{Phrase, One, ◌>◌, mark, word}
+use Rattle.swc_ecma_codegen_ast.specs.Phrases.{Phrase, OptionalParentheses, One, ◌>◌, mark, word}
 use Rattle.swc_ecma_codegen_ast.specs.NamePhrases as names
 use Rattle.swc_ecma_codegen_ast.specs.ExprPhrases as lists
 use Rattle.swc_ecma_codegen_ast.specs.PropPhrases as prop_lists
 use Rattle.swc_ecma_codegen_ast.specs.KeyPhrases as keys
-use Rattle.swc_ecma_codegen_ast.specs.CallPhrases.{callee_at}
+use Rattle.swc_ecma_codegen_ast.specs.CallPhrases.{callee_at, value_at}
 use Rattle.swc_ecma_codegen_ast.specs.LitPhrases as lit_lists
 use Rattle.swc_ecma_codegen_ast.specs.declared.roles.Role.TheVariants.{ChainMember, AssignmentTarget, Callee as IsCallee, ChainCall}
 use Rattle.swc_ecma_codegen_base.specs.Run.{Env, Part}
@@ -61,10 +61,10 @@ use Rattle.swc_ecma_codegen_base.specs.Words.{operator, space, formatting_space,
 use Rattle.swc_ecma_codegen_base.proofs.PrivatePrints.{prints_private}
 use Rattle.swc_ecma_codegen_base.proofs.Printed.{writes_then, writes_if, writes_nothing, writes_space, writes_formatting_space, writes_commit, writes_position, writes_position_before, writes_leading, Fills}
 use Rattle.swc_ecma_codegen_base.specs.Written.{IsWord, IsMark}
-use Rattle.swc_ecma_codegen_base.proofs.Choices.{prints_bare}
+use Rattle.swc_ecma_codegen_base.proofs.Choices.{prints_bare, prints_optional_parentheses}
 use Rattle.swc_ecma_codegen_base.proofs.EachLit.{prints_lit}
 use Rattle.swc_ecma_codegen_base.proofs.NumberPrints.{prints_number, prints_number_object}
-use Rattle.swc_ecma_codegen_base.proofs.Phrased.{Prints, then, after, before, prints_nothing, prints_never, prints_keyword, prints_word_operator, prints_operator, prints_punct, prints_ident, prints_name, PrintsAt, prints_wider, prints_joined_operator, joined_then}
+use Rattle.swc_ecma_codegen_base.proofs.Phrased.{Prints, prints_by_maps, then, after, before, prints_nothing, prints_never, prints_keyword, prints_word_operator, prints_operator, prints_punct, prints_ident, prints_name, PrintsAt, prints_wider, prints_joined_operator, joined_then}
 use Rattle.swc_ecma_codegen.specs.declared.nodes.Place.{Place}
 use Rattle.swc_ecma_codegen.specs.declared.nodes.Place.TheVariants.{Plain, LeftOperand, Object, DottedObject, Callee, Chain}
 use Rattle.swc_ecma_codegen.specs.Answers.{Answers, place_of}
@@ -367,16 +367,25 @@ assign_prints l n =
     (after (writes_formatting_space l.env)
     (then (assign_op_prints l.env n.op) (after (writes_formatting_space l.env) (expr_at l n.right Plain)))))
 
+yield_argument_by : {X : Type 0} (l : Linked X) (delegate : Bool) (n : ExprBox X) (breaks : Bool) → Prints l.env (words.yield_argument_in l.asks l.items delegate n.node.value breaks) (OptionalParentheses (value_at l.reads n))
+unfolding words.yield_argument_in
+yield_argument_by l delegate n true = prints_optional_parentheses true (expr_at l n Plain)
+yield_argument_by l delegate n false = after (writes_blank l.env (cond delegate false (l.asks n.node.value).starts)) (prints_bare (expr_at l n Plain))
+
+yield_argument_prints : {X : Type 0} (l : Linked X) (delegate : Bool) (n : ExprBox X) → Prints l.env (words.yield_argument l.asks l.items delegate n.node.value) (OptionalParentheses (value_at l.reads n))
+unfolding words.yield_argument
+yield_argument_prints l delegate n = prints_by_maps (λ maps. words.yield_argument_in l.asks l.items delegate n.node.value ((l.asks n.node.value).breaks maps)) (λ maps. yield_argument_by l delegate n ((l.asks n.node.value).breaks maps))
+
 yield_arg_prints : {X : Type 0} (l : Linked X) (arg : Option (ExprBox X)) → PrintsAt open_ l.env (words.yield_arg l.asks l.items true arg) (lists.yield_arg l.reads arg)
 unfolding words.yield_arg lists.yield_arg
 yield_arg_prints l None = prints_nothing
-yield_arg_prints l (Some n) = prints_wider open_ refl (after (writes_blank l.env false) (prints_bare (expr_at l n Plain)))
+yield_arg_prints l (Some n) = prints_wider open_ refl (yield_argument_prints l true n)
 
 yield_case : {X : Type 0} (l : Linked X) (delegate : Bool) (arg : Option (ExprBox X)) → Prints l.env (λ rest. keyword None (codes "yield") (words.yield_star delegate (words.yield_arg l.asks l.items delegate arg rest))) (word (codes "yield") > lists.yield_rest l.reads delegate arg)
 unfolding words.yield_star words.yield_arg lists.yield_rest
 yield_case l true arg = joined_then l.env None (codes "yield") yield_is_word (then (prints_operator l.env (codes "*") star_is_mark) (yield_arg_prints l arg))
 yield_case l false None = then (prints_keyword l.env None (codes "yield") yield_is_word) prints_nothing
-yield_case l false (Some n) = joined_then l.env None (codes "yield") yield_is_word (after (writes_blank l.env (l.asks n.node.value).starts) (prints_bare (expr_at l n Plain)))
+yield_case l false (Some n) = joined_then l.env None (codes "yield") yield_is_word (yield_argument_prints l false n)
 
 pub yield_prints : {X : Type 0} (l : Linked X) (n : YieldExpr X) → Prints l.env (words.yield_expr l.asks l.items n) (lists.yield_expr l.reads n)
 unfolding words.yield_expr lists.yield_expr

@@ -1,5 +1,5 @@
 -- What is written of functions and classes in expressions is what it reads as.
-use Rattle.std.proofs.Common.{◌≡◌, ℕ, ◌+◌, arith, refl, sym, subst, Bool, true, false, cond, ◌||◌, ◌&&◌, is_some, List, [], ◌∷◌, map, codes, string_bytes, Option, Some, None, inl, inr}
+use Rattle.std.proofs.Common.{◌≡◌, not, ℕ, ◌+◌, arith, refl, sym, subst, Bool, true, false, cond, ◌||◌, ◌&&◌, is_some, List, [], ◌∷◌, map, codes, string_bytes, Option, Some, None, inl, inr}
 use Rattle.std.proofs.lemmas.Bool.{cases_Bool}
 use Rattle.swc_ecma_codegen_common.specs.declared.positions.Span.{Span}
 use Rattle.swc_ecma_codegen_tree.specs.Links.{PatBox}
@@ -21,18 +21,20 @@ use Rattle.swc_ecma_codegen_ast.specs.PatPhrases as pats
 use Rattle.swc_ecma_codegen_ast.specs.ClassPhrases as classes
 use Rattle.swc_ecma_codegen_ast.specs.FunctionPhrases as lists
 use Rattle.swc_ecma_codegen_ast.specs.FunctionPhrases.{is_never}
-use Rattle.swc_ecma_codegen_base.specs.Run.{Env, Part, spelling, no_part}
+use Rattle.swc_ecma_codegen_base.specs.Run.{Env, Part, at_maps, spelling, no_part}
 use Rattle.swc_ecma_codegen_base.specs.Lists.{list, deeper}
 use Rattle.swc_ecma_codegen_base.specs.Words.{punct, space, formatting_space}
 use Rattle.swc_ecma_codegen_base.specs.Written.{IsMark}
 use Rattle.swc_ecma_codegen_base.proofs.Choices.{prints_bare, prints_parentheses}
 use Rattle.swc_ecma_codegen_base.proofs.Emitting.{minified_same, pretty_same}
 use Rattle.swc_ecma_codegen_base.proofs.ListLaws.{children_of, prints_list, prints_one_child}
-use Rattle.swc_ecma_codegen_base.proofs.Phrased.{Prints, then, after, before, prints_nothing, prints_same, prints_keyword, prints_punct, prints_ident, mark_spelled, PrintsAt, prints_wider, loosened, joined_then, joined_mark, prints_joined_punct, prints_regrouped}
+use Rattle.swc_ecma_codegen_base.proofs.Phrased.{Prints, prints_by_maps, then, after, before, prints_nothing, prints_same, prints_keyword, prints_punct, prints_ident, mark_spelled, PrintsAt, prints_wider, loosened, joined_then, joined_mark, prints_joined_punct, prints_regrouped}
 use Rattle.swc_ecma_codegen_base.proofs.Printed.{with_room, within_then, deeper_within, writes_same, writes_if, writes_nothing, writes_space, writes_formatting_space, writes_commit, writes_position, writes_leading, writes_shallower, Fills, joined_punct_within}
 use Rattle.swc_ecma_codegen.specs.declared.nodes.Place.TheVariants.{Plain, Body}
 use Rattle.swc_ecma_codegen.specs.ClassExprs as class_words
 use Rattle.swc_ecma_codegen.specs.FunctionExprs as words
+use Rattle.swc_ecma_codegen.specs.Commented.{has_comment_after}
+use Rattle.swc_ecma_codegen_ast.specs.CommentMaps.{Maps}
 use Rattle.swc_ecma_codegen.specs.FunctionExprs.{comma_list_format}
 use Rattle.swc_ecma_codegen.proofs.Impossible.{refused_or, prints_impossible, never_impossible}
 use Rattle.swc_ecma_codegen.proofs.Linked.{Linked, expr_at, pat_at, block_at}
@@ -73,11 +75,11 @@ other_parenthesis env t w = prints_punct env t w
 
 wide_parenthesis : (env : Env) (t : List ℕ) → IsMark t → env.config.minify ≡ false → Prints env (words.parenthesis true t) (mark t)
 unfolding words.parenthesis
-wide_parenthesis env t w wide = prints_same (words.parenthesis true t) (punct t) (λ rest. pretty_same no_part (punct t) rest env wide) (prints_punct env t w)
+wide_parenthesis env t w wide = prints_same (words.parenthesis true t) (punct t) (λ maps rest. pretty_same no_part (punct t) rest (at_maps maps env) wide) (prints_punct env t w)
 
 no_parenthesis : (env : Env) (t : List ℕ) → env.config.minify ≡ true → Fills env (words.parenthesis true t)
 unfolding words.parenthesis no_part
-no_parenthesis env t small = writes_same env (words.parenthesis true t) (λ rest. rest) [] (λ rest. minified_same no_part (punct t) rest env small) (writes_nothing env)
+no_parenthesis env t small = writes_same env (words.parenthesis true t) (λ rest. rest) [] (λ maps rest. minified_same no_part (punct t) rest (at_maps maps env) small) (writes_nothing env)
 
 abbrev params_list : {X : Type 0} → Linked X → Span → List (PatBox X) → Part
 params_list l span ns = list comma_list_format span (children_of (λ p. (l.asks p.node.value).place) (λ p. l.items p.node.value Plain) ns)
@@ -118,11 +120,24 @@ only_prints l span n false e =
     let P : Phrase → Type 0 = λ z. Prints l.env (only_part l false span n) (cond (is_never z) (mark (codes "(") > pats.pat_at l.reads n > mark (codes ")")) (OptionalParentheses (pats.pat_at l.reads n))) in
     subst P (sym e) (then (other_parenthesis l.env (codes "(") marks.left_parenthesis) (then (only_list_prints l span n) (other_parenthesis l.env (codes ")") marks.right_parenthesis)))
 
-arrow_params_prints : {X : Type 0} (l : Linked X) (span : Span) (ns : List (PatBox X)) → Prints l.env (λ rest. words.parenthesis (words.is_only words.is_plain l.asks ns) (codes "(") (params_list l span ns (words.parenthesis (words.is_only words.is_plain l.asks ns) (codes ")") rest))) (lists.arrow_parameters l.reads ns)
-unfolding words.is_only lists.arrow_parameters
-arrow_params_prints l span [] = params_prints l span []
-arrow_params_prints l span (n ∷ []) = only_prints l span n (words.is_plain (l.asks n.node.value).pattern) (l.plain n.node.value)
-arrow_params_prints l span (n ∷ m ∷ ns) = params_prints l span (n ∷ m ∷ ns)
+-- in parentheses where a comment stands behind it, and minified too
+kept_or_never : {X : Type 0} (l : Linked X) (span : Span) (n : PatBox X) (never : Bool) → is_never (pats.pat_at l.reads n) ≡ never → Prints l.env (only_part l false span n) (cond never (mark (codes "(") > pats.pat_at l.reads n > mark (codes ")")) (OptionalParentheses (pats.pat_at l.reads n)))
+kept_or_never l span n true h = then (other_parenthesis l.env (codes "(") marks.left_parenthesis) (then (only_list_prints l span n) (other_parenthesis l.env (codes ")") marks.right_parenthesis))
+kept_or_never l span n false h = prints_parentheses (then (other_parenthesis l.env (codes "(") marks.left_parenthesis) (then (only_list_prints l span n) (other_parenthesis l.env (codes ")") marks.right_parenthesis)))
+
+only_commented : {X : Type 0} (l : Linked X) (span : Span) (n : PatBox X) (plain behind : Bool) → l.reads n.node.value PlainParameter ≡ cond plain (l.reads n.node.value Pattern) Never → Prints l.env (only_part l (plain && not behind) span n) (lists.only_parameter l.reads n)
+unfolding lists.only_parameter is_never
+only_commented l span n false behind e = only_prints l span n false e
+only_commented l span n true false e = only_prints l span n true e
+only_commented l span n true true e =
+    let P : Phrase → Type 0 = λ z. Prints l.env (only_part l false span n) (cond (is_never z) (mark (codes "(") > pats.pat_at l.reads n > mark (codes ")")) (OptionalParentheses (pats.pat_at l.reads n))) in
+    subst P (sym e) (kept_or_never l span n (is_never (pats.pat_at l.reads n)) refl)
+
+arrow_params_prints : {X : Type 0} (l : Linked X) (span : Span) (ns : List (PatBox X)) (maps : Maps) → Prints l.env (words.arrow_within (words.is_only words.is_plain l.asks ns && not (words.has_comment_behind l.asks ns maps)) span (children_of (λ p. (l.asks p.node.value).place) (λ p. l.items p.node.value Plain) ns)) (lists.arrow_parameters l.reads ns)
+unfolding words.arrow_within words.is_only words.has_comment_behind lists.arrow_parameters
+arrow_params_prints l span [] maps = params_prints l span []
+arrow_params_prints l span (n ∷ []) maps = only_commented l span n (words.is_plain (l.asks n.node.value).pattern) (has_comment_after (l.asks n.node.value).place maps) (l.plain n.node.value)
+arrow_params_prints l span (n ∷ m ∷ ns) maps = params_prints l span (n ∷ m ∷ ns)
 
 arrow_ends_nothing : is_ending (codes "=>") ≡ false
 unfolding is_ending
@@ -148,7 +163,7 @@ arrow_parts_prints l n =
     (after (writes_position l.env n.span.lo)
     (async_arrow_then l.env n.is_async (words.is_only words.is_name l.asks n.params.items)
     (then (star_prints l.env n.is_generator)
-    (then (arrow_params_prints l n.span n.params.items) (arrow_body_prints l n.body)))))
+    (then (prints_by_maps (λ maps. words.arrow_within (words.is_only words.is_plain l.asks n.params.items && not (words.has_comment_behind l.asks n.params.items maps)) n.span (words.arrow_children l.asks l.items n)) (arrow_params_prints l n.span n.params.items)) (arrow_body_prints l n.body)))))
 
 pub arrow_expr_prints : {X : Type 0} (l : Linked X) (n : ArrowExpr X) → Prints l.env (words.arrow_expr l.asks l.items n) (lists.arrow_expr l.reads n)
 unfolding words.arrow_expr lists.arrow_expr

@@ -1,5 +1,5 @@
 -- What is written of functions and blocks sees what links hold through `asks` and `items` alone.
-use Rattle.std.proofs.Common.{◌≡◌, refl, ◌∙◌, ap, List, [], ◌∷◌, map, codes, Bool, cond, Option, Some, None, Box, Global}
+use Rattle.std.proofs.Common.{◌≡◌, not, ◌&&◌, refl, ◌∙◌, ap, List, [], ◌∷◌, map, codes, Bool, cond, Option, Some, None, Box, Global}
 use Rattle.swc_ecma_codegen_common.specs.declared.positions.Span.{Span}
 use Rattle.swc_ecma_codegen_tree.specs.declared.links.AnyNode.{map-AnyNode}
 use Rattle.swc_ecma_codegen_tree.specs.declared.links.AnyNode.TheOpen as nodes
@@ -19,14 +19,16 @@ use Rattle.swc_ecma_codegen_ast.proofs.Mapped.{list_mapped}
 use Rattle.swc_ecma_codegen_ast.proofs.MappedFunctions.{some_mapped}
 use Rattle.swc_ecma_codegen_base.specs.Run.{Plan, Part, refuse}
 use Rattle.swc_ecma_codegen_base.specs.Lists.{ListChild, list}
-use Rattle.swc_ecma_codegen_base.specs.Words.{punct, leading_comments, start_of, end_of}
+use Rattle.swc_ecma_codegen_base.specs.Words.{by_maps, punct, leading_comments, start_of, end_of}
 use Rattle.swc_ecma_codegen.specs.declared.nodes.Place.{Place}
 use Rattle.swc_ecma_codegen.specs.declared.nodes.Place.TheVariants.{Plain, FunctionHead, MethodHead, DeclarationHead, StaticHead, MethodDecorators, MethodTail, PrivateTail}
 use Rattle.swc_ecma_codegen.specs.declared.patterns.PatternKind.{PatternKind}
 use Rattle.swc_ecma_codegen.specs.Answers.{Answers, place_of}
-use Rattle.swc_ecma_codegen.specs.Blocks.{block_list, block_start, block_stmt}
+use Rattle.swc_ecma_codegen.specs.Blocks.{block_lines, block_start, block_stmt}
 use Rattle.swc_ecma_codegen.specs.AnyExpr.{expr, expr_parts, expr_closed, leaves_comments}
-use Rattle.swc_ecma_codegen.specs.FunctionExprs.{comma_list_format, is_plain, is_name, is_only, async_arrow, star, parenthesis, arrow_parameters, arrow_body, arrow_parts, arrow_expr}
+use Rattle.swc_ecma_codegen.specs.Commented.{has_comment_after}
+use Rattle.swc_ecma_codegen_ast.specs.CommentMaps.{Maps}
+use Rattle.swc_ecma_codegen.specs.FunctionExprs.{comma_list_format, is_plain, is_name, is_only, async_arrow, star, has_comment_behind, arrow_within, arrow_parameters, arrow_body, arrow_parts, arrow_expr}
 use Rattle.swc_ecma_codegen.specs.Functions.{decorators_format, decorator, decorator_place, param, function_body, fn_trailing_parts, fn_trailing, function_head, declaration_head, method_head, static_head, decorator_lines, method_body, method_tail_parts, method_tail, private_tail, function}
 use Rattle.swc_ecma_codegen.specs.Lists.{child_of, in_order, unsupported}
 use Rattle.swc_ecma_codegen.specs.Parts.{expr_part, stmt_part}
@@ -102,10 +104,10 @@ function_mapped g asks items b place rest = trailing_mapped g asks items b b.val
 
 -- ---- blocks
 
-statements_same : {X : Type 0} (place : Place) (n : BlockStmt X) (some other : Bool) (cs ds : List ListChild) (after : Plan) → some ≡ other → cs ≡ ds → leading_comments n.span.lo (block_start place n.span (punct (codes "{") (block_list some n.span cs after))) ≡ leading_comments n.span.lo (block_start place n.span (punct (codes "{") (block_list other n.span ds after)))
+statements_same : {X : Type 0} (place : Place) (n : BlockStmt X) (some other : Bool) (cs ds : List ListChild) (after : Plan) → some ≡ other → cs ≡ ds → leading_comments n.span.lo (block_start place n.span (punct (codes "{") (block_lines some n.span cs after))) ≡ leading_comments n.span.lo (block_start place n.span (punct (codes "{") (block_lines other n.span ds after)))
 statements_same place n some other cs ds after e h =
-    ap (λ z. leading_comments n.span.lo (block_start place n.span (punct (codes "{") (block_list z n.span cs after)))) e
-    ∙ ap (λ z. leading_comments n.span.lo (block_start place n.span (punct (codes "{") (block_list other n.span z after)))) h
+    ap (λ z. leading_comments n.span.lo (block_start place n.span (punct (codes "{") (block_lines z n.span cs after)))) e
+    ∙ ap (λ z. leading_comments n.span.lo (block_start place n.span (punct (codes "{") (block_lines other n.span z after)))) h
 
 pub block_mapped : {X Y : Type 0} (g : X → Y) (asks : Y → Answers) (items : Y → Place → Part) (n : BlockStmt X) (place : Place) (rest : Plan) → node_items asks items (map-AnyNode X Y g (nodes.StmtPart (stmt_parts.BlockStmt n))) place rest ≡ block_stmt (λ x. asks (g x)) (λ x. items (g x)) n place rest
 unfolding node_items node_span stmt_part block_stmt
@@ -122,16 +124,22 @@ only_mapped g test asks known same (n ∷ m ∷ ns) = refl
 abbrev head_of : {X : Type 0} → ArrowExpr X → Bool → Plan → Plan
 head_of n named z = leading_comments n.span.lo (start_of n.span (async_arrow n.is_async named (star n.is_generator z)))
 
-abbrev params_of : {X : Type 0} → ArrowExpr X → Bool → List ListChild → Plan → Plan
-params_of n plain cs after = parenthesis plain (codes "(") (list comma_list_format n.span cs (parenthesis plain (codes ")") after))
+abbrev params_of : {X : Type 0} → ArrowExpr X → Bool → (Maps → Bool) → List ListChild → Plan → Plan
+params_of n plain behind cs after = by_maps (λ maps. arrow_within (plain && not (behind maps)) n.span cs) after
 
-arrow_same : {X : Type 0} (n : ArrowExpr X) (named other : Bool) (plain bare : Bool) (cs ds : List ListChild) (after : Plan) → named ≡ other → plain ≡ bare → cs ≡ ds → head_of n named (params_of n plain cs after) ≡ head_of n other (params_of n bare ds after)
-arrow_same n named other plain bare cs ds after e k h = ap (λ z. head_of n z (params_of n plain cs after)) e ∙ ap (λ z. head_of n other (params_of n z cs after)) k ∙ ap (λ z. head_of n other (params_of n bare z after)) h
+behind_mapped : {X Y : Type 0} (g : PatBox X → PatBox Y) (asks : Y → Answers) (known : X → Answers) → ((n : PatBox X) → (asks (g n).node.value).place ≡ (known n.node.value).place) → (ns : List (PatBox X)) → has_comment_behind asks (map g ns) ≡ has_comment_behind known ns
+unfolding has_comment_behind
+behind_mapped g asks known same [] = refl
+behind_mapped g asks known same (n ∷ []) = ap has_comment_after (same n)
+behind_mapped g asks known same (n ∷ m ∷ ns) = refl
+
+arrow_same : {X : Type 0} (n : ArrowExpr X) (named other : Bool) (plain bare : Bool) (behind beyond : Maps → Bool) (cs ds : List ListChild) (after : Plan) → named ≡ other → plain ≡ bare → behind ≡ beyond → cs ≡ ds → head_of n named (params_of n plain behind cs after) ≡ head_of n other (params_of n bare beyond ds after)
+arrow_same n named other plain bare behind beyond cs ds after e k b h = ap (λ z. head_of n z (params_of n plain behind cs after)) e ∙ ap (λ z. head_of n other (params_of n z behind cs after)) k ∙ ap (λ z. head_of n other (params_of n bare z cs after)) b ∙ ap (λ z. head_of n other (params_of n bare beyond z after)) h
 
 arrow_mapped : {X Y : Type 0} (g : X → Y) (asks : Y → Answers) (items : Y → Place → Part) (b : Box (ArrowExpr X) Global) (n : ArrowExpr X) (body : BlockStmtOrExpr X) (type_params : Option (TsTypeParamDeclBox X)) (return_type : Option (TsTypeAnnBox X)) (place : Place) (rest : Plan) → node_items asks items (map-AnyNode X Y g (nodes.Expr (exprs.Arrow (record b { value = record n { body = body; type_params = type_params; return_type = return_type } })))) place rest ≡ expr (λ x. asks (g x)) (λ x. items (g x)) (exprs.Arrow (record b { value = record n { body = body; type_params = type_params; return_type = return_type } })) place rest
 unfolding node_items expr expr_parts expr_closed expr_span leaves_comments arrow_expr arrow_parts arrow_parameters arrow_body unsupported refuse
-arrow_mapped {X} g asks items b n (bodies.BlockStmt m) None None place rest = arrow_same n _ _ _ _ _ _ _ (only_mapped _ is_name asks (λ x. asks (g x)) (λ p. refl) n.params.items) (only_mapped _ is_plain asks (λ x. asks (g x)) (λ p. refl) n.params.items) (list_mapped {A = PatBox X} _ _ (child_of (λ p. (asks (g p.node.value)).place) (λ p place. items (g p.node.value) place)) (λ p. refl) n.params.items)
-arrow_mapped {X} g asks items b n (bodies.Expr m) None None place rest = arrow_same n _ _ _ _ _ _ _ (only_mapped _ is_name asks (λ x. asks (g x)) (λ p. refl) n.params.items) (only_mapped _ is_plain asks (λ x. asks (g x)) (λ p. refl) n.params.items) (list_mapped {A = PatBox X} _ _ (child_of (λ p. (asks (g p.node.value)).place) (λ p place. items (g p.node.value) place)) (λ p. refl) n.params.items)
+arrow_mapped {X} g asks items b n (bodies.BlockStmt m) None None place rest = arrow_same n _ _ _ _ _ _ _ _ _ (only_mapped _ is_name asks (λ x. asks (g x)) (λ p. refl) n.params.items) (only_mapped _ is_plain asks (λ x. asks (g x)) (λ p. refl) n.params.items) (behind_mapped _ asks (λ x. asks (g x)) (λ p. refl) n.params.items) (list_mapped {A = PatBox X} _ _ (child_of (λ p. (asks (g p.node.value)).place) (λ p place. items (g p.node.value) place)) (λ p. refl) n.params.items)
+arrow_mapped {X} g asks items b n (bodies.Expr m) None None place rest = arrow_same n _ _ _ _ _ _ _ _ _ (only_mapped _ is_name asks (λ x. asks (g x)) (λ p. refl) n.params.items) (only_mapped _ is_plain asks (λ x. asks (g x)) (λ p. refl) n.params.items) (behind_mapped _ asks (λ x. asks (g x)) (λ p. refl) n.params.items) (list_mapped {A = PatBox X} _ _ (child_of (λ p. (asks (g p.node.value)).place) (λ p place. items (g p.node.value) place)) (λ p. refl) n.params.items)
 arrow_mapped g asks items b n body None (Some t) place rest = refl
 arrow_mapped g asks items b n body (Some p) None place rest = refl
 arrow_mapped g asks items b n body (Some p) (Some t) place rest = refl

@@ -6,6 +6,7 @@ use Rattle.swc_ecma_codegen_util.specs.declared.config.Config.{Config}
 use Rattle.swc_ecma_codegen_ast.specs.Phrases.{Phrase, Never, Nothing, ◌>◌, mark, Generates, is_possible, names_in}
 use Rattle.swc_ecma_codegen_ast.specs.FunctionPhrases.{is_never}
 use Rattle.swc_ecma_codegen_base.specs.Escapes.{is_spelled_anew, may_make_text}
+use Rattle.swc_ecma_codegen_base.specs.Named.{EachName, AllStand}
 use Rattle.swc_ecma_codegen_base.specs.Run.{Env, Part}
 use Rattle.swc_ecma_codegen_base.specs.Targets.{is_out}
 use Rattle.swc_ecma_codegen_base.proofs.Choices.{IsAmong, prints_among}
@@ -44,13 +45,14 @@ and_true false = refl
 
 -- a list of one phrase is that phrase
 alone_among : (config : Config) (f : Phrase) → IsAmong config (f > Nothing) f
-unfolding Generates is_possible is_out may_make_text names_in
+unfolding Generates EachName is_possible is_out may_make_text names_in
 alone_among config f = record {
   generates = λ ts g. subst (λ z. Generates _ f z) (sym (g.4 ∙ ap (λ z. g.0 ++ z) g.3 ∙ append-nil g.0)) g.2;
   possible = and_true (is_possible f);
   out = or_false (is_out config f);
   makes = λ e. sym (or_false (may_make_text config f)) ∙ e;
   names = append-nil (names_in f);
+  stands = λ a b us ts g. subst (λ z. AllStand config a b us f z) (sym (g.4 ∙ ap (λ z. g.0 ++ z) g.3 ∙ append-nil g.0)) g.2;
 }
 
 pub prints_alone : {i : Shape} {env : Env} {p : Part} {f : Phrase} → PrintsAt i env p (f > Nothing) → PrintsAt i env p f
@@ -58,13 +60,14 @@ prints_alone {env = env} {f = f} h = prints_among (alone_among env.config f) h
 
 -- so is one behind a mark
 last_among : (config : Config) (t : List ℕ) (f : Phrase) → IsAmong config (mark t > f > Nothing) (mark t > f)
-unfolding Generates is_possible is_out may_make_text names_in is_spelled_anew lexical.punctuator
+unfolding Generates EachName is_possible is_out may_make_text names_in is_spelled_anew lexical.punctuator
 last_among config t f = record {
   generates = λ ts g. (g.0, g.1, g.2, subst (λ z. Generates _ f z) (sym (g.3.4 ∙ ap (λ z. g.3.0 ++ z) g.3.3 ∙ append-nil g.3.0)) g.3.2, g.4);
   possible = and_true (is_possible f);
   out = or_false (is_out config f);
   makes = λ e. sym (or_false (may_make_text config f)) ∙ e;
   names = append-nil (names_in f);
+  stands = λ a b us ts g. (g.0, g.1, g.2, subst (λ z. AllStand config a b (us ++ g.0) f z) (sym (g.3.4 ∙ ap (λ z. g.3.0 ++ z) g.3.3 ∙ append-nil g.3.0)) g.3.2, g.4);
 }
 
 pub prints_last : {i : Shape} {env : Env} {p : Part} (t : List ℕ) {f : Phrase} → PrintsAt i env p (mark t > f > Nothing) → PrintsAt i env p (mark t > f)

@@ -36,7 +36,7 @@ use Rattle.swc_ecma_codegen.specs.declared.nodes.Place.{Place}
 use Rattle.swc_ecma_codegen.specs.declared.nodes.Place.TheVariants.{Plain, Chain}
 use Rattle.swc_ecma_codegen.specs.Answers.{Answers, any_answers}
 use Rattle.swc_ecma_codegen.specs.Lists.{comma, listed, unsupported}
-use Rattle.swc_ecma_codegen.specs.Exprs.{this, unary, update, update_parts, bin, bin_operator, bin_trailing, member, member_at, member_prop, object_place, computed_prop_name, super_prop, super_prop_expr, chain_mark, chain_prop, chain_member, chain_base, opt_chain, meta_prop_expr, assign, yield_arg, yield_expr, await_expr, choice, seq, held, paren, ident, opened}
+use Rattle.swc_ecma_codegen.specs.Exprs.{this, unary, update, update_parts, bin, bin_operator, bin_trailing, member, member_at, member_prop, object_place, computed_prop_name, super_prop, super_prop_expr, chain_mark, chain_prop, chain_member, chain_base, opt_chain, meta_prop_expr, assign, yield_argument_in, yield_argument, yield_arg, yield_expr, await_expr, choice, seq, held, paren, ident, opened}
 use Rattle.swc_ecma_codegen.specs.AnyExpr.{expr_parts, expr_closed, leaves_comments, expr}
 use Rattle.swc_ecma_codegen.specs.FunctionExprs.{fn_expr, optional_name}
 use Rattle.swc_ecma_codegen.specs.ClassExprs.{class_expr}
@@ -85,7 +85,7 @@ chain_mapped g asks items n (chain_bases.Member b) place rest = refl
 chain_mapped g asks items n (chain_bases.Call b) place rest = refl
 
 yield_mapped : {X Y : Type 0} (g : X → Y) (asks : Y → Answers) (items : Y → Place → Part) (n : YieldExpr X) (arg : Option (ExprBox X)) (place : Place) (rest : Plan) → node_items asks items (map-AnyNode X Y g (nodes.Expr (exprs.Yield (record n { arg = arg })))) place rest ≡ expr (λ x. asks (g x)) (λ x. items (g x)) (exprs.Yield (record n { arg = arg })) place rest
-unfolding node_items expr expr_parts expr_closed expr_span leaves_comments yield_expr yield_arg
+unfolding node_items expr expr_parts expr_closed expr_span leaves_comments yield_expr yield_arg yield_argument yield_argument_in
 yield_mapped g asks items n None place rest = refl
 yield_mapped g asks items n (Some x) place rest = refl
 

@@ -1,5 +1,8 @@
 pub mod KindLaws
 pub mod SpaceLaws
+pub mod BreakLaws
+pub mod Breaks
+pub mod Unbroken
 pub mod PatternLaws
 pub mod BranchLaws
 pub mod PatKnots
@@ -12,6 +15,8 @@ pub mod PropKnots
 pub mod Knots
 pub mod Steps
 pub mod Asked
+pub mod Without
+pub mod ListPlaces
 pub mod Linked
 pub mod ListParts
 pub mod MarkWords
@@ -38,8 +43,8 @@ pub mod ProgramParts
 pub mod PartLaws
 pub mod TreeLaw
 pub mod TreeReads
+pub mod ItemsTaken
 pub mod TreeMade
 pub mod OperatorLaws
 pub mod Between
-pub mod ListPlaces
 pub mod Standings

@@ -84,7 +84,7 @@ case_stmts_print : {X : Type 0} (l : Linked X) (n : SwitchCase X) → PrintsAt e
 unfolding by_lines
 case_stmts_print l n =
     let single : Bool = words.is_single l.asks l.env.lines n.span n.cons.items in
-    prints_same (words.case_stmts l.asks l.items n) (words.case_list single n.span (words.case_children l.asks l.items n.cons.items)) (λ rest. refl) (case_list_prints l single n.span n.cons.items)
+    prints_same (words.case_stmts l.asks l.items n) (words.case_list single n.span (words.case_children l.asks l.items n.cons.items)) (λ maps rest. refl) (case_list_prints l single n.span n.cons.items)
 
 case_prints : {X : Type 0} (l : Linked X) (n : SwitchCase X) → PrintsAt ended l.env (words.switch_case l.asks l.items n) (lists.switch_case l.reads n)
 unfolding words.switch_case lists.switch_case

@@ -40,7 +40,7 @@ use Rattle.swc_ecma_codegen_ast.specs.Phrases.{Phrase, Never, OptionalComma, ◌
 use Rattle.swc_ecma_codegen_ast.specs.LitPhrases.{str_lit}
 use Rattle.swc_ecma_codegen_ast.specs.declared.roles.Role.TheVariants.{ObjectLiteral, ModuleDeclaration, ExportedHead as HeadOfExported, ExportedTail as TailOfExported}
 use Rattle.swc_ecma_codegen_base.specs.Lists.{list}
-use Rattle.swc_ecma_codegen_base.specs.Run.{Env, Plan, Part}
+use Rattle.swc_ecma_codegen_base.specs.Run.{Env, Plan, Part, at_maps}
 use Rattle.swc_ecma_codegen_base.specs.Words.{punct, formatting_space}
 use Rattle.swc_ecma_codegen_base.proofs.ListLaws.{children_of, writes_no_list, prints_some, prints_optional_closing}
 use Rattle.swc_ecma_codegen_base.proofs.Choices.{prints_attributes_word}
@@ -209,7 +209,7 @@ unfolding words.import_clause words.some_imports words.before_brace words.before
 ordered_prints l parent bare = prints_nothing
 ordered_prints l parent (star n) = prints_wider open_ refl (then (star_prints l.env (before (ident_prints l n.local) (writes_space l.env))) (from_prints l.env))
 ordered_prints l parent (named n ns h) =
-    prints_same (words.import_clause parent (imported.Named n ∷ ns)) (λ rest. braces_then parent (imported.Named n ∷ ns) (words.from_word rest)) (λ rest. ap (λ p. p l.env) (named_clause parent n ns rest h))
+    prints_same (words.import_clause parent (imported.Named n ∷ ns)) (λ rest. braces_then parent (imported.Named n ∷ ns) (words.from_word rest)) (λ maps rest. ap (λ p. p (at_maps maps l.env)) (named_clause parent n ns rest h))
     (prints_wider open_ refl (then (before (import_braces_print l parent (imported.Named n ∷ ns) h) (writes_formatting_space l.env)) (from_prints l.env)))
 ordered_prints l parent (default d) = prints_wider open_ refl (then (ident_prints l d.local) (then (after (writes_space l.env) prints_nothing) (from_prints l.env)))
 ordered_prints l parent (default_star d n) =
@@ -219,7 +219,7 @@ ordered_prints l parent (default_star d n) =
     (from_prints l.env)))
 ordered_prints l parent (default_named d n ns h) =
     prints_same (words.import_clause parent (imported.Default d ∷ imported.Named n ∷ ns)) (λ rest. words_ident d.local (punct (codes ",") (formatting_space (braces_then parent (imported.Named n ∷ ns) (words.from_word rest)))))
-    (λ rest. ap (λ p. p l.env) (default_clause parent d n ns rest h))
+    (λ maps rest. ap (λ p. p (at_maps maps l.env)) (default_clause parent d n ns rest h))
     (prints_wider open_ refl
     (then (ident_prints l d.local)
     (then (then (prints_punct l.env (codes ",") marks.comma) (after (writes_formatting_space l.env) (before (import_braces_print l parent (imported.Named n ∷ ns) h) (writes_formatting_space l.env))))
@@ -249,7 +249,7 @@ source_end_prints l src with_ span = then (prints_str l.env src) (then (attribut
 unless_crowded : {i : Shape} {env : Env} {p : Part} {f : Phrase} (crowded typed : Bool) → (is_possible f ≡ true → crowded ≡ false) → PrintsAt i env p f → PrintsAt i env (λ rest. cond crowded (bad_shape rest) (cond typed (unsupported rest) (p rest))) (cond typed Never f)
 unless_crowded crowded true room h = prints_never
 unless_crowded {env = env} {p = p} crowded false room h =
-    if_possible (λ w. prints_same (λ rest. cond crowded (bad_shape rest) (p rest)) p (λ rest. ap (λ b. cond b (bad_shape rest) (p rest) env) (room w)) h)
+    if_possible (λ w. prints_same (λ rest. cond crowded (bad_shape rest) (p rest)) p (λ maps rest. ap (λ b. cond b (bad_shape rest) (p rest) (at_maps maps env)) (room w)) h)
 
 import_has_room : (phase : ImportPhase) (ns : List ImportSpecifier) (tail : Phrase) → is_possible (word (codes "import") > lists.import_phase phase > lists.import_clause ns > tail) ≡ true → words.is_crowded ns ≡ false
 unfolding is_possible
@@ -339,7 +339,7 @@ braces_alone : {X : Type 0} (l : Linked X) (parent : Span) (m : ExportNamedSpeci
 unfolding words.export_clause words.is_namespace lists.export_clause
 braces_alone l parent m ns h =
     let ms : List ExportSpecifier = exported.Named m ∷ ns in
-    prints_same (words.export_clause parent ms) (words.export_braces parent ms) (λ rest. ap (λ b. cond b (words.star_exports parent ms rest) (words.export_braces parent ms rest) l.env) (none_namespace ns h))
+    prints_same (words.export_clause parent ms) (words.export_braces parent ms) (λ maps rest. ap (λ b. cond b (words.star_exports parent ms rest) (words.export_braces parent ms rest) (at_maps maps l.env)) (none_namespace ns h))
     (export_braces_print l parent ms h)
 
 export_clause_prints : {X : Type 0} (l : Linked X) (parent : Span) (ns : List ExportSpecifier) → Prints l.env (words.export_clause parent ns) (lists.export_clause ns)

@@ -12,7 +12,7 @@ use Rattle.swc_ecma_codegen_ast.specs.Phrases.{Phrase, ◌>◌}
 use Rattle.swc_ecma_codegen_ast.specs.Tokens.{Token}
 use Rattle.swc_ecma_codegen_ast.specs.StmtPhrases as lists
 use Rattle.swc_ecma_codegen_base.specs.Literals.{hashbang}
-use Rattle.swc_ecma_codegen_base.specs.Run.{Env, Part}
+use Rattle.swc_ecma_codegen_base.specs.Run.{Env, Part, at_maps}
 use Rattle.swc_ecma_codegen_base.specs.Words.{commit_pending_semi, trailing_comments}
 use Rattle.swc_ecma_codegen_base.proofs.Phrased.{then, after, before, prints_nothing, PrintsAt, prints_wider}
 use Rattle.swc_ecma_codegen_base.proofs.Printed.{writes_then, writes_same, writes_nothing, writes_commit, writes_position, writes_leading, writes_trailing, Fills, MakesAt}
@@ -29,8 +29,8 @@ use Rattle.swc_ecma_codegen_base.proofs.HashbangPrints.{prints_hashbang, placed_
 
 writes_last_semi : (env : Env) → Fills env programs.last_semi
 writes_last_semi env = elim (cases_Bool env.config.omit_last_semi) [
-  | inl left ↦ writes_same env programs.last_semi (λ rest. rest) [] (λ rest. kept_same rest env left) (writes_nothing env)
-  | inr wanted ↦ writes_same env programs.last_semi commit_pending_semi [] (λ rest. committed_same rest env wanted) (writes_commit env)
+  | inl left ↦ writes_same env programs.last_semi (λ rest. rest) [] (λ maps rest. kept_same rest (at_maps maps env) left) (writes_nothing env)
+  | inr wanted ↦ writes_same env programs.last_semi commit_pending_semi [] (λ maps rest. committed_same rest (at_maps maps env) wanted) (writes_commit env)
 ]
 
 writes_start_if_empty : {A : Type 0} (env : Env) (xs : List A) (span : Span) → Fills env (programs.start_if_empty xs span)
@@ -48,7 +48,7 @@ writes_program_end : (env : Env) (span : Span) → Fills env (λ rest. trailing_
 writes_program_end env span = writes_then env (trailing_comments true span.hi) programs.last_semi [] [] (writes_trailing env true span.hi) (writes_last_semi env)
 
 -- behind a hashbang, or without one
-opened_prints : {A Z : Type 0} (env : Env) (shebang : Option (String Z)) (xs : List A) (span : Span) {p : Part} {f : Phrase} → PrintsAt loose env p f → PrintsAt (loose_at (not (is_some shebang))) env (λ rest. programs.program_start shebang xs span (p rest)) (lists.shebang shebang > f)
+pub opened_prints : {A Z : Type 0} (env : Env) (shebang : Option (String Z)) (xs : List A) (span : Span) {p : Part} {f : Phrase} → PrintsAt loose env p f → PrintsAt (loose_at (not (is_some shebang))) env (λ rest. programs.program_start shebang xs span (p rest)) (lists.shebang shebang > f)
 unfolding programs.program_start lists.shebang
 opened_prints env None xs span h = then prints_nothing (after (writes_leading env span.lo) (after (writes_start_if_empty env xs span) h))
 opened_prints env (Some text) xs span h =

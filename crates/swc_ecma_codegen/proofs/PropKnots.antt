@@ -19,7 +19,7 @@ use Rattle.swc_ecma_codegen.specs.Answers.{Answers, place_of}
 use Rattle.swc_ecma_codegen.specs.Exprs.{opened, spread_element}
 use Rattle.swc_ecma_codegen.specs.Lists.{child_at, child_of, unsupported}
 use Rattle.swc_ecma_codegen.specs.Parts.{expr_part}
-use Rattle.swc_ecma_codegen.specs.Props.{key_end, value_start, key_value_prop, assign_prop, accessor, optional_body, getter_parts, getter_prop, setter_parts, setter_prop, method_prop, prop, prop_or_spread, object_children, object_list, object_lit}
+use Rattle.swc_ecma_codegen.specs.Props.{key_end, value_start, key_value_prop, assign_prop, accessor, optional_body, getter_parts, getter_prop, setter_parts, setter_prop, method_prop, prop, prop_or_spread, object_children, object_by_maps, object_lit}
 use Rattle.swc_ecma_codegen.specs.Tree.{node_items}
 use Rattle.swc_ecma_codegen.proofs.PatKnots.{prop_name_mapped, prop_name_placed}
 
@@ -37,9 +37,9 @@ method_child name function head p tail = child_at (between name function) (λ re
 method_same : (name other function : Span) (head p q tail : Part) → name ≡ other → ((rest : Plan) → p rest ≡ q rest) → method_child name function head p tail ≡ method_child other function head q tail
 method_same name other function head p q tail e h = ap (λ z. method_child z function head p tail) e ∙ ap (λ z. method_child other function head z tail) (λ i. λ rest. h rest i)
 
-object_same : {X : Type 0} (n : ObjectLit X) (some other : Bool) (cs ds : List ListChild) (after : Plan) → some ≡ other → cs ≡ ds → opened n.span (punct (codes "{") (object_list some n.span cs after)) ≡ opened n.span (punct (codes "{") (object_list other n.span ds after))
+object_same : {X : Type 0} (n : ObjectLit X) (some other : Bool) (cs ds : List ListChild) (after : Plan) → some ≡ other → cs ≡ ds → opened n.span (punct (codes "{") (object_by_maps some n.span cs after)) ≡ opened n.span (punct (codes "{") (object_by_maps other n.span ds after))
 object_same n some other cs ds after e h =
-    ap (λ z. opened n.span (punct (codes "{") (object_list z n.span cs after))) e ∙ ap (λ z. opened n.span (punct (codes "{") (object_list other n.span z after))) h
+    ap (λ z. opened n.span (punct (codes "{") (object_by_maps z n.span cs after))) e ∙ ap (λ z. opened n.span (punct (codes "{") (object_by_maps other n.span z after))) h
 
 pub object_lit_mapped : {X Y : Type 0} (g : X → Y) (asks : Y → Answers) (items : Y → Place → Part) (n : ObjectLit X) (place : Place) (rest : Plan) → node_items asks items (map-AnyNode X Y g (nodes.ExprPart (expr_parts.ObjectLit n))) place rest ≡ object_lit (λ x. asks (g x)) (λ x. items (g x)) n rest
 unfolding node_items node_span expr_part expr_part_span object_lit object_children prop_or_spread prop_or_spread_span spread_element spread_element_span prop prop_span key_value_prop key_value_prop_span assign_prop assign_prop_span getter_prop getter_parts setter_prop setter_parts method_prop method_prop_span accessor optional_body unsupported refuse

@@ -1,5 +1,5 @@
 -- What is written of objects and their properties is what it reads as.
-use Rattle.std.proofs.Common.{refl, ℕ, Bool, true, false, cond, ◌==◌, is_some, List, [], map, codes, Option, Some, None, inl, inr}
+use Rattle.std.proofs.Common.{refl, ℕ, Bool, ◌||◌, true, false, cond, ◌==◌, is_some, List, [], map, codes, Option, Some, None, inl, inr}
 use Rattle.std.proofs.lemmas.Bool.{cases_Bool}
 use Rattle.swc_ecma_codegen_common.specs.declared.positions.Span.{Span}
 use Rattle.swc_ecma_codegen_tree.specs.Links.{BlockStmtBox, PropNameBox}
@@ -20,13 +20,15 @@ use Rattle.swc_ecma_codegen_ast.specs.Phrases as phrases
 use Rattle.swc_ecma_codegen_ast.specs.PropPhrases as lists
 use Rattle.swc_ecma_codegen_ast.specs.PatPhrases as heads
 use Rattle.swc_ecma_codegen_ast.specs.declared.roles.Role.TheVariants.{Function, MethodHead}
-use Rattle.swc_ecma_codegen_base.specs.Run.{Env, Part, when_minified}
+use Rattle.swc_ecma_codegen_ast.specs.CommentMaps.{Maps}
+use Rattle.swc_ecma_codegen.specs.Commented.{has_comment_inside}
+use Rattle.swc_ecma_codegen_base.specs.Run.{Env, Part, step, after_step, at_maps, when_minified}
 use Rattle.swc_ecma_codegen_base.specs.Lists.{list}
-use Rattle.swc_ecma_codegen_base.specs.Words.{punct, line_end, position, position_before}
+use Rattle.swc_ecma_codegen_base.specs.Words.{by_maps, punct, line_end, position, position_before}
 use Rattle.swc_ecma_codegen_base.specs.Written.{IsWord}
 use Rattle.swc_ecma_codegen_base.proofs.Emitting.{minified_same, pretty_same}
 use Rattle.swc_ecma_codegen_base.proofs.ListLaws.{children_of, prints_list, prints_bracketed}
-use Rattle.swc_ecma_codegen_base.proofs.Phrased.{Prints, then, after, before, prints_nothing, prints_same, prints_keyword, prints_punct, PrintsAt, prints_wider, loosened}
+use Rattle.swc_ecma_codegen_base.proofs.Phrased.{Prints, then, after, before, prints_nothing, prints_same, prints_by_maps, prints_keyword, prints_punct, PrintsAt, prints_wider, loosened}
 use Rattle.swc_ecma_codegen_base.proofs.Printed.{writes_if, writes_nothing, writes_formatting_space, writes_line, writes_position, writes_position_before, Fills}
 use Rattle.swc_ecma_codegen.specs.declared.nodes.Place.TheVariants.{Plain}
 use Rattle.swc_ecma_codegen.specs.Answers.{place_of}
@@ -152,17 +154,22 @@ unfolding words.object_lines words.lined_object_list
 either_prints l n true = lines_prints l n
 either_prints l n false = flat_prints l n
 
-props_print : {X : Type 0} (l : Linked X) (n : ObjectLit X) → Prints l.env (λ rest. punct (codes "{") (words.object_list (is_some_listed n.props.items) n.span (children_of (prop_or_spread_span (place_of l.asks)) (words.prop_or_spread l.asks l.items) n.props.items) (closing n rest))) (whole l n)
+props_print : {X : Type 0} (l : Linked X) (n : ObjectLit X) (some : Bool) → Prints l.env (λ rest. punct (codes "{") (words.object_list some n.span (children_of (prop_or_spread_span (place_of l.asks)) (words.prop_or_spread l.asks l.items) n.props.items) (closing n rest))) (whole l n)
 unfolding words.object_list
-props_print l n =
-    let some : Bool = is_some_listed n.props.items in
+props_print l n some =
     let flat : Part = props_by l flat_object_format n in
     let lines : Part = words.object_lines some n.span (children_of (prop_or_spread_span (place_of l.asks)) (words.prop_or_spread l.asks l.items) n.props.items) in
     elim (cases_Bool l.env.config.minify) [
-      | inl small ↦ prints_same _ (λ rest. punct (codes "{") (flat (closing n rest))) (behind_bracket l.env (codes "{") (λ rest. when_minified flat lines (closing n rest)) (λ rest. flat (closing n rest)) (λ rest. minified_same flat lines (closing n rest) l.env small)) (flat_prints l n)
-      | inr wide ↦ prints_same _ (λ rest. punct (codes "{") (lines (closing n rest))) (behind_bracket l.env (codes "{") (λ rest. when_minified flat lines (closing n rest)) (λ rest. lines (closing n rest)) (λ rest. pretty_same flat lines (closing n rest) l.env wide)) (either_prints l n some)
+      | inl small ↦ prints_same _ (λ rest. punct (codes "{") (flat (closing n rest))) (behind_bracket l.env (codes "{") (λ rest. when_minified flat lines (closing n rest)) (λ rest. flat (closing n rest)) (λ maps rest. minified_same flat lines (closing n rest) (at_maps maps l.env) small)) (flat_prints l n)
+      | inr wide ↦ prints_same _ (λ rest. punct (codes "{") (lines (closing n rest))) (behind_bracket l.env (codes "{") (λ rest. when_minified flat lines (closing n rest)) (λ rest. lines (closing n rest)) (λ maps rest. pretty_same flat lines (closing n rest) (at_maps maps l.env) wide)) (either_prints l n some)
     ]
+
+props_by_maps_print : {X : Type 0} (l : Linked X) (n : ObjectLit X) → Prints l.env (λ rest. punct (codes "{") (words.object_by_maps (is_some_listed n.props.items) n.span (children_of (prop_or_spread_span (place_of l.asks)) (words.prop_or_spread l.asks l.items) n.props.items) (closing n rest))) (whole l n)
+unfolding words.object_by_maps by_maps punct step after_step
+props_by_maps_print l n =
+    let ask : Maps → Part = λ maps rest. punct (codes "{") (words.object_list (is_some_listed n.props.items || has_comment_inside n.span maps) n.span (children_of (prop_or_spread_span (place_of l.asks)) (words.prop_or_spread l.asks l.items) n.props.items) (closing n rest)) in
+    prints_same _ (by_maps ask) (λ maps rest. refl) (prints_by_maps ask (λ maps. props_print l n (is_some_listed n.props.items || has_comment_inside n.span maps)))
 
 pub object_lit_prints : {X : Type 0} (l : Linked X) (n : ObjectLit X) → Prints l.env (words.object_lit l.asks l.items n) (lists.object_lit l.reads n)
 unfolding words.object_lit words.object_children lists.object_lit
-object_lit_prints l n = after (writes_opened l.env n.span) (props_print l n)
+object_lit_prints l n = after (writes_opened l.env n.span) (props_by_maps_print l n)

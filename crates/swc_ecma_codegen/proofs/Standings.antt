@@ -5,9 +5,10 @@ use Rattle.swc_ecma_codegen_common.specs.declared.errors.Error.{Error}
 use Rattle.swc_ecma_codegen_common.specs.declared.errors.Refusal.{Refusal}
 use Rattle.swc_ecma_codegen_common.specs.Refusals.{in_short}
 use Rattle.swc_ecma_codegen_ast.specs.SourceLines.{Lines}
-use Rattle.swc_ecma_codegen_base.specs.Run.{Env, Plan, Part, State, Follows, Emits, Does, at_lines, nothing}
+use Rattle.swc_ecma_codegen_ast.specs.CommentMaps.{Maps}
+use Rattle.swc_ecma_codegen_base.specs.Run.{Env, Plan, Part, State, Follows, Emits, Does, DoesTaking, at_source, nothing}
 use Rattle.swc_ecma_codegen_base.specs.Lists.{by_lines}
-use Rattle.swc_ecma_codegen_base.proofs.Emitting.{does_here, emits_nothing, follows_same}
+use Rattle.swc_ecma_codegen_base.proofs.Emitting.{does_here, takes_here, emits_nothing, follows_same}
 use Rattle.swc_ecma_codegen_base.proofs.Made.{run_env}
 use Rattle.swc_ecma_codegen_base.proofs.Short.{on_ok_in_short}
 use Rattle.swc_ecma_codegen.specs.Standing.{Standing, outcome, refusal_after, Leads, LeadsAfter, Makes, Stays, KeepsSettings}
@@ -25,8 +26,12 @@ makes_emitted part a b r None new h fresh eq =
     subst P (sym eq) (made part a b r h)
 
 -- so is what one does wherever lines end
-pub makes_here : (lines : Lines) (part : Part) (a b : State) (r : Result (Unit {0}) Refusal) (old new : Option Refusal) → Does part a b r → is_some old ≡ false → new ≡ refusal_after old r → Makes part (record { state = at_lines lines a; refusal = old }) (record { state = at_lines lines b; refusal = new })
-makes_here lines part a b r old new h fresh eq = makes_emitted part (at_lines lines a) (at_lines lines b) r old new (does_here lines part a b r h) fresh eq
+pub makes_here : (lines : Lines) (maps : Maps) (part : Part) (a b : State) (r : Result (Unit {0}) Refusal) (old new : Option Refusal) → Does part a b r → is_some old ≡ false → new ≡ refusal_after old r → Makes part (record { state = at_source lines maps a; refusal = old }) (record { state = at_source lines maps b; refusal = new })
+makes_here lines maps part a b r old new h fresh eq = makes_emitted part (at_source lines maps a) (at_source lines maps b) r old new (does_here lines maps part a b r h) fresh eq
+
+-- what takes comments leaves the others
+pub takes_made : (lines : Lines) (before left : Maps) (part : Part) (a b : State) (r : Result (Unit {0}) Refusal) (old new : Option Refusal) → DoesTaking part before left a b r → is_some old ≡ false → new ≡ refusal_after old r → Makes part (record { state = at_source lines before a; refusal = old }) (record { state = at_source lines left b; refusal = new })
+takes_made lines before left part a b r old new h fresh eq = makes_emitted part (at_source lines before a) (at_source lines left b) r old new (takes_here lines before left part a b r h) fresh eq
 
 -- where it isn't refused, none was before, and what it says then holds
 pub unrefused : (P : Type 0) (r : Result (Unit {0}) Refusal) (old new : Option Refusal) → OnOk r P → is_some old ≡ false → new ≡ refusal_after old r → new ≡ None → (old ≡ None) × P
@@ -74,7 +79,7 @@ unfolding LeadsAfter outcome
 ended s None = emits_nothing s
 ended s (Some e) = refl
 
-leads_ended : (b : Standing) → Leads nothing b b
+pub leads_ended : (b : Standing) → Leads nothing b b
 unfolding Leads
 leads_ended b = ended b.state b.refusal
 

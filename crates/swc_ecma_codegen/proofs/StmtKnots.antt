@@ -42,7 +42,7 @@ use Rattle.swc_ecma_codegen.specs.Exprs.{opened}
 use Rattle.swc_ecma_codegen.specs.Lists.{child_at, unsupported}
 use Rattle.swc_ecma_codegen.specs.Parts.{expr_part, stmt_part}
 use Rattle.swc_ecma_codegen.specs.Pats.{initializer, pat}
-use Rattle.swc_ecma_codegen.specs.Stmts.{enclosed, spaced, stmt_word, empty_stmt, expr_stmt, debugger_stmt, with_stmt, return_arg, return_stmt, labeled_stmt, break_stmt, continue_stmt, else_branch, if_stmt, catch_param, catch_clause, handler, finalizer, try_stmt, throw_stmt, lines_format, cases_format, case_test, is_single, case_list, switch_case, switch_cases, switch_stmt, while_stmt, loop_test, do_while_stmt, var_decl_or_expr, for_init, for_value, for_clause, for_control, for_stmt, for_head, for_right, for_each, for_in_stmt, for_await, for_of_stmt, stmt_parts, stmt_closed, stmt}
+use Rattle.swc_ecma_codegen.specs.Stmts.{enclosed, argument, argument_in, spaced, stmt_word, empty_stmt, expr_stmt, debugger_stmt, with_stmt, return_arg, return_stmt, labeled_stmt, break_stmt, continue_stmt, else_branch, if_stmt, catch_param, catch_clause, handler, finalizer, try_stmt, throw_stmt, lines_format, cases_format, case_test, is_single, case_list, switch_case, switch_cases, switch_stmt, while_stmt, loop_test, do_while_stmt, var_decl_or_expr, for_init, for_value, for_clause, for_control, for_stmt, for_head, for_right, for_each, for_in_stmt, for_await, for_of_stmt, stmt_parts, stmt_closed, stmt}
 use Rattle.swc_ecma_codegen.specs.Tree.{node_items}
 use Rattle.swc_ecma_codegen.proofs.DeclKnots.{declarator_child, declarator_same, decl_mapped, decl_placed}
 use Rattle.swc_ecma_codegen.proofs.PatKnots.{child_same, children_mapped, pat_mapped}
@@ -54,7 +54,7 @@ ended span rest = trailing_comments true span.hi (formatting_line rest)
 -- ---- statements
 
 return_by : {X Y : Type 0} (g : X → Y) (asks : Y → Answers) (items : Y → Place → Part) (n : ReturnStmt X) (arg : Option (ExprBox X)) (place : Place) (rest : Plan) → node_items asks items (map-AnyNode X Y g (nodes.Stmt (stmts.Return (record n { arg = arg })))) place rest ≡ stmt (λ x. asks (g x)) (λ x. items (g x)) (stmts.Return (record n { arg = arg })) rest
-unfolding node_items stmt stmt_parts stmt_closed is_block stmt_span return_stmt return_arg spaced
+unfolding node_items stmt stmt_parts stmt_closed is_block stmt_span return_stmt return_arg argument argument_in spaced
 return_by g asks items n None place rest = refl
 return_by g asks items n (Some x) place rest = refl
 
@@ -151,7 +151,7 @@ decl_by {X} {Y} g asks items n place rest =
     ∙ decl_mapped g asks items n Statement (ended (decl_span (place_of (λ x. asks (g x))) n) rest)
 
 pub stmt_mapped : {X Y : Type 0} (g : X → Y) (asks : Y → Answers) (items : Y → Place → Part) (n : Stmt X) (place : Place) (rest : Plan) → node_items asks items (map-AnyNode X Y g (nodes.Stmt n)) place rest ≡ stmt (λ x. asks (g x)) (λ x. items (g x)) n rest
-unfolding node_items stmt stmt_parts stmt_closed is_block stmt_span empty_stmt expr_stmt debugger_stmt with_stmt labeled_stmt break_stmt continue_stmt throw_stmt while_stmt loop_test do_while_stmt enclosed spaced
+unfolding node_items stmt stmt_parts stmt_closed is_block stmt_span empty_stmt expr_stmt debugger_stmt with_stmt labeled_stmt break_stmt continue_stmt throw_stmt while_stmt loop_test do_while_stmt enclosed argument argument_in spaced
 stmt_mapped g asks items (stmts.Return n) place rest = return_by g asks items n n.arg place rest
 stmt_mapped g asks items (stmts.If n) place rest = if_by g asks items n n.alt place rest
 stmt_mapped g asks items (stmts.Switch n) place rest = switch_mapped g asks items n place rest

@@ -18,14 +18,15 @@ use Rattle.swc_ecma_codegen_tree.specs.declared.stmts.ThrowStmt.{ThrowStmt}
 use Rattle.swc_ecma_codegen_tree.specs.declared.stmts.TryStmt.{TryStmt}
 use Rattle.swc_ecma_codegen_tree.specs.declared.stmts.WithStmt.{WithStmt}
 use Rattle.swc_ecma_codegen_spans.specs.Spans.{stmt_span}
-use Rattle.swc_ecma_codegen_ast.specs.Phrases.{◌>◌, word}
+use Rattle.swc_ecma_codegen_ast.specs.Phrases.{◌>◌, word, OptionalParentheses}
 use Rattle.swc_ecma_codegen_ast.specs.StmtPhrases as lists
+use Rattle.swc_ecma_codegen_ast.specs.CallPhrases.{value_at}
 use Rattle.swc_ecma_codegen_ast.specs.NamePhrases as names
 use Rattle.swc_ecma_codegen_base.specs.Lists.{blank_if}
 use Rattle.swc_ecma_codegen_base.specs.Run.{Env}
 use Rattle.swc_ecma_codegen_base.specs.Words.{formatting_space, formatting_line, trailing_comments, semi}
-use Rattle.swc_ecma_codegen_base.proofs.Choices.{prints_bare}
-use Rattle.swc_ecma_codegen_base.proofs.Phrased.{Prints, then, after, before, prints_nothing, prints_keyword, prints_punct, prints_semi, PrintsAt, prints_wider, joined_then, prints_ident}
+use Rattle.swc_ecma_codegen_base.proofs.Choices.{prints_bare, prints_optional_parentheses}
+use Rattle.swc_ecma_codegen_base.proofs.Phrased.{Prints, prints_by_maps, then, after, before, prints_nothing, prints_keyword, prints_punct, prints_semi, PrintsAt, prints_wider, joined_then, prints_ident}
 use Rattle.swc_ecma_codegen_base.proofs.Printed.{writes_then, writes_if, writes_nothing, writes_formatting_space, writes_formatting_line, writes_commit, writes_position, writes_leading, writes_trailing, Fills, makes_wider, EndsLines, writes_space}
 use Rattle.swc_ecma_codegen.specs.declared.nodes.Place.TheVariants.{Plain, Statement}
 use Rattle.swc_ecma_codegen.specs.Answers.{place_of}
@@ -62,10 +63,20 @@ with_prints l n =
     (then (prints_keyword l.env None (codes "with") marks.with_word)
     (after (writes_formatting_space l.env) (enclosed_then l n.obj (stmt_at l n.body)))))
 
+-- an argument in parentheses, or bare
+argument_by : {X : Type 0} (l : Linked X) (n : ExprBox X) (breaks : Bool) → Prints l.env (words.argument_in l.asks l.items n.node.value breaks) (OptionalParentheses (value_at l.reads n))
+unfolding words.argument_in
+argument_by l n true = prints_optional_parentheses true (expr_at l n Plain)
+argument_by l n false = prints_bare (spaced_expr l n)
+
+argument_prints : {X : Type 0} (l : Linked X) (n : ExprBox X) → Prints l.env (words.argument l.asks l.items n.node.value) (OptionalParentheses (value_at l.reads n))
+unfolding words.argument
+argument_prints l n = prints_by_maps (λ maps. words.argument_in l.asks l.items n.node.value ((l.asks n.node.value).breaks maps)) (λ maps. argument_by l n ((l.asks n.node.value).breaks maps))
+
 return_by : {X : Type 0} (l : Linked X) (span : Span) (arg : Option (ExprBox X)) → Prints l.env (λ rest. words.stmt_word span (codes "return") (words.return_arg l.asks l.items arg (semi rest))) (word (codes "return") > lists.return_rest l.reads arg)
 unfolding words.return_arg lists.return_rest
 return_by l span None = begun l.env span (codes "return") marks.return_word (prints_semi l.env)
-return_by l span (Some n) = begun_joined l.env span (codes "return") marks.return_word (then (prints_bare (spaced_expr l n)) (prints_semi l.env))
+return_by l span (Some n) = begun_joined l.env span (codes "return") marks.return_word (then (argument_prints l n) (prints_semi l.env))
 
 return_prints : {X : Type 0} (l : Linked X) (n : ReturnStmt X) → Prints l.env (words.return_stmt l.asks l.items n) (lists.return_stmt l.reads n)
 unfolding words.return_stmt lists.return_stmt
@@ -154,7 +165,7 @@ unfolding words.throw_stmt lists.throw_stmt
 throw_prints l n =
     after (writes_opened l.env n.span)
     (joined_then l.env None (codes "throw") marks.throw_word
-    (then (prints_bare (spaced_expr l n.arg)) (prints_semi l.env)))
+    (then (argument_prints l n.arg) (prints_semi l.env)))
 
 -- ---- all of them
 

@@ -15,6 +15,8 @@ use Rattle.swc_ecma_codegen.specs.declared.nodes.Reply.TheVariants as replies
 use Rattle.swc_ecma_codegen.specs.Operands.{any_kind, any_space}
 use Rattle.swc_ecma_codegen.specs.Branches.{any_block}
 use Rattle.swc_ecma_codegen.specs.Patterns.{any_pattern}
+use Rattle.swc_ecma_codegen.specs.Commented.{any_breaks}
+use Rattle.swc_ecma_codegen_ast.specs.CommentMaps.{Maps}
 
 pub record Answers : Type 0 where
   -- where it stands
@@ -31,13 +33,15 @@ pub record Answers : Type 0 where
   pub pattern : PatternKind
   -- it is a block, where it is a statement, or a sequence, where it is an expression: `a, b`
   pub block : Bool
+  -- a line ends in or after a comment before one of its leftmost parts
+  pub breaks : Maps → Bool
 
 -- where what a link holds stands
 abbrev pub place_of : {X : Type 0} → (X → Answers) → X → Span
 place_of asks x = (asks x).place
 
 unfoldable pub any_answers : AnyNode → Answers
-any_answers n = record { place = any_span n; starts = any_starts n; ends = any_ends n; kind = any_kind n; space = any_space n; pattern = any_pattern n; block = any_block n }
+any_answers n = record { place = any_span n; starts = any_starts n; ends = any_ends n; kind = any_kind n; space = any_space n; pattern = any_pattern n; block = any_block n; breaks = any_breaks n }
 
 -- what it answers to a question
 unfoldable pub reply_of : Answers → Question → Reply

@@ -1,16 +1,16 @@
 -- What is written of blocks.
-use Rattle.std.specs.Prelude.{ℕ, Bool, if◌then◌else◌, List, map, codes}
+use Rattle.std.specs.Prelude.{ℕ, Bool, ◌||◌, if◌then◌else◌, List, map, codes}
 use Rattle.swc_ecma_codegen_common.specs.declared.positions.Span.{Span}
 use Rattle.swc_ecma_codegen_tree.specs.declared.stmts.BlockStmt.{BlockStmt}
 use Rattle.swc_ecma_codegen_spans.specs.Spans.{stmt_span}
 use Rattle.swc_ecma_codegen_ast.specs.FunctionPhrases.{is_some_listed}
 use Rattle.swc_ecma_codegen_base.specs.Lists.{ListChild, list}
 use Rattle.swc_ecma_codegen_base.specs.Run.{Part, when_minified}
-use Rattle.swc_ecma_codegen_base.specs.Words.{punct, start_of, last_of, leading_comments}
+use Rattle.swc_ecma_codegen_base.specs.Words.{by_maps, comments_before_end, punct, start_of, last_of, leading_comments}
 use Rattle.swc_ecma_codegen.specs.declared.nodes.Place.{Place}
 use Rattle.swc_ecma_codegen.specs.declared.nodes.Place.TheVariants.{Body}
 use Rattle.swc_ecma_codegen.specs.Answers.{Answers, place_of}
-use Rattle.swc_ecma_codegen.specs.Exprs.{comments_before}
+use Rattle.swc_ecma_codegen.specs.Commented.{has_comment_inside}
 use Rattle.swc_ecma_codegen.specs.Lists.{child_of}
 use Rattle.swc_ecma_codegen.specs.Stmts.{stmt}
 
@@ -29,6 +29,10 @@ block_children asks items n = map (child_of (stmt_span (place_of asks)) (λ s pl
 unfoldable pub block_list : Bool → Span → List ListChild → Part
 block_list some span cs = when_minified (list flat_block_format span cs) (list (if some then block_format else flat_block_format) span cs)
 
+-- each on a line of its own too where there is a comment before `}`
+unfoldable pub block_lines : Bool → Span → List ListChild → Part
+block_lines some span cs = by_maps (λ maps. block_list (some || has_comment_inside span maps) span cs)
+
 -- the start of a body isn't recorded
 unfoldable pub block_start : Place → Span → Part
 block_start Body span rest = rest
@@ -40,5 +44,5 @@ block_stmt asks items n place rest =
     leading_comments n.span.lo
     (block_start place n.span
     (punct (codes "{")
-    (block_list (is_some_listed n.stmts.items) n.span (block_children asks items n)
-    (comments_before n.span.hi (last_of n.span (punct (codes "}") rest))))))
+    (block_lines (is_some_listed n.stmts.items) n.span (block_children asks items n)
+    (comments_before_end n.span.hi (last_of n.span (punct (codes "}") rest))))))

@@ -38,7 +38,8 @@ use Rattle.swc_ecma_codegen_spans.specs.Spans.{spread_element_span}
 use Rattle.swc_ecma_codegen_util.specs.Starts as starts
 use Rattle.swc_ecma_codegen_base.specs.PrivateNames as names
 use Rattle.swc_ecma_codegen_base.specs.Run.{Part}
-use Rattle.swc_ecma_codegen_base.specs.Words.{keyword, operator, word_operator, punct, space, formatting_space, commit_pending_semi, start_of, end_of, last_of, leading_comments, name}
+use Rattle.swc_ecma_codegen_base.specs.Choices.{optional_parentheses}
+use Rattle.swc_ecma_codegen_base.specs.Words.{by_maps, keyword, operator, word_operator, punct, space, formatting_space, commit_pending_semi, start_of, end_of, last_of, leading_comments, name}
 use Rattle.swc_ecma_codegen.specs.declared.nodes.Place.{Place}
 use Rattle.swc_ecma_codegen.specs.declared.nodes.Place.TheVariants.{Plain, LeftOperand, Object, DottedObject, Callee, Chain}
 use Rattle.swc_ecma_codegen.specs.Answers.{Answers, place_of}
@@ -215,10 +216,18 @@ assign items n rest =
 unfoldable pub yield_star : Bool → Part
 yield_star delegate rest = if delegate then operator (codes "*") rest else rest
 
+unfoldable pub yield_argument_in : {X : Type 0} → (X → Answers) → (X → Place → Part) → Bool → X → Bool → Part
+yield_argument_in asks items delegate x true rest = optional_parentheses true (items x Plain) rest
+yield_argument_in asks items delegate x false rest = blank (if delegate then false else (asks x).starts) (items x Plain rest)
+
+-- its argument, in parentheses where a line ends in or after a comment before it
+unfoldable pub yield_argument : {X : Type 0} → (X → Answers) → (X → Place → Part) → Bool → X → Part
+yield_argument asks items delegate x = by_maps (λ maps. yield_argument_in asks items delegate x ((asks x).breaks maps))
+
 -- `yield a`, minified `yield[a]` and `yield*a`
 unfoldable pub yield_arg : {X : Type 0} → (X → Answers) → (X → Place → Part) → Bool → Option (ExprBox X) → Part
 yield_arg asks items delegate None rest = rest
-yield_arg asks items delegate (Some n) rest = blank (if delegate then false else (asks n.node.value).starts) (items n.node.value Plain rest)
+yield_arg asks items delegate (Some n) rest = yield_argument asks items delegate n.node.value rest
 
 unfoldable pub yield_expr : {X : Type 0} → (X → Answers) → (X → Place → Part) → YieldExpr X → Part
 yield_expr asks items n rest = opened n.span (keyword None (codes "yield") (yield_star n.delegate (yield_arg asks items n.delegate n.arg rest)))

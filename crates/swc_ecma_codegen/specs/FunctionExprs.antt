@@ -1,5 +1,5 @@
 -- What is written of functions as expressions. What TypeScript adds, types and their parameters, isn't printed yet.
-use Rattle.std.specs.Prelude.{ℕ, ◌||◌, Bool, true, false, if◌then◌else◌, is_some, List, [], ◌∷◌, map, codes, string_bytes, Option, Some, None}
+use Rattle.std.specs.Prelude.{ℕ, ◌||◌, ◌&&◌, not, Bool, true, false, if◌then◌else◌, is_some, List, [], ◌∷◌, map, codes, string_bytes, Option, Some, None}
 use Rattle.swc_ecma_codegen_tree.specs.Links.{PatBox}
 use Rattle.swc_ecma_codegen_tree.specs.declared.exprs.FnExpr.{FnExpr}
 use Rattle.swc_ecma_codegen_tree.specs.declared.exprs.ArrowExpr.{ArrowExpr}
@@ -7,13 +7,16 @@ use Rattle.swc_ecma_codegen_tree.specs.declared.exprs.BlockStmtOrExpr.{BlockStmt
 use Rattle.swc_ecma_codegen_tree.specs.declared.exprs.BlockStmtOrExpr.TheVariants as bodies
 use Rattle.swc_ecma_codegen_tree.specs.declared.idents.Ident.{Ident}
 use Rattle.swc_ecma_codegen_base.specs.Run.{Part, when_minified, no_part}
-use Rattle.swc_ecma_codegen_base.specs.Lists.{list, deeper, shallower}
-use Rattle.swc_ecma_codegen_base.specs.Words.{keyword, punct, space, formatting_space, commit_pending_semi, start_of, leading_comments, name}
+use Rattle.swc_ecma_codegen_base.specs.Lists.{ListChild, list, deeper, shallower}
+use Rattle.swc_ecma_codegen_base.specs.Words.{by_maps, keyword, punct, space, formatting_space, commit_pending_semi, start_of, leading_comments, name}
 use Rattle.swc_ecma_codegen.specs.declared.nodes.Place.{Place}
 use Rattle.swc_ecma_codegen.specs.declared.nodes.Place.TheVariants.{Plain, Body, FunctionHead}
 use Rattle.swc_ecma_codegen.specs.declared.patterns.PatternKind.{PatternKind}
 use Rattle.swc_ecma_codegen.specs.declared.patterns.PatternKind.TheVariants.{PlainName, Name}
 use Rattle.swc_ecma_codegen.specs.Answers.{Answers}
+use Rattle.swc_ecma_codegen.specs.Commented.{has_comment_after}
+use Rattle.swc_ecma_codegen_ast.specs.CommentMaps.{Maps}
+use Rattle.swc_ecma_codegen_common.specs.declared.positions.Span.{Span}
 use Rattle.swc_ecma_codegen.specs.Lists.{child_of, unsupported}
 
 -- `CommaListElements`
@@ -61,16 +64,24 @@ async_arrow wanted named rest = if wanted then keyword None (codes "async") (if 
 unfoldable pub parenthesis : Bool → List ℕ → Part
 parenthesis plain t rest = if plain then when_minified no_part (punct t) rest else punct t rest
 
+-- the only parameter has a comment after it
+unfoldable pub has_comment_behind : {X : Type 0} → (X → Answers) → List (PatBox X) → Maps → Bool
+has_comment_behind asks (n ∷ []) = has_comment_after (asks n.node.value).place
+has_comment_behind asks ns = λ maps. false
+
 -- the parameters of an arrow function, with commas between
+abbrev pub arrow_children : {X : Type 0} → (X → Answers) → (X → Place → Part) → ArrowExpr X → List ListChild
+arrow_children asks items n = map (child_of (λ p. (asks p.node.value).place) (λ p place. items p.node.value place)) n.params.items
+
 abbrev pub arrow_list : {X : Type 0} → (X → Answers) → (X → Place → Part) → ArrowExpr X → Part
-arrow_list asks items n = list comma_list_format n.span (map (child_of (λ p. (asks p.node.value).place) (λ p place. items p.node.value place)) n.params.items)
+arrow_list asks items n = list comma_list_format n.span (arrow_children asks items n)
+
+unfoldable pub arrow_within : Bool → Span → List ListChild → Part
+arrow_within plain span cs rest = parenthesis plain (codes "(") (list comma_list_format span cs (parenthesis plain (codes ")") rest))
 
 -- `(a, b)`, `a`
 unfoldable pub arrow_parameters : {X : Type 0} → (X → Answers) → (X → Place → Part) → ArrowExpr X → Part
-arrow_parameters asks items n rest =
-    parenthesis (is_only is_plain asks n.params.items) (codes "(")
-    (arrow_list asks items n
-    (parenthesis (is_only is_plain asks n.params.items) (codes ")") rest))
+arrow_parameters asks items n = by_maps (λ maps. arrow_within (is_only is_plain asks n.params.items && not (has_comment_behind asks n.params.items maps)) n.span (arrow_children asks items n))
 
 -- an expression is indented, whatever the settings
 unfoldable pub arrow_body : {X : Type 0} → (X → Place → Part) → BlockStmtOrExpr X → Part

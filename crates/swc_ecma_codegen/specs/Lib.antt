@@ -1,9 +1,11 @@
 pub mod Operands
 pub mod Patterns
 pub mod Branches
+pub mod Commented
 pub mod Answers
 pub mod View
 pub mod Standing
+pub mod Left
 pub mod Lists
 pub mod Lits
 pub mod Places

@@ -44,9 +44,9 @@ child_at place part = record { place = place; part = part }
 abbrev pub child_of : {A : Type 0} → (A → Span) → (A → Place → Part) → A → ListChild
 child_of place items x = child_at (place x) (items x Plain)
 
--- Where a child stands, as far as its list asks for that: only one does whose lines end where those of the source text do.
-unfoldable pub asked_place : {A : Type 0} → ℕ → (A → Span) → A → Span
-asked_place format place x = if preserves_lines format then place x else dummy_span
+-- A place, as far as the lines of a list ask for it: only those do that end where the source text's do.
+unfoldable pub as_asked : ℕ → Span → Span
+as_asked format place = if preserves_lines format then place else dummy_span
 
 -- A child among those that stand in braces, after one that stands at `previous` where there is one.
 unfoldable pub braced_child : ℕ → Span → Option Span → ListChild → Part

@@ -1,6 +1,6 @@
 -- What is written of objects and their properties. What TypeScript adds, the type of a getter and `this` before the parameter of a
 -- setter, isn't printed yet.
-use Rattle.std.specs.Prelude.{ℕ, ◌==◌, Bool, true, if◌then◌else◌, is_some, List, map, codes, Option, Some, None}
+use Rattle.std.specs.Prelude.{ℕ, ◌==◌, Bool, ◌||◌, true, if◌then◌else◌, is_some, List, map, codes, Option, Some, None}
 use Rattle.swc_ecma_codegen_common.specs.declared.positions.Span.{Span}
 use Rattle.swc_ecma_codegen_tree.specs.Links.{BlockStmtBox}
 use Rattle.swc_ecma_codegen_tree.specs.declared.exprs.ObjectLit.{ObjectLit}
@@ -17,7 +17,8 @@ use Rattle.swc_ecma_codegen_spans.specs.Spans.{prop_name_span, prop_or_spread_sp
 use Rattle.swc_ecma_codegen_ast.specs.FunctionPhrases.{is_some_listed}
 use Rattle.swc_ecma_codegen_base.specs.Lists.{ListChild, list}
 use Rattle.swc_ecma_codegen_base.specs.Run.{Part, when_minified}
-use Rattle.swc_ecma_codegen_base.specs.Words.{keyword, punct, formatting_space, line_end, position, last_of}
+use Rattle.swc_ecma_codegen.specs.Commented.{has_comment_inside}
+use Rattle.swc_ecma_codegen_base.specs.Words.{by_maps, keyword, punct, formatting_space, line_end, position, last_of}
 use Rattle.swc_ecma_codegen.specs.declared.nodes.Place.{Place}
 use Rattle.swc_ecma_codegen.specs.declared.nodes.Place.TheVariants.{Plain, MethodHead}
 use Rattle.swc_ecma_codegen.specs.Answers.{Answers, place_of}
@@ -113,10 +114,14 @@ object_lines some span cs rest = if some then lined_object_list span cs rest els
 unfoldable pub object_list : Bool → Span → List ListChild → Part
 object_list some span cs = when_minified (list flat_object_format span cs) (object_lines some span cs)
 
+-- each on a line of its own too where there is a comment before `}`
+unfoldable pub object_by_maps : Bool → Span → List ListChild → Part
+object_by_maps some span cs = by_maps (λ maps. object_list (some || has_comment_inside span maps) span cs)
+
 -- `{ a, b: c }`
 unfoldable pub object_lit : {X : Type 0} → (X → Answers) → (X → Place → Part) → ObjectLit X → Part
 object_lit asks items n rest =
     opened n.span
     (punct (codes "{")
-    (object_list (is_some_listed n.props.items) n.span (object_children asks items n)
+    (object_by_maps (is_some_listed n.props.items) n.span (object_children asks items n)
     (last_of n.span (punct (codes "}") rest))))

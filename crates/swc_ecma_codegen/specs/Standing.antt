@@ -2,6 +2,7 @@
 use Rattle.std.specs.Prelude.{◌≡◌, ◌+◌, ◌≤◌, ℕ, Option, Some, None, Result, Ok, Err}
 use Rattle.swc_ecma_codegen_common.specs.declared.errors.Refusal.{Refusal}
 use Rattle.swc_ecma_codegen_ast.specs.SourceLines.{Lines}
+use Rattle.swc_ecma_codegen_ast.specs.CommentMaps.{Maps}
 use Rattle.swc_ecma_codegen_text_writer.specs.Sheet.{Sheet}
 use Rattle.swc_ecma_codegen_base.specs.Run.{Plan, Part, State, Follows}
 use Rattle.swc_ecma_codegen.specs.declared.emitter.Emitter.{Emitter}
@@ -12,8 +13,8 @@ pub record Standing : Type 0 where
   pub state : State
   pub refusal : Option Refusal
 
-abbrev pub standing_of : {W S C : Type 0} → (S → Lines) → (W → Sheet) → Emitter W S C → Standing
-standing_of lines sheet e = record { state = state_of lines sheet e; refusal = e.refusal }
+abbrev pub standing_of : {W S C : Type 0} → (S → Lines) → (C → Maps) → (W → Sheet) → Emitter W S C → Standing
+standing_of lines maps sheet e = record { state = state_of lines maps sheet e; refusal = e.refusal }
 
 -- what is answered in the end
 unfoldable pub outcome : Option Refusal → Result (Unit {0}) Refusal

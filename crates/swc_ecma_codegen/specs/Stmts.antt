@@ -32,10 +32,10 @@ use Rattle.swc_ecma_codegen_spans.specs.Spans.{stmt_span}
 use Rattle.swc_ecma_codegen_ast.specs.ListFormats.{leading_line}
 use Rattle.swc_ecma_codegen_ast.specs.SourceLines.{Lines}
 use Rattle.swc_ecma_codegen_util.specs.Ends.{head_ends}
-use Rattle.swc_ecma_codegen_base.specs.Choices.{loop_ending}
+use Rattle.swc_ecma_codegen_base.specs.Choices.{loop_ending, optional_parentheses}
 use Rattle.swc_ecma_codegen_base.specs.Lists.{ListChild, by_lines, blank_if, list}
 use Rattle.swc_ecma_codegen_base.specs.Run.{Part}
-use Rattle.swc_ecma_codegen_base.specs.Words.{keyword, punct, semi, space, formatting_space, formatting_line, commit_pending_semi, start_of, end_of, last_of, leading_comments, trailing_comments}
+use Rattle.swc_ecma_codegen_base.specs.Words.{by_maps, keyword, punct, semi, space, formatting_space, formatting_line, commit_pending_semi, start_of, end_of, last_of, leading_comments, trailing_comments}
 use Rattle.swc_ecma_codegen.specs.declared.nodes.Place.{Place}
 use Rattle.swc_ecma_codegen.specs.declared.nodes.Place.TheVariants.{Plain, Statement}
 use Rattle.swc_ecma_codegen.specs.Answers.{Answers, place_of}
@@ -54,6 +54,14 @@ enclosed items n rest = punct (codes "(") (items n.node.value Plain (punct (code
 -- a blank, where a word stands before it, and a node: `return a`, minified `return[a]`
 unfoldable pub spaced : {X : Type 0} → (X → Answers) → (X → Place → Part) → X → Part
 spaced asks items x rest = blank (asks x).starts (items x Plain rest)
+
+-- An argument behind such a word, in parentheses where a line ends in or after a comment before it: `return (// a` LF `b)`.
+unfoldable pub argument_in : {X : Type 0} → (X → Answers) → (X → Place → Part) → X → Bool → Part
+argument_in asks items x true rest = optional_parentheses true (items x Plain) rest
+argument_in asks items x false rest = spaced asks items x rest
+
+unfoldable pub argument : {X : Type 0} → (X → Answers) → (X → Place → Part) → X → Part
+argument asks items x = by_maps (λ maps. argument_in asks items x ((asks x).breaks maps))
 
 -- the word that a statement begins with: `while`
 unfoldable pub stmt_word : Span → List ℕ → Part
@@ -85,7 +93,7 @@ with_stmt items n rest = commit_pending_semi (start_of n.span (keyword None (cod
 -- `return a;`, `return;`
 unfoldable pub return_arg : {X : Type 0} → (X → Answers) → (X → Place → Part) → Option (ExprBox X) → Part
 return_arg asks items None rest = rest
-return_arg asks items (Some n) rest = spaced asks items n.node.value rest
+return_arg asks items (Some n) rest = argument asks items n.node.value rest
 
 unfoldable pub return_stmt : {X : Type 0} → (X → Answers) → (X → Place → Part) → ReturnStmt X → Part
 return_stmt asks items n rest = stmt_word n.span (codes "return") (return_arg asks items n.arg (semi rest))
@@ -134,7 +142,7 @@ unfoldable pub try_stmt : {X : Type 0} → (X → Place → Part) → TryStmt X 
 try_stmt items n rest = spaced_word n.span (codes "try") (items n.block.node.value Plain (handler items n.handler (finalizer items n.finalizer rest)))
 
 unfoldable pub throw_stmt : {X : Type 0} → (X → Answers) → (X → Place → Part) → ThrowStmt X → Part
-throw_stmt asks items n rest = opened n.span (keyword None (codes "throw") (spaced asks items n.arg.node.value (semi rest)))
+throw_stmt asks items n rest = opened n.span (keyword None (codes "throw") (argument asks items n.arg.node.value (semi rest)))
 
 -- ---- `switch`
 

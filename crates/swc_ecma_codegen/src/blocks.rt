@@ -4,8 +4,9 @@ ghost use Rattle.std.specs.Prelude.{◌≡◌, if◌then◌else◌};
 ghost use Rattle.swc_ecma_codegen_ast.specs.FunctionPhrases.{is_some_listed};
 ghost use Rattle.swc_ecma_codegen_base.specs.Lists.{list};
 ghost use Rattle.swc_ecma_codegen.specs.Standing.{Makes, Stays, standing_of};
-ghost use Rattle.swc_ecma_codegen.specs.Blocks.{block_format, flat_block_format, block_children, block_list, block_start, block_stmt};
+ghost use Rattle.swc_ecma_codegen.specs.Blocks.{block_format, flat_block_format, block_children, block_list, block_lines, block_start, block_stmt};
 
+use crate::commented::wants_lines;
 use crate::emitter::Emitter;
 use crate::nodes::{EmitAt, Held, Place};
 use bitflags::Flags;
@@ -33,8 +34,8 @@ fn flat_block_format() -> ListFormat
         .difference(ListFormat::Indented)
 }
 
-/// The format of a block, by whether it holds statements.
-fn block_lines(some: bool) -> ListFormat
+/// The format of a block, by whether its statements are to have lines of their own.
+fn format_by(some: bool) -> ListFormat
     ensures { result.0 ≡ if some then block_format else flat_block_format }
 {
     if some {
@@ -67,8 +68,8 @@ impl<N: Held> EmitAt for BlockStmt<N> {
         e.leading_comments(self.span.lo);
         e.block_start(place, self.span);
         e.punct(Punctuator::LeftBrace);
-        e.block_list(self);
-        e.comments_before(self.span.hi);
+        e.block_lines(self);
+        e.comments_before_end(self.span.hi);
         e.last_of(self.span);
         e.punct(Punctuator::RightBrace);
     }
@@ -78,8 +79,8 @@ impl<W: WriteJs, S: SourceMapper, C: Comments> Emitter<'_, W, S, C> {
     /// Records the start of a block, unless it is a body.
     #[tactic(auto, unfolding(crate::specs::Blocks::block_start))]
     fn block_start(&mut self, place: Place, span: Span)
-        ensures items { Makes (block_start place span) (standing_of S.lines W.sheet self.old) (standing_of S.lines W.sheet self.new) }
-        ensures level { Stays (standing_of S.lines W.sheet self.old) (standing_of S.lines W.sheet self.new) }
+        ensures items { Makes (block_start place span) (standing_of S.lines C.maps W.sheet self.old) (standing_of S.lines C.maps W.sheet self.new) }
+        ensures level { Stays (standing_of S.lines C.maps W.sheet self.old) (standing_of S.lines C.maps W.sheet self.new) }
     {
         match place {
             Place::Body => {}
@@ -89,30 +90,38 @@ impl<W: WriteJs, S: SourceMapper, C: Comments> Emitter<'_, W, S, C> {
 
     /// Writes the statements on one line.
     fn flat_block_list<N: Held>(&mut self, node: &BlockStmt<N>)
-        ensures items { Makes (list flat_block_format node.now.span (block_children N.answers N.items node.now)) (standing_of S.lines W.sheet self.old) (standing_of S.lines W.sheet self.new) }
-        ensures level { Stays (standing_of S.lines W.sheet self.old) (standing_of S.lines W.sheet self.new) }
+        ensures items { Makes (list flat_block_format node.now.span (block_children N.answers N.items node.now)) (standing_of S.lines C.maps W.sheet self.old) (standing_of S.lines C.maps W.sheet self.new) }
+        ensures level { Stays (standing_of S.lines C.maps W.sheet self.old) (standing_of S.lines C.maps W.sheet self.new) }
     {
         self.list(flat_block_format(), node.span, &node.stmts)
     }
 
-    /// Writes the statements, each on a line of its own where there are some.
-    fn lined_block_list<N: Held>(&mut self, node: &BlockStmt<N>)
-        ensures items { Makes (list (if is_some_listed node.now.stmts.items then block_format else flat_block_format) node.now.span (block_children N.answers N.items node.now)) (standing_of S.lines W.sheet self.old) (standing_of S.lines W.sheet self.new) }
-        ensures level { Stays (standing_of S.lines W.sheet self.old) (standing_of S.lines W.sheet self.new) }
+    /// Writes the statements, each on a line of its own where that is wanted.
+    fn lined_block_list<N: Held>(&mut self, some: bool, node: &BlockStmt<N>)
+        ensures items { Makes (list (if some then block_format else flat_block_format) node.now.span (block_children N.answers N.items node.now)) (standing_of S.lines C.maps W.sheet self.old) (standing_of S.lines C.maps W.sheet self.new) }
+        ensures level { Stays (standing_of S.lines C.maps W.sheet self.old) (standing_of S.lines C.maps W.sheet self.new) }
     {
-        let format = block_lines(is_some_listed(&node.stmts));
-        self.list(format, node.span, &node.stmts)
+        self.list(format_by(some), node.span, &node.stmts)
     }
 
     /// Writes the statements, by lines unless the settings are to minify.
     #[tactic(auto, using(crate::proofs::Asked::minified_part, crate::proofs::Asked::pretty_part), unfolding(crate::specs::Blocks::block_list))]
-    fn block_list<N: Held>(&mut self, node: &BlockStmt<N>)
-        ensures items { Makes (block_list (is_some_listed node.now.stmts.items) node.now.span (block_children N.answers N.items node.now)) (standing_of S.lines W.sheet self.old) (standing_of S.lines W.sheet self.new) }
-        ensures level { Stays (standing_of S.lines W.sheet self.old) (standing_of S.lines W.sheet self.new) }
+    fn block_list<N: Held>(&mut self, some: bool, node: &BlockStmt<N>)
+        ensures items { Makes (block_list some node.now.span (block_children N.answers N.items node.now)) (standing_of S.lines C.maps W.sheet self.old) (standing_of S.lines C.maps W.sheet self.new) }
+        ensures level { Stays (standing_of S.lines C.maps W.sheet self.old) (standing_of S.lines C.maps W.sheet self.new) }
     {
         if self.cfg.minify {
             return self.flat_block_list(node);
         }
-        self.lined_block_list(node)
+        self.lined_block_list(some, node)
+    }
+
+    /// Writes the statements, each on a line of its own too where there is a comment before `}`.
+    fn block_lines<N: Held>(&mut self, node: &BlockStmt<N>)
+        ensures items { Makes (block_lines (is_some_listed node.now.stmts.items) node.now.span (block_children N.answers N.items node.now)) (standing_of S.lines C.maps W.sheet self.old) (standing_of S.lines C.maps W.sheet self.new) }
+        ensures level { Stays (standing_of S.lines C.maps W.sheet self.old) (standing_of S.lines C.maps W.sheet self.new) }
+    {
+        let some = wants_lines(&self.comments, is_some_listed(&node.stmts), node.span);
+        self.block_list(some, node)
     }
 }

@@ -224,8 +224,8 @@ impl<N: Held> EmitAt for ArrayLit<N> {
 impl<W: WriteJs, S: SourceMapper, C: Comments> Emitter<'_, W, S, C> {
     /// Writes the elements of an array.
     fn array_elements<N: Held>(&mut self, node: &ArrayLit<N>)
-        ensures items { Makes (array_elements N.answers N.items node.now) (standing_of S.lines W.sheet self.old) (standing_of S.lines W.sheet self.new) }
-        ensures level { Stays (standing_of S.lines W.sheet self.old) (standing_of S.lines W.sheet self.new) }
+        ensures items { Makes (array_elements N.answers N.items node.now) (standing_of S.lines C.maps W.sheet self.old) (standing_of S.lines C.maps W.sheet self.new) }
+        ensures level { Stays (standing_of S.lines C.maps W.sheet self.old) (standing_of S.lines C.maps W.sheet self.new) }
     {
         let format = array_format(ends_with_hole(&node.elems));
         self.list(format, node.span, &node.elems)
@@ -234,8 +234,8 @@ impl<W: WriteJs, S: SourceMapper, C: Comments> Emitter<'_, W, S, C> {
     /// Writes `...` before what is spread.
     #[tactic(auto, unfolding(crate::specs::Calls::spread_mark))]
     fn spread_mark(&mut self, spread: Option<Span>)
-        ensures items { Makes (spread_mark spread) (standing_of S.lines W.sheet self.old) (standing_of S.lines W.sheet self.new) }
-        ensures level { Stays (standing_of S.lines W.sheet self.old) (standing_of S.lines W.sheet self.new) }
+        ensures items { Makes (spread_mark spread) (standing_of S.lines C.maps W.sheet self.old) (standing_of S.lines C.maps W.sheet self.new) }
+        ensures level { Stays (standing_of S.lines C.maps W.sheet self.old) (standing_of S.lines C.maps W.sheet self.new) }
     {
         match spread {
             Some(_) => self.punct(Punctuator::Ellipsis),
@@ -246,8 +246,8 @@ impl<W: WriteJs, S: SourceMapper, C: Comments> Emitter<'_, W, S, C> {
     /// Writes arguments in parentheses.
     #[tactic(auto, unfolding(crate::specs::Calls::arguments))]
     fn arguments<N: Held>(&mut self, format: ListFormat, parent: Span, args: &[ExprOrSpread<N>])
-        ensures items { Makes (arguments N.answers N.items format.0 parent args.now) (standing_of S.lines W.sheet self.old) (standing_of S.lines W.sheet self.new) }
-        ensures level { Stays (standing_of S.lines W.sheet self.old) (standing_of S.lines W.sheet self.new) }
+        ensures items { Makes (arguments N.answers N.items format.0 parent args.now) (standing_of S.lines C.maps W.sheet self.old) (standing_of S.lines C.maps W.sheet self.new) }
+        ensures level { Stays (standing_of S.lines C.maps W.sheet self.old) (standing_of S.lines C.maps W.sheet self.new) }
     {
         self.punct(Punctuator::LeftParenthesis);
         self.list(format, parent, args);
@@ -257,8 +257,8 @@ impl<W: WriteJs, S: SourceMapper, C: Comments> Emitter<'_, W, S, C> {
     /// Writes `.source` or `.defer` of `import.source(a)`.
     #[tactic(auto, unfolding(crate::specs::Calls::import_phase))]
     fn import_phase(&mut self, phase: ImportPhase)
-        ensures items { Makes (import_phase phase) (standing_of S.lines W.sheet self.old) (standing_of S.lines W.sheet self.new) }
-        ensures level { Stays (standing_of S.lines W.sheet self.old) (standing_of S.lines W.sheet self.new) }
+        ensures items { Makes (import_phase phase) (standing_of S.lines C.maps W.sheet self.old) (standing_of S.lines C.maps W.sheet self.new) }
+        ensures level { Stays (standing_of S.lines C.maps W.sheet self.old) (standing_of S.lines C.maps W.sheet self.new) }
     {
         match phase {
             ImportPhase::Evaluation => {}
@@ -276,8 +276,8 @@ impl<W: WriteJs, S: SourceMapper, C: Comments> Emitter<'_, W, S, C> {
     /// Writes the blank after `new`.
     #[tactic(auto, unfolding(crate::specs::Calls::new_gap))]
     fn new_gap(&mut self, starts: bool)
-        ensures items { Makes (new_gap starts) (standing_of S.lines W.sheet self.old) (standing_of S.lines W.sheet self.new) }
-        ensures level { Stays (standing_of S.lines W.sheet self.old) (standing_of S.lines W.sheet self.new) }
+        ensures items { Makes (new_gap starts) (standing_of S.lines C.maps W.sheet self.old) (standing_of S.lines C.maps W.sheet self.new) }
+        ensures level { Stays (standing_of S.lines C.maps W.sheet self.old) (standing_of S.lines C.maps W.sheet self.new) }
     {
         if starts {
             self.space()
@@ -289,8 +289,8 @@ impl<W: WriteJs, S: SourceMapper, C: Comments> Emitter<'_, W, S, C> {
     /// Writes `()` after `new A`, unless the settings are to minify.
     #[tactic(auto, using(crate::proofs::Asked::arguments_left_out, crate::proofs::Asked::arguments_written))]
     fn empty_arguments(&mut self)
-        ensures items { Makes (empty_arguments) (standing_of S.lines W.sheet self.old) (standing_of S.lines W.sheet self.new) }
-        ensures level { Stays (standing_of S.lines W.sheet self.old) (standing_of S.lines W.sheet self.new) }
+        ensures items { Makes (empty_arguments) (standing_of S.lines C.maps W.sheet self.old) (standing_of S.lines C.maps W.sheet self.new) }
+        ensures level { Stays (standing_of S.lines C.maps W.sheet self.old) (standing_of S.lines C.maps W.sheet self.new) }
     {
         if self.cfg.minify {
             return;
@@ -301,8 +301,8 @@ impl<W: WriteJs, S: SourceMapper, C: Comments> Emitter<'_, W, S, C> {
     /// Writes `()`.
     #[tactic(auto, unfolding(crate::specs::Calls::parentheses))]
     fn parentheses(&mut self)
-        ensures items { Makes (parentheses) (standing_of S.lines W.sheet self.old) (standing_of S.lines W.sheet self.new) }
-        ensures level { Stays (standing_of S.lines W.sheet self.old) (standing_of S.lines W.sheet self.new) }
+        ensures items { Makes (parentheses) (standing_of S.lines C.maps W.sheet self.old) (standing_of S.lines C.maps W.sheet self.new) }
+        ensures level { Stays (standing_of S.lines C.maps W.sheet self.old) (standing_of S.lines C.maps W.sheet self.new) }
     {
         self.punct(Punctuator::LeftParenthesis);
         self.punct(Punctuator::RightParenthesis);
@@ -311,8 +311,8 @@ impl<W: WriteJs, S: SourceMapper, C: Comments> Emitter<'_, W, S, C> {
     /// Writes the arguments of `new`, where they are in parentheses.
     #[tactic(auto, unfolding(crate::specs::Calls::listed_arguments))]
     fn listed_arguments<N: Held>(&mut self, parent: Span, keeps: bool, args: &[ExprOrSpread<N>])
-        ensures items { Makes (listed_arguments N.answers N.items parent keeps args.now) (standing_of S.lines W.sheet self.old) (standing_of S.lines W.sheet self.new) }
-        ensures level { Stays (standing_of S.lines W.sheet self.old) (standing_of S.lines W.sheet self.new) }
+        ensures items { Makes (listed_arguments N.answers N.items parent keeps args.now) (standing_of S.lines C.maps W.sheet self.old) (standing_of S.lines C.maps W.sheet self.new) }
+        ensures level { Stays (standing_of S.lines C.maps W.sheet self.old) (standing_of S.lines C.maps W.sheet self.new) }
     {
         match (keeps, args) {
             (false, []) => self.empty_arguments(),
@@ -328,8 +328,8 @@ impl<W: WriteJs, S: SourceMapper, C: Comments> Emitter<'_, W, S, C> {
         keeps: bool,
         args: &Option<Vec<ExprOrSpread<N>>>,
     )
-        ensures items { Makes (new_arguments N.answers N.items parent keeps args.now) (standing_of S.lines W.sheet self.old) (standing_of S.lines W.sheet self.new) }
-        ensures level { Stays (standing_of S.lines W.sheet self.old) (standing_of S.lines W.sheet self.new) }
+        ensures items { Makes (new_arguments N.answers N.items parent keeps args.now) (standing_of S.lines C.maps W.sheet self.old) (standing_of S.lines C.maps W.sheet self.new) }
+        ensures level { Stays (standing_of S.lines C.maps W.sheet self.old) (standing_of S.lines C.maps W.sheet self.new) }
     {
         match args {
             Some(args) => self.listed_arguments(parent, keeps, args),
@@ -340,8 +340,8 @@ impl<W: WriteJs, S: SourceMapper, C: Comments> Emitter<'_, W, S, C> {
     /// Writes `?.` before the arguments of a call in an optional chain.
     #[tactic(auto, unfolding(crate::specs::Calls::call_mark))]
     fn call_mark(&mut self, optional: bool)
-        ensures items { Makes (call_mark optional) (standing_of S.lines W.sheet self.old) (standing_of S.lines W.sheet self.new) }
-        ensures level { Stays (standing_of S.lines W.sheet self.old) (standing_of S.lines W.sheet self.new) }
+        ensures items { Makes (call_mark optional) (standing_of S.lines C.maps W.sheet self.old) (standing_of S.lines C.maps W.sheet self.new) }
+        ensures level { Stays (standing_of S.lines C.maps W.sheet self.old) (standing_of S.lines C.maps W.sheet self.new) }
     {
         if optional {
             return self.punct(Punctuator::QuestionDot);

@@ -82,8 +82,8 @@ impl<W: WriteJs, S: SourceMapper, C: Comments> Emitter<'_, W, S, C> {
     /// Writes `.b` or `[b]`.
     #[tactic(auto, unfolding(crate::specs::Exprs::member_prop))]
     fn member_prop<N: Held>(&mut self, prop: &MemberProp<N>)
-        ensures items { Makes (member_prop N.items prop.now) (standing_of S.lines W.sheet self.old) (standing_of S.lines W.sheet self.new) }
-        ensures level { Stays (standing_of S.lines W.sheet self.old) (standing_of S.lines W.sheet self.new) }
+        ensures items { Makes (member_prop N.items prop.now) (standing_of S.lines C.maps W.sheet self.old) (standing_of S.lines C.maps W.sheet self.new) }
+        ensures level { Stays (standing_of S.lines C.maps W.sheet self.old) (standing_of S.lines C.maps W.sheet self.new) }
     {
         match prop {
             MemberProp::Ident(name) => {
@@ -103,8 +103,8 @@ impl<W: WriteJs, S: SourceMapper, C: Comments> Emitter<'_, W, S, C> {
     /// Writes `.a` or `[a]` after `super`.
     #[tactic(auto, unfolding(crate::specs::Exprs::super_prop))]
     fn super_prop<N: Held>(&mut self, prop: &SuperProp<N>)
-        ensures items { Makes (super_prop N.items prop.now) (standing_of S.lines W.sheet self.old) (standing_of S.lines W.sheet self.new) }
-        ensures level { Stays (standing_of S.lines W.sheet self.old) (standing_of S.lines W.sheet self.new) }
+        ensures items { Makes (super_prop N.items prop.now) (standing_of S.lines C.maps W.sheet self.old) (standing_of S.lines C.maps W.sheet self.new) }
+        ensures level { Stays (standing_of S.lines C.maps W.sheet self.old) (standing_of S.lines C.maps W.sheet self.new) }
     {
         match prop {
             SuperProp::Ident(name) => {
@@ -119,8 +119,8 @@ impl<W: WriteJs, S: SourceMapper, C: Comments> Emitter<'_, W, S, C> {
     /// Writes `a?.b` or `a?.[b]`; `a.b` or `a[b]` where `?.` stands further to the left.
     #[tactic(auto, unfolding(crate::specs::Exprs::chain_member))]
     fn chain_member<N: Held>(&mut self, node: &MemberExpr<N>, optional: bool)
-        ensures items { Makes (chain_member N.items optional node.now) (standing_of S.lines W.sheet self.old) (standing_of S.lines W.sheet self.new) }
-        ensures level { Stays (standing_of S.lines W.sheet self.old) (standing_of S.lines W.sheet self.new) }
+        ensures items { Makes (chain_member N.items optional node.now) (standing_of S.lines C.maps W.sheet self.old) (standing_of S.lines C.maps W.sheet self.new) }
+        ensures level { Stays (standing_of S.lines C.maps W.sheet self.old) (standing_of S.lines C.maps W.sheet self.new) }
     {
         node.obj.held().emit_at(self, Place::Callee);
         self.chain_mark(optional, &node.prop);
@@ -130,8 +130,8 @@ impl<W: WriteJs, S: SourceMapper, C: Comments> Emitter<'_, W, S, C> {
     /// Writes `?.` or `.` before a property, or nothing before brackets.
     #[tactic(auto, unfolding(crate::specs::Exprs::chain_mark))]
     fn chain_mark<N>(&mut self, optional: bool, prop: &MemberProp<N>)
-        ensures items { Makes (chain_mark optional prop.now) (standing_of S.lines W.sheet self.old) (standing_of S.lines W.sheet self.new) }
-        ensures level { Stays (standing_of S.lines W.sheet self.old) (standing_of S.lines W.sheet self.new) }
+        ensures items { Makes (chain_mark optional prop.now) (standing_of S.lines C.maps W.sheet self.old) (standing_of S.lines C.maps W.sheet self.new) }
+        ensures level { Stays (standing_of S.lines C.maps W.sheet self.old) (standing_of S.lines C.maps W.sheet self.new) }
     {
         match (optional, prop) {
             (true, _) => self.punct(Punctuator::QuestionDot),
@@ -143,8 +143,8 @@ impl<W: WriteJs, S: SourceMapper, C: Comments> Emitter<'_, W, S, C> {
     /// Writes a property of an optional chain.
     #[tactic(auto, unfolding(crate::specs::Exprs::chain_prop))]
     fn chain_prop<N: Held>(&mut self, prop: &MemberProp<N>)
-        ensures items { Makes (chain_prop N.items prop.now) (standing_of S.lines W.sheet self.old) (standing_of S.lines W.sheet self.new) }
-        ensures level { Stays (standing_of S.lines W.sheet self.old) (standing_of S.lines W.sheet self.new) }
+        ensures items { Makes (chain_prop N.items prop.now) (standing_of S.lines C.maps W.sheet self.old) (standing_of S.lines C.maps W.sheet self.new) }
+        ensures level { Stays (standing_of S.lines C.maps W.sheet self.old) (standing_of S.lines C.maps W.sheet self.new) }
     {
         match prop {
             MemberProp::Ident(name) => name.emit_at(self, Place::Plain),

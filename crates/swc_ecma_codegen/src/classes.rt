@@ -356,8 +356,8 @@ impl<W: WriteJs, S: SourceMapper, C: Comments> Emitter<'_, W, S, C> {
     /// Writes `extends A { b; }`. swc's `emit_class_trailing`.
     #[tactic(auto, unfolding(crate::specs::Classes::class_tail, crate::specs::Classes::class_trailing))]
     fn class_trailing<N: Held>(&mut self, node: &Class<N>)
-        ensures items { Makes (class_tail N.answers N.items node.now) (standing_of S.lines W.sheet self.old) (standing_of S.lines W.sheet self.new) }
-        ensures level { Stays (standing_of S.lines W.sheet self.old) (standing_of S.lines W.sheet self.new) }
+        ensures items { Makes (class_tail N.answers N.items node.now) (standing_of S.lines C.maps W.sheet self.old) (standing_of S.lines C.maps W.sheet self.new) }
+        ensures level { Stays (standing_of S.lines C.maps W.sheet self.old) (standing_of S.lines C.maps W.sheet self.new) }
     {
         if is_typed_class(node) {
             return self.unsupported();
@@ -373,8 +373,8 @@ impl<W: WriteJs, S: SourceMapper, C: Comments> Emitter<'_, W, S, C> {
     /// Writes `extends A`, where it is so.
     #[tactic(auto, unfolding(crate::specs::Classes::heritage))]
     fn heritage<N: Held>(&mut self, super_class: &Option<ExprBox<N>>)
-        ensures items { Makes (heritage N.answers N.items super_class.now) (standing_of S.lines W.sheet self.old) (standing_of S.lines W.sheet self.new) }
-        ensures level { Stays (standing_of S.lines W.sheet self.old) (standing_of S.lines W.sheet self.new) }
+        ensures items { Makes (heritage N.answers N.items super_class.now) (standing_of S.lines C.maps W.sheet self.old) (standing_of S.lines C.maps W.sheet self.new) }
+        ensures level { Stays (standing_of S.lines C.maps W.sheet self.old) (standing_of S.lines C.maps W.sheet self.new) }
     {
         match super_class {
             Some(super_class) => {
@@ -389,16 +389,16 @@ impl<W: WriteJs, S: SourceMapper, C: Comments> Emitter<'_, W, S, C> {
 
     /// Writes the members of a class.
     fn member_list<N: Held>(&mut self, node: &Class<N>)
-        ensures items { Makes (member_list N.answers N.items node.now) (standing_of S.lines W.sheet self.old) (standing_of S.lines W.sheet self.new) }
-        ensures level { Stays (standing_of S.lines W.sheet self.old) (standing_of S.lines W.sheet self.new) }
+        ensures items { Makes (member_list N.answers N.items node.now) (standing_of S.lines C.maps W.sheet self.old) (standing_of S.lines C.maps W.sheet self.new) }
+        ensures level { Stays (standing_of S.lines C.maps W.sheet self.old) (standing_of S.lines C.maps W.sheet self.new) }
     {
         self.list(class_members_format(), node.span, &node.body)
     }
 
     /// Writes the parameters of a constructor, with commas between.
     fn constructor_params<N: Held>(&mut self, node: &Constructor<N>)
-        ensures items { Makes (constructor_params N.answers N.items node.now) (standing_of S.lines W.sheet self.old) (standing_of S.lines W.sheet self.new) }
-        ensures level { Stays (standing_of S.lines W.sheet self.old) (standing_of S.lines W.sheet self.new) }
+        ensures items { Makes (constructor_params N.answers N.items node.now) (standing_of S.lines C.maps W.sheet self.old) (standing_of S.lines C.maps W.sheet self.new) }
+        ensures level { Stays (standing_of S.lines C.maps W.sheet self.old) (standing_of S.lines C.maps W.sheet self.new) }
     {
         self.list(comma_list_format(), node.span, &node.params)
     }
@@ -406,8 +406,8 @@ impl<W: WriteJs, S: SourceMapper, C: Comments> Emitter<'_, W, S, C> {
     /// Writes `constructor`.
     #[tactic(auto, unfolding(crate::specs::Classes::constructor_word))]
     fn constructor_word(&mut self)
-        ensures items { Makes constructor_word (standing_of S.lines W.sheet self.old) (standing_of S.lines W.sheet self.new) }
-        ensures level { Stays (standing_of S.lines W.sheet self.old) (standing_of S.lines W.sheet self.new) }
+        ensures items { Makes constructor_word (standing_of S.lines C.maps W.sheet self.old) (standing_of S.lines C.maps W.sheet self.new) }
+        ensures level { Stays (standing_of S.lines C.maps W.sheet self.old) (standing_of S.lines C.maps W.sheet self.new) }
     {
         self.keyword(None, "constructor")
     }
@@ -415,8 +415,8 @@ impl<W: WriteJs, S: SourceMapper, C: Comments> Emitter<'_, W, S, C> {
     /// Writes `(a){ b; }` of a constructor.
     #[tactic(auto, unfolding(crate::specs::Classes::constructor_tail))]
     fn constructor_tail<N: Held>(&mut self, node: &Constructor<N>)
-        ensures items { Makes (constructor_tail N.answers N.items node.now) (standing_of S.lines W.sheet self.old) (standing_of S.lines W.sheet self.new) }
-        ensures level { Stays (standing_of S.lines W.sheet self.old) (standing_of S.lines W.sheet self.new) }
+        ensures items { Makes (constructor_tail N.answers N.items node.now) (standing_of S.lines C.maps W.sheet self.old) (standing_of S.lines C.maps W.sheet self.new) }
+        ensures level { Stays (standing_of S.lines C.maps W.sheet self.old) (standing_of S.lines C.maps W.sheet self.new) }
     {
         self.punct(Punctuator::LeftParenthesis);
         self.constructor_params(node);
@@ -426,8 +426,8 @@ impl<W: WriteJs, S: SourceMapper, C: Comments> Emitter<'_, W, S, C> {
 
     /// Writes the decorators of a field with `accessor`.
     fn accessor_decorators<N: Held>(&mut self, node: &AutoAccessor<N>)
-        ensures items { Makes (accessor_decorators N.items node.now) (standing_of S.lines W.sheet self.old) (standing_of S.lines W.sheet self.new) }
-        ensures level { Stays (standing_of S.lines W.sheet self.old) (standing_of S.lines W.sheet self.new) }
+        ensures items { Makes (accessor_decorators N.items node.now) (standing_of S.lines C.maps W.sheet self.old) (standing_of S.lines C.maps W.sheet self.new) }
+        ensures level { Stays (standing_of S.lines C.maps W.sheet self.old) (standing_of S.lines C.maps W.sheet self.new) }
     {
         self.list(decorators_format(), node.span, &node.decorators)
     }
@@ -435,8 +435,8 @@ impl<W: WriteJs, S: SourceMapper, C: Comments> Emitter<'_, W, S, C> {
     /// Writes `b = c;` of a field with `accessor`.
     #[tactic(auto, unfolding(crate::specs::Classes::accessor_tail))]
     fn accessor_tail<N: Held>(&mut self, node: &AutoAccessor<N>)
-        ensures items { Makes (accessor_tail N.items node.now) (standing_of S.lines W.sheet self.old) (standing_of S.lines W.sheet self.new) }
-        ensures level { Stays (standing_of S.lines W.sheet self.old) (standing_of S.lines W.sheet self.new) }
+        ensures items { Makes (accessor_tail N.items node.now) (standing_of S.lines C.maps W.sheet self.old) (standing_of S.lines C.maps W.sheet self.new) }
+        ensures level { Stays (standing_of S.lines C.maps W.sheet self.old) (standing_of S.lines C.maps W.sheet self.new) }
     {
         node.key.emit_at(self, Place::Plain);
         self.initializer(&node.value);
@@ -445,8 +445,8 @@ impl<W: WriteJs, S: SourceMapper, C: Comments> Emitter<'_, W, S, C> {
 
     /// Writes the decorators of a private field.
     fn private_decorators<N: Held>(&mut self, node: &PrivateProp<N>)
-        ensures items { Makes (private_decorators N.items node.now) (standing_of S.lines W.sheet self.old) (standing_of S.lines W.sheet self.new) }
-        ensures level { Stays (standing_of S.lines W.sheet self.old) (standing_of S.lines W.sheet self.new) }
+        ensures items { Makes (private_decorators N.items node.now) (standing_of S.lines C.maps W.sheet self.old) (standing_of S.lines C.maps W.sheet self.new) }
+        ensures level { Stays (standing_of S.lines C.maps W.sheet self.old) (standing_of S.lines C.maps W.sheet self.new) }
     {
         self.list(decorators_format(), node.span, &node.decorators)
     }
@@ -454,8 +454,8 @@ impl<W: WriteJs, S: SourceMapper, C: Comments> Emitter<'_, W, S, C> {
     /// Writes `#b = c;`
     #[tactic(auto, unfolding(crate::specs::Classes::private_prop_tail))]
     fn private_prop_tail<N: Held>(&mut self, node: &PrivateProp<N>)
-        ensures items { Makes (private_prop_tail N.answers N.items node.now) (standing_of S.lines W.sheet self.old) (standing_of S.lines W.sheet self.new) }
-        ensures level { Stays (standing_of S.lines W.sheet self.old) (standing_of S.lines W.sheet self.new) }
+        ensures items { Makes (private_prop_tail N.answers N.items node.now) (standing_of S.lines C.maps W.sheet self.old) (standing_of S.lines C.maps W.sheet self.new) }
+        ensures level { Stays (standing_of S.lines C.maps W.sheet self.old) (standing_of S.lines C.maps W.sheet self.new) }
     {
         node.key.emit_at(self, Place::Plain);
         self.prop_value(&node.value);
@@ -466,8 +466,8 @@ impl<W: WriteJs, S: SourceMapper, C: Comments> Emitter<'_, W, S, C> {
     /// Writes `;` as a member.
     #[tactic(auto, unfolding(crate::specs::Classes::empty_member))]
     fn empty_member(&mut self, node: &EmptyStmt)
-        ensures items { Makes (empty_member node.now) (standing_of S.lines W.sheet self.old) (standing_of S.lines W.sheet self.new) }
-        ensures level { Stays (standing_of S.lines W.sheet self.old) (standing_of S.lines W.sheet self.new) }
+        ensures items { Makes (empty_member node.now) (standing_of S.lines C.maps W.sheet self.old) (standing_of S.lines C.maps W.sheet self.new) }
+        ensures level { Stays (standing_of S.lines C.maps W.sheet self.old) (standing_of S.lines C.maps W.sheet self.new) }
     {
         self.leading_comments(node.span.lo);
         self.punct(Punctuator::Semicolon);
@@ -476,8 +476,8 @@ impl<W: WriteJs, S: SourceMapper, C: Comments> Emitter<'_, W, S, C> {
     /// Writes `static` and a blank, where it is so.
     #[tactic(auto, unfolding(crate::specs::Classes::static_word))]
     fn static_word(&mut self, wanted: bool)
-        ensures items { Makes (static_word wanted) (standing_of S.lines W.sheet self.old) (standing_of S.lines W.sheet self.new) }
-        ensures level { Stays (standing_of S.lines W.sheet self.old) (standing_of S.lines W.sheet self.new) }
+        ensures items { Makes (static_word wanted) (standing_of S.lines C.maps W.sheet self.old) (standing_of S.lines C.maps W.sheet self.new) }
+        ensures level { Stays (standing_of S.lines C.maps W.sheet self.old) (standing_of S.lines C.maps W.sheet self.new) }
     {
         if wanted {
             self.keyword(None, "static");
@@ -488,8 +488,8 @@ impl<W: WriteJs, S: SourceMapper, C: Comments> Emitter<'_, W, S, C> {
     /// Writes `get` and the blank after it.
     #[tactic(auto, unfolding(crate::specs::Classes::accessor_word))]
     fn getter_word(&mut self, starts: bool)
-        ensures items { Makes (accessor_word (codes "get") starts) (standing_of S.lines W.sheet self.old) (standing_of S.lines W.sheet self.new) }
-        ensures level { Stays (standing_of S.lines W.sheet self.old) (standing_of S.lines W.sheet self.new) }
+        ensures items { Makes (accessor_word (codes "get") starts) (standing_of S.lines C.maps W.sheet self.old) (standing_of S.lines C.maps W.sheet self.new) }
+        ensures level { Stays (standing_of S.lines C.maps W.sheet self.old) (standing_of S.lines C.maps W.sheet self.new) }
     {
         self.keyword(None, "get");
         self.blank(starts);
@@ -498,8 +498,8 @@ impl<W: WriteJs, S: SourceMapper, C: Comments> Emitter<'_, W, S, C> {
     /// Writes `set` and the blank after it.
     #[tactic(auto, unfolding(crate::specs::Classes::accessor_word))]
     fn setter_word(&mut self, starts: bool)
-        ensures items { Makes (accessor_word (codes "set") starts) (standing_of S.lines W.sheet self.old) (standing_of S.lines W.sheet self.new) }
-        ensures level { Stays (standing_of S.lines W.sheet self.old) (standing_of S.lines W.sheet self.new) }
+        ensures items { Makes (accessor_word (codes "set") starts) (standing_of S.lines C.maps W.sheet self.old) (standing_of S.lines C.maps W.sheet self.new) }
+        ensures level { Stays (standing_of S.lines C.maps W.sheet self.old) (standing_of S.lines C.maps W.sheet self.new) }
     {
         self.keyword(None, "set");
         self.blank(starts);
@@ -508,8 +508,8 @@ impl<W: WriteJs, S: SourceMapper, C: Comments> Emitter<'_, W, S, C> {
     /// Writes `async *` of a method, behind `static` where it is so.
     #[tactic(auto, unfolding(crate::specs::Classes::method_word))]
     fn method_word<N: Held>(&mut self, node: &ClassMethod<N>)
-        ensures items { Makes (method_word N.answers N.items node.now) (standing_of S.lines W.sheet self.old) (standing_of S.lines W.sheet self.new) }
-        ensures level { Stays (standing_of S.lines W.sheet self.old) (standing_of S.lines W.sheet self.new) }
+        ensures items { Makes (method_word N.answers N.items node.now) (standing_of S.lines C.maps W.sheet self.old) (standing_of S.lines C.maps W.sheet self.new) }
+        ensures level { Stays (standing_of S.lines C.maps W.sheet self.old) (standing_of S.lines C.maps W.sheet self.new) }
     {
         if !node.is_static {
             return node.function.held().emit_at(self, Place::MethodHead);
@@ -524,8 +524,8 @@ impl<W: WriteJs, S: SourceMapper, C: Comments> Emitter<'_, W, S, C> {
     /// Writes what stands between the decorators of a method and its key.
     #[tactic(auto, unfolding(crate::specs::Classes::method_kind))]
     fn method_kind<N: Held>(&mut self, node: &ClassMethod<N>)
-        ensures items { Makes (method_kind N.answers N.items node.now.kind node.now) (standing_of S.lines W.sheet self.old) (standing_of S.lines W.sheet self.new) }
-        ensures level { Stays (standing_of S.lines W.sheet self.old) (standing_of S.lines W.sheet self.new) }
+        ensures items { Makes (method_kind N.answers N.items node.now.kind node.now) (standing_of S.lines C.maps W.sheet self.old) (standing_of S.lines C.maps W.sheet self.new) }
+        ensures level { Stays (standing_of S.lines C.maps W.sheet self.old) (standing_of S.lines C.maps W.sheet self.new) }
     {
         match node.kind {
             MethodKind::Method => self.method_word(node),
@@ -543,8 +543,8 @@ impl<W: WriteJs, S: SourceMapper, C: Comments> Emitter<'_, W, S, C> {
     /// Writes what stands between `static` of a private method and its name.
     #[tactic(auto, unfolding(crate::specs::Classes::private_kind))]
     fn private_kind<N: Held>(&mut self, node: &PrivateMethod<N>)
-        ensures items { Makes (private_kind N.items node.now.kind node.now) (standing_of S.lines W.sheet self.old) (standing_of S.lines W.sheet self.new) }
-        ensures level { Stays (standing_of S.lines W.sheet self.old) (standing_of S.lines W.sheet self.new) }
+        ensures items { Makes (private_kind N.items node.now.kind node.now) (standing_of S.lines C.maps W.sheet self.old) (standing_of S.lines C.maps W.sheet self.new) }
+        ensures level { Stays (standing_of S.lines C.maps W.sheet self.old) (standing_of S.lines C.maps W.sheet self.new) }
     {
         match node.kind {
             MethodKind::Method => node.function.held().emit_at(self, Place::MethodHead),
@@ -556,8 +556,8 @@ impl<W: WriteJs, S: SourceMapper, C: Comments> Emitter<'_, W, S, C> {
     /// Writes the value of a field, with parentheses round a sequence.
     #[tactic(auto, unfolding(crate::specs::Classes::wrapped))]
     fn wrapped<N: Held>(&mut self, value: &ExprBox<N>)
-        ensures items { Makes (wrapped N.answers N.items value.now) (standing_of S.lines W.sheet self.old) (standing_of S.lines W.sheet self.new) }
-        ensures level { Stays (standing_of S.lines W.sheet self.old) (standing_of S.lines W.sheet self.new) }
+        ensures items { Makes (wrapped N.answers N.items value.now) (standing_of S.lines C.maps W.sheet self.old) (standing_of S.lines C.maps W.sheet self.new) }
+        ensures level { Stays (standing_of S.lines C.maps W.sheet self.old) (standing_of S.lines C.maps W.sheet self.new) }
     {
         if !value.held().block() {
             return value.held().emit_at(self, Place::Plain);
@@ -570,8 +570,8 @@ impl<W: WriteJs, S: SourceMapper, C: Comments> Emitter<'_, W, S, C> {
     /// Writes `= a` of a field, where it is so.
     #[tactic(auto, unfolding(crate::specs::Classes::prop_value))]
     fn prop_value<N: Held>(&mut self, value: &Option<ExprBox<N>>)
-        ensures items { Makes (prop_value N.answers N.items value.now) (standing_of S.lines W.sheet self.old) (standing_of S.lines W.sheet self.new) }
-        ensures level { Stays (standing_of S.lines W.sheet self.old) (standing_of S.lines W.sheet self.new) }
+        ensures items { Makes (prop_value N.answers N.items value.now) (standing_of S.lines C.maps W.sheet self.old) (standing_of S.lines C.maps W.sheet self.new) }
+        ensures level { Stays (standing_of S.lines C.maps W.sheet self.old) (standing_of S.lines C.maps W.sheet self.new) }
     {
         match value {
             Some(value) => {
@@ -587,8 +587,8 @@ impl<W: WriteJs, S: SourceMapper, C: Comments> Emitter<'_, W, S, C> {
     /// Writes the body of a constructor, without a blank before it, or a semicolon.
     #[tactic(auto, unfolding(crate::specs::Classes::constructor_body))]
     fn constructor_body<N: Held>(&mut self, body: &Option<BlockStmtBox<N>>)
-        ensures items { Makes (constructor_body N.items body.now) (standing_of S.lines W.sheet self.old) (standing_of S.lines W.sheet self.new) }
-        ensures level { Stays (standing_of S.lines W.sheet self.old) (standing_of S.lines W.sheet self.new) }
+        ensures items { Makes (constructor_body N.items body.now) (standing_of S.lines C.maps W.sheet self.old) (standing_of S.lines C.maps W.sheet self.new) }
+        ensures level { Stays (standing_of S.lines C.maps W.sheet self.old) (standing_of S.lines C.maps W.sheet self.new) }
     {
         match body {
             Some(body) => body.held().emit_at(self, Place::Plain),

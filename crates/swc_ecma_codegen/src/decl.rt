@@ -156,8 +156,8 @@ impl<N: Held> Child for VarDeclarator<N> {
 impl<W: WriteJs, S: SourceMapper, C: Comments> Emitter<'_, W, S, C> {
     /// Writes declarators, with commas between.
     fn declarators<N: Held>(&mut self, span: Span, nodes: &Vec<VarDeclarator<N>>)
-        ensures items { Makes (declarators N.answers N.items span nodes.now.items) (standing_of S.lines W.sheet self.old) (standing_of S.lines W.sheet self.new) }
-        ensures level { Stays (standing_of S.lines W.sheet self.old) (standing_of S.lines W.sheet self.new) }
+        ensures items { Makes (declarators N.answers N.items span nodes.now.items) (standing_of S.lines C.maps W.sheet self.old) (standing_of S.lines C.maps W.sheet self.new) }
+        ensures level { Stays (standing_of S.lines C.maps W.sheet self.old) (standing_of S.lines C.maps W.sheet self.new) }
     {
         self.list(declarators_format(), span, nodes)
     }
@@ -165,8 +165,8 @@ impl<W: WriteJs, S: SourceMapper, C: Comments> Emitter<'_, W, S, C> {
     /// Writes `var`, `let` or `const`.
     #[tactic(auto, unfolding(crate::specs::Decls::var_kind))]
     fn var_kind(&mut self, kind: VarDeclKind)
-        ensures items { Makes (var_kind kind) (standing_of S.lines W.sheet self.old) (standing_of S.lines W.sheet self.new) }
-        ensures level { Stays (standing_of S.lines W.sheet self.old) (standing_of S.lines W.sheet self.new) }
+        ensures items { Makes (var_kind kind) (standing_of S.lines C.maps W.sheet self.old) (standing_of S.lines C.maps W.sheet self.new) }
+        ensures level { Stays (standing_of S.lines C.maps W.sheet self.old) (standing_of S.lines C.maps W.sheet self.new) }
     {
         match kind {
             VarDeclKind::Var => self.keyword(None, "var"),
@@ -178,8 +178,8 @@ impl<W: WriteJs, S: SourceMapper, C: Comments> Emitter<'_, W, S, C> {
     /// Writes `await` and a blank, where it is so.
     #[tactic(auto, unfolding(crate::specs::Decls::await_word))]
     fn await_word(&mut self, wanted: bool)
-        ensures items { Makes (await_word wanted) (standing_of S.lines W.sheet self.old) (standing_of S.lines W.sheet self.new) }
-        ensures level { Stays (standing_of S.lines W.sheet self.old) (standing_of S.lines W.sheet self.new) }
+        ensures items { Makes (await_word wanted) (standing_of S.lines C.maps W.sheet self.old) (standing_of S.lines C.maps W.sheet self.new) }
+        ensures level { Stays (standing_of S.lines C.maps W.sheet self.old) (standing_of S.lines C.maps W.sheet self.new) }
     {
         if wanted {
             self.keyword(None, "await");
@@ -190,8 +190,8 @@ impl<W: WriteJs, S: SourceMapper, C: Comments> Emitter<'_, W, S, C> {
     /// Writes a class, or what of it stands before or after `export`.
     #[tactic(auto, unfolding(crate::specs::Decls::by_export))]
     fn class_by_place<N: Held>(&mut self, node: &ClassDecl<N>, place: Place)
-        ensures items { Makes (by_export place (N.items node.now.class.node.value ClassHead) (exported_class N.answers N.items node.now) (class_decl N.answers N.items node.now)) (standing_of S.lines W.sheet self.old) (standing_of S.lines W.sheet self.new) }
-        ensures level { Stays (standing_of S.lines W.sheet self.old) (standing_of S.lines W.sheet self.new) }
+        ensures items { Makes (by_export place (N.items node.now.class.node.value ClassHead) (exported_class N.answers N.items node.now) (class_decl N.answers N.items node.now)) (standing_of S.lines C.maps W.sheet self.old) (standing_of S.lines C.maps W.sheet self.new) }
+        ensures level { Stays (standing_of S.lines C.maps W.sheet self.old) (standing_of S.lines C.maps W.sheet self.new) }
     {
         match place {
             Place::ExportedHead => node.class.held().emit_at(self, Place::ClassHead),
@@ -203,8 +203,8 @@ impl<W: WriteJs, S: SourceMapper, C: Comments> Emitter<'_, W, S, C> {
     /// Writes what of a class stands after `export`.
     #[tactic(auto, unfolding(crate::specs::Decls::exported_class, crate::specs::Decls::exported_class_parts))]
     fn exported_class<N: Held>(&mut self, node: &ClassDecl<N>)
-        ensures items { Makes (exported_class N.answers N.items node.now) (standing_of S.lines W.sheet self.old) (standing_of S.lines W.sheet self.new) }
-        ensures level { Stays (standing_of S.lines W.sheet self.old) (standing_of S.lines W.sheet self.new) }
+        ensures items { Makes (exported_class N.answers N.items node.now) (standing_of S.lines C.maps W.sheet self.old) (standing_of S.lines C.maps W.sheet self.new) }
+        ensures level { Stays (standing_of S.lines C.maps W.sheet self.old) (standing_of S.lines C.maps W.sheet self.new) }
     {
         if node.declare {
             return self.unsupported();
@@ -221,8 +221,8 @@ impl<W: WriteJs, S: SourceMapper, C: Comments> Emitter<'_, W, S, C> {
     /// Writes a function, before `export` nothing.
     #[tactic(auto, unfolding(crate::specs::Decls::without_head, crate::specs::Decls::by_export))]
     fn fn_by_place<N: Held>(&mut self, node: &FnDecl<N>, place: Place)
-        ensures items { Makes (without_head place (fn_decl N.answers N.items node.now)) (standing_of S.lines W.sheet self.old) (standing_of S.lines W.sheet self.new) }
-        ensures level { Stays (standing_of S.lines W.sheet self.old) (standing_of S.lines W.sheet self.new) }
+        ensures items { Makes (without_head place (fn_decl N.answers N.items node.now)) (standing_of S.lines C.maps W.sheet self.old) (standing_of S.lines C.maps W.sheet self.new) }
+        ensures level { Stays (standing_of S.lines C.maps W.sheet self.old) (standing_of S.lines C.maps W.sheet self.new) }
     {
         match place {
             Place::ExportedHead => {}
@@ -233,8 +233,8 @@ impl<W: WriteJs, S: SourceMapper, C: Comments> Emitter<'_, W, S, C> {
     /// Writes variables, before `export` nothing.
     #[tactic(auto, unfolding(crate::specs::Decls::without_head, crate::specs::Decls::by_export, crate::specs::Decls::variables))]
     fn var_by_place<N: Held>(&mut self, node: &VarDecl<N>, place: Place)
-        ensures items { Makes (without_head place (variables N.answers N.items node.now place)) (standing_of S.lines W.sheet self.old) (standing_of S.lines W.sheet self.new) }
-        ensures level { Stays (standing_of S.lines W.sheet self.old) (standing_of S.lines W.sheet self.new) }
+        ensures items { Makes (without_head place (variables N.answers N.items node.now place)) (standing_of S.lines C.maps W.sheet self.old) (standing_of S.lines C.maps W.sheet self.new) }
+        ensures level { Stays (standing_of S.lines C.maps W.sheet self.old) (standing_of S.lines C.maps W.sheet self.new) }
     {
         match place {
             Place::ExportedHead => {}
@@ -249,8 +249,8 @@ impl<W: WriteJs, S: SourceMapper, C: Comments> Emitter<'_, W, S, C> {
     /// Writes resources, before `export` nothing.
     #[tactic(auto, unfolding(crate::specs::Decls::without_head, crate::specs::Decls::by_export, crate::specs::Decls::resources))]
     fn using_by_place<N: Held>(&mut self, node: &UsingDecl<N>, place: Place)
-        ensures items { Makes (without_head place (resources N.answers N.items node.now)) (standing_of S.lines W.sheet self.old) (standing_of S.lines W.sheet self.new) }
-        ensures level { Stays (standing_of S.lines W.sheet self.old) (standing_of S.lines W.sheet self.new) }
+        ensures items { Makes (without_head place (resources N.answers N.items node.now)) (standing_of S.lines C.maps W.sheet self.old) (standing_of S.lines C.maps W.sheet self.new) }
+        ensures level { Stays (standing_of S.lines C.maps W.sheet self.old) (standing_of S.lines C.maps W.sheet self.new) }
     {
         match place {
             Place::ExportedHead => {}
@@ -264,8 +264,8 @@ impl<W: WriteJs, S: SourceMapper, C: Comments> Emitter<'_, W, S, C> {
     /// Refuses a declaration, before `export` it writes nothing.
     #[tactic(auto, unfolding(crate::specs::Decls::without_head, crate::specs::Decls::by_export))]
     fn unsupported_by_place(&mut self, place: Place)
-        ensures items { Makes (without_head place unsupported) (standing_of S.lines W.sheet self.old) (standing_of S.lines W.sheet self.new) }
-        ensures level { Stays (standing_of S.lines W.sheet self.old) (standing_of S.lines W.sheet self.new) }
+        ensures items { Makes (without_head place unsupported) (standing_of S.lines C.maps W.sheet self.old) (standing_of S.lines C.maps W.sheet self.new) }
+        ensures level { Stays (standing_of S.lines C.maps W.sheet self.old) (standing_of S.lines C.maps W.sheet self.new) }
     {
         match place {
             Place::ExportedHead => {}
@@ -276,8 +276,8 @@ impl<W: WriteJs, S: SourceMapper, C: Comments> Emitter<'_, W, S, C> {
     /// Records the end of a declaration of variables, unless it is a statement.
     #[tactic(auto, unfolding(crate::specs::Decls::decl_end))]
     fn decl_end(&mut self, place: Place, span: Span)
-        ensures items { Makes (decl_end place span) (standing_of S.lines W.sheet self.old) (standing_of S.lines W.sheet self.new) }
-        ensures level { Stays (standing_of S.lines W.sheet self.old) (standing_of S.lines W.sheet self.new) }
+        ensures items { Makes (decl_end place span) (standing_of S.lines C.maps W.sheet self.old) (standing_of S.lines C.maps W.sheet self.new) }
+        ensures level { Stays (standing_of S.lines C.maps W.sheet self.old) (standing_of S.lines C.maps W.sheet self.new) }
     {
         match place {
             Place::Statement => {}

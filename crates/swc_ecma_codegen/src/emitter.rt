@@ -3,7 +3,7 @@
 ghost use Rattle.std.specs.Prelude.{◌≡◌, ◌≢◌, false, true, IsTrue, is_none, IfErr, OnErr, OnOk, Err, IsOk};
 ghost use Rattle.swc_ecma_codegen_common.specs.Refusals.{in_short, reason_of};
 ghost use Rattle.swc_ecma_codegen_text_writer.specs.Told.{IsFront};
-ghost use Rattle.swc_ecma_codegen_base.specs.Run.{Follows, HasCause, IsUnhindered, nothing, printed, makes_text, steps_in, steps_of, start};
+ghost use Rattle.swc_ecma_codegen_base.specs.Run.{Follows, HasCause, IsUnhindered, maps_after, nothing, printed, makes_text, spoken, steps_in, steps_of, start, taken_in};
 
 use crate::nodes::{EmitAt, Place};
 use std::alloc::Global;
@@ -16,8 +16,6 @@ use swc_ecma_codegen_tree::{Module, ModuleExportName, ModuleItem, Program, Scrip
 use swc_ecma_codegen_util::config::Config;
 
 /// Prints nodes to a writer. Once a call was refused, each further call that gives a `Result` answers `Failed`.
-///
-/// Until they are supported, `comments` is `None`.
 #[derive(Drop)]
 pub struct Emitter<'a, W, S, C> {
     /// The settings.
@@ -31,11 +29,12 @@ pub struct Emitter<'a, W, S, C> {
     pub(crate) lower: LowerEmitter,
     /// Why a call was refused since the last call of a caller began, if one was: the calls after it do nothing.
     pub(crate) refusal: Option<Refusal>,
-    ghost no_comments: { IsTrue (is_none comments) },
 }
 
 impl<'a, W: WriteJs, S: SourceMapper, C: Comments> Emitter<'a, W, S, C> {
     ghost use Rattle.swc_ecma_codegen.specs.View.{state_of};
+    ghost use Rattle.swc_ecma_codegen_ast.specs.Comments.{maps_in, AreClosed, texts_of};
+    ghost use Rattle.swc_ecma_codegen.specs.Left.{NoneBeforeItems, NoneBeforeBody};
     ghost use Rattle.swc_ecma_codegen.specs.Standing.{outcome};
     ghost use Rattle.swc_ecma_codegen.specs.Tree.{any_items};
     ghost use Rattle.swc_ecma_codegen.specs.Answers.{any_answers};
@@ -47,16 +46,15 @@ impl<'a, W: WriteJs, S: SourceMapper, C: Comments> Emitter<'a, W, S, C> {
     ghost use Rattle.swc_ecma_codegen_ast.specs.StmtPhrases.{module_item as item_phrase};
     ghost use Rattle.swc_ecma_codegen_ast.specs.Phrases.{is_possible, names_in};
     ghost use Rattle.swc_ecma_codegen_text_writer.specs.Recorded.{RecordsTruly};
-    ghost use Rattle.swc_ecma_codegen_base.specs.Named.{RecordsNames};
+    ghost use Rattle.swc_ecma_codegen_base.specs.Named.{RecordsNames, PlacesNames};
     ghost use Rattle.swc_ecma_codegen_base.specs.Ascii.{keeps_other, AddsAscii, WantsAscii};
     ghost use Rattle.swc_ecma_codegen_base.specs.Scripts.{value_strings, AddsSafe};
-    ghost use Rattle.swc_ecma_codegen_base.specs.Written.{IsNew, AddsReading};
+    ghost use Rattle.swc_ecma_codegen_base.specs.Written.{IsNew, AddsReading, taken_remarks};
     ghost use Rattle.swc_ecma_codegen_base.specs.Ready.{IsPlainTree, IsReady};
 
     /// An emitter that has written nothing. Takes no memory.
     pub fn new(alloc: Global, cfg: Config, cm: &'a S, comments: Option<C>, wr: W) -> Self
-        requires comments { IsTrue (is_none comments) }
-        ensures state { state_of S.lines W.sheet result ≡ start (S.lines cm.now) cfg (W.sheet wr) }
+        ensures state { state_of S.lines C.maps W.sheet result ≡ start (S.lines cm.now) (maps_in C.maps comments) cfg (W.sheet wr) }
         ensures wr { result.wr ≡ wr }
     {
         Emitter {
@@ -73,15 +71,15 @@ impl<'a, W: WriteJs, S: SourceMapper, C: Comments> Emitter<'a, W, S, C> {
     #[tactic(auto, using(swc_ecma_codegen_base::proofs::Emitting::emits_nothing, swc_ecma_codegen_base::proofs::Fronts::follows_failed, swc_ecma_codegen_base::proofs::Fronts::follows_front, swc_ecma_codegen_base::proofs::Fronts::follows_marked, swc_ecma_codegen_base::proofs::Fronts::follows_cause, swc_ecma_codegen_base::proofs::Fronts::follows_succeeds))]
     pub(crate) fn emit<T: EmitAt>(&mut self, node: &T) -> Result
         // The steps of the tree are made, and it comes to no node that can't be printed; or it halts.
-        ensures items { Follows (T.items node.now Plain nothing) (state_of S.lines W.sheet self.old) (state_of S.lines W.sheet self.new) (in_short result) }
+        ensures items { Follows (T.items node.now Plain nothing) (state_of S.lines C.maps W.sheet self.old) (state_of S.lines C.maps W.sheet self.new) (in_short result) }
         // What is out is a beginning of the text of these steps.
-        ensures front { IsFront (W.sheet self.new.wr).text (printed (T.items node.now Plain) (state_of S.lines W.sheet self.old)).sheet.text }
+        ensures front { IsFront (W.sheet self.new.wr).text (printed (T.items node.now Plain) (state_of S.lines C.maps W.sheet self.old)).sheet.text }
         // It is refused only for the cause that the error names.
-        ensures cause { IfErr result (λ error. HasCause (steps_in (T.items node.now Plain) (state_of S.lines W.sheet self.old)) (reason_of error) (state_of S.lines W.sheet self.old) (state_of S.lines W.sheet self.new)) }
+        ensures cause { IfErr result (λ error. HasCause (steps_in (T.items node.now Plain) (state_of S.lines C.maps W.sheet self.old)) (reason_of error) (state_of S.lines C.maps W.sheet self.old) (state_of S.lines C.maps W.sheet self.new)) }
         // Where nothing stands in its way, it is made.
-        ensures succeeds { IsUnhindered (steps_in (T.items node.now Plain) (state_of S.lines W.sheet self.old)) (state_of S.lines W.sheet self.old) (state_of S.lines W.sheet self.new) → IsOk result }
-        ensures marked { OnErr result ((state_of S.lines W.sheet self.new).failed ≡ true) }
-        ensures failed { (state_of S.lines W.sheet self.old).failed ≡ true → result ≡ Err Error.Failed }
+        ensures succeeds { IsUnhindered (steps_in (T.items node.now Plain) (state_of S.lines C.maps W.sheet self.old)) (state_of S.lines C.maps W.sheet self.old) (state_of S.lines C.maps W.sheet self.new) → IsOk result }
+        ensures marked { OnErr result ((state_of S.lines C.maps W.sheet self.new).failed ≡ true) }
+        ensures failed { (state_of S.lines C.maps W.sheet self.old).failed ≡ true → result ≡ Err Error.Failed }
         // The indentation is what it was.
         ensures level { OnOk result ((W.sheet self.new.wr).indentation ≡ (W.sheet self.old.wr).indentation) }
     {
@@ -97,7 +95,7 @@ impl<'a, W: WriteJs, S: SourceMapper, C: Comments> Emitter<'a, W, S, C> {
     #[tactic(auto, unfolding(crate::specs::Standing::outcome))]
     fn answer(&mut self) -> Result
         ensures answer { in_short result ≡ outcome self.old.refusal }
-        ensures state { state_of S.lines W.sheet self.new ≡ state_of S.lines W.sheet self.old }
+        ensures state { state_of S.lines C.maps W.sheet self.new ≡ state_of S.lines C.maps W.sheet self.old }
         ensures wr { self.new.wr ≡ self.old.wr }
     {
         match self.refusal {
@@ -107,37 +105,45 @@ impl<'a, W: WriteJs, S: SourceMapper, C: Comments> Emitter<'a, W, S, C> {
     }
 
     /// Prints a program. swc's `emit_program`.
-    #[tactic(auto, using(crate::proofs::TreeReads::program_reads, crate::proofs::TreeReads::steps_recorded, crate::proofs::TreeReads::program_names, crate::proofs::TreeReads::program_ascii, crate::proofs::TreeReads::program_safe, crate::proofs::TreeMade::program_made, swc_ecma_codegen_base::proofs::Made::ready_after, swc_ecma_codegen_base::proofs::Phrased::never_out_of_memory))]
+    #[tactic(auto, using(crate::proofs::TreeReads::program_reads, crate::proofs::TreeReads::steps_recorded, crate::proofs::TreeReads::steps_taken, crate::proofs::TreeReads::program_told, crate::proofs::ItemsTaken::program_leaves, crate::proofs::TreeReads::program_names, crate::proofs::TreeReads::program_places, crate::proofs::TreeReads::program_ascii, crate::proofs::TreeReads::program_safe, crate::proofs::TreeMade::program_made, swc_ecma_codegen_base::proofs::Made::ready_after, swc_ecma_codegen_base::proofs::Phrased::never_out_of_memory))]
     pub fn emit_program(&mut self, node: &Program) -> Result
         // The steps of the tree are made, and it comes to no node that can't be printed; or it halts.
-        ensures items { Follows (program any_answers any_items node.now nothing) (state_of S.lines W.sheet self.old) (state_of S.lines W.sheet self.new) (in_short result) }
+        ensures items { Follows (program any_answers any_items node.now nothing) (state_of S.lines C.maps W.sheet self.old) (state_of S.lines C.maps W.sheet self.new) (in_short result) }
         // What a new emitter adds to the text, of a well-formed tree, reads as one of the tree's token lists; with a hashbang, where
         // no indentation is due before it.
-        ensures reads { is_well_formed node.now ≡ true → MayBegin (OfProgram node.now) (state_of S.lines W.sheet self.old) → OnOk result (AddsReading self.old.cfg (program_phrase node.now) (W.sheet self.old.wr) (W.sheet self.new.wr)) }
+        ensures reads { is_well_formed node.now ≡ true → MayBegin (OfProgram node.now) (state_of S.lines C.maps W.sheet self.old) → AreClosed (maps_in C.maps self.old.comments) → OnOk result (AddsReading self.old.cfg (program_phrase node.now) (taken_remarks (program any_answers any_items node.now) (state_of S.lines C.maps W.sheet self.old).env) (W.sheet self.old.wr) (W.sheet self.new.wr)) }
         // Each position that is recorded holds the place that the text had reached, and none is recorded twice.
         ensures recorded { OnOk result (RecordsTruly (W.sheet self.old.wr) (W.sheet self.new.wr)) }
+        // What is gone from the comments is what was taken.
+        ensures taken { OnOk result ((maps_in C.maps self.new.comments) ≡ maps_after (steps_of (steps_in (program any_answers any_items node.now) (state_of S.lines C.maps W.sheet self.old))) (maps_in C.maps self.old.comments)) }
+        // Of a well-formed tree each of these is written, once, in order of taking.
+        ensures told { is_well_formed node.now ≡ true → (W.sheet self.old.wr).keeps_invalid ≡ false → OnOk result (spoken (steps_of (steps_in (program any_answers any_items node.now) (state_of S.lines C.maps W.sheet self.old))) ≡ texts_of (taken_in (steps_of (steps_in (program any_answers any_items node.now) (state_of S.lines C.maps W.sheet self.old))) (maps_in C.maps self.old.comments))) }
+        // Of a well-formed module no comment is left before an item.
+        ensures left { is_well_formed node.now ≡ true → (W.sheet self.old.wr).keeps_invalid ≡ false → OnOk result (NoneBeforeBody node.now (maps_in C.maps self.new.comments)) }
         // Where positions are kept, each name of a well-formed tree has its own where it begins, unless that is 0.
         ensures names { is_well_formed node.now ≡ true → (W.sheet self.old.wr).keeps_positions ≡ true → (W.sheet self.old.wr).keeps_invalid ≡ false → OnOk result (RecordsNames self.old.cfg (names_in (program_phrase node.now)) (W.sheet self.old.wr) (W.sheet self.new.wr)) }
+        // Where positions are kept, each of these names stands as its own token behind those before it: what is before it reads as them.
+        ensures places { is_well_formed node.now ≡ true → MayBegin (OfProgram node.now) (state_of S.lines C.maps W.sheet self.old) → AreClosed (maps_in C.maps self.old.comments) → (W.sheet self.old.wr).keeps_positions ≡ true → OnOk result (PlacesNames self.old.cfg (program_phrase node.now) (taken_remarks (program any_answers any_items node.now) (state_of S.lines C.maps W.sheet self.old).env) (W.sheet self.old.wr) (W.sheet self.new.wr)) }
         // Where the settings ask for ASCII, what is added is, unless a text that stands as it is in the tree isn't: a regular
-        // expression, a template with a tag, a hashbang, or a directive with a backslash.
-        ensures ascii { is_well_formed node.now ≡ true → WantsAscii (state_of S.lines W.sheet self.old) → keeps_other (steps_of (steps_in (program any_answers any_items node.now) (state_of S.lines W.sheet self.old))) ≡ false → OnOk result (AddsAscii (W.sheet self.old.wr).text (W.sheet self.new.wr).text) }
+        // expression, a template with a tag, a hashbang, or a directive with a backslash; and but for the texts of comments.
+        ensures ascii { is_well_formed node.now ≡ true → WantsAscii (state_of S.lines C.maps W.sheet self.old) → keeps_other (steps_of (steps_in (program any_answers any_items node.now) (state_of S.lines C.maps W.sheet self.old))) ≡ false → OnOk result (AddsAscii (texts_of (taken_in (steps_of (steps_in (program any_answers any_items node.now) (state_of S.lines C.maps W.sheet self.old))) (maps_in C.maps self.old.comments))) (W.sheet self.old.wr).text (W.sheet self.new.wr).text) }
         // Under `inline_script` no string of a well-formed tree that is printed by its value ends a script of an HTML page, or
         // opens or closes a comment there: it holds no `<!--`, no `-->`, and no `</script` before `>` or ASCII whitespace.
-        ensures inline { is_well_formed node.now ≡ true → self.old.cfg.inline_script ≡ true → (W.sheet self.old.wr).keeps_invalid ≡ false → OnOk result (AddsSafe (value_strings (steps_of (steps_in (program any_answers any_items node.now) (state_of S.lines W.sheet self.old)))) (W.sheet self.old.wr).text (W.sheet self.new.wr).text) }
+        ensures inline { is_well_formed node.now ≡ true → self.old.cfg.inline_script ≡ true → (W.sheet self.old.wr).keeps_invalid ≡ false → OnOk result (AddsSafe (value_strings (steps_of (steps_in (program any_answers any_items node.now) (state_of S.lines C.maps W.sheet self.old)))) (W.sheet self.old.wr).text (W.sheet self.new.wr).text) }
         // What is out is a beginning of the text of these steps.
-        ensures front { IsFront (W.sheet self.new.wr).text (printed (program any_answers any_items node.now) (state_of S.lines W.sheet self.old)).sheet.text }
+        ensures front { IsFront (W.sheet self.new.wr).text (printed (program any_answers any_items node.now) (state_of S.lines C.maps W.sheet self.old)).sheet.text }
         // It is refused only for the cause that the error names.
-        ensures cause { IfErr result (λ error. HasCause (steps_in (program any_answers any_items node.now) (state_of S.lines W.sheet self.old)) (reason_of error) (state_of S.lines W.sheet self.old) (state_of S.lines W.sheet self.new)) }
+        ensures cause { IfErr result (λ error. HasCause (steps_in (program any_answers any_items node.now) (state_of S.lines C.maps W.sheet self.old)) (reason_of error) (state_of S.lines C.maps W.sheet self.old) (state_of S.lines C.maps W.sheet self.new)) }
         // Where no text is made anew, and no call of the writer takes memory, none is wanting.
-        ensures no_memory { makes_text (steps_of (steps_in (program any_answers any_items node.now) (state_of S.lines W.sheet self.old))) ≡ false → (W.sheet self.old.wr).takes_memory ≡ false → result ≢ Err Error.OutOfMemory }
+        ensures no_memory { makes_text (steps_of (steps_in (program any_answers any_items node.now) (state_of S.lines C.maps W.sheet self.old))) ≡ false → (W.sheet self.old.wr).takes_memory ≡ false → result ≢ Err Error.OutOfMemory }
         // Where nothing stands in its way, it is made.
-        ensures succeeds { IsUnhindered (steps_in (program any_answers any_items node.now) (state_of S.lines W.sheet self.old)) (state_of S.lines W.sheet self.old) (state_of S.lines W.sheet self.new) → IsOk result }
+        ensures succeeds { IsUnhindered (steps_in (program any_answers any_items node.now) (state_of S.lines C.maps W.sheet self.old)) (state_of S.lines C.maps W.sheet self.old) (state_of S.lines C.maps W.sheet self.new) → IsOk result }
         // Where it is ready, and the writer counts no fault, a plain tree is printed.
-        ensures made { IsPlainTree self.old.cfg (program_phrase node.now) (W.sheet self.old.wr).indentation → IsReady (state_of S.lines W.sheet self.old) → (W.sheet self.new.wr).faults ≡ (W.sheet self.old.wr).faults → IsOk result }
+        ensures made { IsPlainTree self.old.cfg (program_phrase node.now) (W.sheet self.old.wr).indentation → IsReady (state_of S.lines C.maps W.sheet self.old) → (W.sheet self.new.wr).faults ≡ (W.sheet self.old.wr).faults → IsOk result }
         // It is ready again for the next.
-        ensures ready { OnOk result (IsReady (state_of S.lines W.sheet self.old) → IsReady (state_of S.lines W.sheet self.new)) }
-        ensures marked { OnErr result ((state_of S.lines W.sheet self.new).failed ≡ true) }
-        ensures failed { (state_of S.lines W.sheet self.old).failed ≡ true → result ≡ Err Error.Failed }
+        ensures ready { OnOk result (IsReady (state_of S.lines C.maps W.sheet self.old) → IsReady (state_of S.lines C.maps W.sheet self.new)) }
+        ensures marked { OnErr result ((state_of S.lines C.maps W.sheet self.new).failed ≡ true) }
+        ensures failed { (state_of S.lines C.maps W.sheet self.old).failed ≡ true → result ≡ Err Error.Failed }
         // The indentation is what it was.
         ensures level { OnOk result ((W.sheet self.new.wr).indentation ≡ (W.sheet self.old.wr).indentation) }
     {
@@ -146,37 +152,45 @@ impl<'a, W: WriteJs, S: SourceMapper, C: Comments> Emitter<'a, W, S, C> {
 
     /// Prints a module: its hashbang, the text of each item, and then a semicolon that is held back, unless the settings leave
     /// it out. swc's `emit_module`.
-    #[tactic(auto, using(crate::proofs::TreeReads::module_reads, crate::proofs::TreeReads::steps_recorded, crate::proofs::TreeReads::module_names, crate::proofs::TreeReads::module_ascii, crate::proofs::TreeReads::module_safe, crate::proofs::TreeMade::module_made, swc_ecma_codegen_base::proofs::Made::ready_after, swc_ecma_codegen_base::proofs::Phrased::never_out_of_memory))]
+    #[tactic(auto, using(crate::proofs::TreeReads::module_reads, crate::proofs::TreeReads::steps_recorded, crate::proofs::TreeReads::steps_taken, crate::proofs::TreeReads::module_told, crate::proofs::ItemsTaken::module_leaves, crate::proofs::TreeReads::module_names, crate::proofs::TreeReads::module_places, crate::proofs::TreeReads::module_ascii, crate::proofs::TreeReads::module_safe, crate::proofs::TreeMade::module_made, swc_ecma_codegen_base::proofs::Made::ready_after, swc_ecma_codegen_base::proofs::Phrased::never_out_of_memory))]
     pub fn emit_module(&mut self, node: &Module) -> Result
         // The steps of the tree are made, and it comes to no node that can't be printed; or it halts.
-        ensures items { Follows (whole_module any_answers any_items node.now nothing) (state_of S.lines W.sheet self.old) (state_of S.lines W.sheet self.new) (in_short result) }
+        ensures items { Follows (whole_module any_answers any_items node.now nothing) (state_of S.lines C.maps W.sheet self.old) (state_of S.lines C.maps W.sheet self.new) (in_short result) }
         // What a new emitter adds to the text, of a well-formed tree, reads as one of the tree's token lists; with a hashbang, where
         // no indentation is due before it.
-        ensures reads { is_well_formed (Program.Module node.now) ≡ true → MayBegin (OfModule node.now) (state_of S.lines W.sheet self.old) → OnOk result (AddsReading self.old.cfg (program_phrase (Program.Module node.now)) (W.sheet self.old.wr) (W.sheet self.new.wr)) }
+        ensures reads { is_well_formed (Program.Module node.now) ≡ true → MayBegin (OfModule node.now) (state_of S.lines C.maps W.sheet self.old) → AreClosed (maps_in C.maps self.old.comments) → OnOk result (AddsReading self.old.cfg (program_phrase (Program.Module node.now)) (taken_remarks (whole_module any_answers any_items node.now) (state_of S.lines C.maps W.sheet self.old).env) (W.sheet self.old.wr) (W.sheet self.new.wr)) }
         // Each position that is recorded holds the place that the text had reached, and none is recorded twice.
         ensures recorded { OnOk result (RecordsTruly (W.sheet self.old.wr) (W.sheet self.new.wr)) }
+        // What is gone from the comments is what was taken.
+        ensures taken { OnOk result ((maps_in C.maps self.new.comments) ≡ maps_after (steps_of (steps_in (whole_module any_answers any_items node.now) (state_of S.lines C.maps W.sheet self.old))) (maps_in C.maps self.old.comments)) }
+        // Of a well-formed tree each of these is written, once, in order of taking.
+        ensures told { is_well_formed (Program.Module node.now) ≡ true → (W.sheet self.old.wr).keeps_invalid ≡ false → OnOk result (spoken (steps_of (steps_in (whole_module any_answers any_items node.now) (state_of S.lines C.maps W.sheet self.old))) ≡ texts_of (taken_in (steps_of (steps_in (whole_module any_answers any_items node.now) (state_of S.lines C.maps W.sheet self.old))) (maps_in C.maps self.old.comments))) }
+        // No comment is left before an item of a well-formed one.
+        ensures left { is_well_formed (Program.Module node.now) ≡ true → (W.sheet self.old.wr).keeps_invalid ≡ false → OnOk result (NoneBeforeItems node.now (maps_in C.maps self.new.comments)) }
         // Where positions are kept, each name of a well-formed tree has its own where it begins, unless that is 0.
         ensures names { is_well_formed (Program.Module node.now) ≡ true → (W.sheet self.old.wr).keeps_positions ≡ true → (W.sheet self.old.wr).keeps_invalid ≡ false → OnOk result (RecordsNames self.old.cfg (names_in (program_phrase (Program.Module node.now))) (W.sheet self.old.wr) (W.sheet self.new.wr)) }
+        // Where positions are kept, each of these names stands as its own token behind those before it: what is before it reads as them.
+        ensures places { is_well_formed (Program.Module node.now) ≡ true → MayBegin (OfModule node.now) (state_of S.lines C.maps W.sheet self.old) → AreClosed (maps_in C.maps self.old.comments) → (W.sheet self.old.wr).keeps_positions ≡ true → OnOk result (PlacesNames self.old.cfg (program_phrase (Program.Module node.now)) (taken_remarks (whole_module any_answers any_items node.now) (state_of S.lines C.maps W.sheet self.old).env) (W.sheet self.old.wr) (W.sheet self.new.wr)) }
         // Where the settings ask for ASCII, what is added is, unless a text that stands as it is in the tree isn't: a regular
-        // expression, a template with a tag, a hashbang, or a directive with a backslash.
-        ensures ascii { is_well_formed (Program.Module node.now) ≡ true → WantsAscii (state_of S.lines W.sheet self.old) → keeps_other (steps_of (steps_in (whole_module any_answers any_items node.now) (state_of S.lines W.sheet self.old))) ≡ false → OnOk result (AddsAscii (W.sheet self.old.wr).text (W.sheet self.new.wr).text) }
+        // expression, a template with a tag, a hashbang, or a directive with a backslash; and but for the texts of comments.
+        ensures ascii { is_well_formed (Program.Module node.now) ≡ true → WantsAscii (state_of S.lines C.maps W.sheet self.old) → keeps_other (steps_of (steps_in (whole_module any_answers any_items node.now) (state_of S.lines C.maps W.sheet self.old))) ≡ false → OnOk result (AddsAscii (texts_of (taken_in (steps_of (steps_in (whole_module any_answers any_items node.now) (state_of S.lines C.maps W.sheet self.old))) (maps_in C.maps self.old.comments))) (W.sheet self.old.wr).text (W.sheet self.new.wr).text) }
         // Under `inline_script` no string of a well-formed tree that is printed by its value ends a script of an HTML page, or
         // opens or closes a comment there: it holds no `<!--`, no `-->`, and no `</script` before `>` or ASCII whitespace.
-        ensures inline { is_well_formed (Program.Module node.now) ≡ true → self.old.cfg.inline_script ≡ true → (W.sheet self.old.wr).keeps_invalid ≡ false → OnOk result (AddsSafe (value_strings (steps_of (steps_in (whole_module any_answers any_items node.now) (state_of S.lines W.sheet self.old)))) (W.sheet self.old.wr).text (W.sheet self.new.wr).text) }
+        ensures inline { is_well_formed (Program.Module node.now) ≡ true → self.old.cfg.inline_script ≡ true → (W.sheet self.old.wr).keeps_invalid ≡ false → OnOk result (AddsSafe (value_strings (steps_of (steps_in (whole_module any_answers any_items node.now) (state_of S.lines C.maps W.sheet self.old)))) (W.sheet self.old.wr).text (W.sheet self.new.wr).text) }
         // What is out is a beginning of the text of these steps.
-        ensures front { IsFront (W.sheet self.new.wr).text (printed (whole_module any_answers any_items node.now) (state_of S.lines W.sheet self.old)).sheet.text }
+        ensures front { IsFront (W.sheet self.new.wr).text (printed (whole_module any_answers any_items node.now) (state_of S.lines C.maps W.sheet self.old)).sheet.text }
         // It is refused only for the cause that the error names.
-        ensures cause { IfErr result (λ error. HasCause (steps_in (whole_module any_answers any_items node.now) (state_of S.lines W.sheet self.old)) (reason_of error) (state_of S.lines W.sheet self.old) (state_of S.lines W.sheet self.new)) }
+        ensures cause { IfErr result (λ error. HasCause (steps_in (whole_module any_answers any_items node.now) (state_of S.lines C.maps W.sheet self.old)) (reason_of error) (state_of S.lines C.maps W.sheet self.old) (state_of S.lines C.maps W.sheet self.new)) }
         // Where no text is made anew, and no call of the writer takes memory, none is wanting.
-        ensures no_memory { makes_text (steps_of (steps_in (whole_module any_answers any_items node.now) (state_of S.lines W.sheet self.old))) ≡ false → (W.sheet self.old.wr).takes_memory ≡ false → result ≢ Err Error.OutOfMemory }
+        ensures no_memory { makes_text (steps_of (steps_in (whole_module any_answers any_items node.now) (state_of S.lines C.maps W.sheet self.old))) ≡ false → (W.sheet self.old.wr).takes_memory ≡ false → result ≢ Err Error.OutOfMemory }
         // Where nothing stands in its way, it is made.
-        ensures succeeds { IsUnhindered (steps_in (whole_module any_answers any_items node.now) (state_of S.lines W.sheet self.old)) (state_of S.lines W.sheet self.old) (state_of S.lines W.sheet self.new) → IsOk result }
+        ensures succeeds { IsUnhindered (steps_in (whole_module any_answers any_items node.now) (state_of S.lines C.maps W.sheet self.old)) (state_of S.lines C.maps W.sheet self.old) (state_of S.lines C.maps W.sheet self.new) → IsOk result }
         // Where it is ready, and the writer counts no fault, a plain tree is printed.
-        ensures made { IsPlainTree self.old.cfg (program_phrase (Program.Module node.now)) (W.sheet self.old.wr).indentation → IsReady (state_of S.lines W.sheet self.old) → (W.sheet self.new.wr).faults ≡ (W.sheet self.old.wr).faults → IsOk result }
+        ensures made { IsPlainTree self.old.cfg (program_phrase (Program.Module node.now)) (W.sheet self.old.wr).indentation → IsReady (state_of S.lines C.maps W.sheet self.old) → (W.sheet self.new.wr).faults ≡ (W.sheet self.old.wr).faults → IsOk result }
         // It is ready again for the next.
-        ensures ready { OnOk result (IsReady (state_of S.lines W.sheet self.old) → IsReady (state_of S.lines W.sheet self.new)) }
-        ensures marked { OnErr result ((state_of S.lines W.sheet self.new).failed ≡ true) }
-        ensures failed { (state_of S.lines W.sheet self.old).failed ≡ true → result ≡ Err Error.Failed }
+        ensures ready { OnOk result (IsReady (state_of S.lines C.maps W.sheet self.old) → IsReady (state_of S.lines C.maps W.sheet self.new)) }
+        ensures marked { OnErr result ((state_of S.lines C.maps W.sheet self.new).failed ≡ true) }
+        ensures failed { (state_of S.lines C.maps W.sheet self.old).failed ≡ true → result ≡ Err Error.Failed }
         // The indentation is what it was.
         ensures level { OnOk result ((W.sheet self.new.wr).indentation ≡ (W.sheet self.old.wr).indentation) }
     {
@@ -185,37 +199,43 @@ impl<'a, W: WriteJs, S: SourceMapper, C: Comments> Emitter<'a, W, S, C> {
 
     /// Prints a script: its hashbang, the text of each statement, and then a semicolon that is held back, unless the settings
     /// leave it out. swc's `emit_script`.
-    #[tactic(auto, using(crate::proofs::TreeReads::script_reads, crate::proofs::TreeReads::steps_recorded, crate::proofs::TreeReads::script_names, crate::proofs::TreeReads::script_ascii, crate::proofs::TreeReads::script_safe, crate::proofs::TreeMade::script_made, swc_ecma_codegen_base::proofs::Made::ready_after, swc_ecma_codegen_base::proofs::Phrased::never_out_of_memory))]
+    #[tactic(auto, using(crate::proofs::TreeReads::script_reads, crate::proofs::TreeReads::steps_recorded, crate::proofs::TreeReads::steps_taken, crate::proofs::TreeReads::script_told, crate::proofs::TreeReads::script_names, crate::proofs::TreeReads::script_places, crate::proofs::TreeReads::script_ascii, crate::proofs::TreeReads::script_safe, crate::proofs::TreeMade::script_made, swc_ecma_codegen_base::proofs::Made::ready_after, swc_ecma_codegen_base::proofs::Phrased::never_out_of_memory))]
     pub fn emit_script(&mut self, node: &Script) -> Result
         // The steps of the tree are made, and it comes to no node that can't be printed; or it halts.
-        ensures items { Follows (script any_answers any_items node.now nothing) (state_of S.lines W.sheet self.old) (state_of S.lines W.sheet self.new) (in_short result) }
+        ensures items { Follows (script any_answers any_items node.now nothing) (state_of S.lines C.maps W.sheet self.old) (state_of S.lines C.maps W.sheet self.new) (in_short result) }
         // What a new emitter adds to the text, of a well-formed tree, reads as one of the tree's token lists; with a hashbang, where
         // no indentation is due before it.
-        ensures reads { is_well_formed (Program.Script node.now) ≡ true → MayBegin (OfScript node.now) (state_of S.lines W.sheet self.old) → OnOk result (AddsReading self.old.cfg (program_phrase (Program.Script node.now)) (W.sheet self.old.wr) (W.sheet self.new.wr)) }
+        ensures reads { is_well_formed (Program.Script node.now) ≡ true → MayBegin (OfScript node.now) (state_of S.lines C.maps W.sheet self.old) → AreClosed (maps_in C.maps self.old.comments) → OnOk result (AddsReading self.old.cfg (program_phrase (Program.Script node.now)) (taken_remarks (script any_answers any_items node.now) (state_of S.lines C.maps W.sheet self.old).env) (W.sheet self.old.wr) (W.sheet self.new.wr)) }
         // Each position that is recorded holds the place that the text had reached, and none is recorded twice.
         ensures recorded { OnOk result (RecordsTruly (W.sheet self.old.wr) (W.sheet self.new.wr)) }
+        // What is gone from the comments is what was taken.
+        ensures taken { OnOk result ((maps_in C.maps self.new.comments) ≡ maps_after (steps_of (steps_in (script any_answers any_items node.now) (state_of S.lines C.maps W.sheet self.old))) (maps_in C.maps self.old.comments)) }
+        // Of a well-formed tree each of these is written, once, in order of taking.
+        ensures told { is_well_formed (Program.Script node.now) ≡ true → (W.sheet self.old.wr).keeps_invalid ≡ false → OnOk result (spoken (steps_of (steps_in (script any_answers any_items node.now) (state_of S.lines C.maps W.sheet self.old))) ≡ texts_of (taken_in (steps_of (steps_in (script any_answers any_items node.now) (state_of S.lines C.maps W.sheet self.old))) (maps_in C.maps self.old.comments))) }
         // Where positions are kept, each name of a well-formed tree has its own where it begins, unless that is 0.
         ensures names { is_well_formed (Program.Script node.now) ≡ true → (W.sheet self.old.wr).keeps_positions ≡ true → (W.sheet self.old.wr).keeps_invalid ≡ false → OnOk result (RecordsNames self.old.cfg (names_in (program_phrase (Program.Script node.now))) (W.sheet self.old.wr) (W.sheet self.new.wr)) }
+        // Where positions are kept, each of these names stands as its own token behind those before it: what is before it reads as them.
+        ensures places { is_well_formed (Program.Script node.now) ≡ true → MayBegin (OfScript node.now) (state_of S.lines C.maps W.sheet self.old) → AreClosed (maps_in C.maps self.old.comments) → (W.sheet self.old.wr).keeps_positions ≡ true → OnOk result (PlacesNames self.old.cfg (program_phrase (Program.Script node.now)) (taken_remarks (script any_answers any_items node.now) (state_of S.lines C.maps W.sheet self.old).env) (W.sheet self.old.wr) (W.sheet self.new.wr)) }
         // Where the settings ask for ASCII, what is added is, unless a text that stands as it is in the tree isn't: a regular
-        // expression, a template with a tag, a hashbang, or a directive with a backslash.
-        ensures ascii { is_well_formed (Program.Script node.now) ≡ true → WantsAscii (state_of S.lines W.sheet self.old) → keeps_other (steps_of (steps_in (script any_answers any_items node.now) (state_of S.lines W.sheet self.old))) ≡ false → OnOk result (AddsAscii (W.sheet self.old.wr).text (W.sheet self.new.wr).text) }
+        // expression, a template with a tag, a hashbang, or a directive with a backslash; and but for the texts of comments.
+        ensures ascii { is_well_formed (Program.Script node.now) ≡ true → WantsAscii (state_of S.lines C.maps W.sheet self.old) → keeps_other (steps_of (steps_in (script any_answers any_items node.now) (state_of S.lines C.maps W.sheet self.old))) ≡ false → OnOk result (AddsAscii (texts_of (taken_in (steps_of (steps_in (script any_answers any_items node.now) (state_of S.lines C.maps W.sheet self.old))) (maps_in C.maps self.old.comments))) (W.sheet self.old.wr).text (W.sheet self.new.wr).text) }
         // Under `inline_script` no string of a well-formed tree that is printed by its value ends a script of an HTML page, or
         // opens or closes a comment there: it holds no `<!--`, no `-->`, and no `</script` before `>` or ASCII whitespace.
-        ensures inline { is_well_formed (Program.Script node.now) ≡ true → self.old.cfg.inline_script ≡ true → (W.sheet self.old.wr).keeps_invalid ≡ false → OnOk result (AddsSafe (value_strings (steps_of (steps_in (script any_answers any_items node.now) (state_of S.lines W.sheet self.old)))) (W.sheet self.old.wr).text (W.sheet self.new.wr).text) }
+        ensures inline { is_well_formed (Program.Script node.now) ≡ true → self.old.cfg.inline_script ≡ true → (W.sheet self.old.wr).keeps_invalid ≡ false → OnOk result (AddsSafe (value_strings (steps_of (steps_in (script any_answers any_items node.now) (state_of S.lines C.maps W.sheet self.old)))) (W.sheet self.old.wr).text (W.sheet self.new.wr).text) }
         // What is out is a beginning of the text of these steps.
-        ensures front { IsFront (W.sheet self.new.wr).text (printed (script any_answers any_items node.now) (state_of S.lines W.sheet self.old)).sheet.text }
+        ensures front { IsFront (W.sheet self.new.wr).text (printed (script any_answers any_items node.now) (state_of S.lines C.maps W.sheet self.old)).sheet.text }
         // It is refused only for the cause that the error names.
-        ensures cause { IfErr result (λ error. HasCause (steps_in (script any_answers any_items node.now) (state_of S.lines W.sheet self.old)) (reason_of error) (state_of S.lines W.sheet self.old) (state_of S.lines W.sheet self.new)) }
+        ensures cause { IfErr result (λ error. HasCause (steps_in (script any_answers any_items node.now) (state_of S.lines C.maps W.sheet self.old)) (reason_of error) (state_of S.lines C.maps W.sheet self.old) (state_of S.lines C.maps W.sheet self.new)) }
         // Where no text is made anew, and no call of the writer takes memory, none is wanting.
-        ensures no_memory { makes_text (steps_of (steps_in (script any_answers any_items node.now) (state_of S.lines W.sheet self.old))) ≡ false → (W.sheet self.old.wr).takes_memory ≡ false → result ≢ Err Error.OutOfMemory }
+        ensures no_memory { makes_text (steps_of (steps_in (script any_answers any_items node.now) (state_of S.lines C.maps W.sheet self.old))) ≡ false → (W.sheet self.old.wr).takes_memory ≡ false → result ≢ Err Error.OutOfMemory }
         // Where nothing stands in its way, it is made.
-        ensures succeeds { IsUnhindered (steps_in (script any_answers any_items node.now) (state_of S.lines W.sheet self.old)) (state_of S.lines W.sheet self.old) (state_of S.lines W.sheet self.new) → IsOk result }
+        ensures succeeds { IsUnhindered (steps_in (script any_answers any_items node.now) (state_of S.lines C.maps W.sheet self.old)) (state_of S.lines C.maps W.sheet self.old) (state_of S.lines C.maps W.sheet self.new) → IsOk result }
         // Where it is ready, and the writer counts no fault, a plain tree is printed.
-        ensures made { IsPlainTree self.old.cfg (program_phrase (Program.Script node.now)) (W.sheet self.old.wr).indentation → IsReady (state_of S.lines W.sheet self.old) → (W.sheet self.new.wr).faults ≡ (W.sheet self.old.wr).faults → IsOk result }
+        ensures made { IsPlainTree self.old.cfg (program_phrase (Program.Script node.now)) (W.sheet self.old.wr).indentation → IsReady (state_of S.lines C.maps W.sheet self.old) → (W.sheet self.new.wr).faults ≡ (W.sheet self.old.wr).faults → IsOk result }
         // It is ready again for the next.
-        ensures ready { OnOk result (IsReady (state_of S.lines W.sheet self.old) → IsReady (state_of S.lines W.sheet self.new)) }
-        ensures marked { OnErr result ((state_of S.lines W.sheet self.new).failed ≡ true) }
-        ensures failed { (state_of S.lines W.sheet self.old).failed ≡ true → result ≡ Err Error.Failed }
+        ensures ready { OnOk result (IsReady (state_of S.lines C.maps W.sheet self.old) → IsReady (state_of S.lines C.maps W.sheet self.new)) }
+        ensures marked { OnErr result ((state_of S.lines C.maps W.sheet self.new).failed ≡ true) }
+        ensures failed { (state_of S.lines C.maps W.sheet self.old).failed ≡ true → result ≡ Err Error.Failed }
         // The indentation is what it was.
         ensures level { OnOk result ((W.sheet self.new.wr).indentation ≡ (W.sheet self.old.wr).indentation) }
     {
@@ -223,36 +243,42 @@ impl<'a, W: WriteJs, S: SourceMapper, C: Comments> Emitter<'a, W, S, C> {
     }
 
     /// Prints an item of a module: an import, an export or a statement. swc's `emit_module_item`.
-    #[tactic(auto, using(crate::proofs::TreeReads::item_reads, crate::proofs::TreeReads::steps_recorded, crate::proofs::TreeReads::item_names, crate::proofs::TreeReads::item_ascii, crate::proofs::TreeReads::item_safe, crate::proofs::TreeMade::item_made, swc_ecma_codegen_base::proofs::Made::ready_after, swc_ecma_codegen_base::proofs::Phrased::never_out_of_memory))]
+    #[tactic(auto, using(crate::proofs::TreeReads::item_reads, crate::proofs::TreeReads::steps_recorded, crate::proofs::TreeReads::steps_taken, crate::proofs::TreeReads::item_told, crate::proofs::TreeReads::item_names, crate::proofs::TreeReads::item_places, crate::proofs::TreeReads::item_ascii, crate::proofs::TreeReads::item_safe, crate::proofs::TreeMade::item_made, swc_ecma_codegen_base::proofs::Made::ready_after, swc_ecma_codegen_base::proofs::Phrased::never_out_of_memory))]
     pub fn emit_module_item(&mut self, node: &ModuleItem) -> Result
         // The steps of the tree are made, and it comes to no node that can't be printed; or it halts.
-        ensures items { Follows (module_item any_answers any_items node.now nothing) (state_of S.lines W.sheet self.old) (state_of S.lines W.sheet self.new) (in_short result) }
+        ensures items { Follows (module_item any_answers any_items node.now nothing) (state_of S.lines C.maps W.sheet self.old) (state_of S.lines C.maps W.sheet self.new) (in_short result) }
         // What a new emitter adds to the text, of a well-formed tree, reads as one of the tree's token lists.
-        ensures reads { is_possible (item_phrase phrase node.now) ≡ true → IsNew (state_of S.lines W.sheet self.old) → OnOk result (AddsReading self.old.cfg (item_phrase phrase node.now) (W.sheet self.old.wr) (W.sheet self.new.wr)) }
+        ensures reads { is_possible (item_phrase phrase node.now) ≡ true → IsNew (state_of S.lines C.maps W.sheet self.old) → AreClosed (maps_in C.maps self.old.comments) → OnOk result (AddsReading self.old.cfg (item_phrase phrase node.now) (taken_remarks (module_item any_answers any_items node.now) (state_of S.lines C.maps W.sheet self.old).env) (W.sheet self.old.wr) (W.sheet self.new.wr)) }
         // Each position that is recorded holds the place that the text had reached, and none is recorded twice.
         ensures recorded { OnOk result (RecordsTruly (W.sheet self.old.wr) (W.sheet self.new.wr)) }
+        // What is gone from the comments is what was taken.
+        ensures taken { OnOk result ((maps_in C.maps self.new.comments) ≡ maps_after (steps_of (steps_in (module_item any_answers any_items node.now) (state_of S.lines C.maps W.sheet self.old))) (maps_in C.maps self.old.comments)) }
+        // Of a well-formed tree each of these is written, once, in order of taking.
+        ensures told { is_possible (item_phrase phrase node.now) ≡ true → (W.sheet self.old.wr).keeps_invalid ≡ false → OnOk result (spoken (steps_of (steps_in (module_item any_answers any_items node.now) (state_of S.lines C.maps W.sheet self.old))) ≡ texts_of (taken_in (steps_of (steps_in (module_item any_answers any_items node.now) (state_of S.lines C.maps W.sheet self.old))) (maps_in C.maps self.old.comments))) }
         // Where positions are kept, each name of a well-formed tree has its own where it begins, unless that is 0.
         ensures names { is_possible (item_phrase phrase node.now) ≡ true → (W.sheet self.old.wr).keeps_positions ≡ true → (W.sheet self.old.wr).keeps_invalid ≡ false → OnOk result (RecordsNames self.old.cfg (names_in (item_phrase phrase node.now)) (W.sheet self.old.wr) (W.sheet self.new.wr)) }
+        // Where positions are kept, each of these names stands as its own token behind those before it: what is before it reads as them.
+        ensures places { is_possible (item_phrase phrase node.now) ≡ true → IsNew (state_of S.lines C.maps W.sheet self.old) → AreClosed (maps_in C.maps self.old.comments) → (W.sheet self.old.wr).keeps_positions ≡ true → OnOk result (PlacesNames self.old.cfg (item_phrase phrase node.now) (taken_remarks (module_item any_answers any_items node.now) (state_of S.lines C.maps W.sheet self.old).env) (W.sheet self.old.wr) (W.sheet self.new.wr)) }
         // Where the settings ask for ASCII, what is added is, unless a text that stands as it is in the tree isn't: a regular
-        // expression, a template with a tag, a hashbang, or a directive with a backslash.
-        ensures ascii { is_possible (item_phrase phrase node.now) ≡ true → WantsAscii (state_of S.lines W.sheet self.old) → keeps_other (steps_of (steps_in (module_item any_answers any_items node.now) (state_of S.lines W.sheet self.old))) ≡ false → OnOk result (AddsAscii (W.sheet self.old.wr).text (W.sheet self.new.wr).text) }
+        // expression, a template with a tag, a hashbang, or a directive with a backslash; and but for the texts of comments.
+        ensures ascii { is_possible (item_phrase phrase node.now) ≡ true → WantsAscii (state_of S.lines C.maps W.sheet self.old) → keeps_other (steps_of (steps_in (module_item any_answers any_items node.now) (state_of S.lines C.maps W.sheet self.old))) ≡ false → OnOk result (AddsAscii (texts_of (taken_in (steps_of (steps_in (module_item any_answers any_items node.now) (state_of S.lines C.maps W.sheet self.old))) (maps_in C.maps self.old.comments))) (W.sheet self.old.wr).text (W.sheet self.new.wr).text) }
         // Under `inline_script` no string of a well-formed tree that is printed by its value ends a script of an HTML page, or
         // opens or closes a comment there: it holds no `<!--`, no `-->`, and no `</script` before `>` or ASCII whitespace.
-        ensures inline { is_possible (item_phrase phrase node.now) ≡ true → self.old.cfg.inline_script ≡ true → (W.sheet self.old.wr).keeps_invalid ≡ false → OnOk result (AddsSafe (value_strings (steps_of (steps_in (module_item any_answers any_items node.now) (state_of S.lines W.sheet self.old)))) (W.sheet self.old.wr).text (W.sheet self.new.wr).text) }
+        ensures inline { is_possible (item_phrase phrase node.now) ≡ true → self.old.cfg.inline_script ≡ true → (W.sheet self.old.wr).keeps_invalid ≡ false → OnOk result (AddsSafe (value_strings (steps_of (steps_in (module_item any_answers any_items node.now) (state_of S.lines C.maps W.sheet self.old)))) (W.sheet self.old.wr).text (W.sheet self.new.wr).text) }
         // What is out is a beginning of the text of these steps.
-        ensures front { IsFront (W.sheet self.new.wr).text (printed (module_item any_answers any_items node.now) (state_of S.lines W.sheet self.old)).sheet.text }
+        ensures front { IsFront (W.sheet self.new.wr).text (printed (module_item any_answers any_items node.now) (state_of S.lines C.maps W.sheet self.old)).sheet.text }
         // It is refused only for the cause that the error names.
-        ensures cause { IfErr result (λ error. HasCause (steps_in (module_item any_answers any_items node.now) (state_of S.lines W.sheet self.old)) (reason_of error) (state_of S.lines W.sheet self.old) (state_of S.lines W.sheet self.new)) }
+        ensures cause { IfErr result (λ error. HasCause (steps_in (module_item any_answers any_items node.now) (state_of S.lines C.maps W.sheet self.old)) (reason_of error) (state_of S.lines C.maps W.sheet self.old) (state_of S.lines C.maps W.sheet self.new)) }
         // Where no text is made anew, and no call of the writer takes memory, none is wanting.
-        ensures no_memory { makes_text (steps_of (steps_in (module_item any_answers any_items node.now) (state_of S.lines W.sheet self.old))) ≡ false → (W.sheet self.old.wr).takes_memory ≡ false → result ≢ Err Error.OutOfMemory }
+        ensures no_memory { makes_text (steps_of (steps_in (module_item any_answers any_items node.now) (state_of S.lines C.maps W.sheet self.old))) ≡ false → (W.sheet self.old.wr).takes_memory ≡ false → result ≢ Err Error.OutOfMemory }
         // Where nothing stands in its way, it is made.
-        ensures succeeds { IsUnhindered (steps_in (module_item any_answers any_items node.now) (state_of S.lines W.sheet self.old)) (state_of S.lines W.sheet self.old) (state_of S.lines W.sheet self.new) → IsOk result }
+        ensures succeeds { IsUnhindered (steps_in (module_item any_answers any_items node.now) (state_of S.lines C.maps W.sheet self.old)) (state_of S.lines C.maps W.sheet self.old) (state_of S.lines C.maps W.sheet self.new) → IsOk result }
         // Where it is ready, and the writer counts no fault, a plain tree is printed.
-        ensures made { IsPlainTree self.old.cfg (item_phrase phrase node.now) (W.sheet self.old.wr).indentation → IsReady (state_of S.lines W.sheet self.old) → (W.sheet self.new.wr).faults ≡ (W.sheet self.old.wr).faults → IsOk result }
+        ensures made { IsPlainTree self.old.cfg (item_phrase phrase node.now) (W.sheet self.old.wr).indentation → IsReady (state_of S.lines C.maps W.sheet self.old) → (W.sheet self.new.wr).faults ≡ (W.sheet self.old.wr).faults → IsOk result }
         // It is ready again for the next.
-        ensures ready { OnOk result (IsReady (state_of S.lines W.sheet self.old) → IsReady (state_of S.lines W.sheet self.new)) }
-        ensures marked { OnErr result ((state_of S.lines W.sheet self.new).failed ≡ true) }
-        ensures failed { (state_of S.lines W.sheet self.old).failed ≡ true → result ≡ Err Error.Failed }
+        ensures ready { OnOk result (IsReady (state_of S.lines C.maps W.sheet self.old) → IsReady (state_of S.lines C.maps W.sheet self.new)) }
+        ensures marked { OnErr result ((state_of S.lines C.maps W.sheet self.new).failed ≡ true) }
+        ensures failed { (state_of S.lines C.maps W.sheet self.old).failed ≡ true → result ≡ Err Error.Failed }
         // The indentation is what it was.
         ensures level { OnOk result ((W.sheet self.new.wr).indentation ≡ (W.sheet self.old.wr).indentation) }
     {
@@ -260,20 +286,22 @@ impl<'a, W: WriteJs, S: SourceMapper, C: Comments> Emitter<'a, W, S, C> {
     }
 
     /// Prints the name of what a module imports or exports: a name, or a string. swc's `emit_module_export_name`.
-    #[tactic(auto, using(swc_ecma_codegen_base::proofs::Made::ready_after))]
+    #[tactic(auto, using(crate::proofs::TreeReads::steps_taken, swc_ecma_codegen_base::proofs::Made::ready_after))]
     pub fn emit_module_export_name(&mut self, node: &ModuleExportName) -> Result
+        // What is gone from the comments is what was taken.
+        ensures taken { OnOk result ((maps_in C.maps self.new.comments) ≡ maps_after (steps_of (steps_in (module_export_name node.now) (state_of S.lines C.maps W.sheet self.old))) (maps_in C.maps self.old.comments)) }
         // Its steps are made, or it halts.
-        ensures items { Follows (module_export_name node.now nothing) (state_of S.lines W.sheet self.old) (state_of S.lines W.sheet self.new) (in_short result) }
+        ensures items { Follows (module_export_name node.now nothing) (state_of S.lines C.maps W.sheet self.old) (state_of S.lines C.maps W.sheet self.new) (in_short result) }
         // What is out is a beginning of the text of these steps.
-        ensures front { IsFront (W.sheet self.new.wr).text (printed (module_export_name node.now) (state_of S.lines W.sheet self.old)).sheet.text }
+        ensures front { IsFront (W.sheet self.new.wr).text (printed (module_export_name node.now) (state_of S.lines C.maps W.sheet self.old)).sheet.text }
         // It is refused only for the cause that the error names.
-        ensures cause { IfErr result (λ error. HasCause (steps_in (module_export_name node.now) (state_of S.lines W.sheet self.old)) (reason_of error) (state_of S.lines W.sheet self.old) (state_of S.lines W.sheet self.new)) }
+        ensures cause { IfErr result (λ error. HasCause (steps_in (module_export_name node.now) (state_of S.lines C.maps W.sheet self.old)) (reason_of error) (state_of S.lines C.maps W.sheet self.old) (state_of S.lines C.maps W.sheet self.new)) }
         // Where nothing stands in its way, it is made.
-        ensures succeeds { IsUnhindered (steps_in (module_export_name node.now) (state_of S.lines W.sheet self.old)) (state_of S.lines W.sheet self.old) (state_of S.lines W.sheet self.new) → IsOk result }
+        ensures succeeds { IsUnhindered (steps_in (module_export_name node.now) (state_of S.lines C.maps W.sheet self.old)) (state_of S.lines C.maps W.sheet self.old) (state_of S.lines C.maps W.sheet self.new) → IsOk result }
         // It is ready again for the next.
-        ensures ready { OnOk result (IsReady (state_of S.lines W.sheet self.old) → IsReady (state_of S.lines W.sheet self.new)) }
-        ensures marked { OnErr result ((state_of S.lines W.sheet self.new).failed ≡ true) }
-        ensures failed { (state_of S.lines W.sheet self.old).failed ≡ true → result ≡ Err Error.Failed }
+        ensures ready { OnOk result (IsReady (state_of S.lines C.maps W.sheet self.old) → IsReady (state_of S.lines C.maps W.sheet self.new)) }
+        ensures marked { OnErr result ((state_of S.lines C.maps W.sheet self.new).failed ≡ true) }
+        ensures failed { (state_of S.lines C.maps W.sheet self.old).failed ≡ true → result ≡ Err Error.Failed }
         // The indentation is what it was.
         ensures level { OnOk result ((W.sheet self.new.wr).indentation ≡ (W.sheet self.old.wr).indentation) }
     {

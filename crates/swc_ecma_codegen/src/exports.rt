@@ -223,8 +223,8 @@ impl<W: WriteJs, S: SourceMapper, C: Comments> Emitter<'_, W, S, C> {
     /// Writes `as b` behind a blank, where it is so.
     #[tactic(auto, unfolding(crate::specs::Modules::exported_as))]
     fn exported_as(&mut self, name: &Option<ModuleExportName>)
-        ensures items { Makes (exported_as name.now) (standing_of S.lines W.sheet self.old) (standing_of S.lines W.sheet self.new) }
-        ensures level { Stays (standing_of S.lines W.sheet self.old) (standing_of S.lines W.sheet self.new) }
+        ensures items { Makes (exported_as name.now) (standing_of S.lines C.maps W.sheet self.old) (standing_of S.lines C.maps W.sheet self.new) }
+        ensures level { Stays (standing_of S.lines C.maps W.sheet self.old) (standing_of S.lines C.maps W.sheet self.new) }
     {
         match name {
             Some(name) => {
@@ -237,8 +237,8 @@ impl<W: WriteJs, S: SourceMapper, C: Comments> Emitter<'_, W, S, C> {
 
     /// Writes what is exported among braces.
     fn export_list(&mut self, parent: Span, specifiers: &[ExportSpecifier])
-        ensures items { Makes (export_list parent specifiers.now) (standing_of S.lines W.sheet self.old) (standing_of S.lines W.sheet self.new) }
-        ensures level { Stays (standing_of S.lines W.sheet self.old) (standing_of S.lines W.sheet self.new) }
+        ensures items { Makes (export_list parent specifiers.now) (standing_of S.lines C.maps W.sheet self.old) (standing_of S.lines C.maps W.sheet self.new) }
+        ensures level { Stays (standing_of S.lines C.maps W.sheet self.old) (standing_of S.lines C.maps W.sheet self.new) }
     {
         self.braced_list(named_format(), parent, specifiers)
     }
@@ -246,8 +246,8 @@ impl<W: WriteJs, S: SourceMapper, C: Comments> Emitter<'_, W, S, C> {
     /// Writes `{ a, b as c }`.
     #[tactic(auto, unfolding(crate::specs::Modules::export_braces))]
     fn export_braces(&mut self, parent: Span, specifiers: &[ExportSpecifier])
-        ensures items { Makes (export_braces parent specifiers.now) (standing_of S.lines W.sheet self.old) (standing_of S.lines W.sheet self.new) }
-        ensures level { Stays (standing_of S.lines W.sheet self.old) (standing_of S.lines W.sheet self.new) }
+        ensures items { Makes (export_braces parent specifiers.now) (standing_of S.lines C.maps W.sheet self.old) (standing_of S.lines C.maps W.sheet self.new) }
+        ensures level { Stays (standing_of S.lines C.maps W.sheet self.old) (standing_of S.lines C.maps W.sheet self.new) }
     {
         self.punct(Punctuator::LeftBrace);
         self.export_list(parent, specifiers);
@@ -257,8 +257,8 @@ impl<W: WriteJs, S: SourceMapper, C: Comments> Emitter<'_, W, S, C> {
     /// Writes `* as a`, of the first of a namespace.
     #[tactic(auto, unfolding(crate::specs::Modules::star_export))]
     fn star_export(&mut self, specifiers: &[ExportSpecifier])
-        ensures items { Makes (star_export specifiers.now) (standing_of S.lines W.sheet self.old) (standing_of S.lines W.sheet self.new) }
-        ensures level { Stays (standing_of S.lines W.sheet self.old) (standing_of S.lines W.sheet self.new) }
+        ensures items { Makes (star_export specifiers.now) (standing_of S.lines C.maps W.sheet self.old) (standing_of S.lines C.maps W.sheet self.new) }
+        ensures level { Stays (standing_of S.lines C.maps W.sheet self.old) (standing_of S.lines C.maps W.sheet self.new) }
     {
         for specifier in specifiers {
             if let ExportSpecifier::Namespace(node) = specifier {
@@ -270,8 +270,8 @@ impl<W: WriteJs, S: SourceMapper, C: Comments> Emitter<'_, W, S, C> {
     /// Writes what stands after it.
     #[tactic(auto, unfolding(crate::specs::Modules::more_exports))]
     fn more_exports(&mut self, parent: Span, specifiers: &[ExportSpecifier])
-        ensures items { Makes (more_exports parent specifiers.now) (standing_of S.lines W.sheet self.old) (standing_of S.lines W.sheet self.new) }
-        ensures level { Stays (standing_of S.lines W.sheet self.old) (standing_of S.lines W.sheet self.new) }
+        ensures items { Makes (more_exports parent specifiers.now) (standing_of S.lines C.maps W.sheet self.old) (standing_of S.lines C.maps W.sheet self.new) }
+        ensures level { Stays (standing_of S.lines C.maps W.sheet self.old) (standing_of S.lines C.maps W.sheet self.new) }
     {
         if !has_braced(specifiers) {
             return;
@@ -284,8 +284,8 @@ impl<W: WriteJs, S: SourceMapper, C: Comments> Emitter<'_, W, S, C> {
     /// Writes `* as a, { b }`.
     #[tactic(auto, unfolding(crate::specs::Modules::star_exports))]
     fn star_exports(&mut self, parent: Span, specifiers: &[ExportSpecifier])
-        ensures items { Makes (star_exports parent specifiers.now) (standing_of S.lines W.sheet self.old) (standing_of S.lines W.sheet self.new) }
-        ensures level { Stays (standing_of S.lines W.sheet self.old) (standing_of S.lines W.sheet self.new) }
+        ensures items { Makes (star_exports parent specifiers.now) (standing_of S.lines C.maps W.sheet self.old) (standing_of S.lines C.maps W.sheet self.new) }
+        ensures level { Stays (standing_of S.lines C.maps W.sheet self.old) (standing_of S.lines C.maps W.sheet self.new) }
     {
         self.star_export(specifiers);
         self.more_exports(parent, specifiers)
@@ -294,8 +294,8 @@ impl<W: WriteJs, S: SourceMapper, C: Comments> Emitter<'_, W, S, C> {
     /// Writes `{ a }` or `* as a`, or both.
     #[tactic(auto, unfolding(crate::specs::Modules::export_clause))]
     fn export_clause(&mut self, parent: Span, specifiers: &[ExportSpecifier])
-        ensures items { Makes (export_clause parent specifiers.now) (standing_of S.lines W.sheet self.old) (standing_of S.lines W.sheet self.new) }
-        ensures level { Stays (standing_of S.lines W.sheet self.old) (standing_of S.lines W.sheet self.new) }
+        ensures items { Makes (export_clause parent specifiers.now) (standing_of S.lines C.maps W.sheet self.old) (standing_of S.lines C.maps W.sheet self.new) }
+        ensures level { Stays (standing_of S.lines C.maps W.sheet self.old) (standing_of S.lines C.maps W.sheet self.new) }
     {
         if has_star(specifiers) {
             return self.star_exports(parent, specifiers);
@@ -311,8 +311,8 @@ impl<W: WriteJs, S: SourceMapper, C: Comments> Emitter<'_, W, S, C> {
         needed: bool,
         src: &Option<Str>,
     )
-        ensures items { Makes (from_clause N.items with_.now needed src.now) (standing_of S.lines W.sheet self.old) (standing_of S.lines W.sheet self.new) }
-        ensures level { Stays (standing_of S.lines W.sheet self.old) (standing_of S.lines W.sheet self.new) }
+        ensures items { Makes (from_clause N.items with_.now needed src.now) (standing_of S.lines C.maps W.sheet self.old) (standing_of S.lines C.maps W.sheet self.new) }
+        ensures level { Stays (standing_of S.lines C.maps W.sheet self.old) (standing_of S.lines C.maps W.sheet self.new) }
     {
         match src {
             Some(src) => {
@@ -328,8 +328,8 @@ impl<W: WriteJs, S: SourceMapper, C: Comments> Emitter<'_, W, S, C> {
     /// Writes `{ a } from 'b';`
     #[tactic(auto, unfolding(crate::specs::Modules::export_tail))]
     fn export_tail<N: Held>(&mut self, node: &NamedExport<N>)
-        ensures items { Makes (export_tail N.items node.now) (standing_of S.lines W.sheet self.old) (standing_of S.lines W.sheet self.new) }
-        ensures level { Stays (standing_of S.lines W.sheet self.old) (standing_of S.lines W.sheet self.new) }
+        ensures items { Makes (export_tail N.items node.now) (standing_of S.lines C.maps W.sheet self.old) (standing_of S.lines C.maps W.sheet self.new) }
+        ensures level { Stays (standing_of S.lines C.maps W.sheet self.old) (standing_of S.lines C.maps W.sheet self.new) }
     {
         self.export_clause(node.span, &node.specifiers);
         self.from_clause(&node.with_, ends_with_name(&node.specifiers), &node.src);
@@ -340,8 +340,8 @@ impl<W: WriteJs, S: SourceMapper, C: Comments> Emitter<'_, W, S, C> {
     /// Writes `* from 'a';`
     #[tactic(auto, unfolding(crate::specs::Modules::all_tail))]
     fn all_tail<N: Held>(&mut self, node: &ExportAll<N>)
-        ensures items { Makes (all_tail N.items node.now) (standing_of S.lines W.sheet self.old) (standing_of S.lines W.sheet self.new) }
-        ensures level { Stays (standing_of S.lines W.sheet self.old) (standing_of S.lines W.sheet self.new) }
+        ensures items { Makes (all_tail N.items node.now) (standing_of S.lines C.maps W.sheet self.old) (standing_of S.lines C.maps W.sheet self.new) }
+        ensures level { Stays (standing_of S.lines C.maps W.sheet self.old) (standing_of S.lines C.maps W.sheet self.new) }
     {
         self.punct(Punctuator::Star);
         self.formatting_space();
@@ -352,8 +352,8 @@ impl<W: WriteJs, S: SourceMapper, C: Comments> Emitter<'_, W, S, C> {
     /// Writes `export default`.
     #[tactic(auto, unfolding(crate::specs::Modules::export_default))]
     fn export_default(&mut self)
-        ensures items { Makes (export_default) (standing_of S.lines W.sheet self.old) (standing_of S.lines W.sheet self.new) }
-        ensures level { Stays (standing_of S.lines W.sheet self.old) (standing_of S.lines W.sheet self.new) }
+        ensures items { Makes (export_default) (standing_of S.lines C.maps W.sheet self.old) (standing_of S.lines C.maps W.sheet self.new) }
+        ensures level { Stays (standing_of S.lines C.maps W.sheet self.old) (standing_of S.lines C.maps W.sheet self.new) }
     {
         self.keyword(None, "export");
         self.space();

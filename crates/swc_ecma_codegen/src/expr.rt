@@ -3,7 +3,7 @@
 ghost use Rattle.std.specs.Prelude.{◌≡◌, Some, None, true};
 ghost use Rattle.swc_ecma_codegen_base.specs.Starts.{begins_letter};
 ghost use Rattle.swc_ecma_codegen.specs.Standing.{Makes, Stays, standing_of};
-ghost use Rattle.swc_ecma_codegen.specs.Exprs.{ident, ident_name, private_name, this, unary_op, unary_gap, unary, update_parts, update, binary_op, before_op, after_op, bin_operator, tight_operator, spaced_operator, word_between, bin_trailing, bin_opened, bin, computed_prop_name, choice, meta_prop_expr, assign, yield_star, yield_arg, yield_expr, spread_element, await_expr, seq, paren};
+ghost use Rattle.swc_ecma_codegen.specs.Exprs.{ident, ident_name, private_name, this, unary_op, unary_gap, unary, update_parts, update, binary_op, before_op, after_op, bin_operator, tight_operator, spaced_operator, word_between, bin_trailing, bin_opened, bin, computed_prop_name, choice, meta_prop_expr, assign, yield_star, yield_arg, yield_argument, yield_argument_in, yield_expr, spread_element, await_expr, seq, paren};
 ghost use Rattle.swc_ecma_codegen.specs.AnyExpr.{expr_parts, is_left_operand, leaves_comments, expr_closed, expr};
 ghost use Rattle.swc_ecma_codegen_spans.specs.Spans.{expr_span};
 ghost use Rattle.swc_ecma_codegen.specs.Answers.{place_of};
@@ -55,8 +55,8 @@ fn plainly<N: Held, W: WriteJs, S: SourceMapper, C: Comments>(
     node: &N,
     e: &mut Emitter<'_, W, S, C>,
 )
-    ensures items { Makes (N.items node.now Plain) (standing_of S.lines W.sheet e.old) (standing_of S.lines W.sheet e.new) }
-    ensures level { Stays (standing_of S.lines W.sheet e.old) (standing_of S.lines W.sheet e.new) }
+    ensures items { Makes (N.items node.now Plain) (standing_of S.lines C.maps W.sheet e.old) (standing_of S.lines C.maps W.sheet e.new) }
+    ensures level { Stays (standing_of S.lines C.maps W.sheet e.old) (standing_of S.lines C.maps W.sheet e.new) }
 {
     node.emit_at(e, Place::Plain);
 }
@@ -69,8 +69,8 @@ fn expr_parts<N: Held, W: WriteJs, S: SourceMapper, C: Comments>(
     e: &mut Emitter<'_, W, S, C>,
     place: Place,
 )
-    ensures items { Makes (expr_parts N.answers N.items node.now place) (standing_of S.lines W.sheet e.old) (standing_of S.lines W.sheet e.new) }
-    ensures level { Stays (standing_of S.lines W.sheet e.old) (standing_of S.lines W.sheet e.new) }
+    ensures items { Makes (expr_parts N.answers N.items node.now place) (standing_of S.lines C.maps W.sheet e.old) (standing_of S.lines C.maps W.sheet e.new) }
+    ensures level { Stays (standing_of S.lines C.maps W.sheet e.old) (standing_of S.lines C.maps W.sheet e.new) }
 {
     match node {
         Expr::This(node) => node.emit_at(e, place),
@@ -118,7 +118,7 @@ impl<N: Held> EmitAt for Expr<N> {
     ghost items = { expr N.answers N.items };
 
     #[inline(always)]
-    #[tactic(auto, unfolding(crate::specs::AnyExpr::expr), using(crate::proofs::Asked::closed_bare))]
+    #[tactic(auto, using(crate::proofs::Without::none_there, crate::proofs::Without::expr_bare))]
     fn emit_at<W: WriteJs, S: SourceMapper, C: Comments>(
         &self,
         e: &mut Emitter<'_, W, S, C>,
@@ -140,8 +140,8 @@ fn commented<N: Held, W: WriteJs, S: SourceMapper, C: Comments>(
     e: &mut Emitter<'_, W, S, C>,
     place: Place,
 )
-    ensures items { Makes (expr N.answers N.items node.now place) (standing_of S.lines W.sheet e.old) (standing_of S.lines W.sheet e.new) }
-    ensures level { Stays (standing_of S.lines W.sheet e.old) (standing_of S.lines W.sheet e.new) }
+    ensures items { Makes (expr N.answers N.items node.now place) (standing_of S.lines C.maps W.sheet e.old) (standing_of S.lines C.maps W.sheet e.new) }
+    ensures level { Stays (standing_of S.lines C.maps W.sheet e.old) (standing_of S.lines C.maps W.sheet e.new) }
 {
     expr_parts(node, e, place);
     e.expr_closed(node, place);
@@ -409,15 +409,12 @@ impl<N: Held> EmitAt for SpreadElement<N> {
 }
 
 impl<W: WriteJs, S: SourceMapper, C: Comments> Emitter<'_, W, S, C> {
-    /// Writes the comments after an expression, unless they are left where they are. Where it stands is asked only where there are comments.
-    #[tactic(auto, unfolding(crate::specs::AnyExpr::expr_closed), using(crate::proofs::Asked::closed_bare, crate::proofs::Asked::closed_commented))]
+    /// Writes the comments after an expression, unless they are left where they are.
+    #[tactic(auto, using(crate::proofs::Asked::closed_left, crate::proofs::Asked::closed_commented))]
     fn expr_closed<N: Held>(&mut self, node: &Expr<N>, place: Place)
-        ensures items { Makes (expr_closed (leaves_comments node.now place) (expr_span (place_of N.answers) node.now)) (standing_of S.lines W.sheet self.old) (standing_of S.lines W.sheet self.new) }
-        ensures level { Stays (standing_of S.lines W.sheet self.old) (standing_of S.lines W.sheet self.new) }
+        ensures items { Makes (expr_closed (leaves_comments node.now place) (expr_span (place_of N.answers) node.now)) (standing_of S.lines C.maps W.sheet self.old) (standing_of S.lines C.maps W.sheet self.new) }
+        ensures level { Stays (standing_of S.lines C.maps W.sheet self.old) (standing_of S.lines C.maps W.sheet self.new) }
     {
-        if self.comments.is_none() {
-            return;
-        }
         if leaves_comments(node, place) {
             return;
         }
@@ -427,8 +424,8 @@ impl<W: WriteJs, S: SourceMapper, C: Comments> Emitter<'_, W, S, C> {
     /// Writes the comments before a binary expression and its start, unless it is an inner left operand.
     #[tactic(auto, unfolding(crate::specs::Exprs::bin_opened))]
     fn bin_opened(&mut self, place: Place, span: Span)
-        ensures items { Makes (bin_opened place span) (standing_of S.lines W.sheet self.old) (standing_of S.lines W.sheet self.new) }
-        ensures level { Stays (standing_of S.lines W.sheet self.old) (standing_of S.lines W.sheet self.new) }
+        ensures items { Makes (bin_opened place span) (standing_of S.lines C.maps W.sheet self.old) (standing_of S.lines C.maps W.sheet self.new) }
+        ensures level { Stays (standing_of S.lines C.maps W.sheet self.old) (standing_of S.lines C.maps W.sheet self.new) }
     {
         match place {
             Place::LeftOperand => {}
@@ -439,8 +436,8 @@ impl<W: WriteJs, S: SourceMapper, C: Comments> Emitter<'_, W, S, C> {
     /// Writes a binary operator.
     #[tactic(auto, using(crate::proofs::OperatorLaws::marked_binary, crate::proofs::OperatorLaws::worded_binary))]
     fn binary_op(&mut self, op: BinaryOp)
-        ensures items { Makes (binary_op op) (standing_of S.lines W.sheet self.old) (standing_of S.lines W.sheet self.new) }
-        ensures level { Stays (standing_of S.lines W.sheet self.old) (standing_of S.lines W.sheet self.new) }
+        ensures items { Makes (binary_op op) (standing_of S.lines C.maps W.sheet self.old) (standing_of S.lines C.maps W.sheet self.new) }
+        ensures level { Stays (standing_of S.lines C.maps W.sheet self.old) (standing_of S.lines C.maps W.sheet self.new) }
     {
         match binary_mark(op) {
             Some(mark) => self.operator(mark),
@@ -451,8 +448,8 @@ impl<W: WriteJs, S: SourceMapper, C: Comments> Emitter<'_, W, S, C> {
     /// Writes the operator and the right operand. swc's `emit_bin_expr_trailing`.
     #[tactic(auto, unfolding(crate::specs::Exprs::bin_trailing))]
     fn bin_trailing<N: Held>(&mut self, node: &BinExpr<N>)
-        ensures items { Makes (bin_trailing N.answers N.items node.now) (standing_of S.lines W.sheet self.old) (standing_of S.lines W.sheet self.new) }
-        ensures level { Stays (standing_of S.lines W.sheet self.old) (standing_of S.lines W.sheet self.new) }
+        ensures items { Makes (bin_trailing N.answers N.items node.now) (standing_of S.lines C.maps W.sheet self.old) (standing_of S.lines C.maps W.sheet self.new) }
+        ensures level { Stays (standing_of S.lines C.maps W.sheet self.old) (standing_of S.lines C.maps W.sheet self.new) }
     {
         self.bin_operator(node);
         node.right.held().emit_at(self, Place::Plain);
@@ -463,8 +460,8 @@ impl<W: WriteJs, S: SourceMapper, C: Comments> Emitter<'_, W, S, C> {
     #[inline(always)]
     #[tactic(auto, unfolding(crate::specs::Exprs::bin_operator, crate::specs::Exprs::tight_operator), using(crate::proofs::Between::binary_tight, crate::proofs::Between::binary_between))]
     fn bin_operator<N: Asked>(&mut self, node: &BinExpr<N>)
-        ensures items { Makes (bin_operator N.answers node.now) (standing_of S.lines W.sheet self.old) (standing_of S.lines W.sheet self.new) }
-        ensures level { Stays (standing_of S.lines W.sheet self.old) (standing_of S.lines W.sheet self.new) }
+        ensures items { Makes (bin_operator N.answers node.now) (standing_of S.lines C.maps W.sheet self.old) (standing_of S.lines C.maps W.sheet self.new) }
+        ensures level { Stays (standing_of S.lines C.maps W.sheet self.old) (standing_of S.lines C.maps W.sheet self.new) }
     {
         if self.cfg.minify {
             self.tight_operator(node)
@@ -476,8 +473,8 @@ impl<W: WriteJs, S: SourceMapper, C: Comments> Emitter<'_, W, S, C> {
     /// Writes the operator, with blanks where they are needed: `a in b`, `a+b`, `a+ +b`.
     #[tactic(auto, unfolding(crate::specs::Exprs::tight_operator))]
     fn tight_operator<N: Asked>(&mut self, node: &BinExpr<N>)
-        ensures items { Makes (tight_operator N.answers node.now) (standing_of S.lines W.sheet self.old) (standing_of S.lines W.sheet self.new) }
-        ensures level { Stays (standing_of S.lines W.sheet self.old) (standing_of S.lines W.sheet self.new) }
+        ensures items { Makes (tight_operator N.answers node.now) (standing_of S.lines C.maps W.sheet self.old) (standing_of S.lines C.maps W.sheet self.new) }
+        ensures level { Stays (standing_of S.lines C.maps W.sheet self.old) (standing_of S.lines C.maps W.sheet self.new) }
     {
         self.space_if(before_op(node.op, node.left.held()));
         self.binary_op(node.op);
@@ -487,8 +484,8 @@ impl<W: WriteJs, S: SourceMapper, C: Comments> Emitter<'_, W, S, C> {
     /// Writes a binary operator between two blanks.
     #[tactic(auto, using(crate::proofs::OperatorLaws::marked_between, crate::proofs::OperatorLaws::worded_between))]
     fn spaced_operator(&mut self, op: BinaryOp)
-        ensures items { Makes (spaced_operator op) (standing_of S.lines W.sheet self.old) (standing_of S.lines W.sheet self.new) }
-        ensures level { Stays (standing_of S.lines W.sheet self.old) (standing_of S.lines W.sheet self.new) }
+        ensures items { Makes (spaced_operator op) (standing_of S.lines C.maps W.sheet self.old) (standing_of S.lines C.maps W.sheet self.new) }
+        ensures level { Stays (standing_of S.lines C.maps W.sheet self.old) (standing_of S.lines C.maps W.sheet self.new) }
     {
         match binary_mark(op) {
             Some(mark) => self.operator_between(mark),
@@ -500,8 +497,8 @@ impl<W: WriteJs, S: SourceMapper, C: Comments> Emitter<'_, W, S, C> {
     #[tactic(auto, unfolding(crate::specs::Exprs::word_between))]
     fn word_between(&mut self, text: &'static str)
         requires { begins_letter text.now ≡ true }
-        ensures items { Makes (word_between text.now) (standing_of S.lines W.sheet self.old) (standing_of S.lines W.sheet self.new) }
-        ensures level { Stays (standing_of S.lines W.sheet self.old) (standing_of S.lines W.sheet self.new) }
+        ensures items { Makes (word_between text.now) (standing_of S.lines C.maps W.sheet self.old) (standing_of S.lines C.maps W.sheet self.new) }
+        ensures level { Stays (standing_of S.lines C.maps W.sheet self.old) (standing_of S.lines C.maps W.sheet self.new) }
     {
         self.space();
         self.word_operator(text);
@@ -511,8 +508,8 @@ impl<W: WriteJs, S: SourceMapper, C: Comments> Emitter<'_, W, S, C> {
     /// Writes a unary operator.
     #[tactic(auto, using(crate::proofs::OperatorLaws::marked_unary, crate::proofs::OperatorLaws::worded_unary))]
     fn unary_op(&mut self, op: UnaryOp)
-        ensures items { Makes (unary_op op) (standing_of S.lines W.sheet self.old) (standing_of S.lines W.sheet self.new) }
-        ensures level { Stays (standing_of S.lines W.sheet self.old) (standing_of S.lines W.sheet self.new) }
+        ensures items { Makes (unary_op op) (standing_of S.lines C.maps W.sheet self.old) (standing_of S.lines C.maps W.sheet self.new) }
+        ensures level { Stays (standing_of S.lines C.maps W.sheet self.old) (standing_of S.lines C.maps W.sheet self.new) }
     {
         match unary_mark(op) {
             Some(mark) => self.punct(mark),
@@ -524,8 +521,8 @@ impl<W: WriteJs, S: SourceMapper, C: Comments> Emitter<'_, W, S, C> {
     #[inline(always)]
     #[tactic(auto, unfolding(crate::specs::Exprs::unary_gap))]
     fn unary_gap<N: Asked>(&mut self, op: UnaryOp, arg: &N)
-        ensures items { Makes (unary_gap op (N.answers arg.now)) (standing_of S.lines W.sheet self.old) (standing_of S.lines W.sheet self.new) }
-        ensures level { Stays (standing_of S.lines W.sheet self.old) (standing_of S.lines W.sheet self.new) }
+        ensures items { Makes (unary_gap op (N.answers arg.now)) (standing_of S.lines C.maps W.sheet self.old) (standing_of S.lines C.maps W.sheet self.new) }
+        ensures level { Stays (standing_of S.lines C.maps W.sheet self.old) (standing_of S.lines C.maps W.sheet self.new) }
     {
         if is_word_unary(op) {
             self.blank(arg.starts())
@@ -537,8 +534,8 @@ impl<W: WriteJs, S: SourceMapper, C: Comments> Emitter<'_, W, S, C> {
     /// Writes `*` after `yield`.
     #[tactic(auto, unfolding(crate::specs::Exprs::yield_star))]
     fn yield_star(&mut self, delegate: bool)
-        ensures items { Makes (yield_star delegate) (standing_of S.lines W.sheet self.old) (standing_of S.lines W.sheet self.new) }
-        ensures level { Stays (standing_of S.lines W.sheet self.old) (standing_of S.lines W.sheet self.new) }
+        ensures items { Makes (yield_star delegate) (standing_of S.lines C.maps W.sheet self.old) (standing_of S.lines C.maps W.sheet self.new) }
+        ensures level { Stays (standing_of S.lines C.maps W.sheet self.old) (standing_of S.lines C.maps W.sheet self.new) }
     {
         if delegate {
             return self.operator(Punctuator::Star);
@@ -548,15 +545,38 @@ impl<W: WriteJs, S: SourceMapper, C: Comments> Emitter<'_, W, S, C> {
     /// Writes the argument of `yield`, and the blank before it.
     #[tactic(auto, unfolding(crate::specs::Exprs::yield_arg))]
     fn yield_arg<N: Held>(&mut self, delegate: bool, arg: &Option<ExprBox<N>>)
-        ensures items { Makes (yield_arg N.answers N.items delegate arg.now) (standing_of S.lines W.sheet self.old) (standing_of S.lines W.sheet self.new) }
-        ensures level { Stays (standing_of S.lines W.sheet self.old) (standing_of S.lines W.sheet self.new) }
+        ensures items { Makes (yield_arg N.answers N.items delegate arg.now) (standing_of S.lines C.maps W.sheet self.old) (standing_of S.lines C.maps W.sheet self.new) }
+        ensures level { Stays (standing_of S.lines C.maps W.sheet self.old) (standing_of S.lines C.maps W.sheet self.new) }
     {
         match arg {
-            Some(node) => {
-                self.blank(!delegate && node.held().starts());
-                node.held().emit_at(self, Place::Plain)
-            }
+            Some(node) => self.yield_argument(delegate, node.held()),
             None => {}
+        }
+    }
+
+    /// Writes it, where there is one.
+    #[tactic(auto, using(crate::proofs::Asked::yield_asked))]
+    fn yield_argument<N: Held>(&mut self, delegate: bool, node: &N)
+        ensures items { Makes (yield_argument N.answers N.items delegate node.now) (standing_of S.lines C.maps W.sheet self.old) (standing_of S.lines C.maps W.sheet self.new) }
+        ensures level { Stays (standing_of S.lines C.maps W.sheet self.old) (standing_of S.lines C.maps W.sheet self.new) }
+    {
+        let breaks = node.breaks(&self.comments);
+        self.yield_argument_in(delegate, breaks, node)
+    }
+
+    /// Writes it in parentheses where a line ends in or after a comment before it.
+    #[tactic(auto, unfolding(crate::specs::Exprs::yield_argument_in, swc_ecma_codegen_base::specs::Choices::optional_parentheses))]
+    fn yield_argument_in<N: Held>(&mut self, delegate: bool, breaks: bool, node: &N)
+        ensures items { Makes (yield_argument_in N.answers N.items delegate node.now breaks) (standing_of S.lines C.maps W.sheet self.old) (standing_of S.lines C.maps W.sheet self.new) }
+        ensures level { Stays (standing_of S.lines C.maps W.sheet self.old) (standing_of S.lines C.maps W.sheet self.new) }
+    {
+        if breaks {
+            self.punct(Punctuator::LeftParenthesis);
+            node.emit_at(self, Place::Plain);
+            self.punct(Punctuator::RightParenthesis);
+        } else {
+            self.blank(!delegate && node.starts());
+            node.emit_at(self, Place::Plain);
         }
     }
 }

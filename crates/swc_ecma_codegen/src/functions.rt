@@ -1,12 +1,14 @@
 //! Functions.
 
-ghost use Rattle.std.specs.Prelude.{◌≡◌};
+ghost use Rattle.std.specs.Prelude.{◌≡◌, ◌&&◌, not};
+ghost use Rattle.swc_ecma_codegen_ast.specs.Comments.{maps_in};
 ghost use Rattle.swc_ecma_codegen_literals.specs.Punctuators.{spelling};
 ghost use Rattle.swc_ecma_codegen.specs.Standing.{Makes, Stays, standing_of};
-ghost use Rattle.swc_ecma_codegen.specs.FunctionExprs.{comma_list_format, star, optional_name, fn_expr, is_plain, is_name, is_only, async_arrow, parenthesis, arrow_list, arrow_parameters, arrow_body, arrow_expr};
+ghost use Rattle.swc_ecma_codegen.specs.FunctionExprs.{comma_list_format, star, optional_name, fn_expr, is_plain, is_name, is_only, async_arrow, parenthesis, has_comment_behind, arrow_children, arrow_list, arrow_within, arrow_parameters, arrow_body, arrow_expr};
 ghost use Rattle.swc_ecma_codegen.specs.Functions.{decorators_format, decorator, decorators, decorator_lines, param, function_body, parameters, fn_trailing_parts, fn_trailing, static_gap, static_head, method_body, method_tail_parts, method_tail, private_tail, async_word, function_head, star_or_space, declaration_head, method_head, function};
 
 use crate::blocks::is_some_listed;
+use crate::commented::has_comment_after;
 use crate::emitter::Emitter;
 use crate::nodes::{Asked, Child, EmitAt, Held, Place};
 use crate::patterns::PatternKind;
@@ -43,6 +45,27 @@ fn is_only_plain<N: Asked>(params: &[PatBox<N>]) -> bool
         [param] => matches!(param.held().pattern(), PatternKind::PlainName),
         _ => false,
     }
+}
+
+/// Whether the only parameter has a comment after it. Where it stands is asked only where there are comments.
+#[tactic(auto, using(crate::proofs::Without::none_behind), unfolding(crate::specs::FunctionExprs::has_comment_behind))]
+fn has_comment_behind<N: Asked, C: Comments>(params: &[PatBox<N>], comments: &Option<C>) -> bool
+    ensures { result ≡ has_comment_behind N.answers params.now (maps_in C.maps comments.now) }
+{
+    if comments.is_none() {
+        return false;
+    }
+    match params {
+        [param] => has_comment_after(comments, param.held().place()),
+        _ => false,
+    }
+}
+
+/// Whether the only parameter is a name alone, without a comment after it.
+fn is_bare<N: Asked, C: Comments>(params: &[PatBox<N>], comments: &Option<C>) -> bool
+    ensures { result ≡ (is_only is_plain N.answers params.now && not (has_comment_behind N.answers params.now (maps_in C.maps comments.now))) }
+{
+    is_only_plain(params) && !has_comment_behind(params, comments)
 }
 
 /// Whether the only parameter is a name, with or without a type.
@@ -196,8 +219,8 @@ impl<N: Held> Child for Param<N> {
 impl<W: WriteJs, S: SourceMapper, C: Comments> Emitter<'_, W, S, C> {
     /// Writes decorators, one after another.
     pub(crate) fn decorator_lines<N: Held>(&mut self, nodes: &[Decorator<N>])
-        ensures items { Makes (decorator_lines N.items nodes.now) (standing_of S.lines W.sheet self.old) (standing_of S.lines W.sheet self.new) }
-        ensures level { Stays (standing_of S.lines W.sheet self.old) (standing_of S.lines W.sheet self.new) }
+        ensures items { Makes (decorator_lines N.items nodes.now) (standing_of S.lines C.maps W.sheet self.old) (standing_of S.lines C.maps W.sheet self.new) }
+        ensures level { Stays (standing_of S.lines C.maps W.sheet self.old) (standing_of S.lines C.maps W.sheet self.new) }
     {
         self.in_order(nodes)
     }
@@ -205,8 +228,8 @@ impl<W: WriteJs, S: SourceMapper, C: Comments> Emitter<'_, W, S, C> {
     /// Writes `async` and a blank, where it is so.
     #[tactic(auto, unfolding(crate::specs::Functions::async_word))]
     fn async_word(&mut self, wanted: bool)
-        ensures items { Makes (async_word wanted) (standing_of S.lines W.sheet self.old) (standing_of S.lines W.sheet self.new) }
-        ensures level { Stays (standing_of S.lines W.sheet self.old) (standing_of S.lines W.sheet self.new) }
+        ensures items { Makes (async_word wanted) (standing_of S.lines C.maps W.sheet self.old) (standing_of S.lines C.maps W.sheet self.new) }
+        ensures level { Stays (standing_of S.lines C.maps W.sheet self.old) (standing_of S.lines C.maps W.sheet self.new) }
     {
         if wanted {
             self.keyword(None, "async");
@@ -217,8 +240,8 @@ impl<W: WriteJs, S: SourceMapper, C: Comments> Emitter<'_, W, S, C> {
     /// Writes `*`, where it is so.
     #[tactic(auto, unfolding(crate::specs::FunctionExprs::star))]
     fn star(&mut self, wanted: bool)
-        ensures items { Makes (star wanted) (standing_of S.lines W.sheet self.old) (standing_of S.lines W.sheet self.new) }
-        ensures level { Stays (standing_of S.lines W.sheet self.old) (standing_of S.lines W.sheet self.new) }
+        ensures items { Makes (star wanted) (standing_of S.lines C.maps W.sheet self.old) (standing_of S.lines C.maps W.sheet self.new) }
+        ensures level { Stays (standing_of S.lines C.maps W.sheet self.old) (standing_of S.lines C.maps W.sheet self.new) }
     {
         if wanted {
             self.punct(Punctuator::Star);
@@ -228,8 +251,8 @@ impl<W: WriteJs, S: SourceMapper, C: Comments> Emitter<'_, W, S, C> {
     /// Writes `async function*` or a part of it.
     #[tactic(auto, unfolding(crate::specs::Functions::function_head))]
     fn function_head<N>(&mut self, node: &Function<N>)
-        ensures items { Makes (function_head node.now) (standing_of S.lines W.sheet self.old) (standing_of S.lines W.sheet self.new) }
-        ensures level { Stays (standing_of S.lines W.sheet self.old) (standing_of S.lines W.sheet self.new) }
+        ensures items { Makes (function_head node.now) (standing_of S.lines C.maps W.sheet self.old) (standing_of S.lines C.maps W.sheet self.new) }
+        ensures level { Stays (standing_of S.lines C.maps W.sheet self.old) (standing_of S.lines C.maps W.sheet self.new) }
     {
         self.async_word(node.is_async);
         self.keyword(None, "function");
@@ -239,8 +262,8 @@ impl<W: WriteJs, S: SourceMapper, C: Comments> Emitter<'_, W, S, C> {
     /// Writes a blank, or `*` and one unless the settings are to minify.
     #[tactic(auto, unfolding(crate::specs::Functions::star_or_space))]
     fn star_or_space(&mut self, wanted: bool)
-        ensures items { Makes (star_or_space wanted) (standing_of S.lines W.sheet self.old) (standing_of S.lines W.sheet self.new) }
-        ensures level { Stays (standing_of S.lines W.sheet self.old) (standing_of S.lines W.sheet self.new) }
+        ensures items { Makes (star_or_space wanted) (standing_of S.lines C.maps W.sheet self.old) (standing_of S.lines C.maps W.sheet self.new) }
+        ensures level { Stays (standing_of S.lines C.maps W.sheet self.old) (standing_of S.lines C.maps W.sheet self.new) }
     {
         if !wanted {
             return self.space();
@@ -252,8 +275,8 @@ impl<W: WriteJs, S: SourceMapper, C: Comments> Emitter<'_, W, S, C> {
     /// Writes `async function*` or a part of it, and a blank.
     #[tactic(auto, unfolding(crate::specs::Functions::declaration_head))]
     fn declaration_head<N>(&mut self, node: &Function<N>)
-        ensures items { Makes (declaration_head node.now) (standing_of S.lines W.sheet self.old) (standing_of S.lines W.sheet self.new) }
-        ensures level { Stays (standing_of S.lines W.sheet self.old) (standing_of S.lines W.sheet self.new) }
+        ensures items { Makes (declaration_head node.now) (standing_of S.lines C.maps W.sheet self.old) (standing_of S.lines C.maps W.sheet self.new) }
+        ensures level { Stays (standing_of S.lines C.maps W.sheet self.old) (standing_of S.lines C.maps W.sheet self.new) }
     {
         self.async_word(node.is_async);
         self.keyword(None, "function");
@@ -263,8 +286,8 @@ impl<W: WriteJs, S: SourceMapper, C: Comments> Emitter<'_, W, S, C> {
     /// Writes `async *` or a part of it.
     #[tactic(auto, unfolding(crate::specs::Functions::method_head))]
     fn method_head<N>(&mut self, node: &Function<N>)
-        ensures items { Makes (method_head node.now) (standing_of S.lines W.sheet self.old) (standing_of S.lines W.sheet self.new) }
-        ensures level { Stays (standing_of S.lines W.sheet self.old) (standing_of S.lines W.sheet self.new) }
+        ensures items { Makes (method_head node.now) (standing_of S.lines C.maps W.sheet self.old) (standing_of S.lines C.maps W.sheet self.new) }
+        ensures level { Stays (standing_of S.lines C.maps W.sheet self.old) (standing_of S.lines C.maps W.sheet self.new) }
     {
         self.async_word(node.is_async);
         self.star(node.is_generator);
@@ -273,8 +296,8 @@ impl<W: WriteJs, S: SourceMapper, C: Comments> Emitter<'_, W, S, C> {
     /// Writes `(a) { b; }` of `function f(a) { b; }`. swc's `emit_fn_trailing`.
     #[tactic(auto, unfolding(crate::specs::Functions::fn_trailing))]
     fn fn_trailing<N: Held>(&mut self, node: &Function<N>)
-        ensures items { Makes (fn_trailing N.answers N.items node.now) (standing_of S.lines W.sheet self.old) (standing_of S.lines W.sheet self.new) }
-        ensures level { Stays (standing_of S.lines W.sheet self.old) (standing_of S.lines W.sheet self.new) }
+        ensures items { Makes (fn_trailing N.answers N.items node.now) (standing_of S.lines C.maps W.sheet self.old) (standing_of S.lines C.maps W.sheet self.new) }
+        ensures level { Stays (standing_of S.lines C.maps W.sheet self.old) (standing_of S.lines C.maps W.sheet self.new) }
     {
         if node.type_params.is_some()
             || node.return_type.is_some()
@@ -288,8 +311,8 @@ impl<W: WriteJs, S: SourceMapper, C: Comments> Emitter<'_, W, S, C> {
     /// Writes the body of a method, or a semicolon in its place.
     #[tactic(auto, unfolding(crate::specs::Functions::method_body))]
     fn method_body<N: Held>(&mut self, body: &Option<BlockStmtBox<N>>)
-        ensures items { Makes (method_body N.items body.now) (standing_of S.lines W.sheet self.old) (standing_of S.lines W.sheet self.new) }
-        ensures level { Stays (standing_of S.lines W.sheet self.old) (standing_of S.lines W.sheet self.new) }
+        ensures items { Makes (method_body N.items body.now) (standing_of S.lines C.maps W.sheet self.old) (standing_of S.lines C.maps W.sheet self.new) }
+        ensures level { Stays (standing_of S.lines C.maps W.sheet self.old) (standing_of S.lines C.maps W.sheet self.new) }
     {
         match body {
             Some(body) => {
@@ -303,8 +326,8 @@ impl<W: WriteJs, S: SourceMapper, C: Comments> Emitter<'_, W, S, C> {
     /// Writes `(a) { b; }` of a method, without what TypeScript adds.
     #[tactic(auto, unfolding(crate::specs::Functions::method_tail_parts))]
     fn method_tail_parts<N: Held>(&mut self, node: &Function<N>)
-        ensures items { Makes (method_tail_parts N.answers N.items node.now) (standing_of S.lines W.sheet self.old) (standing_of S.lines W.sheet self.new) }
-        ensures level { Stays (standing_of S.lines W.sheet self.old) (standing_of S.lines W.sheet self.new) }
+        ensures items { Makes (method_tail_parts N.answers N.items node.now) (standing_of S.lines C.maps W.sheet self.old) (standing_of S.lines C.maps W.sheet self.new) }
+        ensures level { Stays (standing_of S.lines C.maps W.sheet self.old) (standing_of S.lines C.maps W.sheet self.new) }
     {
         self.punct(Punctuator::LeftParenthesis);
         self.parameters(node);
@@ -315,8 +338,8 @@ impl<W: WriteJs, S: SourceMapper, C: Comments> Emitter<'_, W, S, C> {
     /// Writes `(a) { b; }` of a method, whose decorators stand elsewhere.
     #[tactic(auto, unfolding(crate::specs::Functions::method_tail))]
     fn method_tail<N: Held>(&mut self, node: &Function<N>)
-        ensures items { Makes (method_tail N.answers N.items node.now) (standing_of S.lines W.sheet self.old) (standing_of S.lines W.sheet self.new) }
-        ensures level { Stays (standing_of S.lines W.sheet self.old) (standing_of S.lines W.sheet self.new) }
+        ensures items { Makes (method_tail N.answers N.items node.now) (standing_of S.lines C.maps W.sheet self.old) (standing_of S.lines C.maps W.sheet self.new) }
+        ensures level { Stays (standing_of S.lines C.maps W.sheet self.old) (standing_of S.lines C.maps W.sheet self.new) }
     {
         if node.type_params.is_some() || node.return_type.is_some() {
             return self.unsupported();
@@ -327,8 +350,8 @@ impl<W: WriteJs, S: SourceMapper, C: Comments> Emitter<'_, W, S, C> {
     /// Writes `(a) { b; }` of a private method, whose decorators stand elsewhere.
     #[tactic(auto, unfolding(crate::specs::Functions::private_tail))]
     fn private_tail<N: Held>(&mut self, node: &Function<N>)
-        ensures items { Makes (private_tail N.answers N.items node.now) (standing_of S.lines W.sheet self.old) (standing_of S.lines W.sheet self.new) }
-        ensures level { Stays (standing_of S.lines W.sheet self.old) (standing_of S.lines W.sheet self.new) }
+        ensures items { Makes (private_tail N.answers N.items node.now) (standing_of S.lines C.maps W.sheet self.old) (standing_of S.lines C.maps W.sheet self.new) }
+        ensures level { Stays (standing_of S.lines C.maps W.sheet self.old) (standing_of S.lines C.maps W.sheet self.new) }
     {
         if node.type_params.is_some() || node.return_type.is_some() {
             return self.unsupported();
@@ -339,8 +362,8 @@ impl<W: WriteJs, S: SourceMapper, C: Comments> Emitter<'_, W, S, C> {
     /// Writes `(a) { b; }`.
     #[tactic(auto, unfolding(crate::specs::Functions::fn_trailing_parts))]
     fn fn_trailing_parts<N: Held>(&mut self, node: &Function<N>)
-        ensures items { Makes (fn_trailing_parts N.answers N.items node.now) (standing_of S.lines W.sheet self.old) (standing_of S.lines W.sheet self.new) }
-        ensures level { Stays (standing_of S.lines W.sheet self.old) (standing_of S.lines W.sheet self.new) }
+        ensures items { Makes (fn_trailing_parts N.answers N.items node.now) (standing_of S.lines C.maps W.sheet self.old) (standing_of S.lines C.maps W.sheet self.new) }
+        ensures level { Stays (standing_of S.lines C.maps W.sheet self.old) (standing_of S.lines C.maps W.sheet self.new) }
     {
         self.punct(Punctuator::LeftParenthesis);
         self.parameters(node);
@@ -351,8 +374,8 @@ impl<W: WriteJs, S: SourceMapper, C: Comments> Emitter<'_, W, S, C> {
     /// Writes the blank after `static`.
     #[tactic(auto, unfolding(crate::specs::Functions::static_gap))]
     fn static_gap(&mut self, needed: bool)
-        ensures items { Makes (static_gap needed) (standing_of S.lines W.sheet self.old) (standing_of S.lines W.sheet self.new) }
-        ensures level { Stays (standing_of S.lines W.sheet self.old) (standing_of S.lines W.sheet self.new) }
+        ensures items { Makes (static_gap needed) (standing_of S.lines C.maps W.sheet self.old) (standing_of S.lines C.maps W.sheet self.new) }
+        ensures level { Stays (standing_of S.lines C.maps W.sheet self.old) (standing_of S.lines C.maps W.sheet self.new) }
     {
         if needed {
             self.space()
@@ -365,8 +388,8 @@ impl<W: WriteJs, S: SourceMapper, C: Comments> Emitter<'_, W, S, C> {
     /// a character of a name.
     #[tactic(auto, unfolding(crate::specs::Functions::static_head))]
     fn static_head<N>(&mut self, starts: bool, node: &Function<N>)
-        ensures items { Makes (static_head starts node.now) (standing_of S.lines W.sheet self.old) (standing_of S.lines W.sheet self.new) }
-        ensures level { Stays (standing_of S.lines W.sheet self.old) (standing_of S.lines W.sheet self.new) }
+        ensures items { Makes (static_head starts node.now) (standing_of S.lines C.maps W.sheet self.old) (standing_of S.lines C.maps W.sheet self.new) }
+        ensures level { Stays (standing_of S.lines C.maps W.sheet self.old) (standing_of S.lines C.maps W.sheet self.new) }
     {
         self.static_gap(node.is_async || (!node.is_generator && starts));
         self.method_head(node);
@@ -374,16 +397,16 @@ impl<W: WriteJs, S: SourceMapper, C: Comments> Emitter<'_, W, S, C> {
 
     /// Writes the parameters of a function, with commas between.
     fn parameters<N: Held>(&mut self, node: &Function<N>)
-        ensures items { Makes (parameters N.answers N.items node.now) (standing_of S.lines W.sheet self.old) (standing_of S.lines W.sheet self.new) }
-        ensures level { Stays (standing_of S.lines W.sheet self.old) (standing_of S.lines W.sheet self.new) }
+        ensures items { Makes (parameters N.answers N.items node.now) (standing_of S.lines C.maps W.sheet self.old) (standing_of S.lines C.maps W.sheet self.new) }
+        ensures level { Stays (standing_of S.lines C.maps W.sheet self.old) (standing_of S.lines C.maps W.sheet self.new) }
     {
         self.list(comma_list_format(), node.span, &node.params)
     }
 
     /// Writes the decorators of a parameter.
     fn decorators<N: Held>(&mut self, node: &Param<N>)
-        ensures items { Makes (decorators N.items node.now) (standing_of S.lines W.sheet self.old) (standing_of S.lines W.sheet self.new) }
-        ensures level { Stays (standing_of S.lines W.sheet self.old) (standing_of S.lines W.sheet self.new) }
+        ensures items { Makes (decorators N.items node.now) (standing_of S.lines C.maps W.sheet self.old) (standing_of S.lines C.maps W.sheet self.new) }
+        ensures level { Stays (standing_of S.lines C.maps W.sheet self.old) (standing_of S.lines C.maps W.sheet self.new) }
     {
         self.list(decorators_format(), node.span, &node.decorators)
     }
@@ -391,8 +414,8 @@ impl<W: WriteJs, S: SourceMapper, C: Comments> Emitter<'_, W, S, C> {
     /// Writes a blank and a body, or a semicolon.
     #[tactic(auto, unfolding(crate::specs::Functions::function_body))]
     fn function_body<N: Held>(&mut self, body: &Option<BlockStmtBox<N>>)
-        ensures items { Makes (function_body N.items body.now) (standing_of S.lines W.sheet self.old) (standing_of S.lines W.sheet self.new) }
-        ensures level { Stays (standing_of S.lines W.sheet self.old) (standing_of S.lines W.sheet self.new) }
+        ensures items { Makes (function_body N.items body.now) (standing_of S.lines C.maps W.sheet self.old) (standing_of S.lines C.maps W.sheet self.new) }
+        ensures level { Stays (standing_of S.lines C.maps W.sheet self.old) (standing_of S.lines C.maps W.sheet self.new) }
     {
         match body {
             Some(body) => {
@@ -406,8 +429,8 @@ impl<W: WriteJs, S: SourceMapper, C: Comments> Emitter<'_, W, S, C> {
     /// Writes a blank and a name, where there is one.
     #[tactic(auto, unfolding(crate::specs::FunctionExprs::optional_name))]
     pub(crate) fn optional_name(&mut self, name: &Option<Ident>)
-        ensures items { Makes (optional_name name.now) (standing_of S.lines W.sheet self.old) (standing_of S.lines W.sheet self.new) }
-        ensures level { Stays (standing_of S.lines W.sheet self.old) (standing_of S.lines W.sheet self.new) }
+        ensures items { Makes (optional_name name.now) (standing_of S.lines C.maps W.sheet self.old) (standing_of S.lines C.maps W.sheet self.new) }
+        ensures level { Stays (standing_of S.lines C.maps W.sheet self.old) (standing_of S.lines C.maps W.sheet self.new) }
     {
         match name {
             Some(name) => {
@@ -421,8 +444,8 @@ impl<W: WriteJs, S: SourceMapper, C: Comments> Emitter<'_, W, S, C> {
     /// Writes `async`, and a blank before a name.
     #[tactic(auto, unfolding(crate::specs::FunctionExprs::async_arrow))]
     fn async_arrow(&mut self, wanted: bool, named: bool)
-        ensures items { Makes (async_arrow wanted named) (standing_of S.lines W.sheet self.old) (standing_of S.lines W.sheet self.new) }
-        ensures level { Stays (standing_of S.lines W.sheet self.old) (standing_of S.lines W.sheet self.new) }
+        ensures items { Makes (async_arrow wanted named) (standing_of S.lines C.maps W.sheet self.old) (standing_of S.lines C.maps W.sheet self.new) }
+        ensures level { Stays (standing_of S.lines C.maps W.sheet self.old) (standing_of S.lines C.maps W.sheet self.new) }
     {
         if wanted {
             self.keyword(None, "async");
@@ -437,8 +460,8 @@ impl<W: WriteJs, S: SourceMapper, C: Comments> Emitter<'_, W, S, C> {
     /// Writes a parenthesis, unless it stands beside a name alone and the settings are to minify.
     #[tactic(auto, using(crate::proofs::Asked::bare, crate::proofs::Asked::parenthesized))]
     fn parenthesis(&mut self, plain: bool, mark: Punctuator)
-        ensures items { Makes (parenthesis plain (spelling mark)) (standing_of S.lines W.sheet self.old) (standing_of S.lines W.sheet self.new) }
-        ensures level { Stays (standing_of S.lines W.sheet self.old) (standing_of S.lines W.sheet self.new) }
+        ensures items { Makes (parenthesis plain (spelling mark)) (standing_of S.lines C.maps W.sheet self.old) (standing_of S.lines C.maps W.sheet self.new) }
+        ensures level { Stays (standing_of S.lines C.maps W.sheet self.old) (standing_of S.lines C.maps W.sheet self.new) }
     {
         if plain && self.cfg.minify {
             return;
@@ -448,21 +471,30 @@ impl<W: WriteJs, S: SourceMapper, C: Comments> Emitter<'_, W, S, C> {
 
     /// Writes the parameters of an arrow function, with commas between.
     fn arrow_list<N: Held>(&mut self, node: &ArrowExpr<N>)
-        ensures items { Makes (arrow_list N.answers N.items node.now) (standing_of S.lines W.sheet self.old) (standing_of S.lines W.sheet self.new) }
-        ensures level { Stays (standing_of S.lines W.sheet self.old) (standing_of S.lines W.sheet self.new) }
+        ensures items { Makes (arrow_list N.answers N.items node.now) (standing_of S.lines C.maps W.sheet self.old) (standing_of S.lines C.maps W.sheet self.new) }
+        ensures level { Stays (standing_of S.lines C.maps W.sheet self.old) (standing_of S.lines C.maps W.sheet self.new) }
     {
         self.list(comma_list_format(), node.span, &node.params)
     }
 
-    /// Writes the parameters of an arrow function, in parentheses.
-    #[tactic(auto, unfolding(crate::specs::FunctionExprs::arrow_parameters))]
-    fn arrow_parameters<N: Held>(&mut self, node: &ArrowExpr<N>)
-        ensures items { Makes (arrow_parameters N.answers N.items node.now) (standing_of S.lines W.sheet self.old) (standing_of S.lines W.sheet self.new) }
-        ensures level { Stays (standing_of S.lines W.sheet self.old) (standing_of S.lines W.sheet self.new) }
+    /// Writes the parameters of an arrow function, in parentheses unless there is one name alone and the settings are to minify.
+    #[tactic(auto, unfolding(crate::specs::FunctionExprs::arrow_within))]
+    fn arrow_within<N: Held>(&mut self, plain: bool, node: &ArrowExpr<N>)
+        ensures items { Makes (arrow_within plain node.now.span (arrow_children N.answers N.items node.now)) (standing_of S.lines C.maps W.sheet self.old) (standing_of S.lines C.maps W.sheet self.new) }
+        ensures level { Stays (standing_of S.lines C.maps W.sheet self.old) (standing_of S.lines C.maps W.sheet self.new) }
     {
-        let plain = is_only_plain(&node.params);
         self.parenthesis(plain, Punctuator::LeftParenthesis);
         self.arrow_list(node);
         self.parenthesis(plain, Punctuator::RightParenthesis);
+    }
+
+    /// Writes the parameters of an arrow function.
+    #[tactic(auto, using(crate::proofs::Asked::arrow_asked))]
+    fn arrow_parameters<N: Held>(&mut self, node: &ArrowExpr<N>)
+        ensures items { Makes (arrow_parameters N.answers N.items node.now) (standing_of S.lines C.maps W.sheet self.old) (standing_of S.lines C.maps W.sheet self.new) }
+        ensures level { Stays (standing_of S.lines C.maps W.sheet self.old) (standing_of S.lines C.maps W.sheet self.new) }
+    {
+        let plain = is_bare(&node.params, &self.comments);
+        self.arrow_within(plain, node)
     }
 }

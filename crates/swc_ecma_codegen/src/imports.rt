@@ -143,8 +143,8 @@ impl<W: WriteJs, S: SourceMapper, C: Comments> Emitter<'_, W, S, C> {
     /// Writes `a as` and a blank, where it is so.
     #[tactic(auto, unfolding(crate::specs::Modules::imported_as))]
     fn imported_as(&mut self, name: &Option<ModuleExportName>)
-        ensures items { Makes (imported_as name.now) (standing_of S.lines W.sheet self.old) (standing_of S.lines W.sheet self.new) }
-        ensures level { Stays (standing_of S.lines W.sheet self.old) (standing_of S.lines W.sheet self.new) }
+        ensures items { Makes (imported_as name.now) (standing_of S.lines C.maps W.sheet self.old) (standing_of S.lines C.maps W.sheet self.new) }
+        ensures level { Stays (standing_of S.lines C.maps W.sheet self.old) (standing_of S.lines C.maps W.sheet self.new) }
     {
         match name {
             Some(name) => {
@@ -157,8 +157,8 @@ impl<W: WriteJs, S: SourceMapper, C: Comments> Emitter<'_, W, S, C> {
 
     /// Writes what is imported among braces.
     fn import_list(&mut self, parent: Span, specifiers: &[ImportSpecifier])
-        ensures items { Makes (import_list parent specifiers.now) (standing_of S.lines W.sheet self.old) (standing_of S.lines W.sheet self.new) }
-        ensures level { Stays (standing_of S.lines W.sheet self.old) (standing_of S.lines W.sheet self.new) }
+        ensures items { Makes (import_list parent specifiers.now) (standing_of S.lines C.maps W.sheet self.old) (standing_of S.lines C.maps W.sheet self.new) }
+        ensures level { Stays (standing_of S.lines C.maps W.sheet self.old) (standing_of S.lines C.maps W.sheet self.new) }
     {
         self.braced_list(named_format(), parent, specifiers)
     }
@@ -166,8 +166,8 @@ impl<W: WriteJs, S: SourceMapper, C: Comments> Emitter<'_, W, S, C> {
     /// Writes what of a specifier stands before the braces.
     #[tactic(auto, unfolding(crate::specs::Modules::before_brace))]
     fn before_brace(&mut self, first: bool, specifier: &ImportSpecifier)
-        ensures items { Makes (before_brace first specifier.now) (standing_of S.lines W.sheet self.old) (standing_of S.lines W.sheet self.new) }
-        ensures level { Stays (standing_of S.lines W.sheet self.old) (standing_of S.lines W.sheet self.new) }
+        ensures items { Makes (before_brace first specifier.now) (standing_of S.lines C.maps W.sheet self.old) (standing_of S.lines C.maps W.sheet self.new) }
+        ensures level { Stays (standing_of S.lines C.maps W.sheet self.old) (standing_of S.lines C.maps W.sheet self.new) }
     {
         match specifier {
             ImportSpecifier::Named(_) => {}
@@ -183,8 +183,8 @@ impl<W: WriteJs, S: SourceMapper, C: Comments> Emitter<'_, W, S, C> {
     /// Writes `a, * as b`, as they stand in the list.
     #[tactic(auto, using(crate::proofs::Steps::before_next), unfolding(crate::specs::Modules::before_braces))]
     fn before_braces(&mut self, specifiers: &[ImportSpecifier])
-        ensures items { Makes (before_braces true specifiers.now) (standing_of S.lines W.sheet self.old) (standing_of S.lines W.sheet self.new) }
-        ensures level { Stays (standing_of S.lines W.sheet self.old) (standing_of S.lines W.sheet self.new) }
+        ensures items { Makes (before_braces true specifiers.now) (standing_of S.lines C.maps W.sheet self.old) (standing_of S.lines C.maps W.sheet self.new) }
+        ensures level { Stays (standing_of S.lines C.maps W.sheet self.old) (standing_of S.lines C.maps W.sheet self.new) }
     {
         let mut first = true;
         for specifier in specifiers {
@@ -196,8 +196,8 @@ impl<W: WriteJs, S: SourceMapper, C: Comments> Emitter<'_, W, S, C> {
     /// Writes `{ a, b as c }` and a blank, behind a comma where a default name is written.
     #[tactic(auto, unfolding(crate::specs::Modules::some_named))]
     fn some_named(&mut self, parent: Span, specifiers: &[ImportSpecifier])
-        ensures items { Makes (some_named parent specifiers.now) (standing_of S.lines W.sheet self.old) (standing_of S.lines W.sheet self.new) }
-        ensures level { Stays (standing_of S.lines W.sheet self.old) (standing_of S.lines W.sheet self.new) }
+        ensures items { Makes (some_named parent specifiers.now) (standing_of S.lines C.maps W.sheet self.old) (standing_of S.lines C.maps W.sheet self.new) }
+        ensures level { Stays (standing_of S.lines C.maps W.sheet self.old) (standing_of S.lines C.maps W.sheet self.new) }
     {
         self.comma(!has_default(specifiers));
         self.punct(Punctuator::LeftBrace);
@@ -209,8 +209,8 @@ impl<W: WriteJs, S: SourceMapper, C: Comments> Emitter<'_, W, S, C> {
     /// Writes that, or the blank that stands there without braces.
     #[tactic(auto, unfolding(crate::specs::Modules::import_braces))]
     fn import_braces(&mut self, parent: Span, specifiers: &[ImportSpecifier])
-        ensures items { Makes (import_braces parent specifiers.now) (standing_of S.lines W.sheet self.old) (standing_of S.lines W.sheet self.new) }
-        ensures level { Stays (standing_of S.lines W.sheet self.old) (standing_of S.lines W.sheet self.new) }
+        ensures items { Makes (import_braces parent specifiers.now) (standing_of S.lines C.maps W.sheet self.old) (standing_of S.lines C.maps W.sheet self.new) }
+        ensures level { Stays (standing_of S.lines C.maps W.sheet self.old) (standing_of S.lines C.maps W.sheet self.new) }
     {
         if has_braced(specifiers) {
             return self.some_named(parent, specifiers);
@@ -221,8 +221,8 @@ impl<W: WriteJs, S: SourceMapper, C: Comments> Emitter<'_, W, S, C> {
     /// Writes `a, { b } from` and a blank.
     #[tactic(auto, unfolding(crate::specs::Modules::some_imports))]
     fn some_imports(&mut self, parent: Span, specifiers: &[ImportSpecifier])
-        ensures items { Makes (some_imports parent specifiers.now) (standing_of S.lines W.sheet self.old) (standing_of S.lines W.sheet self.new) }
-        ensures level { Stays (standing_of S.lines W.sheet self.old) (standing_of S.lines W.sheet self.new) }
+        ensures items { Makes (some_imports parent specifiers.now) (standing_of S.lines C.maps W.sheet self.old) (standing_of S.lines C.maps W.sheet self.new) }
+        ensures level { Stays (standing_of S.lines C.maps W.sheet self.old) (standing_of S.lines C.maps W.sheet self.new) }
     {
         self.before_braces(specifiers);
         self.import_braces(parent, specifiers);
@@ -232,8 +232,8 @@ impl<W: WriteJs, S: SourceMapper, C: Comments> Emitter<'_, W, S, C> {
     /// Writes what is imported, then `from` and a blank.
     #[tactic(auto, unfolding(crate::specs::Modules::import_clause))]
     fn import_clause(&mut self, parent: Span, specifiers: &[ImportSpecifier])
-        ensures items { Makes (import_clause parent specifiers.now) (standing_of S.lines W.sheet self.old) (standing_of S.lines W.sheet self.new) }
-        ensures level { Stays (standing_of S.lines W.sheet self.old) (standing_of S.lines W.sheet self.new) }
+        ensures items { Makes (import_clause parent specifiers.now) (standing_of S.lines C.maps W.sheet self.old) (standing_of S.lines C.maps W.sheet self.new) }
+        ensures level { Stays (standing_of S.lines C.maps W.sheet self.old) (standing_of S.lines C.maps W.sheet self.new) }
     {
         if specifiers.is_empty() {
             return;
@@ -244,8 +244,8 @@ impl<W: WriteJs, S: SourceMapper, C: Comments> Emitter<'_, W, S, C> {
     /// Writes `source` or `defer` behind a blank, where it is so.
     #[tactic(auto, unfolding(crate::specs::Modules::phase_word))]
     fn phase_word(&mut self, phase: ImportPhase)
-        ensures items { Makes (phase_word phase) (standing_of S.lines W.sheet self.old) (standing_of S.lines W.sheet self.new) }
-        ensures level { Stays (standing_of S.lines W.sheet self.old) (standing_of S.lines W.sheet self.new) }
+        ensures items { Makes (phase_word phase) (standing_of S.lines C.maps W.sheet self.old) (standing_of S.lines C.maps W.sheet self.new) }
+        ensures level { Stays (standing_of S.lines C.maps W.sheet self.old) (standing_of S.lines C.maps W.sheet self.new) }
     {
         match phase {
             ImportPhase::Evaluation => {}
@@ -263,8 +263,8 @@ impl<W: WriteJs, S: SourceMapper, C: Comments> Emitter<'_, W, S, C> {
     /// Writes `{ a } from 'b';`
     #[tactic(auto, unfolding(crate::specs::Modules::import_tail))]
     fn import_tail<N: Held>(&mut self, node: &ImportDecl<N>)
-        ensures items { Makes (import_tail N.items node.now) (standing_of S.lines W.sheet self.old) (standing_of S.lines W.sheet self.new) }
-        ensures level { Stays (standing_of S.lines W.sheet self.old) (standing_of S.lines W.sheet self.new) }
+        ensures items { Makes (import_tail N.items node.now) (standing_of S.lines C.maps W.sheet self.old) (standing_of S.lines C.maps W.sheet self.new) }
+        ensures level { Stays (standing_of S.lines C.maps W.sheet self.old) (standing_of S.lines C.maps W.sheet self.new) }
     {
         self.import_clause(node.span, &node.specifiers);
         self.source_end(&node.src, &node.with_, node.span)

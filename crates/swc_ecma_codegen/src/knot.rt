@@ -5,6 +5,7 @@ ghost use Rattle.swc_ecma_codegen.specs.Answers.{any_answers};
 ghost use Rattle.swc_ecma_codegen.specs.Tree.{any_items};
 
 use crate::branches::{is_block, is_sequence};
+use crate::commented::BreaksBefore;
 use crate::emitter::Emitter;
 use crate::nodes::{Asked, EmitAt, Held, Known, Place, Question, Reply};
 use crate::operands::{Operand, SpaceBefore};
@@ -36,6 +37,11 @@ impl Asked for AnyNode {
             (Question::Block, AnyNode::Expr(node)) => Reply::Truth(is_sequence(node)),
             (Question::Block, _) => Reply::Truth(false),
         }
+    }
+
+    #[tactic(auto, unfolding(crate::specs::Answers::any_answers), using(crate::proofs::Unbroken::unbroken))]
+    fn breaks<C: Comments>(&self, comments: &Option<C>) -> bool {
+        comments.is_some() && self.breaks_before(comments)
     }
 }
 

@@ -8,6 +8,7 @@ mod calls;
 mod chains;
 mod classes;
 mod code;
+mod commented;
 mod decl;
 mod emitter;
 mod exports;
@@ -35,7 +36,7 @@ mod targets;
 mod templates;
 mod tokens;
 
-pub use crate::code::to_code;
+pub use crate::code::{to_code, to_code_default, to_code_with_comments};
 pub use crate::emitter::Emitter;
 pub use crate::node::Node;
 pub use swc_ecma_codegen_ast::{Error, Result};

@@ -3,7 +3,7 @@
 ghost use Rattle.std.specs.Prelude.{◌≡◌, true, [], ◌∷◌, map, option_map};
 ghost use Rattle.swc_ecma_codegen.specs.Standing.{Makes, Stays, KeepsSettings, Deepens, Rises, HasLevels, standing_of};
 ghost use Rattle.swc_ecma_codegen_base.specs.Lists.{list_levels, opening, separator, child_comments, trailing_comma, closing, list_end, empty_list, first_child_after, first_child, next_child_after, next_child, list_closing, list_after, list, optional_list};
-ghost use Rattle.swc_ecma_codegen.specs.Lists.{comma, listed, plainly, in_order, child_at, child_of, asked_place};
+ghost use Rattle.swc_ecma_codegen.specs.Lists.{comma, listed, plainly, in_order, child_of, as_asked};
 ghost use Rattle.swc_ecma_codegen.specs.declared.nodes.Place.TheVariants.{Plain};
 ghost use Rattle.swc_ecma_codegen.specs.Exprs.{held};
 
@@ -19,11 +19,11 @@ use swc_ecma_codegen_literals::Punctuator;
 use swc_ecma_codegen_text_writer::WriteJs;
 use swc_ecma_codegen_tree::ExprBox;
 
-/// Where a child stands, as far as its list asks for that: only one does whose lines end where those of the source text do.
+/// Where a child stands, as far as the lines of its list ask for that: only those do that end where the source text's do.
 #[inline(always)]
-#[tactic(auto, unfolding(crate::specs::Lists::asked_place))]
+#[tactic(auto, unfolding(crate::specs::Lists::as_asked))]
 fn asked_place<T: Child>(format: ListFormat, child: &T) -> Span
-    ensures { result ≡ asked_place format.0 T.stands child.now }
+    ensures { result ≡ as_asked format.0 (T.stands child.now) }
 {
     if format.contains(ListFormat::PreserveLines) {
         child.place()
@@ -36,8 +36,8 @@ impl<W: WriteJs, S: SourceMapper, C: Comments> Emitter<'_, W, S, C> {
     /// Writes a comma and a blank, except before the first.
     #[tactic(auto, unfolding(crate::specs::Lists::comma))]
     pub(crate) fn comma(&mut self, first: bool)
-        ensures items { Makes (comma first) (standing_of S.lines W.sheet self.old) (standing_of S.lines W.sheet self.new) }
-        ensures level { Stays (standing_of S.lines W.sheet self.old) (standing_of S.lines W.sheet self.new) }
+        ensures items { Makes (comma first) (standing_of S.lines C.maps W.sheet self.old) (standing_of S.lines C.maps W.sheet self.new) }
+        ensures level { Stays (standing_of S.lines C.maps W.sheet self.old) (standing_of S.lines C.maps W.sheet self.new) }
     {
         if !first {
             self.punct(Punctuator::Comma);
@@ -48,8 +48,8 @@ impl<W: WriteJs, S: SourceMapper, C: Comments> Emitter<'_, W, S, C> {
     /// Writes expressions, with commas between.
     #[tactic(auto, using(crate::proofs::Steps::listed_next), unfolding(crate::specs::Lists::listed))]
     pub(crate) fn exprs<N: EmitAt>(&mut self, nodes: &[ExprBox<N>])
-        ensures items { Makes (listed (held N.items) true nodes.now) (standing_of S.lines W.sheet self.old) (standing_of S.lines W.sheet self.new) }
-        ensures level { Stays (standing_of S.lines W.sheet self.old) (standing_of S.lines W.sheet self.new) }
+        ensures items { Makes (listed (held N.items) true nodes.now) (standing_of S.lines C.maps W.sheet self.old) (standing_of S.lines C.maps W.sheet self.new) }
+        ensures level { Stays (standing_of S.lines C.maps W.sheet self.old) (standing_of S.lines C.maps W.sheet self.new) }
     {
         let mut first = true;
         for node in nodes {
@@ -62,8 +62,8 @@ impl<W: WriteJs, S: SourceMapper, C: Comments> Emitter<'_, W, S, C> {
     /// Writes nodes, one after another.
     #[tactic(auto, using(crate::proofs::Steps::in_order_next), unfolding(crate::specs::Lists::in_order))]
     pub(crate) fn in_order<T: EmitAt>(&mut self, nodes: &[T])
-        ensures items { Makes (in_order (plainly T.items) nodes.now) (standing_of S.lines W.sheet self.old) (standing_of S.lines W.sheet self.new) }
-        ensures level { Stays (standing_of S.lines W.sheet self.old) (standing_of S.lines W.sheet self.new) }
+        ensures items { Makes (in_order (plainly T.items) nodes.now) (standing_of S.lines C.maps W.sheet self.old) (standing_of S.lines C.maps W.sheet self.new) }
+        ensures level { Stays (standing_of S.lines C.maps W.sheet self.old) (standing_of S.lines C.maps W.sheet self.new) }
     {
         for node in nodes {
             node.emit_at(self, Place::Plain);
@@ -76,8 +76,8 @@ impl<W: WriteJs, S: SourceMapper, C: Comments> Emitter<'_, W, S, C> {
     /// Writes what stands before the first child.
     #[tactic(auto, using(crate::proofs::Standings::refused_makes))]
     fn opening(&mut self, format: ListFormat, line: bool)
-        ensures items { Makes (opening format.0 line) (standing_of S.lines W.sheet self.old) (standing_of S.lines W.sheet self.new) }
-        ensures level { Deepens (list_levels format.0 self.old.cfg) (standing_of S.lines W.sheet self.old) (standing_of S.lines W.sheet self.new) }
+        ensures items { Makes (opening format.0 line) (standing_of S.lines C.maps W.sheet self.old) (standing_of S.lines C.maps W.sheet self.new) }
+        ensures level { Deepens (list_levels format.0 self.old.cfg) (standing_of S.lines C.maps W.sheet self.old) (standing_of S.lines C.maps W.sheet self.new) }
     {
         if self.refusal.is_some() {
             return;
@@ -92,8 +92,8 @@ impl<W: WriteJs, S: SourceMapper, C: Comments> Emitter<'_, W, S, C> {
     /// Writes what stands between two children.
     #[tactic(auto, using(crate::proofs::Standings::refused_makes))]
     fn separator(&mut self, format: ListFormat, line: bool)
-        ensures items { Makes (separator format.0 line) (standing_of S.lines W.sheet self.old) (standing_of S.lines W.sheet self.new) }
-        ensures level { Stays (standing_of S.lines W.sheet self.old) (standing_of S.lines W.sheet self.new) }
+        ensures items { Makes (separator format.0 line) (standing_of S.lines C.maps W.sheet self.old) (standing_of S.lines C.maps W.sheet self.new) }
+        ensures level { Stays (standing_of S.lines C.maps W.sheet self.old) (standing_of S.lines C.maps W.sheet self.new) }
     {
         if self.refusal.is_some() {
             return;
@@ -105,26 +105,48 @@ impl<W: WriteJs, S: SourceMapper, C: Comments> Emitter<'_, W, S, C> {
         );
     }
 
-    /// Writes the comments right after a child.
+    /// Writes the comments right after a child. Where it stands is asked only where there are comments.
+    #[inline(always)]
+    #[tactic(auto, using(crate::proofs::Without::none_there, crate::proofs::Without::none_behind_child))]
+    fn child_comments<T: Child>(&mut self, format: ListFormat, line: bool, child: &T)
+        ensures items { Makes (child_comments format.0 line (T.stands child.now)) (standing_of S.lines C.maps W.sheet self.old) (standing_of S.lines C.maps W.sheet self.new) }
+        ensures level { Stays (standing_of S.lines C.maps W.sheet self.old) (standing_of S.lines C.maps W.sheet self.new) }
+    {
+        if self.comments.is_none() {
+            return;
+        }
+        self.child_taken(format, line, child)
+    }
+
+    /// The same where there are some.
+    #[inline(never)]
     #[tactic(auto, using(crate::proofs::Standings::refused_makes))]
-    fn child_comments(&mut self, format: ListFormat, line: bool, place: Span)
-        ensures items { Makes (child_comments format.0 line place) (standing_of S.lines W.sheet self.old) (standing_of S.lines W.sheet self.new) }
-        ensures level { Stays (standing_of S.lines W.sheet self.old) (standing_of S.lines W.sheet self.new) }
+    fn child_taken<T: Child>(&mut self, format: ListFormat, line: bool, child: &T)
+        ensures items { Makes (child_comments format.0 line (T.stands child.now)) (standing_of S.lines C.maps W.sheet self.old) (standing_of S.lines C.maps W.sheet self.new) }
+        ensures level { Stays (standing_of S.lines C.maps W.sheet self.old) (standing_of S.lines C.maps W.sheet self.new) }
     {
         if self.refusal.is_some() {
             return;
         }
+        let place = child.place();
         keep(
             &mut self.refusal,
-            self.lower.child_comments(&self.cfg, &self.comments, &mut self.wr, format, line, place),
+            self.lower.child_comments(
+                &self.cfg,
+                &mut self.comments,
+                &mut self.wr,
+                format,
+                line,
+                place,
+            ),
         );
     }
 
     /// Writes the trailing comma of a list, where it has one.
     #[tactic(auto, using(crate::proofs::Standings::refused_makes))]
     fn trailing_comma(&mut self, format: ListFormat, parent: Span)
-        ensures items { Makes (trailing_comma format.0 parent) (standing_of S.lines W.sheet self.old) (standing_of S.lines W.sheet self.new) }
-        ensures level { Stays (standing_of S.lines W.sheet self.old) (standing_of S.lines W.sheet self.new) }
+        ensures items { Makes (trailing_comma format.0 parent) (standing_of S.lines C.maps W.sheet self.old) (standing_of S.lines C.maps W.sheet self.new) }
+        ensures level { Stays (standing_of S.lines C.maps W.sheet self.old) (standing_of S.lines C.maps W.sheet self.new) }
         ensures settings { self.new.cfg ≡ self.old.cfg }
     {
         if self.refusal.is_some() {
@@ -140,9 +162,9 @@ impl<W: WriteJs, S: SourceMapper, C: Comments> Emitter<'_, W, S, C> {
     /// Writes what stands after the last child, behind a trailing comma.
     #[tactic(auto, using(crate::proofs::Standings::refused_makes))]
     fn closing(&mut self, format: ListFormat, parent: Span, last: Span)
-        requires { HasLevels (list_levels format.0 self.old.cfg) (standing_of S.lines W.sheet self.old) }
-        ensures items { Makes (list_end format.0 parent last) (standing_of S.lines W.sheet self.old) (standing_of S.lines W.sheet self.new) }
-        ensures level { Rises (list_levels format.0 self.old.cfg) (standing_of S.lines W.sheet self.old) (standing_of S.lines W.sheet self.new) }
+        requires { HasLevels (list_levels format.0 self.old.cfg) (standing_of S.lines C.maps W.sheet self.old) }
+        ensures items { Makes (list_end format.0 parent last) (standing_of S.lines C.maps W.sheet self.old) (standing_of S.lines C.maps W.sheet self.new) }
+        ensures level { Rises (list_levels format.0 self.old.cfg) (standing_of S.lines C.maps W.sheet self.old) (standing_of S.lines C.maps W.sheet self.new) }
     {
         if self.refusal.is_some() {
             return;
@@ -158,8 +180,8 @@ impl<W: WriteJs, S: SourceMapper, C: Comments> Emitter<'_, W, S, C> {
     /// Writes what stands for a list without children.
     #[tactic(auto, using(crate::proofs::Standings::refused_makes))]
     fn empty_list(&mut self, format: ListFormat)
-        ensures items { Makes (empty_list format.0) (standing_of S.lines W.sheet self.old) (standing_of S.lines W.sheet self.new) }
-        ensures level { Stays (standing_of S.lines W.sheet self.old) (standing_of S.lines W.sheet self.new) }
+        ensures items { Makes (empty_list format.0) (standing_of S.lines C.maps W.sheet self.old) (standing_of S.lines C.maps W.sheet self.new) }
+        ensures level { Stays (standing_of S.lines C.maps W.sheet self.old) (standing_of S.lines C.maps W.sheet self.new) }
     {
         if self.refusal.is_some() {
             return;
@@ -170,24 +192,18 @@ impl<W: WriteJs, S: SourceMapper, C: Comments> Emitter<'_, W, S, C> {
         );
     }
 
-    /// Writes the first child, which stands at `place`, where a line ends before it or doesn't.
+    /// Writes the first child, where a line ends before it or doesn't.
     #[tactic(auto, unfolding(swc_ecma_codegen_base::specs::Lists::first_child_after))]
-    fn first_child_after<T: Child>(
-        &mut self,
-        format: ListFormat,
-        line: bool,
-        child: &T,
-        place: Span,
-    )
-        ensures items { Makes (first_child_after format.0 line (child_at place (T.items child.now Plain))) (standing_of S.lines W.sheet self.old) (standing_of S.lines W.sheet self.new) }
-        ensures level { Deepens (list_levels format.0 self.old.cfg) (standing_of S.lines W.sheet self.old) (standing_of S.lines W.sheet self.new) }
+    fn first_child_after<T: Child>(&mut self, format: ListFormat, line: bool, child: &T)
+        ensures items { Makes (first_child_after format.0 line (child_of T.stands T.items child.now)) (standing_of S.lines C.maps W.sheet self.old) (standing_of S.lines C.maps W.sheet self.new) }
+        ensures level { Deepens (list_levels format.0 self.old.cfg) (standing_of S.lines C.maps W.sheet self.old) (standing_of S.lines C.maps W.sheet self.new) }
     {
         self.opening(format, line);
         child.emit_at(self, Place::Plain);
-        self.child_comments(format, line, place);
+        self.child_comments(format, line, child);
     }
 
-    /// Writes the first child, which stands at `place`, and what stands before it.
+    /// Writes the first child, which stands at `place` as far as the lines of the list ask for that, and what stands before it.
     pub(crate) fn first_child<T: Child>(
         &mut self,
         format: ListFormat,
@@ -195,26 +211,28 @@ impl<W: WriteJs, S: SourceMapper, C: Comments> Emitter<'_, W, S, C> {
         child: &T,
         place: Span,
     )
-        ensures items { Makes (first_child format.0 parent (child_at place (T.items child.now Plain))) (standing_of S.lines W.sheet self.old) (standing_of S.lines W.sheet self.new) }
-        ensures level { Deepens (list_levels format.0 self.old.cfg) (standing_of S.lines W.sheet self.old) (standing_of S.lines W.sheet self.new) }
-        ensures settings { KeepsSettings (standing_of S.lines W.sheet self.old) (standing_of S.lines W.sheet self.new) }
+        requires { as_asked format.0 place ≡ as_asked format.0 (T.stands child.now) }
+        ensures items { Makes (first_child format.0 parent (child_of T.stands T.items child.now)) (standing_of S.lines C.maps W.sheet self.old) (standing_of S.lines C.maps W.sheet self.new) }
+        ensures level { Deepens (list_levels format.0 self.old.cfg) (standing_of S.lines C.maps W.sheet self.old) (standing_of S.lines C.maps W.sheet self.new) }
+        ensures settings { KeepsSettings (standing_of S.lines C.maps W.sheet self.old) (standing_of S.lines C.maps W.sheet self.new) }
     {
         let line = format.leading_line(self.cm, parent, place);
-        self.first_child_after(format, line, child, place)
+        self.first_child_after(format, line, child)
     }
 
-    /// Writes a child after another, which stands at `place`, where a line ends between them or doesn't.
+    /// Writes a child after another, where a line ends between them or doesn't.
     #[tactic(auto, unfolding(swc_ecma_codegen_base::specs::Lists::next_child_after))]
-    fn next_child_after<T: Child>(&mut self, format: ListFormat, line: bool, child: &T, place: Span)
-        ensures items { Makes (next_child_after format.0 line (child_at place (T.items child.now Plain))) (standing_of S.lines W.sheet self.old) (standing_of S.lines W.sheet self.new) }
-        ensures level { Stays (standing_of S.lines W.sheet self.old) (standing_of S.lines W.sheet self.new) }
+    fn next_child_after<T: Child>(&mut self, format: ListFormat, line: bool, child: &T)
+        ensures items { Makes (next_child_after format.0 line (child_of T.stands T.items child.now)) (standing_of S.lines C.maps W.sheet self.old) (standing_of S.lines C.maps W.sheet self.new) }
+        ensures level { Stays (standing_of S.lines C.maps W.sheet self.old) (standing_of S.lines C.maps W.sheet self.new) }
     {
         self.separator(format, line);
         child.emit_at(self, Place::Plain);
-        self.child_comments(format, line, place);
+        self.child_comments(format, line, child);
     }
 
-    /// Writes a child, which stands at `place`, after one that stands at `previous`, and what stands between them.
+    /// Writes a child, which stands at `place` as far as the lines of the list ask for that, after one that stands at
+    /// `previous`, and what stands between them.
     pub(crate) fn next_child<T: Child>(
         &mut self,
         format: ListFormat,
@@ -222,32 +240,33 @@ impl<W: WriteJs, S: SourceMapper, C: Comments> Emitter<'_, W, S, C> {
         child: &T,
         place: Span,
     )
-        ensures items { Makes (next_child format.0 previous (child_at place (T.items child.now Plain))) (standing_of S.lines W.sheet self.old) (standing_of S.lines W.sheet self.new) }
-        ensures level { Stays (standing_of S.lines W.sheet self.old) (standing_of S.lines W.sheet self.new) }
-        ensures settings { KeepsSettings (standing_of S.lines W.sheet self.old) (standing_of S.lines W.sheet self.new) }
+        requires { as_asked format.0 place ≡ as_asked format.0 (T.stands child.now) }
+        ensures items { Makes (next_child format.0 previous (child_of T.stands T.items child.now)) (standing_of S.lines C.maps W.sheet self.old) (standing_of S.lines C.maps W.sheet self.new) }
+        ensures level { Stays (standing_of S.lines C.maps W.sheet self.old) (standing_of S.lines C.maps W.sheet self.new) }
+        ensures settings { KeepsSettings (standing_of S.lines C.maps W.sheet self.old) (standing_of S.lines C.maps W.sheet self.new) }
     {
         let line = format.separating_line(self.cm, previous, place);
-        self.next_child_after(format, line, child, place)
+        self.next_child_after(format, line, child)
     }
 
     /// Writes what stands after the last child.
     #[tactic(auto, unfolding(swc_ecma_codegen_base::specs::Lists::list_closing))]
     pub(crate) fn list_closing(&mut self, format: ListFormat, parent: Span, last: Span)
-        requires { HasLevels (list_levels format.0 self.old.cfg) (standing_of S.lines W.sheet self.old) }
-        ensures items { Makes (list_closing format.0 parent last) (standing_of S.lines W.sheet self.old) (standing_of S.lines W.sheet self.new) }
-        ensures level { Rises (list_levels format.0 self.old.cfg) (standing_of S.lines W.sheet self.old) (standing_of S.lines W.sheet self.new) }
+        requires { HasLevels (list_levels format.0 self.old.cfg) (standing_of S.lines C.maps W.sheet self.old) }
+        ensures items { Makes (list_closing format.0 parent last) (standing_of S.lines C.maps W.sheet self.old) (standing_of S.lines C.maps W.sheet self.new) }
+        ensures level { Rises (list_levels format.0 self.old.cfg) (standing_of S.lines C.maps W.sheet self.old) (standing_of S.lines C.maps W.sheet self.new) }
     {
         self.trailing_comma(format, parent);
         self.closing(format, parent, last);
     }
 
-    /// Writes the first child of a list, and says where it stands as far as the list asks.
+    /// Writes the first child of a list, and says where it stands as far as the lines of the list ask.
     #[inline(always)]
     fn child_of_list<T: Child>(&mut self, format: ListFormat, parent: Span, child: &T) -> Span
-        ensures place { result ≡ asked_place format.0 T.stands child.now }
-        ensures items { Makes (first_child format.0 parent (child_of (asked_place format.0 T.stands) T.items child.now)) (standing_of S.lines W.sheet self.old) (standing_of S.lines W.sheet self.new) }
-        ensures level { Deepens (list_levels format.0 self.old.cfg) (standing_of S.lines W.sheet self.old) (standing_of S.lines W.sheet self.new) }
-        ensures settings { KeepsSettings (standing_of S.lines W.sheet self.old) (standing_of S.lines W.sheet self.new) }
+        ensures place { as_asked format.0 result ≡ as_asked format.0 (T.stands child.now) }
+        ensures items { Makes (first_child format.0 parent (child_of T.stands T.items child.now)) (standing_of S.lines C.maps W.sheet self.old) (standing_of S.lines C.maps W.sheet self.new) }
+        ensures level { Deepens (list_levels format.0 self.old.cfg) (standing_of S.lines C.maps W.sheet self.old) (standing_of S.lines C.maps W.sheet self.new) }
+        ensures settings { KeepsSettings (standing_of S.lines C.maps W.sheet self.old) (standing_of S.lines C.maps W.sheet self.new) }
     {
         let place = asked_place(format, child);
         self.first_child(format, parent, child, place);
@@ -257,10 +276,10 @@ impl<W: WriteJs, S: SourceMapper, C: Comments> Emitter<'_, W, S, C> {
     /// The same of a child after one that stands at `previous`.
     #[inline(always)]
     fn child_after<T: Child>(&mut self, format: ListFormat, previous: Span, child: &T) -> Span
-        ensures place { result ≡ asked_place format.0 T.stands child.now }
-        ensures items { Makes (next_child format.0 previous (child_of (asked_place format.0 T.stands) T.items child.now)) (standing_of S.lines W.sheet self.old) (standing_of S.lines W.sheet self.new) }
-        ensures level { Stays (standing_of S.lines W.sheet self.old) (standing_of S.lines W.sheet self.new) }
-        ensures settings { KeepsSettings (standing_of S.lines W.sheet self.old) (standing_of S.lines W.sheet self.new) }
+        ensures place { as_asked format.0 result ≡ as_asked format.0 (T.stands child.now) }
+        ensures items { Makes (next_child format.0 previous (child_of T.stands T.items child.now)) (standing_of S.lines C.maps W.sheet self.old) (standing_of S.lines C.maps W.sheet self.new) }
+        ensures level { Stays (standing_of S.lines C.maps W.sheet self.old) (standing_of S.lines C.maps W.sheet self.new) }
+        ensures settings { KeepsSettings (standing_of S.lines C.maps W.sheet self.old) (standing_of S.lines C.maps W.sheet self.new) }
     {
         let place = asked_place(format, child);
         self.next_child(format, previous, child, place);
@@ -276,9 +295,9 @@ impl<W: WriteJs, S: SourceMapper, C: Comments> Emitter<'_, W, S, C> {
         previous: Span,
         children: &[T],
     )
-        requires { HasLevels (list_levels format.0 self.old.cfg) (standing_of S.lines W.sheet self.old) }
-        ensures items { Makes (list_after format.0 parent previous (map (child_of (asked_place format.0 T.stands) T.items) children.now)) (standing_of S.lines W.sheet self.old) (standing_of S.lines W.sheet self.new) }
-        ensures level { Rises (list_levels format.0 self.old.cfg) (standing_of S.lines W.sheet self.old) (standing_of S.lines W.sheet self.new) }
+        requires { HasLevels (list_levels format.0 self.old.cfg) (standing_of S.lines C.maps W.sheet self.old) }
+        ensures items { Makes (list_after format.0 parent previous (map (child_of T.stands T.items) children.now)) (standing_of S.lines C.maps W.sheet self.old) (standing_of S.lines C.maps W.sheet self.new) }
+        ensures level { Rises (list_levels format.0 self.old.cfg) (standing_of S.lines C.maps W.sheet self.old) (standing_of S.lines C.maps W.sheet self.new) }
     {
         let mut last = previous;
         for child in children {
@@ -290,8 +309,8 @@ impl<W: WriteJs, S: SourceMapper, C: Comments> Emitter<'_, W, S, C> {
     /// Writes a list that has a first child.
     #[tactic(auto, unfolding(swc_ecma_codegen_base::specs::Lists::list))]
     fn some_list<T: Child>(&mut self, format: ListFormat, parent: Span, first: &T, others: &[T])
-        ensures items { Makes (list format.0 parent (map (child_of (asked_place format.0 T.stands) T.items) (first.now ∷ others.now))) (standing_of S.lines W.sheet self.old) (standing_of S.lines W.sheet self.new) }
-        ensures level { Stays (standing_of S.lines W.sheet self.old) (standing_of S.lines W.sheet self.new) }
+        ensures items { Makes (list format.0 parent (map (child_of T.stands T.items) (first.now ∷ others.now))) (standing_of S.lines C.maps W.sheet self.old) (standing_of S.lines C.maps W.sheet self.new) }
+        ensures level { Stays (standing_of S.lines C.maps W.sheet self.old) (standing_of S.lines C.maps W.sheet self.new) }
     {
         let place = self.child_of_list(format, parent, first);
         self.list_after(format, parent, place, others);
@@ -300,8 +319,8 @@ impl<W: WriteJs, S: SourceMapper, C: Comments> Emitter<'_, W, S, C> {
     /// Writes a list without children.
     #[tactic(auto, unfolding(swc_ecma_codegen_base::specs::Lists::list))]
     pub(crate) fn no_list(&mut self, format: ListFormat, parent: Span)
-        ensures items { Makes (list format.0 parent []) (standing_of S.lines W.sheet self.old) (standing_of S.lines W.sheet self.new) }
-        ensures level { Stays (standing_of S.lines W.sheet self.old) (standing_of S.lines W.sheet self.new) }
+        ensures items { Makes (list format.0 parent []) (standing_of S.lines C.maps W.sheet self.old) (standing_of S.lines C.maps W.sheet self.new) }
+        ensures level { Stays (standing_of S.lines C.maps W.sheet self.old) (standing_of S.lines C.maps W.sheet self.new) }
     {
         let _ = parent;
         if format.contains(ListFormat::OptionalIfEmpty) {
@@ -311,10 +330,9 @@ impl<W: WriteJs, S: SourceMapper, C: Comments> Emitter<'_, W, S, C> {
     }
 
     /// Writes the children of a list that stands at `parent`. Its brackets aren't its own.
-    #[tactic(auto, using(crate::proofs::ListPlaces::asked_list))]
     pub(crate) fn list<T: Child>(&mut self, format: ListFormat, parent: Span, children: &[T])
-        ensures items { Makes (list format.0 parent (map (child_of T.stands T.items) children.now)) (standing_of S.lines W.sheet self.old) (standing_of S.lines W.sheet self.new) }
-        ensures level { Stays (standing_of S.lines W.sheet self.old) (standing_of S.lines W.sheet self.new) }
+        ensures items { Makes (list format.0 parent (map (child_of T.stands T.items) children.now)) (standing_of S.lines C.maps W.sheet self.old) (standing_of S.lines C.maps W.sheet self.new) }
+        ensures level { Stays (standing_of S.lines C.maps W.sheet self.old) (standing_of S.lines C.maps W.sheet self.new) }
     {
         match children.split_first() {
             Some((first, others)) => self.some_list(format, parent, first, others),
@@ -330,8 +348,8 @@ impl<W: WriteJs, S: SourceMapper, C: Comments> Emitter<'_, W, S, C> {
         parent: Span,
         children: Option<&[T]>,
     )
-        ensures items { Makes (optional_list format.0 parent (option_map (λ xs. map (child_of T.stands T.items) xs.now) children.entry)) (standing_of S.lines W.sheet self.old) (standing_of S.lines W.sheet self.new) }
-        ensures level { Stays (standing_of S.lines W.sheet self.old) (standing_of S.lines W.sheet self.new) }
+        ensures items { Makes (optional_list format.0 parent (option_map (λ xs. map (child_of T.stands T.items) xs.now) children.entry)) (standing_of S.lines C.maps W.sheet self.old) (standing_of S.lines C.maps W.sheet self.new) }
+        ensures level { Stays (standing_of S.lines C.maps W.sheet self.old) (standing_of S.lines C.maps W.sheet self.new) }
     {
         match children {
             Some(children) => self.list(format, parent, children),

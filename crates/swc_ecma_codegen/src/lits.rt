@@ -5,7 +5,7 @@
 
 ghost use Rattle.std.specs.Prelude.{◌≡◌};
 ghost use Rattle.swc_ecma_codegen.specs.Standing.{Makes, Stays, standing_of};
-ghost use Rattle.swc_ecma_codegen_base.specs.Lits.{str_lit, bool_lit, null_lit, number_lit, number_object, big_int_lit, regex_lit, lit};
+ghost use Rattle.swc_ecma_codegen_base.specs.Lits.{str_lit, bool_node, null_lit, number_lit, number_object, big_int_lit, regex_lit, lit};
 ghost use Rattle.swc_ecma_codegen.specs.Lits.{lit_at, is_object, is_number_object};
 
 use crate::emitter::Emitter;
@@ -71,13 +71,13 @@ impl EmitAt for Str {
         }
         keep(
             &mut e.refusal,
-            e.lower.str_lit(&e.cfg, &e.comments, &mut e.wr, self),
+            e.lower.str_lit(&e.cfg, &mut e.comments, &mut e.wr, self),
         );
     }
 }
 
 impl EmitAt for Bool {
-    ghost items = { λ n _. bool_lit n };
+    ghost items = { λ n _. bool_node n };
 
     #[tactic(auto, using(crate::proofs::Standings::refused_makes))]
     fn emit_at<W: WriteJs, S: SourceMapper, C: Comments>(
@@ -88,7 +88,10 @@ impl EmitAt for Bool {
         if e.refusal.is_some() {
             return;
         }
-        keep(&mut e.refusal, e.lower.bool_lit(&e.cfg, &mut e.wr, self));
+        keep(
+            &mut e.refusal,
+            e.lower.bool_node(&e.cfg, &mut e.comments, &mut e.wr, self),
+        );
     }
 }
 
@@ -134,7 +137,8 @@ impl EmitAt for BigInt {
         }
         keep(
             &mut e.refusal,
-            e.lower.big_int_lit(&e.cfg, &e.comments, &mut e.wr, self),
+            e.lower
+                .big_int_lit(&e.cfg, &mut e.comments, &mut e.wr, self),
         );
     }
 }
@@ -160,8 +164,8 @@ impl<W: WriteJs, S: SourceMapper, C: Comments> Emitter<'_, W, S, C> {
     #[inline(never)]
     #[tactic(auto, using(crate::proofs::Standings::refused_makes))]
     fn lit(&mut self, node: &Lit)
-        ensures items { Makes (lit node.now) (standing_of S.lines W.sheet self.old) (standing_of S.lines W.sheet self.new) }
-        ensures level { Stays (standing_of S.lines W.sheet self.old) (standing_of S.lines W.sheet self.new) }
+        ensures items { Makes (lit node.now) (standing_of S.lines C.maps W.sheet self.old) (standing_of S.lines C.maps W.sheet self.new) }
+        ensures level { Stays (standing_of S.lines C.maps W.sheet self.old) (standing_of S.lines C.maps W.sheet self.new) }
     {
         if self.refusal.is_some() {
             return;
@@ -169,7 +173,7 @@ impl<W: WriteJs, S: SourceMapper, C: Comments> Emitter<'_, W, S, C> {
         keep(
             &mut self.refusal,
             self.lower
-                .lit(&self.cfg, &self.comments, &mut self.wr, node),
+                .lit(&self.cfg, &mut self.comments, &mut self.wr, node),
         );
     }
 
@@ -177,8 +181,8 @@ impl<W: WriteJs, S: SourceMapper, C: Comments> Emitter<'_, W, S, C> {
     #[inline(never)]
     #[tactic(auto, using(crate::proofs::Standings::refused_makes))]
     fn number_lit(&mut self, node: &Number)
-        ensures items { Makes (number_lit node.now) (standing_of S.lines W.sheet self.old) (standing_of S.lines W.sheet self.new) }
-        ensures level { Stays (standing_of S.lines W.sheet self.old) (standing_of S.lines W.sheet self.new) }
+        ensures items { Makes (number_lit node.now) (standing_of S.lines C.maps W.sheet self.old) (standing_of S.lines C.maps W.sheet self.new) }
+        ensures level { Stays (standing_of S.lines C.maps W.sheet self.old) (standing_of S.lines C.maps W.sheet self.new) }
     {
         if self.refusal.is_some() {
             return;
@@ -186,7 +190,7 @@ impl<W: WriteJs, S: SourceMapper, C: Comments> Emitter<'_, W, S, C> {
         keep(
             &mut self.refusal,
             self.lower
-                .number_lit(&self.cfg, &self.comments, &mut self.wr, node),
+                .number_lit(&self.cfg, &mut self.comments, &mut self.wr, node),
         );
     }
 
@@ -195,8 +199,8 @@ impl<W: WriteJs, S: SourceMapper, C: Comments> Emitter<'_, W, S, C> {
     #[inline(never)]
     #[tactic(auto, using(crate::proofs::Standings::refused_makes))]
     fn number_object(&mut self, node: &Number, prop: BytePos)
-        ensures items { Makes (number_object node.now prop) (standing_of S.lines W.sheet self.old) (standing_of S.lines W.sheet self.new) }
-        ensures level { Stays (standing_of S.lines W.sheet self.old) (standing_of S.lines W.sheet self.new) }
+        ensures items { Makes (number_object node.now prop) (standing_of S.lines C.maps W.sheet self.old) (standing_of S.lines C.maps W.sheet self.new) }
+        ensures level { Stays (standing_of S.lines C.maps W.sheet self.old) (standing_of S.lines C.maps W.sheet self.new) }
     {
         if self.refusal.is_some() {
             return;
@@ -204,7 +208,7 @@ impl<W: WriteJs, S: SourceMapper, C: Comments> Emitter<'_, W, S, C> {
         keep(
             &mut self.refusal,
             self.lower
-                .number_object(&self.cfg, &self.comments, &mut self.wr, node, prop),
+                .number_object(&self.cfg, &mut self.comments, &mut self.wr, node, prop),
         );
     }
 }

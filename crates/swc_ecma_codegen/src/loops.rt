@@ -269,8 +269,8 @@ impl<N: Held> EmitAt for VarDeclOrExpr<N> {
 impl<W: WriteJs, S: SourceMapper, C: Comments> Emitter<'_, W, S, C> {
     /// Writes the cases, each on a line of its own.
     fn cases<N: Held>(&mut self, node: &SwitchStmt<N>)
-        ensures items { Makes (cases N.answers N.items node.now) (standing_of S.lines W.sheet self.old) (standing_of S.lines W.sheet self.new) }
-        ensures level { Stays (standing_of S.lines W.sheet self.old) (standing_of S.lines W.sheet self.new) }
+        ensures items { Makes (cases N.answers N.items node.now) (standing_of S.lines C.maps W.sheet self.old) (standing_of S.lines C.maps W.sheet self.new) }
+        ensures level { Stays (standing_of S.lines C.maps W.sheet self.old) (standing_of S.lines C.maps W.sheet self.new) }
     {
         self.list(cases_format(), node.span, &node.cases)
     }
@@ -278,8 +278,8 @@ impl<W: WriteJs, S: SourceMapper, C: Comments> Emitter<'_, W, S, C> {
     /// Writes `{ case a: b; }`.
     #[tactic(auto, unfolding(crate::specs::Stmts::switch_cases))]
     fn switch_cases<N: Held>(&mut self, node: &SwitchStmt<N>)
-        ensures items { Makes (switch_cases N.answers N.items node.now) (standing_of S.lines W.sheet self.old) (standing_of S.lines W.sheet self.new) }
-        ensures level { Stays (standing_of S.lines W.sheet self.old) (standing_of S.lines W.sheet self.new) }
+        ensures items { Makes (switch_cases N.answers N.items node.now) (standing_of S.lines C.maps W.sheet self.old) (standing_of S.lines C.maps W.sheet self.new) }
+        ensures level { Stays (standing_of S.lines C.maps W.sheet self.old) (standing_of S.lines C.maps W.sheet self.new) }
     {
         self.punct(Punctuator::LeftBrace);
         self.cases(node);
@@ -290,8 +290,8 @@ impl<W: WriteJs, S: SourceMapper, C: Comments> Emitter<'_, W, S, C> {
     /// Writes `case a` or `default`.
     #[tactic(auto, unfolding(crate::specs::Stmts::case_test))]
     fn case_test<N: Held>(&mut self, test: &Option<ExprBox<N>>)
-        ensures items { Makes (case_test N.answers N.items test.now) (standing_of S.lines W.sheet self.old) (standing_of S.lines W.sheet self.new) }
-        ensures level { Stays (standing_of S.lines W.sheet self.old) (standing_of S.lines W.sheet self.new) }
+        ensures items { Makes (case_test N.answers N.items test.now) (standing_of S.lines C.maps W.sheet self.old) (standing_of S.lines C.maps W.sheet self.new) }
+        ensures level { Stays (standing_of S.lines C.maps W.sheet self.old) (standing_of S.lines C.maps W.sheet self.new) }
     {
         match test {
             Some(node) => {
@@ -304,8 +304,8 @@ impl<W: WriteJs, S: SourceMapper, C: Comments> Emitter<'_, W, S, C> {
 
     /// Writes the statements of a case.
     fn case_children<N: Held>(&mut self, single: bool, node: &SwitchCase<N>)
-        ensures items { Makes (case_body single node.now.span (case_children N.answers N.items node.now.cons.items)) (standing_of S.lines W.sheet self.old) (standing_of S.lines W.sheet self.new) }
-        ensures level { Stays (standing_of S.lines W.sheet self.old) (standing_of S.lines W.sheet self.new) }
+        ensures items { Makes (case_body single node.now.span (case_children N.answers N.items node.now.cons.items)) (standing_of S.lines C.maps W.sheet self.old) (standing_of S.lines C.maps W.sheet self.new) }
+        ensures level { Stays (standing_of S.lines C.maps W.sheet self.old) (standing_of S.lines C.maps W.sheet self.new) }
     {
         self.list(case_format(single), node.span, &node.cons)
     }
@@ -313,8 +313,8 @@ impl<W: WriteJs, S: SourceMapper, C: Comments> Emitter<'_, W, S, C> {
     /// Writes the colon and the statements of a case, on the same line where there is a single one.
     #[tactic(auto, unfolding(crate::specs::Stmts::case_list))]
     fn case_list<N: Held>(&mut self, single: bool, node: &SwitchCase<N>)
-        ensures items { Makes (case_list single node.now.span (case_children N.answers N.items node.now.cons.items)) (standing_of S.lines W.sheet self.old) (standing_of S.lines W.sheet self.new) }
-        ensures level { Stays (standing_of S.lines W.sheet self.old) (standing_of S.lines W.sheet self.new) }
+        ensures items { Makes (case_list single node.now.span (case_children N.answers N.items node.now.cons.items)) (standing_of S.lines C.maps W.sheet self.old) (standing_of S.lines C.maps W.sheet self.new) }
+        ensures level { Stays (standing_of S.lines C.maps W.sheet self.old) (standing_of S.lines C.maps W.sheet self.new) }
     {
         self.punct(Punctuator::Colon);
         self.space_if(single);
@@ -323,8 +323,8 @@ impl<W: WriteJs, S: SourceMapper, C: Comments> Emitter<'_, W, S, C> {
 
     /// Writes the colon and the statements of a case.
     fn case_stmts<N: Held>(&mut self, node: &SwitchCase<N>)
-        ensures items { Makes (case_stmts N.answers N.items node.now) (standing_of S.lines W.sheet self.old) (standing_of S.lines W.sheet self.new) }
-        ensures level { Stays (standing_of S.lines W.sheet self.old) (standing_of S.lines W.sheet self.new) }
+        ensures items { Makes (case_stmts N.answers N.items node.now) (standing_of S.lines C.maps W.sheet self.old) (standing_of S.lines C.maps W.sheet self.new) }
+        ensures level { Stays (standing_of S.lines C.maps W.sheet self.old) (standing_of S.lines C.maps W.sheet self.new) }
     {
         let single = is_single(self.cm, node.span, &node.cons);
         self.case_list(single, node)
@@ -333,8 +333,8 @@ impl<W: WriteJs, S: SourceMapper, C: Comments> Emitter<'_, W, S, C> {
     /// Writes `while (a)` at the end of a loop.
     #[tactic(auto, unfolding(crate::specs::Stmts::loop_test))]
     fn loop_test<N: Held>(&mut self, test: &ExprBox<N>)
-        ensures items { Makes (loop_test N.items test.now) (standing_of S.lines W.sheet self.old) (standing_of S.lines W.sheet self.new) }
-        ensures level { Stays (standing_of S.lines W.sheet self.old) (standing_of S.lines W.sheet self.new) }
+        ensures items { Makes (loop_test N.items test.now) (standing_of S.lines C.maps W.sheet self.old) (standing_of S.lines C.maps W.sheet self.new) }
+        ensures level { Stays (standing_of S.lines C.maps W.sheet self.old) (standing_of S.lines C.maps W.sheet self.new) }
     {
         self.keyword(None, "while");
         self.formatting_space();
@@ -344,8 +344,8 @@ impl<W: WriteJs, S: SourceMapper, C: Comments> Emitter<'_, W, S, C> {
     /// Writes the semicolon after a loop, for a version before 2015.
     #[tactic(auto, using(crate::proofs::Asked::loop_ended, crate::proofs::Asked::loop_not_ended))]
     fn loop_ending(&mut self)
-        ensures items { Makes (loop_ending) (standing_of S.lines W.sheet self.old) (standing_of S.lines W.sheet self.new) }
-        ensures level { Stays (standing_of S.lines W.sheet self.old) (standing_of S.lines W.sheet self.new) }
+        ensures items { Makes (loop_ending) (standing_of S.lines C.maps W.sheet self.old) (standing_of S.lines C.maps W.sheet self.new) }
+        ensures level { Stays (standing_of S.lines C.maps W.sheet self.old) (standing_of S.lines C.maps W.sheet self.new) }
     {
         if is_up_to_es5(self.cfg.target) {
             return self.semi();
@@ -355,8 +355,8 @@ impl<W: WriteJs, S: SourceMapper, C: Comments> Emitter<'_, W, S, C> {
     /// Writes what the head of a `for` begins with, where there is such.
     #[tactic(auto, unfolding(crate::specs::Stmts::for_init))]
     fn for_init<N: Held>(&mut self, init: &Option<VarDeclOrExpr<N>>)
-        ensures items { Makes (for_init N.items init.now) (standing_of S.lines W.sheet self.old) (standing_of S.lines W.sheet self.new) }
-        ensures level { Stays (standing_of S.lines W.sheet self.old) (standing_of S.lines W.sheet self.new) }
+        ensures items { Makes (for_init N.items init.now) (standing_of S.lines C.maps W.sheet self.old) (standing_of S.lines C.maps W.sheet self.new) }
+        ensures level { Stays (standing_of S.lines C.maps W.sheet self.old) (standing_of S.lines C.maps W.sheet self.new) }
     {
         match init {
             Some(node) => node.emit_at(self, Place::Plain),
@@ -367,8 +367,8 @@ impl<W: WriteJs, S: SourceMapper, C: Comments> Emitter<'_, W, S, C> {
     /// Writes a blank and an expression, where there is one.
     #[tactic(auto, unfolding(crate::specs::Stmts::for_value))]
     fn for_value<N: Held>(&mut self, value: &Option<ExprBox<N>>)
-        ensures items { Makes (for_value N.items value.now) (standing_of S.lines W.sheet self.old) (standing_of S.lines W.sheet self.new) }
-        ensures level { Stays (standing_of S.lines W.sheet self.old) (standing_of S.lines W.sheet self.new) }
+        ensures items { Makes (for_value N.items value.now) (standing_of S.lines C.maps W.sheet self.old) (standing_of S.lines C.maps W.sheet self.new) }
+        ensures level { Stays (standing_of S.lines C.maps W.sheet self.old) (standing_of S.lines C.maps W.sheet self.new) }
     {
         match value {
             Some(node) => {
@@ -382,8 +382,8 @@ impl<W: WriteJs, S: SourceMapper, C: Comments> Emitter<'_, W, S, C> {
     /// Writes `; a` or `;`.
     #[tactic(auto, unfolding(crate::specs::Stmts::for_clause))]
     fn for_clause<N: Held>(&mut self, value: &Option<ExprBox<N>>)
-        ensures items { Makes (for_clause N.items value.now) (standing_of S.lines W.sheet self.old) (standing_of S.lines W.sheet self.new) }
-        ensures level { Stays (standing_of S.lines W.sheet self.old) (standing_of S.lines W.sheet self.new) }
+        ensures items { Makes (for_clause N.items value.now) (standing_of S.lines C.maps W.sheet self.old) (standing_of S.lines C.maps W.sheet self.new) }
+        ensures level { Stays (standing_of S.lines C.maps W.sheet self.old) (standing_of S.lines C.maps W.sheet self.new) }
     {
         self.punct(Punctuator::Semicolon);
         self.for_value(value);
@@ -392,8 +392,8 @@ impl<W: WriteJs, S: SourceMapper, C: Comments> Emitter<'_, W, S, C> {
     /// Writes `(a; b; c)`.
     #[tactic(auto, unfolding(crate::specs::Stmts::for_control))]
     fn for_control<N: Held>(&mut self, node: &ForStmt<N>)
-        ensures items { Makes (for_control N.items node.now) (standing_of S.lines W.sheet self.old) (standing_of S.lines W.sheet self.new) }
-        ensures level { Stays (standing_of S.lines W.sheet self.old) (standing_of S.lines W.sheet self.new) }
+        ensures items { Makes (for_control N.items node.now) (standing_of S.lines C.maps W.sheet self.old) (standing_of S.lines C.maps W.sheet self.new) }
+        ensures level { Stays (standing_of S.lines C.maps W.sheet self.old) (standing_of S.lines C.maps W.sheet self.new) }
     {
         self.punct(Punctuator::LeftParenthesis);
         self.for_init(&node.init);
@@ -406,8 +406,8 @@ impl<W: WriteJs, S: SourceMapper, C: Comments> Emitter<'_, W, S, C> {
     #[tactic(auto, unfolding(crate::specs::Stmts::for_right))]
     fn for_right<N: Held>(&mut self, text: &'static str, ends: bool, right: &ExprBox<N>)
         requires { begins_letter text.now ≡ true }
-        ensures items { Makes (for_right N.answers N.items text.now ends right.now) (standing_of S.lines W.sheet self.old) (standing_of S.lines W.sheet self.new) }
-        ensures level { Stays (standing_of S.lines W.sheet self.old) (standing_of S.lines W.sheet self.new) }
+        ensures items { Makes (for_right N.answers N.items text.now ends right.now) (standing_of S.lines C.maps W.sheet self.old) (standing_of S.lines C.maps W.sheet self.new) }
+        ensures level { Stays (standing_of S.lines C.maps W.sheet self.old) (standing_of S.lines C.maps W.sheet self.new) }
     {
         self.blank(ends);
         self.keyword(None, text);
@@ -418,8 +418,8 @@ impl<W: WriteJs, S: SourceMapper, C: Comments> Emitter<'_, W, S, C> {
     #[tactic(auto, unfolding(crate::specs::Stmts::for_each))]
     fn for_each<N: Held>(&mut self, text: &'static str, left: &ForHead<N>, right: &ExprBox<N>)
         requires { begins_letter text.now ≡ true }
-        ensures items { Makes (for_each N.answers N.items text.now left.now right.now) (standing_of S.lines W.sheet self.old) (standing_of S.lines W.sheet self.new) }
-        ensures level { Stays (standing_of S.lines W.sheet self.old) (standing_of S.lines W.sheet self.new) }
+        ensures items { Makes (for_each N.answers N.items text.now left.now right.now) (standing_of S.lines C.maps W.sheet self.old) (standing_of S.lines C.maps W.sheet self.new) }
+        ensures level { Stays (standing_of S.lines C.maps W.sheet self.old) (standing_of S.lines C.maps W.sheet self.new) }
     {
         self.punct(Punctuator::LeftParenthesis);
         left.emit_at(self, Place::Plain);
@@ -430,8 +430,8 @@ impl<W: WriteJs, S: SourceMapper, C: Comments> Emitter<'_, W, S, C> {
     /// Writes `await` after `for`, where it is so.
     #[tactic(auto, unfolding(crate::specs::Stmts::for_await))]
     fn for_await(&mut self, wanted: bool)
-        ensures items { Makes (for_await wanted) (standing_of S.lines W.sheet self.old) (standing_of S.lines W.sheet self.new) }
-        ensures level { Stays (standing_of S.lines W.sheet self.old) (standing_of S.lines W.sheet self.new) }
+        ensures items { Makes (for_await wanted) (standing_of S.lines C.maps W.sheet self.old) (standing_of S.lines C.maps W.sheet self.new) }
+        ensures level { Stays (standing_of S.lines C.maps W.sheet self.old) (standing_of S.lines C.maps W.sheet self.new) }
     {
         if wanted {
             self.space();

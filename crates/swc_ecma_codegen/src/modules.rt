@@ -97,8 +97,8 @@ impl<N: Held> EmitAt for Module<N> {
 impl<W: WriteJs, S: SourceMapper, C: Comments> Emitter<'_, W, S, C> {
     /// Writes items, one after another.
     fn module_items<N: Held>(&mut self, nodes: &[ModuleItem<N>])
-        ensures items { Makes (in_order (module_item N.answers N.items) nodes.now) (standing_of S.lines W.sheet self.old) (standing_of S.lines W.sheet self.new) }
-        ensures level { Stays (standing_of S.lines W.sheet self.old) (standing_of S.lines W.sheet self.new) }
+        ensures items { Makes (in_order (module_item N.answers N.items) nodes.now) (standing_of S.lines C.maps W.sheet self.old) (standing_of S.lines C.maps W.sheet self.new) }
+        ensures level { Stays (standing_of S.lines C.maps W.sheet self.old) (standing_of S.lines C.maps W.sheet self.new) }
     {
         self.in_order(nodes)
     }
@@ -106,8 +106,8 @@ impl<W: WriteJs, S: SourceMapper, C: Comments> Emitter<'_, W, S, C> {
     /// Writes `from` and a blank.
     #[tactic(auto, unfolding(crate::specs::Modules::from_word))]
     pub(crate) fn from_word(&mut self)
-        ensures items { Makes (from_word) (standing_of S.lines W.sheet self.old) (standing_of S.lines W.sheet self.new) }
-        ensures level { Stays (standing_of S.lines W.sheet self.old) (standing_of S.lines W.sheet self.new) }
+        ensures items { Makes (from_word) (standing_of S.lines C.maps W.sheet self.old) (standing_of S.lines C.maps W.sheet self.new) }
+        ensures level { Stays (standing_of S.lines C.maps W.sheet self.old) (standing_of S.lines C.maps W.sheet self.new) }
     {
         self.keyword(None, "from");
         self.formatting_space();
@@ -116,8 +116,8 @@ impl<W: WriteJs, S: SourceMapper, C: Comments> Emitter<'_, W, S, C> {
     /// Writes `as` between blanks.
     #[tactic(auto, unfolding(crate::specs::Modules::as_word))]
     pub(crate) fn as_word(&mut self)
-        ensures items { Makes (as_word) (standing_of S.lines W.sheet self.old) (standing_of S.lines W.sheet self.new) }
-        ensures level { Stays (standing_of S.lines W.sheet self.old) (standing_of S.lines W.sheet self.new) }
+        ensures items { Makes (as_word) (standing_of S.lines C.maps W.sheet self.old) (standing_of S.lines C.maps W.sheet self.new) }
+        ensures level { Stays (standing_of S.lines C.maps W.sheet self.old) (standing_of S.lines C.maps W.sheet self.new) }
     {
         self.space();
         self.keyword(None, "as");
@@ -127,8 +127,8 @@ impl<W: WriteJs, S: SourceMapper, C: Comments> Emitter<'_, W, S, C> {
     /// Writes `* as` and a blank.
     #[tactic(auto, unfolding(crate::specs::Modules::star_as))]
     pub(crate) fn star_as(&mut self)
-        ensures items { Makes (star_as) (standing_of S.lines W.sheet self.old) (standing_of S.lines W.sheet self.new) }
-        ensures level { Stays (standing_of S.lines W.sheet self.old) (standing_of S.lines W.sheet self.new) }
+        ensures items { Makes (star_as) (standing_of S.lines C.maps W.sheet self.old) (standing_of S.lines C.maps W.sheet self.new) }
+        ensures level { Stays (standing_of S.lines C.maps W.sheet self.old) (standing_of S.lines C.maps W.sheet self.new) }
     {
         self.punct(Punctuator::Star);
         self.formatting_space();
@@ -139,8 +139,8 @@ impl<W: WriteJs, S: SourceMapper, C: Comments> Emitter<'_, W, S, C> {
     /// Writes the word before import attributes, by the settings.
     #[tactic(auto, using(crate::proofs::Asked::attributes_by_assert, crate::proofs::Asked::attributes_by_with))]
     fn attributes_word(&mut self)
-        ensures items { Makes (attributes_word) (standing_of S.lines W.sheet self.old) (standing_of S.lines W.sheet self.new) }
-        ensures level { Stays (standing_of S.lines W.sheet self.old) (standing_of S.lines W.sheet self.new) }
+        ensures items { Makes (attributes_word) (standing_of S.lines C.maps W.sheet self.old) (standing_of S.lines C.maps W.sheet self.new) }
+        ensures level { Stays (standing_of S.lines C.maps W.sheet self.old) (standing_of S.lines C.maps W.sheet self.new) }
     {
         if self.cfg.emit_assert_for_import_attributes {
             return self.keyword(None, "assert");
@@ -151,8 +151,8 @@ impl<W: WriteJs, S: SourceMapper, C: Comments> Emitter<'_, W, S, C> {
     /// Writes `with { type: 'json' }` behind a blank, where there is such.
     #[tactic(auto, unfolding(crate::specs::Modules::attributes))]
     pub(crate) fn attributes<N: Held>(&mut self, with_: &Option<ObjectLitBox<N>>)
-        ensures items { Makes (attributes N.items with_.now) (standing_of S.lines W.sheet self.old) (standing_of S.lines W.sheet self.new) }
-        ensures level { Stays (standing_of S.lines W.sheet self.old) (standing_of S.lines W.sheet self.new) }
+        ensures items { Makes (attributes N.items with_.now) (standing_of S.lines C.maps W.sheet self.old) (standing_of S.lines C.maps W.sheet self.new) }
+        ensures level { Stays (standing_of S.lines C.maps W.sheet self.old) (standing_of S.lines C.maps W.sheet self.new) }
     {
         match with_ {
             Some(with_) => {
@@ -173,8 +173,8 @@ impl<W: WriteJs, S: SourceMapper, C: Comments> Emitter<'_, W, S, C> {
         with_: &Option<ObjectLitBox<N>>,
         span: Span,
     )
-        ensures items { Makes (source_end N.items src.now with_.now span) (standing_of S.lines W.sheet self.old) (standing_of S.lines W.sheet self.new) }
-        ensures level { Stays (standing_of S.lines W.sheet self.old) (standing_of S.lines W.sheet self.new) }
+        ensures items { Makes (source_end N.items src.now with_.now span) (standing_of S.lines C.maps W.sheet self.old) (standing_of S.lines C.maps W.sheet self.new) }
+        ensures level { Stays (standing_of S.lines C.maps W.sheet self.old) (standing_of S.lines C.maps W.sheet self.new) }
     {
         src.emit_at(self, Place::Plain);
         self.attributes(with_);
@@ -185,8 +185,8 @@ impl<W: WriteJs, S: SourceMapper, C: Comments> Emitter<'_, W, S, C> {
     /// Writes an import or an export by its variant.
     #[tactic(auto, unfolding(crate::specs::Modules::module_decl_by))]
     fn module_decl_by<N: Held>(&mut self, node: &ModuleDecl<N>)
-        ensures items { Makes (module_decl_by N.answers N.items node.now) (standing_of S.lines W.sheet self.old) (standing_of S.lines W.sheet self.new) }
-        ensures level { Stays (standing_of S.lines W.sheet self.old) (standing_of S.lines W.sheet self.new) }
+        ensures items { Makes (module_decl_by N.answers N.items node.now) (standing_of S.lines C.maps W.sheet self.old) (standing_of S.lines C.maps W.sheet self.new) }
+        ensures level { Stays (standing_of S.lines C.maps W.sheet self.old) (standing_of S.lines C.maps W.sheet self.new) }
     {
         match node {
             ModuleDecl::Import(node) => node.emit_at(self, Place::Plain),
@@ -204,8 +204,8 @@ impl<W: WriteJs, S: SourceMapper, C: Comments> Emitter<'_, W, S, C> {
     /// Writes an item by its variant.
     #[tactic(auto, unfolding(crate::specs::Modules::module_item_by))]
     fn module_item_by<N: Held>(&mut self, node: &ModuleItem<N>)
-        ensures items { Makes (module_item_by N.answers N.items node.now) (standing_of S.lines W.sheet self.old) (standing_of S.lines W.sheet self.new) }
-        ensures level { Stays (standing_of S.lines W.sheet self.old) (standing_of S.lines W.sheet self.new) }
+        ensures items { Makes (module_item_by N.answers N.items node.now) (standing_of S.lines C.maps W.sheet self.old) (standing_of S.lines C.maps W.sheet self.new) }
+        ensures level { Stays (standing_of S.lines C.maps W.sheet self.old) (standing_of S.lines C.maps W.sheet self.new) }
     {
         match node {
             ModuleItem::ModuleDecl(node) => node.held().emit_at(self, Place::Plain),

@@ -7,6 +7,7 @@ ghost use Rattle.swc_ecma_codegen.specs.declared.nodes.Place.{Place as At};
 ghost use Rattle.swc_ecma_codegen.specs.Answers.{Answers, reply_of};
 ghost use Rattle.swc_ecma_codegen_common.specs.declared.positions.Span.{Span as Stretch};
 ghost use Rattle.swc_ecma_codegen_spans.specs.Spans.{option_span};
+ghost use Rattle.swc_ecma_codegen_ast.specs.Comments.{maps_in};
 
 use crate::emitter::Emitter;
 use crate::operands::OperandKind;
@@ -102,6 +103,10 @@ pub trait Asked: Known {
     fn reply(&self, question: Question) -> Reply
         ensures { result ≡ reply_of (Self.answers self.now) question };
 
+    /// Whether a line ends in or after a comment before one of its leftmost parts.
+    fn breaks<C: Comments>(&self, comments: &Option<C>) -> bool
+        ensures { result ≡ (Self.answers self.now).breaks (maps_in C.maps comments.now) };
+
     /// Where it stands.
     #[inline(always)]
     #[tactic(auto, unfolding(crate::specs::Answers::reply_of))]
@@ -185,8 +190,8 @@ pub trait EmitAt {
         e: &mut Emitter<'_, W, S, C>,
         place: Place,
     )
-        ensures items { Makes (items self.now place) (standing_of S.lines W.sheet e.old) (standing_of S.lines W.sheet e.new) }
-        ensures level { Stays (standing_of S.lines W.sheet e.old) (standing_of S.lines W.sheet e.new) };
+        ensures items { Makes (items self.now place) (standing_of S.lines C.maps W.sheet e.old) (standing_of S.lines C.maps W.sheet e.new) }
+        ensures level { Stays (standing_of S.lines C.maps W.sheet e.old) (standing_of S.lines C.maps W.sheet e.new) };
 }
 
 /// What a list has to know of a child, besides how it is printed.

@@ -240,8 +240,8 @@ fn pat_place<N: Asked>(node: &Pat<N>) -> Span
 impl<W: WriteJs, S: SourceMapper, C: Comments> Emitter<'_, W, S, C> {
     /// Writes the elements of an array.
     fn array_pat_elements<N: Held>(&mut self, node: &ArrayPat<N>)
-        ensures items { Makes (array_pat_elements N.answers N.items node.now) (standing_of S.lines W.sheet self.old) (standing_of S.lines W.sheet self.new) }
-        ensures level { Stays (standing_of S.lines W.sheet self.old) (standing_of S.lines W.sheet self.new) }
+        ensures items { Makes (array_pat_elements N.answers N.items node.now) (standing_of S.lines C.maps W.sheet self.old) (standing_of S.lines C.maps W.sheet self.new) }
+        ensures level { Stays (standing_of S.lines C.maps W.sheet self.old) (standing_of S.lines C.maps W.sheet self.new) }
     {
         let format = array_pat_format(ends_with_hole(&node.elems));
         self.list(format, node.span, &node.elems)
@@ -249,8 +249,8 @@ impl<W: WriteJs, S: SourceMapper, C: Comments> Emitter<'_, W, S, C> {
 
     /// Writes the properties of an object.
     fn object_pat_props<N: Held>(&mut self, node: &ObjectPat<N>)
-        ensures items { Makes (object_pat_props N.answers N.items node.now) (standing_of S.lines W.sheet self.old) (standing_of S.lines W.sheet self.new) }
-        ensures level { Stays (standing_of S.lines W.sheet self.old) (standing_of S.lines W.sheet self.new) }
+        ensures items { Makes (object_pat_props N.answers N.items node.now) (standing_of S.lines C.maps W.sheet self.old) (standing_of S.lines C.maps W.sheet self.new) }
+        ensures level { Stays (standing_of S.lines C.maps W.sheet self.old) (standing_of S.lines C.maps W.sheet self.new) }
     {
         self.list(object_pat_format(), node.span, &node.props)
     }
@@ -258,8 +258,8 @@ impl<W: WriteJs, S: SourceMapper, C: Comments> Emitter<'_, W, S, C> {
     /// Writes `= b` of `a = b`.
     #[tactic(auto, unfolding(crate::specs::Pats::initializer))]
     pub(crate) fn initializer<N: Held>(&mut self, value: &Option<ExprBox<N>>)
-        ensures items { Makes (initializer N.items value.now) (standing_of S.lines W.sheet self.old) (standing_of S.lines W.sheet self.new) }
-        ensures level { Stays (standing_of S.lines W.sheet self.old) (standing_of S.lines W.sheet self.new) }
+        ensures items { Makes (initializer N.items value.now) (standing_of S.lines C.maps W.sheet self.old) (standing_of S.lines C.maps W.sheet self.new) }
+        ensures level { Stays (standing_of S.lines C.maps W.sheet self.old) (standing_of S.lines C.maps W.sheet self.new) }
     {
         match value {
             Some(value) => {

@@ -8,9 +8,10 @@ ghost use Rattle.swc_ecma_codegen.specs.Standing.{Makes, Stays, standing_of};
 ghost use Rattle.swc_ecma_codegen_base.specs.Starts.{begins_letter};
 ghost use Rattle.swc_ecma_codegen.specs.Answers.{place_of};
 ghost use Rattle.swc_ecma_codegen.specs.Names.{prop_name};
-ghost use Rattle.swc_ecma_codegen.specs.Props.{key_end, value_start, key_value_prop, assign_prop, accessor, optional_body, getter_prop, setter_prop, method_prop, prop, prop_or_spread, object_format, flat_object_format, object_children, lined_object_list, object_lines, object_list, object_lit};
+ghost use Rattle.swc_ecma_codegen.specs.Props.{key_end, value_start, key_value_prop, assign_prop, accessor, optional_body, getter_prop, setter_prop, method_prop, prop, prop_or_spread, object_format, flat_object_format, object_children, lined_object_list, object_lines, object_list, object_by_maps, object_lit};
 
 use crate::blocks::is_some_listed;
+use crate::commented::wants_lines;
 use crate::emitter::Emitter;
 use crate::nodes::{Child, EmitAt, Held, Place};
 use crate::places::{prop_place, spread_element_place};
@@ -73,7 +74,7 @@ impl<N: Held> EmitAt for ObjectLit<N> {
     ) {
         e.opened(self.span);
         e.punct(Punctuator::LeftBrace);
-        e.object_list(self);
+        e.object_by_maps(self);
         e.last_of(self.span);
         e.punct(Punctuator::RightBrace);
     }
@@ -227,8 +228,8 @@ impl<W: WriteJs, S: SourceMapper, C: Comments> Emitter<'_, W, S, C> {
     /// Records where a name ends, before a value that stands nowhere.
     #[tactic(auto, unfolding(crate::specs::Props::key_end))]
     fn key_end(&mut self, name: Span, value: Span)
-        ensures items { Makes (key_end name value) (standing_of S.lines W.sheet self.old) (standing_of S.lines W.sheet self.new) }
-        ensures level { Stays (standing_of S.lines W.sheet self.old) (standing_of S.lines W.sheet self.new) }
+        ensures items { Makes (key_end name value) (standing_of S.lines C.maps W.sheet self.old) (standing_of S.lines C.maps W.sheet self.new) }
+        ensures level { Stays (standing_of S.lines C.maps W.sheet self.old) (standing_of S.lines C.maps W.sheet self.new) }
     {
         if name.lo.0 != 0 && value.lo.0 == 0 {
             self.position(name.hi);
@@ -238,8 +239,8 @@ impl<W: WriteJs, S: SourceMapper, C: Comments> Emitter<'_, W, S, C> {
     /// Records where a value begins, after a name that stands nowhere.
     #[tactic(auto, unfolding(crate::specs::Props::value_start))]
     fn value_start(&mut self, name: Span, value: Span)
-        ensures items { Makes (value_start name value) (standing_of S.lines W.sheet self.old) (standing_of S.lines W.sheet self.new) }
-        ensures level { Stays (standing_of S.lines W.sheet self.old) (standing_of S.lines W.sheet self.new) }
+        ensures items { Makes (value_start name value) (standing_of S.lines C.maps W.sheet self.old) (standing_of S.lines C.maps W.sheet self.new) }
+        ensures level { Stays (standing_of S.lines C.maps W.sheet self.old) (standing_of S.lines C.maps W.sheet self.new) }
     {
         if name.lo.0 == 0 {
             self.position(value.lo);
@@ -250,8 +251,8 @@ impl<W: WriteJs, S: SourceMapper, C: Comments> Emitter<'_, W, S, C> {
     #[tactic(auto, unfolding(crate::specs::Props::accessor))]
     fn accessor<N: Held>(&mut self, word: &'static str, name: &PropNameBox<N>)
         requires { begins_letter word.now ≡ true }
-        ensures items { Makes (accessor N.answers N.items word.now name.now.node.value) (standing_of S.lines W.sheet self.old) (standing_of S.lines W.sheet self.new) }
-        ensures level { Stays (standing_of S.lines W.sheet self.old) (standing_of S.lines W.sheet self.new) }
+        ensures items { Makes (accessor N.answers N.items word.now name.now.node.value) (standing_of S.lines C.maps W.sheet self.old) (standing_of S.lines C.maps W.sheet self.new) }
+        ensures level { Stays (standing_of S.lines C.maps W.sheet self.old) (standing_of S.lines C.maps W.sheet self.new) }
     {
         self.keyword(None, word);
         self.blank(name.held().starts());
@@ -262,8 +263,8 @@ impl<W: WriteJs, S: SourceMapper, C: Comments> Emitter<'_, W, S, C> {
     /// Writes a body, where there is one.
     #[tactic(auto, unfolding(crate::specs::Props::optional_body))]
     fn optional_body<N: Held>(&mut self, body: &Option<BlockStmtBox<N>>)
-        ensures items { Makes (optional_body N.items body.now) (standing_of S.lines W.sheet self.old) (standing_of S.lines W.sheet self.new) }
-        ensures level { Stays (standing_of S.lines W.sheet self.old) (standing_of S.lines W.sheet self.new) }
+        ensures items { Makes (optional_body N.items body.now) (standing_of S.lines C.maps W.sheet self.old) (standing_of S.lines C.maps W.sheet self.new) }
+        ensures level { Stays (standing_of S.lines C.maps W.sheet self.old) (standing_of S.lines C.maps W.sheet self.new) }
     {
         match body {
             Some(body) => body.held().emit_at(self, Place::Plain),
@@ -273,16 +274,16 @@ impl<W: WriteJs, S: SourceMapper, C: Comments> Emitter<'_, W, S, C> {
 
     /// Writes the properties on one line.
     fn flat_object_props<N: Held>(&mut self, node: &ObjectLit<N>)
-        ensures items { Makes (list flat_object_format node.now.span (object_children N.answers N.items node.now)) (standing_of S.lines W.sheet self.old) (standing_of S.lines W.sheet self.new) }
-        ensures level { Stays (standing_of S.lines W.sheet self.old) (standing_of S.lines W.sheet self.new) }
+        ensures items { Makes (list flat_object_format node.now.span (object_children N.answers N.items node.now)) (standing_of S.lines C.maps W.sheet self.old) (standing_of S.lines C.maps W.sheet self.new) }
+        ensures level { Stays (standing_of S.lines C.maps W.sheet self.old) (standing_of S.lines C.maps W.sheet self.new) }
     {
         self.list(flat_object_format(), node.span, &node.props)
     }
 
     /// Writes the properties, each on a line of its own.
     fn object_props<N: Held>(&mut self, node: &ObjectLit<N>)
-        ensures items { Makes (list object_format node.now.span (object_children N.answers N.items node.now)) (standing_of S.lines W.sheet self.old) (standing_of S.lines W.sheet self.new) }
-        ensures level { Stays (standing_of S.lines W.sheet self.old) (standing_of S.lines W.sheet self.new) }
+        ensures items { Makes (list object_format node.now.span (object_children N.answers N.items node.now)) (standing_of S.lines C.maps W.sheet self.old) (standing_of S.lines C.maps W.sheet self.new) }
+        ensures level { Stays (standing_of S.lines C.maps W.sheet self.old) (standing_of S.lines C.maps W.sheet self.new) }
     {
         self.list(object_format(), node.span, &node.props)
     }
@@ -290,8 +291,8 @@ impl<W: WriteJs, S: SourceMapper, C: Comments> Emitter<'_, W, S, C> {
     /// Writes the properties and the ends of their lines.
     #[tactic(auto, unfolding(crate::specs::Props::lined_object_list))]
     fn lined_object_list<N: Held>(&mut self, node: &ObjectLit<N>)
-        ensures items { Makes (lined_object_list node.now.span (object_children N.answers N.items node.now)) (standing_of S.lines W.sheet self.old) (standing_of S.lines W.sheet self.new) }
-        ensures level { Stays (standing_of S.lines W.sheet self.old) (standing_of S.lines W.sheet self.new) }
+        ensures items { Makes (lined_object_list node.now.span (object_children N.answers N.items node.now)) (standing_of S.lines C.maps W.sheet self.old) (standing_of S.lines C.maps W.sheet self.new) }
+        ensures level { Stays (standing_of S.lines C.maps W.sheet self.old) (standing_of S.lines C.maps W.sheet self.new) }
     {
         self.line();
         self.object_props(node);
@@ -301,8 +302,8 @@ impl<W: WriteJs, S: SourceMapper, C: Comments> Emitter<'_, W, S, C> {
     /// Writes the properties, each on a line of its own where there are some.
     #[tactic(auto, unfolding(crate::specs::Props::object_lines))]
     fn object_lines<N: Held>(&mut self, some: bool, node: &ObjectLit<N>)
-        ensures items { Makes (object_lines some node.now.span (object_children N.answers N.items node.now)) (standing_of S.lines W.sheet self.old) (standing_of S.lines W.sheet self.new) }
-        ensures level { Stays (standing_of S.lines W.sheet self.old) (standing_of S.lines W.sheet self.new) }
+        ensures items { Makes (object_lines some node.now.span (object_children N.answers N.items node.now)) (standing_of S.lines C.maps W.sheet self.old) (standing_of S.lines C.maps W.sheet self.new) }
+        ensures level { Stays (standing_of S.lines C.maps W.sheet self.old) (standing_of S.lines C.maps W.sheet self.new) }
     {
         if some {
             self.lined_object_list(node);
@@ -312,23 +313,31 @@ impl<W: WriteJs, S: SourceMapper, C: Comments> Emitter<'_, W, S, C> {
     }
 
     /// Writes the properties, where the settings aren't to minify.
-    fn pretty_object_list<N: Held>(&mut self, node: &ObjectLit<N>)
-        ensures items { Makes (object_lines (is_some_listed node.now.props.items) node.now.span (object_children N.answers N.items node.now)) (standing_of S.lines W.sheet self.old) (standing_of S.lines W.sheet self.new) }
-        ensures level { Stays (standing_of S.lines W.sheet self.old) (standing_of S.lines W.sheet self.new) }
+    fn pretty_object_list<N: Held>(&mut self, some: bool, node: &ObjectLit<N>)
+        ensures items { Makes (object_lines some node.now.span (object_children N.answers N.items node.now)) (standing_of S.lines C.maps W.sheet self.old) (standing_of S.lines C.maps W.sheet self.new) }
+        ensures level { Stays (standing_of S.lines C.maps W.sheet self.old) (standing_of S.lines C.maps W.sheet self.new) }
     {
-        let some = is_some_listed(&node.props);
         self.object_lines(some, node)
     }
 
     /// Writes the properties; on one line where the settings are to minify.
     #[tactic(auto, using(crate::proofs::Asked::minified_part, crate::proofs::Asked::pretty_part), unfolding(crate::specs::Props::object_list))]
-    fn object_list<N: Held>(&mut self, node: &ObjectLit<N>)
-        ensures items { Makes (object_list (is_some_listed node.now.props.items) node.now.span (object_children N.answers N.items node.now)) (standing_of S.lines W.sheet self.old) (standing_of S.lines W.sheet self.new) }
-        ensures level { Stays (standing_of S.lines W.sheet self.old) (standing_of S.lines W.sheet self.new) }
+    fn object_list<N: Held>(&mut self, some: bool, node: &ObjectLit<N>)
+        ensures items { Makes (object_list some node.now.span (object_children N.answers N.items node.now)) (standing_of S.lines C.maps W.sheet self.old) (standing_of S.lines C.maps W.sheet self.new) }
+        ensures level { Stays (standing_of S.lines C.maps W.sheet self.old) (standing_of S.lines C.maps W.sheet self.new) }
     {
         if self.cfg.minify {
             return self.flat_object_props(node);
         }
-        self.pretty_object_list(node)
+        self.pretty_object_list(some, node)
+    }
+
+    /// Writes the properties, each on a line of its own too where there is a comment before `}`.
+    fn object_by_maps<N: Held>(&mut self, node: &ObjectLit<N>)
+        ensures items { Makes (object_by_maps (is_some_listed node.now.props.items) node.now.span (object_children N.answers N.items node.now)) (standing_of S.lines C.maps W.sheet self.old) (standing_of S.lines C.maps W.sheet self.new) }
+        ensures level { Stays (standing_of S.lines C.maps W.sheet self.old) (standing_of S.lines C.maps W.sheet self.new) }
+    {
+        let some = wants_lines(&self.comments, is_some_listed(&node.props), node.span);
+        self.object_list(some, node)
     }
 }

@@ -55,8 +55,8 @@ impl<W: WriteJs, S: SourceMapper, C: Comments> Emitter<'_, W, S, C> {
         child: &T,
     )
         requires { indented format.0 ≡ false }
-        ensures items { Makes (braced_child format.0 parent previous (child_of T.stands T.items child.now)) (standing_of S.lines W.sheet self.old) (standing_of S.lines W.sheet self.new) }
-        ensures level { Stays (standing_of S.lines W.sheet self.old) (standing_of S.lines W.sheet self.new) }
+        ensures items { Makes (braced_child format.0 parent previous (child_of T.stands T.items child.now)) (standing_of S.lines C.maps W.sheet self.old) (standing_of S.lines C.maps W.sheet self.new) }
+        ensures level { Stays (standing_of S.lines C.maps W.sheet self.old) (standing_of S.lines C.maps W.sheet self.new) }
     {
         match previous {
             None => {
@@ -72,8 +72,8 @@ impl<W: WriteJs, S: SourceMapper, C: Comments> Emitter<'_, W, S, C> {
     #[tactic(auto, using(crate::proofs::Steps::no_levels), unfolding(crate::specs::Lists::braced_rest, swc_ecma_codegen_base::specs::Lists::more_children, swc_ecma_codegen_base::specs::Lists::last_place))]
     fn braced_end(&mut self, format: ListFormat, parent: Span, previous: Option<Span>)
         requires { indented format.0 ≡ false }
-        ensures items { Makes (braced_rest format.0 parent previous []) (standing_of S.lines W.sheet self.old) (standing_of S.lines W.sheet self.new) }
-        ensures level { Stays (standing_of S.lines W.sheet self.old) (standing_of S.lines W.sheet self.new) }
+        ensures items { Makes (braced_rest format.0 parent previous []) (standing_of S.lines C.maps W.sheet self.old) (standing_of S.lines C.maps W.sheet self.new) }
+        ensures level { Stays (standing_of S.lines C.maps W.sheet self.old) (standing_of S.lines C.maps W.sheet self.new) }
     {
         match previous {
             None => {
@@ -94,8 +94,8 @@ impl<W: WriteJs, S: SourceMapper, C: Comments> Emitter<'_, W, S, C> {
         specifiers: &[T],
     )
         requires { indented format.0 ≡ false }
-        ensures items { Makes (list format.0 parent (map (child_of T.stands T.items) (filter T.braced specifiers.now))) (standing_of S.lines W.sheet self.old) (standing_of S.lines W.sheet self.new) }
-        ensures level { Stays (standing_of S.lines W.sheet self.old) (standing_of S.lines W.sheet self.new) }
+        ensures items { Makes (list format.0 parent (map (child_of T.stands T.items) (filter T.braced specifiers.now))) (standing_of S.lines C.maps W.sheet self.old) (standing_of S.lines C.maps W.sheet self.new) }
+        ensures level { Stays (standing_of S.lines C.maps W.sheet self.old) (standing_of S.lines C.maps W.sheet self.new) }
     {
         let mut previous = None;
         for specifier in specifiers {

@@ -9,7 +9,7 @@ ghost use Rattle.swc_ecma_codegen.specs.Lists.{in_order};
 ghost use Rattle.swc_ecma_codegen.specs.Standing.{Makes, Stays, standing_of};
 ghost use Rattle.swc_ecma_codegen_base.specs.Starts.{begins_letter};
 ghost use Rattle.swc_ecma_codegen_base.specs.Words.{trailing_comments};
-ghost use Rattle.swc_ecma_codegen.specs.Stmts.{enclosed, spaced, stmt_word, spaced_word, jump, empty_stmt, expr_stmt, debugger_stmt, with_stmt, return_arg, return_stmt, labeled_stmt, break_stmt, continue_stmt, else_branch, if_stmt, catch_param, catch_clause, handler, finalizer, try_stmt, throw_stmt, stmt_parts, stmt_closed, stmt};
+ghost use Rattle.swc_ecma_codegen.specs.Stmts.{enclosed, spaced, argument, argument_in, stmt_word, spaced_word, jump, empty_stmt, expr_stmt, debugger_stmt, with_stmt, return_arg, return_stmt, labeled_stmt, break_stmt, continue_stmt, else_branch, if_stmt, catch_param, catch_clause, handler, finalizer, try_stmt, throw_stmt, stmt_parts, stmt_closed, stmt};
 ghost use Rattle.swc_ecma_codegen.specs.Programs.{start_if_empty, program_start, script, program};
 
 use crate::branches::is_block;
@@ -34,8 +34,8 @@ fn stmt_parts<N: Held, W: WriteJs, S: SourceMapper, C: Comments>(
     node: &Stmt<N>,
     e: &mut Emitter<'_, W, S, C>,
 )
-    ensures items { Makes (stmt_parts N.answers N.items node.now) (standing_of S.lines W.sheet e.old) (standing_of S.lines W.sheet e.new) }
-    ensures level { Stays (standing_of S.lines W.sheet e.old) (standing_of S.lines W.sheet e.new) }
+    ensures items { Makes (stmt_parts N.answers N.items node.now) (standing_of S.lines C.maps W.sheet e.old) (standing_of S.lines C.maps W.sheet e.new) }
+    ensures level { Stays (standing_of S.lines C.maps W.sheet e.old) (standing_of S.lines C.maps W.sheet e.new) }
 {
     match node {
         Stmt::Expr(node) => node.emit_at(e, Place::Plain),
@@ -250,7 +250,7 @@ impl<N: Held> EmitAt for ThrowStmt<N> {
     ) {
         e.opened(self.span);
         e.keyword(None, "throw");
-        e.spaced(self.arg.held());
+        e.argument(self.arg.held());
         e.semi();
     }
 }
@@ -306,8 +306,8 @@ impl<N: Held> EmitAt for Program<N> {
 impl<W: WriteJs, S: SourceMapper, C: Comments> Emitter<'_, W, S, C> {
     /// Writes statements, one after another.
     fn stmts<N: Held>(&mut self, nodes: &[Stmt<N>])
-        ensures items { Makes (in_order (stmt N.answers N.items) nodes.now) (standing_of S.lines W.sheet self.old) (standing_of S.lines W.sheet self.new) }
-        ensures level { Stays (standing_of S.lines W.sheet self.old) (standing_of S.lines W.sheet self.new) }
+        ensures items { Makes (in_order (stmt N.answers N.items) nodes.now) (standing_of S.lines C.maps W.sheet self.old) (standing_of S.lines C.maps W.sheet self.new) }
+        ensures level { Stays (standing_of S.lines C.maps W.sheet self.old) (standing_of S.lines C.maps W.sheet self.new) }
     {
         self.in_order(nodes)
     }
@@ -315,8 +315,8 @@ impl<W: WriteJs, S: SourceMapper, C: Comments> Emitter<'_, W, S, C> {
     /// Writes the comments after a statement and the end of its line, but for a block.
     #[tactic(auto, unfolding(crate::specs::Stmts::stmt_closed))]
     fn stmt_closed<N: Held>(&mut self, node: &Stmt<N>)
-        ensures items { Makes (stmt_closed (is_block node.now) (stmt_span (place_of N.answers) node.now)) (standing_of S.lines W.sheet self.old) (standing_of S.lines W.sheet self.new) }
-        ensures level { Stays (standing_of S.lines W.sheet self.old) (standing_of S.lines W.sheet self.new) }
+        ensures items { Makes (stmt_closed (is_block node.now) (stmt_span (place_of N.answers) node.now)) (standing_of S.lines C.maps W.sheet self.old) (standing_of S.lines C.maps W.sheet self.new) }
+        ensures level { Stays (standing_of S.lines C.maps W.sheet self.old) (standing_of S.lines C.maps W.sheet self.new) }
     {
         if is_block(node) {
             return;
@@ -327,10 +327,10 @@ impl<W: WriteJs, S: SourceMapper, C: Comments> Emitter<'_, W, S, C> {
 
     /// Writes the comments after a statement. Where it stands is asked only where there are comments.
     #[inline(always)]
-    #[tactic(auto, using(crate::proofs::Asked::stmt_bare))]
+    #[tactic(auto, using(crate::proofs::Without::none_there, crate::proofs::Without::no_trailing))]
     fn stmt_comments<N: Held>(&mut self, node: &Stmt<N>)
-        ensures items { Makes (trailing_comments true (stmt_span (place_of N.answers) node.now).hi) (standing_of S.lines W.sheet self.old) (standing_of S.lines W.sheet self.new) }
-        ensures level { Stays (standing_of S.lines W.sheet self.old) (standing_of S.lines W.sheet self.new) }
+        ensures items { Makes (trailing_comments true (stmt_span (place_of N.answers) node.now).hi) (standing_of S.lines C.maps W.sheet self.old) (standing_of S.lines C.maps W.sheet self.new) }
+        ensures level { Stays (standing_of S.lines C.maps W.sheet self.old) (standing_of S.lines C.maps W.sheet self.new) }
     {
         if self.comments.is_none() {
             return;
@@ -341,8 +341,8 @@ impl<W: WriteJs, S: SourceMapper, C: Comments> Emitter<'_, W, S, C> {
     /// Writes an expression in parentheses.
     #[tactic(auto, unfolding(crate::specs::Stmts::enclosed))]
     pub(crate) fn enclosed<N: Held>(&mut self, node: &ExprBox<N>)
-        ensures items { Makes (enclosed N.items node.now) (standing_of S.lines W.sheet self.old) (standing_of S.lines W.sheet self.new) }
-        ensures level { Stays (standing_of S.lines W.sheet self.old) (standing_of S.lines W.sheet self.new) }
+        ensures items { Makes (enclosed N.items node.now) (standing_of S.lines C.maps W.sheet self.old) (standing_of S.lines C.maps W.sheet self.new) }
+        ensures level { Stays (standing_of S.lines C.maps W.sheet self.old) (standing_of S.lines C.maps W.sheet self.new) }
     {
         self.punct(Punctuator::LeftParenthesis);
         node.held().emit_at(self, Place::Plain);
@@ -352,19 +352,44 @@ impl<W: WriteJs, S: SourceMapper, C: Comments> Emitter<'_, W, S, C> {
     /// Writes a node behind a word, and the blank between the two.
     #[tactic(auto, unfolding(crate::specs::Stmts::spaced))]
     pub(crate) fn spaced<N: Held>(&mut self, node: &N)
-        ensures items { Makes (spaced N.answers N.items node.now) (standing_of S.lines W.sheet self.old) (standing_of S.lines W.sheet self.new) }
-        ensures level { Stays (standing_of S.lines W.sheet self.old) (standing_of S.lines W.sheet self.new) }
+        ensures items { Makes (spaced N.answers N.items node.now) (standing_of S.lines C.maps W.sheet self.old) (standing_of S.lines C.maps W.sheet self.new) }
+        ensures level { Stays (standing_of S.lines C.maps W.sheet self.old) (standing_of S.lines C.maps W.sheet self.new) }
     {
         self.blank(node.starts());
         node.emit_at(self, Place::Plain);
+    }
+
+    /// Writes an argument behind a word.
+    #[tactic(auto, using(crate::proofs::Asked::argument_asked))]
+    fn argument<N: Held>(&mut self, node: &N)
+        ensures items { Makes (argument N.answers N.items node.now) (standing_of S.lines C.maps W.sheet self.old) (standing_of S.lines C.maps W.sheet self.new) }
+        ensures level { Stays (standing_of S.lines C.maps W.sheet self.old) (standing_of S.lines C.maps W.sheet self.new) }
+    {
+        let breaks = node.breaks(&self.comments);
+        self.argument_in(breaks, node)
+    }
+
+    /// Writes such an argument, in parentheses where a line ends in or after a comment before it.
+    #[tactic(auto, unfolding(crate::specs::Stmts::argument_in, swc_ecma_codegen_base::specs::Choices::optional_parentheses))]
+    fn argument_in<N: Held>(&mut self, breaks: bool, node: &N)
+        ensures items { Makes (argument_in N.answers N.items node.now breaks) (standing_of S.lines C.maps W.sheet self.old) (standing_of S.lines C.maps W.sheet self.new) }
+        ensures level { Stays (standing_of S.lines C.maps W.sheet self.old) (standing_of S.lines C.maps W.sheet self.new) }
+    {
+        if breaks {
+            self.punct(Punctuator::LeftParenthesis);
+            node.emit_at(self, Place::Plain);
+            self.punct(Punctuator::RightParenthesis);
+        } else {
+            self.spaced(node);
+        }
     }
 
     /// Writes the word that a statement begins with.
     #[tactic(auto, unfolding(crate::specs::Stmts::stmt_word))]
     pub(crate) fn stmt_word(&mut self, span: Span, text: &'static str)
         requires { begins_letter text.now ≡ true }
-        ensures items { Makes (stmt_word span text.now) (standing_of S.lines W.sheet self.old) (standing_of S.lines W.sheet self.new) }
-        ensures level { Stays (standing_of S.lines W.sheet self.old) (standing_of S.lines W.sheet self.new) }
+        ensures items { Makes (stmt_word span text.now) (standing_of S.lines C.maps W.sheet self.old) (standing_of S.lines C.maps W.sheet self.new) }
+        ensures level { Stays (standing_of S.lines C.maps W.sheet self.old) (standing_of S.lines C.maps W.sheet self.new) }
     {
         self.commit_pending_semi();
         self.opened(span);
@@ -375,8 +400,8 @@ impl<W: WriteJs, S: SourceMapper, C: Comments> Emitter<'_, W, S, C> {
     #[tactic(auto, unfolding(crate::specs::Stmts::spaced_word))]
     fn spaced_word(&mut self, span: Span, text: &'static str)
         requires { begins_letter text.now ≡ true }
-        ensures items { Makes (spaced_word span text.now) (standing_of S.lines W.sheet self.old) (standing_of S.lines W.sheet self.new) }
-        ensures level { Stays (standing_of S.lines W.sheet self.old) (standing_of S.lines W.sheet self.new) }
+        ensures items { Makes (spaced_word span text.now) (standing_of S.lines C.maps W.sheet self.old) (standing_of S.lines C.maps W.sheet self.new) }
+        ensures level { Stays (standing_of S.lines C.maps W.sheet self.old) (standing_of S.lines C.maps W.sheet self.new) }
     {
         self.leading_comments(span.lo);
         self.commit_pending_semi();
@@ -389,8 +414,8 @@ impl<W: WriteJs, S: SourceMapper, C: Comments> Emitter<'_, W, S, C> {
     #[tactic(auto, unfolding(crate::specs::Stmts::jump))]
     fn jump(&mut self, span: Span, text: &'static str, label: &Option<Ident>)
         requires { begins_letter text.now ≡ true }
-        ensures items { Makes (jump span text.now label.now) (standing_of S.lines W.sheet self.old) (standing_of S.lines W.sheet self.new) }
-        ensures level { Stays (standing_of S.lines W.sheet self.old) (standing_of S.lines W.sheet self.new) }
+        ensures items { Makes (jump span text.now label.now) (standing_of S.lines C.maps W.sheet self.old) (standing_of S.lines C.maps W.sheet self.new) }
+        ensures level { Stays (standing_of S.lines C.maps W.sheet self.old) (standing_of S.lines C.maps W.sheet self.new) }
     {
         self.commit_pending_semi();
         self.start_of(span);
@@ -402,11 +427,11 @@ impl<W: WriteJs, S: SourceMapper, C: Comments> Emitter<'_, W, S, C> {
     /// Writes the argument of `return`, where there is one.
     #[tactic(auto, unfolding(crate::specs::Stmts::return_arg))]
     fn return_arg<N: Held>(&mut self, arg: &Option<ExprBox<N>>)
-        ensures items { Makes (return_arg N.answers N.items arg.now) (standing_of S.lines W.sheet self.old) (standing_of S.lines W.sheet self.new) }
-        ensures level { Stays (standing_of S.lines W.sheet self.old) (standing_of S.lines W.sheet self.new) }
+        ensures items { Makes (return_arg N.answers N.items arg.now) (standing_of S.lines C.maps W.sheet self.old) (standing_of S.lines C.maps W.sheet self.new) }
+        ensures level { Stays (standing_of S.lines C.maps W.sheet self.old) (standing_of S.lines C.maps W.sheet self.new) }
     {
         match arg {
-            Some(node) => self.spaced(node.held()),
+            Some(node) => self.argument(node.held()),
             None => {}
         }
     }
@@ -414,8 +439,8 @@ impl<W: WriteJs, S: SourceMapper, C: Comments> Emitter<'_, W, S, C> {
     /// Writes `else` and a statement, where there is one.
     #[tactic(auto, unfolding(crate::specs::Stmts::else_branch))]
     fn else_branch<N: Held>(&mut self, block: bool, alt: &Option<StmtBox<N>>)
-        ensures items { Makes (else_branch N.answers N.items block alt.now) (standing_of S.lines W.sheet self.old) (standing_of S.lines W.sheet self.new) }
-        ensures level { Stays (standing_of S.lines W.sheet self.old) (standing_of S.lines W.sheet self.new) }
+        ensures items { Makes (else_branch N.answers N.items block alt.now) (standing_of S.lines C.maps W.sheet self.old) (standing_of S.lines C.maps W.sheet self.new) }
+        ensures level { Stays (standing_of S.lines C.maps W.sheet self.old) (standing_of S.lines C.maps W.sheet self.new) }
     {
         match alt {
             Some(node) => {
@@ -430,8 +455,8 @@ impl<W: WriteJs, S: SourceMapper, C: Comments> Emitter<'_, W, S, C> {
     /// Writes a blank where one is wanted, unless the settings are to minify.
     #[tactic(auto, unfolding(swc_ecma_codegen_base::specs::Lists::blank_if))]
     fn blank_if(&mut self, wanted: bool)
-        ensures items { Makes (blank_if wanted) (standing_of S.lines W.sheet self.old) (standing_of S.lines W.sheet self.new) }
-        ensures level { Stays (standing_of S.lines W.sheet self.old) (standing_of S.lines W.sheet self.new) }
+        ensures items { Makes (blank_if wanted) (standing_of S.lines C.maps W.sheet self.old) (standing_of S.lines C.maps W.sheet self.new) }
+        ensures level { Stays (standing_of S.lines C.maps W.sheet self.old) (standing_of S.lines C.maps W.sheet self.new) }
     {
         if wanted {
             self.formatting_space();
@@ -441,8 +466,8 @@ impl<W: WriteJs, S: SourceMapper, C: Comments> Emitter<'_, W, S, C> {
     /// Writes what is caught in parentheses, where there is such.
     #[tactic(auto, unfolding(crate::specs::Stmts::catch_param))]
     fn catch_param<N: Held>(&mut self, param: &Option<PatBox<N>>)
-        ensures items { Makes (catch_param N.items param.now) (standing_of S.lines W.sheet self.old) (standing_of S.lines W.sheet self.new) }
-        ensures level { Stays (standing_of S.lines W.sheet self.old) (standing_of S.lines W.sheet self.new) }
+        ensures items { Makes (catch_param N.items param.now) (standing_of S.lines C.maps W.sheet self.old) (standing_of S.lines C.maps W.sheet self.new) }
+        ensures level { Stays (standing_of S.lines C.maps W.sheet self.old) (standing_of S.lines C.maps W.sheet self.new) }
     {
         match param {
             Some(node) => {
@@ -457,8 +482,8 @@ impl<W: WriteJs, S: SourceMapper, C: Comments> Emitter<'_, W, S, C> {
     /// Writes a blank and `catch { a; }`, where there is such.
     #[tactic(auto, unfolding(crate::specs::Stmts::handler))]
     fn handler<N: Held>(&mut self, node: &Option<CatchClause<N>>)
-        ensures items { Makes (handler N.items node.now) (standing_of S.lines W.sheet self.old) (standing_of S.lines W.sheet self.new) }
-        ensures level { Stays (standing_of S.lines W.sheet self.old) (standing_of S.lines W.sheet self.new) }
+        ensures items { Makes (handler N.items node.now) (standing_of S.lines C.maps W.sheet self.old) (standing_of S.lines C.maps W.sheet self.new) }
+        ensures level { Stays (standing_of S.lines C.maps W.sheet self.old) (standing_of S.lines C.maps W.sheet self.new) }
     {
         match node {
             Some(node) => {
@@ -472,8 +497,8 @@ impl<W: WriteJs, S: SourceMapper, C: Comments> Emitter<'_, W, S, C> {
     /// Writes a blank and `finally{ a; }`, where there is such.
     #[tactic(auto, unfolding(crate::specs::Stmts::finalizer))]
     fn finalizer<N: Held>(&mut self, node: &Option<BlockStmtBox<N>>)
-        ensures items { Makes (finalizer N.items node.now) (standing_of S.lines W.sheet self.old) (standing_of S.lines W.sheet self.new) }
-        ensures level { Stays (standing_of S.lines W.sheet self.old) (standing_of S.lines W.sheet self.new) }
+        ensures items { Makes (finalizer N.items node.now) (standing_of S.lines C.maps W.sheet self.old) (standing_of S.lines C.maps W.sheet self.new) }
+        ensures level { Stays (standing_of S.lines C.maps W.sheet self.old) (standing_of S.lines C.maps W.sheet self.new) }
     {
         match node {
             Some(node) => {
@@ -488,8 +513,8 @@ impl<W: WriteJs, S: SourceMapper, C: Comments> Emitter<'_, W, S, C> {
     /// Writes what stands before the statements of a program.
     #[tactic(auto, unfolding(crate::specs::Programs::program_start))]
     pub(crate) fn program_start<T>(&mut self, shebang: &Option<String>, body: &[T], span: Span)
-        ensures items { Makes (program_start shebang.now body.now span) (standing_of S.lines W.sheet self.old) (standing_of S.lines W.sheet self.new) }
-        ensures level { Stays (standing_of S.lines W.sheet self.old) (standing_of S.lines W.sheet self.new) }
+        ensures items { Makes (program_start shebang.now body.now span) (standing_of S.lines C.maps W.sheet self.old) (standing_of S.lines C.maps W.sheet self.new) }
+        ensures level { Stays (standing_of S.lines C.maps W.sheet self.old) (standing_of S.lines C.maps W.sheet self.new) }
     {
         match shebang {
             Some(text) => {
@@ -507,8 +532,8 @@ impl<W: WriteJs, S: SourceMapper, C: Comments> Emitter<'_, W, S, C> {
     /// Records the start of a program without statements.
     #[tactic(auto, unfolding(crate::specs::Programs::start_if_empty))]
     fn start_if_empty<T>(&mut self, body: &[T], span: Span)
-        ensures items { Makes (start_if_empty body.now span) (standing_of S.lines W.sheet self.old) (standing_of S.lines W.sheet self.new) }
-        ensures level { Stays (standing_of S.lines W.sheet self.old) (standing_of S.lines W.sheet self.new) }
+        ensures items { Makes (start_if_empty body.now span) (standing_of S.lines C.maps W.sheet self.old) (standing_of S.lines C.maps W.sheet self.new) }
+        ensures level { Stays (standing_of S.lines C.maps W.sheet self.old) (standing_of S.lines C.maps W.sheet self.new) }
     {
         match body {
             [] => self.start_of(span),

@@ -87,8 +87,8 @@ impl<W: WriteJs, S: SourceMapper, C: Comments> Emitter<'_, W, S, C> {
     /// Comes to a node whose shape has no text.
     #[tactic(auto, using(crate::proofs::Standings::refused_makes), unfolding(crate::specs::Templates::bad_shape))]
     pub(crate) fn bad_shape(&mut self)
-        ensures items { Makes bad_shape (standing_of S.lines W.sheet self.old) (standing_of S.lines W.sheet self.new) }
-        ensures level { Stays (standing_of S.lines W.sheet self.old) (standing_of S.lines W.sheet self.new) }
+        ensures items { Makes bad_shape (standing_of S.lines C.maps W.sheet self.old) (standing_of S.lines C.maps W.sheet self.new) }
+        ensures level { Stays (standing_of S.lines C.maps W.sheet self.old) (standing_of S.lines C.maps W.sheet self.new) }
     {
         if self.refusal.is_some() {
             return;
@@ -104,8 +104,8 @@ impl<W: WriteJs, S: SourceMapper, C: Comments> Emitter<'_, W, S, C> {
     #[inline(never)]
     #[tactic(auto, using(crate::proofs::Standings::refused_makes))]
     fn tpl_element(&mut self, first: bool, part: TemplatePart, node: &TplElement)
-        ensures items { Makes (tpl_element first part node.now) (standing_of S.lines W.sheet self.old) (standing_of S.lines W.sheet self.new) }
-        ensures level { Stays (standing_of S.lines W.sheet self.old) (standing_of S.lines W.sheet self.new) }
+        ensures items { Makes (tpl_element first part node.now) (standing_of S.lines C.maps W.sheet self.old) (standing_of S.lines C.maps W.sheet self.new) }
+        ensures level { Stays (standing_of S.lines C.maps W.sheet self.old) (standing_of S.lines C.maps W.sheet self.new) }
     {
         if self.refusal.is_some() {
             return;
@@ -120,8 +120,8 @@ impl<W: WriteJs, S: SourceMapper, C: Comments> Emitter<'_, W, S, C> {
     /// Writes the parts of a template after the first, each behind an expression.
     #[tactic(auto, using(crate::proofs::Steps::tpl_next), unfolding(crate::specs::Templates::tpl_rest))]
     fn tpl_rest<N: Held>(&mut self, tagged: bool, exprs: &[ExprBox<N>], quasis: &[TplElement])
-        ensures items { Makes (tpl_rest N.items tagged exprs.now quasis.now) (standing_of S.lines W.sheet self.old) (standing_of S.lines W.sheet self.new) }
-        ensures level { Stays (standing_of S.lines W.sheet self.old) (standing_of S.lines W.sheet self.new) }
+        ensures items { Makes (tpl_rest N.items tagged exprs.now quasis.now) (standing_of S.lines C.maps W.sheet self.old) (standing_of S.lines C.maps W.sheet self.new) }
+        ensures level { Stays (standing_of S.lines C.maps W.sheet self.old) (standing_of S.lines C.maps W.sheet self.new) }
     {
         let mut left = quasis;
         for expr in exprs {
@@ -137,8 +137,8 @@ impl<W: WriteJs, S: SourceMapper, C: Comments> Emitter<'_, W, S, C> {
     /// Writes the parts of a template.
     #[tactic(auto, unfolding(crate::specs::Templates::tpl_parts))]
     fn tpl_parts<N: Held>(&mut self, tagged: bool, exprs: &[ExprBox<N>], quasis: &[TplElement])
-        ensures items { Makes (tpl_parts N.items tagged exprs.now quasis.now) (standing_of S.lines W.sheet self.old) (standing_of S.lines W.sheet self.new) }
-        ensures level { Stays (standing_of S.lines W.sheet self.old) (standing_of S.lines W.sheet self.new) }
+        ensures items { Makes (tpl_parts N.items tagged exprs.now quasis.now) (standing_of S.lines C.maps W.sheet self.old) (standing_of S.lines C.maps W.sheet self.new) }
+        ensures level { Stays (standing_of S.lines C.maps W.sheet self.old) (standing_of S.lines C.maps W.sheet self.new) }
     {
         match quasis {
             [quasi, quasis @ ..] => {

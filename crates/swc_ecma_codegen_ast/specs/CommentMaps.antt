@@ -1,5 +1,5 @@
 -- The comments of a source text, by their positions.
-use Rattle.std.specs.Prelude.{ℕ, ◌==◌, if◌then◌else◌, List, Option, None}
+use Rattle.std.specs.Prelude.{ℕ, ◌==◌, if◌then◌else◌, List, [], ◌∷◌, ◌++◌, Option, None, Some}
 use Rattle.std.specs.Option.{option_map}
 use Rattle.std.specs.Prelude.{Vec}
 use Rattle.std.specs.BTreeMap.{BTreeMap, get}
@@ -11,6 +11,21 @@ use Rattle.swc_ecma_codegen_ast.specs.declared.comments.Comment.{Comment}
 pub record Maps : Type 0 where
   pub leading : ℕ → Option (List Comment)
   pub trailing : ℕ → Option (List Comment)
+
+-- those of an entry
+unfoldable pub listed : {A : Type 0} → Option (List A) → List A
+listed None = []
+listed (Some xs) = xs
+
+-- a map with one more behind the list at a position
+unfoldable pub with : {A : Type 0} → ℕ → A → (ℕ → Option (List A)) → ℕ → Option (List A)
+with pos x entries q = if pos == q then Some (listed (entries pos) ++ (x ∷ [])) else entries q
+
+unfoldable pub with_leading : ℕ → Comment → Maps → Maps
+with_leading pos c maps = record maps { leading = with pos c maps.leading }
+
+unfoldable pub with_trailing : ℕ → Comment → Maps → Maps
+with_trailing pos c maps = record maps { trailing = with pos c maps.trailing }
 
 -- a map without the entry at a position
 unfoldable pub without : {A : Type 0} → ℕ → (ℕ → Option A) → ℕ → Option A

@@ -3,6 +3,7 @@ pub mod CallPhrases
 pub mod Chars
 pub mod CodeUnits
 pub mod CommentMaps
+pub mod Comments
 pub mod DecimalValues
 pub mod DeclPhrases
 pub mod ElementPhrases

@@ -1,12 +1,13 @@
 //! The comments of a source text, by the positions that they stand before or after.
 
-ghost use Rattle.std.specs.Prelude.{◌≡◌, ℕ, is_some, option_map};
+ghost use Rattle.std.specs.Prelude.{◌≡◌, ℕ, is_some, option_map, OnOk, OnErr, IfErr};
 ghost use Rattle.std.specs.Option.{option_copied};
-ghost use Rattle.swc_ecma_codegen_ast.specs.CommentMaps.{Maps, without_leading, without_trailing, without, lists_in};
+ghost use Rattle.swc_ecma_codegen_common.specs.declared.errors.Error.TheVariants.{OutOfMemory};
+ghost use Rattle.swc_ecma_codegen_ast.specs.CommentMaps.{Maps, with_leading, with_trailing, with, without_leading, without_trailing, without, lists_in};
 
-use std::alloc::Global;
+use std::alloc::{AllocError, Global};
 use std::collections::BTreeMap;
-use swc_ecma_codegen_common::{BytePos, Span};
+use swc_ecma_codegen_common::{BytePos, Error, Result, Span};
 
 /// How a comment is written.
 #[derive(Debug, Clone, Copy, PartialEq, Eq)]
@@ -74,6 +75,57 @@ impl CommentMaps {
             trailing: BTreeMap::new(alloc),
         }
     }
+
+    /// Puts a comment behind those that stand before `pos`. Want of memory, which is the only error, changes nothing and
+    /// drops the comment.
+    #[tactic(auto, unfolding(crate::specs::CommentMaps::with_leading))]
+    pub fn add_leading(&mut self, pos: BytePos, comment: Comment) -> Result
+        ensures added { OnOk result (⟦<CommentMaps as Comments>⟧.maps self.new ≡ with_leading pos.0 comment (⟦<CommentMaps as Comments>⟧.maps self.old)) }
+        ensures unchanged { OnErr result (⟦<CommentMaps as Comments>⟧.maps self.new ≡ ⟦<CommentMaps as Comments>⟧.maps self.old) }
+        ensures no_memory { IfErr result (λ error. error ≡ OutOfMemory) }
+    {
+        match add(self.alloc, &mut self.leading, pos, comment) {
+            Ok(()) => Ok(()),
+            Err(_) => Err(Error::OutOfMemory),
+        }
+    }
+
+    /// Puts a comment behind those that stand after `pos`. Want of memory, which is the only error, changes nothing and
+    /// drops the comment.
+    #[tactic(auto, unfolding(crate::specs::CommentMaps::with_trailing))]
+    pub fn add_trailing(&mut self, pos: BytePos, comment: Comment) -> Result
+        ensures added { OnOk result (⟦<CommentMaps as Comments>⟧.maps self.new ≡ with_trailing pos.0 comment (⟦<CommentMaps as Comments>⟧.maps self.old)) }
+        ensures unchanged { OnErr result (⟦<CommentMaps as Comments>⟧.maps self.new ≡ ⟦<CommentMaps as Comments>⟧.maps self.old) }
+        ensures no_memory { IfErr result (λ error. error ≡ OutOfMemory) }
+    {
+        match add(self.alloc, &mut self.trailing, pos, comment) {
+            Ok(()) => Ok(()),
+            Err(_) => Err(Error::OutOfMemory),
+        }
+    }
+}
+
+/// Puts a comment behind the list at `pos`, where there is one, and else makes a list of it.
+fn add(
+    alloc: Global,
+    lists: &mut BTreeMap<BytePos, Vec<Comment>>,
+    pos: BytePos,
+    comment: Comment,
+) -> std::result::Result<(), AllocError>
+    ensures added { OnOk result (lists_in ⟦<BytePos as Ord>⟧.cmp lists.new ≡ with pos.0 comment (lists_in ⟦<BytePos as Ord>⟧.cmp lists.old)) }
+    ensures unchanged { OnErr result (lists_in ⟦<BytePos as Ord>⟧.cmp lists.new ≡ lists_in ⟦<BytePos as Ord>⟧.cmp lists.old) }
+{
+    match lists.get_mut(&pos) {
+        Some(list) => {
+            list.push(comment)?;
+        }
+        None => {
+            let mut list = Vec::new(alloc);
+            list.push(comment)?;
+            lists.insert(pos, list)?;
+        }
+    }
+    Ok(())
 }
 
 /// The list at `pos`, taken out.

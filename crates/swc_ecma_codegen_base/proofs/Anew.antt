@@ -3,7 +3,8 @@ use Rattle.std.proofs.Common.{◌≡◌, true, false, List, ℕ, Bool, Result, O
 use Rattle.swc_ecma_codegen_common.specs.declared.errors.Refusal.{Refusal}
 use Rattle.swc_ecma_codegen_common.specs.declared.errors.Refusal.TheVariants.{OutOfMemory}
 use Rattle.swc_ecma_codegen_ast.specs.SourceLines.{Lines}
-use Rattle.swc_ecma_codegen_base.specs.Run.{Plan, Part, State, Remake, Emits, Does, with_lines, put, IsRefused, step}
+use Rattle.swc_ecma_codegen_ast.specs.CommentMaps.{Maps}
+use Rattle.swc_ecma_codegen_base.specs.Run.{Plan, Part, State, Remake, Emits, Does, DoesTaking, with_source, put, IsRefused, step}
 use Rattle.swc_ecma_codegen_base.proofs.Emitting.{emits_refused, does_by, follows_step, follows_same}
 use Rattle.swc_ecma_codegen_base.proofs.Spelled.{marked_with}
 
@@ -29,15 +30,37 @@ not_here word due part e a b fresh same eq h marked =
     emits_same word (λ rest. step (Remake due) (part rest)) a b (Err e) same (λ rest. emits_refused (Remake due) e a b fresh (marked_with a b marked) (eq, h, ap (λ (s : State). s.sheet) marked) (part rest))
 
 -- the same, wherever lines end: for words that don't depend on that
-pub spelled_anew : (word : Part) (due : Bool) (by : List ℕ → Part) (t u : List ℕ) (a b : State) (r : Result (Unit {0}) Refusal) → a.failed ≡ false → ((lines : Lines) (rest : Plan) → word rest (record a.env { lines = lines }) ≡ step (Remake due) (by u rest) (record a.env { lines = lines })) → t ≡ u → Does (by t) a b r → Does word a b r
-unfolding with_lines
-spelled_anew word due by t u a b r fresh same eq h = does_by (by t) word a b r (λ lines s k. spelled_here word due by t u (with_lines lines a) (with_lines lines b) s fresh (same lines) eq k) h
+pub spelled_anew : (word : Part) (due : Bool) (by : List ℕ → Part) (t u : List ℕ) (a b : State) (r : Result (Unit {0}) Refusal) → a.failed ≡ false → ((lines : Lines) (maps : Maps) (rest : Plan) → word rest (record a.env { lines = lines; maps = maps }) ≡ step (Remake due) (by u rest) (record a.env { lines = lines; maps = maps })) → t ≡ u → Does (by t) a b r → Does word a b r
+unfolding with_source
+spelled_anew word due by t u a b r fresh same eq h = does_by (by t) word a b r (λ lines maps s k. spelled_here word due by t u (with_source lines maps a) (with_source lines maps b) s fresh (same lines maps) eq k) h
 
-pub not_anew : (word : Part) (due : Bool) (part : Part) (e : Refusal) (a b : State) → a.failed ≡ false → ((lines : Lines) (rest : Plan) → word rest (record a.env { lines = lines }) ≡ step (Remake due) (part rest) (record a.env { lines = lines })) → e ≡ OutOfMemory → due ≡ true → b ≡ record a { failed = true } → Does word a b (Err e)
-unfolding with_lines
-not_anew word due part e a b fresh same eq h marked = λ lines. not_here word due part e (with_lines lines a) (with_lines lines b) fresh (same lines) eq h (ap (with_lines lines) marked)
+pub not_anew : (word : Part) (due : Bool) (part : Part) (e : Refusal) (a b : State) → a.failed ≡ false → ((lines : Lines) (maps : Maps) (rest : Plan) → word rest (record a.env { lines = lines; maps = maps }) ≡ step (Remake due) (part rest) (record a.env { lines = lines; maps = maps })) → e ≡ OutOfMemory → due ≡ true → b ≡ record a { failed = true } → Does word a b (Err e)
+unfolding with_source
+not_anew word due part e a b fresh same eq h marked = λ lines maps. not_here word due part e (with_source lines maps a) (with_source lines maps b) fresh (same lines maps) eq h (ap (with_source lines maps) marked)
 
 -- what a part does depends only on its steps
-pub does_same : (p q : Part) (a b : State) (r : Result (Unit {0}) Refusal) → ((lines : Lines) (rest : Plan) → p rest (record a.env { lines = lines }) ≡ q rest (record a.env { lines = lines })) → Does q a b r → Does p a b r
-unfolding with_lines
-does_same p q a b r h k = does_by q p a b r (λ lines s f. emits_same p q (with_lines lines a) (with_lines lines b) s (h lines) f) k
+pub does_same : (p q : Part) (a b : State) (r : Result (Unit {0}) Refusal) → ((lines : Lines) (maps : Maps) (rest : Plan) → p rest (record a.env { lines = lines; maps = maps }) ≡ q rest (record a.env { lines = lines; maps = maps })) → Does q a b r → Does p a b r
+unfolding with_source
+does_same p q a b r h k = does_by q p a b r (λ lines maps s f. emits_same p q (with_source lines maps a) (with_source lines maps b) s (h lines maps) f) k
+
+-- ---- the same of what takes comments
+
+-- what takes none leaves all
+pub does_takes : (p : Part) (maps : Maps) (a b : State) (r : Result (Unit {0}) Refusal) → Does p a b r → DoesTaking p maps maps a b r
+does_takes p maps a b (Ok u) h = λ lines. h lines maps
+does_takes p maps a b (Err e) h = λ lines. h lines maps
+
+takes_by : (p q : Part) (before left : Maps) (a b : State) (r : Result (Unit {0}) Refusal) → ((lines : Lines) (s : Result (Unit {0}) Refusal) → Emits p (with_source lines before a) (with_source lines left b) s → Emits q (with_source lines before a) (with_source lines left b) s) → DoesTaking p before left a b r → DoesTaking q before left a b r
+takes_by p q before left a b (Ok u) f h = λ lines. f lines (Ok u) (h lines)
+takes_by p q before left a b (Err e) f h = λ lines. f lines (Err e) (h lines)
+
+pub taking_anew : (word : Part) (due : Bool) (by : List ℕ → Part) (t u : List ℕ) (before left : Maps) (a b : State) (r : Result (Unit {0}) Refusal) → a.failed ≡ false → ((lines : Lines) (maps : Maps) (rest : Plan) → word rest (record a.env { lines = lines; maps = maps }) ≡ step (Remake due) (by u rest) (record a.env { lines = lines; maps = maps })) → t ≡ u → DoesTaking (by t) before left a b r → DoesTaking word before left a b r
+unfolding with_source
+taking_anew word due by t u before left a b r fresh same eq h = takes_by (by t) word before left a b r (λ lines s k. spelled_here word due by t u (with_source lines before a) (with_source lines left b) s fresh (same lines before) eq k) h
+
+pub taking_same : (p q : Part) (before left : Maps) (a b : State) (r : Result (Unit {0}) Refusal) → ((lines : Lines) (maps : Maps) (rest : Plan) → p rest (record a.env { lines = lines; maps = maps }) ≡ q rest (record a.env { lines = lines; maps = maps })) → DoesTaking q before left a b r → DoesTaking p before left a b r
+unfolding with_source
+taking_same p q before left a b r h k = takes_by q p before left a b r (λ lines s f. emits_same p q (with_source lines before a) (with_source lines left b) s (h lines before) f) k
+
+pub taking_not_anew : (word : Part) (due : Bool) (part : Part) (e : Refusal) (maps : Maps) (a b : State) → a.failed ≡ false → ((lines : Lines) (maps : Maps) (rest : Plan) → word rest (record a.env { lines = lines; maps = maps }) ≡ step (Remake due) (part rest) (record a.env { lines = lines; maps = maps })) → e ≡ OutOfMemory → due ≡ true → b ≡ record a { failed = true } → DoesTaking word maps maps a b (Err e)
+taking_not_anew word due part e maps a b fresh same eq h marked = does_takes word maps a b (Err e) (not_anew word due part e a b fresh same eq h marked)

@@ -13,8 +13,9 @@ use Rattle.swc_ecma_codegen_ast.specs.Tokens as lexical
 use Rattle.swc_ecma_codegen_text_writer.specs.Sheet.{Item, Semi, Space, Keyword, Operator, Param, Property, Line, Lit, Comment, StrLit, Str, Symbol, Punct, Position, Commit, Deeper, Shallower, Sheet, Semicolons, AtOnce, HoldsNone, HoldsOne, appended, written, literal_written, ended, settled, settled_by, semicolon_by, before_punct, is_ending, dropped, effect}
 use Rattle.swc_ecma_codegen_text_writer.proofs.Sheets.{effect_indent_text, effect_line_end, settled_same}
 use Rattle.swc_ecma_codegen_literals.specs.AsciiNames.{is_ascii_text}
-use Rattle.swc_ecma_codegen_base.specs.Ascii.{is_other_value, keeps_other, are_ascii, keeps_tokens, may_keep_other, WantsAscii, AddsAscii}
-use Rattle.swc_ecma_codegen_base.specs.Run.{Env, Part, State, Step, Guard, Token, Plain, Ends, Remake, put, run, steps_of, nothing, text_of, Follows}
+use Rattle.swc_ecma_codegen_base.specs.Ascii.{is_other_value, keeps_other, are_ascii, keeps_tokens, may_keep_other, WantsAscii, IsAsciiBut, AddsAscii}
+use Rattle.swc_ecma_codegen_ast.specs.Comments.{texts_of}
+use Rattle.swc_ecma_codegen_base.specs.Run.{Env, Part, State, Step, Guard, Token, Plain, Ends, Remake, Take, CommentText, spoken, taken_in, put, run, steps_of, nothing, text_of, Follows}
 use Rattle.swc_ecma_codegen_base.specs.Settings.{settings_of}
 use Rattle.swc_ecma_codegen_base.specs.Targets.{is_out}
 use Rattle.swc_ecma_codegen_base.proofs.Hands.{tokens_keep}
@@ -33,18 +34,30 @@ ascii_repeat : (n : ℕ) (t : List ℕ) → is_ascii_text t ≡ true → is_asci
 ascii_repeat zero t h = refl
 ascii_repeat (suc n) t h = ascii_append t (repeat n t) h (ascii_repeat n t h)
 
-adds_none : (t : List ℕ) → AddsAscii t t
+-- ASCII more, and a text more behind ASCII
+but_ascii : (ts : List (List ℕ)) (t u : List ℕ) → IsAsciiBut ts t → is_ascii_text u ≡ true → IsAsciiBut ts (t ++ u)
+unfolding IsAsciiBut
+but_ascii [] t u h a = ascii_append t u h a
+but_ascii (c ∷ cs) t u h a = (h.0, h.1 ++ u, ap (λ z. z ++ u) h.2 ∙ append_assoc h.0 (c ++ h.1) u ∙ ap (λ z. h.0 ++ z) (append_assoc c h.1 u), h.3, but_ascii cs h.1 u h.4 a)
+
+but_text : (ts : List (List ℕ)) (c t u : List ℕ) → IsAsciiBut ts t → is_ascii_text u ≡ true → IsAsciiBut (ts ++ c ∷ []) (t ++ (u ++ c))
+unfolding IsAsciiBut
+but_text [] c t u h a = (t ++ u, [], sym (append_assoc t u c) ∙ ap (λ z. (t ++ u) ++ z) (sym (append-nil c)), ascii_append t u h a, refl)
+but_text (d ∷ ds) c t u h a = (h.0, h.1 ++ (u ++ c), ap (λ z. z ++ (u ++ c)) h.2 ∙ append_assoc h.0 (d ++ h.1) (u ++ c) ∙ ap (λ z. h.0 ++ z) (append_assoc d h.1 (u ++ c)), h.3, but_text ds c h.1 u h.4 a)
+
+adds_none : (t : List ℕ) → AddsAscii [] t t
+unfolding IsAsciiBut
 adds_none t = record { added = []; is_added = sym (append-nil t); ascii = refl }
 
-adds_more : (old t u v : List ℕ) → AddsAscii old t → u ≡ t ++ v → is_ascii_text v ≡ true → AddsAscii old u
-adds_more old t u v h e a = record {
+adds_more : {ts : List (List ℕ)} (old t u v : List ℕ) → AddsAscii ts old t → u ≡ t ++ v → is_ascii_text v ≡ true → AddsAscii ts old u
+adds_more {ts} old t u v h e a = record {
   added = h.added ++ v;
   is_added = e ∙ ap (λ z. z ++ v) h.is_added ∙ append_assoc old h.added v;
-  ascii = ascii_append h.added v h.ascii a;
+  ascii = but_ascii ts h.added v h.ascii a;
 }
 
-adds_same : (old t u : List ℕ) → AddsAscii old t → u ≡ t → AddsAscii old u
-adds_same old t u h e = subst (λ z. AddsAscii old z) (sym e) h
+adds_same : {ts : List (List ℕ)} (old t u : List ℕ) → AddsAscii ts old t → u ≡ t → AddsAscii ts old u
+adds_same {ts} old t u h e = subst (λ z. AddsAscii ts old z) (sym e) h
 
 -- ---- what calls add
 
@@ -57,45 +70,45 @@ front_ascii : (b : Bool) (s : Sheet) → HasAsciiLines s → is_ascii_text (fron
 front_ascii true s l = ascii_repeat s.indentation s.indent_text l.indent_text
 front_ascii false s l = refl
 
-written_adds : (old : List ℕ) (span : Option Span) (t : List ℕ) (s : Sheet) → HasAsciiLines s → is_ascii_text t ≡ true → AddsAscii old s.text → AddsAscii old (written span t s).text
+written_adds : {ts : List (List ℕ)} (old : List ℕ) (span : Option Span) (t : List ℕ) (s : Sheet) → HasAsciiLines s → is_ascii_text t ≡ true → AddsAscii ts old s.text → AddsAscii ts old (written span t s).text
 unfolding written
 written_adds old span [] s l a h = h
 written_adds old span (c ∷ cs) s l a h = adds_more old s.text _ (front s ++ c ∷ cs) h (written_text span c cs s) (ascii_append (front s) (c ∷ cs) (front_ascii s.at_line_start s l) a)
 
-literal_adds : (old : List ℕ) (span : Span) (t : List ℕ) (s : Sheet) → HasAsciiLines s → is_ascii_text t ≡ true → AddsAscii old s.text → AddsAscii old (literal_written span t s).text
+literal_adds : {ts : List (List ℕ)} (old : List ℕ) (span : Span) (t : List ℕ) (s : Sheet) → HasAsciiLines s → is_ascii_text t ≡ true → AddsAscii ts old s.text → AddsAscii ts old (literal_written span t s).text
 unfolding literal_written
 literal_adds old span [] s l a h = h
 literal_adds old span (c ∷ cs) s l a h = adds_more old s.text _ (front s ++ c ∷ cs) h (adds_literal span c cs s).text (ascii_append (front s) (c ∷ cs) (front_ascii s.at_line_start s l) a)
 
-settled_by_adds : (old : List ℕ) (x : Semicolons) (s : Sheet) → HasAsciiLines s → AddsAscii old s.text → AddsAscii old (settled_by x s).text
+settled_by_adds : {ts : List (List ℕ)} (old : List ℕ) (x : Semicolons) (s : Sheet) → HasAsciiLines s → AddsAscii ts old s.text → AddsAscii ts old (settled_by x s).text
 unfolding settled_by
 settled_by_adds old AtOnce s l h = h
 settled_by_adds old HoldsNone s l h = h
 settled_by_adds old (HoldsOne span) s l h = written_adds old span (codes ";") (record s { semicolons = HoldsNone }) (record { indent_text = l.indent_text; line_end = l.line_end }) refl h
 
-settled_adds : (old : List ℕ) (s : Sheet) → HasAsciiLines s → AddsAscii old s.text → AddsAscii old (settled s).text
+settled_adds : {ts : List (List ℕ)} (old : List ℕ) (s : Sheet) → HasAsciiLines s → AddsAscii ts old s.text → AddsAscii ts old (settled s).text
 settled_adds old s l h = settled_by_adds old s.semicolons s l h
 
 settled_lines : (s : Sheet) → HasAsciiLines s → HasAsciiLines (settled s)
 settled_lines s l = record { indent_text = ap is_ascii_text (settled_same s).indent_text ∙ l.indent_text; line_end = ap is_ascii_text (settled_same s).line_end ∙ l.line_end }
 
-ended_adds : (old : List ℕ) (s : Sheet) → HasAsciiLines s → AddsAscii old s.text → AddsAscii old (ended s).text
+ended_adds : {ts : List (List ℕ)} (old : List ℕ) (s : Sheet) → HasAsciiLines s → AddsAscii ts old s.text → AddsAscii ts old (ended s).text
 unfolding ended appended
-ended_adds old s l h =
-    elim s.at_line_start as (λ b. AddsAscii old (cond b (record s { pending = None }) (record (appended s.line_end s) { at_line_start = true })).text)
+ended_adds {ts} old s l h =
+    elim s.at_line_start as (λ b. AddsAscii ts old (cond b (record s { pending = None }) (record (appended s.line_end s) { at_line_start = true })).text)
     [ true ↦ h | false ↦ adds_more old s.text _ s.line_end h refl l.line_end ]
 
-semicolon_adds : (old : List ℕ) (x : Semicolons) (span : Option Span) (s : Sheet) → HasAsciiLines s → AddsAscii old s.text → AddsAscii old (semicolon_by x span s).text
+semicolon_adds : {ts : List (List ℕ)} (old : List ℕ) (x : Semicolons) (span : Option Span) (s : Sheet) → HasAsciiLines s → AddsAscii ts old s.text → AddsAscii ts old (semicolon_by x span s).text
 unfolding semicolon_by
 semicolon_adds old AtOnce span s l h = written_adds old span (codes ";") s l refl h
 semicolon_adds old HoldsNone span s l h = h
 semicolon_adds old (HoldsOne held) span s l h = h
 
-punct_adds : (old : List ℕ) (b : Bool) (span : Option Span) (t : List ℕ) (s : Sheet) → HasAsciiLines s → is_ascii_text t ≡ true → AddsAscii old s.text → AddsAscii old (written span t (cond b (record s { semicolons = dropped s.semicolons }) (settled s))).text
+punct_adds : {ts : List (List ℕ)} (old : List ℕ) (b : Bool) (span : Option Span) (t : List ℕ) (s : Sheet) → HasAsciiLines s → is_ascii_text t ≡ true → AddsAscii ts old s.text → AddsAscii ts old (written span t (cond b (record s { semicolons = dropped s.semicolons }) (settled s))).text
 punct_adds old true span t s l a h = written_adds old span t (record s { semicolons = dropped s.semicolons }) (record { indent_text = l.indent_text; line_end = l.line_end }) a h
 punct_adds old false span t s l a h = written_adds old span t (settled s) (settled_lines s l) a (settled_adds old s l h)
 
-effect_adds : (old : List ℕ) (x : Item) (s : Sheet) → HasAsciiLines s → is_ascii_text (text_of x) ≡ true → AddsAscii old s.text → AddsAscii old (effect x s).text
+effect_adds : {ts : List (List ℕ)} (old : List ℕ) (x : Item) (s : Sheet) → HasAsciiLines s → is_ascii_text (text_of x) ≡ true → AddsAscii ts old s.text → AddsAscii ts old (effect x s).text
 unfolding effect text_of before_punct
 effect_adds old (Semi span) s l a h = semicolon_adds old s.semicolons span s l h
 effect_adds old Space s l a h = written_adds old None (codes " ") (settled s) (settled_lines s l) a (settled_adds old s l h)
@@ -121,45 +134,71 @@ effect_lines x s l = record { indent_text = ap is_ascii_text (effect_indent_text
 -- ---- what steps add
 
 -- a text that is longer by ASCII, on such lines
-record Goes (old : List ℕ) (s : Sheet) : Type 0 where
+record Goes (ts : List (List ℕ)) (old : List ℕ) (s : Sheet) : Type 0 where
   pub lines : HasAsciiLines s
-  pub adds : AddsAscii old s.text
+  pub adds : AddsAscii ts old s.text
 
-call_goes : (old : List ℕ) (x : Item) (s : Sheet) → is_ascii_text (text_of x) ≡ true → Goes old s → Goes old (effect x s)
+call_goes : {ts : List (List ℕ)} (old : List ℕ) (x : Item) (s : Sheet) → is_ascii_text (text_of x) ≡ true → Goes ts old s → Goes ts old (effect x s)
 call_goes old x s a g = record { lines = effect_lines x s g.lines; adds = effect_adds old x s g.lines a g.adds }
 
-guard_goes : (old t : List ℕ) (a : State) → Goes old a.sheet → Goes old (put (Guard t) a).sheet
+guard_goes : {ts : List (List ℕ)} (old t : List ℕ) (a : State) → Goes ts old a.sheet → Goes ts old (put (Guard t) a).sheet
 unfolding put text_of
-guard_goes old t a g =
-    elim (fuses a.last (chars t)) as (λ b. Goes old (cond b (record a { sheet = effect Space a.sheet; last = Apart }) a).sheet)
+guard_goes {ts} old t a g =
+    elim (fuses a.last (chars t)) as (λ b. Goes ts old (cond b (record a { sheet = effect Space a.sheet; last = Apart }) a).sheet)
     [ true ↦ call_goes old Space a.sheet refl g | false ↦ g ]
 
-run_goes : (old : List ℕ) (xs : List Step) (a : State) → are_ascii xs ≡ true → Goes old a.sheet → Goes old (run xs a).sheet
-unfolding run put are_ascii
-run_goes old [] a h g = g
+-- the text of a comment more
+said_adds : {ts : List (List ℕ)} (old t : List ℕ) (s : Sheet) → HasAsciiLines s → AddsAscii ts old s.text → AddsAscii (ts ++ t ∷ []) old (written None t s).text
+unfolding written
+said_adds {ts} old [] s l h = record { added = h.added; is_added = h.is_added; ascii = subst (λ z. IsAsciiBut (ts ++ [] ∷ []) z) (append-nil h.added) (but_text ts [] h.added [] h.ascii refl) }
+said_adds {ts} old (c ∷ cs) s l h = record {
+  added = h.added ++ (front s ++ c ∷ cs);
+  is_added = written_text None c cs s ∙ ap (λ z. z ++ (front s ++ c ∷ cs)) h.is_added ∙ append_assoc old h.added (front s ++ c ∷ cs);
+  ascii = but_text ts (c ∷ cs) h.added (front s) h.ascii (front_ascii s.at_line_start s l);
+}
+
+text_goes : {ts : List (List ℕ)} (old t : List ℕ) (s : Sheet) → Goes ts old s → Goes (ts ++ t ∷ []) old (effect (Comment t) s)
+unfolding effect
+text_goes old t s g = record { lines = effect_lines (Comment t) s g.lines; adds = said_adds old t (settled s) (settled_lines s g.lines) (settled_adds old s g.lines g.adds) }
+
+run_goes : {ts : List (List ℕ)} (old : List ℕ) (xs : List Step) (a : State) → are_ascii xs ≡ true → Goes ts old a.sheet → Goes (ts ++ spoken xs) old (run xs a).sheet
+unfolding run put are_ascii spoken
+run_goes {ts} old [] a h g = subst (λ z. Goes z old a.sheet) (sym (append-nil ts)) g
 run_goes old (Guard t ∷ xs) a h g = run_goes old xs (put (Guard t) a) h (guard_goes old t a g)
 run_goes old (Token kind x ∷ xs) a h g = let p = and_parts (is_ascii_text (text_of x)) (are_ascii xs) h in run_goes old xs (put (Token kind x) a) p.1 (call_goes old x a.sheet p.0 g)
 run_goes old (Plain x ∷ xs) a h g = let p = and_parts (is_ascii_text (text_of x)) (are_ascii xs) h in run_goes old xs (put (Plain x) a) p.1 (call_goes old x a.sheet p.0 g)
 run_goes old (Ends tokens x ∷ xs) a h g = let p = and_parts (is_ascii_text (text_of x)) (are_ascii xs) h in run_goes old xs (put (Ends tokens x) a) p.1 (call_goes old x a.sheet p.0 g)
 run_goes old (Remake due ∷ xs) a h g = run_goes old xs (put (Remake due) a) h g
+run_goes old (Take side at ∷ xs) a h g = run_goes old xs (put (Take side at) a) h g
+run_goes {ts} old (CommentText t ∷ xs) a h g =
+    let k = run_goes old xs (put (CommentText t) a) h (text_goes old t a.sheet g) in
+    subst (λ z. Goes z old (run xs (put (CommentText t) a)).sheet) (append_assoc ts (t ∷ []) (spoken xs)) k
 
 -- ---- what an emission adds
 
 part_steps : {i : Shape} {p : Part} {f : Phrase} {env : Env} → PrintsAt i env p f → is_possible f ≡ true → is_out env.config f ≡ false → env.config.ascii_only ≡ true → keeps_other (steps_of (p nothing env)) ≡ false → are_ascii (steps_of (p nothing env)) ≡ true
 unfolding nothing
 part_steps {p = p} {f = f} {env = env} prints w o e n =
-    let h = (prints.where_possible w o).writes in
+    let h = (prints.where_possible w o env.maps).writes in
     let same : steps_of (p nothing env) ≡ h.steps = ap steps_of (h.is_steps nothing) ∙ steps_of_chain h.steps in
     ap are_ascii same ∙ h.hands.ascii e (sym (ap keeps_other same) ∙ n)
 
--- under ASCII only what is added is ASCII, save what stands as it is
-pub printed_ascii : {i : Shape} (p : Part) (f : Phrase) (a b : State) (r : Result (Unit {0}) Refusal) → PrintsAt i a.env p f → is_possible f ≡ true → WantsAscii a → keeps_other (steps_of (p nothing a.env)) ≡ false → Follows (p nothing) a b r → OnOk r (AddsAscii a.sheet.text b.sheet.text)
+-- the texts of comments that it writes are those that it takes
+part_told : {i : Shape} {p : Part} {f : Phrase} {env : Env} → PrintsAt i env p f → is_possible f ≡ true → is_out env.config f ≡ false → spoken (steps_of (p nothing env)) ≡ texts_of (taken_in (steps_of (p nothing env)) env.maps)
+unfolding nothing
+part_told {p = p} {env = env} prints w o =
+    let h = (prints.where_possible w o env.maps).writes in
+    let same : steps_of (p nothing env) ≡ h.steps = ap steps_of (h.is_steps nothing) ∙ steps_of_chain h.steps in
+    ap spoken same ∙ h.told ∙ sym (ap (λ z. texts_of (taken_in z env.maps)) same)
+
+-- under ASCII only what is added is ASCII, save what stands as it is, and the texts of comments
+pub printed_ascii : {i : Shape} (p : Part) (f : Phrase) (a b : State) (r : Result (Unit {0}) Refusal) → PrintsAt i a.env p f → is_possible f ≡ true → WantsAscii a → keeps_other (steps_of (p nothing a.env)) ≡ false → Follows (p nothing) a b r → OnOk r (AddsAscii (texts_of (taken_in (steps_of (p nothing a.env)) a.env.maps)) a.sheet.text b.sheet.text)
 unfolding Follows
 printed_ascii p f a b (Ok u) prints w s n k =
-    let begin : Goes a.sheet.text a.sheet = record { lines = record { indent_text = s.indent_text; line_end = s.line_end }; adds = adds_none a.sheet.text } in
+    let begin : Goes [] a.sheet.text a.sheet = record { lines = record { indent_text = s.indent_text; line_end = s.line_end }; adds = adds_none a.sheet.text } in
     let end = run_goes a.sheet.text (steps_of (p nothing a.env)) a (part_steps prints w (made_not_out p f a.env prints w k.0) s.by_settings n) begin in
-    let P : State → Type 0 = λ z. AddsAscii a.sheet.text z.sheet.text in
-    subst P (sym k.1) end.adds
+    let P : State → Type 0 = λ z. AddsAscii (texts_of (taken_in (steps_of (p nothing a.env)) a.env.maps)) a.sheet.text z.sheet.text in
+    subst P (sym k.1) (subst (λ z. AddsAscii z a.sheet.text (run (steps_of (p nothing a.env)) a).sheet.text) (part_told prints w (made_not_out p f a.env prints w k.0)) end.adds)
 printed_ascii p f a b (Err x) prints w s n k = tt
 
 -- ---- what may stand as it is, by the tree
@@ -203,6 +242,6 @@ kept_listed s (Chosen AttributesWord) ts w g = ap keeps_tokens g ∙ word_kept s
 pub printed_keeps : {i : Shape} (p : Part) (f : Phrase) (env : Env) → PrintsAt i env p f → is_possible f ≡ true → is_out env.config f ≡ false → may_keep_other f ≡ false → keeps_other (steps_of (p nothing env)) ≡ false
 unfolding nothing
 printed_keeps p f env prints w o none =
-    let h = prints.where_possible w o in
+    let h = prints.where_possible w o env.maps in
     let same : steps_of (p nothing env) ≡ h.writes.steps = ap steps_of (h.writes.is_steps nothing) ∙ steps_of_chain h.writes.steps in
     ap keeps_other same ∙ false_from_ne_true (keeps_other h.writes.steps) (λ n. true≢false (sym (h.writes.hands.keeps n) ∙ kept_listed (settings_of env.config) f h.tokens w h.generated ∙ none))

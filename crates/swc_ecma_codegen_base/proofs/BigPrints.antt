@@ -142,7 +142,7 @@ pub prints_big_int_at : (env : Env) (in_lit : Bool) (n : trees.BigInt) → Print
 unfolding big_int_at phrases.big_int big_int_token is_spelled_anew is_str
 prints_big_int_at env in_lit n =
     prints_where (is_big_int n) (λ w.
-    prints_same (big_int_at in_lit n) (λ rest. step (Remake (makes_big_int env.config n)) (big_int_by in_lit (prints_big_raw env.config n) n.span (big_int_text env.config n) rest)) (λ rest. refl)
+    prints_same (big_int_at in_lit n) (λ rest. step (Remake (makes_big_int env.config n)) (big_int_by in_lit (prints_big_raw env.config n) n.span (big_int_text env.config n) rest)) (λ maps rest. refl)
     (prints_signed BigInt (value_of_big n) n.negative refl refl (makes_remade (makes_big_int env.config n) (writes_big_int_by env in_lit n w))))
 
 -- a big integer literal

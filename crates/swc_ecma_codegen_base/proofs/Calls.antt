@@ -5,6 +5,7 @@ use Rattle.swc_ecma_codegen_common.specs.declared.errors.Refusal.{Refusal}
 use Rattle.swc_ecma_codegen_util.specs.declared.config.Config.{Config}
 use Rattle.swc_ecma_codegen_ast.specs.declared.kinds.Kind.{Kind}
 use Rattle.swc_ecma_codegen_ast.specs.SourceLines.{no_lines}
+use Rattle.swc_ecma_codegen_ast.specs.Comments.{no_maps}
 use Rattle.swc_ecma_codegen_ast.specs.GapRules as rules
 use Rattle.swc_ecma_codegen_ast.specs.GapRules.{fuses}
 use Rattle.swc_ecma_codegen_text_writer.specs.Sheet.{Item, Semi, Space, Keyword, Operator, Param, Property, Line, Lit, Comment, StrLit, Str, Symbol, Punct, Position, Commit, Deeper, Shallower, Sheet, effect, Writes, Refuses, earlier, stopped}
@@ -14,8 +15,8 @@ use Rattle.swc_ecma_codegen_base.specs.declared.last.Last.{Last}
 use Rattle.swc_ecma_codegen_base.specs.declared.last.Last.TheVariants as last
 use Rattle.swc_ecma_codegen_base.specs.Last.{last_at}
 use Rattle.swc_ecma_codegen_base.specs.View.{state_of}
-use Rattle.swc_ecma_codegen_base.specs.Run.{Part, when_minified, no_part, State, Step, Guard, Token, Plain, Ends, IsRefused, Does, with_lines, put, step, text_of, after_token, after_tokens, after_plain}
-use Rattle.swc_ecma_codegen_base.proofs.Emitting.{emits_step, emits_refused, does_step, put_lines, refused_lines, follows_same, minified_same, pretty_same}
+use Rattle.swc_ecma_codegen_base.specs.Run.{Part, when_minified, no_part, State, Step, Guard, Token, Plain, Ends, CommentText, IsRefused, Does, with_source, put, step, text_of, after_token, after_tokens, after_plain}
+use Rattle.swc_ecma_codegen_base.proofs.Emitting.{is_taking, emits_step, emits_refused, does_step, put_lines, refused_lines, follows_same, minified_same, pretty_same}
 
 -- ---- what no call changes
 
@@ -98,22 +99,22 @@ noted_err r f e before t = on_err r (λ h. (h.0 ∙ t, h.1))
 step_called : (x : Step) (item : Item) (config : Config) (e f : LowerEmitter) (old new : Sheet) (r : Result (Unit {0}) Refusal)
     → put x (state_of config old e) ≡ record (state_of config old e) { sheet = effect item old; last = (put x (state_of config old e)).last }
     → ((err : Refusal) (z : Sheet) → Refuses item err old z → IsRefused x err (state_of config old e) z)
-    → e.failed ≡ false → Writes item old new r
+    → is_taking x ≡ false → e.failed ≡ false → Writes item old new r
     → OnOk r ((last_at f.token.value ≡ (put x (state_of config old e)).last) × (f.failed ≡ e.failed))
     → OnErr r ((last_at f.token.value ≡ last_at e.token.value) × (f.failed ≡ true))
     → Does (step x) (state_of config old e) (state_of config new f) r
-unfolding Writes with_lines
-step_called x item config e f old new (Ok u) made refused fresh w ok err = λ lines.
+unfolding Writes with_source
+step_called x item config e f old new (Ok u) made refused none fresh w ok err = λ lines maps.
     let there : State = state_of config old e in
     let q : state_of config new f ≡ put x there =
-    (λ i. record { env = record { config = config; keeps_invalid = (ap (λ (s : Sheet). s.keeps_invalid) w.1 ∙ effect_keeps item old) i; lines = no_lines }; sheet = w.1 i; last = ok.0 i; failed = ok.1 i })
+    (λ i. record { env = record { config = config; keeps_invalid = (ap (λ (s : Sheet). s.keeps_invalid) w.1 ∙ effect_keeps item old) i; lines = no_lines; maps = no_maps }; sheet = w.1 i; last = ok.0 i; failed = ok.1 i })
     ∙ sym made in
-    emits_step x (with_lines lines there) (with_lines lines (state_of config new f)) fresh (ap (with_lines lines) q ∙ put_lines x lines there)
-step_called x item config e f old new (Err er) made refused fresh w ok err = λ lines.
+    emits_step x (with_source lines maps there) (with_source lines maps (state_of config new f)) fresh (ap (with_source lines maps) q ∙ put_lines x lines maps there none)
+step_called x item config e f old new (Err er) made refused none fresh w ok err = λ lines maps.
     let there : State = state_of config old e in
     let q : state_of config new f ≡ record there { sheet = new; failed = true } =
-    (λ i. record { env = record { config = config; keeps_invalid = refuses_keeps old new w i; lines = no_lines }; sheet = new; last = err.0 i; failed = err.1 i }) in
-    emits_refused x er (with_lines lines there) (with_lines lines (state_of config new f)) fresh (ap (with_lines lines) q) (refused_lines x er there new lines (refused er new w))
+    (λ i. record { env = record { config = config; keeps_invalid = refuses_keeps old new w i; lines = no_lines; maps = no_maps }; sheet = new; last = err.0 i; failed = err.1 i }) in
+    emits_refused x er (with_source lines maps there) (with_source lines maps (state_of config new f)) fresh (ap (with_source lines maps) q) (refused_lines x er there new lines maps (refused er new w))
 
 -- a token, by one call
 pub called : (kind : Kind) (item : Item) (config : Config) (e f : LowerEmitter) (old new : Sheet) (l : Last) (answer r : Result (Unit {0}) Refusal)
@@ -123,7 +124,7 @@ pub called : (kind : Kind) (item : Item) (config : Config) (e f : LowerEmitter) 
     → Does (step (Token kind item)) (state_of config old e) (state_of config new f) r
 unfolding put IsRefused
 called kind item config e f old new l answer r fresh w ok err eq last =
-    step_called (Token kind item) item config e f old new r refl (λ err z h. h) fresh (subst (λ z. Writes item old new z) (sym eq) w)
+    step_called (Token kind item) item config e f old new r refl (λ err z h. h) refl fresh (subst (λ z. Writes item old new z) (sym eq) w)
     (on_ok r (λ h. (ap last_at h.0 ∙ last, h.1)) ok) (on_err r (λ h. (ap last_at h.0, h.1)) err)
 
 -- a call with which tokens end
@@ -134,7 +135,7 @@ pub called_ends : (tokens : List (Kind × List ℕ)) (item : Item) (config : Con
     → Does (step (Ends tokens item)) (state_of config old e) (state_of config new f) r
 unfolding put IsRefused
 called_ends tokens item config e f old new l answer r fresh w ok err eq last =
-    step_called (Ends tokens item) item config e f old new r refl (λ err z h. h) fresh (subst (λ z. Writes item old new z) (sym eq) w)
+    step_called (Ends tokens item) item config e f old new r refl (λ err z h. h) refl fresh (subst (λ z. Writes item old new z) (sym eq) w)
     (on_ok r (λ h. (ap last_at h.0 ∙ last, h.1)) ok) (on_err r (λ h. (ap last_at h.0, h.1)) err)
 
 -- a call that writes no token, after which another is the last one
@@ -145,8 +146,18 @@ pub called_plain : (item : Item) (config : Config) (e f : LowerEmitter) (old new
     → Does (step (Plain item)) (state_of config old e) (state_of config new f) r
 unfolding put IsRefused
 called_plain item config e f old new l answer r fresh w ok err eq last =
-    step_called (Plain item) item config e f old new r refl (λ err z h. h) fresh (subst (λ z. Writes item old new z) (sym eq) w)
+    step_called (Plain item) item config e f old new r refl (λ err z h. h) refl fresh (subst (λ z. Writes item old new z) (sym eq) w)
     (on_ok r (λ h. (ap last_at h.0 ∙ last, h.1)) ok) (on_err r (λ h. (ap last_at h.0, h.1)) err)
+
+-- the text of a comment, by one call
+pub called_text : (t : List ℕ) (config : Config) (e f : LowerEmitter) (old new : Sheet) (answer r : Result (Unit {0}) Refusal)
+    → e.failed ≡ false → Writes (Comment t) old new answer
+    → OnOk r ((f.token.value ≡ last.Apart) × (f.failed ≡ e.failed)) → OnErr r ((f.token.value ≡ e.token.value) × (f.failed ≡ true)) → r ≡ answer
+    → Does (step (CommentText t)) (state_of config old e) (state_of config new f) r
+unfolding put IsRefused last_at
+called_text t config e f old new answer r fresh w ok err eq =
+    step_called (CommentText t) (Comment t) config e f old new r refl (λ err z h. h) refl fresh (subst (λ z. Writes (Comment t) old new z) (sym eq) w)
+    (on_ok r (λ h. (ap last_at h.0, h.1)) ok) (on_err r (λ h. (ap last_at h.0, h.1)) err)
 
 -- one that leaves the last token
 pub called_kept : (item : Item) (config : Config) (e f : LowerEmitter) (old new : Sheet) (answer r : Result (Unit {0}) Refusal)
@@ -176,7 +187,7 @@ passed_put t s h = ap (λ b. cond b (record s { sheet = effect Space s.sheet; la
 
 -- the last token and a text don't fuse, and nothing is done
 pub passed : (t : List ℕ) (a : State) → a.failed ≡ false → fuses a.last (chars t) ≡ false → Does (step (Guard t)) a a (Ok tt)
-passed t a fresh h = does_step (Guard t) a a fresh (sym (passed_put t a h))
+passed t a fresh h = does_step (Guard t) a a refl fresh (sym (passed_put t a h))
 
 -- they fuse, and a blank is written
 pub guarded : (t : List ℕ) (config : Config) (e f : LowerEmitter) (old new : Sheet) (answer r : Result (Unit {0}) Refusal)
@@ -189,16 +200,16 @@ guarded t config e f old new answer r fresh w ok err eq h =
     let there : State = state_of config old e in
     let q : put (Guard t) there ≡ record there { sheet = effect Space old; last = rules.Apart } = guarded_put t there h in
     let P : State → Type 0 = λ s. s ≡ record there { sheet = effect Space old; last = s.last } in
-    step_called (Guard t) Space config e f old new r (subst P (sym q) refl) (λ err z k. (h, k)) fresh (subst (λ z. Writes Space old new z) (sym eq) w)
+    step_called (Guard t) Space config e f old new r (subst P (sym q) refl) (λ err z k. (h, k)) refl fresh (subst (λ z. Writes Space old new z) (sym eq) w)
     (on_ok r (λ k. (ap last_at k.0 ∙ ap (λ (s : State). s.last) (sym q), k.1)) ok) (on_err r (λ k. (ap last_at k.0, k.1)) err)
 
 -- ---- what is done unless minified
 
 pub skipped : (part : Part) (a : State) → a.env.config.minify ≡ true → Does (when_minified no_part part) a a (Ok tt)
-unfolding no_part with_lines
-skipped part a h lines rest c r k = follows_same (when_minified no_part part rest) rest (with_lines lines a) c r (minified_same no_part part rest (with_lines lines a).env h) k
+unfolding no_part with_source
+skipped part a h lines maps rest c r k = follows_same (when_minified no_part part rest) rest (with_source lines maps a) c r (minified_same no_part part rest (with_source lines maps a).env h) k
 
 pub not_skipped : (part : Part) (a b : State) (r : Result (Unit {0}) Refusal) → a.env.config.minify ≡ false → Does part a b r → Does (when_minified no_part part) a b r
-unfolding with_lines
-not_skipped part a b (Ok u) h k = λ lines rest c r f. follows_same (when_minified no_part part rest) (part rest) (with_lines lines a) c r (pretty_same no_part part rest (with_lines lines a).env h) (k lines rest c r f)
-not_skipped part a b (Err e) h k = λ lines rest. follows_same (when_minified no_part part rest) (part rest) (with_lines lines a) (with_lines lines b) (Err e) (pretty_same no_part part rest (with_lines lines a).env h) (k lines rest)
+unfolding with_source
+not_skipped part a b (Ok u) h k = λ lines maps rest c r f. follows_same (when_minified no_part part rest) (part rest) (with_source lines maps a) c r (pretty_same no_part part rest (with_source lines maps a).env h) (k lines maps rest c r f)
+not_skipped part a b (Err e) h k = λ lines maps rest. follows_same (when_minified no_part part rest) (part rest) (with_source lines maps a) (with_source lines maps b) (Err e) (pretty_same no_part part rest (with_source lines maps a).env h) (k lines maps rest)

@@ -14,7 +14,7 @@ use Rattle.swc_ecma_codegen_util.specs.declared.config.Config.{Config}
 use Rattle.std.specs.Str.{chars, is_utf8}
 use Rattle.swc_ecma_codegen_base.specs.Choices.{optional_comma, optional_parentheses, empty_arguments, loop_ending, attributes_word}
 use Rattle.swc_ecma_codegen_base.specs.Escapes.{is_spelled_anew, may_make_text}
-use Rattle.swc_ecma_codegen_base.specs.Run.{Env, Plan, Part, no_part}
+use Rattle.swc_ecma_codegen_base.specs.Run.{Env, Plan, Part, at_maps, no_part}
 use Rattle.swc_ecma_codegen_base.specs.Scripts.{is_str}
 use Rattle.swc_ecma_codegen_base.specs.Settings.{settings_of}
 use Rattle.swc_ecma_codegen_base.specs.Targets.{is_out}
@@ -22,8 +22,10 @@ use Rattle.swc_ecma_codegen_base.specs.Words.{keyword, punct, semi}
 use Rattle.swc_ecma_codegen_base.specs.Written.{IsMark, IsWord}
 use Rattle.swc_ecma_codegen_base.proofs.Emitting.{minified_same, pretty_same}
 use Rattle.swc_ecma_codegen_base.proofs.Hands.{holds_string}
-use Rattle.swc_ecma_codegen_base.proofs.Printed.{makes_some, MakesAt}
-use Rattle.swc_ecma_codegen_base.proofs.Phrased.{NamedBy, Prints, no_names, no_strings, then, prints_nothing, prints_keyword, prints_punct, prints_semi, prints_same, PrintsAt, prints_wider}
+use Rattle.swc_ecma_codegen_text_writer.specs.Sheet.{Sheet}
+use Rattle.swc_ecma_codegen_base.specs.Named.{EachName, AllStand}
+use Rattle.swc_ecma_codegen_base.proofs.Printed.{from_where, makes_some, MakesAt}
+use Rattle.swc_ecma_codegen_base.proofs.Phrased.{NamedBy, PlacedBy, Prints, no_names, placed_none, no_strings, then, prints_nothing, prints_keyword, prints_punct, prints_semi, prints_same, PrintsAt, prints_wider}
 use Rattle.swc_ecma_codegen_base.proofs.Shapes.{Shape, open_}
 
 -- ---- a phrase whose lists another has too
@@ -36,34 +38,35 @@ pub record IsAmong (config : Config) (f g : Phrase) : Type 0 where
   pub out : is_out config f ≡ is_out config g
   pub makes : may_make_text config f ≡ true → may_make_text config g ≡ true
   pub names : names_in f ≡ names_in g
+  pub stands : (a b : Sheet) (us ts : List Token) → AllStand config a b us f ts → AllStand config a b us g ts
 
--- a text may be made anew where another may
-makes_where : {i : Shape} {env : Env} {p : Part} {ts : List Token} {a b : Bool} → (a ≡ true → b ≡ true) → MakesAt i env p ts a → MakesAt i env p ts b
-makes_where k h = record { steps = h.steps; is_steps = h.is_steps; lays = h.lays; remakes = λ e. k (h.remakes e); deep = h.deep; hands = h.hands }
+pub placed_among : {k : Shape} {env : Env} {p : Part} {f g : Phrase} {ts : List Token} → IsAmong env.config f g → PlacedBy k env p f ts → PlacedBy k env p g ts
+placed_among i x = record { stands = λ a s us r k c. i.stands a.sheet _ us _ (x.stands a s us r k c) }
 
 pub prints_among : {k : Shape} {env : Env} {p : Part} {f g : Phrase} → IsAmong env.config f g → PrintsAt k env p f → PrintsAt k env p g
 prints_among {env = env} {p = p} i h = record {
-  where_possible = λ w o.
-      let a = h.where_possible (i.possible ∙ w) (i.out ∙ o) in
+  where_possible = λ w o maps.
+      let a = h.where_possible (i.possible ∙ w) (i.out ∙ o) maps in
       record {
         tokens = a.tokens;
         generated = i.generates a.tokens a.generated;
-        writes = makes_where i.makes a.writes;
-        named = subst (λ ns. NamedBy env p ns) i.names a.named;
+        writes = from_where i.makes a.writes;
+        named = subst (λ ns. NamedBy (at_maps maps env) p ns) i.names a.named;
+        placed = placed_among i a.placed;
         safe = a.safe;
       };
-  where_out = λ w o rest. h.where_out (i.possible ∙ w) (i.out ∙ o) rest;
+  where_out = λ w o maps rest. h.where_out (i.possible ∙ w) (i.out ∙ o) maps rest;
 }
 
 -- ---- a comma or none
 
 pub no_comma_among : (config : Config) → IsAmong config Nothing OptionalComma
-unfolding Generates is_possible is_out may_make_text names_in
-no_comma_among config = record { generates = λ ts g. inl g; possible = refl; out = refl; makes = λ e. refl; names = refl }
+unfolding Generates EachName is_possible is_out may_make_text names_in
+no_comma_among config = record { generates = λ ts g. inl g; possible = refl; out = refl; makes = λ e. refl; names = refl; stands = λ a b us ts g. inl g }
 
 pub comma_among : (config : Config) → IsAmong config (mark (codes ",")) OptionalComma
-unfolding Generates is_possible is_out may_make_text names_in is_spelled_anew lexical.punctuator
-comma_among config = record { generates = λ ts g. inr g; possible = refl; out = refl; makes = λ e. refl; names = refl }
+unfolding Generates EachName is_possible is_out may_make_text names_in is_spelled_anew lexical.punctuator
+comma_among config = record { generates = λ ts g. inr g; possible = refl; out = refl; makes = λ e. refl; names = refl; stands = λ a b us ts g. inr g }
 
 -- a part that writes nothing, or a comma, writes an optional comma
 pub prints_no_comma : {k : Shape} {env : Env} {p : Part} → PrintsAt k env p Nothing → PrintsAt k env p OptionalComma
@@ -85,7 +88,7 @@ comma_strings false = refl
 pub prints_comma_where : {k : Shape} {env : Env} {p : Part} {made : Bool} (there : Bool) → MakesAt k env p (cond there (comma ∷ []) []) made → PrintsAt k env p OptionalComma
 unfolding Generates is_out may_make_text names_in
 prints_comma_where {env = env} {p = p} there h = record {
-  where_possible = λ w o. record { tokens = cond there (comma ∷ []) []; generated = commas there _ refl; writes = makes_some h; named = no_names env p; safe = no_strings h (comma_strings there) };
+  where_possible = λ w o maps. record { tokens = cond there (comma ∷ []) []; generated = commas there _ refl; writes = (makes_some h).from maps; named = no_names (at_maps maps env) p; placed = placed_none (at_maps maps env) p OptionalComma (cond there (comma ∷ []) []) refl (commas there _ refl); safe = no_strings (h.from maps) (comma_strings there) };
   where_out = λ w o. absurd (true≢false (sym o));
 }
 
@@ -109,17 +112,18 @@ possible_within true = refl
 possible_within false = refl
 
 pub bare_among : (config : Config) (f : Phrase) → IsAmong config f (OptionalParentheses f)
-unfolding Generates is_possible is_out may_make_text names_in
-bare_among config f = record { generates = λ ts g. inl g; possible = refl; out = refl; makes = λ e. e; names = refl }
+unfolding Generates EachName is_possible is_out may_make_text names_in
+bare_among config f = record { generates = λ ts g. inl g; possible = refl; out = refl; makes = λ e. e; names = refl; stands = λ a b us ts g. inl g }
 
 pub parentheses_among : (config : Config) (f : Phrase) → IsAmong config (mark (codes "(") > f > mark (codes ")")) (OptionalParentheses f)
-unfolding Generates is_possible is_out may_make_text names_in is_spelled_anew lexical.punctuator
+unfolding Generates EachName is_possible is_out may_make_text names_in is_spelled_anew lexical.punctuator
 parentheses_among config f = record {
   generates = λ ts g. inr (g.3.0, g.3.2, g.4 ∙ ap (λ z. z ++ g.1) g.2 ∙ ap (λ z. open_parenthesis ∷ z) (g.3.4 ∙ ap (λ z. g.3.0 ++ z) g.3.3));
   possible = possible_within (is_possible f);
   out = or_false (is_out config f);
   makes = λ e. sym (or_false (may_make_text config f)) ∙ e;
   names = append-nil (names_in f);
+  stands = λ a b us ts g. inr (g.3.0, subst (λ z. AllStand config a b (us ++ z) f g.3.0) g.2 g.3.2, g.4 ∙ ap (λ z. z ++ g.1) g.2 ∙ ap (λ z. open_parenthesis ∷ z) (g.3.4 ∙ ap (λ z. g.3.0 ++ z) g.3.3));
 }
 
 -- a part that writes a phrase bare, or in parentheses, writes it in optional ones
@@ -154,12 +158,12 @@ unfolding chosen
 chosen_wide config m = ap (λ b. cond b [] (in_parentheses [])) m
 
 none_among : (config : Config) → config.minify ≡ true → IsAmong config Nothing (Chosen EmptyArguments)
-unfolding Generates is_possible is_out may_make_text names_in
-none_among config m = record { generates = λ ts g. g ∙ sym (chosen_small config m); possible = refl; out = refl; makes = λ e. e; names = refl }
+unfolding Generates EachName is_possible is_out may_make_text names_in
+none_among config m = record { generates = λ ts g. g ∙ sym (chosen_small config m); possible = refl; out = refl; makes = λ e. e; names = refl; stands = λ a b us ts g. g ∙ sym (chosen_small config m) }
 
 empty_among : (config : Config) → config.minify ≡ false → IsAmong config (mark (codes "(") > mark (codes ")")) (Chosen EmptyArguments)
-unfolding Generates is_possible is_out may_make_text names_in is_spelled_anew lexical.punctuator
-empty_among config m = record { generates = λ ts g. g.4 ∙ ap (λ z. z ++ g.1) g.2 ∙ ap (λ z. open_parenthesis ∷ z) g.3 ∙ sym (chosen_wide config m); possible = refl; out = refl; makes = λ e. e; names = refl }
+unfolding Generates EachName is_possible is_out may_make_text names_in is_spelled_anew lexical.punctuator
+empty_among config m = record { generates = λ ts g. g.4 ∙ ap (λ z. z ++ g.1) g.2 ∙ ap (λ z. open_parenthesis ∷ z) g.3 ∙ sym (chosen_wide config m); possible = refl; out = refl; makes = λ e. e; names = refl; stands = λ a b us ts g. g.4 ∙ ap (λ z. z ++ g.1) g.2 ∙ ap (λ z. open_parenthesis ∷ z) g.3 ∙ sym (chosen_wide config m) }
 
 -- by the settings: minified nothing is written, else `()`
 pub prints_chosen : {i : Shape} {env : Env} {p : Part} → (env.config.minify ≡ true → PrintsAt i env p Nothing) → (env.config.minify ≡ false → PrintsAt i env p (mark (codes "(") > mark (codes ")"))) → PrintsAt i env p (Chosen EmptyArguments)
@@ -173,8 +177,8 @@ unfolding empty_arguments no_part
 prints_empty_arguments {env} =
     let other : Part = λ rest. punct (codes "(") (punct (codes ")") rest) in
     prints_chosen
-    (λ m. prints_same empty_arguments (λ rest. rest) (λ rest. minified_same no_part other rest env m) prints_nothing)
-    (λ m. prints_same empty_arguments other (λ rest. pretty_same no_part other rest env m) (prints_wider open_ refl (then (prints_punct env (codes "(") open_is_mark) (prints_punct env (codes ")") close_is_mark))))
+    (λ m. prints_same empty_arguments (λ rest. rest) (λ maps rest. minified_same no_part other rest (at_maps maps env) m) prints_nothing)
+    (λ m. prints_same empty_arguments other (λ maps rest. pretty_same no_part other rest (at_maps maps env) m) (prints_wider open_ refl (then (prints_punct env (codes "(") open_is_mark) (prints_punct env (codes ")") close_is_mark))))
 
 -- the semicolon after `do a; while (b)`, by the version
 ending_chosen : (config : Config) → is_up_to_es5 config.target ≡ true → chosen (settings_of config) LoopEnding ≡ lexical.ending ∷ []
@@ -186,12 +190,12 @@ unfolding chosen
 no_ending_chosen config e = ap (λ b. cond b (lexical.ending ∷ []) []) e
 
 ending_among : (config : Config) → is_up_to_es5 config.target ≡ true → IsAmong config ending (Chosen LoopEnding)
-unfolding Generates is_possible is_out may_make_text names_in is_spelled_anew lexical.ending
-ending_among config e = record { generates = λ ts g. g ∙ sym (ending_chosen config e); possible = refl; out = refl; makes = λ m. m; names = refl }
+unfolding Generates EachName is_possible is_out may_make_text names_in is_spelled_anew lexical.ending
+ending_among config e = record { generates = λ ts g. g ∙ sym (ending_chosen config e); possible = refl; out = refl; makes = λ m. m; names = refl; stands = λ a b us ts g. g ∙ sym (ending_chosen config e) }
 
 no_ending_among : (config : Config) → is_up_to_es5 config.target ≡ false → IsAmong config Nothing (Chosen LoopEnding)
-unfolding Generates is_possible is_out may_make_text names_in
-no_ending_among config e = record { generates = λ ts g. g ∙ sym (no_ending_chosen config e); possible = refl; out = refl; makes = λ m. m; names = refl }
+unfolding Generates EachName is_possible is_out may_make_text names_in
+no_ending_among config e = record { generates = λ ts g. g ∙ sym (no_ending_chosen config e); possible = refl; out = refl; makes = λ m. m; names = refl; stands = λ a b us ts g. g ∙ sym (no_ending_chosen config e) }
 
 pub ended_same : (rest : Plan) (env : Env) → is_up_to_es5 env.config.target ≡ true → loop_ending rest env ≡ semi rest env
 unfolding loop_ending
@@ -203,8 +207,8 @@ not_ended_same rest env e = ap (λ b. cond b (semi rest env) (rest env)) e
 
 pub prints_loop_ending : {env : Env} → PrintsAt open_ env loop_ending (Chosen LoopEnding)
 prints_loop_ending {env} = elim (cases_Bool (is_up_to_es5 env.config.target)) [
-  | inl e ↦ prints_among (ending_among env.config e) (prints_same loop_ending semi (λ rest. ended_same rest env e) (prints_wider open_ refl (prints_semi env)))
-  | inr e ↦ prints_among (no_ending_among env.config e) (prints_same loop_ending (λ rest. rest) (λ rest. not_ended_same rest env e) prints_nothing)
+  | inl e ↦ prints_among (ending_among env.config e) (prints_same loop_ending semi (λ maps rest. ended_same rest (at_maps maps env) e) (prints_wider open_ refl (prints_semi env)))
+  | inr e ↦ prints_among (no_ending_among env.config e) (prints_same loop_ending (λ rest. rest) (λ maps rest. not_ended_same rest (at_maps maps env) e) prints_nothing)
 ]
 
 -- the word before import attributes, by the settings
@@ -225,8 +229,8 @@ unfolding chosen
 with_chosen config e = ap (λ b. lexical.word (cond b (codes "assert") (codes "with")) ∷ []) e
 
 word_among : (config : Config) (t : List ℕ) → chosen (settings_of config) AttributesWord ≡ lexical.word t ∷ [] → IsAmong config (phrases.word t) (Chosen AttributesWord)
-unfolding Generates is_possible is_out may_make_text names_in is_spelled_anew lexical.word
-word_among config t e = record { generates = λ ts g. g ∙ sym e; possible = refl; out = refl; makes = λ m. m; names = refl }
+unfolding Generates EachName is_possible is_out may_make_text names_in is_spelled_anew lexical.word
+word_among config t e = record { generates = λ ts g. g ∙ sym e; possible = refl; out = refl; makes = λ m. m; names = refl; stands = λ a b us ts g. g ∙ sym e }
 
 pub assert_same : (rest : Plan) (env : Env) → env.config.emit_assert_for_import_attributes ≡ true → attributes_word rest env ≡ keyword None (codes "assert") rest env
 unfolding attributes_word
@@ -238,6 +242,6 @@ with_same rest env e = ap (λ b. cond b (keyword None (codes "assert") rest env)
 
 pub prints_attributes_word : {env : Env} → Prints env attributes_word (Chosen AttributesWord)
 prints_attributes_word {env} = elim (cases_Bool env.config.emit_assert_for_import_attributes) [
-  | inl e ↦ prints_among (word_among env.config (codes "assert") (assert_chosen env.config e)) (prints_same attributes_word (keyword None (codes "assert")) (λ rest. assert_same rest env e) (prints_keyword env None (codes "assert") assert_is_word))
-  | inr e ↦ prints_among (word_among env.config (codes "with") (with_chosen env.config e)) (prints_same attributes_word (keyword None (codes "with")) (λ rest. with_same rest env e) (prints_keyword env None (codes "with") with_is_word))
+  | inl e ↦ prints_among (word_among env.config (codes "assert") (assert_chosen env.config e)) (prints_same attributes_word (keyword None (codes "assert")) (λ maps rest. assert_same rest (at_maps maps env) e) (prints_keyword env None (codes "assert") assert_is_word))
+  | inr e ↦ prints_among (word_among env.config (codes "with") (with_chosen env.config e)) (prints_same attributes_word (keyword None (codes "with")) (λ maps rest. with_same rest (at_maps maps env) e) (prints_keyword env None (codes "with") with_is_word))
 ]

@@ -5,12 +5,12 @@ use Rattle.swc_ecma_codegen_common.specs.declared.errors.Refusal.{Refusal}
 use Rattle.swc_ecma_codegen_common.specs.declared.errors.Refusal.TheVariants.{Writer, OutOfMemory, UnsupportedNode, BadShape, NameOutOfTarget, PositionTooLarge, Failed}
 use Rattle.swc_ecma_codegen_ast.specs.GapRules.{fuses, Apart}
 use Rattle.swc_ecma_codegen_text_writer.specs.Told.{IsFront, Rises}
-use Rattle.swc_ecma_codegen_text_writer.specs.Sheet.{Item, Space, Deeper, Sheet, effect, Causes, Refuses, earlier, stopped}
+use Rattle.swc_ecma_codegen_text_writer.specs.Sheet.{Item, Space, Comment, Deeper, Sheet, effect, Causes, Refuses, earlier, stopped}
 use Rattle.swc_ecma_codegen_text_writer.proofs.Sheets.{front_refl, front_trans, effect_grows, effect_refused, effect_faults, effect_takes_memory, effect_keeps_positions, effect_whole}
 use Rattle.swc_ecma_codegen_base.specs.declared.refusals.Unprintable.{Unprintable}
 use Rattle.swc_ecma_codegen_base.specs.declared.refusals.Unprintable.TheVariants as unprintable
 use Rattle.swc_ecma_codegen_base.specs.Run as run
-use Rattle.swc_ecma_codegen_base.specs.Run.{State, Step, Guard, Token, Plain, Ends, Remake, put, run, IsRefused, Steps, steps_of, unprintable_in, refusal_of, Stops, Halts, reached, Plan, Follows, makes_text, deepens, HasCause, IsUnhindered}
+use Rattle.swc_ecma_codegen_base.specs.Run.{State, Step, Guard, Token, Plain, Ends, Remake, Take, CommentText, put, run, IsRefused, Steps, steps_of, unprintable_in, refusal_of, Stops, Halts, reached, Plan, Follows, makes_text, deepens, HasCause, IsUnhindered}
 
 -- ---- what steps do to a sheet
 
@@ -22,6 +22,8 @@ put_sheet f k (Token kind x) a = k x a.sheet
 put_sheet f k (Plain x) a = k x a.sheet
 put_sheet f k (Ends tokens x) a = k x a.sheet
 put_sheet f k (Remake due) a = refl
+put_sheet f k (Take side at) a = refl
+put_sheet f k (CommentText t) a = k (Comment t) a.sheet
 
 pub run_sheet : {A : Type 0} (f : Sheet → A) → ((x : Item) (s : Sheet) → f (effect x s) ≡ f s) → (xs : List Step) (a : State) → f (run xs a).sheet ≡ f a.sheet
 unfolding run
@@ -38,6 +40,8 @@ put_grows (Token kind x) a = effect_grows x a.sheet
 put_grows (Plain x) a = effect_grows x a.sheet
 put_grows (Ends tokens x) a = effect_grows x a.sheet
 put_grows (Remake due) a = front_refl a.sheet.text
+put_grows (Take side at) a = front_refl a.sheet.text
+put_grows (CommentText t) a = effect_grows (Comment t) a.sheet
 
 run_grows : (xs : List Step) (a : State) → IsFront a.sheet.text (run xs a).sheet.text
 unfolding run
@@ -61,6 +65,8 @@ refused_front (Guard t) e a new h = let P : Bool → Type 0 = λ b. IsFront new.
 refused_front (Token kind x) e a new h = refuses_front a.sheet new h
 refused_front (Plain x) e a new h = refuses_front a.sheet new h
 refused_front (Ends tokens x) e a new h = refuses_front a.sheet new h
+refused_front (Take side at) e a new h = absurd h
+refused_front (CommentText t) e a new h = refuses_front a.sheet new h
 refused_front (Remake due) e a new h = let P : Sheet → Type 0 = λ s. IsFront s.text a.sheet.text in subst P (sym h.2) (front_refl a.sheet.text)
 
 stops_front : (xs : List Step) (e : Refusal) (a b : State) → Stops xs e a b → IsFront b.sheet.text (run xs a).sheet.text
@@ -109,6 +115,8 @@ remakes-append (Guard t ∷ xs) due rest h = remakes-append xs due rest h
 remakes-append (Token kind x ∷ xs) due rest h = remakes-append xs due rest h
 remakes-append (Plain x ∷ xs) due rest h = remakes-append xs due rest h
 remakes-append (Ends tokens x ∷ xs) due rest h = remakes-append xs due rest h
+remakes-append (Take side at ∷ xs) due rest h = remakes-append xs due rest h
+remakes-append (CommentText t ∷ xs) due rest h = remakes-append xs due rest h
 
 -- a call that is refused after some steps
 call_cause : (xs : Steps) (front : List Step) (step : Step) (rest : List Step) (x : Item) (e : Refusal) (a b : State) → steps_of xs ≡ front ++ (step ∷ rest) → (x ≡ Deeper → deepens step) → Refuses x e (run front a).sheet b.sheet → HasCause xs e a b
@@ -132,12 +140,17 @@ call_cause xs front step rest x Failed a b split deep (stopped h k s) = absurd k
 space_no_deeper : {P : Type 0} → ◌≡◌ {A = Item} Space Deeper → P
 space_no_deeper h = absurd (cc)
 
+comment_no_deeper : {P : Type 0} (t : List ℕ) → ◌≡◌ {A = Item} (Comment t) Deeper → P
+comment_no_deeper t h = absurd (cc)
+
 refused_cause : (xs : Steps) (front : List Step) (x : Step) (rest : List Step) (e : Refusal) (a b : State) → steps_of xs ≡ front ++ (x ∷ rest) → IsRefused x e (run front a) b.sheet → HasCause xs e a b
 unfolding IsRefused deepens HasCause
 refused_cause xs front (Guard t) rest e a b split h = call_cause xs front (Guard t) rest Space e a b split space_no_deeper h.1
 refused_cause xs front (Token kind x) rest e a b split h = call_cause xs front (Token kind x) rest x e a b split (λ d. d) h
 refused_cause xs front (Plain x) rest e a b split h = call_cause xs front (Plain x) rest x e a b split (λ d. d) h
 refused_cause xs front (Ends tokens x) rest e a b split h = call_cause xs front (Ends tokens x) rest x e a b split (λ d. d) h
+refused_cause xs front (Take side at) rest e a b split h = absurd h
+refused_cause xs front (CommentText t) rest e a b split h = call_cause xs front (CommentText t) rest (Comment t) e a b split (comment_no_deeper t) h
 refused_cause xs front (Remake due) rest e a b split h =
     let P : Refusal → Type 0 = λ z. HasCause xs z a b in
     subst P (sym h.0) (or_right a.sheet.takes_memory (makes_text (steps_of xs)) (ap makes_text split ∙ remakes-append front due rest h.1))

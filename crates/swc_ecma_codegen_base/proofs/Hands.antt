@@ -4,7 +4,8 @@ use Rattle.std.proofs.lemmas.Bool.{and_from, and_parts, or_cases, or_from, or_pa
 use Rattle.swc_ecma_codegen_ast.specs.Tokens as lexical
 use Rattle.swc_ecma_codegen_text_writer.specs.Sheet.{Item}
 use Rattle.swc_ecma_codegen_literals.specs.AsciiNames.{is_ascii_text}
-use Rattle.swc_ecma_codegen_base.specs.Run.{Env, Step, Guard, Token, Plain, Ends, Remake, text_of}
+use Rattle.swc_ecma_codegen_ast.specs.CommentMaps.{Maps}
+use Rattle.swc_ecma_codegen_base.specs.Run.{Env, at_maps, Step, Guard, Token, Plain, Ends, Remake, Take, CommentText, text_of}
 use Rattle.swc_ecma_codegen_base.specs.Ascii.{is_other, is_other_piece, is_other_end, is_other_value, keeps_other, are_ascii, keeps_tokens}
 use Rattle.swc_ecma_codegen_base.specs.Scripts.{is_str, is_string_call}
 
@@ -16,6 +17,8 @@ has_string (Token kind x ∷ xs) = is_string_call kind x || has_string xs
 has_string (Plain x ∷ xs) = has_string xs
 has_string (Ends tokens x ∷ xs) = has_string xs
 has_string (Remake due ∷ xs) = has_string xs
+has_string (Take side at ∷ xs) = has_string xs
+has_string (CommentText t ∷ xs) = has_string xs
 
 -- and among these tokens
 unfoldable pub holds_string : List lexical.Token → Bool
@@ -28,6 +31,13 @@ pub record Hands (env : Env) (steps : List Step) (ts : List lexical.Token) : Typ
   pub ascii : env.config.ascii_only ≡ true → keeps_other steps ≡ false → are_ascii steps ≡ true
   pub keeps : keeps_other steps ≡ true → keeps_tokens ts ≡ true
   pub strings : has_string steps ≡ true → holds_string ts ≡ true
+
+-- whatever comments are to be taken
+pub hands_at : {env : Env} {steps : List Step} {ts : List lexical.Token} (maps : Maps) → Hands env steps ts → Hands (at_maps maps env) steps ts
+hands_at maps h = record { ascii = h.ascii; keeps = h.keeps; strings = h.strings }
+
+pub hands_from : {env : Env} {steps : List Step} {ts : List lexical.Token} (maps : Maps) → Hands (at_maps maps env) steps ts → Hands env steps ts
+hands_from maps h = record { ascii = h.ascii; keeps = h.keeps; strings = h.strings }
 
 -- ---- steps one after the other
 
@@ -47,6 +57,8 @@ keeps_append (Token kind x ∷ xs) ys = ap (λ z. is_other x || z) (keeps_append
 keeps_append (Plain x ∷ xs) ys = ap (λ z. is_other_piece x || z) (keeps_append xs ys) ∙ or_assoc (is_other_piece x) (keeps_other xs) (keeps_other ys)
 keeps_append (Ends tokens x ∷ xs) ys = ap (λ z. is_other_end tokens x || z) (keeps_append xs ys) ∙ or_assoc (is_other_end tokens x) (keeps_other xs) (keeps_other ys)
 keeps_append (Remake due ∷ xs) ys = keeps_append xs ys
+keeps_append (Take side at ∷ xs) ys = keeps_append xs ys
+keeps_append (CommentText t ∷ xs) ys = keeps_append xs ys
 
 pub ascii_append : (xs ys : List Step) → are_ascii (xs ++ ys) ≡ (are_ascii xs && are_ascii ys)
 unfolding are_ascii
@@ -56,6 +68,8 @@ ascii_append (Token kind x ∷ xs) ys = ap (λ z. is_ascii_text (text_of x) && z
 ascii_append (Plain x ∷ xs) ys = ap (λ z. is_ascii_text (text_of x) && z) (ascii_append xs ys) ∙ and_assoc (is_ascii_text (text_of x)) (are_ascii xs) (are_ascii ys)
 ascii_append (Ends tokens x ∷ xs) ys = ap (λ z. is_ascii_text (text_of x) && z) (ascii_append xs ys) ∙ and_assoc (is_ascii_text (text_of x)) (are_ascii xs) (are_ascii ys)
 ascii_append (Remake due ∷ xs) ys = ascii_append xs ys
+ascii_append (Take side at ∷ xs) ys = ascii_append xs ys
+ascii_append (CommentText t ∷ xs) ys = ascii_append xs ys
 
 pub tokens_keep : (ts us : List lexical.Token) → keeps_tokens (ts ++ us) ≡ (keeps_tokens ts || keeps_tokens us)
 unfolding keeps_tokens
@@ -70,6 +84,8 @@ has_append (Token kind x ∷ xs) ys = ap (λ z. is_string_call kind x || z) (has
 has_append (Plain x ∷ xs) ys = has_append xs ys
 has_append (Ends tokens x ∷ xs) ys = has_append xs ys
 has_append (Remake due ∷ xs) ys = has_append xs ys
+has_append (Take side at ∷ xs) ys = has_append xs ys
+has_append (CommentText t ∷ xs) ys = has_append xs ys
 
 holds_append : (ts us : List lexical.Token) → holds_string (ts ++ us) ≡ (holds_string ts || holds_string us)
 unfolding holds_string
@@ -105,6 +121,8 @@ ascii_keeps (Token kind x ∷ xs) h = let p = and_parts (is_ascii_text (text_of 
 ascii_keeps (Plain x ∷ xs) h = let p = and_parts (is_ascii_text (text_of x)) (are_ascii xs) h in call_keeps _ x (keeps_other xs) p.0 (ascii_keeps xs p.1)
 ascii_keeps (Ends tokens x ∷ xs) h = let p = and_parts (is_ascii_text (text_of x)) (are_ascii xs) h in call_keeps _ x (keeps_other xs) p.0 (ascii_keeps xs p.1)
 ascii_keeps (Remake due ∷ xs) h = ascii_keeps xs h
+ascii_keeps (Take side at ∷ xs) h = ascii_keeps xs h
+ascii_keeps (CommentText t ∷ xs) h = ascii_keeps xs h
 
 -- whatever the settings
 pub hands_ascii : (env : Env) (steps : List Step) (ts : List lexical.Token) → are_ascii steps ≡ true → (has_string steps ≡ true → holds_string ts ≡ true) → Hands env steps ts

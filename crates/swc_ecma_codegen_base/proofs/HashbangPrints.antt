@@ -12,7 +12,7 @@ use Rattle.swc_ecma_codegen_ast.specs.Texts.{begins}
 use Rattle.swc_ecma_codegen_ast.specs.Tokens as lexical
 use Rattle.swc_ecma_codegen_ast.specs.Tokens.{token_of, value_of, has_shape}
 use Rattle.swc_ecma_codegen_ast.specs.Reads.{is_child, is_hashbang_kind}
-use Rattle.swc_ecma_codegen_ast.specs.Trivia.{Piece, Blank, is_piece, piece_text, all_pieces, pieces_text, remarks_of}
+use Rattle.swc_ecma_codegen_ast.specs.Trivia.{Remark, Piece, Blank, is_piece, piece_text, all_pieces, pieces_text, remarks_of}
 use Rattle.swc_ecma_codegen_ast.specs.GapRules.{Last, Start, Apart, LineEnd, fuses, allows, ends_line, last_after, last_after_gap}
 use Rattle.swc_ecma_codegen_ast.specs.Parts as parts
 use Rattle.swc_ecma_codegen_ast.specs.Parts.{Gap, Own, tokens_of, remarks_in, NoneFuse, Reduced}
@@ -22,7 +22,7 @@ use Rattle.swc_ecma_codegen_text_writer.proofs.Sheets.{pointed_alike, alike_same
 use Rattle.swc_ecma_codegen_literals.specs.AsciiNames.{is_ascii_text}
 use Rattle.swc_ecma_codegen_base.specs.Ascii.{is_kept_piece, is_other_piece, is_kept_end, is_other_end, is_other_value, keeps_other, are_ascii, keeps_tokens}
 use Rattle.swc_ecma_codegen_base.specs.Literals.{hashbang}
-use Rattle.swc_ecma_codegen_base.specs.Run.{Env, Part, State, Step, Plain, Ends, put, run, step, next, text_of, after_plain, makes_text}
+use Rattle.swc_ecma_codegen_base.specs.Run.{at_maps, maps_after, after_step, taken_in, taken_by, spoken, Env, Part, State, Step, Plain, Ends, put, run, step, next, text_of, after_plain, makes_text}
 use Rattle.swc_ecma_codegen_base.specs.Scripts.{is_str, is_string_call}
 use Rattle.swc_ecma_codegen_base.specs.Words.{line_end, position}
 use Rattle.swc_ecma_codegen_base.specs.Written.{IsLineEnd, AtRest, all_indent, holds_one, is_free}
@@ -34,10 +34,10 @@ use Rattle.swc_ecma_codegen_base.proofs.Levels.{levels, rise}
 use Rattle.swc_ecma_codegen_base.proofs.LiteralParts.{still_settled}
 use Rattle.swc_ecma_codegen_base.proofs.NumeralTexts.{ascii_by_chars}
 use Rattle.swc_ecma_codegen_base.proofs.Phrased.{PrintsAt, prints_one, prints_where}
-use Rattle.swc_ecma_codegen_base.proofs.Printed.{MakesAt, chain, no_text}
-use Rattle.swc_ecma_codegen_base.proofs.Shapes.{Shape, first_line, Fits, fits_then, fits_wider, fits_text, fits_end, whole}
+use Rattle.swc_ecma_codegen_base.proofs.Printed.{takes_none, makes_silently, MakesAt, chain, no_text}
+use Rattle.swc_ecma_codegen_base.proofs.Shapes.{Shape, first_line, Fits, fits_then, fits_wider, fits_text, fits_end}
 use Rattle.swc_ecma_codegen_base.proofs.Texts.{Adds, adds_written, adds_literal, adds_more}
-use Rattle.swc_ecma_codegen_base.proofs.Written.{LaysAt, IsFirst, Enters, held, laid_out, front_indent, apart_open, settle, settle_rest, lays_settled, lays_position}
+use Rattle.swc_ecma_codegen_base.proofs.Written.{LaysWith, LaysAt, IsFirst, Enters, held, laid_out, front_indent, apart_open, settle, settle_rest, lays_settled, lays_position}
 
 -- ---- the end of a line
 
@@ -131,7 +131,7 @@ line_lays t s m u p o r h =
         free = λ o e. refl;
         allowed = apart_open;
       };
-      fits = line_fits (front s.sheet) (chars t) l.pieces i;
+      fits = λ e. line_fits (front s.sheet) (chars t) l.pieces i;
     }
 
 -- ---- the calls
@@ -183,15 +183,8 @@ line_hands env t u = record {
 }
 
 writes_hashbang : (env : Env) (t : List ℕ) → IsUtf8 t → is_one_line (chars t) ≡ true → MakesAt first_line env (hashbang t) (token_of Hashbang (codes "#!" ++ chars t) ∷ []) false
-unfolding hashbang hashbang_steps line_end step chain makes_text levels rise
-writes_hashbang env t u h = record {
-  steps = hashbang_steps t;
-  is_steps = λ rest. refl;
-  lays = λ s r. calls_lay t s u h r;
-  remakes = λ e. e;
-  deep = omega arith;
-  hands = line_hands env t u;
-}
+unfolding hashbang hashbang_steps line_end step chain makes_text levels rise takes_none maps_after after_step
+writes_hashbang env t u h = makes_silently env (hashbang t) (hashbang_steps t) _ refl (λ maps rest. refl) (λ s r. calls_lay t s u h r) (λ e. e) (omega arith) (line_hands env t u)
 
 -- ---- a position before it
 
@@ -206,7 +199,7 @@ pointed_enters i pos s (inr k) = inr (
   },
 )
 
-lays_pointed : {i : Shape} (pos : BytePos) (s b : State) (ts : List lexical.Token) → LaysAt i ts (record s { sheet = pointed pos s.sheet }) b → LaysAt i ts s b
+lays_pointed : {i : Shape} {rs : List Remark} (pos : BytePos) (s b : State) (ts : List lexical.Token) → LaysWith i ts rs (record s { sheet = pointed pos s.sheet }) b → LaysWith i ts rs s b
 lays_pointed {i} pos s b ts l =
     let p = alike_same s.sheet (pointed pos s.sheet) (pointed_alike pos s.sheet) in
     record {
@@ -227,15 +220,20 @@ lays_pointed {i} pos s b ts l =
     }
 
 placed_case : {i : Shape} (env : Env) (pos : BytePos) (none : Bool) (p : Part) (ts : List lexical.Token) {a : Bool} → MakesAt i env p ts a → MakesAt i env (λ rest. cond none (p rest) (step (Plain (Position pos)) (p rest))) ts a
-unfolding step chain run put effect text_of after_plain makes_text levels rise are_ascii has_string is_string_call
+unfolding step chain run put effect text_of after_plain makes_text levels rise are_ascii has_string is_string_call maps_after after_step taken_in taken_by spoken
 placed_case env pos true p ts h = h
 placed_case env pos false p ts h = record {
-  steps = Plain (Position pos) ∷ h.steps;
-  is_steps = λ rest. ap (λ z. next (Plain (Position pos)) z) (h.is_steps rest);
-  lays = λ s r. lays_pointed pos s _ ts (h.lays (record s { sheet = pointed pos s.sheet }) (lays_position pos s r).rest);
-  remakes = h.remakes;
-  deep = let d = h.deep in omega (arith, d);
-  hands = hands_then (hands_ascii env (Plain (Position pos) ∷ []) [] refl no_text) h.hands;
+  from = λ maps.
+      let x = h.from maps in
+      record {
+        steps = Plain (Position pos) ∷ x.steps;
+        is_steps = λ rest. ap (λ z. next (Plain (Position pos)) z) (x.is_steps rest);
+        lays = λ s r c. lays_pointed pos s _ ts (x.lays (record s { sheet = pointed pos s.sheet }) (lays_position pos s r).rest c);
+        remakes = x.remakes;
+        deep = let d = x.deep in omega (arith, d);
+        hands = hands_then (hands_ascii (at_maps maps env) (Plain (Position pos) ∷ []) [] refl no_text) x.hands;
+        told = x.told;
+      };
 }
 
 -- wherever a part may stand, it may with a position before it

@@ -40,7 +40,7 @@ front s = front_of s.at_line_start s
 unfoldable pub begun_sheet : Sheet → Sheet
 begun_sheet s = record (indented s.indentation s) { at_line_start = false }
 
-started_text : (s : Sheet) → (started s).text ≡ s.text ++ front s
+pub started_text : (s : Sheet) → (started s).text ≡ s.text ++ front s
 unfolding started indented appended
 started_text s =
     elim s.at_line_start as (λ b. (cond b (pending_recorded s.pending (record (indented s.indentation s) { at_line_start = false })) s).text ≡ s.text ++ front_of b s)

@@ -4,7 +4,7 @@ use Rattle.std.specs.Str.{chars}
 use Rattle.swc_ecma_codegen_ast.specs.GapRules.{fuses, Apart}
 use Rattle.swc_ecma_codegen_text_writer.specs.Sheet.{Item, Semi, Space, Keyword, Operator, Param, Property, Line, Lit, Comment, StrLit, Str, Symbol, Punct, Position, Commit, Deeper, Shallower, Sheet, effect}
 use Rattle.swc_ecma_codegen_text_writer.proofs.Sheets.{depth, effect_indentation}
-use Rattle.swc_ecma_codegen_base.specs.Run.{State, Step, Guard, Token, Plain, Ends, Remake, put, run, deepens, PassesLimit}
+use Rattle.swc_ecma_codegen_base.specs.Run.{State, Step, Guard, Token, Plain, Ends, Remake, Take, CommentText, put, run, deepens, PassesLimit}
 
 -- how much deeper the indentation is after a call
 unfoldable pub rise : Item → ℕ
@@ -34,6 +34,8 @@ levels (Token kind x ∷ xs) = rise x + levels xs
 levels (Plain x ∷ xs) = rise x + levels xs
 levels (Ends tokens x ∷ xs) = rise x + levels xs
 levels (Remake due ∷ xs) = levels xs
+levels (Take side at ∷ xs) = levels xs
+levels (CommentText t ∷ xs) = levels xs
 
 depth_rise : (x : Item) (n : ℕ) → depth x n ≤ n + rise x
 unfolding rise
@@ -70,16 +72,20 @@ levels_append (Token kind x ∷ xs) ys = let h = levels_append xs ys in omega (a
 levels_append (Plain x ∷ xs) ys = let h = levels_append xs ys in omega (arith, h)
 levels_append (Ends tokens x ∷ xs) ys = let h = levels_append xs ys in omega (arith, h)
 levels_append (Remake due ∷ xs) ys = levels_append xs ys
+levels_append (Take side at ∷ xs) ys = levels_append xs ys
+levels_append (CommentText t ∷ xs) ys = levels_append xs ys
 
 -- the steps take the indentation no deeper than that
 run_rise : (xs : List Step) (a : State) → (run xs a).sheet.indentation ≤ a.sheet.indentation + levels xs
-unfolding run levels put
+unfolding run levels put rise
 run_rise [] a = omega arith
 run_rise (Guard t ∷ xs) a = let h = run_rise xs (put (Guard t) a) in let k = guard_same t a in omega (arith, h, k)
 run_rise (Token kind x ∷ xs) a = let h = run_rise xs (put (Token kind x) a) in let k = effect_rise x a.sheet in omega (arith, h, k)
 run_rise (Plain x ∷ xs) a = let h = run_rise xs (put (Plain x) a) in let k = effect_rise x a.sheet in omega (arith, h, k)
 run_rise (Ends tokens x ∷ xs) a = let h = run_rise xs (put (Ends tokens x) a) in let k = effect_rise x a.sheet in omega (arith, h, k)
 run_rise (Remake due ∷ xs) a = run_rise xs a
+run_rise (Take side at ∷ xs) a = run_rise xs (put (Take side at) a)
+run_rise (CommentText t ∷ xs) a = let h = run_rise xs (put (CommentText t) a) in let k = effect_rise (Comment t) a.sheet in omega (arith, h, k)
 
 deeper_rises : (x : Step) (rest : List Step) → deepens x → 0 < levels (x ∷ rest)
 unfolding deepens levels rise
@@ -88,6 +94,8 @@ deeper_rises (Token kind x) rest d = let e = ap rise d in omega (arith, e)
 deeper_rises (Plain x) rest d = let e = ap rise d in omega (arith, e)
 deeper_rises (Ends tokens x) rest d = let e = ap rise d in omega (arith, e)
 deeper_rises (Remake due) rest d = absurd d
+deeper_rises (Take side at) rest d = absurd d
+deeper_rises (CommentText t) rest d = absurd d
 
 -- few levels stay in the limit
 pub stays_within : (xs : List Step) (a : State) → a.sheet.indentation + levels xs < 2 ^ 32 → PassesLimit xs a → ⊥

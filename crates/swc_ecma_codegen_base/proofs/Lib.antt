@@ -25,6 +25,13 @@ pub mod Written
 pub mod Texts
 pub mod NumberEnds
 pub mod Positions
+pub mod Standing
+pub mod CommentLays
+pub mod CommentStarts
+pub mod CommentSteps
+pub mod Jointless
+pub mod NoneTaken
+pub mod NoComments
 pub mod Printed
 pub mod LiteralParts
 pub mod Phrased

@@ -4,6 +4,7 @@ use Rattle.std.specs.Str.{chars, is_utf8}
 use Rattle.std.proofs.lemmas.Bool.{cases_Bool, true≢false}
 use Rattle.swc_ecma_codegen_common.specs.declared.positions.Span.{Span}
 use Rattle.swc_ecma_codegen_ast.specs.SourceLines.{Lines}
+use Rattle.swc_ecma_codegen_ast.specs.CommentMaps.{Maps}
 use Rattle.swc_ecma_codegen_ast.specs.ListFormats.{comma_delimited, bar_delimited, ampersand_delimited, allows_trailing_comma, indented, space_between_braces, space_between_siblings, optional_if_empty, multi_line, no_intervening_comments, no_space_if_empty, forces_trailing_comma, can_skip_trailing_comma, leading_line, separating_line, closing_line}
 use Rattle.swc_ecma_codegen_ast.specs.declared.kinds.Kind.TheVariants.{Punctuator}
 use Rattle.swc_ecma_codegen_ast.specs.Tokens as lexical
@@ -12,31 +13,31 @@ use Rattle.swc_ecma_codegen_ast.specs.Punctuators.{is_punctuator, punctuators}
 use Rattle.swc_ecma_codegen_ast.specs.Texts.{is_same, is_among}
 use Rattle.swc_ecma_codegen_ast.specs.Phrases as phrases
 use Rattle.swc_ecma_codegen_ast.specs.Phrases.{Phrase, OptionalComma, is_possible, names_in, mark, ◌>◌}
-use Rattle.swc_ecma_codegen_base.specs.Run.{Env, Plan, Part, Remake, step, spelling, when_minified, no_part}
+use Rattle.swc_ecma_codegen_base.specs.Run.{Env, Plan, Part, Remake, at_maps, maps_after, step, spelling, when_minified, no_part}
 use Rattle.swc_ecma_codegen_base.specs.Words.{punct, formatting_space, formatting_line, trailing_comments}
 use Rattle.swc_ecma_codegen_base.specs.Written.{IsMark}
 use Rattle.swc_ecma_codegen_base.specs.Lists.{ListChild, by_lines, blank_if, line_or_blank, deeper, formatting_deeper, deeper_if, shallower, formatting_shallower, shallower_if, opening, delimiter, separator, child_comments, first_child_after, next_child_after, comma_if, source_comma, wanted_comma, source_has_comma, may_have_comma, trailing_comma, closing, list_end, list_closing, empty_list, more_children, last_place, list}
 use Rattle.swc_ecma_codegen_base.proofs.Emitting.{minified_same, pretty_same}
 use Rattle.swc_ecma_codegen_base.proofs.ListCommas.{written_same, left_out_same, forced_same, source_same}
-use Rattle.swc_ecma_codegen_base.proofs.Printed.{writes_remake, MakesWithin, within_then, with_room, writes_then, writes_same, writes_nothing, writes_if, writes_minified, writes_formatting_space, writes_formatting_line, writes_trailing, writes_shallower, deeper_within, punct_within, writes_punct, Fills, MakesAt, EndsLines, makes_wider}
+use Rattle.swc_ecma_codegen_base.proofs.Printed.{writes_remake, MakesWithin, from_both, within_then, with_room, writes_then, writes_same, writes_nothing, writes_if, writes_minified, writes_formatting_space, writes_formatting_line, writes_trailing, writes_shallower, deeper_within, punct_within, writes_punct, Fills, MakesAt, EndsLines, makes_wider}
 use Rattle.swc_ecma_codegen_base.specs.Escapes.{may_make_text}
 use Rattle.swc_ecma_codegen_base.specs.Targets.{is_out}
 use Rattle.swc_ecma_codegen_base.proofs.Hands.{holds_string}
-use Rattle.swc_ecma_codegen_base.proofs.Choices.{IsAmong, comma_among, no_comma_among, prints_no_comma}
+use Rattle.swc_ecma_codegen_base.proofs.Choices.{IsAmong, placed_among, comma_among, no_comma_among, prints_no_comma}
 use Rattle.swc_ecma_codegen_base.proofs.Shapes.{Shape, open_, ended, loose, closed, past_line, join}
-use Rattle.swc_ecma_codegen_base.proofs.Phrased.{Prints, PrintsAt, prints_wider, loosened, NamedBy, names_then, no_names, safe_then, no_strings, then, after as behind, before, prints_nothing, prints_same, prints_punct, prints_mark, mark_spelled}
+use Rattle.swc_ecma_codegen_base.proofs.Phrased.{Prints, PrintsAt, prints_wider, loosened, NamedBy, names_then, no_names, placed_after, safe_then, no_strings, then, after as behind, before, prints_nothing, prints_same, prints_punct, prints_mark, mark_spelled}
 
 -- ---- parts
 
 -- what asks where lines end
 pub writes_by_lines : {i : Shape} (env : Env) (ask : Lines → Part) (ts : List lexical.Token) {a : Bool} → MakesAt i env (ask env.lines) ts a → MakesAt i env (by_lines ask) ts a
 unfolding by_lines
-writes_by_lines env ask ts h = writes_same env (by_lines ask) (ask env.lines) ts (λ rest. refl) h
+writes_by_lines env ask ts h = writes_same env (by_lines ask) (ask env.lines) ts (λ maps rest. refl) h
 
 -- the same behind a part
-asked_behind : {i : Shape} {env : Env} {q : Part} {ts : List lexical.Token} {a : Bool} → MakesAt i env q ts a → (ask : Lines → Part) (rest : Plan) → q (by_lines ask rest) env ≡ q (ask env.lines rest) env
+asked_behind : {i : Shape} {env : Env} {q : Part} {ts : List lexical.Token} {a : Bool} → MakesAt i env q ts a → (ask : Lines → Part) (maps : Maps) (rest : Plan) → q (by_lines ask rest) (at_maps maps env) ≡ q (ask env.lines rest) (at_maps maps env)
 unfolding by_lines
-asked_behind {env = env} h ask rest = h.is_steps (by_lines ask rest) ∙ sym (h.is_steps (ask env.lines rest))
+asked_behind {env = env} h ask maps rest = let x = h.from maps in x.is_steps (by_lines ask rest) ∙ sym (x.is_steps (ask env.lines rest))
 
 writes_blank_if : (env : Env) (b : Bool) → Fills env (blank_if b)
 unfolding blank_if
@@ -60,8 +61,8 @@ nothing_within env = with_room 0 1 (omega arith) (writes_nothing env)
 formatting_deeper_within : (env : Env) → MakesWithin open_ 1 env formatting_deeper [] false
 unfolding formatting_deeper no_part
 formatting_deeper_within env = elim (cases_Bool env.config.minify) [
-  | inl small ↦ writes_same env (when_minified no_part deeper) no_part [] (λ rest. minified_same no_part deeper rest env small) (nothing_within env)
-  | inr wide ↦ writes_same env (when_minified no_part deeper) deeper [] (λ rest. pretty_same no_part deeper rest env wide) (deeper_within env)
+  | inl small ↦ writes_same env (when_minified no_part deeper) no_part [] (λ maps rest. minified_same no_part deeper rest (at_maps maps env) small) (nothing_within env)
+  | inr wide ↦ writes_same env (when_minified no_part deeper) deeper [] (λ maps rest. pretty_same no_part deeper rest (at_maps maps env) wide) (deeper_within env)
 ]
 
 deeper_if_within : (env : Env) (b : Bool) → MakesWithin open_ 1 env (deeper_if b) [] false
@@ -106,7 +107,7 @@ passed_over b p q env h = ap (λ z. cond z p q env) h
 
 prints_comma : (env : Env) (format : ℕ) → comma_delimited format ≡ true → Prints env (delimiter format) (mark (codes ","))
 unfolding delimiter
-prints_comma env format h = prints_same (delimiter format) (punct (codes ",")) (λ rest. picked (comma_delimited format) (punct (codes ",") rest) _ env h) (prints_punct env (codes ",") comma_is_mark)
+prints_comma env format h = prints_same (delimiter format) (punct (codes ",")) (λ maps rest. picked (comma_delimited format) (punct (codes ",") rest) _ (at_maps maps env) h) (prints_punct env (codes ",") comma_is_mark)
 
 prints_separator : (env : Env) (format : ℕ) (line : Bool) → comma_delimited format ≡ true → PrintsAt ended env (separator format line) (mark (codes ","))
 unfolding separator
@@ -120,7 +121,7 @@ pub record IsUndelimited (format : ℕ) : Type 0 where
 
 writes_delimiter : (env : Env) (format : ℕ) → IsUndelimited format → Fills env (delimiter format)
 unfolding delimiter
-writes_delimiter env format u = writes_same env (delimiter format) (λ rest. rest) [] (λ rest. passed_over (comma_delimited format) _ _ env u.no_comma ∙ passed_over (bar_delimited format) _ _ env u.no_bar ∙ passed_over (ampersand_delimited format) _ rest env u.no_ampersand) (writes_nothing env)
+writes_delimiter env format u = writes_same env (delimiter format) (λ rest. rest) [] (λ maps rest. passed_over (comma_delimited format) _ _ (at_maps maps env) u.no_comma ∙ passed_over (bar_delimited format) _ _ (at_maps maps env) u.no_bar ∙ passed_over (ampersand_delimited format) _ rest (at_maps maps env) u.no_ampersand) (writes_nothing env)
 
 writes_separator : (env : Env) (format : ℕ) (line : Bool) → IsUndelimited format → EndsLines env (separator format line)
 unfolding separator
@@ -141,12 +142,12 @@ writes_end env format parent last =
 
 no_comma_wanted : (env : Env) (format : ℕ) (parent : Span) → forces_trailing_comma format ≡ false → allows_trailing_comma format ≡ false → Fills env (wanted_comma format parent)
 unfolding wanted_comma
-no_comma_wanted env format parent f a = writes_same env (wanted_comma format parent) (λ rest. rest) [] (λ rest. passed_over (forces_trailing_comma format) _ _ env f ∙ passed_over (allows_trailing_comma format) _ rest env a) (writes_nothing env)
+no_comma_wanted env format parent f a = writes_same env (wanted_comma format parent) (λ rest. rest) [] (λ maps rest. passed_over (forces_trailing_comma format) _ _ (at_maps maps env) f ∙ passed_over (allows_trailing_comma format) _ rest (at_maps maps env) a) (writes_nothing env)
 
 no_comma_written : (env : Env) (format : ℕ) (parent : Span) → forces_trailing_comma format ≡ false → allows_trailing_comma format ≡ false → Fills env (trailing_comma format parent)
 no_comma_written env format parent f a = elim (cases_Bool (may_have_comma format env.config)) [
-  | inl some ↦ writes_same env (trailing_comma format parent) (wanted_comma format parent) [] (λ rest. written_same format parent rest env some) (no_comma_wanted env format parent f a)
-  | inr none ↦ writes_same env (trailing_comma format parent) (λ rest. rest) [] (λ rest. left_out_same format parent rest env none) (writes_nothing env)
+  | inl some ↦ writes_same env (trailing_comma format parent) (wanted_comma format parent) [] (λ maps rest. written_same format parent rest (at_maps maps env) some) (no_comma_wanted env format parent f a)
+  | inr none ↦ writes_same env (trailing_comma format parent) (λ rest. rest) [] (λ maps rest. left_out_same format parent rest (at_maps maps env) none) (writes_nothing env)
 ]
 
 -- a list without a trailing comma
@@ -168,7 +169,7 @@ may_be false skips minify h k = absurd (cc)
 pub prints_forced_closing : (env : Env) (format : ℕ) (parent last : Span) → comma_delimited format ≡ true → forces_trailing_comma format ≡ true → can_skip_trailing_comma format ≡ false → PrintsAt loose env (list_closing format parent last) (mark (codes ","))
 unfolding list_closing
 prints_forced_closing env format parent last c f s =
-    prints_wider loose refl (before (prints_same (trailing_comma format parent) (comma_if true) (λ rest. written_same format parent rest env (may_be (comma_delimited format) (can_skip_trailing_comma format) env.config.minify c s) ∙ forced_same format parent rest env f) (prints_comma_if env))
+    prints_wider loose refl (before (prints_same (trailing_comma format parent) (comma_if true) (λ maps rest. written_same format parent rest (at_maps maps env) (may_be (comma_delimited format) (can_skip_trailing_comma format) env.config.minify c s) ∙ forced_same format parent rest (at_maps maps env) f) (prints_comma_if env))
     (writes_end env format parent last))
 
 -- ---- whole lists
@@ -197,7 +198,7 @@ prints_more env format place part e law c previous [] = prints_wider loose refl 
 prints_more env format place part e law c previous (x ∷ xs) =
     let line : Bool = separating_line env.lines format previous (place x) in
     let more : Part = more_children format (place x) (children_of place part xs) in
-    prints_same (more_children format previous (children_of place part (x ∷ xs))) (λ rest. separator format line (part x (child_comments format line (place x) (more rest)))) (λ rest. refl)
+    prints_same (more_children format previous (children_of place part (x ∷ xs))) (λ rest. separator format line (part x (child_comments format line (place x) (more rest)))) (λ maps rest. refl)
     (prints_wider loose refl (then (prints_separator env format line c) (then (prints_child env format line (record { place = place x; part = part x }) (law x)) (prints_more env format place part e law c (place x) xs))))
 
 -- the first child and those after it, behind what opens the list
@@ -209,10 +210,10 @@ unfolding phrases.listed
 prints_children env format line place part e law c x xs = then (prints_child env format line (record { place = place x; part = part x }) (law x)) (prints_more env format place part e law c (place x) xs)
 
 -- A list in parts, behind a part: what opens it, its children, and what closes it.
-pub list_in_parts : {A : Type 0} {i : Shape} {env : Env} {q : Part} {ts : List lexical.Token} {a : Bool} → MakesAt i env q ts a → (format : ℕ) (parent : Span) (place : A → Span) (part : A → Part) (x : A) (xs : List A) (rest : Plan) → q (list format parent (children_of place part (x ∷ xs)) rest) env ≡ q (opening format (leading_line env.lines format parent (place x)) (children_after format (leading_line env.lines format parent (place x)) place part x xs (list_closing format parent (last_place (place x) (children_of place part xs)) rest))) env
+pub list_in_parts : {A : Type 0} {i : Shape} {env : Env} {q : Part} {ts : List lexical.Token} {a : Bool} → MakesAt i env q ts a → (format : ℕ) (parent : Span) (place : A → Span) (part : A → Part) (x : A) (xs : List A) (maps : Maps) (rest : Plan) → q (list format parent (children_of place part (x ∷ xs)) rest) (at_maps maps env) ≡ q (opening format (leading_line env.lines format parent (place x)) (children_after format (leading_line env.lines format parent (place x)) place part x xs (list_closing format parent (last_place (place x) (children_of place part xs)) rest))) (at_maps maps env)
 unfolding list first_child_after
-list_in_parts {env = env} h format parent place part x xs rest =
-    asked_behind h (λ lines. first_child_after format (leading_line lines format parent (place x)) (record { place = place x; part = part x })) (more_children format (place x) (children_of place part xs) (list_closing format parent (last_place (place x) (children_of place part xs)) rest))
+list_in_parts {env = env} h format parent place part x xs maps rest =
+    asked_behind h (λ lines. first_child_after format (leading_line lines format parent (place x)) (record { place = place x; part = part x })) maps (more_children format (place x) (children_of place part xs) (list_closing format parent (last_place (place x) (children_of place part xs)) rest))
 
 -- One that isn't indented, with what its trailing comma reads as, and what comes after it: `a, b, }`.
 pub prints_some : {A : Type 0} (env : Env) (format : ℕ) (parent : Span) (place : A → Span) (part : A → Part) (e : A → Phrase) (tail after : Phrase) (close : Part) → ((x : A) → PrintsAt loose env (part x) (e x)) → comma_delimited format ≡ true → indented format ≡ false → ((last : Span) → PrintsAt loose env (list_closing format parent last) tail) → Prints env close after → (x : A) (xs : List A) → PrintsAt closed env (λ rest. list format parent (children_of place part (x ∷ xs)) (close rest)) (phrases.listed (codes ",") (map e (x ∷ xs)) > tail > after)
@@ -221,7 +222,7 @@ prints_some env format parent place part e tail after close law c i ends closed 
     let last : Span = last_place (place x) (children_of place part xs) in
     let children : Part = children_after format line place part x xs in
     let ending : Part = list_closing format parent last in
-    prints_same (λ rest. list format parent (children_of place part (x ∷ xs)) (close rest)) (λ rest. opening format line (children (ending (close rest)))) (λ rest. list_in_parts (writes_nothing env) format parent place part x xs (close rest))
+    prints_same (λ rest. list format parent (children_of place part (x ∷ xs)) (close rest)) (λ rest. opening format line (children (ending (close rest)))) (λ maps rest. list_in_parts (writes_nothing env) format parent place part x xs maps (close rest))
     (behind (writes_opening env format line i) (then (prints_children env format line place part e law c x xs) (then (ends last) closed)))
 
 -- One that isn't indented and has no trailing comma.
@@ -233,7 +234,7 @@ prints_list env format parent place part e law c i f a (x ∷ xs) =
     let last : Span = last_place (place x) (children_of place part xs) in
     let children : Part = children_after format line place part x xs in
     let ending : Part = list_closing format parent last in
-    prints_same (list format parent (children_of place part (x ∷ xs))) (λ rest. opening format line (children (ending rest))) (λ rest. list_in_parts (writes_nothing env) format parent place part x xs rest)
+    prints_same (list format parent (children_of place part (x ∷ xs))) (λ rest. opening format line (children (ending rest))) (λ maps rest. list_in_parts (writes_nothing env) format parent place part x xs maps rest)
     (behind (writes_opening env format line i) (before (prints_children env format line place part e law c x xs) (writes_closing env format parent last f a)))
 
 -- One child that stands on the line of what is around it, whatever the source text says: minified `a` of `a => b`.
@@ -258,7 +259,7 @@ prints_list_on_line env format parent place part e law c i f a x xs l =
     let last : Span = last_place (place x) (children_of place part xs) in
     let children : Part = children_after format line place part x xs in
     let ending : Part = list_closing format parent last in
-    prints_same (list format parent (children_of place part (x ∷ xs))) (λ rest. opening format line (children (ending rest))) (λ rest. list_in_parts (writes_nothing env) format parent place part x xs rest)
+    prints_same (list format parent (children_of place part (x ∷ xs))) (λ rest. opening format line (children (ending rest))) (λ maps rest. list_in_parts (writes_nothing env) format parent place part x xs maps rest)
     (behind (let P : Bool → Type 0 = λ b. Fills env (opening format b) in subst P (sym l) (blank_opening env format i))
     (before (then (prints_child env format line (record { place = place x; part = part x }) (law x)) (prints_more env format place part e (λ y. loosened (law y)) c (place x) xs))
     (writes_closing env format parent last f a)))
@@ -268,7 +269,7 @@ pub prints_one_child : {A : Type 0} {i : Shape} (env : Env) (format : ℕ) (pare
 unfolding more_children list_closing last_place
 prints_one_child env format parent place part x law l c i f a =
     let line : Bool = leading_line env.lines format parent (place x) in
-    prints_same (list format parent (children_of place part (x ∷ []))) (λ rest. opening format line (children_after format line place part x [] (list_closing format parent (place x) rest))) (λ rest. list_in_parts (writes_nothing env) format parent place part x [] rest)
+    prints_same (list format parent (children_of place part (x ∷ []))) (λ rest. opening format line (children_after format line place part x [] (list_closing format parent (place x) rest))) (λ maps rest. list_in_parts (writes_nothing env) format parent place part x [] maps rest)
     (behind (let P : Bool → Type 0 = λ b. Fills env (opening format b) in subst P (sym l) (blank_opening env format i))
     (before (prints_child env format line (record { place = place x; part = part x }) law)
     (writes_then env (trailing_comma format parent) (list_end format parent (place x)) [] [] (no_comma_written env format parent f a) (blank_end env format parent (place x) c))))
@@ -283,7 +284,7 @@ prints_bracketed_some env t w p h format parent place part e tail after close la
     let children : Part = children_after format line place part x xs in
     let ending : Part = list_closing format parent last in
     prints_same (λ rest. punct t (p (list format parent (children_of place part (x ∷ xs)) (close rest)))) (λ rest. punct t (p (opening format line (children (ending (close rest))))))
-    (λ rest. list_in_parts (writes_then env (punct t) p (token_of Punctuator (spelling Punctuator t) ∷ []) [] (writes_punct env t (mark_spelled t w) w.ascii) h) format parent place part x xs (close rest))
+    (λ maps rest. list_in_parts (writes_then env (punct t) p (token_of Punctuator (spelling Punctuator t) ∷ []) [] (writes_punct env t (mark_spelled t w) w.ascii) h) format parent place part x xs maps (close rest))
     (then (prints_bracket env t w p h format line) (then (then (prints_children env format line place part e law c x xs) (ends last)) closed))
 
 -- Without a trailing comma: `{ a, b }`.
@@ -297,7 +298,7 @@ prints_bracketed env t w p h format parent place part e after close law c f a cl
     let children : Part = children_after format line place part x xs in
     let ending : Part = list_closing format parent last in
     prints_same (λ rest. punct t (p (list format parent (children_of place part (x ∷ xs)) (close rest)))) (λ rest. punct t (p (opening format line (children (ending (close rest))))))
-    (λ rest. list_in_parts (writes_then env (punct t) p (token_of Punctuator (spelling Punctuator t) ∷ []) [] (writes_punct env t (mark_spelled t w) w.ascii) h) format parent place part x xs (close rest))
+    (λ maps rest. list_in_parts (writes_then env (punct t) p (token_of Punctuator (spelling Punctuator t) ∷ []) [] (writes_punct env t (mark_spelled t w) w.ascii) h) format parent place part x xs maps (close rest))
     (then (prints_bracket env t w p h format line) (then (before (prints_children env format line place part e law c x xs) (writes_closing env format parent last f a)) closed))
 
 -- ---- lists without delimiters, as statements of a block
@@ -308,11 +309,11 @@ more_in_order env format place part e law u previous [] = prints_wider loose ref
 more_in_order env format place part e law u previous (x ∷ xs) =
     let line : Bool = separating_line env.lines format previous (place x) in
     let more : Part = more_children format (place x) (children_of place part xs) in
-    prints_same (more_children format previous (children_of place part (x ∷ xs))) (λ rest. separator format line (part x (child_comments format line (place x) (more rest)))) (λ rest. refl)
+    prints_same (more_children format previous (children_of place part (x ∷ xs))) (λ rest. separator format line (part x (child_comments format line (place x) (more rest)))) (λ maps rest. refl)
     (behind (writes_separator env format line u) (then (prints_child env format line (record { place = place x; part = part x }) (law x)) (more_in_order env format place part e law u (place x) xs)))
 
 no_comma_undelimited : (env : Env) (format : ℕ) (parent : Span) → IsUndelimited format → Fills env (trailing_comma format parent)
-no_comma_undelimited env format parent u = writes_same env (trailing_comma format parent) (λ rest. rest) [] (λ rest. left_out_same format parent rest env (ap (λ b. b && not (can_skip_trailing_comma format && env.config.minify)) u.no_comma)) (writes_nothing env)
+no_comma_undelimited env format parent u = writes_same env (trailing_comma format parent) (λ rest. rest) [] (λ maps rest. left_out_same format parent rest (at_maps maps env) (ap (λ b. b && not (can_skip_trailing_comma format && env.config.minify)) u.no_comma)) (writes_nothing env)
 
 closing_undelimited : (env : Env) (format : ℕ) (parent last : Span) → IsUndelimited format → EndsLines env (list_closing format parent last)
 unfolding list_closing
@@ -326,7 +327,7 @@ prints_in_order env format parent place part e law u i (x ∷ xs) =
     let line : Bool = leading_line env.lines format parent (place x) in
     let last : Span = last_place (place x) (children_of place part xs) in
     let ending : Part = list_closing format parent last in
-    prints_same (list format parent (children_of place part (x ∷ xs))) (λ rest. opening format line (children_after format line place part x xs (ending rest))) (λ rest. list_in_parts (writes_nothing env) format parent place part x xs rest)
+    prints_same (list format parent (children_of place part (x ∷ xs))) (λ rest. opening format line (children_after format line place part x xs (ending rest))) (λ maps rest. list_in_parts (writes_nothing env) format parent place part x xs maps rest)
     (behind (writes_opening env format line i)
     (then (prints_child env format line (record { place = place x; part = part x }) (law x)) (before (more_in_order env format place part e law u (place x) xs) (closing_undelimited env format parent last u))))
 
@@ -340,7 +341,7 @@ prints_bracketed_in_order env t w p h format parent place part e after close law
     let last : Span = last_place (place x) (children_of place part xs) in
     let ending : Part = list_closing format parent last in
     prints_same (λ rest. punct t (p (list format parent (children_of place part (x ∷ xs)) (close rest)))) (λ rest. punct t (p (opening format line (children_after format line place part x xs (ending (close rest))))))
-    (λ rest. list_in_parts (writes_then env (punct t) p (token_of Punctuator (spelling Punctuator t) ∷ []) [] (writes_punct env t (mark_spelled t w) w.ascii) h) format parent place part x xs (close rest))
+    (λ maps rest. list_in_parts (writes_then env (punct t) p (token_of Punctuator (spelling Punctuator t) ∷ []) [] (writes_punct env t (mark_spelled t w) w.ascii) h) format parent place part x xs maps (close rest))
     (then (prints_bracket env t w p h format line)
     (then (then (prints_child env format line (record { place = place x; part = part x }) (law x)) (before (more_in_order env format place part e law u (place x) xs) (closing_undelimited env format parent last u))) closed))
 
@@ -350,14 +351,16 @@ prints_bracketed_in_order env t w p h format parent place part e after close law
 prints_asked : {i : Shape} {env : Env} {f : Phrase} (p : Part) → IsAmong env.config f OptionalComma → PrintsAt i env p f → PrintsAt (join open_ i) env (λ rest. step (Remake true) (p rest)) OptionalComma
 unfolding is_possible is_out may_make_text names_in holds_string
 prints_asked {env = env} {f = f} p i h = record {
-  where_possible = λ w o.
-      let a = h.where_possible (i.possible ∙ w) (i.out ∙ o) in
-      let m = writes_remake env true in
+  where_possible = λ w o maps.
+      let v : Env = at_maps maps env in
+      let m = (writes_remake env true).from maps in
+      let a = h.where_possible (i.possible ∙ w) (i.out ∙ o) (maps_after m.steps maps) in
       record {
         tokens = a.tokens;
         generated = i.generates a.tokens a.generated;
-        writes = writes_then env (step (Remake true)) p [] a.tokens m a.writes;
-        named = subst (λ ns. NamedBy env (λ rest. step (Remake true) (p rest)) ns) i.names (names_then p [] (names_in f) m (no_names env (step (Remake true))) a.named);
+        writes = from_both v (step (Remake true)) p [] a.tokens m a.writes;
+        named = subst (λ ns. NamedBy v (λ rest. step (Remake true) (p rest)) ns) i.names (names_then p [] (names_in f) m (no_names v (step (Remake true))) a.named);
+        placed = placed_after p OptionalComma a.tokens m (placed_among i a.placed);
         safe = safe_then p m (no_strings m refl) a.safe;
       };
   where_out = λ w o. absurd (true≢false (sym o));
@@ -374,8 +377,8 @@ nowhere_same parent rest env h = picked (parent.lo.0 == 0) rest _ env h
 
 prints_source_comma : (env : Env) (parent : Span) → PrintsAt open_ env (source_comma parent) OptionalComma
 prints_source_comma env parent = elim (cases_Bool (parent.lo.0 == 0)) [
-  | inl none ↦ prints_same (source_comma parent) (λ rest. rest) (λ rest. nowhere_same parent rest env none) (prints_no_comma prints_nothing)
-  | inr some ↦ prints_same (source_comma parent) (λ rest. step (Remake true) (comma_if (source_has_comma (env.lines.snippet parent)) rest)) (λ rest. source_same parent rest env some) (prints_read env (source_has_comma (env.lines.snippet parent)))
+  | inl none ↦ prints_same (source_comma parent) (λ rest. rest) (λ maps rest. nowhere_same parent rest (at_maps maps env) none) (prints_no_comma prints_nothing)
+  | inr some ↦ prints_same (source_comma parent) (λ rest. step (Remake true) (comma_if (source_has_comma (env.lines.snippet parent)) rest)) (λ maps rest. source_same parent rest (at_maps maps env) some) (prints_read env (source_has_comma (env.lines.snippet parent)))
 ]
 
 allowed_same : (format : ℕ) (parent : Span) (rest : Plan) (env : Env) → forces_trailing_comma format ≡ false → allows_trailing_comma format ≡ true → wanted_comma format parent rest env ≡ source_comma parent rest env
@@ -384,8 +387,8 @@ allowed_same format parent rest env f a = passed_over (forces_trailing_comma for
 
 prints_allowed_comma : (env : Env) (format : ℕ) (parent : Span) → forces_trailing_comma format ≡ false → allows_trailing_comma format ≡ true → PrintsAt open_ env (trailing_comma format parent) OptionalComma
 prints_allowed_comma env format parent f a = elim (cases_Bool (may_have_comma format env.config)) [
-  | inl some ↦ prints_same (trailing_comma format parent) (source_comma parent) (λ rest. written_same format parent rest env some ∙ allowed_same format parent rest env f a) (prints_source_comma env parent)
-  | inr none ↦ prints_same (trailing_comma format parent) (λ rest. rest) (λ rest. left_out_same format parent rest env none) (prints_no_comma prints_nothing)
+  | inl some ↦ prints_same (trailing_comma format parent) (source_comma parent) (λ maps rest. written_same format parent rest (at_maps maps env) some ∙ allowed_same format parent rest (at_maps maps env) f a) (prints_source_comma env parent)
+  | inr none ↦ prints_same (trailing_comma format parent) (λ rest. rest) (λ maps rest. left_out_same format parent rest (at_maps maps env) none) (prints_no_comma prints_nothing)
 ]
 
 -- `[a, ] = b`

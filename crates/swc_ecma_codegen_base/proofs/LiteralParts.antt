@@ -18,7 +18,7 @@ use Rattle.swc_ecma_codegen_text_writer.specs.Sheet.{Sheet, Lit, StrLit, Punct, 
 use Rattle.swc_ecma_codegen_literals.specs.AsciiNames.{is_ascii_text}
 use Rattle.swc_ecma_codegen_literals.specs.ValidNames.{has_byte}
 use Rattle.swc_ecma_codegen_base.specs.Ascii.{is_strict, is_kept_directive, is_kept, is_other, is_kept_piece, is_other_piece, is_kept_end, is_other_end, is_other_value, keeps_other, are_ascii, keeps_tokens}
-use Rattle.swc_ecma_codegen_base.specs.Run.{Env, State, Step, Guard, Token, Plain, Ends, put, run, step, spelling, text_of, after_tokens, after_plain, makes_text}
+use Rattle.swc_ecma_codegen_base.specs.Run.{maps_after, after_step, Env, State, Step, Guard, Token, Plain, Ends, put, run, step, spelling, text_of, after_tokens, after_plain, makes_text}
 use Rattle.swc_ecma_codegen_base.specs.Scripts.{is_string_call}
 use Rattle.swc_ecma_codegen_base.specs.Starts.{start_class}
 use Rattle.swc_ecma_codegen_base.specs.Words.{start_of, leading_comments, commit_pending_semi}
@@ -31,13 +31,13 @@ use Rattle.swc_ecma_codegen_base.proofs.NumeralTexts.{numeric_ascii, ascii_by_ch
 use Rattle.swc_ecma_codegen_base.proofs.Starting.{same_beginning, sample}
 use Rattle.swc_ecma_codegen_base.proofs.Written.{Lays, lays_then, lays_settled, lays_guard, settle, settle_rest, after_guard, Spelled}
 use Rattle.swc_ecma_codegen_base.proofs.Texts.{Adds, adds_written, adds_literal, adds_more, owns, SpelledAs, spelled_one, lays_texts}
-use Rattle.swc_ecma_codegen_base.proofs.Printed.{chain, no_text, Makes, Writes, writes_then, writes_step, writes_two, writes_position, writes_commit, writes_leading, Fills}
+use Rattle.swc_ecma_codegen_base.proofs.Printed.{takes_none, makes_silently, chain, no_text, Makes, Writes, writes_then, writes_step, writes_two, writes_position, writes_commit, writes_leading, Fills}
 
 -- ---- what stands before a literal
 
 pub writes_guard : (env : Env) (t : List ℕ) → Fills env (step (Guard t))
-unfolding makes_text levels are_ascii has_string is_string_call
-writes_guard env t = writes_step env (Guard t) [] (λ s r. lays_guard t s r) (omega arith) (hands_ascii env _ [] refl no_text)
+unfolding makes_text levels are_ascii has_string is_string_call takes_none
+writes_guard env t = writes_step env (Guard t) [] refl (λ s r. lays_guard t s r) (omega arith) (hands_ascii env _ [] refl no_text)
 
 pub writes_begun : (env : Env) (span : Span) (t : List ℕ) → Fills env (words.begun span t)
 unfolding words.begun
@@ -81,8 +81,8 @@ unfolding put effect text_of owns tokens_of after_tokens
 literal_lays kind span t s p r = lays_guarded ((kind, t) ∷ []) t t s _ (spelled_one kind t p) refl r (literal_adds span t (settled (put (Guard t) s).sheet) p.some) refl
 
 literal_handed : (env : Env) (kind : Kind) (span : Span) (t : List ℕ) → Spelled kind t → Hands env (Guard t ∷ Token kind (StrLit span t) ∷ []) (token_of kind (spelling kind t) ∷ []) → Writes env (λ rest. step (Guard t) (step (Token kind (StrLit span t)) rest)) (token_of kind (spelling kind t) ∷ [])
-unfolding makes_text levels rise
-literal_handed env kind span t p a = writes_two env (Guard t) (Token kind (StrLit span t)) _ (λ s r. literal_lays kind span t s p r) (omega arith) a
+unfolding makes_text levels rise takes_none
+literal_handed env kind span t p a = writes_two env (Guard t) (Token kind (StrLit span t)) _ refl (λ s r. literal_lays kind span t s p r) (omega arith) a
 
 -- in ASCII
 pub literal_token : (env : Env) (kind : Kind) (span : Span) (t : List ℕ) → Spelled kind t → is_ascii_text t ≡ true → Writes env (λ rest. step (Guard t) (step (Token kind (StrLit span t)) rest)) (token_of kind (spelling kind t) ∷ [])
@@ -126,8 +126,8 @@ unfolding put effect
 number_lays xs t s p some r = lays_guarded xs t t s _ p refl r (literal_adds dummy_span t (settled (put (Guard t) s).sheet) some) refl
 
 pub writes_number : (env : Env) (t : List ℕ) → SpelledAs (words.signed Number t) t → (t ≡ [] → ⊥) → is_ascii_text t ≡ true → Writes env (words.number t) (tokens_of (owns (words.signed Number t)))
-unfolding words.number makes_text levels rise are_ascii has_string is_string_call text_of
-writes_number env t p some a = writes_two env (Guard t) (Ends (words.signed Number t) (StrLit dummy_span t)) _ (λ s r. number_lays (words.signed Number t) t s p some r) (omega arith) (hands_ascii env _ _ (and_from (is_ascii_text t) true a refl) no_text)
+unfolding words.number makes_text levels rise are_ascii has_string is_string_call text_of takes_none
+writes_number env t p some a = writes_two env (Guard t) (Ends (words.signed Number t) (StrLit dummy_span t)) _ refl (λ s r. number_lays (words.signed Number t) t s p some r) (omega arith) (hands_ascii env _ _ (and_from (is_ascii_text t) true a refl) no_text)
 
 -- ---- one text by two calls
 
@@ -158,17 +158,17 @@ big_lays xs span t s p e some r =
     lays_guarded xs (t ++ codes "n") t s _ p e r (adds_more t (codes "n") (settled there.sheet) mid _ h k) refl
 
 -- three steps
-writes_three : (env : Env) (x y z : Step) (ts : List lexical.Token) → ((s : State) → AtRest s → Lays ts s (put z (put y (put x s)))) → levels (x ∷ y ∷ z ∷ []) ≡ 0 → Hands env (x ∷ y ∷ z ∷ []) ts → Makes env (λ rest. step x (step y (step z rest))) ts (makes_text (x ∷ y ∷ z ∷ []))
-unfolding step chain run
-writes_three env x y z ts h k a = record { steps = x ∷ y ∷ z ∷ []; is_steps = λ rest. refl; lays = h; remakes = λ e. e; deep = omega (arith, k); hands = a }
+writes_three : (env : Env) (x y z : Step) (ts : List lexical.Token) → takes_none (x ∷ y ∷ z ∷ []) ≡ true → ((s : State) → AtRest s → Lays ts s (put z (put y (put x s)))) → levels (x ∷ y ∷ z ∷ []) ≡ 0 → Hands env (x ∷ y ∷ z ∷ []) ts → Makes env (λ rest. step x (step y (step z rest))) ts (makes_text (x ∷ y ∷ z ∷ []))
+unfolding step chain run maps_after
+writes_three env x y z ts n h k a = makes_silently env (λ rest. step x (step y (step z rest))) (x ∷ y ∷ z ∷ []) ts n (λ maps rest. refl) h (λ e. e) (omega (arith, k)) a
 
 pub writes_dotted : (env : Env) (t : List ℕ) → SpelledAs (words.signed Number (t ++ codes ".")) (t ++ codes ".") → start_class (chars (t ++ codes ".")) ≡ start_class (chars t) → (t ≡ [] → ⊥) → is_ascii_text t ≡ true → Writes env (words.dotted_number t) (tokens_of (owns (words.signed Number (t ++ codes "."))))
-unfolding words.dotted_number makes_text levels rise are_ascii has_string is_string_call text_of
-writes_dotted env t p e some a = writes_three env (Guard t) (Plain (StrLit dummy_span t)) (Ends (words.signed Number (t ++ codes ".")) (Punct None (codes "."))) _ (λ s r. dotted_lays (words.signed Number (t ++ codes ".")) t s p e some r) refl (hands_ascii env _ _ (and_from (is_ascii_text t) true a refl) no_text)
+unfolding words.dotted_number makes_text levels rise are_ascii has_string is_string_call text_of takes_none
+writes_dotted env t p e some a = writes_three env (Guard t) (Plain (StrLit dummy_span t)) (Ends (words.signed Number (t ++ codes ".")) (Punct None (codes "."))) _ refl (λ s r. dotted_lays (words.signed Number (t ++ codes ".")) t s p e some r) refl (hands_ascii env _ _ (and_from (is_ascii_text t) true a refl) no_text)
 
 pub writes_big_digits : (env : Env) (span : Span) (t : List ℕ) → SpelledAs (words.signed BigInt (t ++ codes "n")) (t ++ codes "n") → start_class (chars (t ++ codes "n")) ≡ start_class (chars t) → (t ≡ [] → ⊥) → is_ascii_text t ≡ true → Writes env (words.big_digits span t) (tokens_of (owns (words.signed BigInt (t ++ codes "n"))))
-unfolding words.big_digits makes_text levels rise are_ascii has_string is_string_call text_of
-writes_big_digits env span t p e some a = writes_three env (Guard t) (Plain (Lit span t)) (Ends (words.signed BigInt (t ++ codes "n")) (Lit span (codes "n"))) _ (λ s r. big_lays (words.signed BigInt (t ++ codes "n")) span t s p e some r) refl (hands_ascii env _ _ (and_from (is_ascii_text t) true a refl) no_text)
+unfolding words.big_digits makes_text levels rise are_ascii has_string is_string_call text_of takes_none
+writes_big_digits env span t p e some a = writes_three env (Guard t) (Plain (Lit span t)) (Ends (words.signed BigInt (t ++ codes "n")) (Lit span (codes "n"))) _ refl (λ s r. big_lays (words.signed BigInt (t ++ codes "n")) span t s p e some r) refl (hands_ascii env _ _ (and_from (is_ascii_text t) true a refl) no_text)
 
 -- ---- a regular expression
 
@@ -238,12 +238,5 @@ regex_handed env exp flags p = record {
 }
 
 pub writes_regex : (env : Env) (exp flags : List ℕ) → Spelled Regex (words.regex_text exp flags) → start_class (chars (words.regex_text exp flags)) ≡ start_class (chars (codes "/")) → Writes env (words.regex exp flags) (token_of Regex (spelling Regex (words.regex_text exp flags)) ∷ [])
-unfolding words.regex regex_calls regex_steps step chain run makes_text levels rise
-writes_regex env exp flags p e = record {
-  steps = regex_steps exp flags;
-  is_steps = λ rest. refl;
-  lays = λ s r. regex_lays exp flags s p e r;
-  remakes = λ h. h;
-  deep = omega (arith);
-  hands = regex_handed env exp flags p;
-}
+unfolding words.regex regex_calls regex_steps step chain run makes_text levels rise takes_none maps_after after_step
+writes_regex env exp flags p e = makes_silently env (words.regex exp flags) (regex_steps exp flags) _ refl (λ maps rest. refl) (λ s r. regex_lays exp flags s p e r) (λ h. h) (omega (arith)) (regex_handed env exp flags p)

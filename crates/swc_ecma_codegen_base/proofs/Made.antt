@@ -12,7 +12,7 @@ use Rattle.swc_ecma_codegen_ast.specs.Settings.{Settings, is_up_to_es5}
 use Rattle.swc_ecma_codegen_ast.specs.Phrases.{Phrase, Never, Nothing, One, NameOf, KeyOf, PrivateOf, Then, OptionalComma, OptionalParentheses, Chosen, EmptyArguments, LoopEnding, AttributesWord, in_parentheses, close_parenthesis, Generates, chosen, is_possible}
 use Rattle.swc_ecma_codegen_base.specs.declared.refusals.Unprintable.TheVariants.{UnsupportedNode, BadShape, NameOutOfTarget}
 use Rattle.swc_ecma_codegen_base.specs.Targets.{is_out}
-use Rattle.swc_ecma_codegen_base.specs.Run.{Env, Plan, Part, Step, State, run, steps_of, unprintable_in, nothing, Follows, HasCause, PassesLimit, IsUnhindered, earlier, stopped, reached}
+use Rattle.swc_ecma_codegen_base.specs.Run.{Env, at_maps, maps_after, put, Plan, Part, Step, State, run, steps_of, unprintable_in, nothing, Follows, HasCause, PassesLimit, IsUnhindered, earlier, stopped, reached}
 use Rattle.swc_ecma_codegen_base.specs.Settings.{settings_of}
 use Rattle.swc_ecma_codegen_base.specs.Ready.{token_count, IsPlainTree, IsReady}
 use Rattle.swc_ecma_codegen_base.proofs.Emitting.{put_failed, put_env}
@@ -58,12 +58,12 @@ counted s (Chosen AttributesWord) ts g = let e = ap length g in omega (arith, e)
 -- each node of a well-formed tree can be printed, whose names can
 pub printable : {i : Shape} (p : Part) (f : Phrase) (env : Env) → PrintsAt i env p f → is_possible f ≡ true → is_out env.config f ≡ false → unprintable_in (p nothing env) ≡ None
 unfolding nothing unprintable_in
-printable p f env prints w o = goes_on (prints.where_possible w o).writes nothing
+printable p f env prints w o = goes_on (prints.where_possible w o env.maps).writes nothing
 
 -- so it comes to such a node exactly where some name can't be
 pub ends_where_out : {i : Shape} (p : Part) (f : Phrase) (env : Env) → PrintsAt i env p f → is_possible f ≡ true → unprintable_in (p nothing env) ≡ (if is_out env.config f then Some NameOutOfTarget else None)
 ends_where_out p f env prints w = elim (cases_Bool (is_out env.config f)) [
-  | inl o ↦ prints.where_out w o nothing ∙ ap (λ b. cond b (Some NameOutOfTarget) None) (sym o)
+  | inl o ↦ prints.where_out w o env.maps nothing ∙ ap (λ b. cond b (Some NameOutOfTarget) None) (sym o)
   | inr o ↦ printable p f env prints w o ∙ ap (λ b. cond b (Some NameOutOfTarget) None) (sym o)
 ]
 
@@ -83,7 +83,7 @@ follows_out_of_target p f a b prints w h =
 -- and no other node of a well-formed tree can't be printed
 pub only_out : {i : Shape} (p : Part) (f : Phrase) (env : Env) (r : Unprintable) → PrintsAt i env p f → is_possible f ≡ true → unprintable_in (p nothing env) ≡ Some r → r ≡ NameOutOfTarget
 only_out p f env r prints w k = elim (cases_Bool (is_out env.config f)) [
-  | inl o ↦ let z = sym k ∙ prints.where_out w o nothing in cc
+  | inl o ↦ let z = sym k ∙ prints.where_out w o env.maps nothing in cc
   | inr o ↦ let z = sym k ∙ printable p f env prints w o in absurd (cc)
 ]
 
@@ -99,7 +99,7 @@ follows_supported p f a b prints w h = let z = only_out p f a.env UnsupportedNod
 pub within : {i : Shape} (p : Part) (f : Phrase) (a : State) → PrintsAt i a.env p f → is_possible f ≡ true → is_out a.env.config f ≡ false → a.sheet.indentation + token_count f < 2 ^ 32 → PassesLimit (steps_of (p nothing a.env)) a → ⊥
 unfolding nothing
 within p f a prints w o room =
-    let h = prints.where_possible w o in
+    let h = prints.where_possible w o a.env.maps in
     let same : steps_of (p nothing a.env) ≡ h.writes.steps = ap steps_of (h.writes.is_steps nothing) ∙ steps_of_chain h.writes.steps in
     let deep = h.writes.deep in
     let count = counted (settings_of a.env.config) f h.tokens h.generated in
@@ -128,10 +128,11 @@ unfolding run
 run_failed [] a = refl
 run_failed (x ∷ xs) a = run_failed xs _ ∙ put_failed x a
 
-pub run_env : (xs : List Step) (a : State) → (run xs a).env ≡ a.env
-unfolding run
+-- only the comments that are still to be taken may be others
+pub run_env : (xs : List Step) (a : State) → (run xs a).env ≡ at_maps (maps_after xs a.env.maps) a.env
+unfolding run maps_after
 run_env [] a = refl
-run_env (x ∷ xs) a = run_env xs _ ∙ put_env x a
+run_env (x ∷ xs) a = run_env xs (put x a) ∙ ap (λ (z : Env). at_maps (maps_after xs z.maps) z) (put_env x a)
 
 run_ready : (xs : List Step) (a : State) → IsReady a → IsReady (run xs a)
 run_ready xs a s =

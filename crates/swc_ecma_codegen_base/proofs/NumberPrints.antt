@@ -33,7 +33,7 @@ use Rattle.swc_ecma_codegen_base.specs.Escapes.{is_spelled_anew}
 use Rattle.swc_ecma_codegen_base.specs.Lits.{begun_in, between_dots, before_property, by_value, decimal_text, infinity, infinity_text, is_finite, is_named, joined, makes_number, named_number, not_a_number, number_at, number_by, number_lit, number_object, number_text, object_by, prints_number_raw, raw_is, raw_text, spelled_number, spelled_object, suits}
 use Rattle.swc_ecma_codegen_base.specs.Literals as words
 use Rattle.swc_ecma_codegen_base.specs.Literals.{size_of}
-use Rattle.swc_ecma_codegen_base.specs.Run.{Env, Guard, Part, Remake, Token, spelling, step}
+use Rattle.swc_ecma_codegen_base.specs.Run.{at_maps, Env, Guard, Part, Remake, Token, spelling, step}
 use Rattle.swc_ecma_codegen_base.specs.Scripts.{is_str}
 use Rattle.swc_ecma_codegen_base.specs.Words.{leading_comments}
 use Rattle.swc_ecma_codegen_base.proofs.LitTexts.{IsRawOf, SignedToken, joined_raw, number_signed, signed_class, signed_size, signed_spelled, signed_tokens, signed_written, some_signed, with_dot}
@@ -164,7 +164,7 @@ unfolding spelled_number number_text prints_number_raw written_text phrases.numb
 prints_spelled env in_lit n e =
     let due : Bool = makes_number env.config n in
     let p : List ℕ → Part = λ t rest. step (Remake due) (number_by in_lit n.span t rest) in
-    prints_same (spelled_number in_lit n) (p (number_text env.config n)) (λ rest. refl)
+    prints_same (spelled_number in_lit n) (p (number_text env.config n)) (λ maps rest. refl)
     (spelled_case env p (λ value negative t h. prints_signed Number value negative refl refl (makes_remade due (writes_number_by env in_lit n.span value negative t h))) n.value n.raw e)
 
 -- ---- numbers that are names
@@ -222,8 +222,8 @@ prints_named env in_lit span NaN None e = prints_nan env in_lit span
 pub prints_number_at : (env : Env) (in_lit : Bool) (n : trees.Number) → Prints env (number_at in_lit n) (phrases.number n)
 unfolding number_at is_named phrases.number
 prints_number_at env in_lit n = elim (cases_Bool (is_none n.raw && not (is_finite n.value))) [
-  | inl e ↦ prints_same (number_at in_lit n) (named_number in_lit n.span n.value) (λ rest. ap (λ b. cond b (named_number in_lit n.span n.value rest) (spelled_number in_lit n rest) env) e) (prints_named env in_lit n.span n.value n.raw e)
-  | inr e ↦ prints_same (number_at in_lit n) (spelled_number in_lit n) (λ rest. ap (λ b. cond b (named_number in_lit n.span n.value rest) (spelled_number in_lit n rest) env) e) (prints_spelled env in_lit n e)
+  | inl e ↦ prints_same (number_at in_lit n) (named_number in_lit n.span n.value) (λ maps rest. ap (λ b. cond b (named_number in_lit n.span n.value rest) (spelled_number in_lit n rest) (at_maps maps env)) e) (prints_named env in_lit n.span n.value n.raw e)
+  | inr e ↦ prints_same (number_at in_lit n) (spelled_number in_lit n) (λ maps rest. ap (λ b. cond b (named_number in_lit n.span n.value rest) (spelled_number in_lit n rest) (at_maps maps env)) e) (prints_spelled env in_lit n e)
 ]
 
 -- a numeric literal
@@ -257,13 +257,13 @@ unfolding spelled_object number_text prints_number_raw written_text phrases.numb
 prints_spelled_object env n pos e =
     let due : Bool = makes_number env.config n in
     let p : List ℕ → Part = λ t rest. step (Remake due) (object_by n.span pos t rest) in
-    prints_same (spelled_object n pos) (p (number_text env.config n)) (λ rest. refl)
+    prints_same (spelled_object n pos) (p (number_text env.config n)) (λ maps rest. refl)
     (spelled_case env p (λ value negative t h. prints_signed Number value negative refl refl (makes_remade due (writes_object_by env n.span pos value negative t h))) n.value n.raw e)
 
 -- with its own dot where the next one would be read into it, it is the same number
 pub prints_number_object : (env : Env) (n : trees.Number) (pos : BytePos) → Prints env (number_object n pos) (phrases.number n)
 unfolding number_object is_named phrases.number
 prints_number_object env n pos = elim (cases_Bool (is_none n.raw && not (is_finite n.value))) [
-  | inl e ↦ prints_same (number_object n pos) (named_number false n.span n.value) (λ rest. ap (λ b. cond b (named_number false n.span n.value rest) (spelled_object n pos rest) env) e) (prints_named env false n.span n.value n.raw e)
-  | inr e ↦ prints_same (number_object n pos) (spelled_object n pos) (λ rest. ap (λ b. cond b (named_number false n.span n.value rest) (spelled_object n pos rest) env) e) (prints_spelled_object env n pos e)
+  | inl e ↦ prints_same (number_object n pos) (named_number false n.span n.value) (λ maps rest. ap (λ b. cond b (named_number false n.span n.value rest) (spelled_object n pos rest) (at_maps maps env)) e) (prints_named env false n.span n.value n.raw e)
+  | inr e ↦ prints_same (number_object n pos) (spelled_object n pos) (λ maps rest. ap (λ b. cond b (named_number false n.span n.value rest) (spelled_object n pos rest) (at_maps maps env)) e) (prints_spelled_object env n pos e)
 ]

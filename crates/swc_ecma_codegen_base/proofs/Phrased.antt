@@ -1,8 +1,8 @@
 -- What each word writes is one of the token lists of a phrase.
-use Rattle.std.proofs.Common.{◌≡◌, ◌≢◌, ℕ, Bool, true, false, cond, List, [], ◌∷◌, ◌++◌, ◌&&◌, ◌||◌, ◌==◌, codes, refl, sym, ap, ◌∙◌, subst, append_assoc, append-nil, inl, inr, Option, Some, None, Result, Ok, Err, OnOk, IfErr}
+use Rattle.std.proofs.Common.{◌≡◌, ◌≢◌, ℕ, Bool, true, false, cond, List, [], ◌∷◌, ◌++◌, length, ◌&&◌, ◌||◌, ◌==◌, codes, refl, sym, ap, ◌∙◌, subst, append_assoc, append-nil, inl, inr, Option, Some, None, Result, Ok, Err, OnOk, IfErr}
 use Rattle.std.specs.List.{repeat}
 use Rattle.std.specs.Str.{chars, is_utf8}
-use Rattle.std.proofs.lemmas.Bool.{and_parts, or_from, or_parts, false_from_ne_true, true≢false}
+use Rattle.std.proofs.lemmas.Bool.{and_from, and_parts, or_from, or_parts, false_from_ne_true, true≢false}
 use Rattle.swc_ecma_codegen_common.specs.declared.errors.Error.{Error}
 use Rattle.swc_ecma_codegen_common.specs.declared.errors.Error.TheVariants as errors
 use Rattle.swc_ecma_codegen_common.specs.declared.errors.Refusal.{Refusal}
@@ -11,10 +11,15 @@ use Rattle.swc_ecma_codegen_common.specs.declared.positions.Span.{Span}
 use Rattle.swc_ecma_codegen_ast.specs.declared.kinds.Kind.TheVariants.{Word, Name, Punctuator}
 use Rattle.swc_ecma_codegen_ast.specs.Tokens as lexical
 use Rattle.swc_ecma_codegen_ast.specs.Tokens.{token_of, value_of}
-use Rattle.swc_ecma_codegen_ast.specs.Names.{is_word, is_name}
+use Rattle.swc_ecma_codegen_ast.specs.Names.{is_word, is_name, name_value}
 use Rattle.swc_ecma_codegen_ast.specs.Punctuators.{is_punctuator, punctuators}
 use Rattle.swc_ecma_codegen_ast.specs.Texts.{is_same, is_among}
 use Rattle.swc_ecma_codegen_ast.specs.Reads.{Reads}
+use Rattle.swc_ecma_codegen_ast.specs.CommentMaps.{Maps, without, without_leading, without_trailing}
+use Rattle.swc_ecma_codegen_ast.specs.Trivia.{Remark}
+use Rattle.swc_ecma_codegen_ast.specs.declared.comments.Comment.{Comment}
+use Rattle.swc_ecma_codegen_ast.specs.CommentMaps.{listed}
+use Rattle.swc_ecma_codegen_ast.specs.Comments.{Side, Leading, Trailing, AreClosed, comments_at, taken_out, remarks_of, texts_of, all_closed, all_tame}
 use Rattle.swc_ecma_codegen_ast.specs.GapRules.{Start, allows}
 use Rattle.swc_ecma_codegen_ast.specs.Parts as parts
 use Rattle.swc_ecma_codegen_ast.specs.Parts.{OfLine, OnLine, KeepsLines, walk, is_broken, Gap, NoneFuse, Reduced, IsEnding, tokens_of, remarks_in}
@@ -36,13 +41,13 @@ use Rattle.swc_ecma_codegen_literals.specs.AsciiNames.{is_ascii_text}
 use Rattle.swc_ecma_codegen_literals.proofs.NameTexts.{ascii_chars}
 use Rattle.swc_ecma_codegen_literals.proofs.SpelledTexts.{ascii_from_all}
 use Rattle.swc_ecma_codegen_base.specs.declared.refusals.Unprintable.TheVariants.{NameOutOfTarget}
-use Rattle.swc_ecma_codegen_base.specs.Run.{Env, Plan, Part, State, Step, Guard, Token, Plain, Remake, Steps, done, step, steps_of, unprintable_in, refuse, run, nothing, spelling, Follows, HasCause, has_backslash, makes_text}
+use Rattle.swc_ecma_codegen_base.specs.Run.{Env, Plan, Part, State, Step, Guard, Token, Plain, Remake, Ends, Take, CommentText, at_maps, after_step, maps_after, taken_by, taken_in, spoken, Steps, done, step, steps_of, unprintable_in, refuse, run, nothing, spelling, Follows, HasCause, has_backslash, makes_text}
 use Rattle.swc_ecma_codegen_base.specs.Settings.{settings_of}
 use Rattle.swc_ecma_codegen_base.specs.Targets.{written_as, wants_escapes, is_out_name, written_name, is_out}
-use Rattle.swc_ecma_codegen_base.specs.Words.{keyword, operator, word_operator, punct, placed_punct, semi, commit_pending_semi, position, symbol, valid_symbol, name_text, question, name}
-use Rattle.swc_ecma_codegen_base.specs.Written.{AtRest, is_free, holds_one, IsNew, IsAtMargin, ReadsAs, AddsText, AddsReading, IsWord, IsMark}
+use Rattle.swc_ecma_codegen_base.specs.Words.{keyword, operator, word_operator, punct, placed_punct, semi, commit_pending_semi, position, by_maps, symbol, valid_symbol, name_text, question, name}
+use Rattle.swc_ecma_codegen_base.specs.Written.{AtRest, is_free, holds_one, IsNew, IsAtMargin, ReadsAs, AddsText, AddsReading, taken_remarks, without_joints, IsWord, IsMark}
 use Rattle.swc_ecma_codegen_base.specs.Escapes.{may_make_text}
-use Rattle.swc_ecma_codegen_base.specs.Named.{RecordsNames}
+use Rattle.swc_ecma_codegen_base.specs.Named.{RecordsNames, StandsAfter, EachName, AllStand, PlacesNames}
 use Rattle.swc_ecma_codegen_base.specs.Scripts.{is_str, strings_after, AreSafe}
 use Rattle.swc_ecma_codegen_base.proofs.Fronts.{follows_cause, run_append, run_sheet}
 use Rattle.swc_ecma_codegen_base.proofs.Hands.{has_string, holds_string}
@@ -50,12 +55,14 @@ use Rattle.swc_ecma_codegen_base.proofs.Held.{front, front_of}
 use Rattle.swc_ecma_codegen_base.proofs.Indented.{blanks}
 use Rattle.swc_ecma_codegen_base.proofs.Spelled.{valid_same, spelled_same, out_same}
 use Rattle.swc_ecma_codegen_base.proofs.Positions.{Named, named_none, named_then, named_records, name_named, name_steps, name_call, run_records}
+use Rattle.swc_ecma_codegen_base.proofs.Standing.{Reached, all_more, nameless, reached_first, reached_as, reached_then, name_stands}
 use Rattle.swc_ecma_codegen_base.proofs.ValueStrings.{none_by_value, steps_safe}
 use Rattle.swc_ecma_codegen_base.proofs.Targets.{Names, names_in_ascii, plain_not_out}
 use Rattle.swc_ecma_codegen_base.proofs.Shapes.{Shape, whole, open_, loose, unbroken_at, joining, joined, at_joint, join, is_within, met_unbroken, broken_from, walk_append}
 use Rattle.swc_ecma_codegen_base.proofs.Appended.{tokens_append}
-use Rattle.swc_ecma_codegen_base.proofs.Written.{LaysAt, Enters, held, held_of, Spelled, spelled_word, spelled_name, spelled_mark}
-use Rattle.swc_ecma_codegen_base.proofs.Printed.{MakesAt, makes_wider, writes_joined_operator, writes_joined_punct, writes_keyword_joint, chain, or_false, Writes, writes_whatever, writes_then, writes_same, writes_nothing, writes_keyword, writes_operator, writes_word_operator, writes_punct, writes_placed_punct, writes_semi, writes_commit, writes_leading, writes_name_text}
+use Rattle.swc_ecma_codegen_base.proofs.Jointless.{reads_without}
+use Rattle.swc_ecma_codegen_base.proofs.Written.{LaysWith, Enters, enters_first, enters_wider, held, held_of, Spelled, spelled_word, spelled_name, spelled_mark}
+use Rattle.swc_ecma_codegen_base.proofs.Printed.{remarks_both, MakesFrom, MakesAt, from_wider, from_same, from_both, env_after, remarks_by, remarks_append, closed_append, writes_joined_operator, writes_joined_punct, writes_keyword_joint, chain, or_false, Writes, writes_whatever, writes_then, writes_nothing, writes_keyword, writes_operator, writes_word_operator, writes_punct, writes_placed_punct, writes_semi, writes_commit, writes_leading, writes_name_text}
 
 and_assoc : (a b c : Bool) → ((a && b) && c) ≡ (a && (b && c))
 and_assoc true b c = refl
@@ -72,17 +79,21 @@ unfolding steps_of chain
 steps_of_chain [] = refl
 steps_of_chain (x ∷ xs) = ap (λ z. x ∷ z) (steps_of_chain xs)
 
-steps_of_more : (xs : List Step) (rest : Steps) → steps_of (chain xs rest) ≡ xs ++ steps_of rest
+pub steps_of_more : (xs : List Step) (rest : Steps) → steps_of (chain xs rest) ≡ xs ++ steps_of rest
 unfolding steps_of chain
 steps_of_more [] rest = refl
 steps_of_more (x ∷ xs) rest = ap (λ z. x ∷ z) (steps_of_more xs rest)
 
+steps_alone : {i : Shape} {room : ℕ} {env : Env} {p : Part} {ts : List lexical.Token} {b : Bool} (h : MakesFrom i room env p ts b) → steps_of (p nothing env) ≡ h.steps
+unfolding nothing
+steps_alone h = ap steps_of (h.is_steps nothing) ∙ steps_of_chain h.steps
+
 -- the steps of a part, and then those of another
-steps_then : {i : Shape} {env : Env} {p : Part} {ts : List lexical.Token} {b : Bool} → MakesAt i env p ts b → (q : Part) → steps_of (p (q nothing) env) ≡ steps_of (p nothing env) ++ steps_of (q nothing env)
+steps_then : {i : Shape} {room : ℕ} {env : Env} {p : Part} {ts : List lexical.Token} {b : Bool} (h : MakesFrom i room env p ts b) (q : Part) → steps_of (p (q nothing) env) ≡ steps_of (p nothing env) ++ steps_of (q nothing (env_after h.steps env))
 unfolding nothing
 steps_then {env = env} h q =
     let alone = ap steps_of (h.is_steps nothing) ∙ steps_of_chain h.steps in
-    ap steps_of (h.is_steps (q nothing)) ∙ steps_of_more h.steps (q nothing env) ∙ ap (λ z. z ++ steps_of (q nothing env)) (sym alone)
+    ap steps_of (h.is_steps (q nothing)) ∙ steps_of_more h.steps (q nothing (env_after h.steps env)) ∙ ap (λ z. z ++ steps_of (q nothing (env_after h.steps env))) (sym alone)
 
 -- Where positions are kept, the steps of a part write these names, and record the position of each where it begins.
 unfoldable pub NamedBy : Env → Part → List PlacedName → Type 0
@@ -92,48 +103,109 @@ pub no_names : (env : Env) (p : Part) → NamedBy env p []
 unfolding NamedBy
 no_names env p s k = named_none env.config s.sheet _ (run_records (steps_of (p nothing env)) s)
 
-pub names_then : {i : Shape} {env : Env} {p : Part} {ts : List lexical.Token} {b : Bool} (q : Part) (xs ys : List PlacedName) → MakesAt i env p ts b → NamedBy env p xs → NamedBy env q ys → NamedBy env (λ rest. p (q rest)) (xs ++ ys)
+pub names_then : {i : Shape} {room : ℕ} {env : Env} {p : Part} {ts : List lexical.Token} {b : Bool} (q : Part) (xs ys : List PlacedName) (h : MakesFrom i room env p ts b) → NamedBy env p xs → NamedBy (env_after h.steps env) q ys → NamedBy env (λ rest. p (q rest)) (xs ++ ys)
 unfolding NamedBy
 names_then {env = env} {p = p} q xs ys m h k s keeps =
     let here = steps_of (p nothing env) in
-    let there = steps_of (q nothing env) in
+    let there = steps_of (q nothing (env_after m.steps env)) in
     let P : List Step → Type 0 = λ z. Named env.config (xs ++ ys) s.sheet (run z s).sheet in
     let Q : State → Type 0 = λ z. Named env.config (xs ++ ys) s.sheet z.sheet in
     subst P (sym (steps_then m q)) (subst Q (sym (run_append here there s))
     (named_then env.config xs ys s.sheet (run here s).sheet (run there (run here s)).sheet (h s keeps) (k (run here s) (run_sheet (λ z. z.keeps_positions) effect_keeps_positions here s ∙ keeps))))
+
+-- Where an emission has come so far that a part may stand, and positions are kept, its steps write this list of a phrase, in which each name
+-- stands as its own token, with its position where it begins.
+pub record PlacedBy (i : Shape) (env : Env) (p : Part) (f : Phrase) (ts : List lexical.Token) : Type 0 where
+  pub stands : (a s : State) (us : List lexical.Token) → Reached i us a s → s.sheet.keeps_positions ≡ true → all_closed (remarks_by (steps_of (p nothing env)) env) ≡ true → AllStand env.config a.sheet (run (steps_of (p nothing env)) s).sheet us f ts
+
+-- a phrase without names
+pub placed_none : {i : Shape} (env : Env) (p : Part) (f : Phrase) (ts : List lexical.Token) → names_in f ≡ [] → Generates (settings_of env.config) f ts → PlacedBy i env p f ts
+placed_none env p f ts e g = record { stands = λ a s us r k c. nameless env.config a.sheet _ us f ts e g }
+
+placed_both : {i j : Shape} {room : ℕ} {env : Env} {p : Part} {ts : List lexical.Token} {b : Bool} (q : Part) (f g : Phrase) (vs : List lexical.Token) (h : MakesFrom i room env p ts b) → PlacedBy i env p f ts → PlacedBy j (env_after h.steps env) q g vs → (a s : State) (us : List lexical.Token) → Reached (join i j) us a s → s.sheet.keeps_positions ≡ true → all_closed (remarks_by (steps_of (p (q nothing) env)) env) ≡ true → AllStand env.config a.sheet (run (steps_of (p (q nothing) env)) s).sheet us f ts × AllStand env.config a.sheet (run (steps_of (p (q nothing) env)) s).sheet (us ++ ts) g vs
+placed_both {i} {j} {env = env} {p = p} {ts = ts} q f g vs h x y a s us r k c =
+    let here : List Step = h.steps in
+    let there : List Step = steps_of (q nothing (env_after here env)) in
+    let same : steps_of (p nothing env) ≡ here = steps_alone h in
+    let whole : steps_of (p (q nothing) env) ≡ here ++ there = steps_then h q ∙ ap (λ z. z ++ there) same in
+    let both : all_closed (remarks_by (here ++ there) env) ≡ true = subst (λ z. all_closed (remarks_by z env) ≡ true) whole c in
+    let rs = remarks_by here env in
+    let qs = remarks_by there (env_after here env) in
+    let closed = and_parts (all_closed rs) (all_closed qs) (sym (closed_append rs qs) ∙ ap all_closed (sym (remarks_both here there env)) ∙ both) in
+    let next : State = run here s in
+    let first : AllStand env.config a.sheet next.sheet us f ts = subst (λ z. AllStand env.config a.sheet (run z s).sheet us f ts) same (x.stands a s us (reached_as i (enters_first i j s r.enters) r) k (subst (λ z. all_closed (remarks_by z env) ≡ true) (sym same) closed.0)) in
+    let reached : Reached j (us ++ ts) a next = reached_then i j us ts a s next r (h.lays s r.rest closed.0) (run_records here s) in
+    let second : AllStand env.config a.sheet (run there next).sheet (us ++ ts) g vs = y.stands a next (us ++ ts) reached (run_sheet (λ z. z.keeps_positions) effect_keeps_positions here s ∙ k) closed.1 in
+    let P : List Step → Type 0 = λ z. AllStand env.config a.sheet (run z s).sheet us f ts × AllStand env.config a.sheet (run z s).sheet (us ++ ts) g vs in
+    let Q : State → Type 0 = λ z. AllStand env.config a.sheet z.sheet us f ts × AllStand env.config a.sheet z.sheet (us ++ ts) g vs in
+    subst P (sym whole) (subst Q (sym (run_append here there s)) (all_more env.config a.sheet next.sheet (run there next).sheet us f ts (run_records there next) first, second))
+
+pub placed_then : {i j : Shape} {room : ℕ} {env : Env} {p : Part} {ts : List lexical.Token} {b : Bool} (q : Part) (f g : Phrase) (vs : List lexical.Token) (h : MakesFrom i room env p ts b) → PlacedBy i env p f ts → PlacedBy j (env_after h.steps env) q g vs → PlacedBy (join i j) env (λ rest. p (q rest)) (Then f g) (ts ++ vs)
+unfolding EachName
+placed_then {ts = ts} q f g vs h x y = record { stands = λ a s us r k c. let z = placed_both q f g vs h x y a s us r k c in (ts, vs, z.0, z.1, refl) }
+
+-- behind or before what writes no token
+pub placed_after : {i j : Shape} {room : ℕ} {env : Env} {p : Part} {b : Bool} (q : Part) (g : Phrase) (vs : List lexical.Token) (h : MakesFrom i room env p [] b) → PlacedBy j (env_after h.steps env) q g vs → PlacedBy (join i j) env (λ rest. p (q rest)) g vs
+unfolding names_in Generates nothing
+placed_after {env = env} {p = p} q g vs h y = record {
+  stands = λ a s us r k c. subst (λ z. AllStand env.config a.sheet (run (steps_of (p (q nothing) env)) s).sheet z g vs) (append-nil us) (placed_both q Nothing g vs h (placed_none env p Nothing [] refl refl) y a s us r k c).1;
+}
+
+pub placed_before : {i : Shape} (j : Shape) {room : ℕ} {env : Env} {p : Part} {ts : List lexical.Token} {b : Bool} (q : Part) (f : Phrase) (h : MakesFrom i room env p ts b) → PlacedBy i env p f ts → PlacedBy (join i j) env (λ rest. p (q rest)) f ts
+unfolding names_in Generates
+placed_before j {env = env} {p = p} q f h x = record { stands = λ a s us r k c. (placed_both q f Nothing [] h x (placed_none {i = j} (env_after h.steps env) q Nothing [] refl refl) a s us r k c).0 }
+
+pub placed_wider : {i : Shape} (j : Shape) {env : Env} {p : Part} {f : Phrase} {ts : List lexical.Token} → is_within i j ≡ true → PlacedBy i env p f ts → PlacedBy j env p f ts
+placed_wider {i} j e x = record { stands = λ a s us r k c. x.stands a s us (reached_as i (enters_wider i j s e r.enters) r) k c }
+
+pub placed_same : {i : Shape} {f : Phrase} {ts : List lexical.Token} (env : Env) (p q : Part) → ((rest : Plan) → p rest env ≡ q rest env) → PlacedBy i env q f ts → PlacedBy i env p f ts
+placed_same {f = f} {ts = ts} env p q e x = record {
+  stands = λ a s us r k c. subst (λ (z : Steps). AllStand env.config a.sheet (run (steps_of z) s).sheet us f ts) (sym (e nothing)) (x.stands a s us r k (subst (λ (z : Steps). all_closed (remarks_by (steps_of z) env) ≡ true) (e nothing) c));
+}
+
+-- the lists of three phrases, however they are taken together
+placed_regrouped : {i : Shape} {env : Env} {p : Part} {ts : List lexical.Token} (f g h : Phrase) → PlacedBy i env p (Then (Then f g) h) ts → PlacedBy i env p (Then f (Then g h)) ts
+unfolding EachName
+placed_regrouped {env = env} {p = p} f g h x = record {
+  stands = λ a s us r k c.
+      let z = x.stands a s us r k c in
+      let P : List lexical.Token → Type 0 = λ v. AllStand env.config a.sheet (run (steps_of (p nothing env)) s).sheet v h z.1 in
+      (z.2.0, z.2.1 ++ z.1, z.2.2, (z.2.1, z.1, z.2.3, subst P (ap (λ v. us ++ v) z.2.4 ∙ sym (append_assoc us z.2.0 z.2.1)) z.3, refl), z.4 ∙ ap (λ v. v ++ z.1) z.2.4 ∙ append_assoc z.2.0 z.2.1 z.1);
+}
 
 -- Under `inline_script` the strings of a part that are printed by their value are safe, whatever was before it.
 unfoldable pub IsSafe : Env → Part → Type 0
 IsSafe env p = env.config.inline_script ≡ true → (anew : Bool) → AreSafe (strings_after anew (steps_of (p nothing env)))
 
 -- a part without strings
-pub no_strings : {i : Shape} {env : Env} {p : Part} {ts : List lexical.Token} {b : Bool} → MakesAt i env p ts b → holds_string ts ≡ false → IsSafe env p
+pub no_strings : {i : Shape} {room : ℕ} {env : Env} {p : Part} {ts : List lexical.Token} {b : Bool} → MakesFrom i room env p ts b → holds_string ts ≡ false → IsSafe env p
 unfolding IsSafe AreSafe nothing
 no_strings {env = env} {p = p} {ts = ts} h none e anew =
     let same : steps_of (p nothing env) ≡ h.steps = ap steps_of (h.is_steps nothing) ∙ steps_of_chain h.steps in
     let no : has_string h.steps ≡ false = false_from_ne_true (has_string h.steps) (λ s. true≢false (sym (h.hands.strings s) ∙ none)) in
     subst AreSafe (sym (ap (strings_after anew) same ∙ none_by_value anew h.steps no)) tt
 
-pub safe_then : {i : Shape} {env : Env} {p : Part} {ts : List lexical.Token} {b : Bool} (q : Part) → MakesAt i env p ts b → IsSafe env p → IsSafe env q → IsSafe env (λ rest. p (q rest))
+pub safe_then : {i : Shape} {room : ℕ} {env : Env} {p : Part} {ts : List lexical.Token} {b : Bool} (q : Part) (h : MakesFrom i room env p ts b) → IsSafe env p → IsSafe (env_after h.steps env) q → IsSafe env (λ rest. p (q rest))
 unfolding IsSafe
 safe_then {env = env} {p = p} q m h k e anew =
     let here = steps_of (p nothing env) in
-    let there = steps_of (q nothing env) in
+    let there = steps_of (q nothing (env_after m.steps env)) in
     subst (λ z. AreSafe (strings_after anew z)) (sym (steps_then m q)) (steps_safe here there (h e) (k e) anew)
 
 -- A part writes a token list of a phrase, whatever comes after it, and makes no name anew but those of the phrase.
 pub record Printed (shape : Shape) (env : Env) (part : Part) (phrase : Phrase) : Type 0 where
   pub tokens : List lexical.Token
   pub generated : Generates (settings_of env.config) phrase tokens
-  pub writes : MakesAt shape env part tokens (may_make_text env.config phrase)
+  pub writes : MakesFrom shape (length tokens) env part tokens (may_make_text env.config phrase)
   pub named : NamedBy env part (names_in phrase)
+  pub placed : PlacedBy shape env part phrase tokens
   pub safe : IsSafe env part
 
 -- It does so where the phrase is possible and all its names can be written; else it ends where one can't be, whatever
--- comes after it.
+-- comes after it; and whatever comments are still to be taken. Which list it writes may hang on these.
 pub record PrintsAt (shape : Shape) (env : Env) (part : Part) (phrase : Phrase) : Type 0 where
-  pub where_possible : is_possible phrase ≡ true → is_out env.config phrase ≡ false → Printed shape env part phrase
-  pub where_out : is_possible phrase ≡ true → is_out env.config phrase ≡ true → (rest : Plan) → unprintable_in (part rest env) ≡ Some NameOutOfTarget
+  pub where_possible : is_possible phrase ≡ true → is_out env.config phrase ≡ false → (maps : Maps) → Printed shape (at_maps maps env) part phrase
+  pub where_out : is_possible phrase ≡ true → is_out env.config phrase ≡ true → (maps : Maps) (rest : Plan) → unprintable_in (part rest (at_maps maps env)) ≡ Some NameOutOfTarget
 
 -- what begins and ends with a token
 abbrev pub Prints : Env → Part → Phrase → Type 0
@@ -142,7 +214,7 @@ Prints env part phrase = PrintsAt whole env part phrase
 -- what leads less far
 pub prints_wider : {i : Shape} (j : Shape) {env : Env} {p : Part} {f : Phrase} → is_within i j ≡ true → PrintsAt i env p f → PrintsAt j env p f
 prints_wider j e h = record {
-  where_possible = λ w o. let a = h.where_possible w o in record { tokens = a.tokens; generated = a.generated; writes = makes_wider j e a.writes; named = a.named; safe = a.safe };
+  where_possible = λ w o maps. let a = h.where_possible w o maps in record { tokens = a.tokens; generated = a.generated; writes = from_wider j e a.writes; named = a.named; placed = placed_wider j e a.placed; safe = a.safe };
   where_out = h.where_out;
 }
 
@@ -156,8 +228,8 @@ unfolding unprintable_in chain
 more_unprintable [] rest = refl
 more_unprintable (x ∷ xs) rest = more_unprintable xs rest
 
-pub goes_on : {i : Shape} {env : Env} {p : Part} {ts : List lexical.Token} {b : Bool} → MakesAt i env p ts b → (rest : Plan) → unprintable_in (p rest env) ≡ unprintable_in (rest env)
-goes_on {env = env} h rest = ap unprintable_in (h.is_steps rest) ∙ more_unprintable h.steps (rest env)
+pub goes_on : {i : Shape} {room : ℕ} {env : Env} {p : Part} {ts : List lexical.Token} {b : Bool} (h : MakesFrom i room env p ts b) (rest : Plan) → unprintable_in (p rest env) ≡ unprintable_in (rest (env_after h.steps env))
+goes_on {env = env} h rest = ap unprintable_in (h.is_steps rest) ∙ more_unprintable h.steps (rest (env_after h.steps env))
 
 -- one of two is out: the first, or else the second
 out_of_two : {P : Type 0} (a b : Bool) → (a || b) ≡ true → (a ≡ true → P) → (a ≡ false → b ≡ true → P) → P
@@ -168,58 +240,64 @@ out_of_two false b h f g = g refl h
 pub then : {i j : Shape} {env : Env} {p q : Part} {f g : Phrase} → PrintsAt i env p f → PrintsAt j env q g → PrintsAt (join i j) env (λ rest. p (q rest)) (Then f g)
 unfolding Generates is_possible is_out may_make_text names_in
 then {env = env} {p = p} {q = q} {f = f} {g = g} h k = record {
-  where_possible = λ w o.
+  where_possible = λ w o maps.
       let both = and_parts (is_possible f) (is_possible g) w in
       let none = or_parts (is_out env.config f) (is_out env.config g) o in
-      let a = h.where_possible both.0 none.0 in
-      let b = k.where_possible both.1 none.1 in
+      let a = h.where_possible both.0 none.0 maps in
+      let b = k.where_possible both.1 none.1 (maps_after a.writes.steps maps) in
       record {
         tokens = a.tokens ++ b.tokens;
         generated = (a.tokens, b.tokens, a.generated, b.generated, refl);
-        writes = writes_then env p q a.tokens b.tokens a.writes b.writes;
+        writes = from_both (at_maps maps env) p q a.tokens b.tokens a.writes b.writes;
         named = names_then q (names_in f) (names_in g) a.writes a.named b.named;
+        placed = placed_then q f g b.tokens a.writes a.placed b.placed;
         safe = safe_then q a.writes a.safe b.safe;
       };
-  where_out = λ w o rest.
+  where_out = λ w o maps rest.
       let both = and_parts (is_possible f) (is_possible g) w in
-      out_of_two (is_out env.config f) (is_out env.config g) o (λ e. h.where_out both.0 e (q rest)) (λ n e. goes_on (h.where_possible both.0 n).writes (q rest) ∙ k.where_out both.1 e rest);
+      out_of_two (is_out env.config f) (is_out env.config g) o (λ e. h.where_out both.0 e maps (q rest)) (λ n e. let a = (h.where_possible both.0 n maps).writes in goes_on a (q rest) ∙ k.where_out both.1 e (maps_after a.steps maps) rest);
 }
 
 -- a part before or after one that writes no token
 pub after : {i j : Shape} {env : Env} {q p : Part} {f : Phrase} → MakesAt i env q [] false → PrintsAt j env p f → PrintsAt (join i j) env (λ rest. q (p rest)) f
 unfolding holds_string
 after {env = env} {q = q} {p = p} {f = f} k h = record {
-  where_possible = λ w o.
-      let a = h.where_possible w o in
+  where_possible = λ w o maps.
+      let x = k.from maps in
+      let a = h.where_possible w o (maps_after x.steps maps) in
       record {
         tokens = a.tokens;
         generated = a.generated;
-        writes = writes_then env q p [] a.tokens k a.writes;
-        named = names_then p [] (names_in f) k (no_names env q) a.named;
-        safe = safe_then p k (no_strings k refl) a.safe;
+        writes = from_both (at_maps maps env) q p [] a.tokens x a.writes;
+        named = names_then p [] (names_in f) x (no_names (at_maps maps env) q) a.named;
+        placed = placed_after p f a.tokens x a.placed;
+        safe = safe_then p x (no_strings x refl) a.safe;
       };
-  where_out = λ w o rest. goes_on k (p rest) ∙ h.where_out w o rest;
+  where_out = λ w o maps rest. let x = k.from maps in goes_on x (p rest) ∙ h.where_out w o (maps_after x.steps maps) rest;
 }
 
 pub before : {i j : Shape} {env : Env} {p q : Part} {f : Phrase} → PrintsAt i env p f → MakesAt j env q [] false → PrintsAt (join i j) env (λ rest. p (q rest)) f
 unfolding holds_string
 before {i} {j} {env} {p} {q} {f} h k = record {
-  where_possible = λ w o.
-      let a = h.where_possible w o in
+  where_possible = λ w o maps.
+      let a = h.where_possible w o maps in
+      let x = k.from (maps_after a.writes.steps maps) in
       let made : Bool = may_make_text env.config f in
+      let v : Env = at_maps maps env in
       record {
         tokens = a.tokens;
         generated = a.generated;
-        writes = subst (λ z. MakesAt (join i j) env (λ rest. p (q rest)) a.tokens z) (or_false made) (subst (λ z. MakesAt (join i j) env (λ rest. p (q rest)) z (made || false)) (append-nil a.tokens) (writes_then env p q a.tokens [] a.writes k));
-        named = subst (λ z. NamedBy env (λ rest. p (q rest)) z) (append-nil (names_in f)) (names_then q (names_in f) [] a.writes a.named (no_names env q));
-        safe = safe_then q a.writes a.safe (no_strings k refl);
+        writes = subst (λ z. MakesFrom (join i j) (length a.tokens) v (λ rest. p (q rest)) a.tokens z) (or_false made) (subst (λ z. MakesFrom (join i j) (length z) v (λ rest. p (q rest)) z (made || false)) (append-nil a.tokens) (from_both v p q a.tokens [] a.writes x));
+        named = subst (λ z. NamedBy v (λ rest. p (q rest)) z) (append-nil (names_in f)) (names_then q (names_in f) [] a.writes a.named (no_names (env_after a.writes.steps v) q));
+        placed = placed_before j q f a.writes a.placed;
+        safe = safe_then q a.writes a.safe (no_strings x refl);
       };
-  where_out = λ w o rest. h.where_out w o (q rest);
+  where_out = λ w o maps rest. h.where_out w o maps (q rest);
 }
 
 pub prints_nothing : {env : Env} → PrintsAt open_ env (λ rest. rest) Nothing
 unfolding Generates is_out may_make_text names_in holds_string
-prints_nothing {env} = record { where_possible = λ w o. record { tokens = []; generated = refl; writes = writes_nothing env; named = no_names env (λ rest. rest); safe = no_strings (writes_nothing env) refl }; where_out = λ w o. absurd (true≢false (sym o)) }
+prints_nothing {env} = record { where_possible = λ w o maps. record { tokens = []; generated = refl; writes = (writes_nothing env).from maps; named = no_names (at_maps maps env) (λ rest. rest); placed = placed_none (at_maps maps env) (λ rest. rest) Nothing [] refl refl; safe = no_strings ((writes_nothing env).from maps) refl }; where_out = λ w o. absurd (true≢false (sym o)) }
 
 -- what is Never has no list
 pub prints_never : {i : Shape} {env : Env} {p : Part} → PrintsAt i env p Never
@@ -233,30 +311,40 @@ prints_where true h = h refl
 prints_where false h = prints_never
 
 -- a part that is written as another is
-pub prints_same : {i : Shape} {env : Env} {f : Phrase} (p q : Part) → ((rest : Plan) → p rest env ≡ q rest env) → PrintsAt i env q f → PrintsAt i env p f
+pub printed_same : {i : Shape} {f : Phrase} (env : Env) (p q : Part) → ((rest : Plan) → p rest env ≡ q rest env) → Printed i env q f → Printed i env p f
 unfolding NamedBy IsSafe
+printed_same {f = f} env p q e a = record {
+  tokens = a.tokens;
+  generated = a.generated;
+  writes = from_same env p q a.tokens e a.writes;
+  named = λ s k. let P : Steps → Type 0 = λ z. Named env.config (names_in f) s.sheet (run (steps_of z) s).sheet in subst P (sym (e nothing)) (a.named s k);
+  placed = placed_same env p q e a.placed;
+  safe = λ i anew. subst (λ z. AreSafe (strings_after anew (steps_of z))) (sym (e nothing)) (a.safe i anew);
+}
+
+-- what asks for the comments that are still to be taken, as parentheses round a commented argument do
+pub prints_by_maps : {i : Shape} {env : Env} {f : Phrase} (ask : Maps → Part) → ((maps : Maps) → PrintsAt i env (ask maps) f) → PrintsAt i env (by_maps ask) f
+unfolding by_maps
+prints_by_maps {env = env} ask h = record {
+  where_possible = λ w o maps. printed_same (at_maps maps env) (by_maps ask) (ask maps) (λ rest. refl) ((h maps).where_possible w o maps);
+  where_out = λ w o maps rest. (h maps).where_out w o maps rest;
+}
+
+pub prints_same : {i : Shape} {env : Env} {f : Phrase} (p q : Part) → ((maps : Maps) (rest : Plan) → p rest (at_maps maps env) ≡ q rest (at_maps maps env)) → PrintsAt i env q f → PrintsAt i env p f
 prints_same {env = env} {f = f} p q e h = record {
-  where_possible = λ w o.
-      let a = h.where_possible w o in
-      record {
-        tokens = a.tokens;
-        generated = a.generated;
-        writes = writes_same env p q a.tokens e a.writes;
-        named = λ s k. let P : Steps → Type 0 = λ z. Named env.config (names_in f) s.sheet (run (steps_of z) s).sheet in subst P (sym (e nothing)) (a.named s k);
-        safe = λ i anew. subst (λ z. AreSafe (strings_after anew (steps_of z))) (sym (e nothing)) (a.safe i anew);
-      };
-  where_out = λ w o rest. ap unprintable_in (e rest) ∙ h.where_out w o rest;
+  where_possible = λ w o maps. printed_same (at_maps maps env) p q (e maps) (h.where_possible w o maps);
+  where_out = λ w o maps rest. ap unprintable_in (e maps rest) ∙ h.where_out w o maps rest;
 }
 
 -- a token, whose text may be made anew where it is a literal
-pub prints_made : {i : Shape} (env : Env) (p : Part) (x : lexical.Token) → MakesAt i env p (x ∷ []) (may_make_text env.config (One x)) → IsSafe env p → PrintsAt i env p (One x)
+pub prints_made : {i : Shape} (env : Env) (p : Part) (x : lexical.Token) → MakesAt i env p (x ∷ []) (may_make_text env.config (One x)) → ((maps : Maps) → IsSafe (at_maps maps env) p) → PrintsAt i env p (One x)
 unfolding Generates is_out names_in
-prints_made env p x h safe = record { where_possible = λ w o. record { tokens = x ∷ []; generated = refl; writes = h; named = no_names env p; safe = safe }; where_out = λ w o. absurd (true≢false (sym o)) }
+prints_made env p x h safe = record { where_possible = λ w o maps. record { tokens = x ∷ []; generated = refl; writes = h.from maps; named = no_names (at_maps maps env) p; placed = placed_none (at_maps maps env) p (One x) (x ∷ []) refl refl; safe = safe maps }; where_out = λ w o. absurd (true≢false (sym o)) }
 
 -- one that is no string
-pub no_string : {i : Shape} {env : Env} {p : Part} {x : lexical.Token} {b : Bool} → MakesAt i env p (x ∷ []) b → is_str x.kind ≡ false → IsSafe env p
+pub no_string : {i : Shape} {env : Env} {p : Part} {x : lexical.Token} {b : Bool} → MakesAt i env p (x ∷ []) b → is_str x.kind ≡ false → (maps : Maps) → IsSafe (at_maps maps env) p
 unfolding holds_string
-no_string {x = x} h none = no_strings h (or_from (is_str x.kind) false none refl)
+no_string {x = x} h none maps = no_strings (h.from maps) (or_from (is_str x.kind) false none refl)
 
 pub prints_one : {i : Shape} (env : Env) (p : Part) (x : lexical.Token) → MakesAt i env p (x ∷ []) false → is_str x.kind ≡ false → PrintsAt i env p (One x)
 unfolding Generates may_make_text names_in
@@ -310,12 +398,13 @@ prints_semi env = prints_one env semi _ (writes_semi env) refl
 prints_pair : {i : Shape} (env : Env) (p : Part) (x y : lexical.Token) → MakesAt i env p (x ∷ y ∷ []) false → is_str x.kind ≡ false → is_str y.kind ≡ false → PrintsAt i env p (One x > One y)
 unfolding Generates is_out is_possible names_in holds_string
 prints_pair env p x y h a b = record {
-  where_possible = λ w o. record {
+  where_possible = λ w o maps. record {
     tokens = x ∷ y ∷ [];
     generated = (x ∷ [], y ∷ [], refl, refl, refl);
-    writes = writes_whatever (may_make_text env.config (One x > One y)) h;
-    named = no_names env p;
-    safe = no_strings h (or_from (is_str x.kind) _ a (or_from (is_str y.kind) false b refl));
+    writes = (writes_whatever (may_make_text env.config (One x > One y)) h).from maps;
+    named = no_names (at_maps maps env) p;
+    placed = placed_none (at_maps maps env) p (One x > One y) (x ∷ y ∷ []) refl (x ∷ [], y ∷ [], refl, refl, refl);
+    safe = no_strings (h.from maps) (or_from (is_str x.kind) _ a (or_from (is_str y.kind) false b refl));
   };
   where_out = λ w o. absurd (true≢false (sym o));
 }
@@ -341,17 +430,19 @@ joint_word env p t w h = subst (λ z. PrintsAt (join whole joining) env p (phras
 pub prints_regrouped : {i : Shape} {env : Env} {p : Part} {f g h : Phrase} → PrintsAt i env p ((f > g) > h) → PrintsAt i env p (f > g > h)
 unfolding Generates is_possible is_out may_make_text names_in
 prints_regrouped {i} {env} {p} {f} {g} {h} x = record {
-  where_possible = λ w o.
-      let a = x.where_possible (and_assoc (is_possible f) (is_possible g) (is_possible h) ∙ w) (or_assoc (is_out env.config f) (is_out env.config g) (is_out env.config h) ∙ o) in
+  where_possible = λ w o maps.
+      let v : Env = at_maps maps env in
+      let a = x.where_possible (and_assoc (is_possible f) (is_possible g) (is_possible h) ∙ w) (or_assoc (is_out env.config f) (is_out env.config g) (is_out env.config h) ∙ o) maps in
       let k = a.generated in
       record {
         tokens = a.tokens;
         generated = (k.2.0, k.2.1 ++ k.1, k.2.2, (k.2.1, k.1, k.2.3, k.3, refl), k.4 ∙ ap (λ z. z ++ k.1) k.2.4 ∙ append_assoc k.2.0 k.2.1 k.1);
-        writes = subst (λ z. MakesAt i env p a.tokens z) (or_assoc (may_make_text env.config f) (may_make_text env.config g) (may_make_text env.config h)) a.writes;
-        named = subst (λ z. NamedBy env p z) (append_assoc (names_in f) (names_in g) (names_in h)) a.named;
+        writes = subst (λ z. MakesFrom i (length a.tokens) v p a.tokens z) (or_assoc (may_make_text env.config f) (may_make_text env.config g) (may_make_text env.config h)) a.writes;
+        named = subst (λ z. NamedBy v p z) (append_assoc (names_in f) (names_in g) (names_in h)) a.named;
+        placed = placed_regrouped f g h a.placed;
         safe = a.safe;
       };
-  where_out = λ w o rest. x.where_out (and_assoc (is_possible f) (is_possible g) (is_possible h) ∙ w) (or_assoc (is_out env.config f) (is_out env.config g) (is_out env.config h) ∙ o) rest;
+  where_out = λ w o maps rest. x.where_out (and_assoc (is_possible f) (is_possible g) (is_possible h) ∙ w) (or_assoc (is_out env.config f) (is_out env.config g) (is_out env.config h) ∙ o) maps rest;
 }
 
 -- a word and what belongs to it: `return a`
@@ -369,7 +460,7 @@ settled_name : Span → List ℕ → Part
 settled_name span bytes rest = commit_pending_semi (name_text span bytes rest)
 
 symbol_steps : (env : Env) (span : Span) (bytes : List ℕ) → env.keeps_invalid ≡ false → is_out_name env.config (turned bytes) ≡ false → steps_of (settled_name span bytes nothing env) ≡ name_steps (has_backslash bytes) (wants_escapes env.config (turned bytes)) Name (span.lo.0 == 0) span.lo (written_name env.config bytes)
-unfolding settled_name name_steps name_call written_name commit_pending_semi valid_symbol symbol position step steps_of nothing
+unfolding settled_name name_steps name_call written_name commit_pending_semi valid_symbol symbol position step steps_of nothing after_step
 symbol_steps env span bytes e o =
     let t : List ℕ = written_name env.config bytes in
     let x : Step = Token Name (Symbol dummy_span t) in
@@ -387,26 +478,40 @@ names_here env span bytes e o some s k =
     let P : List Step → Type 0 = λ z. Named env.config (named_at span.lo bytes ∷ []) s.sheet (run z s).sheet in
     subst P (sym (symbol_steps env span bytes e o)) (name_named env.config (has_backslash bytes) (wants_escapes env.config (turned bytes)) Name (span.lo.0 == 0) (named_at span.lo bytes) s refl some k)
 
+-- and stands there as its own token
+name_here : {i : Shape} (env : Env) (span : Span) (bytes : List ℕ) → env.keeps_invalid ≡ false → is_out_name env.config (turned bytes) ≡ false → Spelled Name (written_name env.config bytes) → token_of Name (spelling Name (written_name env.config bytes)) ≡ lexical.name (name_value (names.spelled_name bytes)) → PlacedBy i env (settled_name span bytes) (NameOf span.lo bytes) (token_of Name (spelling Name (written_name env.config bytes)) ∷ [])
+unfolding EachName written_as
+name_here env span bytes e o spelled token = record {
+  stands = λ a s us r k c.
+      let x : PlacedName = named_at span.lo bytes in
+      let first : Bool = has_backslash bytes in
+      let second : Bool = wants_escapes env.config (turned bytes) in
+      let there = name_stands env.config first second Name (span.lo.0 == 0) x us a s refl spelled k r in
+      let t = token_of Name (spelling Name (written_name env.config bytes)) in
+      (ap (λ z. z ∷ []) token, subst (λ (z : lexical.Token). StandsAfter env.config a.sheet (run (steps_of (settled_name span bytes nothing env)) s).sheet us z x) token (subst (λ (z : List Step). StandsAfter env.config a.sheet (run z s).sheet us t x) (sym (symbol_steps env span bytes e o)) there));
+}
+
 -- a name that can't be written ends it
 name_out : (env : Env) (span : Span) (bytes : List ℕ) (rest : Plan) → env.keeps_invalid ≡ false → is_out_name env.config (turned bytes) ≡ true → unprintable_in (settled_name span bytes rest env) ≡ Some NameOutOfTarget
-unfolding settled_name commit_pending_semi valid_symbol step refuse unprintable_in
+unfolding settled_name commit_pending_semi valid_symbol step refuse unprintable_in after_step
 name_out env span bytes rest e o = ap unprintable_in (valid_same span bytes rest env e) ∙ ap unprintable_in (out_same span (turned bytes) rest env o)
 
 prints_settled_name : (env : Env) (span : Span) (bytes : List ℕ) → env.keeps_invalid ≡ false → Prints env (settled_name span bytes) (NameOf span.lo bytes)
 unfolding settled_name token_of value_of spelling lexical.name names.spelled_name Generates is_possible is_out may_make_text names_in is_str
 prints_settled_name env span bytes e = record {
-  where_possible = λ w o.
+  where_possible = λ w o maps.
       let h = name_written env.config bytes w o in
       let spelled = spelled_name (written_name env.config bytes) h.utf8 h.shape in
       let m = writes_then env commit_pending_semi (name_text span bytes) [] _ (writes_commit env) (writes_name_text env span bytes e o spelled h.ascii) in
       record {
         tokens = _;
         generated = ap (λ z. lexical.name z ∷ []) h.value;
-        writes = m;
-        named = names_here env span bytes e o spelled.some;
-        safe = no_string m refl;
+        writes = m.from maps;
+        named = names_here (at_maps maps env) span bytes e o spelled.some;
+        placed = name_here (at_maps maps env) span bytes e o spelled (ap lexical.name h.value);
+        safe = no_string m refl maps;
       };
-  where_out = λ w o rest. name_out env span bytes rest e o;
+  where_out = λ w o maps rest. name_out (at_maps maps env) span bytes rest e o;
 }
 
 prints_question : (env : Env) (optional : Bool) → PrintsAt open_ env (question optional) (cond optional (mark (codes "?")) Nothing)
@@ -469,9 +574,9 @@ enters_new : (anywhere : Bool) (a : State) → IsNew a → (anywhere ≡ false �
 enters_new true a n m = inl refl
 enters_new false a n m = inr (refl, record { nothing_written = n.nothing_written; nothing_held = n.nothing_held; at_margin = no_front a.sheet.at_line_start a.sheet (m refl) })
 
-laid_reads : (anywhere : Bool) (config : Config) (f : Phrase) (ts : List lexical.Token) (a b : State) → Generates (settings_of config) f ts → IsNew a → (anywhere ≡ false → IsAtMargin a) → LaysAt (unbroken_at anywhere) ts a b → AddsReading config f a.sheet b.sheet
+laid_reads : {rs : List Remark} (anywhere : Bool) (config : Config) (f : Phrase) (ts : List lexical.Token) (a b : State) → Generates (settings_of config) f ts → IsNew a → (anywhere ≡ false → IsAtMargin a) → LaysWith (unbroken_at anywhere) ts rs a b → AddsReading config f rs a.sheet b.sheet
 unfolding NoneFuse is_broken
-laid_reads anywhere config f ts a b g n m l =
+laid_reads {rs} anywhere config f ts a b g n m l =
     let last : Bool = holds_one b.sheet.semicolons in
     let end : List parts.Part = end_of last b.sheet in
     let none : held a.sheet ≡ [] = ap (λ z. held_of z a.sheet) n.nothing_held in
@@ -479,8 +584,7 @@ laid_reads anywhere config f ts a b g n m l =
     subst (λ z. Reduced z (l.laid ++ end)) (append-nil l.out) (subst (λ z. Reduced (z ++ (l.out ++ [])) (l.laid ++ end)) none (l.reduces [] end (end_reduced last b.sheet))) in
     let apart : NoneFuse Start l.out = subst (λ z. NoneFuse z l.out) n.nothing_written (subst (λ z. NoneFuse a.last z) (append-nil l.out) (l.apart (enters_new anywhere a n m) [] (l.rest.allowed []))) in
     let laid : NoneFuse Start l.laid = without_end last b.sheet l.laid (none_fuse_reduced l.out (l.laid ++ end) apart reduced) in
-    let kept : KeepsLines l.out = met_unbroken _ l.fits.line in
-    let lines : KeepsLines l.laid = kept_front l.laid end OnLine (keeps_reduced l.out (l.laid ++ end) OnLine reduced kept) in
+    let lines : all_tame rs ≡ true → KeepsLines l.laid = λ t. kept_front l.laid end OnLine (keeps_reduced l.out (l.laid ++ end) OnLine reduced (met_unbroken _ (l.fits t).line)) in
     let same : tokens_of (l.laid ++ end) ≡ tokens_of l.laid = tokens_append l.laid end ∙ ap (λ z. tokens_of l.laid ++ z) (no_end_tokens last b.sheet) ∙ append-nil (tokens_of l.laid) in
     record {
       added = l.bytes;
@@ -492,39 +596,92 @@ laid_reads anywhere config f ts a b g n m l =
         written = tokens_of l.laid;
         reduced = subst (λ z. IsReduced z (tokens_of l.laid)) l.tokens (subst (λ z. IsReduced (tokens_of l.out) z) same (tokens_reduced l.out (l.laid ++ end) apart reduced));
         whole = λ e. ap tokens_of (l.whole e) ∙ l.tokens;
-        reads = subst (λ z. Reads (chars l.bytes) (tokens_of l.laid) z) l.remarks (subst (λ z. Reads z (tokens_of l.laid) (remarks_in l.laid)) (sym l.spells) (reads l.laid laid lines));
+        reads = subst (λ z. Reads (chars l.bytes) (without_joints (tokens_of l.laid)) z) l.remarks (subst (λ z. Reads z (without_joints (tokens_of l.laid)) (remarks_in l.laid)) (sym l.spells) (reads_without l.laid laid));
+        keeps_lines = λ t. subst (λ z. Reads (chars l.bytes) (tokens_of l.laid) z) l.remarks (subst (λ z. Reads z (tokens_of l.laid) (remarks_in l.laid)) (sym l.spells) (reads l.laid laid (lines t)));
       };
     }
 
+-- ---- the comments of the maps
+
+closed_where : (b : Bool) (x : Option (List Comment)) → all_closed (remarks_of (listed x)) ≡ true → all_closed (remarks_of (listed (cond b None x))) ≡ true
+unfolding listed remarks_of all_closed
+closed_where true x h = refl
+closed_where false x h = h
+
+taken_out_closed : (side : Side) (at : ℕ) (maps : Maps) → AreClosed maps → AreClosed (taken_out side at maps)
+unfolding taken_out without_leading without_trailing without
+taken_out_closed Leading at maps h = record { leading = λ pos. closed_where (at == pos) (maps.leading pos) (h.leading pos); trailing = h.trailing }
+taken_out_closed Trailing at maps h = record { leading = h.leading; trailing = λ pos. closed_where (at == pos) (maps.trailing pos) (h.trailing pos) }
+
+step_closed : (x : Step) (maps : Maps) → AreClosed maps → AreClosed (after_step x maps)
+unfolding after_step
+step_closed (Guard t) maps h = h
+step_closed (Token kind x) maps h = h
+step_closed (Plain x) maps h = h
+step_closed (Ends tokens x) maps h = h
+step_closed (Remake due) maps h = h
+step_closed (Take side at) maps h = taken_out_closed side at maps h
+step_closed (CommentText t) maps h = h
+
+at_closed : (side : Side) (at : ℕ) (maps : Maps) → AreClosed maps → all_closed (remarks_of (comments_at side at maps)) ≡ true
+unfolding comments_at
+at_closed Leading at maps h = h.leading at
+at_closed Trailing at maps h = h.trailing at
+
+by_closed : (x : Step) (maps : Maps) → AreClosed maps → all_closed (remarks_of (taken_by x maps)) ≡ true
+unfolding taken_by remarks_of all_closed
+by_closed (Guard t) maps h = refl
+by_closed (Token kind x) maps h = refl
+by_closed (Plain x) maps h = refl
+by_closed (Ends tokens x) maps h = refl
+by_closed (Remake due) maps h = refl
+by_closed (Take side at) maps h = at_closed side at maps h
+by_closed (CommentText t) maps h = refl
+
+-- what is taken out of maps whose comments can be read back can be
+pub taken_closed : (xs : List Step) (maps : Maps) → AreClosed maps → all_closed (remarks_of (taken_in xs maps)) ≡ true
+unfolding taken_in
+taken_closed [] maps h = unfold remarks_of all_closed in refl
+taken_closed (x ∷ xs) maps h =
+    ap all_closed (remarks_append (taken_by x maps) (taken_in xs (after_step x maps))) ∙ closed_append (remarks_of (taken_by x maps)) (remarks_of (taken_in xs (after_step x maps)))
+    ∙ and_from (all_closed (remarks_of (taken_by x maps))) (all_closed (remarks_of (taken_in xs (after_step x maps)))) (by_closed x maps h) (taken_closed xs (after_step x maps) (step_closed x maps h))
+
 -- the steps of a part, made from a state where an emission begins
-pub steps_read : (anywhere : Bool) (p : Part) (f : Phrase) (a : State) → IsNew a → (anywhere ≡ false → IsAtMargin a) → PrintsAt (unbroken_at anywhere) a.env p f → is_possible f ≡ true → is_out a.env.config f ≡ false → AddsReading a.env.config f a.sheet (run (steps_of (p nothing a.env)) a).sheet
+pub steps_read : (anywhere : Bool) (p : Part) (f : Phrase) (a : State) → IsNew a → (anywhere ≡ false → IsAtMargin a) → AreClosed a.env.maps → PrintsAt (unbroken_at anywhere) a.env p f → is_possible f ≡ true → is_out a.env.config f ≡ false → AddsReading a.env.config f (taken_remarks p a.env) a.sheet (run (steps_of (p nothing a.env)) a).sheet
 unfolding nothing
-steps_read anywhere p f a n m prints w o =
-    let h = prints.where_possible w o in
-    let end : run (steps_of (p nothing a.env)) a ≡ run h.writes.steps a = ap (λ z. run (steps_of z) a) (h.writes.is_steps nothing) ∙ ap (λ z. run z a) (steps_of_chain h.writes.steps) in
-    let P : State → Type 0 = λ z. AddsReading a.env.config f a.sheet z.sheet in
-    subst P (sym end) (laid_reads anywhere a.env.config f h.tokens a (run h.writes.steps a) h.generated n m (h.writes.lays a (new_at_rest a n)))
+steps_read anywhere p f a n m closed prints w o =
+    let h = prints.where_possible w o a.env.maps in
+    let same : steps_of (p nothing a.env) ≡ h.writes.steps = ap steps_of (h.writes.is_steps nothing) ∙ steps_of_chain h.writes.steps in
+    let P : List Step → Type 0 = λ z. AddsReading a.env.config f (remarks_by z a.env) a.sheet (run z a).sheet in
+    subst P (sym same) (laid_reads anywhere a.env.config f h.tokens a (run h.writes.steps a) h.generated n m (h.writes.lays a (new_at_rest a n) (taken_closed h.writes.steps a.env.maps closed)))
 
 -- steps that come to their end come to no name that can't be written
 pub made_not_out : {i : Shape} (p : Part) (f : Phrase) (env : Env) → PrintsAt i env p f → is_possible f ≡ true → unprintable_in (p nothing env) ≡ None → is_out env.config f ≡ false
-made_not_out p f env prints w end = false_from_ne_true (is_out env.config f) (λ o. let z = sym end ∙ prints.where_out w o nothing in absurd (cc))
+made_not_out p f env prints w end = false_from_ne_true (is_out env.config f) (λ o. let z = sym end ∙ prints.where_out w o env.maps nothing in absurd (cc))
 
 -- of an empty text the whole reads
-pub whole_reads : (config : Config) (holds : Bool) (f : Phrase) (text : List ℕ) → AddsText config holds f [] text → ReadsAs config holds f text
-whole_reads config holds f text h = subst (λ z. ReadsAs config holds f z) (sym h.is_added) h.reading
+pub whole_reads : (config : Config) (holds : Bool) (f : Phrase) (rs : List Remark) (text : List ℕ) → AddsText config holds f rs [] text → ReadsAs config holds f rs text
+whole_reads config holds f rs text h = subst (λ z. ReadsAs config holds f rs z) (sym h.is_added) h.reading
 
-pub printed_reads : (anywhere : Bool) (p : Part) (f : Phrase) (a b : State) (r : Result (Unit {0}) Refusal) → IsNew a → (anywhere ≡ false → IsAtMargin a) → PrintsAt (unbroken_at anywhere) a.env p f → is_possible f ≡ true → Follows (p nothing) a b r → OnOk r (AddsReading a.env.config f a.sheet b.sheet)
+pub printed_reads : (anywhere : Bool) (p : Part) (f : Phrase) (a b : State) (r : Result (Unit {0}) Refusal) → IsNew a → (anywhere ≡ false → IsAtMargin a) → AreClosed a.env.maps → PrintsAt (unbroken_at anywhere) a.env p f → is_possible f ≡ true → Follows (p nothing) a b r → OnOk r (AddsReading a.env.config f (taken_remarks p a.env) a.sheet b.sheet)
 unfolding Follows
-printed_reads anywhere p f a b (Ok u) n m prints w k = let P : State → Type 0 = λ z. AddsReading a.env.config f a.sheet z.sheet in subst P (sym k.1) (steps_read anywhere p f a n m prints w (made_not_out p f a.env prints w k.0))
-printed_reads anywhere p f a b (Err e) n m prints w k = tt
+printed_reads anywhere p f a b (Ok u) n m c prints w k = let P : State → Type 0 = λ z. AddsReading a.env.config f (taken_remarks p a.env) a.sheet z.sheet in subst P (sym k.1) (steps_read anywhere p f a n m c prints w (made_not_out p f a.env prints w k.0))
+printed_reads anywhere p f a b (Err e) n m c prints w k = tt
 
 -- no text is made anew where nothing of the phrase may be
 pub printed_remakes : {i : Shape} (p : Part) (f : Phrase) (env : Env) → PrintsAt i env p f → is_possible f ≡ true → may_make_text env.config f ≡ false → makes_text (steps_of (p nothing env)) ≡ false
 unfolding nothing
 printed_remakes p f env prints w none =
-    let h = prints.where_possible w (plain_not_out env.config f none) in
+    let h = prints.where_possible w (plain_not_out env.config f none) env.maps in
     ap (λ z. makes_text (steps_of z)) (h.writes.is_steps nothing) ∙ ap makes_text (steps_of_chain h.writes.steps)
     ∙ false_from_ne_true (makes_text h.writes.steps) (λ e. true≢false (sym (h.writes.remakes e) ∙ none))
+
+-- the comments that are taken are written, each once and in order of taking
+pub printed_tells : {i : Shape} (p : Part) (f : Phrase) (env : Env) → PrintsAt i env p f → is_possible f ≡ true → is_out env.config f ≡ false → spoken (steps_of (p nothing env)) ≡ texts_of (taken_in (steps_of (p nothing env)) env.maps)
+unfolding nothing
+printed_tells p f env prints w none =
+    let h = prints.where_possible w none env.maps in
+    subst (λ xs. spoken xs ≡ texts_of (taken_in xs env.maps)) (sym (ap steps_of (h.writes.is_steps nothing) ∙ steps_of_chain h.writes.steps)) h.writes.told
 
 -- an emission without calls that take memory, and without such a name, isn't refused for want of memory
 pub never_out_of_memory : (p : Part) (a b : State) (r : Result (Unit {0}) Error) → makes_text (steps_of (p nothing a.env)) ≡ false → a.sheet.takes_memory ≡ false → Follows (p nothing) a b (in_short r) → r ≢ Err errors.OutOfMemory
@@ -541,7 +698,7 @@ pub printed_names : {i : Shape} (p : Part) (f : Phrase) (a b : State) (r : Resul
 unfolding Follows NamedBy
 printed_names p f a b (Ok u) prints w k h =
     let P : State → Type 0 = λ z. RecordsNames a.env.config (names_in f) a.sheet z.sheet in
-    subst P (sym h.1) (named_records a.env.config (names_in f) a.sheet _ ((prints.where_possible w (made_not_out p f a.env prints w h.0)).named a k))
+    subst P (sym h.1) (named_records a.env.config (names_in f) a.sheet _ ((prints.where_possible w (made_not_out p f a.env prints w h.0) a.env.maps).named a k))
 printed_names p f a b (Err e) prints w k h = tt
 
 -- what is recorded is true
@@ -549,3 +706,26 @@ pub follows_records : (p : Plan) (a b : State) (r : Result (Unit {0}) Refusal) �
 unfolding Follows
 follows_records p a b (Ok u) h = let P : State → Type 0 = λ z. RecordsTruly a.sheet z.sheet in subst P (sym h.1) (run_records (steps_of (p a.env)) a)
 follows_records p a b (Err e) h = tt
+
+-- ---- where names stand
+
+pub steps_placed : (anywhere : Bool) (p : Part) (f : Phrase) (a : State) → IsNew a → (anywhere ≡ false → IsAtMargin a) → AreClosed a.env.maps → PrintsAt (unbroken_at anywhere) a.env p f → is_possible f ≡ true → is_out a.env.config f ≡ false → a.sheet.keeps_positions ≡ true → PlacesNames a.env.config f (taken_remarks p a.env) a.sheet (run (steps_of (p nothing a.env)) a).sheet
+unfolding laid_reads
+steps_placed anywhere p f a n m closed prints w o k =
+    let h = prints.where_possible w o a.env.maps in
+    let same : steps_of (p nothing a.env) ≡ h.writes.steps = steps_alone h.writes in
+    let r = reached_first (unbroken_at anywhere) a n (new_at_rest a n) (enters_new anywhere a n m) in
+    let there : AllStand a.env.config a.sheet (run h.writes.steps a).sheet [] f h.tokens =
+    subst (λ z. AllStand a.env.config a.sheet (run z a).sheet [] f h.tokens) same (h.placed.stands a a [] r k (taken_closed (steps_of (p nothing a.env)) a.env.maps closed)) in
+    let P : List Step → Type 0 = λ z. PlacesNames a.env.config f (remarks_by z a.env) a.sheet (run z a).sheet in
+    subst P (sym same)
+    (record {
+      reads = laid_reads anywhere a.env.config f h.tokens a (run h.writes.steps a) h.generated n m (h.writes.lays a (new_at_rest a n) (taken_closed h.writes.steps a.env.maps closed));
+      stand = there;
+    })
+
+-- what a new emitter prints reads, and each name of the list that it reads as stands there as its own token, with its position where it begins
+pub printed_places : (anywhere : Bool) (p : Part) (f : Phrase) (a b : State) (r : Result (Unit {0}) Refusal) → IsNew a → (anywhere ≡ false → IsAtMargin a) → AreClosed a.env.maps → PrintsAt (unbroken_at anywhere) a.env p f → is_possible f ≡ true → a.sheet.keeps_positions ≡ true → Follows (p nothing) a b r → OnOk r (PlacesNames a.env.config f (taken_remarks p a.env) a.sheet b.sheet)
+unfolding Follows
+printed_places anywhere p f a b (Ok u) n m c prints w k h = let P : State → Type 0 = λ z. PlacesNames a.env.config f (taken_remarks p a.env) a.sheet z.sheet in subst P (sym h.1) (steps_placed anywhere p f a n m c prints w (made_not_out p f a.env prints w h.0) k)
+printed_places anywhere p f a b (Err e) n m c prints w k h = tt

@@ -11,11 +11,11 @@ use Rattle.swc_ecma_codegen_ast.specs.Phrases.{PlacedName}
 use Rattle.swc_ecma_codegen_util.specs.declared.config.Config.{Config}
 use Rattle.swc_ecma_codegen_text_writer.specs.Places.{Place, after_text}
 use Rattle.swc_ecma_codegen_text_writer.specs.Recorded.{RecordsTruly}
-use Rattle.swc_ecma_codegen_text_writer.specs.Sheet.{Sheet, Pair, Space, Symbol, Position, Commit, effect, has_pair, is_same_pair, pair_at, with_pair, appended, indented, recorded, pending_recorded, start_recorded, end_recorded, started, written, pointed, settled}
+use Rattle.swc_ecma_codegen_text_writer.specs.Sheet.{Sheet, Pair, Space, Comment, Symbol, Position, Commit, effect, has_pair, is_same_pair, pair_at, with_pair, appended, indented, recorded, pending_recorded, start_recorded, end_recorded, started, written, pointed, settled}
 use Rattle.swc_ecma_codegen_text_writer.proofs.Pairs.{after_both, records_refl, records_trans, pointed_records, started_records, effect_records}
 use Rattle.swc_ecma_codegen_text_writer.proofs.Sheets.{effect_keeps_positions}
 use Rattle.swc_ecma_codegen_base.specs.Named.{IsRecorded, NamesStand, RecordsNames}
-use Rattle.swc_ecma_codegen_base.specs.Run.{State, Step, Guard, Token, Plain, Ends, Remake, put, run}
+use Rattle.swc_ecma_codegen_base.specs.Run.{State, Step, Guard, Token, Plain, Ends, Remake, Take, CommentText, put, run}
 use Rattle.swc_ecma_codegen_base.specs.Targets.{written_as}
 use Rattle.swc_ecma_codegen_base.specs.Written.{holds_one}
 use Rattle.swc_ecma_codegen_base.proofs.Fronts.{run_sheet}
@@ -30,6 +30,8 @@ put_records (Token kind x) a = effect_records x a.sheet
 put_records (Plain x) a = effect_records x a.sheet
 put_records (Ends tokens x) a = effect_records x a.sheet
 put_records (Remake due) a = records_refl a.sheet
+put_records (Take side at) a = records_refl a.sheet
+put_records (CommentText t) a = effect_records (Comment t) a.sheet
 
 pub run_records : (xs : List Step) (a : State) → RecordsTruly a.sheet (run xs a).sheet
 unfolding run
@@ -38,7 +40,7 @@ run_records (x ∷ xs) a = records_trans _ _ _ (put_records x a) (run_records xs
 
 -- ---- pairs that stand there stay
 
-has_more : (x : Pair) (ys zs : List Pair) → has_pair x ys ≡ true → has_pair x (ys ++ zs) ≡ true
+pub has_more : (x : Pair) (ys zs : List Pair) → has_pair x ys ≡ true → has_pair x (ys ++ zs) ≡ true
 unfolding has_pair
 has_more x [] zs h = absurd (true≢false (sym h))
 has_more x (y ∷ ys) zs h = elim (or_cases (is_same_pair x y) (has_pair x ys) h) [
@@ -55,10 +57,10 @@ unfolding has_pair
 has_last x [] = or_left (is_same_pair x x) false (same_pair x)
 has_last x (y ∷ ys) = or_right (is_same_pair x y) (has_pair x (ys ++ (x ∷ []))) (has_last x ys)
 
-recorded_more : (pos : BytePos) (p : Place) (xs ys : List Pair) → IsRecorded pos p xs → IsRecorded pos p (xs ++ ys)
+pub recorded_more : (pos : BytePos) (p : Place) (xs ys : List Pair) → IsRecorded pos p xs → IsRecorded pos p (xs ++ ys)
 recorded_more pos p xs ys h = elim h [ inl e ↦ inl e | inr e ↦ inr (has_more (pair_at pos p) xs ys e) ]
 
-is_none : (pos : BytePos) → (pos.0 == 0) ≡ true → pos.0 ≡ 0
+pub is_none : (pos : BytePos) → (pos.0 == 0) ≡ true → pos.0 ≡ 0
 is_none pos h = grind (arith, nat_tests)
 
 -- a position that is recorded stands there
@@ -111,7 +113,7 @@ unfolding begun_sheet indented appended
 begun_keeps pos s = refl
 
 -- what is written next has it where it begins, behind the indentation
-noted_has : (pos : BytePos) (s : Sheet) → s.keeps_positions ≡ true → IsRecorded pos (started (pointed pos s)).place (started (pointed pos s)).pairs
+pub noted_has : (pos : BytePos) (s : Sheet) → s.keeps_positions ≡ true → IsRecorded pos (started (pointed pos s)).place (started (pointed pos s)).pairs
 noted_has pos s k =
     let P : Sheet → Type 0 = λ z. IsRecorded pos z.place z.pairs in
     elim (cases_Bool s.at_line_start) [
@@ -189,7 +191,7 @@ written_plain [] s some = absurd (some refl)
 written_plain (c ∷ cs) s some = recorded_none (appended (c ∷ cs) (recorded dummy_span.lo (started s))) ∙ ap (appended (c ∷ cs)) (recorded_none (started s))
 
 -- a name by one call, where no semicolon is held back
-symbol_sheet : (t : List ℕ) (s : Sheet) → (t ≡ [] → ⊥) → holds_one s.semicolons ≡ false → effect (Symbol dummy_span t) s ≡ appended t (started s)
+pub symbol_sheet : (t : List ℕ) (s : Sheet) → (t ≡ [] → ⊥) → holds_one s.semicolons ≡ false → effect (Symbol dummy_span t) s ≡ appended t (started s)
 unfolding effect
 symbol_sheet t s some h = written_plain t (settled s) some ∙ ap (λ z. appended t (started z)) (unheld_settled s h)
 
@@ -212,7 +214,7 @@ unfoldable pub name_call : Kind → Bool → BytePos → List ℕ → List Step
 name_call kind b pos t = cond b (Token kind (Symbol dummy_span t) ∷ []) (Plain (Position pos) ∷ Token kind (Symbol dummy_span t) ∷ [])
 
 -- where a name begins: what was held back is written, the text is made anew, twice where that is due, and the blank that is due
-before_name : Bool → Bool → List ℕ → List Step
+unfoldable pub before_name : Bool → Bool → List ℕ → List Step
 before_name first second t = Plain Commit ∷ Remake first ∷ Remake second ∷ Guard t ∷ []
 
 unfoldable pub name_steps : Bool → Bool → Kind → Bool → BytePos → List ℕ → List Step
@@ -224,7 +226,7 @@ guard_unheld t a h =
     elim (fuses a.last (chars t)) as (λ b. holds_one (cond b (record a { sheet = effect Space a.sheet; last = Apart }) a).sheet.semicolons ≡ false)
     [ true ↦ ap holds_one (written_semicolons None (codes " ") (settled a.sheet)) ∙ settled_none a.sheet | false ↦ h ]
 
-before_unheld : (first second : Bool) (t : List ℕ) (s : State) → holds_one (run (before_name first second t) s).sheet.semicolons ≡ false
+pub before_unheld : (first second : Bool) (t : List ℕ) (s : State) → holds_one (run (before_name first second t) s).sheet.semicolons ≡ false
 unfolding before_name run put effect
 before_unheld first second t s = guard_unheld t (put (Remake second) (put (Remake first) (put (Plain Commit) s))) (settled_none s.sheet)
 

@@ -22,7 +22,7 @@ use Rattle.swc_ecma_codegen_base.specs.declared.refusals.Unprintable.TheVariants
 use Rattle.swc_ecma_codegen_base.specs.Escapes.{may_make_text}
 use Rattle.swc_ecma_codegen_base.specs.PrivateNames as words
 use Rattle.swc_ecma_codegen_base.specs.PrivateNames.{private_spelling}
-use Rattle.swc_ecma_codegen_base.specs.Run.{Env, Plan, State, Step, Guard, Plain, Ends, Remake, put, run, step, refuse, spelling, text_of, after_token, after_tokens, makes_text, has_backslash, unprintable_in}
+use Rattle.swc_ecma_codegen_base.specs.Run.{at_maps, after_step, Env, Plan, State, Step, Guard, Plain, Ends, Remake, put, run, step, refuse, spelling, text_of, after_token, after_tokens, makes_text, has_backslash, unprintable_in}
 use Rattle.swc_ecma_codegen_base.specs.Scripts.{is_str}
 use Rattle.swc_ecma_codegen_base.specs.Starts.{start_class}
 use Rattle.swc_ecma_codegen_base.specs.Targets.{is_out, is_out_name, in_ascii, wants_escapes, written_name}
@@ -33,8 +33,8 @@ use Rattle.swc_ecma_codegen_base.proofs.Hands.{has_string, has_append, keeps_app
 use Rattle.swc_ecma_codegen_base.proofs.Held.{settled_none}
 use Rattle.swc_ecma_codegen_base.proofs.Levels.{levels, levels_append, rise}
 use Rattle.swc_ecma_codegen_base.proofs.LiteralParts.{lays_guarded, still_settled, writes_guard}
-use Rattle.swc_ecma_codegen_base.proofs.Phrased.{Prints, after, before, name_written, no_names, no_string}
-use Rattle.swc_ecma_codegen_base.proofs.Printed.{Makes, Writes, chain, chain_append, or_false, remakes_append, writes_same, writes_then, writes_remake, writes_position, writes_leading}
+use Rattle.swc_ecma_codegen_base.proofs.Phrased.{Prints, after, before, name_written, no_names, placed_none, no_string}
+use Rattle.swc_ecma_codegen_base.proofs.Printed.{takes_none, takes_append, from_silently, Makes, Writes, chain, chain_append, or_false, remakes_append, writes_same, writes_then, writes_remake, writes_position, writes_leading}
 use Rattle.swc_ecma_codegen_base.proofs.PrivateSteps.{private_same, private_out, valid_same}
 use Rattle.swc_ecma_codegen_base.proofs.Starting.{plain_class}
 use Rattle.swc_ecma_codegen_base.proofs.TemplateLaws.{Inside, position_inside}
@@ -128,7 +128,7 @@ token_lays span h t p some s r =
     (subst P (sym same) (steps_add span h t there some)) (ap (λ (z : State). z.last) same ∙ last_last t (run h.steps (hash_put there)) there)
 
 token_is : {env : Env} (span : Span) (h : Inside env (position span.lo) [] false) (t : List ℕ) (rest : Plan) → words.private_token span t rest env ≡ chain (all_steps h.steps t) (rest env)
-unfolding words.private_token words.hashed last_step step chain
+unfolding words.private_token words.hashed last_step step chain after_step
 token_is {env} span h t rest =
     ap (chain (Guard (codes "#") ∷ Plain (Punct None (codes "#")) ∷ [])) (h.is_steps (words.hashed t rest) ∙ sym (chain_append h.steps (last_step t ∷ []) (rest env)))
 
@@ -154,16 +154,21 @@ no_levels : (inner : List Step) (t : List ℕ) → levels inner ≡ 0 → levels
 unfolding last_step levels rise
 no_levels inner t h = let e = levels_append inner (last_step t ∷ []) in omega (arith, e, h)
 
+all_silent : (inner : List Step) (t : List ℕ) → takes_none inner ≡ true → takes_none (all_steps inner t) ≡ true
+unfolding last_step takes_none
+all_silent inner t h = takes_append inner (last_step t ∷ []) ∙ and_from (takes_none inner) true h refl
+
 writes_token : (env : Env) (span : Span) (t : List ℕ) → Spelled PrivateName (private_spelling t) → (t ≡ [] → ⊥) → (env.config.ascii_only ≡ true → is_ascii_text t ≡ true) → Writes env (words.private_token span t) (token_of PrivateName (spelling PrivateName (private_spelling t)) ∷ [])
 writes_token env span t p some a =
-    let h = position_inside env span.lo false in
     record {
-      steps = all_steps h.steps t;
-      is_steps = λ rest. token_is span h t rest;
-      lays = λ s r. token_lays span h t p some s r;
-      remakes = λ e. sym (no_text_in h.steps t h.remakes) ∙ e;
-      deep = let none = no_levels h.steps t h.level in omega (arith, none);
-      hands = hands_by_settings env (all_steps h.steps t) _ (λ e. steps_ascii h.steps t (h.ascii refl) (a e)) (steps_keep h.steps t (h.others refl)) (λ e. absurd (true≢false (sym e ∙ no_strings_in h.steps t h.strings)));
+      from = λ maps.
+          let v : Env = at_maps maps env in
+          let h = position_inside v span.lo false in
+          from_silently v (words.private_token span t) (all_steps h.steps t) _ (all_silent h.steps t h.silent) (λ rest. token_is span h t rest)
+          (λ s r. token_lays span h t p some s r)
+          (λ e. sym (no_text_in h.steps t h.remakes) ∙ e)
+          (let none = no_levels h.steps t h.level in omega (arith, none))
+          (hands_by_settings v (all_steps h.steps t) _ (λ e. steps_ascii h.steps t (h.ascii refl) (a e)) (steps_keep h.steps t (h.others refl)) (λ e. absurd (true≢false (sym e ∙ no_strings_in h.steps t h.strings))));
     }
 
 writes_symbol : (env : Env) (span : Span) (t : List ℕ) → Spelled PrivateName (private_spelling t) → (t ≡ [] → ⊥) → (env.config.ascii_only ≡ true → is_ascii_text t ≡ true) → Writes env (words.private_symbol span t) (token_of PrivateName (spelling PrivateName (private_spelling t)) ∷ [])
@@ -177,18 +182,18 @@ writes_spelled : (env : Env) (span : Span) (t : List ℕ) → is_out_name env.co
 writes_spelled env span t o p some a =
     let u : List ℕ = in_ascii env.config t in
     let due : Bool = wants_escapes env.config t in
-    writes_same env (words.spelled_private span t) (λ rest. step (Remake due) (words.private_symbol span u rest)) _ (λ rest. private_same span t rest env o)
+    writes_same env (words.spelled_private span t) (λ rest. step (Remake due) (words.private_symbol span u rest)) _ (λ maps rest. private_same span t rest (at_maps maps env) o)
     (subst (λ z. Makes env (λ rest. step (Remake due) (words.private_symbol span u rest)) (token_of PrivateName (spelling PrivateName (private_spelling u)) ∷ []) z) (or_false due)
     (writes_then env (step (Remake due)) (words.private_symbol span u) [] _ (writes_remake env due) (writes_symbol env span u p some a)))
 
 writes_text : (env : Env) (span : Span) (bytes : List ℕ) → env.keeps_invalid ≡ false → is_out_name env.config (turned bytes) ≡ false → Spelled PrivateName (private_spelling (written_name env.config bytes)) → (written_name env.config bytes ≡ [] → ⊥) → (env.config.ascii_only ≡ true → is_ascii_text (written_name env.config bytes) ≡ true) → Makes env (words.private_text span bytes) (token_of PrivateName (spelling PrivateName (private_spelling (written_name env.config bytes))) ∷ []) (has_backslash bytes || wants_escapes env.config (turned bytes))
 unfolding words.valid_private written_name
 writes_text env span bytes e o p some a =
-    writes_same env (words.private_text span bytes) (words.valid_private span bytes) _ (λ rest. valid_same span bytes rest env e)
+    writes_same env (words.private_text span bytes) (words.valid_private span bytes) _ (λ maps rest. valid_same span bytes rest (at_maps maps env) e)
     (writes_then env (step (Remake (has_backslash bytes))) (words.spelled_private span (turned bytes)) [] _ (writes_remake env (has_backslash bytes)) (writes_spelled env span (turned bytes) o p some a))
 
 name_out : (env : Env) (span : Span) (bytes : List ℕ) (rest : Plan) → env.keeps_invalid ≡ false → is_out_name env.config (turned bytes) ≡ true → unprintable_in (words.private_text span bytes rest env) ≡ Some NameOutOfTarget
-unfolding words.valid_private step refuse unprintable_in
+unfolding words.valid_private step refuse unprintable_in after_step
 name_out env span bytes rest e o = ap unprintable_in (valid_same span bytes rest env e) ∙ ap unprintable_in (private_out span (turned bytes) rest env o)
 
 some_name : (t : List ℕ) → is_name (chars t) ≡ true → t ≡ [] → ⊥
@@ -199,18 +204,19 @@ some_name (c ∷ cs) h e = cc
 prints_text : (env : Env) (span : Span) (bytes : List ℕ) → env.keeps_invalid ≡ false → Prints env (words.private_text span bytes) (PrivateOf bytes)
 unfolding Generates is_possible is_out may_make_text names_in is_str spelled_name token_of
 prints_text env span bytes e = record {
-  where_possible = λ w o.
+  where_possible = λ w o maps.
       let h = name_written env.config bytes w o in
       let t : List ℕ = written_name env.config bytes in
       let m = writes_text env span bytes e o (private_spelled t h.utf8 h.shape) (some_name t h.shape) h.ascii in
       record {
         tokens = _;
         generated = ap (λ z. z ∷ []) (private_value t) ∙ ap (λ z. lexical.private_name z ∷ []) h.value;
-        writes = m;
-        named = no_names env (words.private_text span bytes);
-        safe = no_string m refl;
+        writes = m.from maps;
+        named = no_names (at_maps maps env) (words.private_text span bytes);
+        placed = placed_none (at_maps maps env) (words.private_text span bytes) (PrivateOf bytes) _ refl (ap (λ z. z ∷ []) (private_value t) ∙ ap (λ z. lexical.private_name z ∷ []) h.value);
+        safe = no_string m refl maps;
       };
-  where_out = λ w o rest. name_out env span bytes rest e o;
+  where_out = λ w o maps rest. name_out (at_maps maps env) span bytes rest e o;
 }
 
 pub prints_private : (env : Env) (span : Span) (bytes : List ℕ) → env.keeps_invalid ≡ false → Prints env (words.private_name span bytes) (PrivateOf bytes)

@@ -11,7 +11,7 @@ use Rattle.swc_ecma_codegen_literals.specs.AsciiNames.{is_out_of_target, ascii_n
 use Rattle.swc_ecma_codegen_literals.specs.ValidNames.{has_byte}
 use Rattle.swc_ecma_codegen_base.specs.declared.refusals.Unprintable.TheVariants.{NameOutOfTarget}
 use Rattle.swc_ecma_codegen_base.specs.PrivateNames.{private_symbol, spelled_private, valid_private, private_text}
-use Rattle.swc_ecma_codegen_base.specs.Run.{Env, Plan, Part, State, Remake, step, refuse, refusal_of, has_backslash, Emits, Does, with_lines}
+use Rattle.swc_ecma_codegen_base.specs.Run.{Env, Plan, Part, State, Remake, step, refuse, refusal_of, has_backslash, Emits, Does, with_source}
 use Rattle.swc_ecma_codegen_base.specs.Targets.{wants_escapes, in_ascii, is_out_name}
 use Rattle.swc_ecma_codegen_base.proofs.Anew.{does_same, emits_same, not_here, spelled_anew, not_anew}
 use Rattle.swc_ecma_codegen_base.proofs.Emitting.{emits_refusal, follows_remade, does_by}
@@ -40,8 +40,8 @@ spelled_here span t u a b r o e h =
 
 -- the text that the settings ask for is written
 spelled : (span : Span) (t u : List ℕ) (a b : State) (r : Result (Unit {0}) Refusal) → is_out_name a.env.config t ≡ false → u ≡ in_ascii a.env.config t → Does (private_symbol span u) a b r → Does (spelled_private span t) a b r
-unfolding with_lines
-spelled span t u a b r o e h = does_by (private_symbol span u) (spelled_private span t) a b r (λ lines s k. spelled_here span t u (with_lines lines a) (with_lines lines b) s o e k) h
+unfolding with_source
+spelled span t u a b r o e h = does_by (private_symbol span u) (spelled_private span t) a b r (λ lines maps s k. spelled_here span t u (with_source lines maps a) (with_source lines maps b) s o e k) h
 
 -- as it is
 pub private_as_it_is : (span : Span) (t : List ℕ) (a b : State) (r : Result (Unit {0}) Refusal) → wants_escapes a.env.config t ≡ false → Does (private_symbol span t) a b r → Does (spelled_private span t) a b r
@@ -62,20 +62,20 @@ not_spelled_here span t e a b fresh k out refused marked =
     ]
 
 pub private_not_spelled : (span : Span) (t : List ℕ) (e : Refusal) (a b : State) → a.failed ≡ false → wants_escapes a.env.config t ≡ true → (is_out_of_target false a.env.config.target (chars t) ≡ true → e ≡ refusals.NameOutOfTarget) → (is_out_of_target false a.env.config.target (chars t) ≡ false → e ≡ OutOfMemory) → b ≡ record a { failed = true } → Does (spelled_private span t) a b (Err e)
-unfolding with_lines
-private_not_spelled span t e a b fresh k out refused marked = λ lines. not_spelled_here span t e (with_lines lines a) (with_lines lines b) fresh k out refused (ap (with_lines lines) marked)
+unfolding with_source
+private_not_spelled span t e a b fresh k out refused marked = λ lines maps. not_spelled_here span t e (with_source lines maps a) (with_source lines maps b) fresh k out refused (ap (with_source lines maps) marked)
 
 -- ---- as the writer takes names
 
 -- a name whose text is made anew
 pub private_remade : (span : Span) (name text : List ℕ) (a b : State) (r : Result (Unit {0}) Refusal) → a.failed ≡ false → text ≡ turned name → Does (spelled_private span text) a b r → Does (valid_private span name) a b r
 unfolding valid_private
-private_remade span name text a b r fresh eq h = spelled_anew (valid_private span name) (has_backslash name) (spelled_private span) text (turned name) a b r fresh (λ lines rest. refl) eq h
+private_remade span name text a b r fresh eq h = spelled_anew (valid_private span name) (has_backslash name) (spelled_private span) text (turned name) a b r fresh (λ lines maps rest. refl) eq h
 
 -- memory is refused only for a name with a backslash
 pub private_not_remade : (span : Span) (name : List ℕ) (e : Refusal) (a b : State) → a.failed ≡ false → e ≡ OutOfMemory → (has_byte 92 name ≡ false → ⊥) → b ≡ record a { failed = true } → Does (valid_private span name) a b (Err e)
 unfolding valid_private
-private_not_remade span name e a b fresh eq h marked = not_anew (valid_private span name) (has_backslash name) (spelled_private span (turned name)) e a b fresh (λ lines rest. refl) eq (true_from_ne_false (has_byte 92 name) h) marked
+private_not_remade span name e a b fresh eq h marked = not_anew (valid_private span name) (has_backslash name) (spelled_private span (turned name)) e a b fresh (λ lines maps rest. refl) eq (true_from_ne_false (has_byte 92 name) h) marked
 
 pub lent_same : (span : Span) (name : List ℕ) (rest : Plan) (env : Env) → env.keeps_invalid ≡ true → private_text span name rest env ≡ spelled_private span name rest env
 unfolding private_text
@@ -87,7 +87,7 @@ valid_same span name rest env h = ap (λ b. cond b (spelled_private span name re
 
 -- a name as it is, and one whose text is made anew
 pub kept_private : (span : Span) (name : List ℕ) (a b : State) (r : Result (Unit {0}) Refusal) → a.env.keeps_invalid ≡ true → Does (spelled_private span name) a b r → Does (private_text span name) a b r
-kept_private span name a b r h k = does_same (private_text span name) (spelled_private span name) a b r (λ lines rest. lent_same span name rest (record a.env { lines = lines }) h) k
+kept_private span name a b r h k = does_same (private_text span name) (spelled_private span name) a b r (λ lines maps rest. lent_same span name rest (record a.env { lines = lines; maps = maps }) h) k
 
 pub made_private : (span : Span) (name : List ℕ) (a b : State) (r : Result (Unit {0}) Refusal) → a.env.keeps_invalid ≡ false → Does (valid_private span name) a b r → Does (private_text span name) a b r
-made_private span name a b r h k = does_same (private_text span name) (valid_private span name) a b r (λ lines rest. valid_same span name rest (record a.env { lines = lines }) h) k
+made_private span name a b r h k = does_same (private_text span name) (valid_private span name) a b r (λ lines maps rest. valid_same span name rest (record a.env { lines = lines; maps = maps }) h) k

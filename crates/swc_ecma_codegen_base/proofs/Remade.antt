@@ -8,7 +8,8 @@ use Rattle.swc_ecma_codegen_ast.specs.Phrases.{One, Generates, names_in}
 use Rattle.swc_ecma_codegen_ast.specs.Tokens as lexical
 use Rattle.swc_ecma_codegen_ast.specs.Tokens.{Value}
 use Rattle.swc_ecma_codegen_base.specs.Escapes.{is_spelled_anew, may_make_text}
-use Rattle.swc_ecma_codegen_base.specs.Run.{Env, Part, Remake, step}
+use Rattle.swc_ecma_codegen_ast.specs.CommentMaps.{Maps}
+use Rattle.swc_ecma_codegen_base.specs.Run.{at_maps, Env, Part, Remake, step}
 use Rattle.swc_ecma_codegen_base.specs.Scripts.{is_str}
 use Rattle.swc_ecma_codegen_base.specs.Targets.{is_out}
 use Rattle.swc_ecma_codegen_base.specs.Lits.{begun_in}
@@ -16,7 +17,7 @@ use Rattle.swc_ecma_codegen_base.specs.Literals.{begun}
 use Rattle.swc_ecma_codegen_base.proofs.Hands.{holds_string}
 use Rattle.swc_ecma_codegen_base.proofs.LiteralParts.{writes_begun}
 use Rattle.swc_ecma_codegen_base.proofs.LitTexts.{signed_tokens}
-use Rattle.swc_ecma_codegen_base.proofs.Phrased.{IsSafe, Prints, no_names, no_string, no_strings, prints_made}
+use Rattle.swc_ecma_codegen_base.proofs.Phrased.{IsSafe, Prints, no_names, placed_none, no_string, no_strings, prints_made}
 use Rattle.swc_ecma_codegen_base.proofs.Printed.{Makes, makes_some, writes_if, writes_nothing, writes_remake, writes_then, Fills}
 
 -- what begins as a `Lit` before it begins as itself
@@ -30,7 +31,7 @@ makes_remade {env} {p} {ts} due h = makes_some (writes_then env (step (Remake du
 
 -- ---- a token whose text may be made anew
 
-pub prints_anew : {env : Env} {p : Part} {made : Bool} (x : lexical.Token) → is_spelled_anew x.kind ≡ true → Makes env p (x ∷ []) made → IsSafe env p → Prints env p (One x)
+pub prints_anew : {env : Env} {p : Part} {made : Bool} (x : lexical.Token) → is_spelled_anew x.kind ≡ true → Makes env p (x ∷ []) made → ((maps : Maps) → IsSafe (at_maps maps env) p) → Prints env p (One x)
 unfolding may_make_text
 prints_anew {env} {p} x e h safe = prints_made env p x (subst (λ z. Makes env p (x ∷ []) z) (sym e) (makes_some h)) safe
 
@@ -38,12 +39,13 @@ prints_anew {env} {p} x e h safe = prints_made env p x (subst (λ z. Makes env p
 pub prints_signed : {env : Env} {p : Part} {made : Bool} (kind : Kind) (value : Value) (negative : Bool) → is_spelled_anew kind ≡ true → is_str kind ≡ false → Makes env p (signed_tokens kind value negative) made → Prints env p (after_sign negative (One (record { kind = kind; value = value })))
 unfolding after_sign may_make_text is_spelled_anew is_out Generates names_in lexical.punctuator holds_string is_str
 prints_signed {env} {p} kind value true e none h = record {
-  where_possible = λ w o. record {
+  where_possible = λ w o maps. record {
     tokens = signed_tokens kind value true;
     generated = (lexical.punctuator (codes "-") ∷ [], record { kind = kind; value = value } ∷ [], refl, refl, refl);
-    writes = subst (λ z. Makes env p (signed_tokens kind value true) z) (sym e) (makes_some h);
-    named = no_names env p;
-    safe = no_strings h (or_from (is_str kind) false none refl);
+    writes = (subst (λ z. Makes env p (signed_tokens kind value true) z) (sym e) (makes_some h)).from maps;
+    named = no_names (at_maps maps env) p;
+    placed = placed_none (at_maps maps env) p (after_sign true (One (record { kind = kind; value = value }))) (signed_tokens kind value true) refl (lexical.punctuator (codes "-") ∷ [], record { kind = kind; value = value } ∷ [], refl, refl, refl);
+    safe = no_strings (h.from maps) (or_from (is_str kind) false none refl);
   };
   where_out = λ w o. absurd (true≢false (sym o));
 }

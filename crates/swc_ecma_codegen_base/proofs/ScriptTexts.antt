@@ -8,7 +8,7 @@ use Rattle.swc_ecma_codegen_ast.specs.Phrases.{Phrase, is_possible}
 use Rattle.swc_ecma_codegen_text_writer.specs.Recorded.{RecordsTruly}
 use Rattle.swc_ecma_codegen_text_writer.specs.Sheet.{Item, Semi, Space, Keyword, Operator, Param, Property, Line, Lit, Comment, StrLit, Str, Symbol, Punct, Position, Commit, Deeper, Shallower, Sheet, literal_written, settled, effect}
 use Rattle.swc_ecma_codegen_text_writer.proofs.Pairs.{effect_records}
-use Rattle.swc_ecma_codegen_base.specs.Run.{Part, State, Step, Guard, Token, Plain, Ends, Remake, put, run, steps_of, nothing, text_of, Follows}
+use Rattle.swc_ecma_codegen_base.specs.Run.{Part, State, Step, Guard, Token, Plain, Ends, Remake, Take, CommentText, put, run, steps_of, nothing, text_of, Follows}
 use Rattle.swc_ecma_codegen_base.specs.Scripts.{is_string_call, string_by_value, strings_after, value_strings, AreSafe, StandIn, AddsSafe}
 use Rattle.swc_ecma_codegen_base.specs.Targets.{is_out}
 use Rattle.swc_ecma_codegen_base.proofs.Held.{front}
@@ -106,12 +106,14 @@ run_holds anew (Token kind x ∷ xs) a = holds_then (string_by_value anew kind x
 run_holds anew (Plain x ∷ xs) a = holds_then [] _ _ _ _ (holds_none _ _ (put_records (Plain x) a)) (run_holds anew xs (put (Plain x) a))
 run_holds anew (Ends tokens x ∷ xs) a = holds_then [] _ _ _ _ (holds_none _ _ (put_records (Ends tokens x) a)) (run_holds anew xs (put (Ends tokens x) a))
 run_holds anew (Remake due ∷ xs) a = holds_then [] _ _ _ _ (holds_none _ _ (put_records (Remake due) a)) (run_holds due xs (put (Remake due) a))
+run_holds anew (Take side at ∷ xs) a = holds_then [] _ _ _ _ (holds_none _ _ (put_records (Take side at) a)) (run_holds anew xs (put (Take side at) a))
+run_holds anew (CommentText t ∷ xs) a = holds_then [] _ _ _ _ (holds_none _ _ (put_records (CommentText t) a)) (run_holds anew xs (put (CommentText t) a))
 
 -- ---- what an emission adds
 
 part_safe : {i : Shape} {p : Part} {f : Phrase} (a : State) → PrintsAt i a.env p f → is_possible f ≡ true → is_out a.env.config f ≡ false → a.env.config.inline_script ≡ true → AreSafe (value_strings (steps_of (p nothing a.env)))
 unfolding IsSafe
-part_safe a prints w o e = (prints.where_possible w o).safe e false
+part_safe a prints w o e = (prints.where_possible w o a.env.maps).safe e false
 
 -- under `inline_script` each string that is printed by its value is safe
 pub printed_safe : {i : Shape} (p : Part) (f : Phrase) (a b : State) (r : Result (Unit {0}) Refusal) → PrintsAt i a.env p f → is_possible f ≡ true → a.env.config.inline_script ≡ true → Follows (p nothing) a b r → OnOk r (AddsSafe (value_strings (steps_of (p nothing a.env))) a.sheet.text b.sheet.text)

@@ -1,13 +1,13 @@
 -- After a call the text reads as the tokens so far and those of the call, whatever follows that doesn't fuse.
-use Rattle.std.proofs.Common.{◌≡◌, ℕ, Bool, true, false, ◌&&◌, cond, List, [], ◌∷◌, ◌++◌, codes, refl, sym, ap, ◌∙◌, subst, append_assoc, append-nil, inl, Option, None, Ok}
+use Rattle.std.proofs.Common.{◌≡◌, ℕ, Bool, true, false, ◌&&◌, cond, List, [], ◌∷◌, ◌++◌, ◌-◌, ◌==◌, codes, refl, sym, ap, ◌∙◌, subst, append_assoc, append-nil, inl, Option, None, Ok}
 use Rattle.std.specs.Str.{chars}
 use Rattle.std.proofs.lemmas.Str.{chars-nil, chars-append, IsUtf8-nil, IsUtf8-append}
 use Rattle.swc_ecma_codegen_common.specs.declared.positions.BytePos.{BytePos}
 use Rattle.swc_ecma_codegen_common.specs.declared.positions.Span.{Span}
 use Rattle.swc_ecma_codegen_ast.specs.Tokens as lexical
-use Rattle.swc_ecma_codegen_ast.specs.Reads.{Reads}
+use Rattle.swc_ecma_codegen_ast.specs.Reads.{Reads, is_same_line}
 use Rattle.swc_ecma_codegen_ast.specs.Endings.{IsReduced}
-use Rattle.swc_ecma_codegen_text_writer.specs.Sheet.{holds_semicolons}
+use Rattle.swc_ecma_codegen_text_writer.specs.Sheet.{holds_semicolons, Position}
 use Rattle.swc_ecma_codegen_ast.specs.Parts as parts
 use Rattle.swc_ecma_codegen_ast.specs.Parts.{OnLine, PastLine, walk, is_broken, NoneFuse, tokens_of, remarks_in}
 use Rattle.swc_ecma_codegen_ast.specs.Settings.{Settings}
@@ -16,24 +16,30 @@ use Rattle.swc_ecma_codegen_base.specs.Settings.{settings_of}
 use Rattle.swc_ecma_codegen_ast.specs.Phrases.{Phrase, Nothing, One, NameOf, Generates, is_possible, ◌>◌, mark}
 use Rattle.swc_ecma_codegen_ast.specs.SpelledNames.{is_well_formed_name}
 use Rattle.swc_ecma_codegen_ast.proofs.Reading.{reads}
-use Rattle.swc_ecma_codegen_base.specs.Run.{Part, State, steps_of, unprintable_in, run, nothing, Follows, Emits}
+use Rattle.swc_ecma_codegen_ast.specs.CommentMaps.{Maps}
+use Rattle.swc_ecma_codegen_ast.specs.SourceLines.{Lines}
+use Rattle.swc_ecma_codegen_base.specs.Run.{Env, Part, State, at_source, Step, Plain, step, after_step, taken_in, taken_by, when_minified, no_part, steps_of, unprintable_in, run, nothing, Follows, Emits}
 use Rattle.swc_ecma_codegen_base.specs.Targets.{is_out}
 use Rattle.swc_ecma_codegen_base.specs.Words.{keyword, operator, word_operator, punct, semi, name, space, formatting_space, line_end, formatting_line, commit_pending_semi, position, position_before, leading_comments, trailing_comments}
-use Rattle.swc_ecma_codegen_base.specs.Written.{IsNew, IsWord, IsMark, ReadsSoFar, AddsText, name_tokens}
+use Rattle.swc_ecma_codegen_base.specs.Written.{IsNew, IsWord, IsMark, ReadsSoFar, AddsText, taken_remarks, name_tokens}
 use Rattle.swc_ecma_codegen_base.proofs.Emitting.{emits_nothing}
 use Rattle.swc_ecma_codegen_base.proofs.Appended.{text_append, tokens_append, remarks_append}
-use Rattle.swc_ecma_codegen_base.proofs.Written.{LaysAt}
-use Rattle.swc_ecma_codegen_base.proofs.Printed.{writes_space, writes_formatting_space, writes_line, writes_formatting_line, writes_commit, writes_position, writes_position_before, writes_leading, writes_trailing, MakesAt, EndsLines, makes_wider}
-use Rattle.swc_ecma_codegen_base.proofs.Phrased.{Prints, steps_of_chain, new_at_rest, prints_keyword, prints_operator, prints_word_operator, prints_punct, prints_semi, prints_ident, made_not_out}
-use Rattle.swc_ecma_codegen_base.proofs.Shapes.{Le, line_first, loose, walk_append, walk_le, not_broken, met_past}
+use Rattle.swc_ecma_codegen_base.proofs.Written.{LaysWith}
+use Rattle.swc_ecma_codegen_base.proofs.Jointless.{holds_joint, walks_past, drops_joints}
+use Rattle.swc_ecma_codegen_ast.specs.Trivia.{Remark}
+use Rattle.swc_ecma_codegen_ast.specs.Comments.{AreClosed, remarks_of, all_closed}
+use Rattle.std.proofs.lemmas.Bool.{or_from}
+use Rattle.swc_ecma_codegen_base.proofs.Printed.{writes_space, writes_formatting_space, writes_line, writes_formatting_line, writes_commit, writes_position, writes_position_before, writes_leading, writes_trailing, MakesFrom, MakesAt, EndsLines, makes_wider, from_wider, remarks_by}
+use Rattle.swc_ecma_codegen_base.proofs.Phrased.{Prints, steps_of_chain, new_at_rest, prints_keyword, prints_operator, prints_word_operator, prints_punct, prints_semi, prints_ident, made_not_out, taken_closed}
+use Rattle.swc_ecma_codegen_base.proofs.Shapes.{Le, line_first, loose, walk_append, walk_le, not_broken}
 
 -- where no line ends within what follows the end of a line, none does where some parts stand before
 kept_on : (xs more : List parts.Part) → Le (walk PastLine xs) PastLine → is_broken (walk PastLine more) ≡ false → is_broken (walk PastLine (xs ++ more)) ≡ false
 kept_on xs more h k = ap is_broken (walk_append xs more PastLine) ∙ not_broken _ _ (walk_le more _ _ h) k
 
 -- what was laid since
-lays_so_far : (old : List ℕ) (tokens ts : List lexical.Token) (a b : State) → LaysAt loose ts a b → ReadsSoFar old tokens a → ReadsSoFar old (tokens ++ ts) b
-lays_so_far old tokens ts a b l h =
+lays_so_far : (old : List ℕ) (tokens ts : List lexical.Token) (rs qs : List Remark) (a b : State) → holds_joint ts ≡ false → LaysWith loose ts qs a b → ReadsSoFar old tokens rs a → ReadsSoFar old (tokens ++ ts) (rs ++ qs) b
+lays_so_far old tokens ts rs qs a b none l h =
     let all : l.laid ≡ l.out = l.whole h.at_once in
     record {
       at_once = l.holds ∙ h.at_once;
@@ -50,29 +56,39 @@ lays_so_far old tokens ts a b l h =
           ap (λ z. tokens ++ z) (tokens_append l.out more)
           ∙ ap (λ z. tokens ++ (z ++ tokens_of more)) l.tokens
           ∙ sym (append_assoc tokens ts (tokens_of more)) in
-          let none : remarks_in (l.out ++ more) ≡ remarks_in more = remarks_append l.out more ∙ ap (λ z. z ++ remarks_in more) (ap remarks_in (sym all) ∙ l.remarks) in
-          subst (λ z. Reads z ((tokens ++ ts) ++ tokens_of more) (remarks_in more)) text
-          (subst (λ z. Reads (chars h.added ++ parts.text_of (l.out ++ more)) z (remarks_in more)) list
-          (subst (λ z. Reads (chars h.added ++ parts.text_of (l.out ++ more)) (tokens ++ tokens_of (l.out ++ more)) z) none
-          (h.reads (l.out ++ more) (l.apart (inl refl) more n) (kept_on l.out more (met_past _ l.fits.past) k))));
+          let said : rs ++ remarks_in (l.out ++ more) ≡ (rs ++ qs) ++ remarks_in more =
+          ap (λ z. rs ++ z) (remarks_append l.out more ∙ ap (λ z. z ++ remarks_in more) (ap remarks_in (sym all) ∙ l.remarks))
+          ∙ sym (append_assoc rs qs (remarks_in more)) in
+          subst (λ z. Reads z ((tokens ++ ts) ++ tokens_of more) ((rs ++ qs) ++ remarks_in more)) text
+          (subst (λ z. Reads (chars h.added ++ parts.text_of (l.out ++ more)) z ((rs ++ qs) ++ remarks_in more)) list
+          (subst (λ z. Reads (chars h.added ++ parts.text_of (l.out ++ more)) (tokens ++ tokens_of (l.out ++ more)) z) said
+          (h.reads (l.out ++ more) (l.apart (inl refl) more n) (kept_on l.out more (walks_past l.out (ap holds_joint l.tokens ∙ none)) k))));
       rest = l.rest;
     }
 
 -- a part that writes tokens, and was made
-emitted_so_far : (part : Part) (old : List ℕ) (tokens ts : List lexical.Token) (a b : State) {remade : Bool} → MakesAt loose a.env part ts remade → Emits part a b (Ok tt) → ReadsSoFar old tokens a → ReadsSoFar old (tokens ++ ts) b
+from_so_far : {room : ℕ} {remade : Bool} (part : Part) (old : List ℕ) (tokens ts : List lexical.Token) (rs : List Remark) (a b : State) → MakesFrom loose room a.env part ts remade → holds_joint ts ≡ false → all_closed (taken_remarks part a.env) ≡ true → Emits part a b (Ok tt) → ReadsSoFar old tokens rs a → ReadsSoFar old (tokens ++ ts) (rs ++ taken_remarks part a.env) b
 unfolding Follows nothing
-emitted_so_far part old tokens ts a b w e h =
+from_so_far part old tokens ts rs a b w none c e h =
     let k = e nothing b (Ok tt) (emits_nothing b) in
-    let end : b ≡ run w.steps a = k.1 ∙ ap (λ z. run (steps_of z) a) (w.is_steps nothing) ∙ ap (λ z. run z a) (steps_of_chain w.steps) in
-    let P : State → Type 0 = λ z. ReadsSoFar old (tokens ++ ts) z in
-    subst P (sym end) (lays_so_far old tokens ts a (run w.steps a) (w.lays a h.rest) h)
+    let same : steps_of (part nothing a.env) ≡ w.steps = ap steps_of (w.is_steps nothing) ∙ steps_of_chain w.steps in
+    let end : b ≡ run w.steps a = k.1 ∙ ap (λ z. run z a) same in
+    let P : State → Type 0 = λ z. ReadsSoFar old (tokens ++ ts) (rs ++ taken_remarks part a.env) z in
+    let Q : List Step → Type 0 = λ z. ReadsSoFar old (tokens ++ ts) (rs ++ remarks_by z a.env) (run w.steps a) in
+    subst P (sym end) (subst Q (sym same) (lays_so_far old tokens ts rs (remarks_by w.steps a.env) a (run w.steps a) none (w.lays a h.rest (ap (λ z. all_closed (remarks_by z a.env)) (sym same) ∙ c)) h))
 
--- a part that writes one token
-one_so_far : (part : Part) (x : lexical.Token) (old : List ℕ) (tokens : List lexical.Token) (a b : State) → Prints a.env part (One x) → Emits part a b (Ok tt) → ReadsSoFar old tokens a → ReadsSoFar old (tokens ++ x ∷ []) b
+emitted_so_far : (part : Part) (old : List ℕ) (tokens ts : List lexical.Token) (rs : List Remark) (a b : State) {remade : Bool} → MakesAt loose a.env part ts remade → holds_joint ts ≡ false → all_closed (taken_remarks part a.env) ≡ true → Emits part a b (Ok tt) → ReadsSoFar old tokens rs a → ReadsSoFar old (tokens ++ ts) (rs ++ taken_remarks part a.env) b
+emitted_so_far part old tokens ts rs a b w none c e h = from_so_far part old tokens ts rs a b (w.from a.env.maps) none c e h
+
+-- a part that writes one token, and takes no comments
+one_so_far : (part : Part) (x : lexical.Token) (old : List ℕ) (tokens : List lexical.Token) (rs : List Remark) (a b : State) → Prints a.env part (One x) → is_same_line x.kind ≡ false → taken_remarks part a.env ≡ [] → Emits part a b (Ok tt) → ReadsSoFar old tokens rs a → ReadsSoFar old (tokens ++ x ∷ []) rs b
 unfolding Generates is_possible is_out
-one_so_far part x old tokens a b prints e h =
-    let p = prints.where_possible refl refl in
-    subst (λ z. ReadsSoFar old (tokens ++ z) b) p.generated (emitted_so_far part old tokens p.tokens a b (makes_wider loose refl p.writes) e h)
+one_so_far part x old tokens rs a b prints n t e h =
+    let p = prints.where_possible refl refl a.env.maps in
+    let none : holds_joint p.tokens ≡ false = ap holds_joint p.generated ∙ (unfold holds_joint in or_from (is_same_line x.kind) false n refl) in
+    let closed : all_closed (taken_remarks part a.env) ≡ true = ap all_closed t ∙ (unfold all_closed in refl) in
+    subst (λ z. ReadsSoFar old (tokens ++ x ∷ []) z b) (ap (λ z. rs ++ z) t ∙ append-nil rs)
+    (subst (λ z. ReadsSoFar old (tokens ++ z) (rs ++ taken_remarks part a.env) b) p.generated (from_so_far part old tokens p.tokens rs a b (from_wider loose refl p.writes) none closed e h))
 
 -- a part that was made comes to its end
 emitted_ends : (part : Part) (a b : State) → Emits part a b (Ok tt) → unprintable_in (part nothing a.env) ≡ None
@@ -80,25 +96,30 @@ unfolding Follows
 emitted_ends part a b e = (e nothing b (Ok tt) (emits_nothing b)).0
 
 -- a part that writes one of the token lists of a phrase
-pub phrase_so_far : (part : Part) (f : Phrase) (old : List ℕ) (tokens : List lexical.Token) (a b : State) → Prints a.env part f → is_possible f ≡ true → Emits part a b (Ok tt) → ReadsSoFar old tokens a → (ts : List lexical.Token) × Generates (settings_of a.env.config) f ts × ReadsSoFar old (tokens ++ ts) b
-phrase_so_far part f old tokens a b prints w e h =
-    let p = prints.where_possible w (made_not_out part f a.env prints w (emitted_ends part a b e)) in
-    (p.tokens, p.generated, emitted_so_far part old tokens p.tokens a b (makes_wider loose refl p.writes) e h)
+pub phrase_so_far : (part : Part) (f : Phrase) (old : List ℕ) (tokens : List lexical.Token) (rs : List Remark) (a b : State) → Prints a.env part f → is_possible f ≡ true → ((ts : List lexical.Token) → Generates (settings_of a.env.config) f ts → holds_joint ts ≡ false) → AreClosed a.env.maps → Emits part a b (Ok tt) → ReadsSoFar old tokens rs a → (ts : List lexical.Token) × Generates (settings_of a.env.config) f ts × ReadsSoFar old (tokens ++ ts) (rs ++ taken_remarks part a.env) b
+phrase_so_far part f old tokens rs a b prints w none c e h =
+    let p = prints.where_possible w (made_not_out part f a.env prints w (emitted_ends part a b e)) a.env.maps in
+    (p.tokens, p.generated, from_so_far part old tokens p.tokens rs a b (from_wider loose refl p.writes) (none p.tokens p.generated) (taken_closed (steps_of (part nothing a.env)) a.env.maps c) e h)
 
-pub keyword_so_far : (span : Option Span) (t old : List ℕ) (tokens : List lexical.Token) (a b : State) → IsWord t → Emits (keyword span t) a b (Ok tt) → ReadsSoFar old tokens a → ReadsSoFar old (tokens ++ lexical.word t ∷ []) b
-keyword_so_far span t old tokens a b w e h = one_so_far (keyword span t) (lexical.word t) old tokens a b (prints_keyword a.env span t w) e h
+pub keyword_so_far : (span : Option Span) (t old : List ℕ) (tokens : List lexical.Token) (rs : List Remark) (a b : State) → IsWord t → Emits (keyword span t) a b (Ok tt) → ReadsSoFar old tokens rs a → ReadsSoFar old (tokens ++ lexical.word t ∷ []) rs b
+unfolding keyword step steps_of nothing after_step taken_in taken_by remarks_of lexical.word lexical.punctuator lexical.ending is_same_line
+keyword_so_far span t old tokens rs a b w e h = one_so_far (keyword span t) (lexical.word t) old tokens rs a b (prints_keyword a.env span t w) refl refl e h
 
-pub word_operator_so_far : (t old : List ℕ) (tokens : List lexical.Token) (a b : State) → IsWord t → Emits (word_operator t) a b (Ok tt) → ReadsSoFar old tokens a → ReadsSoFar old (tokens ++ lexical.word t ∷ []) b
-word_operator_so_far t old tokens a b w e h = one_so_far (word_operator t) (lexical.word t) old tokens a b (prints_word_operator a.env t w) e h
+pub word_operator_so_far : (t old : List ℕ) (tokens : List lexical.Token) (rs : List Remark) (a b : State) → IsWord t → Emits (word_operator t) a b (Ok tt) → ReadsSoFar old tokens rs a → ReadsSoFar old (tokens ++ lexical.word t ∷ []) rs b
+unfolding word_operator step steps_of nothing after_step taken_in taken_by remarks_of lexical.word lexical.punctuator lexical.ending is_same_line
+word_operator_so_far t old tokens rs a b w e h = one_so_far (word_operator t) (lexical.word t) old tokens rs a b (prints_word_operator a.env t w) refl refl e h
 
-pub operator_so_far : (t old : List ℕ) (tokens : List lexical.Token) (a b : State) → IsMark t → Emits (operator t) a b (Ok tt) → ReadsSoFar old tokens a → ReadsSoFar old (tokens ++ lexical.punctuator t ∷ []) b
-operator_so_far t old tokens a b w e h = one_so_far (operator t) (lexical.punctuator t) old tokens a b (prints_operator a.env t w) e h
+pub operator_so_far : (t old : List ℕ) (tokens : List lexical.Token) (rs : List Remark) (a b : State) → IsMark t → Emits (operator t) a b (Ok tt) → ReadsSoFar old tokens rs a → ReadsSoFar old (tokens ++ lexical.punctuator t ∷ []) rs b
+unfolding operator step steps_of nothing after_step taken_in taken_by remarks_of lexical.word lexical.punctuator lexical.ending is_same_line
+operator_so_far t old tokens rs a b w e h = one_so_far (operator t) (lexical.punctuator t) old tokens rs a b (prints_operator a.env t w) refl refl e h
 
-pub punct_so_far : (t old : List ℕ) (tokens : List lexical.Token) (a b : State) → IsMark t → Emits (punct t) a b (Ok tt) → ReadsSoFar old tokens a → ReadsSoFar old (tokens ++ lexical.punctuator t ∷ []) b
-punct_so_far t old tokens a b w e h = one_so_far (punct t) (lexical.punctuator t) old tokens a b (prints_punct a.env t w) e h
+pub punct_so_far : (t old : List ℕ) (tokens : List lexical.Token) (rs : List Remark) (a b : State) → IsMark t → Emits (punct t) a b (Ok tt) → ReadsSoFar old tokens rs a → ReadsSoFar old (tokens ++ lexical.punctuator t ∷ []) rs b
+unfolding punct step steps_of nothing after_step taken_in taken_by remarks_of lexical.word lexical.punctuator lexical.ending is_same_line
+punct_so_far t old tokens rs a b w e h = one_so_far (punct t) (lexical.punctuator t) old tokens rs a b (prints_punct a.env t w) refl refl e h
 
-pub semi_so_far : (old : List ℕ) (tokens : List lexical.Token) (a b : State) → Emits semi a b (Ok tt) → ReadsSoFar old tokens a → ReadsSoFar old (tokens ++ lexical.ending ∷ []) b
-semi_so_far old tokens a b e h = one_so_far semi lexical.ending old tokens a b (prints_semi a.env) e h
+pub semi_so_far : (old : List ℕ) (tokens : List lexical.Token) (rs : List Remark) (a b : State) → Emits semi a b (Ok tt) → ReadsSoFar old tokens rs a → ReadsSoFar old (tokens ++ lexical.ending ∷ []) rs b
+unfolding semi step steps_of nothing after_step taken_in taken_by remarks_of lexical.word lexical.punctuator lexical.ending is_same_line
+semi_so_far old tokens rs a b e h = one_so_far semi lexical.ending old tokens rs a b (prints_semi a.env) refl refl e h
 
 -- a name, and `?` after an optional one
 name_list : (s : Settings) (at : BytePos) (bytes : List ℕ) (optional : Bool) (ts : List lexical.Token) → Generates s (NameOf at bytes > cond optional (mark (codes "?")) Nothing) ts → ts ≡ name_tokens bytes optional
@@ -111,13 +132,18 @@ unfolding is_possible
 name_possible at bytes true w = ap (λ z. z && true) w
 name_possible at bytes false w = ap (λ z. z && true) w
 
-pub name_so_far : (span : Span) (bytes : List ℕ) (optional : Bool) (old : List ℕ) (tokens : List lexical.Token) (a b : State) → a.env.keeps_invalid ≡ false → is_well_formed_name bytes ≡ true → Emits (name span bytes optional) a b (Ok tt) → ReadsSoFar old tokens a → ReadsSoFar old (tokens ++ name_tokens bytes optional) b
-name_so_far span bytes optional old tokens a b v w e h =
-    let p = phrase_so_far (name span bytes optional) _ old tokens a b (prints_ident a.env span bytes optional v) (name_possible span.lo bytes optional w) e h in
-    subst (λ z. ReadsSoFar old (tokens ++ z) b) (name_list (settings_of a.env.config) span.lo bytes optional p.0 p.1) p.2
+name_joint : (bytes : List ℕ) (optional : Bool) → holds_joint (name_tokens bytes optional) ≡ false
+unfolding holds_joint is_same_line lexical.name lexical.punctuator
+name_joint bytes true = refl
+name_joint bytes false = refl
+
+pub name_so_far : (span : Span) (bytes : List ℕ) (optional : Bool) (old : List ℕ) (tokens : List lexical.Token) (rs : List Remark) (a b : State) → a.env.keeps_invalid ≡ false → is_well_formed_name bytes ≡ true → AreClosed a.env.maps → Emits (name span bytes optional) a b (Ok tt) → ReadsSoFar old tokens rs a → ReadsSoFar old (tokens ++ name_tokens bytes optional) (rs ++ taken_remarks (name span bytes optional) a.env) b
+name_so_far span bytes optional old tokens rs a b v w c e h =
+    let p = phrase_so_far (name span bytes optional) _ old tokens rs a b (prints_ident a.env span bytes optional v) (name_possible span.lo bytes optional w) (λ ts g. ap holds_joint (name_list (settings_of a.env.config) span.lo bytes optional ts g) ∙ name_joint bytes optional) c e h in
+    subst (λ z. ReadsSoFar old (tokens ++ z) (rs ++ taken_remarks (name span bytes optional) a.env) b) (name_list (settings_of a.env.config) span.lo bytes optional p.0 p.1) p.2
 
 -- nothing was written yet
-pub new_so_far : (s : State) → IsNew s → holds_semicolons s.sheet.semicolons ≡ false → ReadsSoFar s.sheet.text [] s
+pub new_so_far : (s : State) → IsNew s → holds_semicolons s.sheet.semicolons ≡ false → ReadsSoFar s.sheet.text [] [] s
 new_so_far s n o = record {
   at_once = o;
   added = [];
@@ -134,49 +160,99 @@ all_kept [] = refl
 all_kept (x ∷ xs) = inl (xs, refl, all_kept xs)
 
 -- where nothing follows
-pub so_far_reads : (config : Config) (f : Phrase) (old : List ℕ) (tokens : List lexical.Token) (s : State) → Generates (settings_of config) f tokens → ReadsSoFar old tokens s → AddsText config false f old s.sheet.text
+pub so_far_reads : (config : Config) (f : Phrase) (old : List ℕ) (tokens : List lexical.Token) (rs : List Remark) (s : State) → Generates (settings_of config) f tokens → ReadsSoFar old tokens rs s → AddsText config false f rs old s.sheet.text
 unfolding NoneFuse parts.text_of tokens_of remarks_in walk is_broken
-so_far_reads config f old tokens s g h = record {
+so_far_reads config f old tokens rs s g h =
+    let all = subst (λ z. Reads (chars h.added) tokens z) (append-nil rs) (subst (λ z. Reads (chars h.added) z (rs ++ [])) (append-nil tokens) (subst (λ z. Reads z (tokens ++ []) (rs ++ [])) (append-nil (chars h.added)) (h.reads [] (h.rest.allowed []) refl))) in
+    record {
+      added = h.added;
+      is_added = h.is_added;
+      reading = record {
+        utf8 = h.utf8;
+        tokens = tokens;
+        is_list = g;
+        written = tokens;
+        reduced = all_kept tokens;
+        whole = λ e. refl;
+        reads = drops_joints tokens (chars h.added) rs all;
+        keeps_lines = λ t. all;
+      };
+    }
+
+-- a part that writes no token, and takes no comments
+gap_so_far : (part : Part) (old : List ℕ) (tokens : List lexical.Token) (rs : List Remark) (a b : State) → EndsLines a.env part → taken_remarks part a.env ≡ [] → Emits part a b (Ok tt) → ReadsSoFar old tokens rs a → ReadsSoFar old tokens rs b
+unfolding holds_joint
+gap_so_far part old tokens rs a b w t e h =
+    let closed : all_closed (taken_remarks part a.env) ≡ true = ap all_closed t ∙ (unfold all_closed in refl) in
+    subst (λ z. ReadsSoFar old tokens z b) (ap (λ z. rs ++ z) t ∙ append-nil rs) (subst (λ z. ReadsSoFar old z (rs ++ taken_remarks part a.env) b) (append-nil tokens) (emitted_so_far part old tokens [] rs a b w refl closed e h))
+
+-- one that may take some
+taking_so_far : (part : Part) (old : List ℕ) (tokens : List lexical.Token) (rs : List Remark) (a b : State) → EndsLines a.env part → AreClosed a.env.maps → Emits part a b (Ok tt) → ReadsSoFar old tokens rs a → ReadsSoFar old tokens (rs ++ taken_remarks part a.env) b
+unfolding holds_joint
+taking_so_far part old tokens rs a b w c e h = subst (λ z. ReadsSoFar old z (rs ++ taken_remarks part a.env) b) (append-nil tokens) (emitted_so_far part old tokens [] rs a b w refl (taken_closed (steps_of (part nothing a.env)) a.env.maps c) e h)
+
+pub space_so_far : (old : List ℕ) (tokens : List lexical.Token) (rs : List Remark) (a b : State) → Emits space a b (Ok tt) → ReadsSoFar old tokens rs a → ReadsSoFar old tokens rs b
+unfolding space step steps_of nothing after_step taken_in taken_by remarks_of
+space_so_far old tokens rs a b e h = gap_so_far space old tokens rs a b (makes_wider loose refl (writes_space a.env)) refl e h
+
+pub line_so_far : (old : List ℕ) (tokens : List lexical.Token) (rs : List Remark) (a b : State) → Emits line_end a b (Ok tt) → ReadsSoFar old tokens rs a → ReadsSoFar old tokens rs b
+unfolding line_end step steps_of nothing after_step taken_in taken_by remarks_of
+line_so_far old tokens rs a b e h = gap_so_far line_end old tokens rs a b (writes_line a.env) refl e h
+
+pub commit_so_far : (old : List ℕ) (tokens : List lexical.Token) (rs : List Remark) (a b : State) → Emits commit_pending_semi a b (Ok tt) → ReadsSoFar old tokens rs a → ReadsSoFar old tokens rs b
+unfolding commit_pending_semi step steps_of nothing after_step taken_in taken_by remarks_of
+commit_so_far old tokens rs a b e h = gap_so_far commit_pending_semi old tokens rs a b (makes_wider loose refl (writes_commit a.env)) refl e h
+
+-- by the settings
+minified_none : (part : Part) (env : Env) → taken_remarks part env ≡ [] → taken_remarks (when_minified no_part part) env ≡ []
+unfolding when_minified no_part steps_of nothing taken_in remarks_of
+minified_none part env h = elim env.config.minify as (λ b. remarks_of (taken_in (steps_of (cond b (nothing env) (part nothing env))) env.maps) ≡ []) [ true ↦ refl | false ↦ h ]
+
+pub formatting_space_so_far : (old : List ℕ) (tokens : List lexical.Token) (rs : List Remark) (a b : State) → Emits formatting_space a b (Ok tt) → ReadsSoFar old tokens rs a → ReadsSoFar old tokens rs b
+unfolding formatting_space space step steps_of nothing after_step taken_in taken_by remarks_of
+formatting_space_so_far old tokens rs a b e h = gap_so_far formatting_space old tokens rs a b (makes_wider loose refl (writes_formatting_space a.env)) (minified_none space a.env refl) e h
+
+pub formatting_line_so_far : (old : List ℕ) (tokens : List lexical.Token) (rs : List Remark) (a b : State) → Emits formatting_line a b (Ok tt) → ReadsSoFar old tokens rs a → ReadsSoFar old tokens rs b
+unfolding formatting_line line_end step steps_of nothing after_step taken_in taken_by remarks_of
+formatting_line_so_far old tokens rs a b e h = gap_so_far formatting_line old tokens rs a b (writes_formatting_line a.env) (minified_none line_end a.env refl) e h
+
+where_none : (b : Bool) (x : Step) (env : Env) → taken_remarks (step x) env ≡ [] → taken_remarks (λ rest. cond b rest (step x rest)) env ≡ []
+unfolding nothing steps_of taken_in remarks_of
+where_none true x env h = refl
+where_none false x env h = h
+
+pub position_so_far : (pos : BytePos) (old : List ℕ) (tokens : List lexical.Token) (rs : List Remark) (a b : State) → Emits (position pos) a b (Ok tt) → ReadsSoFar old tokens rs a → ReadsSoFar old tokens rs b
+unfolding position step steps_of nothing after_step taken_in taken_by remarks_of
+position_so_far pos old tokens rs a b e h = gap_so_far (position pos) old tokens rs a b (makes_wider loose refl (writes_position a.env pos)) (where_none (pos.0 == 0) (Plain (Position pos)) a.env refl) e h
+
+pub position_before_so_far : (pos : BytePos) (old : List ℕ) (tokens : List lexical.Token) (rs : List Remark) (a b : State) → Emits (position_before pos) a b (Ok tt) → ReadsSoFar old tokens rs a → ReadsSoFar old tokens rs b
+unfolding position_before step steps_of nothing after_step taken_in taken_by remarks_of
+position_before_so_far pos old tokens rs a b e h = gap_so_far (position_before pos) old tokens rs a b (makes_wider loose refl (writes_position_before a.env pos)) (where_none (pos.0 == 0) (Plain (Position (record { 0 = pos.0 - 1 }))) a.env refl) e h
+
+-- comments that are taken stand behind those so far
+pub leading_so_far : (pos : BytePos) (old : List ℕ) (tokens : List lexical.Token) (rs : List Remark) (a b : State) → AreClosed a.env.maps → Emits (leading_comments pos) a b (Ok tt) → ReadsSoFar old tokens rs a → ReadsSoFar old tokens (rs ++ taken_remarks (leading_comments pos) a.env) b
+leading_so_far pos old tokens rs a b c e h = taking_so_far (leading_comments pos) old tokens rs a b (makes_wider loose refl (writes_leading a.env pos)) c e h
+
+pub trailing_so_far : (prefix : Bool) (pos : BytePos) (old : List ℕ) (tokens : List lexical.Token) (rs : List Remark) (a b : State) → AreClosed a.env.maps → Emits (trailing_comments prefix pos) a b (Ok tt) → ReadsSoFar old tokens rs a → ReadsSoFar old tokens (rs ++ taken_remarks (trailing_comments prefix pos) a.env) b
+trailing_so_far prefix pos old tokens rs a b c e h = taking_so_far (trailing_comments prefix pos) old tokens rs a b (makes_wider loose refl (writes_trailing a.env prefix pos)) c e h
+
+-- it doesn't hang on the lines and the comments
+pub so_far_at : (lines : Lines) (maps : Maps) (old : List ℕ) (tokens : List lexical.Token) (rs : List Remark) (s : State) → ReadsSoFar old tokens rs s → ReadsSoFar old tokens rs (at_source lines maps s)
+so_far_at lines maps old tokens rs s h = record {
+  at_once = h.at_once;
   added = h.added;
   is_added = h.is_added;
-  reading = record {
-    utf8 = h.utf8;
-    tokens = tokens;
-    is_list = g;
-    written = tokens;
-    reduced = all_kept tokens;
-    whole = λ e. refl;
-    reads = subst (λ z. Reads (chars h.added) z []) (append-nil tokens) (subst (λ z. Reads z (tokens ++ []) []) (append-nil (chars h.added)) (h.reads [] (h.rest.allowed []) refl));
-  };
+  utf8 = h.utf8;
+  reads = h.reads;
+  rest = record { indent_text = h.rest.indent_text; line_end = h.rest.line_end; free = h.rest.free; allowed = h.rest.allowed };
 }
 
--- a part that writes no token
-gap_so_far : (part : Part) (old : List ℕ) (tokens : List lexical.Token) (a b : State) → EndsLines a.env part → Emits part a b (Ok tt) → ReadsSoFar old tokens a → ReadsSoFar old tokens b
-gap_so_far part old tokens a b w e h = subst (λ z. ReadsSoFar old z b) (append-nil tokens) (emitted_so_far part old tokens [] a b w e h)
-
-pub space_so_far : (old : List ℕ) (tokens : List lexical.Token) (a b : State) → Emits space a b (Ok tt) → ReadsSoFar old tokens a → ReadsSoFar old tokens b
-space_so_far old tokens a b e h = gap_so_far space old tokens a b (makes_wider loose refl (writes_space a.env)) e h
-
-pub formatting_space_so_far : (old : List ℕ) (tokens : List lexical.Token) (a b : State) → Emits formatting_space a b (Ok tt) → ReadsSoFar old tokens a → ReadsSoFar old tokens b
-formatting_space_so_far old tokens a b e h = gap_so_far formatting_space old tokens a b (makes_wider loose refl (writes_formatting_space a.env)) e h
-
-pub line_so_far : (old : List ℕ) (tokens : List lexical.Token) (a b : State) → Emits line_end a b (Ok tt) → ReadsSoFar old tokens a → ReadsSoFar old tokens b
-line_so_far old tokens a b e h = gap_so_far line_end old tokens a b (writes_line a.env) e h
-
-pub formatting_line_so_far : (old : List ℕ) (tokens : List lexical.Token) (a b : State) → Emits formatting_line a b (Ok tt) → ReadsSoFar old tokens a → ReadsSoFar old tokens b
-formatting_line_so_far old tokens a b e h = gap_so_far formatting_line old tokens a b (writes_formatting_line a.env) e h
-
-pub commit_so_far : (old : List ℕ) (tokens : List lexical.Token) (a b : State) → Emits commit_pending_semi a b (Ok tt) → ReadsSoFar old tokens a → ReadsSoFar old tokens b
-commit_so_far old tokens a b e h = gap_so_far commit_pending_semi old tokens a b (makes_wider loose refl (writes_commit a.env)) e h
-
-pub position_so_far : (pos : BytePos) (old : List ℕ) (tokens : List lexical.Token) (a b : State) → Emits (position pos) a b (Ok tt) → ReadsSoFar old tokens a → ReadsSoFar old tokens b
-position_so_far pos old tokens a b e h = gap_so_far (position pos) old tokens a b (makes_wider loose refl (writes_position a.env pos)) e h
-
-pub position_before_so_far : (pos : BytePos) (old : List ℕ) (tokens : List lexical.Token) (a b : State) → Emits (position_before pos) a b (Ok tt) → ReadsSoFar old tokens a → ReadsSoFar old tokens b
-position_before_so_far pos old tokens a b e h = gap_so_far (position_before pos) old tokens a b (makes_wider loose refl (writes_position_before a.env pos)) e h
-
-pub leading_so_far : (pos : BytePos) (old : List ℕ) (tokens : List lexical.Token) (a b : State) → Emits (leading_comments pos) a b (Ok tt) → ReadsSoFar old tokens a → ReadsSoFar old tokens b
-leading_so_far pos old tokens a b e h = gap_so_far (leading_comments pos) old tokens a b (makes_wider loose refl (writes_leading a.env pos)) e h
-
-pub trailing_so_far : (prefix : Bool) (pos : BytePos) (old : List ℕ) (tokens : List lexical.Token) (a b : State) → Emits (trailing_comments prefix pos) a b (Ok tt) → ReadsSoFar old tokens a → ReadsSoFar old tokens b
-trailing_so_far prefix pos old tokens a b e h = gap_so_far (trailing_comments prefix pos) old tokens a b (makes_wider loose refl (writes_trailing a.env prefix pos)) e h
+pub so_far_from : (lines : Lines) (maps : Maps) (old : List ℕ) (tokens : List lexical.Token) (rs : List Remark) (s : State) → ReadsSoFar old tokens rs (at_source lines maps s) → ReadsSoFar old tokens rs s
+so_far_from lines maps old tokens rs s h = record {
+  at_once = h.at_once;
+  added = h.added;
+  is_added = h.is_added;
+  utf8 = h.utf8;
+  reads = h.reads;
+  rest = record { indent_text = h.rest.indent_text; line_end = h.rest.line_end; free = h.rest.free; allowed = h.rest.allowed };
+}

@@ -10,7 +10,7 @@ use Rattle.swc_ecma_codegen_ast.specs.ValidNames.{turned}
 use Rattle.swc_ecma_codegen_literals.specs.AsciiNames.{is_out_of_target, ascii_name}
 use Rattle.swc_ecma_codegen_literals.specs.ValidNames.{has_byte}
 use Rattle.swc_ecma_codegen_base.specs.declared.refusals.Unprintable.TheVariants.{NameOutOfTarget}
-use Rattle.swc_ecma_codegen_base.specs.Run.{Env, Plan, State, Remake, step, refuse, refusal_of, has_backslash, Follows, Emits, Does, with_lines, IsRefused}
+use Rattle.swc_ecma_codegen_base.specs.Run.{Env, Plan, State, Remake, step, refuse, refusal_of, has_backslash, Follows, Emits, Does, with_source, IsRefused}
 use Rattle.swc_ecma_codegen_base.specs.Targets.{wants_escapes, in_ascii, is_out_name}
 use Rattle.swc_ecma_codegen_base.specs.Words.{symbol, spelled_symbol, valid_symbol, name_text}
 use Rattle.swc_ecma_codegen_base.proofs.Emitting.{emits_refused, emits_refusal, follows_remade, follows_same}
@@ -34,9 +34,9 @@ spelled_follows span t u rest a c r o e h =
     (follows_remade (wants_escapes a.env.config t) (symbol span (in_ascii a.env.config t) rest) a c r (subst P e h))
 
 spelled : (span : Span) (t u : List ℕ) (a b : State) (r : Result (Unit {0}) Refusal) → is_out_name a.env.config t ≡ false → u ≡ in_ascii a.env.config t → Does (symbol span u) a b r → Does (spelled_symbol span t) a b r
-unfolding with_lines
-spelled span t u a b (Ok x) o e h = λ lines rest c r f. spelled_follows span t u rest (with_lines lines a) c r o e (h lines rest c r f)
-spelled span t u a b (Err x) o e h = λ lines rest. spelled_follows span t u rest (with_lines lines a) (with_lines lines b) (Err x) o e (h lines rest)
+unfolding with_source
+spelled span t u a b (Ok x) o e h = λ lines maps rest c r f. spelled_follows span t u rest (with_source lines maps a) c r o e (h lines maps rest c r f)
+spelled span t u a b (Err x) o e h = λ lines maps rest. spelled_follows span t u rest (with_source lines maps a) (with_source lines maps b) (Err x) o e (h lines maps rest)
 
 -- as it is
 pub spelled_as_it_is : (span : Span) (t : List ℕ) (a b : State) (r : Result (Unit {0}) Refusal) → wants_escapes a.env.config t ≡ false → Does (symbol span t) a b r → Does (spelled_symbol span t) a b r
@@ -61,16 +61,16 @@ not_spelled_here span t e a b fresh k out refused marked rest =
     ]
 
 pub not_spelled : (span : Span) (t : List ℕ) (e : Refusal) (a b : State) → a.failed ≡ false → wants_escapes a.env.config t ≡ true → (is_out_of_target false a.env.config.target (chars t) ≡ true → e ≡ refusals.NameOutOfTarget) → (is_out_of_target false a.env.config.target (chars t) ≡ false → e ≡ OutOfMemory) → b ≡ record a { failed = true } → Does (spelled_symbol span t) a b (Err e)
-unfolding with_lines
-not_spelled span t e a b fresh k out refused marked = λ lines. not_spelled_here span t e (with_lines lines a) (with_lines lines b) fresh k out refused (ap (with_lines lines) marked)
+unfolding with_source
+not_spelled span t e a b fresh k out refused marked = λ lines maps. not_spelled_here span t e (with_source lines maps a) (with_source lines maps b) fresh k out refused (ap (with_source lines maps) marked)
 
 -- ---- as the writer takes names
 
 -- a name whose text is made anew
 pub remade : (span : Span) (name text : List ℕ) (a b : State) (r : Result (Unit {0}) Refusal) → text ≡ turned name → Does (spelled_symbol span text) a b r → Does (valid_symbol span name) a b r
-unfolding valid_symbol with_lines
-remade span name text a b (Ok u) eq h = λ lines rest c r f. follows_remade (has_backslash name) (spelled_symbol span (turned name) rest) (with_lines lines a) c r (let P : List ℕ → Type 0 = λ t. Follows (spelled_symbol span t rest) (with_lines lines a) c r in subst P eq (h lines rest c r f))
-remade span name text a b (Err e) eq h = λ lines rest. follows_remade (has_backslash name) (spelled_symbol span (turned name) rest) (with_lines lines a) (with_lines lines b) (Err e) (let P : List ℕ → Type 0 = λ t. Follows (spelled_symbol span t rest) (with_lines lines a) (with_lines lines b) (Err e) in subst P eq (h lines rest))
+unfolding valid_symbol with_source
+remade span name text a b (Ok u) eq h = λ lines maps rest c r f. follows_remade (has_backslash name) (spelled_symbol span (turned name) rest) (with_source lines maps a) c r (let P : List ℕ → Type 0 = λ t. Follows (spelled_symbol span t rest) (with_source lines maps a) c r in subst P eq (h lines maps rest c r f))
+remade span name text a b (Err e) eq h = λ lines maps rest. follows_remade (has_backslash name) (spelled_symbol span (turned name) rest) (with_source lines maps a) (with_source lines maps b) (Err e) (let P : List ℕ → Type 0 = λ t. Follows (spelled_symbol span t rest) (with_source lines maps a) (with_source lines maps b) (Err e) in subst P eq (h lines maps rest))
 
 -- memory is refused only for a name with a backslash
 backslash : (b : Bool) → (b ≡ false → ⊥) → b ≡ true
@@ -78,8 +78,8 @@ backslash true h = refl
 backslash false h = absurd (h refl)
 
 pub not_remade : (span : Span) (name : List ℕ) (e : Refusal) (a b : State) → a.failed ≡ false → e ≡ OutOfMemory → (has_byte 92 name ≡ false → ⊥) → b ≡ record a { failed = true } → Does (valid_symbol span name) a b (Err e)
-unfolding valid_symbol IsRefused with_lines
-not_remade span name e a b fresh eq h marked = λ lines rest. emits_refused (Remake (has_backslash name)) e (with_lines lines a) (with_lines lines b) fresh (ap (with_lines lines) (marked_with a b marked)) (eq, backslash (has_byte 92 name) h, ap (λ (s : State). s.sheet) marked) (spelled_symbol span (turned name) rest)
+unfolding valid_symbol IsRefused with_source
+not_remade span name e a b fresh eq h marked = λ lines maps rest. emits_refused (Remake (has_backslash name)) e (with_source lines maps a) (with_source lines maps b) fresh (ap (with_source lines maps) (marked_with a b marked)) (eq, backslash (has_byte 92 name) h, ap (λ (s : State). s.sheet) marked) (spelled_symbol span (turned name) rest)
 
 pub lent_same : (span : Span) (name : List ℕ) (rest : Plan) (env : Env) → env.keeps_invalid ≡ true → name_text span name rest env ≡ spelled_symbol span name rest env
 unfolding name_text
@@ -91,11 +91,11 @@ valid_same span name rest env h = ap (λ b. cond b (spelled_symbol span name res
 
 -- a name as it is, and one whose text is made anew
 pub kept_name : (span : Span) (name : List ℕ) (a b : State) (r : Result (Unit {0}) Refusal) → a.env.keeps_invalid ≡ true → Does (spelled_symbol span name) a b r → Does (name_text span name) a b r
-unfolding with_lines
-kept_name span name a b (Ok u) h k = λ lines rest c r f. follows_same (name_text span name rest) (spelled_symbol span name rest) (with_lines lines a) c r (lent_same span name rest (with_lines lines a).env h) (k lines rest c r f)
-kept_name span name a b (Err e) h k = λ lines rest. follows_same (name_text span name rest) (spelled_symbol span name rest) (with_lines lines a) (with_lines lines b) (Err e) (lent_same span name rest (with_lines lines a).env h) (k lines rest)
+unfolding with_source
+kept_name span name a b (Ok u) h k = λ lines maps rest c r f. follows_same (name_text span name rest) (spelled_symbol span name rest) (with_source lines maps a) c r (lent_same span name rest (with_source lines maps a).env h) (k lines maps rest c r f)
+kept_name span name a b (Err e) h k = λ lines maps rest. follows_same (name_text span name rest) (spelled_symbol span name rest) (with_source lines maps a) (with_source lines maps b) (Err e) (lent_same span name rest (with_source lines maps a).env h) (k lines maps rest)
 
 pub made_name : (span : Span) (name : List ℕ) (a b : State) (r : Result (Unit {0}) Refusal) → a.env.keeps_invalid ≡ false → Does (valid_symbol span name) a b r → Does (name_text span name) a b r
-unfolding with_lines
-made_name span name a b (Ok u) h k = λ lines rest c r f. follows_same (name_text span name rest) (valid_symbol span name rest) (with_lines lines a) c r (valid_same span name rest (with_lines lines a).env h) (k lines rest c r f)
-made_name span name a b (Err e) h k = λ lines rest. follows_same (name_text span name rest) (valid_symbol span name rest) (with_lines lines a) (with_lines lines b) (Err e) (valid_same span name rest (with_lines lines a).env h) (k lines rest)
+unfolding with_source
+made_name span name a b (Ok u) h k = λ lines maps rest c r f. follows_same (name_text span name rest) (valid_symbol span name rest) (with_source lines maps a) c r (valid_same span name rest (with_source lines maps a).env h) (k lines maps rest c r f)
+made_name span name a b (Err e) h k = λ lines maps rest. follows_same (name_text span name rest) (valid_symbol span name rest) (with_source lines maps a) (with_source lines maps b) (Err e) (valid_same span name rest (with_source lines maps a).env h) (k lines maps rest)

@@ -1,5 +1,5 @@
 -- What is written of a string is what it reads as, under any settings.
-use Rattle.std.proofs.Common.{◌≡◌, ℕ, Bool, true, false, not, cond, if◌then◌else◌, ◌==◌, ◌||◌, List, [], ◌∷◌, codes, Option, Some, None, inl, inr, refl, sym, ap, ◌∙◌, subst, string_bytes}
+use Rattle.std.proofs.Common.{◌≡◌, ℕ, Bool, true, false, not, cond, if◌then◌else◌, ◌==◌, ◌||◌, List, [], ◌∷◌, ◌++◌, codes, Option, Some, None, inl, inr, refl, sym, ap, ◌∙◌, subst, string_bytes}
 use Rattle.std.specs.Prelude.{bytes_eq}
 use Rattle.std.specs.Option.{is_some}
 use Rattle.std.specs.Str.{chars, encode_utf8_all, IsAscii, IsUtf8}
@@ -37,13 +37,18 @@ use Rattle.swc_ecma_codegen_base.specs.Ascii.{is_strict, is_kept_directive}
 use Rattle.swc_ecma_codegen_base.specs.Escapes.{is_spelled_anew}
 use Rattle.swc_ecma_codegen_base.specs.Lits.{begun_in, raw_is, raw_text, is_directive, takes_raw, prints_raw, value_text, string_text, directive_end, string_by, string_at, str_lit}
 use Rattle.swc_ecma_codegen_base.specs.Literals as words
-use Rattle.swc_ecma_codegen_base.specs.Run.{Env, Plain, Plan, Remake, nothing, spelling, step, steps_of, text_of}
+use Rattle.swc_ecma_codegen_base.specs.Run.{Guard, Part, Step, Steps, at_maps, after_step, Env, Plain, Plan, Remake, nothing, spelling, step, steps_of, text_of}
 use Rattle.swc_ecma_codegen_base.specs.Scripts.{is_str, is_string_call, string_by_value, strings_after, value_strings, AreSafe}
-use Rattle.swc_ecma_codegen_base.specs.Words.{commit_pending_semi, end_of, leading_comments, position}
+use Rattle.swc_ecma_codegen_base.specs.Words.{take_comments, comments, start_of, commit_pending_semi, end_of, leading_comments, position}
+use Rattle.swc_ecma_codegen_ast.specs.Comments.{Leading, comments_at, taken_out}
+use Rattle.swc_ecma_codegen_ast.specs.CommentMaps.{Maps}
+use Rattle.swc_ecma_codegen_ast.specs.Trivia.{Remark}
+use Rattle.swc_ecma_codegen_ast.specs.declared.comments.Comment.{Comment}
+use Rattle.swc_ecma_codegen_base.proofs.ValueStrings.{anew_after, strings_append, none_by_value}
 use Rattle.swc_ecma_codegen_base.proofs.LitTexts.{spelled_string}
 use Rattle.swc_ecma_codegen_base.proofs.LiteralParts.{writes_settled_begun, writes_string}
 use Rattle.swc_ecma_codegen_base.proofs.Phrased.{IsSafe, Prints, prints_same, prints_where}
-use Rattle.swc_ecma_codegen_base.proofs.Printed.{Writes, writes_if, writes_nothing, writes_position, writes_then, Fills}
+use Rattle.swc_ecma_codegen_base.proofs.Printed.{Says, says_comments, chain, Writes, writes_if, writes_nothing, writes_position, writes_then, Fills}
 use Rattle.swc_ecma_codegen_base.proofs.RawTexts.{ascii_is}
 use Rattle.swc_ecma_codegen_base.proofs.Remade.{makes_remade, prints_anew, writes_begun_in}
 
@@ -157,23 +162,48 @@ writes_string_by env in_lit n us t h =
 
 -- no string is among the steps of a position, or of the beginning of a literal
 position_strings : (anew : Bool) (pos : BytePos) (rest : Plan) (env : Env) → strings_after anew (steps_of (position pos rest env)) ≡ strings_after anew (steps_of (rest env))
-unfolding position step steps_of strings_after
+unfolding position step steps_of strings_after after_step
 position_strings anew pos rest env =
     elim (pos.0 == 0) as (λ b. strings_after anew (steps_of ((cond b rest (step (Plain (Position pos)) rest)) env)) ≡ strings_after anew (steps_of (rest env)))
     [ true ↦ refl | false ↦ refl ]
 
-begun_strings : (anew : Bool) (span : Span) (t : List ℕ) (rest : Plan) (env : Env) → strings_after anew (steps_of (words.begun span t rest env)) ≡ strings_after anew (steps_of (rest env))
-unfolding words.begun leading_comments step steps_of strings_after
-begun_strings anew span t rest env = position_strings anew span.lo rest env
+-- nor among those of comments; what comes after them has other comments to be taken
+steps_after : (xs : List Step) (rest : Steps) → steps_of (chain xs rest) ≡ xs ++ steps_of rest
+unfolding steps_of chain
+steps_after [] rest = refl
+steps_after (x ∷ xs) rest = ap (λ z. x ∷ z) (steps_after xs rest)
 
-settled_strings : (anew : Bool) (span : Span) (t : List ℕ) (rest : Plan) (env : Env) → strings_after anew (steps_of (words.settled_begun span t rest env)) ≡ strings_after anew (steps_of (rest env))
-unfolding words.settled_begun commit_pending_semi step steps_of strings_after
-settled_strings anew span t rest env = begun_strings anew span t rest env
+said_strings : (anew : Bool) (p : Part) (rs : List Remark) (ts : List (List ℕ)) (rest : Plan) (env : Env) → Says env p rs ts → strings_after anew (steps_of (p rest env)) ≡ strings_after anew (steps_of (rest env))
+said_strings anew p rs ts rest env h =
+    let more : List Step = steps_of (rest env) in
+    ap (λ z. strings_after anew (steps_of z)) (h.is_steps rest) ∙ ap (strings_after anew) (steps_after h.steps (rest env)) ∙ strings_append anew h.steps more
+    ∙ ap (λ z. z ++ strings_after (anew_after anew h.steps) more) (none_by_value anew h.steps h.strings) ∙ ap (λ b. strings_after b more) (h.anew anew)
 
-begun_in_strings : (anew in_lit : Bool) (span : Span) (t : List ℕ) (rest : Plan) (env : Env) → strings_after anew (steps_of (begun_in in_lit span t rest env)) ≡ strings_after anew (steps_of (rest env))
+taken_strings : (anew : Bool) (at : ℕ) (rest : Plan) (env : Env) (x : List (List ℕ)) → ((maps : Maps) → strings_after anew (steps_of (rest (at_maps maps env))) ≡ x) → strings_after anew (steps_of (take_comments Leading false at rest env)) ≡ x
+unfolding take_comments step steps_of strings_after after_step
+taken_strings anew at rest env x h =
+    let cs : List Comment = comments_at Leading at env.maps in
+    let there : Env = at_maps (taken_out Leading at env.maps) env in
+    said_strings anew (comments false cs) _ _ rest there (says_comments there false cs) ∙ h (taken_out Leading at env.maps)
+
+leading_strings : (anew : Bool) (pos : BytePos) (rest : Plan) (env : Env) (x : List (List ℕ)) → ((maps : Maps) → strings_after anew (steps_of (rest (at_maps maps env))) ≡ x) → strings_after anew (steps_of (leading_comments pos rest env)) ≡ x
+unfolding leading_comments
+leading_strings anew pos rest env x h =
+    elim (pos.0 == 0) as (λ b. strings_after anew (steps_of ((cond b rest (take_comments Leading false pos.0 rest)) env)) ≡ x)
+    [ true ↦ h env.maps | false ↦ taken_strings anew pos.0 rest env x h ]
+
+begun_strings : (anew : Bool) (span : Span) (t : List ℕ) (rest : Plan) (env : Env) (x : List (List ℕ)) → ((maps : Maps) → strings_after anew (steps_of (rest (at_maps maps env))) ≡ x) → strings_after anew (steps_of (words.begun span t rest env)) ≡ x
+unfolding words.begun step steps_of strings_after after_step
+begun_strings anew span t rest env x h = leading_strings anew span.lo (step (Guard t) (start_of span rest)) env x (λ maps. position_strings anew span.lo rest (at_maps maps env) ∙ h maps)
+
+settled_strings : (anew : Bool) (span : Span) (t : List ℕ) (rest : Plan) (env : Env) (x : List (List ℕ)) → ((maps : Maps) → strings_after anew (steps_of (rest (at_maps maps env))) ≡ x) → strings_after anew (steps_of (words.settled_begun span t rest env)) ≡ x
+unfolding words.settled_begun commit_pending_semi step steps_of strings_after after_step
+settled_strings anew span t rest env x h = begun_strings anew span t rest env x h
+
+begun_in_strings : (anew in_lit : Bool) (span : Span) (t : List ℕ) (rest : Plan) (env : Env) (x : List (List ℕ)) → ((maps : Maps) → strings_after anew (steps_of (rest (at_maps maps env))) ≡ x) → strings_after anew (steps_of (begun_in in_lit span t rest env)) ≡ x
 unfolding begun_in
-begun_in_strings anew true span t rest env = begun_strings anew span t rest env
-begun_in_strings anew false span t rest env = refl
+begun_in_strings anew true span t rest env x h = begun_strings anew span t rest env x h
+begun_in_strings anew false span t rest env x h = h env.maps
 
 ends_by : (anew b : Bool) (pos : BytePos) (env : Env) → strings_after anew (steps_of ((cond b (position pos nothing) nothing) env)) ≡ []
 unfolding nothing steps_of strings_after
@@ -181,7 +211,7 @@ ends_by anew true pos env = position_strings anew pos nothing env
 ends_by anew false pos env = refl
 
 own_string : (anew : Bool) (n : strs.Str) (t : List ℕ) (env : Env) → strings_after anew (steps_of (words.string t (directive_end n nothing) env)) ≡ cond anew (t ∷ []) []
-unfolding words.string directive_end step steps_of strings_after string_by_value is_string_call is_str text_of
+unfolding words.string directive_end step steps_of strings_after string_by_value is_string_call is_str text_of after_step
 own_string true n t env = ap (λ z. t ∷ z) (ends_by true (is_directive n) n.span.hi env)
 own_string false n t env = ends_by false (is_directive n) n.span.hi env
 
@@ -189,8 +219,8 @@ own_string false n t env = ends_by false (is_directive n) n.span.hi env
 string_strings : (anew in_lit : Bool) (n : strs.Str) (t : List ℕ) (env : Env) → strings_after anew (steps_of (string_by in_lit n t nothing env)) ≡ cond anew (t ∷ []) []
 unfolding string_by
 string_strings anew in_lit n t env =
-    begun_in_strings anew in_lit n.span t (words.settled_begun n.span t (words.string t (directive_end n nothing))) env
-    ∙ settled_strings anew n.span t (words.string t (directive_end n nothing)) env ∙ own_string anew n t env
+    let x : List (List ℕ) = cond anew (t ∷ []) [] in
+    begun_in_strings anew in_lit n.span t (words.settled_begun n.span t (words.string t (directive_end n nothing))) env x (λ m. settled_strings anew n.span t (words.string t (directive_end n nothing)) (at_maps m env) x (λ o. own_string anew n t (at_maps o env)))
 
 told_strings : (by_raw : Bool) (config : Config) (n : strs.Str) → cond (not by_raw) (cond by_raw (raw_text n.raw) (value_text config (string_bytes n.value)) ∷ []) [] ≡ cond by_raw [] (value_text config (string_bytes n.value) ∷ [])
 told_strings true config n = refl
@@ -198,7 +228,7 @@ told_strings false config n = refl
 
 -- exactly where its raw isn't printed
 pub value_strings_told : (env : Env) (in_lit : Bool) (n : strs.Str) → value_strings (steps_of (string_at in_lit n nothing env)) ≡ (if prints_raw env.config n then [] else value_text env.config (string_bytes n.value) ∷ [])
-unfolding string_at string_text step steps_of strings_after
+unfolding string_at string_text step steps_of strings_after after_step
 value_strings_told env in_lit n = string_strings (not (prints_raw env.config n)) in_lit n (string_text env.config n) env ∙ told_strings (prints_raw env.config n) env.config n
 
 value_safe : (config : Config) (n : strs.Str) → config.inline_script ≡ true → IsInlineSafe (chars (value_text config (string_bytes n.value)))
@@ -213,7 +243,7 @@ chosen_safe true config n e = tt
 chosen_safe false config n e = (value_safe config n e, tt)
 
 string_safe : (env : Env) (in_lit : Bool) (n : strs.Str) → IsSafe env (λ rest. step (Remake (not (prints_raw env.config n))) (string_by in_lit n (string_text env.config n) rest))
-unfolding IsSafe string_text step steps_of strings_after
+unfolding IsSafe string_text step steps_of strings_after after_step
 string_safe env in_lit n e anew =
     subst AreSafe (sym (string_strings (not (prints_raw env.config n)) in_lit n (string_text env.config n) env)) (chosen_safe (prints_raw env.config n) env.config n e)
 
@@ -222,8 +252,8 @@ unfolding string_at phrases.str_lit string_token is_spelled_anew
 prints_string_at env in_lit n =
     let us : List ℕ = units (characters n.value) in
     prints_where (raw_passes (spells_units us) n.raw) (λ w.
-    prints_same (string_at in_lit n) (λ rest. step (Remake (not (prints_raw env.config n))) (string_by in_lit n (string_text env.config n) rest)) (λ rest. refl)
-    (prints_anew (string_token us) refl (makes_remade (not (prints_raw env.config n)) (writes_string_by env in_lit n us (string_text env.config n) (written_string env.config n w))) (string_safe env in_lit n)))
+    prints_same (string_at in_lit n) (λ rest. step (Remake (not (prints_raw env.config n))) (string_by in_lit n (string_text env.config n) rest)) (λ maps rest. refl)
+    (prints_anew (string_token us) refl (makes_remade (not (prints_raw env.config n)) (writes_string_by env in_lit n us (string_text env.config n) (written_string env.config n w))) (λ maps. string_safe (at_maps maps env) in_lit n)))
 
 -- a string literal
 pub prints_str : (env : Env) (n : strs.Str) → Prints env (str_lit n) (phrases.str_lit n)

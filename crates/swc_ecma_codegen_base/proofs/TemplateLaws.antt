@@ -18,7 +18,7 @@ use Rattle.swc_ecma_codegen_ast.specs.Tokens.{Characters, Units, has_shape, toke
 use Rattle.swc_ecma_codegen_text_writer.specs.Sheet.{Sheet, Semicolons, AtOnce, HoldsNone, HoldsOne, Commit, Position, Punct, StrLit, effect, written, literal_written, settled, before_punct, is_ending, dropped, pointed}
 use Rattle.swc_ecma_codegen_literals.specs.AsciiNames.{is_ascii_text}
 use Rattle.swc_ecma_codegen_base.specs.Ascii.{is_other_piece, is_kept_piece, is_other_end, is_kept_end, is_other_value, keeps_other, keeps_tokens, are_ascii}
-use Rattle.swc_ecma_codegen_base.specs.Run.{Env, Plan, Part, State, Step, Guard, Plain, Ends, put, run, step, spelling, text_of, after_token, after_tokens, after_plain, makes_text}
+use Rattle.swc_ecma_codegen_base.specs.Run.{at_maps, after_step, Env, Plan, Part, State, Step, Guard, Plain, Ends, put, run, step, spelling, text_of, after_token, after_tokens, after_plain, makes_text}
 use Rattle.swc_ecma_codegen_base.specs.Starts.{start_class}
 use Rattle.swc_ecma_codegen_base.specs.Templates as words
 use Rattle.swc_ecma_codegen_base.specs.Words.{commit_pending_semi, position}
@@ -29,7 +29,7 @@ use Rattle.swc_ecma_codegen_base.proofs.Held.{pointed_keeps, settled_none}
 use Rattle.swc_ecma_codegen_base.proofs.NumeralTexts.{ascii_by_chars}
 use Rattle.swc_ecma_codegen_base.proofs.Levels.{levels, levels_append, rise}
 use Rattle.swc_ecma_codegen_base.proofs.LiteralParts.{lays_guarded, still_settled, more_adds}
-use Rattle.swc_ecma_codegen_base.proofs.Printed.{Writes, chain, chain_append, remakes_append}
+use Rattle.swc_ecma_codegen_base.proofs.Printed.{takes_none, takes_append, from_silently, Writes, chain, chain_append, remakes_append}
 use Rattle.swc_ecma_codegen_base.proofs.Starting.{plain_class}
 use Rattle.swc_ecma_codegen_base.proofs.Texts.{Adds, adds_written, adds_literal, adds_more, owns, spelled_one}
 use Rattle.swc_ecma_codegen_base.proofs.Written.{Lays, Spelled}
@@ -50,6 +50,7 @@ pub record Inside (env : Env) (part : Part) (t : List ℕ) (tagged : Bool) : Typ
   pub last : (s : State) → (run steps s).last ≡ s.last
   pub remakes : makes_text steps ≡ false
   pub level : levels steps ≡ 0
+  pub silent : takes_none steps ≡ true
   pub strings : has_string steps ≡ false
   pub ascii : is_ascii_text t ≡ true → are_ascii steps ≡ true
   pub others : tagged ≡ false → keeps_other steps ≡ false
@@ -65,6 +66,7 @@ inside_then {env} {p} {q} {t} {v} h k = record {
   last = λ s. ap (λ (z : State). z.last) (run_append h.steps k.steps s) ∙ k.last (run h.steps s) ∙ h.last s;
   remakes = remakes_append h.steps k.steps ∙ or_from (makes_text h.steps) (makes_text k.steps) h.remakes k.remakes;
   level = levels_append h.steps k.steps ∙ ap (λ n. n + levels k.steps) h.level ∙ ap (λ n. 0 + n) k.level;
+  silent = takes_append h.steps k.steps ∙ and_from (takes_none h.steps) (takes_none k.steps) h.silent k.silent;
   strings = has_append h.steps k.steps ∙ or_from (has_string h.steps) (has_string k.steps) h.strings k.strings;
   ascii = λ e.
       let both = and_parts (is_ascii_text t) (is_ascii_text v) (sym (list_all-append _ t v) ∙ e) in
@@ -87,7 +89,7 @@ pointed_adds pos t a b h = record {
 }
 
 recorded_inside : (env : Env) (pos : BytePos) (tagged : Bool) → Inside env (step (Plain (Position pos))) [] tagged
-unfolding step chain run put effect text_of after_plain makes_text levels rise are_ascii has_string keeps_other is_other_piece is_kept_piece
+unfolding step chain run put effect text_of after_plain makes_text levels rise are_ascii has_string keeps_other is_other_piece is_kept_piece takes_none after_step
 recorded_inside env pos tagged = record {
   steps = Plain (Position pos) ∷ [];
   is_steps = λ rest. refl;
@@ -95,6 +97,7 @@ recorded_inside env pos tagged = record {
   last = λ s. refl;
   remakes = refl;
   level = refl;
+  silent = refl;
   strings = refl;
   ascii = λ e. refl;
   others = λ e. refl;
@@ -102,7 +105,7 @@ recorded_inside env pos tagged = record {
 }
 
 nothing_inside : (env : Env) (tagged : Bool) → Inside env (λ rest. rest) [] tagged
-unfolding chain run makes_text levels are_ascii has_string keeps_other
+unfolding chain run makes_text levels are_ascii has_string keeps_other takes_none
 nothing_inside env tagged = record {
   steps = [];
   is_steps = λ rest. refl;
@@ -110,6 +113,7 @@ nothing_inside env tagged = record {
   last = λ s. refl;
   remakes = refl;
   level = refl;
+  silent = refl;
   strings = refl;
   ascii = λ e. refl;
   others = λ e. refl;
@@ -140,7 +144,7 @@ ascii_told true h = refl
 ascii_told false h = absurd (true≢false h)
 
 text_inside : (env : Env) (tagged : Bool) (t : List ℕ) → Inside env (words.inside tagged t) t tagged
-unfolding words.inside step chain run put effect text_of after_plain after_tokens makes_text levels rise are_ascii has_string keeps_other is_other_piece is_kept_piece is_other_end is_kept_end
+unfolding words.inside step chain run put effect text_of after_plain after_tokens makes_text levels rise are_ascii has_string keeps_other is_other_piece is_kept_piece is_other_end is_kept_end takes_none after_step
 text_inside env true t = record {
   steps = Ends [] (StrLit dummy_span t) ∷ [];
   is_steps = λ rest. refl;
@@ -148,6 +152,7 @@ text_inside env true t = record {
   last = λ s. refl;
   remakes = refl;
   level = refl;
+  silent = refl;
   strings = refl;
   ascii = λ e. text_ascii t e;
   others = λ e. absurd (true≢false e);
@@ -160,6 +165,7 @@ text_inside env false t = record {
   last = λ s. refl;
   remakes = refl;
   level = refl;
+  silent = refl;
   strings = refl;
   ascii = λ e. text_ascii t e;
   others = λ e. refl;
@@ -190,7 +196,7 @@ begin_steps true = Plain (Punct None (codes "`")) ∷ []
 begin_steps false = Plain Commit ∷ Plain (Punct None (codes "}")) ∷ []
 
 begin_is : (env : Env) (first : Bool) (rest : Plan) → words.opened first rest env ≡ chain (begin_steps first) (rest env)
-unfolding words.opened begin_steps part_begin commit_pending_semi step chain
+unfolding words.opened begin_steps part_begin commit_pending_semi step chain after_step
 begin_is env true rest = refl
 begin_is env false rest = refl
 
@@ -284,7 +290,7 @@ part_last first part span t h text s =
     ∙ last_last (part_kind first part) text part (run h.steps begun) ∙ after_part first part text (run h.steps begun).last ∙ sym (after_part first part text s.last)
 
 part_is : {env : Env} (first : Bool) (part : TemplatePart) (span : Span) (t : List ℕ) (h : Inside env (words.placed_inside part.tagged span t) t part.tagged) (rest : Plan) → words.part_by first part span t rest env ≡ chain (all_steps first part h.steps (part_text first part t)) (rest env)
-unfolding words.part_by words.closed step chain
+unfolding words.part_by words.closed step chain after_step
 part_is {env} first part span t h rest =
     let last : Step = Ends ((part_kind first part, part_text first part t) ∷ []) (Punct None (part_end part)) in
     let closed : Plan = words.closed first part t rest in
@@ -363,21 +369,35 @@ part_lays env first part span t h p s r =
     let there : State = put (Guard (part_begin first)) s in
     lays_guarded ((part_kind first part, text) ∷ []) text (part_begin first) s (run (begin_steps first ++ (h.steps ++ (Ends ((part_kind first part, text) ∷ []) (Punct None (part_end part)) ∷ []))) there) (spelled_one (part_kind first part) text p) (part_class first (t ++ part_end part)) r (part_adds first part span t h text there) (part_last first part span t h text there)
 
+begin_silent : (first : Bool) → takes_none (begin_steps first) ≡ true
+unfolding begin_steps takes_none
+begin_silent true = refl
+begin_silent false = refl
+
+all_silent : (first : Bool) (part : TemplatePart) (inner : List Step) (text : List ℕ) → takes_none inner ≡ true → takes_none (all_steps first part inner text) ≡ true
+unfolding takes_none
+all_silent first part inner text h =
+    let last : List Step = Ends ((part_kind first part, text) ∷ []) (Punct None (part_end part)) ∷ [] in
+    takes_append (begin_steps first) (inner ++ last) ∙ and_from (takes_none (begin_steps first)) (takes_none (inner ++ last)) (begin_silent first)
+    (takes_append inner last ∙ and_from (takes_none inner) (takes_none last) h refl)
+
 -- a part by its text
 pub writes_part : (env : Env) (first : Bool) (part : TemplatePart) (span : Span) (t : List ℕ) → Spelled (part_kind first part) (part_text first part t) → spelling (part_kind first part) (part_text first part t) ≡ chars (part_text first part t) → (env.config.ascii_only ≡ true → part.tagged ≡ false → is_ascii_text t ≡ true) → Writes env (words.part_by first part span t) (token_of (part_kind first part) (chars (part_text first part t)) ∷ [])
 unfolding run put makes_text levels rise
 writes_part env first part span t p same a =
-    let h = placed_inside env part.tagged span t in
-    let text : List ℕ = part_text first part t in
-    let kind : Kind = part_kind first part in
-    let last : List Step = Ends ((kind, text) ∷ []) (Punct None (part_end part)) ∷ [] in
     record {
-      steps = all_steps first part h.steps text;
-      is_steps = λ rest. part_is first part span t h rest;
-      lays = λ s r. subst (λ z. Lays (token_of kind z ∷ []) s (run (all_steps first part h.steps text) s)) same (part_lays env first part span t h p s r);
-      remakes = λ e. sym (remakes_append (begin_steps first) (h.steps ++ last) ∙ or_from (makes_text (begin_steps first)) (makes_text (h.steps ++ last)) (begin_plain first).0 (remakes_append h.steps last ∙ or_from (makes_text h.steps) false h.remakes refl)) ∙ e;
-      deep = let none = levels_append (begin_steps first) (h.steps ++ last) ∙ ap (λ n. n + levels (h.steps ++ last)) (begin_plain first).1 ∙ ap (λ n. 0 + n) (levels_append h.steps last ∙ ap (λ n. n + levels last) h.level) in omega (arith, none);
-      hands = part_hands env first part span t h p a;
+      from = λ maps.
+          let v : Env = at_maps maps env in
+          let h = placed_inside v part.tagged span t in
+          let text : List ℕ = part_text first part t in
+          let kind : Kind = part_kind first part in
+          let last : List Step = Ends ((kind, text) ∷ []) (Punct None (part_end part)) ∷ [] in
+          from_silently v (words.part_by first part span t) (all_steps first part h.steps text) _ (all_silent first part h.steps text h.silent)
+          (λ rest. part_is first part span t h rest)
+          (λ s r. subst (λ z. Lays (token_of kind z ∷ []) s (run (all_steps first part h.steps text) s)) same (part_lays v first part span t h p s r))
+          (λ e. sym (remakes_append (begin_steps first) (h.steps ++ last) ∙ or_from (makes_text (begin_steps first)) (makes_text (h.steps ++ last)) (begin_plain first).0 (remakes_append h.steps last ∙ or_from (makes_text h.steps) false h.remakes refl)) ∙ e)
+          (let none = levels_append (begin_steps first) (h.steps ++ last) ∙ ap (λ n. n + levels (h.steps ++ last)) (begin_plain first).1 ∙ ap (λ n. 0 + n) (levels_append h.steps last ∙ ap (λ n. n + levels last) h.level) in omega (arith, none))
+          (part_hands v first part span t h p a);
     }
 
 pub part_spelling : (first : Bool) (part : TemplatePart) (t : List ℕ) → spelling (part_kind first part) t ≡ chars t

@@ -184,7 +184,7 @@ cooked_prints env first part n e =
     let due : Bool = makes_cooked env.config (string_bytes n.raw) in
     let by : Part = words.part_by first part n.span (cooked_text env.config (string_bytes n.raw)) in
     let m = makes_remade due (writes_cooked env first part n e h) in
-    prints_same (words.cooked_part first part n) (λ rest. step (Remake due) (by rest)) (λ rest. refl)
+    prints_same (words.cooked_part first part n) (λ rest. step (Remake due) (by rest)) (λ maps rest. refl)
     (prints_anew (token_of (part_kind first part) (part_text first part (characters n.raw))) (anew_kind first part e) m (no_string m (no_str first part))))
 
 tagged_prints : (env : Env) (first : Bool) (part : TemplatePart) (n : TplElement) → part.tagged ≡ true → Prints env (words.part_by first part n.span (string_bytes n.raw)) (phrases.tpl_element first part n)

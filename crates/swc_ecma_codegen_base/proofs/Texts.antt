@@ -182,5 +182,5 @@ lays_texts xs t s b p f o r h last =
         free = λ o e. absurd (true≢false (sym e ∙ h.in_line));
         allowed = λ u. ap (λ k. allows k u) last ∙ p.allowed s.last u;
       };
-      fits = fits_texts (front s.sheet) xs t i p;
+      fits = λ e. fits_texts (front s.sheet) xs t i p;
     }

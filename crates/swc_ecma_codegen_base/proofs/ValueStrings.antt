@@ -3,7 +3,7 @@ use Rattle.std.proofs.Common.{◌≡◌, ℕ, Bool, true, false, cond, ◌&&◌,
 use Rattle.std.proofs.lemmas.Bool.{or_parts}
 use Rattle.swc_ecma_codegen_ast.specs.declared.kinds.Kind.{Kind}
 use Rattle.swc_ecma_codegen_text_writer.specs.Sheet.{Item}
-use Rattle.swc_ecma_codegen_base.specs.Run.{Step, Guard, Token, Plain, Ends, Remake, text_of}
+use Rattle.swc_ecma_codegen_base.specs.Run.{Step, Guard, Token, Plain, Ends, Remake, Take, CommentText, text_of}
 use Rattle.swc_ecma_codegen_base.specs.Scripts.{is_string_call, string_by_value, strings_after, AreSafe}
 use Rattle.swc_ecma_codegen_base.proofs.Hands.{has_string}
 
@@ -15,6 +15,19 @@ anew_after anew (Token kind x ∷ xs) = anew_after anew xs
 anew_after anew (Plain x ∷ xs) = anew_after anew xs
 anew_after anew (Ends tokens x ∷ xs) = anew_after anew xs
 anew_after anew (Remake due ∷ xs) = anew_after due xs
+anew_after anew (Take side at ∷ xs) = anew_after anew xs
+anew_after anew (CommentText t ∷ xs) = anew_after anew xs
+
+pub anew_append : (anew : Bool) (xs ys : List Step) → anew_after anew (xs ++ ys) ≡ anew_after (anew_after anew xs) ys
+unfolding anew_after
+anew_append anew [] ys = refl
+anew_append anew (Guard t ∷ xs) ys = anew_append anew xs ys
+anew_append anew (Token kind x ∷ xs) ys = anew_append anew xs ys
+anew_append anew (Plain x ∷ xs) ys = anew_append anew xs ys
+anew_append anew (Ends tokens x ∷ xs) ys = anew_append anew xs ys
+anew_append anew (Remake due ∷ xs) ys = anew_append due xs ys
+anew_append anew (Take side at ∷ xs) ys = anew_append anew xs ys
+anew_append anew (CommentText t ∷ xs) ys = anew_append anew xs ys
 
 pub strings_append : (anew : Bool) (xs ys : List Step) → strings_after anew (xs ++ ys) ≡ strings_after anew xs ++ strings_after (anew_after anew xs) ys
 unfolding strings_after anew_after
@@ -24,6 +37,8 @@ strings_append anew (Token kind x ∷ xs) ys = let here = string_by_value anew k
 strings_append anew (Plain x ∷ xs) ys = strings_append anew xs ys
 strings_append anew (Ends tokens x ∷ xs) ys = strings_append anew xs ys
 strings_append anew (Remake due ∷ xs) ys = strings_append due xs ys
+strings_append anew (Take side at ∷ xs) ys = strings_append anew xs ys
+strings_append anew (CommentText t ∷ xs) ys = strings_append anew xs ys
 
 -- ---- no string
 
@@ -43,6 +58,8 @@ none_by_value anew (Token kind x ∷ xs) h = let p = or_parts (is_string_call ki
 none_by_value anew (Plain x ∷ xs) h = none_by_value anew xs h
 none_by_value anew (Ends tokens x ∷ xs) h = none_by_value anew xs h
 none_by_value anew (Remake due ∷ xs) h = none_by_value due xs h
+none_by_value anew (Take side at ∷ xs) h = none_by_value anew xs h
+none_by_value anew (CommentText t ∷ xs) h = none_by_value anew xs h
 
 -- ---- safe ones
 

@@ -1,5 +1,5 @@
 -- What steps write: tokens, and blanks between them.
-use Rattle.std.proofs.Common.{◌≡◌, ◌⊎◌, ℕ, Bool, true, false, cond, List, [], ◌∷◌, ◌++◌, Option, None, codes, refl, sym, ap, ◌∙◌, subst, append_assoc, append-nil, inl, inr, ◌==◌, ◌||◌}
+use Rattle.std.proofs.Common.{◌≡◌, ◌⊎◌, ℕ, Bool, true, false, cond, List, [], ◌∷◌, ◌++◌, Option, None, codes, refl, sym, ap, ◌∙◌, subst, append_assoc, append-nil, inl, inr, ◌==◌, ◌||◌, ◌&&◌}
 use Rattle.std.specs.List.{repeat}
 use Rattle.std.specs.Str.{chars, is_utf8, IsUtf8}
 use Rattle.std.proofs.lemmas.Bool.{and_parts, eqb-true, or_cases, true≢false}
@@ -12,7 +12,8 @@ use Rattle.swc_ecma_codegen_ast.specs.Names.{is_word, is_name, name_rest}
 use Rattle.swc_ecma_codegen_ast.specs.Punctuators.{is_punctuator, punctuators}
 use Rattle.swc_ecma_codegen_ast.specs.Texts.{begins, is_same, is_among}
 use Rattle.swc_ecma_codegen_ast.specs.Chars.{is_blank}
-use Rattle.swc_ecma_codegen_ast.specs.Trivia.{Blank, is_piece, piece_text, pieces_text, all_pieces, remarks_of}
+use Rattle.swc_ecma_codegen_ast.specs.Comments.{all_tame, is_tame}
+use Rattle.swc_ecma_codegen_ast.specs.Trivia.{Remark, Blank, is_piece, piece_text, pieces_text, all_pieces, remarks_of}
 use Rattle.swc_ecma_codegen_ast.specs.Reads.{is_child, is_hashbang_kind}
 use Rattle.swc_ecma_codegen_ast.specs.GapRules.{Last, Start, Apart, Mark, LessBang, fuses, allows, mark_after, last_after, last_after_gap}
 use Rattle.swc_ecma_codegen_ast.specs.Parts as parts
@@ -24,7 +25,8 @@ use Rattle.swc_ecma_codegen_ast.specs.Parts.{Reduced, IsEnding}
 use Rattle.swc_ecma_codegen_ast.proofs.Dropped.{reduced_after}
 use Rattle.swc_ecma_codegen_text_writer.specs.Sheet.{Sheet, Semicolons, AtOnce, HoldsNone, HoldsOne, holds_semicolons, Space, Line, appended, written, ended, pointed, settled, settled_by, semicolon_by, dropped, before_punct, is_ending, effect}
 use Rattle.swc_ecma_codegen_text_writer.proofs.Sheets.{written_same, pointed_alike, alike_same}
-use Rattle.swc_ecma_codegen_base.specs.Run.{State, Guard, put, spelling}
+use Rattle.swc_ecma_codegen_base.specs.Run.{State, Guard, Take, put, spelling}
+use Rattle.swc_ecma_codegen_ast.specs.Comments.{Side}
 use Rattle.swc_ecma_codegen_base.specs.Written.{IsLineEnd, is_indent, all_indent, is_free, holds_one, AtRest}
 use Rattle.swc_ecma_codegen_base.proofs.Held.{front_of, front, written_text, in_line, written_semicolons, pointed_keeps, settled_none}
 use Rattle.swc_ecma_codegen_base.proofs.Behind.{apart_alone, same_after, free_apart, after_indent, in_a_line, blank_apart}
@@ -51,8 +53,8 @@ Enters i s = (i.anywhere ≡ true) ⊎ ((i.first ≡ true) × IsFirst s)
 
 -- From one state to another these tokens were asked for, with blanks between them: parts in which no two fuse, and which lead
 -- no further on lines than their shape says. What went out are the same parts without some semicolons that aren't needed, and
--- without one that is still held back.
-pub record LaysAt (shape : Shape) (ts : List lexical.Token) (a b : State) : Type 0 where
+-- without one that is still held back. These comments stand between.
+pub record LaysWith (shape : Shape) (ts : List lexical.Token) (rs : List Remark) (a b : State) : Type 0 where
   pub out : List parts.Part
   pub laid : List parts.Part
   pub bytes : List ℕ
@@ -60,35 +62,49 @@ pub record LaysAt (shape : Shape) (ts : List lexical.Token) (a b : State) : Type
   pub utf8 : IsUtf8 bytes
   pub spells : chars bytes ≡ parts.text_of laid
   pub tokens : tokens_of out ≡ ts
-  pub remarks : remarks_in laid ≡ []
+  pub remarks : remarks_in laid ≡ rs
   pub apart : Enters shape a → (more : List parts.Part) → NoneFuse b.last more → NoneFuse a.last (out ++ more)
   pub reduces : (more ys : List parts.Part) → Reduced (held b.sheet ++ more) ys → Reduced (held a.sheet ++ (out ++ more)) (laid ++ ys)
   -- a writer that holds nothing back leaves nothing out
   pub holds : holds_semicolons b.sheet.semicolons ≡ holds_semicolons a.sheet.semicolons
   pub whole : holds_semicolons a.sheet.semicolons ≡ false → laid ≡ out
   pub rest : AtRest b
-  pub fits : Fits shape out
+  -- where no line ends in or after a comment
+  pub fits : all_tame rs ≡ true → Fits shape out
+
+-- without comments
+abbrev pub LaysAt : Shape → List lexical.Token → State → State → Type 0
+LaysAt shape ts a b = LaysWith shape ts [] a b
 
 -- what begins and ends with a token
 abbrev pub Lays : List lexical.Token → State → State → Type 0
 Lays ts a b = LaysAt whole ts a b
 
 -- what may stand first of all, or anywhere, is one after the other where the second may stand anywhere
-enters_first : (i j : Shape) (a : State) → Enters (join i j) a → Enters i a
+pub enters_first : (i j : Shape) (a : State) → Enters (join i j) a → Enters i a
 enters_first i j a (inl e) = inl (and_parts i.anywhere j.anywhere e).0
 enters_first i j a (inr k) = inr ((and_parts i.first j.anywhere k.0).0, k.1)
 
-enters_second : (i j : Shape) (a b : State) → Enters (join i j) a → Enters j b
+pub enters_second : (i j : Shape) (a b : State) → Enters (join i j) a → Enters j b
 enters_second i j a b (inl e) = inl (and_parts i.anywhere j.anywhere e).1
 enters_second i j a b (inr k) = inl (and_parts i.first j.anywhere k.0).1
 
-enters_wider : (i j : Shape) (a : State) → is_within i j ≡ true → Enters j a → Enters i a
+pub enters_wider : (i j : Shape) (a : State) → is_within i j ≡ true → Enters j a → Enters i a
 enters_wider i j a e (inl k) = inl ((within_stands i j e).0 k)
 enters_wider i j a e (inr k) = inr ((within_stands i j e).1 k.0, k.1)
 
+tame_append : (xs ys : List Remark) → all_tame (xs ++ ys) ≡ (all_tame xs && all_tame ys)
+unfolding all_tame
+tame_append [] ys = refl
+tame_append (x ∷ xs) ys = ap (λ z. is_tame x && z) (tame_append xs ys) ∙ and_assoc (is_tame x) (all_tame xs) (all_tame ys)
+  where
+    and_assoc : (a b c : Bool) → (a && (b && c)) ≡ ((a && b) && c)
+    and_assoc true b c = refl
+    and_assoc false b c = refl
+
 -- one after the other
-pub lays_then : {i j : Shape} (ts us : List lexical.Token) (a b c : State) → LaysAt i ts a b → LaysAt j us b c → LaysAt (join i j) (ts ++ us) a c
-lays_then {i} {j} ts us a b c h k = record {
+pub lays_then : {i j : Shape} {rs qs : List Remark} (ts us : List lexical.Token) (a b c : State) → LaysWith i ts rs a b → LaysWith j us qs b c → LaysWith (join i j) (ts ++ us) (rs ++ qs) a c
+lays_then {i} {j} {rs} {qs} ts us a b c h k = record {
   out = h.out ++ k.out;
   laid = h.laid ++ k.laid;
   bytes = h.bytes ++ k.bytes;
@@ -96,7 +112,7 @@ lays_then {i} {j} ts us a b c h k = record {
   utf8 = IsUtf8-append h.bytes k.bytes h.utf8 k.utf8;
   spells = chars-append h.bytes k.bytes h.utf8 ∙ ap (λ z. z ++ chars k.bytes) h.spells ∙ ap (λ z. parts.text_of h.laid ++ z) k.spells ∙ sym (text_append h.laid k.laid);
   tokens = tokens_append h.out k.out ∙ ap (λ z. z ++ tokens_of k.out) h.tokens ∙ ap (λ z. ts ++ z) k.tokens;
-  remarks = remarks_append h.laid k.laid ∙ ap (λ z. z ++ remarks_in k.laid) h.remarks ∙ k.remarks;
+  remarks = remarks_append h.laid k.laid ∙ ap (λ z. z ++ remarks_in k.laid) h.remarks ∙ ap (λ z. rs ++ z) k.remarks;
   apart = λ e more n. subst (λ z. NoneFuse a.last z) (sym (append_assoc h.out k.out more)) (h.apart (enters_first i j a e) (k.out ++ more) (k.apart (enters_second i j a b e) more n));
   reduces = λ more ys r.
       subst (λ z. Reduced (held a.sheet ++ z) ((h.laid ++ k.laid) ++ ys)) (sym (append_assoc h.out k.out more))
@@ -104,12 +120,12 @@ lays_then {i} {j} ts us a b c h k = record {
   holds = k.holds ∙ h.holds;
   whole = λ e. ap (λ z. z ++ k.laid) (h.whole e) ∙ ap (λ z. h.out ++ z) (k.whole (h.holds ∙ e));
   rest = k.rest;
-  fits = fits_then h.out k.out h.fits k.fits;
+  fits = λ t. let p = and_parts (all_tame rs) (all_tame qs) (sym (tame_append rs qs) ∙ t) in fits_then h.out k.out (h.fits p.0) (k.fits p.1);
 }
 
 -- what leads less far
-pub lays_wider : {i : Shape} (j : Shape) {ts : List lexical.Token} {a b : State} → is_within i j ≡ true → LaysAt i ts a b → LaysAt j ts a b
-lays_wider {i} j {a = a} e h = record { out = h.out; laid = h.laid; bytes = h.bytes; text = h.text; utf8 = h.utf8; spells = h.spells; tokens = h.tokens; remarks = h.remarks; apart = λ k. h.apart (enters_wider i j a e k); reduces = h.reduces; holds = h.holds; whole = h.whole; rest = h.rest; fits = fits_wider j e h.fits }
+pub lays_wider : {i : Shape} (j : Shape) {ts : List lexical.Token} {rs : List Remark} {a b : State} → is_within i j ≡ true → LaysWith i ts rs a b → LaysWith j ts rs a b
+lays_wider {i} j {a = a} e h = record { out = h.out; laid = h.laid; bytes = h.bytes; text = h.text; utf8 = h.utf8; spells = h.spells; tokens = h.tokens; remarks = h.remarks; apart = λ k. h.apart (enters_wider i j a e k); reduces = h.reduces; holds = h.holds; whole = h.whole; rest = h.rest; fits = λ t. fits_wider j e (h.fits t) }
 
 -- the parts that are asked for go out, where no semicolon is held back
 pub laid_out : (a b : State) (out more ys : List parts.Part) → holds_one a.sheet.semicolons ≡ false → holds_one b.sheet.semicolons ≡ false → Reduced (held b.sheet ++ more) ys → Reduced (held a.sheet ++ (out ++ more)) (out ++ ys)
@@ -133,11 +149,25 @@ lays_same a b t l h o r = record {
   holds = o;
   whole = λ e. refl;
   rest = r;
-  fits = fits_nothing;
+  fits = λ t. fits_nothing;
 }
 
 pub lays_nothing : (s : State) → AtRest s → LaysAt open_ [] s s
 lays_nothing s r = lays_same s s refl refl refl refl r
+
+-- comments are taken out of the maps: nothing that matters here changes
+pub rest_taken : (side : Side) (at : ℕ) (s : State) → AtRest s → AtRest (put (Take side at) s)
+unfolding put
+rest_taken side at s r = record { indent_text = r.indent_text; line_end = r.line_end; free = r.free; allowed = r.allowed }
+
+enters_taken : (i : Shape) (side : Side) (at : ℕ) (s : State) → Enters i s → Enters i (put (Take side at) s)
+unfolding put
+enters_taken i side at s (inl e) = inl e
+enters_taken i side at s (inr k) = inr (k.0, record { nothing_written = k.1.nothing_written; nothing_held = k.1.nothing_held; at_margin = k.1.at_margin })
+
+pub lays_taken : {i : Shape} {rs : List Remark} {ts : List lexical.Token} (side : Side) (at : ℕ) (s b : State) → LaysWith i ts rs (put (Take side at) s) b → LaysWith i ts rs s b
+unfolding put
+lays_taken {i} side at s b h = record { out = h.out; laid = h.laid; bytes = h.bytes; text = h.text; utf8 = h.utf8; spells = h.spells; tokens = h.tokens; remarks = h.remarks; apart = λ e. h.apart (enters_taken i side at s e); reduces = h.reduces; holds = h.holds; whole = h.whole; rest = h.rest; fits = h.fits }
 
 -- `[no LineTerminator here]`, where no semicolon is held back
 pub lays_joint : (s : State) → holds_one s.sheet.semicolons ≡ false → AtRest s → LaysAt joining (lexical.same_line ∷ []) s s
@@ -156,7 +186,7 @@ lays_joint s o r = record {
   holds = refl;
   whole = λ e. refl;
   rest = r;
-  fits = fits_joint;
+  fits = λ t. fits_joint;
 }
 
 -- ---- texts, and the indentation at a line's start
@@ -222,7 +252,7 @@ settles_spells u bytes laid h e =
     ∙ ap (λ z. (pieces_text (blanks u) ++ codes ";") ++ z) e
     ∙ append_assoc (pieces_text (blanks u)) (codes ";") (parts.text_of laid)
 
-settles_remarks : (u : List ℕ) (laid : List parts.Part) → remarks_in laid ≡ [] → remarks_in (semicolon_gap u ++ laid) ≡ []
+settles_remarks : {rs : List Remark} (u : List ℕ) (laid : List parts.Part) → remarks_in laid ≡ rs → remarks_in (semicolon_gap u ++ laid) ≡ rs
 unfolding semicolon_gap remarks_in
 settles_remarks u laid h = ap (λ z. z ++ remarks_in laid) (blanks_remarks u) ∙ h
 
@@ -239,7 +269,7 @@ settled_enters i s b e (inl k) = inl k
 settled_enters i s b e (inr k) = absurd (true≢false (ap holds_one e ∙ k.1.nothing_held))
 
 -- it stands before what is laid from there
-settles : {i : Shape} (x : Semicolons) (s b : State) (ts : List lexical.Token) → x ≡ s.sheet.semicolons → AtRest s → LaysAt i ts (settle_by x s) b → LaysAt i ts s b
+settles : {i : Shape} {rs : List Remark} (x : Semicolons) (s b : State) (ts : List lexical.Token) → x ≡ s.sheet.semicolons → AtRest s → LaysWith i ts rs (settle_by x s) b → LaysWith i ts rs s b
 unfolding settle_by settled_by holds_one semicolon_gap
 settles AtOnce s b ts e r l = l
 settles HoldsNone s b ts e r l = l
@@ -266,7 +296,7 @@ settles {i} (HoldsOne span) s b ts e r l =
       fits = l.fits;
     }
 
-pub lays_settled : {i : Shape} (s b : State) (ts : List lexical.Token) → AtRest s → LaysAt i ts (settle s) b → LaysAt i ts s b
+pub lays_settled : {i : Shape} {rs : List Remark} (s b : State) (ts : List lexical.Token) → AtRest s → LaysWith i ts rs (settle s) b → LaysWith i ts rs s b
 unfolding settle_by
 lays_settled s b ts r l = settles s.sheet.semicolons s b ts refl r l
 
@@ -319,7 +349,7 @@ blank_here s o r =
       holds = still_holds None (codes " ") s.sheet;
       whole = λ e. refl;
       rest = at_text None 32 [] s Apart (λ t. refl) r.indent_text r.line_end;
-      fits = fits_indent (front s.sheet ++ codes " ") h;
+      fits = λ t. fits_indent (front s.sheet ++ codes " ") h;
     }
 
 pub lays_blank : (s : State) → AtRest s → LaysAt open_ [] s (record s { sheet = effect Space s.sheet; last = Apart })
@@ -354,7 +384,7 @@ lays_end s o r (inl e) = record {
   holds = refl;
   whole = λ e. refl;
   rest = line_rest s r;
-  fits = fits_end _;
+  fits = λ t. fits_end _;
 }
 lays_end s o r (inr e) = record {
   out = Gap (Blank 13 ∷ Blank 10 ∷ []) ∷ [];
@@ -370,7 +400,7 @@ lays_end s o r (inr e) = record {
   holds = refl;
   whole = λ e. refl;
   rest = line_rest s r;
-  fits = fits_end _;
+  fits = λ t. fits_end _;
 }
 
 line_case : (b : Bool) (s : State) → s.sheet.at_line_start ≡ b → holds_one s.sheet.semicolons ≡ false → AtRest s → LaysAt loose [] s (line_put b s)
@@ -389,7 +419,7 @@ line_case true s e o r = record {
   holds = refl;
   whole = λ e. refl;
   rest = record { indent_text = r.indent_text; line_end = r.line_end; free = λ o z. refl; allowed = apart_open };
-  fits = fits_wider loose refl fits_nothing;
+  fits = λ t. fits_wider loose refl fits_nothing;
 }
 line_case false s e o r = lays_end s o r r.line_end
 
@@ -507,7 +537,7 @@ pub own_fits : (kind : Kind) (t : List ℕ) (k : Last) (more : List parts.Part) 
 unfolding NoneFuse
 own_fits kind t k more p f a n = (p.shape, ap (λ z. fuses k z) (sym p.same) ∙ f, record { child = λ e. absurd (p.no_child e); first = λ e. absurd (p.no_hashbang e) }, a (spelling kind t), n)
 
-own_apart : (b : Bool) (kind : Kind) (t : List ℕ) (s : State) (more : List parts.Part) → s.sheet.at_line_start ≡ b → holds_one s.sheet.semicolons ≡ false → Spelled kind t → fuses s.last (chars t) ≡ false → AtRest s → NoneFuse (last_after s.last kind (spelling kind t)) more → NoneFuse s.last (Gap (blanks (front_of b s.sheet)) ∷ Own kind (spelling kind t) ∷ more)
+pub own_apart : (b : Bool) (kind : Kind) (t : List ℕ) (s : State) (more : List parts.Part) → s.sheet.at_line_start ≡ b → holds_one s.sheet.semicolons ≡ false → Spelled kind t → fuses s.last (chars t) ≡ false → AtRest s → NoneFuse (last_after s.last kind (spelling kind t)) more → NoneFuse s.last (Gap (blanks (front_of b s.sheet)) ∷ Own kind (spelling kind t) ∷ more)
 own_apart true kind t s more e o p f r n =
     let u = repeat s.sheet.indentation s.sheet.indent_text in
     after_indent s.last u (Own kind (spelling kind t) ∷ more) (indent_repeat s.sheet.indentation s.sheet.indent_text r.indent_text) (r.free o e) r.allowed
@@ -515,7 +545,7 @@ own_apart true kind t s more e o p f r n =
 own_apart false kind t s more e o p f r n = in_a_line s.last (Own kind (spelling kind t) ∷ more) r.allowed (own_fits kind t s.last more p f r.allowed n)
 
 -- a text after the indentation of its line
-laid_text : (u t : List ℕ) (kind : Kind) → all_indent u ≡ true → Spelled kind t → chars (u ++ t) ≡ parts.text_of (Gap (blanks u) ∷ Own kind (spelling kind t) ∷ [])
+pub laid_text : (u t : List ℕ) (kind : Kind) → all_indent u ≡ true → Spelled kind t → chars (u ++ t) ≡ parts.text_of (Gap (blanks u) ∷ Own kind (spelling kind t) ∷ [])
 unfolding parts.text_of
 laid_text u t kind h p =
     chars-append u t (indent_utf8 u h)
@@ -542,7 +572,7 @@ lays_here kind span (c ∷ cs) s p f o r =
       holds = still_holds span (c ∷ cs) s.sheet;
       whole = λ e. refl;
       rest = at_text span c cs s (after kind (c ∷ cs) s) (p.allowed s.last) r.indent_text r.line_end;
-      fits = fits_text (front s.sheet) kind (spelling kind (c ∷ cs)) h;
+      fits = λ e. fits_text (front s.sheet) kind (spelling kind (c ∷ cs)) h;
     }
 
 lays_own : (kind : Kind) (span : Option Span) (t : List ℕ) (s : State) → Spelled kind t → fuses s.last (chars t) ≡ false → AtRest s → Lays (token_of kind (spelling kind t) ∷ []) s (own_put kind span t s)
@@ -600,7 +630,7 @@ lost_here held_span span (c ∷ cs) s e i p f r =
       holds = still_holds span (c ∷ cs) there ∙ ap holds_semicolons e;
       whole = λ w. absurd (true≢false (ap holds_semicolons e ∙ w));
       rest = at_text span c cs (record s { sheet = there }) (after Punctuator (c ∷ cs) s) (p.allowed s.last) r.indent_text r.line_end;
-      fits = fits_own Punctuator (c ∷ cs);
+      fits = λ e. fits_own Punctuator (c ∷ cs);
     }
 
 lost : (x : Semicolons) (span : Option Span) (t : List ℕ) (s : State) → x ≡ s.sheet.semicolons → is_ending t ≡ true → Spelled Punctuator t → fuses s.last (chars t) ≡ false → AtRest s → Lays (token_of Punctuator (spelling Punctuator t) ∷ []) s (own_here Punctuator span t (record s { sheet = record s.sheet { semicolons = dropped x } }))
@@ -629,7 +659,7 @@ holds_back : (span : Option Span) (s : State) → holds_one s.sheet.semicolons �
 unfolding parts.text_of tokens_of remarks_in holds_one spelling
 holds_back span s o h f r = record {
   out = Gap (blanks (front s.sheet)) ∷ Own Ending (codes ";") ∷ [];
-  fits = fits_text (front s.sheet) Ending (codes ";") (front_indent s.sheet r.indent_text);
+  fits = λ e. fits_text (front s.sheet) Ending (codes ";") (front_indent s.sheet r.indent_text);
   laid = [];
   bytes = [];
   text = sym (append-nil s.sheet.text);
@@ -660,7 +690,7 @@ holds_another : (held_span span : Option Span) (s : State) → HoldsOne held_spa
 unfolding parts.text_of tokens_of remarks_in holds_one spelling semicolon_gap
 holds_another held_span span s e f r = record {
   out = Own Ending (codes ";") ∷ [];
-  fits = fits_own Ending (codes ";");
+  fits = λ e. fits_own Ending (codes ";");
   laid = [];
   bytes = [];
   text = sym (append-nil s.sheet.text);

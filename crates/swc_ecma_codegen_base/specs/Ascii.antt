@@ -12,7 +12,7 @@ use Rattle.swc_ecma_codegen_ast.specs.Tokens.{Value, Characters, Units}
 use Rattle.swc_ecma_codegen_text_writer.specs.Sheet.{Item, StrLit, Str}
 use Rattle.swc_ecma_codegen_literals.specs.AsciiNames.{is_ascii_text}
 use Rattle.swc_ecma_codegen_literals.specs.ValidNames.{has_byte}
-use Rattle.swc_ecma_codegen_base.specs.Run.{State, Step, Guard, Token, Plain, Ends, Remake, text_of}
+use Rattle.swc_ecma_codegen_base.specs.Run.{State, Step, Guard, Token, Plain, Ends, Remake, Take, CommentText, text_of}
 
 -- what a directive stands for
 unfoldable pub is_strict : Option (List ℕ) → Bool
@@ -59,8 +59,10 @@ keeps_other (Token kind x ∷ xs) = is_other x || keeps_other xs
 keeps_other (Plain x ∷ xs) = is_other_piece x || keeps_other xs
 keeps_other (Ends tokens x ∷ xs) = is_other_end tokens x || keeps_other xs
 keeps_other (Remake due ∷ xs) = keeps_other xs
+keeps_other (Take side at ∷ xs) = keeps_other xs
+keeps_other (CommentText t ∷ xs) = keeps_other xs
 
--- each of them hands ASCII over
+-- each of them hands ASCII over, save the texts of comments
 unfoldable pub are_ascii : List Step → Bool
 are_ascii [] = true
 are_ascii (Guard t ∷ xs) = are_ascii xs
@@ -68,6 +70,8 @@ are_ascii (Token kind x ∷ xs) = is_ascii_text (text_of x) && are_ascii xs
 are_ascii (Plain x ∷ xs) = is_ascii_text (text_of x) && are_ascii xs
 are_ascii (Ends tokens x ∷ xs) = is_ascii_text (text_of x) && are_ascii xs
 are_ascii (Remake due ∷ xs) = are_ascii xs
+are_ascii (Take side at ∷ xs) = are_ascii xs
+are_ascii (CommentText t ∷ xs) = are_ascii xs
 
 -- a token that may stand as it is in the tree, and not in ASCII: a regular expression, a part of a template with a tag, a hashbang, or a
 -- string that may be a directive
@@ -104,8 +108,13 @@ pub record WantsAscii (s : State) : Type 0 where
   pub indent_text : is_ascii_text s.sheet.indent_text ≡ true
   pub line_end : is_ascii_text s.sheet.line_end ≡ true
 
--- what a text is longer by is ASCII
-pub record AddsAscii (old new : List ℕ) : Type 0 where
+-- A text is ASCII, save these texts, which stand in it one after another.
+unfoldable pub IsAsciiBut : List (List ℕ) → List ℕ → Type 0
+IsAsciiBut [] t = is_ascii_text t ≡ true
+IsAsciiBut (c ∷ cs) t = (before rest : List ℕ) × (t ≡ before ++ (c ++ rest)) × (is_ascii_text before ≡ true) × IsAsciiBut cs rest
+
+-- what a text is longer by is ASCII, save the texts of comments
+pub record AddsAscii (comments : List (List ℕ)) (old new : List ℕ) : Type 0 where
   pub added : List ℕ
   pub is_added : new ≡ old ++ added
-  pub ascii : is_ascii_text added ≡ true
+  pub ascii : IsAsciiBut comments added

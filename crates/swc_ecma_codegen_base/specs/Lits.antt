@@ -89,6 +89,10 @@ bool_text value = if value then codes "true" else codes "false"
 unfoldable pub bool_lit : tree_bool.Bool → Part
 bool_lit n rest = keyword None (bool_text n.value) rest
 
+-- as a node of its own
+unfoldable pub bool_node : tree_bool.Bool → Part
+bool_node n rest = leading_comments n.span.lo (keyword (Some n.span) (bool_text n.value) rest)
+
 unfoldable pub null_lit : Null → Part
 null_lit n rest = keyword None (codes "null") rest
 

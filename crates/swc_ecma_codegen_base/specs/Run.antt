@@ -11,6 +11,9 @@ use Rattle.swc_ecma_codegen_ast.specs.GapRules.{Last, Start, Apart, fuses, last_
 use Rattle.swc_ecma_codegen_text_writer.specs.Sheet.{Item, Semi, Space, Keyword, Operator, Param, Property, Line, Lit, Comment, StrLit, Str, Symbol, Punct, Position, Commit, Deeper, Shallower, Sheet, effect, IsFar, Refuses}
 use Rattle.swc_ecma_codegen_text_writer.specs.Told.{Rises}
 use Rattle.swc_ecma_codegen_literals.specs.ValidNames.{has_byte}
+use Rattle.swc_ecma_codegen_ast.specs.CommentMaps.{Maps}
+use Rattle.swc_ecma_codegen_ast.specs.declared.comments.Comment.{Comment as SourceComment}
+use Rattle.swc_ecma_codegen_ast.specs.Comments.{Side, comments_at, taken_out}
 use Rattle.swc_ecma_codegen_base.specs.declared.refusals.Unprintable.{Unprintable}
 use Rattle.swc_ecma_codegen_base.specs.declared.refusals.Unprintable.TheVariants as unprintable
 
@@ -27,6 +30,10 @@ pub data Step : Type 0 where
   Ends : (tokens : List (Kind × List ℕ)) → (item : Item) → Step
   -- a text is made anew in memory, where that is due
   Remake : (due : Bool) → Step
+  -- the comments of a position are taken out of the maps
+  Take : (side : Side) → (at : ℕ) → Step
+  -- a call that writes the text of a comment, between what opens it and what closes it
+  CommentText : (text : List ℕ) → Step
 
 -- the text that a call hands over
 unfoldable pub text_of : Item → List ℕ
@@ -63,10 +70,11 @@ unfoldable pub after_tokens : List (Kind × List ℕ) → Last → Last
 after_tokens [] last = last
 after_tokens (x ∷ xs) last = after_tokens xs (after_token x.0 x.1 last)
 
--- a blank and a line end part the last token from the next one
+-- a blank, a line end and a piece of a comment part the last token from the next one
 unfoldable pub after_plain : Item → Last → Last
 after_plain Space last = Apart
 after_plain Line last = Apart
+after_plain (Comment t) last = Apart
 after_plain x last = last
 
 -- what an emission goes by, whatever it has written
@@ -76,6 +84,42 @@ pub record Env : Type 0 where
   pub keeps_invalid : Bool
   -- what the map of the source text answers
   pub lines : Lines
+  -- the comments that are still to be taken
+  pub maps : Maps
+
+-- the same with other comments to be taken
+abbrev pub at_maps : Maps → Env → Env
+at_maps maps env = record env { maps = maps }
+
+-- the comments that are left after a step
+unfoldable pub after_step : Step → Maps → Maps
+after_step (Take side at) maps = taken_out side at maps
+after_step x maps = maps
+
+-- and after some
+unfoldable pub maps_after : List Step → Maps → Maps
+maps_after [] maps = maps
+maps_after (x ∷ xs) maps = maps_after xs (after_step x maps)
+
+-- the comments that a step takes, and that some take, in order
+unfoldable pub taken_by : Step → Maps → List SourceComment
+taken_by (Take side at) maps = comments_at side at maps
+taken_by x maps = []
+
+unfoldable pub taken_in : List Step → Maps → List SourceComment
+taken_in [] maps = []
+taken_in (x ∷ xs) maps = taken_by x maps ++ taken_in xs (after_step x maps)
+
+-- the texts of comments that steps write, in order
+unfoldable pub spoken : List Step → List (List ℕ)
+spoken [] = []
+spoken (Guard t ∷ xs) = spoken xs
+spoken (Token kind x ∷ xs) = spoken xs
+spoken (Plain x ∷ xs) = spoken xs
+spoken (Ends tokens x ∷ xs) = spoken xs
+spoken (Remake due ∷ xs) = spoken xs
+spoken (Take side at ∷ xs) = spoken xs
+spoken (CommentText t ∷ xs) = t ∷ spoken xs
 
 -- where an emission stands
 pub record State : Type 0 where
@@ -91,6 +135,8 @@ put (Token kind x) s = record s { sheet = effect x s.sheet; last = after_token k
 put (Plain x) s = record s { sheet = effect x s.sheet; last = after_plain x s.last }
 put (Ends tokens x) s = record s { sheet = effect x s.sheet; last = after_tokens tokens s.last }
 put (Remake due) s = s
+put (Take side at) s = record s { env = at_maps (taken_out side at s.env.maps) s.env }
+put (CommentText t) s = record s { sheet = effect (Comment t) s.sheet; last = Apart }
 
 -- steps that are made, in order
 unfoldable pub run : List Step → State → State
@@ -108,6 +154,8 @@ IsRefused (Token kind x) e a new = Refuses x e a.sheet new
 IsRefused (Plain x) e a new = Refuses x e a.sheet new
 IsRefused (Ends tokens x) e a new = Refuses x e a.sheet new
 IsRefused (Remake due) e a new = (e ≡ OutOfMemory) × (due ≡ true) × (new ≡ a.sheet)
+IsRefused (Take side at) e a new = ⊥
+IsRefused (CommentText t) e a new = Refuses (Comment t) e a.sheet new
 
 -- the error that a node that can't be printed is refused with
 unfoldable pub refusal_of : Unprintable → Refusal
@@ -175,18 +223,27 @@ Emits part a b (Err e) = (rest : Plan) → Follows (part rest) a b (Err e)
 abbrev pub at_lines : Lines → State → State
 at_lines lines s = record s { env = record s.env { lines = lines } }
 
+-- and with other comments to be taken
+abbrev pub at_source : Lines → Maps → State → State
+at_source lines maps s = record s { env = record s.env { lines = lines; maps = maps } }
+
 -- the same, not to be looked into
-unfoldable pub with_lines : Lines → State → State
-with_lines lines s = at_lines lines s
+unfoldable pub with_source : Lines → Maps → State → State
+with_source lines maps s = at_source lines maps s
 
--- A part of a plan is done, wherever lines end in the source text.
+-- A part of a plan is done, wherever lines end in the source text and whatever comments there are: it takes none.
 abbrev pub Does : Part → State → State → Result (Unit {0}) Refusal → Type 0
-Does part a b (Ok u) = (lines : Lines) → Emits part (with_lines lines a) (with_lines lines b) (Ok u)
-Does part a b (Err e) = (lines : Lines) → Emits part (with_lines lines a) (with_lines lines b) (Err e)
+Does part a b (Ok u) = (lines : Lines) (maps : Maps) → Emits part (with_source lines maps a) (with_source lines maps b) (Ok u)
+Does part a b (Err e) = (lines : Lines) (maps : Maps) → Emits part (with_source lines maps a) (with_source lines maps b) (Err e)
 
--- one step
+-- A part of a plan is done that takes comments: these were there before, and those are left.
+abbrev pub DoesTaking : Part → Maps → Maps → State → State → Result (Unit {0}) Refusal → Type 0
+DoesTaking part before left a b (Ok u) = (lines : Lines) → Emits part (with_source lines before a) (with_source lines left b) (Ok u)
+DoesTaking part before left a b (Err e) = (lines : Lines) → Emits part (with_source lines before a) (with_source lines left b) (Err e)
+
+-- one step; what comes after it has the comments that are left
 unfoldable pub step : Step → Part
-step x rest env = next x (rest env)
+step x rest env = next x (rest (at_maps (after_step x env.maps) env))
 
 -- a node that can't be printed, whatever comes after it
 unfoldable pub refuse : Unprintable → Part
@@ -208,6 +265,8 @@ makes_text (Guard t ∷ xs) = makes_text xs
 makes_text (Token kind x ∷ xs) = makes_text xs
 makes_text (Plain x ∷ xs) = makes_text xs
 makes_text (Ends tokens x ∷ xs) = makes_text xs
+makes_text (Take side at ∷ xs) = makes_text xs
+makes_text (CommentText t ∷ xs) = makes_text xs
 
 -- a step that makes the indentation deeper
 unfoldable pub deepens : Step → Type 0
@@ -216,6 +275,8 @@ deepens (Plain x) = x ≡ Deeper
 deepens (Guard t) = ⊥
 deepens (Ends tokens x) = x ≡ Deeper
 deepens (Remake due) = ⊥
+deepens (Take side at) = ⊥
+deepens (CommentText t) = ⊥
 
 -- The indentation would pass its limit at one of the steps.
 pub record PassesLimit (xs : List Step) (a : State) : Type 0 where
@@ -266,5 +327,5 @@ abbrev pub printed : Part → State → State
 printed part a = run (steps_of (steps_in part a)) a
 
 -- where an emission over a sheet begins
-abbrev pub start : Lines → Config → Sheet → State
-start lines config sheet = record { env = record { config = config; keeps_invalid = sheet.keeps_invalid; lines = lines }; sheet = sheet; last = Start; failed = false }
+abbrev pub start : Lines → Maps → Config → Sheet → State
+start lines maps config sheet = record { env = record { config = config; keeps_invalid = sheet.keeps_invalid; lines = lines; maps = maps }; sheet = sheet; last = Start; failed = false }

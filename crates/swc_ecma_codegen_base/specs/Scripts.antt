@@ -5,7 +5,7 @@ use Rattle.swc_ecma_codegen_ast.specs.declared.kinds.Kind.{Kind}
 use Rattle.swc_ecma_codegen_ast.specs.declared.kinds.Kind.TheVariants as kinds
 use Rattle.swc_ecma_codegen_text_writer.specs.Sheet.{Item, StrLit}
 use Rattle.swc_ecma_codegen_literals.specs.InlineScripts.{IsInlineSafe}
-use Rattle.swc_ecma_codegen_base.specs.Run.{Step, Guard, Token, Plain, Ends, Remake, text_of}
+use Rattle.swc_ecma_codegen_base.specs.Run.{Step, Guard, Token, Plain, Ends, Remake, Take, CommentText, text_of}
 
 -- the kind of string literals
 unfoldable pub is_str : Kind → Bool
@@ -29,6 +29,8 @@ strings_after anew (Token kind x ∷ xs) = string_by_value anew kind x ++ string
 strings_after anew (Plain x ∷ xs) = strings_after anew xs
 strings_after anew (Ends tokens x ∷ xs) = strings_after anew xs
 strings_after anew (Remake due ∷ xs) = strings_after due xs
+strings_after anew (Take side at ∷ xs) = strings_after anew xs
+strings_after anew (CommentText t ∷ xs) = strings_after anew xs
 
 -- The strings that these steps print by their value, as they are written: `"a"` of a string without a raw. One that is printed
 -- as it was spelled, `'a'`, isn't among them, since its text isn't made anew.

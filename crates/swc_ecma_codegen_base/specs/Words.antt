@@ -1,13 +1,19 @@
 -- The parts that plans are made of.
-use Rattle.std.specs.Prelude.{ℕ, ◌-◌, ◌==◌, Bool, if◌then◌else◌, List, codes, Option, Some, None}
+use Rattle.std.specs.Prelude.{ℕ, ◌-◌, ◌==◌, nat_lt, Bool, false, if◌then◌else◌, List, [], ◌∷◌, codes, Option, Some, None, string_bytes}
 use Rattle.swc_ecma_codegen_common.specs.declared.positions.BytePos.{BytePos}
 use Rattle.swc_ecma_codegen_common.specs.declared.positions.Span.{Span}
 use Rattle.swc_ecma_codegen_spans.specs.Spans.{dummy_span}
 use Rattle.swc_ecma_codegen_ast.specs.declared.kinds.Kind.TheVariants.{Word, Name, Punctuator, Ending}
-use Rattle.swc_ecma_codegen_text_writer.specs.Sheet.{Semi, Space, Keyword, Operator, Line, Symbol, Punct, Position, Commit}
+use Rattle.swc_ecma_codegen_text_writer.specs.Sheet.{Semi, Space, Keyword, Operator, Symbol, Punct, Position, Commit, Comment}
+use Rattle.swc_ecma_codegen_text_writer.specs.Sheet as sheet
+use Rattle.swc_ecma_codegen_ast.specs.CommentMaps.{Maps}
+use Rattle.swc_ecma_codegen_ast.specs.declared.comments.Comment.{Comment as SourceComment}
+use Rattle.swc_ecma_codegen_ast.specs.declared.comments.CommentKind.{CommentKind}
+use Rattle.swc_ecma_codegen_ast.specs.declared.comments.CommentKind.TheVariants.{Line, Block}
+use Rattle.swc_ecma_codegen_ast.specs.Comments.{Side, Leading, Trailing, comments_at}
 use Rattle.swc_ecma_codegen_ast.specs.ValidNames.{turned}
 use Rattle.swc_ecma_codegen_base.specs.declared.refusals.Unprintable.TheVariants.{NameOutOfTarget}
-use Rattle.swc_ecma_codegen_base.specs.Run.{Part, step, Guard, Token, Plain, Remake, refuse, when_minified, no_part, has_backslash}
+use Rattle.swc_ecma_codegen_base.specs.Run.{Part, step, Guard, Token, Plain, Remake, Take, CommentText, refuse, when_minified, no_part, has_backslash}
 use Rattle.swc_ecma_codegen_base.specs.Targets.{wants_escapes, in_ascii, is_out_name}
 
 -- a keyword
@@ -51,7 +57,7 @@ formatting_space = when_minified no_part space
 
 -- the line ends, unless at a line's start
 unfoldable pub line_end : Part
-line_end rest = step (Plain Line) rest
+line_end rest = step (Plain sheet.Line) rest
 
 -- the same, unless minified
 unfoldable pub formatting_line : Part
@@ -79,12 +85,46 @@ end_of span = position span.hi
 abbrev pub last_of : Span → Part
 last_of span = position_before span.hi
 
--- the comments before a position, and those after one: there are none yet
+-- ---- comments
+
+-- the blank before a comment, where one is asked for and the settings aren't to minify; it is a comment's call
+unfoldable pub comment_blank : Bool → Part
+comment_blank prefix_space rest = if prefix_space then when_minified no_part (step (Plain (Comment (codes " ")))) rest else rest
+
+-- the position before what closes a block comment, where there is room for one
+unfoldable pub before_closing : BytePos → Part
+before_closing pos rest = if nat_lt 2 pos.0 then step (Plain (Position (record { 0 = pos.0 - 2 }))) rest else rest
+
+-- `// a` and the end of the line; `/* a */` and a blank, unless minified
+unfoldable pub comment_by : CommentKind → Span → List ℕ → Part
+comment_by Line span t rest = start_of span (step (Guard (codes "//")) (step (Plain (Comment (codes "//"))) (step (CommentText t) (end_of span (line_end rest)))))
+comment_by Block span t rest = start_of span (step (Guard (codes "/*")) (step (Plain (Comment (codes "/*"))) (step (CommentText t) (before_closing span.hi (step (Plain (Comment (codes "*/"))) (formatting_space rest))))))
+
+unfoldable pub comment : Bool → SourceComment → Part
+comment prefix_space c rest = comment_blank prefix_space (comment_by c.kind c.span (string_bytes c.text) rest)
+
+unfoldable pub comments : Bool → List SourceComment → Part
+comments prefix_space [] rest = rest
+comments prefix_space (c ∷ cs) rest = comment prefix_space c (comments prefix_space cs rest)
+
+-- the comments of a position are taken out of the maps, and written
+unfoldable pub take_comments : Side → Bool → ℕ → Part
+take_comments side prefix_space at rest env = step (Take side at) (comments prefix_space (comments_at side at env.maps) rest) env
+
+-- the comments before a position, and those after one, unless it is none
 unfoldable pub leading_comments : BytePos → Part
-leading_comments pos rest = rest
+leading_comments pos rest = if pos.0 == 0 then rest else take_comments Leading false pos.0 rest
 
 unfoldable pub trailing_comments : Bool → BytePos → Part
-trailing_comments prefix_space pos rest = rest
+trailing_comments prefix_space pos rest = if pos.0 == 0 then rest else take_comments Trailing prefix_space pos.0 rest
+
+-- the comments before the last character of what ends at a position, unless it is none: those before `}`
+unfoldable pub comments_before_end : BytePos → Part
+comments_before_end pos rest = if pos.0 == 0 then rest else take_comments Leading false (pos.0 - 1) rest
+
+-- what depends on the comments that are still to be taken
+unfoldable pub by_maps : (Maps → Part) → Part
+by_maps ask rest env = ask env.maps rest env
 
 -- A name by a text: its position is recorded after the blank that is due before it.
 unfoldable pub symbol : Span → List ℕ → Part

@@ -5,7 +5,9 @@ use Rattle.swc_ecma_codegen_ast.specs.Tokens.{Token, punctuator, name}
 use Rattle.swc_ecma_codegen_ast.specs.Names.{is_word, name_value}
 use Rattle.swc_ecma_codegen_ast.specs.SpelledNames.{spelled_name}
 use Rattle.swc_ecma_codegen_ast.specs.Punctuators.{is_punctuator}
-use Rattle.swc_ecma_codegen_ast.specs.Reads.{Reads}
+use Rattle.swc_ecma_codegen_ast.specs.Reads.{Reads, is_same_line}
+use Rattle.swc_ecma_codegen_ast.specs.Trivia.{Remark}
+use Rattle.swc_ecma_codegen_ast.specs.Comments.{all_tame, remarks_of}
 use Rattle.swc_ecma_codegen_ast.specs.Endings.{IsReduced}
 use Rattle.swc_ecma_codegen_ast.specs.Phrases.{Phrase, Generates}
 use Rattle.swc_ecma_codegen_ast.specs.GapRules.{Last, Start, Apart, allows}
@@ -13,7 +15,8 @@ use Rattle.swc_ecma_codegen_ast.specs.Parts.{Part, PastLine, walk, is_broken, te
 use Rattle.swc_ecma_codegen_text_writer.specs.Sheet.{Sheet, Semicolons, AtOnce, HoldsNone, HoldsOne, holds_semicolons}
 use Rattle.swc_ecma_codegen_literals.specs.AsciiNames.{is_ascii_text}
 use Rattle.swc_ecma_codegen_util.specs.declared.config.Config.{Config}
-use Rattle.swc_ecma_codegen_base.specs.Run.{State}
+use Rattle.swc_ecma_codegen_base.specs.Run as run
+use Rattle.swc_ecma_codegen_base.specs.Run.{Env, State, steps_of, nothing, taken_in}
 use Rattle.swc_ecma_codegen_base.specs.Settings.{settings_of}
 
 -- LF, or CR and LF
@@ -60,26 +63,37 @@ pub record IsNew (s : State) : Type 0 where
 abbrev pub IsAtMargin : State → Type 0
 IsAtMargin s = s.sheet.at_line_start ≡ true → s.sheet.indentation ≡ 0
 
--- A text is UTF-8, and reads as one of the token lists that a phrase has under some settings, without comments. Where the writer holds semicolons back,
--- some of those that end a statement are left out, none of which is needed.
-pub record ReadsAs (config : Config) (holds : Bool) (phrase : Phrase) (text : List ℕ) : Type 0 where
+-- tokens without `[no LineTerminator here]` between them
+unfoldable pub without_joints : List Token → List Token
+without_joints [] = []
+without_joints (x ∷ xs) = if is_same_line x.kind then without_joints xs else x ∷ without_joints xs
+
+-- A text is UTF-8, and reads as one of the token lists that a phrase has under some settings, with these comments between, each once and in
+-- order. Where the writer holds semicolons back, some of those that end a statement are left out, none of which is needed. Where no line
+-- ends in or after a comment, none does where the syntax has `[no LineTerminator here]`.
+pub record ReadsAs (config : Config) (holds : Bool) (phrase : Phrase) (remarks : List Remark) (text : List ℕ) : Type 0 where
   pub utf8 : IsUtf8 text
   pub tokens : List Token
   pub is_list : Generates (settings_of config) phrase tokens
   pub written : List Token
   pub reduced : IsReduced tokens written
   pub whole : holds ≡ false → written ≡ tokens
-  pub reads : Reads (chars text) written []
+  pub reads : Reads (chars text) (without_joints written) remarks
+  pub keeps_lines : all_tame remarks ≡ true → Reads (chars text) written remarks
 
 -- What a text is longer by reads so.
-pub record AddsText (config : Config) (holds : Bool) (phrase : Phrase) (old new : List ℕ) : Type 0 where
+pub record AddsText (config : Config) (holds : Bool) (phrase : Phrase) (remarks : List Remark) (old new : List ℕ) : Type 0 where
   pub added : List ℕ
   pub is_added : new ≡ old ++ added
-  pub reading : ReadsAs config holds phrase added
+  pub reading : ReadsAs config holds phrase remarks added
 
 -- What the text of a sheet is longer by reads so.
-abbrev pub AddsReading : Config → Phrase → Sheet → Sheet → Type 0
-AddsReading config phrase old new = AddsText config (holds_semicolons old.semicolons) phrase old.text new.text
+abbrev pub AddsReading : Config → Phrase → List Remark → Sheet → Sheet → Type 0
+AddsReading config phrase remarks old new = AddsText config (holds_semicolons old.semicolons) phrase remarks old.text new.text
+
+-- what the comments that a part takes read as, in order of taking
+abbrev pub taken_remarks : run.Part → Env → List Remark
+taken_remarks part env = remarks_of (taken_in (steps_of (part nothing env)) env.maps)
 
 -- a text is a word of the grammar, or a punctuator: in ASCII
 pub record IsWord (t : List ℕ) : Type 0 where
@@ -92,14 +106,14 @@ pub record IsMark (t : List ℕ) : Type 0 where
   pub ascii : is_ascii_text t ≡ true
   pub shape : is_punctuator t ≡ true
 
--- What was added to an old text, by a writer that holds no semicolons back, reads as these tokens, whatever follows that
+-- What was added to an old text, by a writer that holds no semicolons back, reads as these tokens with these comments between, whatever follows that
 -- doesn't fuse, and doesn't begin with `[no LineTerminator here]`: `a<` goes on with ` !` and `--b`, and not with `!--b`.
-pub record ReadsSoFar (old : List ℕ) (tokens : List Token) (s : State) : Type 0 where
+pub record ReadsSoFar (old : List ℕ) (tokens : List Token) (remarks : List Remark) (s : State) : Type 0 where
   pub at_once : holds_semicolons s.sheet.semicolons ≡ false
   pub added : List ℕ
   pub is_added : s.sheet.text ≡ old ++ added
   pub utf8 : IsUtf8 added
-  pub reads : (more : List Part) → NoneFuse s.last more → is_broken (walk PastLine more) ≡ false → Reads (chars added ++ text_of more) (tokens ++ tokens_of more) (remarks_in more)
+  pub reads : (more : List Part) → NoneFuse s.last more → is_broken (walk PastLine more) ≡ false → Reads (chars added ++ text_of more) (tokens ++ tokens_of more) (remarks ++ remarks_in more)
   pub rest : AtRest s
 
 -- the tokens of a name, with `?` after an optional one

@@ -1,13 +1,14 @@
 //! Names as keys of properties.
 
-ghost use Rattle.std.specs.Prelude.{◌≡◌, OnOk, IsNone, false, true};
+ghost use Rattle.std.specs.Prelude.{◌≡◌, OnOk, false, true};
 ghost use Rattle.std.specs.List.{list_any};
 ghost use Rattle.std.specs.Str.{chars};
 ghost use Rattle.swc_ecma_codegen_spans.specs.Spans.{dummy_span};
 ghost use Rattle.swc_ecma_codegen_ast.specs.declared.kinds.Kind.TheVariants as kinds;
 ghost use Rattle.swc_ecma_codegen_text_writer.specs.Sheet.{Symbol};
 ghost use Rattle.swc_ecma_codegen_base.specs.Keys.{quoted_key, ascii_key, bare_key, plain_key, spelled_key, valid_key, key_text, key};
-ghost use Rattle.swc_ecma_codegen_base.specs.Run.{Does, step, Token};
+ghost use Rattle.swc_ecma_codegen_ast.specs.Comments.{maps_in};
+ghost use Rattle.swc_ecma_codegen_base.specs.Run.{DoesTaking, Does, step, Token};
 ghost use Rattle.swc_ecma_codegen_base.specs.Targets.{wants_escapes};
 ghost use Rattle.swc_ecma_codegen_base.specs.View.{state_of};
 
@@ -97,13 +98,12 @@ impl LowerEmitter {
     fn bare_key<W: WriteJs, C: Comments>(
         &mut self,
         cfg: &Config,
-        comments: &Option<C>,
+        comments: &mut Option<C>,
         wr: &mut W,
         span: Span,
         text: &str,
     ) -> Answer
-        requires { IsNone comments.now }
-        ensures items { Does (bare_key span text.now) (state_of cfg.now (W.sheet wr.old) self.old) (state_of cfg.now (W.sheet wr.new) self.new) result }
+        ensures items { DoesTaking (bare_key span text.now) (maps_in C.maps comments.old) (maps_in C.maps comments.new) (state_of cfg.now (W.sheet wr.old) self.old) (state_of cfg.now (W.sheet wr.new) self.new) result }
         ensures level { OnOk result ((W.sheet wr.new).indentation ≡ (W.sheet wr.old).indentation) }
     {
         self.guard(cfg, wr, text, StartClass::of_text(text))?;
@@ -118,13 +118,12 @@ impl LowerEmitter {
     fn plain_key<W: WriteJs, C: Comments>(
         &mut self,
         cfg: &Config,
-        comments: &Option<C>,
+        comments: &mut Option<C>,
         wr: &mut W,
         span: Span,
         text: &str,
     ) -> Answer
-        requires { IsNone comments.now }
-        ensures items { Does (plain_key span text.now) (state_of cfg.now (W.sheet wr.old) self.old) (state_of cfg.now (W.sheet wr.new) self.new) result }
+        ensures items { DoesTaking (plain_key span text.now) (maps_in C.maps comments.old) (maps_in C.maps comments.new) (state_of cfg.now (W.sheet wr.old) self.old) (state_of cfg.now (W.sheet wr.new) self.new) result }
         ensures level { OnOk result ((W.sheet wr.new).indentation ≡ (W.sheet wr.old).indentation) }
     {
         if cfg.ascii_only {
@@ -137,13 +136,12 @@ impl LowerEmitter {
     fn spelled_key<W: WriteJs, C: Comments>(
         &mut self,
         cfg: &Config,
-        comments: &Option<C>,
+        comments: &mut Option<C>,
         wr: &mut W,
         span: Span,
         text: &str,
     ) -> Answer
-        requires { IsNone comments.now }
-        ensures items { Does (spelled_key span text.now) (state_of cfg.now (W.sheet wr.old) self.old) (state_of cfg.now (W.sheet wr.new) self.new) result }
+        ensures items { DoesTaking (spelled_key span text.now) (maps_in C.maps comments.old) (maps_in C.maps comments.new) (state_of cfg.now (W.sheet wr.old) self.old) (state_of cfg.now (W.sheet wr.new) self.new) result }
         ensures level { OnOk result ((W.sheet wr.new).indentation ≡ (W.sheet wr.old).indentation) }
     {
         if wants_escapes(cfg, text) {
@@ -157,13 +155,12 @@ impl LowerEmitter {
     fn valid_key<W: WriteJs, C: Comments>(
         &mut self,
         cfg: &Config,
-        comments: &Option<C>,
+        comments: &mut Option<C>,
         wr: &mut W,
         span: Span,
         name: &str,
     ) -> Answer
-        requires { IsNone comments.now }
-        ensures items { Does (valid_key span name.now) (state_of cfg.now (W.sheet wr.old) self.old) (state_of cfg.now (W.sheet wr.new) self.new) result }
+        ensures items { DoesTaking (valid_key span name.now) (maps_in C.maps comments.old) (maps_in C.maps comments.new) (state_of cfg.now (W.sheet wr.old) self.old) (state_of cfg.now (W.sheet wr.new) self.new) result }
         ensures level { OnOk result ((W.sheet wr.new).indentation ≡ (W.sheet wr.old).indentation) }
     {
         if self.failed {
@@ -186,13 +183,12 @@ impl LowerEmitter {
     fn key_text<W: WriteJs, C: Comments>(
         &mut self,
         cfg: &Config,
-        comments: &Option<C>,
+        comments: &mut Option<C>,
         wr: &mut W,
         span: Span,
         sym: &str,
     ) -> Answer
-        requires { IsNone comments.now }
-        ensures items { Does (key_text span sym.now) (state_of cfg.now (W.sheet wr.old) self.old) (state_of cfg.now (W.sheet wr.new) self.new) result }
+        ensures items { DoesTaking (key_text span sym.now) (maps_in C.maps comments.old) (maps_in C.maps comments.new) (state_of cfg.now (W.sheet wr.old) self.old) (state_of cfg.now (W.sheet wr.new) self.new) result }
         ensures level { OnOk result ((W.sheet wr.new).indentation ≡ (W.sheet wr.old).indentation) }
     {
         if wr.can_ignore_invalid_unicodes() {
@@ -206,13 +202,12 @@ impl LowerEmitter {
     pub fn key<W: WriteJs, C: Comments>(
         &mut self,
         cfg: &Config,
-        comments: &Option<C>,
+        comments: &mut Option<C>,
         wr: &mut W,
         span: Span,
         sym: &str,
     ) -> Answer
-        requires { IsNone comments.now }
-        ensures items { Does (key span sym.now) (state_of cfg.now (W.sheet wr.old) self.old) (state_of cfg.now (W.sheet wr.new) self.new) result }
+        ensures items { DoesTaking (key span sym.now) (maps_in C.maps comments.old) (maps_in C.maps comments.new) (state_of cfg.now (W.sheet wr.old) self.old) (state_of cfg.now (W.sheet wr.new) self.new) result }
         ensures level { OnOk result ((W.sheet wr.new).indentation ≡ (W.sheet wr.old).indentation) }
     {
         self.leading_comments(cfg, comments, wr, span.lo)?;

@@ -4,7 +4,8 @@ ghost use Rattle.std.specs.Prelude.{◌≡◌, ◌==◌, if◌then◌else◌, fa
 ghost use Rattle.std.specs.Char.{is_whitespace};
 ghost use Rattle.std.specs.Str.{chars};
 ghost use Rattle.swc_ecma_codegen_common.specs.declared.errors.Error.TheVariants.{OutOfMemory};
-ghost use Rattle.swc_ecma_codegen_base.specs.Run.{Does, Emits, at_lines};
+ghost use Rattle.swc_ecma_codegen_ast.specs.CommentMaps.{Maps};
+ghost use Rattle.swc_ecma_codegen_base.specs.Run.{Does, Emits, at_source};
 ghost use Rattle.swc_ecma_codegen_base.specs.Lists.{comma_before_end, has_trailing_comma, source_has_comma, comma_if, source_comma, wanted_comma, may_have_comma, trailing_comma};
 ghost use Rattle.swc_ecma_codegen_base.specs.View.{state_of};
 
@@ -94,7 +95,7 @@ impl LowerEmitter {
         wr: &mut W,
         parent: Span,
     ) -> Answer
-        ensures items { Emits (source_comma parent) (at_lines (S.lines cm.now) (state_of cfg.now (W.sheet wr.old) self.old)) (at_lines (S.lines cm.now) (state_of cfg.now (W.sheet wr.new) self.new)) result }
+        ensures items { (maps : Maps) → Emits (source_comma parent) (at_source (S.lines cm.now) maps (state_of cfg.now (W.sheet wr.old) self.old)) (at_source (S.lines cm.now) maps (state_of cfg.now (W.sheet wr.new) self.new)) result }
         ensures level { OnOk result ((W.sheet wr.new).indentation ≡ (W.sheet wr.old).indentation) }
     {
         if parent.lo.0 == 0 {
@@ -122,7 +123,7 @@ impl LowerEmitter {
         format: ListFormat,
         parent: Span,
     ) -> Answer
-        ensures items { Emits (wanted_comma format.0 parent) (at_lines (S.lines cm.now) (state_of cfg.now (W.sheet wr.old) self.old)) (at_lines (S.lines cm.now) (state_of cfg.now (W.sheet wr.new) self.new)) result }
+        ensures items { (maps : Maps) → Emits (wanted_comma format.0 parent) (at_source (S.lines cm.now) maps (state_of cfg.now (W.sheet wr.old) self.old)) (at_source (S.lines cm.now) maps (state_of cfg.now (W.sheet wr.new) self.new)) result }
         ensures level { OnOk result ((W.sheet wr.new).indentation ≡ (W.sheet wr.old).indentation) }
     {
         if format.contains(ListFormat::ForceTrailingComma) {
@@ -144,7 +145,7 @@ impl LowerEmitter {
         format: ListFormat,
         parent: Span,
     ) -> Answer
-        ensures items { Emits (trailing_comma format.0 parent) (at_lines (S.lines cm.now) (state_of cfg.now (W.sheet wr.old) self.old)) (at_lines (S.lines cm.now) (state_of cfg.now (W.sheet wr.new) self.new)) result }
+        ensures items { (maps : Maps) → Emits (trailing_comma format.0 parent) (at_source (S.lines cm.now) maps (state_of cfg.now (W.sheet wr.old) self.old)) (at_source (S.lines cm.now) maps (state_of cfg.now (W.sheet wr.new) self.new)) result }
         ensures level { OnOk result ((W.sheet wr.new).indentation ≡ (W.sheet wr.old).indentation) }
     {
         if !may_have_comma(cfg, format) {

@@ -1,7 +1,8 @@
 //! What stands before, between and after the children of a list, by its format.
 
-ghost use Rattle.std.specs.Prelude.{◌≡◌, true, ◌+◌, ◌<◌, ◌≤◌, OnOk, IsNone};
-ghost use Rattle.swc_ecma_codegen_base.specs.Run.{Does};
+ghost use Rattle.std.specs.Prelude.{◌≡◌, true, ◌+◌, ◌<◌, ◌≤◌, OnOk};
+ghost use Rattle.swc_ecma_codegen_ast.specs.Comments.{maps_in};
+ghost use Rattle.swc_ecma_codegen_base.specs.Run.{DoesTaking, Does};
 ghost use Rattle.swc_ecma_codegen_base.specs.Lists.{blank_if, line_or_blank, deeper, formatting_deeper, deeper_if, shallower, formatting_shallower, shallower_if, opening, delimiter, separator, child_comments, closing, empty_list, level_if, list_levels};
 ghost use Rattle.swc_ecma_codegen_base.specs.View.{state_of};
 
@@ -192,14 +193,13 @@ impl LowerEmitter {
     pub fn child_comments<W: WriteJs, C: Comments>(
         &mut self,
         cfg: &Config,
-        comments: &Option<C>,
+        comments: &mut Option<C>,
         wr: &mut W,
         format: ListFormat,
         line: bool,
         place: Span,
     ) -> Answer
-        requires { IsNone comments.now }
-        ensures items { Does (child_comments format.0 line place) (state_of cfg.now (W.sheet wr.old) self.old) (state_of cfg.now (W.sheet wr.new) self.new) result }
+        ensures items { DoesTaking (child_comments format.0 line place) (maps_in C.maps comments.old) (maps_in C.maps comments.new) (state_of cfg.now (W.sheet wr.old) self.old) (state_of cfg.now (W.sheet wr.new) self.new) result }
         ensures level { OnOk result ((W.sheet wr.new).indentation ≡ (W.sheet wr.old).indentation) }
     {
         if format.contains(ListFormat::NoInterveningComments) {

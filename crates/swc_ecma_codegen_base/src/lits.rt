@@ -1,12 +1,13 @@
 //! Strings, regular expressions, the words `true`, `false` and `null`, and a literal as such.
 
-ghost use Rattle.std.specs.Prelude.{◌≡◌, OnOk, IfOk, IfErr, IsNone, List, [], ◌∷◌, codes, None, true, false, string_bytes};
+ghost use Rattle.std.specs.Prelude.{◌≡◌, OnOk, IfOk, IfErr, List, [], ◌∷◌, codes, None, true, false, string_bytes};
 ghost use Rattle.std.specs.Cow.{cow_str_bytes};
 ghost use Rattle.swc_ecma_codegen_common.specs.declared.errors.Error.TheVariants.{OutOfMemory};
-ghost use Rattle.swc_ecma_codegen_base.specs.Run.{Does};
+ghost use Rattle.swc_ecma_codegen_ast.specs.Comments.{maps_in};
+ghost use Rattle.swc_ecma_codegen_base.specs.Run.{DoesTaking, Does};
 ghost use Rattle.swc_ecma_codegen_base.specs.Starts.{begins_letter};
 ghost use Rattle.swc_ecma_codegen_base.specs.Literals.{begun, settled_begun};
-ghost use Rattle.swc_ecma_codegen_base.specs.Lits.{begun_in, is_directive, takes_raw, prints_raw, value_text, string_text, directive_end, string_by, string_at, str_lit, bool_text, bool_lit, null_lit, regex_lit, lit};
+ghost use Rattle.swc_ecma_codegen_base.specs.Lits.{begun_in, is_directive, takes_raw, prints_raw, value_text, string_text, directive_end, string_by, string_at, str_lit, bool_node, bool_text, bool_lit, null_lit, regex_lit, lit};
 ghost use Rattle.swc_ecma_codegen_base.specs.View.{state_of};
 
 use crate::LowerEmitter;
@@ -92,13 +93,12 @@ impl LowerEmitter {
     pub(crate) fn begun<W: WriteJs, C: Comments>(
         &mut self,
         cfg: &Config,
-        comments: &Option<C>,
+        comments: &mut Option<C>,
         wr: &mut W,
         span: Span,
         text: &str,
     ) -> Answer
-        requires { IsNone comments.now }
-        ensures items { Does (begun span text.now) (state_of cfg.now (W.sheet wr.old) self.old) (state_of cfg.now (W.sheet wr.new) self.new) result }
+        ensures items { DoesTaking (begun span text.now) (maps_in C.maps comments.old) (maps_in C.maps comments.new) (state_of cfg.now (W.sheet wr.old) self.old) (state_of cfg.now (W.sheet wr.new) self.new) result }
         ensures level { OnOk result ((W.sheet wr.new).indentation ≡ (W.sheet wr.old).indentation) }
     {
         self.leading_comments(cfg, comments, wr, span.lo)?;
@@ -112,13 +112,12 @@ impl LowerEmitter {
     pub(crate) fn settled_begun<W: WriteJs, C: Comments>(
         &mut self,
         cfg: &Config,
-        comments: &Option<C>,
+        comments: &mut Option<C>,
         wr: &mut W,
         span: Span,
         text: &str,
     ) -> Answer
-        requires { IsNone comments.now }
-        ensures items { Does (settled_begun span text.now) (state_of cfg.now (W.sheet wr.old) self.old) (state_of cfg.now (W.sheet wr.new) self.new) result }
+        ensures items { DoesTaking (settled_begun span text.now) (maps_in C.maps comments.old) (maps_in C.maps comments.new) (state_of cfg.now (W.sheet wr.old) self.old) (state_of cfg.now (W.sheet wr.new) self.new) result }
         ensures level { OnOk result ((W.sheet wr.new).indentation ≡ (W.sheet wr.old).indentation) }
     {
         self.commit_pending_semi(cfg, wr)?;
@@ -131,14 +130,13 @@ impl LowerEmitter {
     pub(crate) fn begun_in<W: WriteJs, C: Comments>(
         &mut self,
         cfg: &Config,
-        comments: &Option<C>,
+        comments: &mut Option<C>,
         wr: &mut W,
         span: Span,
         text: &str,
         in_lit: bool,
     ) -> Answer
-        requires { IsNone comments.now }
-        ensures items { Does (begun_in in_lit span text.now) (state_of cfg.now (W.sheet wr.old) self.old) (state_of cfg.now (W.sheet wr.new) self.new) result }
+        ensures items { DoesTaking (begun_in in_lit span text.now) (maps_in C.maps comments.old) (maps_in C.maps comments.new) (state_of cfg.now (W.sheet wr.old) self.old) (state_of cfg.now (W.sheet wr.new) self.new) result }
         ensures level { OnOk result ((W.sheet wr.new).indentation ≡ (W.sheet wr.old).indentation) }
     {
         if in_lit {
@@ -164,14 +162,13 @@ impl LowerEmitter {
     fn string_by<W: WriteJs, C: Comments>(
         &mut self,
         cfg: &Config,
-        comments: &Option<C>,
+        comments: &mut Option<C>,
         wr: &mut W,
         n: &Str,
         text: &str,
         in_lit: bool,
     ) -> Answer
-        requires { IsNone comments.now }
-        ensures items { Does (string_by in_lit n.now text.now) (state_of cfg.now (W.sheet wr.old) self.old) (state_of cfg.now (W.sheet wr.new) self.new) result }
+        ensures items { DoesTaking (string_by in_lit n.now text.now) (maps_in C.maps comments.old) (maps_in C.maps comments.new) (state_of cfg.now (W.sheet wr.old) self.old) (state_of cfg.now (W.sheet wr.new) self.new) result }
         ensures level { OnOk result ((W.sheet wr.new).indentation ≡ (W.sheet wr.old).indentation) }
     {
         self.begun_in(cfg, comments, wr, n.span, text, in_lit)?;
@@ -185,13 +182,12 @@ impl LowerEmitter {
     fn string_at<W: WriteJs, C: Comments>(
         &mut self,
         cfg: &Config,
-        comments: &Option<C>,
+        comments: &mut Option<C>,
         wr: &mut W,
         n: &Str,
         in_lit: bool,
     ) -> Answer
-        requires { IsNone comments.now }
-        ensures items { Does (string_at in_lit n.now) (state_of cfg.now (W.sheet wr.old) self.old) (state_of cfg.now (W.sheet wr.new) self.new) result }
+        ensures items { DoesTaking (string_at in_lit n.now) (maps_in C.maps comments.old) (maps_in C.maps comments.new) (state_of cfg.now (W.sheet wr.old) self.old) (state_of cfg.now (W.sheet wr.new) self.new) result }
         ensures level { OnOk result ((W.sheet wr.new).indentation ≡ (W.sheet wr.old).indentation) }
     {
         if self.failed {
@@ -210,12 +206,11 @@ impl LowerEmitter {
     pub fn str_lit<W: WriteJs, C: Comments>(
         &mut self,
         cfg: &Config,
-        comments: &Option<C>,
+        comments: &mut Option<C>,
         wr: &mut W,
         n: &Str,
     ) -> Answer
-        requires { IsNone comments.now }
-        ensures items { Does (str_lit n.now) (state_of cfg.now (W.sheet wr.old) self.old) (state_of cfg.now (W.sheet wr.new) self.new) result }
+        ensures items { DoesTaking (str_lit n.now) (maps_in C.maps comments.old) (maps_in C.maps comments.new) (state_of cfg.now (W.sheet wr.old) self.old) (state_of cfg.now (W.sheet wr.new) self.new) result }
         ensures level { OnOk result ((W.sheet wr.new).indentation ≡ (W.sheet wr.old).indentation) }
     {
         self.string_at(cfg, comments, wr, n, false)
@@ -228,6 +223,23 @@ impl LowerEmitter {
         ensures level { OnOk result ((W.sheet wr.new).indentation ≡ (W.sheet wr.old).indentation) }
     {
         self.keyword(cfg, wr, None, bool_text(n.value))?;
+        Ok(())
+    }
+
+    /// Writes `true` or `false` as a node of its own, with the comments before it. swc's `emit_bool`.
+    #[tactic(auto, unfolding(crate::specs::Lits::bool_node))]
+    pub fn bool_node<W: WriteJs, C: Comments>(
+        &mut self,
+        cfg: &Config,
+        comments: &mut Option<C>,
+        wr: &mut W,
+        n: &Bool,
+    ) -> Answer
+        ensures items { DoesTaking (bool_node n.now) (maps_in C.maps comments.old) (maps_in C.maps comments.new) (state_of cfg.now (W.sheet wr.old) self.old) (state_of cfg.now (W.sheet wr.new) self.new) result }
+        ensures level { OnOk result ((W.sheet wr.new).indentation ≡ (W.sheet wr.old).indentation) }
+    {
+        self.leading_comments(cfg, comments, wr, n.span.lo)?;
+        self.keyword(cfg, wr, Some(n.span), bool_text(n.value))?;
         Ok(())
     }
 
@@ -257,12 +269,11 @@ impl LowerEmitter {
     pub fn lit<W: WriteJs, C: Comments>(
         &mut self,
         cfg: &Config,
-        comments: &Option<C>,
+        comments: &mut Option<C>,
         wr: &mut W,
         n: &Lit,
     ) -> Answer
-        requires { IsNone comments.now }
-        ensures items { Does (lit n.now) (state_of cfg.now (W.sheet wr.old) self.old) (state_of cfg.now (W.sheet wr.new) self.new) result }
+        ensures items { DoesTaking (lit n.now) (maps_in C.maps comments.old) (maps_in C.maps comments.new) (state_of cfg.now (W.sheet wr.old) self.old) (state_of cfg.now (W.sheet wr.new) self.new) result }
         ensures level { OnOk result ((W.sheet wr.new).indentation ≡ (W.sheet wr.old).indentation) }
     {
         match n {

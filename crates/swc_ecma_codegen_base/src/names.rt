@@ -1,15 +1,18 @@
 //! Names.
 
-ghost use Rattle.std.specs.Prelude.{◌≡◌, ℕ, OnOk, IsNone, List, ◌++◌, false, true};
+ghost use Rattle.std.specs.Prelude.{◌≡◌, ℕ, OnOk, List, ◌++◌, false, true};
 ghost use Rattle.std.specs.Str.{chars};
 ghost use Rattle.swc_ecma_codegen_base.specs.Starts.{start_class};
-ghost use Rattle.swc_ecma_codegen_base.specs.Run.{Does};
+ghost use Rattle.swc_ecma_codegen_ast.specs.Comments.{maps_in, AreClosed};
+ghost use Rattle.swc_ecma_codegen_ast.specs.SourceLines.{no_lines};
+ghost use Rattle.swc_ecma_codegen_base.specs.Run.{DoesTaking, Does};
 ghost use Rattle.swc_ecma_codegen_base.specs.Targets.{wants_escapes};
 ghost use Rattle.swc_ecma_codegen_base.specs.Words.{name, name_text, symbol, spelled_symbol, valid_symbol, question};
 ghost use Rattle.swc_ecma_codegen_ast.specs.Tokens.{Token};
+ghost use Rattle.swc_ecma_codegen_ast.specs.Trivia.{Remark};
 ghost use Rattle.swc_ecma_codegen_ast.specs.SpelledNames.{is_well_formed_name};
-ghost use Rattle.swc_ecma_codegen_base.specs.Written.{ReadsSoFar, name_tokens};
-ghost use Rattle.swc_ecma_codegen_base.specs.View.{state_of};
+ghost use Rattle.swc_ecma_codegen_base.specs.Written.{ReadsSoFar, name_tokens, taken_remarks};
+ghost use Rattle.swc_ecma_codegen_base.specs.View.{state_of, env_of};
 
 use crate::LowerEmitter;
 use crate::guard::blank_due_after;
@@ -177,7 +180,13 @@ impl LowerEmitter {
     /// Writes the text of a name, as the writer takes names.
     #[inline(always)]
     #[tactic(auto, unfolding(crate::specs::Words::name_text))]
-    fn name_text<W: WriteJs>(&mut self, cfg: &Config, wr: &mut W, span: Span, sym: &str) -> Answer
+    pub(crate) fn name_text<W: WriteJs>(
+        &mut self,
+        cfg: &Config,
+        wr: &mut W,
+        span: Span,
+        sym: &str,
+    ) -> Answer
         ensures items { Does (name_text span sym.now) (state_of cfg.now (W.sheet wr.old) self.old) (state_of cfg.now (W.sheet wr.new) self.new) result }
         ensures level { OnOk result ((W.sheet wr.new).indentation ≡ (W.sheet wr.old).indentation) }
     {
@@ -189,7 +198,12 @@ impl LowerEmitter {
 
     /// Writes `?` after an optional name.
     #[tactic(auto, unfolding(crate::specs::Words::question))]
-    fn question<W: WriteJs>(&mut self, cfg: &Config, wr: &mut W, optional: bool) -> Answer
+    pub(crate) fn question<W: WriteJs>(
+        &mut self,
+        cfg: &Config,
+        wr: &mut W,
+        optional: bool,
+    ) -> Answer
         ensures items { Does (question optional) (state_of cfg.now (W.sheet wr.old) self.old) (state_of cfg.now (W.sheet wr.new) self.new) result }
         ensures level { OnOk result ((W.sheet wr.new).indentation ≡ (W.sheet wr.old).indentation) }
     {
@@ -205,16 +219,15 @@ impl LowerEmitter {
     pub fn name<W: WriteJs, C: Comments>(
         &mut self,
         cfg: &Config,
-        comments: &Option<C>,
+        comments: &mut Option<C>,
         wr: &mut W,
         span: Span,
         sym: &str,
         optional: bool,
     ) -> Answer
-        requires { IsNone comments.now }
-        ensures items { Does (name span sym.now optional) (state_of cfg.now (W.sheet wr.old) self.old) (state_of cfg.now (W.sheet wr.new) self.new) result }
+        ensures items { DoesTaking (name span sym.now optional) (maps_in C.maps comments.old) (maps_in C.maps comments.new) (state_of cfg.now (W.sheet wr.old) self.old) (state_of cfg.now (W.sheet wr.new) self.new) result }
         // The text reads as the tokens so far and the name, whatever follows that doesn't fuse.
-        ensures reads { (text_before : List ℕ) (tokens : List Token) → is_well_formed_name sym.now ≡ true → (W.sheet wr.old).keeps_invalid ≡ false → ReadsSoFar text_before tokens (state_of cfg.now (W.sheet wr.old) self.old) → OnOk result (ReadsSoFar text_before (tokens ++ name_tokens sym.now optional) (state_of cfg.now (W.sheet wr.new) self.new)) }
+        ensures reads { (text_before : List ℕ) (tokens : List Token) (remarks : List Remark) → AreClosed (maps_in C.maps comments.old) → is_well_formed_name sym.now ≡ true → (W.sheet wr.old).keeps_invalid ≡ false → ReadsSoFar text_before tokens remarks (state_of cfg.now (W.sheet wr.old) self.old) → OnOk result (ReadsSoFar text_before (tokens ++ name_tokens sym.now optional) (remarks ++ taken_remarks (name span sym.now optional) (env_of no_lines (maps_in C.maps comments.old) cfg.now (W.sheet wr.old))) (state_of cfg.now (W.sheet wr.new) self.new)) }
         ensures level { OnOk result ((W.sheet wr.new).indentation ≡ (W.sheet wr.old).indentation) }
     {
         self.leading_comments(cfg, comments, wr, span.lo)?;

@@ -1,9 +1,10 @@
 //! Private names.
 
-ghost use Rattle.std.specs.Prelude.{◌≡◌, OnOk, IsNone, codes, None, false, true};
+ghost use Rattle.std.specs.Prelude.{◌≡◌, OnOk, codes, None, false, true};
 ghost use Rattle.swc_ecma_codegen_text_writer.specs.Sheet.{Punct};
 ghost use Rattle.swc_ecma_codegen_base.specs.PrivateNames.{hashed, private_token, private_symbol, spelled_private, valid_private, private_text, private_name};
-ghost use Rattle.swc_ecma_codegen_base.specs.Run.{Does, step, Plain};
+ghost use Rattle.swc_ecma_codegen_ast.specs.Comments.{maps_in};
+ghost use Rattle.swc_ecma_codegen_base.specs.Run.{DoesTaking, Does, step, Plain};
 ghost use Rattle.swc_ecma_codegen_base.specs.Targets.{wants_escapes};
 ghost use Rattle.swc_ecma_codegen_base.specs.View.{state_of};
 
@@ -190,13 +191,12 @@ impl LowerEmitter {
     pub fn private_name<W: WriteJs, C: Comments>(
         &mut self,
         cfg: &Config,
-        comments: &Option<C>,
+        comments: &mut Option<C>,
         wr: &mut W,
         span: Span,
         name: &str,
     ) -> Answer
-        requires { IsNone comments.now }
-        ensures items { Does (private_name span name.now) (state_of cfg.now (W.sheet wr.old) self.old) (state_of cfg.now (W.sheet wr.new) self.new) result }
+        ensures items { DoesTaking (private_name span name.now) (maps_in C.maps comments.old) (maps_in C.maps comments.new) (state_of cfg.now (W.sheet wr.old) self.old) (state_of cfg.now (W.sheet wr.new) self.new) result }
         ensures level { OnOk result ((W.sheet wr.new).indentation ≡ (W.sheet wr.old).indentation) }
     {
         self.leading_comments(cfg, comments, wr, span.lo)?;

@@ -14,6 +14,7 @@ ghost use Rattle.swc_ecma_codegen_text_writer.specs.Sheet.{Semi, Keyword, Operat
 ghost use Rattle.swc_ecma_codegen_ast.specs.GapRules.{fuses};
 ghost use Rattle.swc_ecma_codegen_ast.specs.declared.kinds.Kind.TheVariants as kind;
 ghost use Rattle.swc_ecma_codegen_ast.specs.Tokens as lexical;
+ghost use Rattle.swc_ecma_codegen_ast.specs.Trivia.{Remark};
 ghost use Rattle.swc_ecma_codegen_base.specs.Last.{last_at};
 ghost use Rattle.swc_ecma_codegen_base.specs.Run.{Does, step, Guard, Token, Plain};
 ghost use Rattle.swc_ecma_codegen_base.specs.Words.{keyword, operator, operator_between, punct_between, word_operator, punct, placed_punct, semi, space, formatting_space, formatting_line, line_end, commit_pending_semi, position, position_before};
@@ -74,7 +75,7 @@ impl LowerEmitter {
 
     /// Notes the last token ahead of the call that writes it, so that nothing of it is kept over that call, and answers which one
     /// it was before.
-    fn note(&mut self, last: Last) -> Snapshot<Last>
+    pub(crate) fn note(&mut self, last: Last) -> Snapshot<Last>
         ensures before { result.value ≡ self.old.token.value }
         ensures token { self.new.token.value ≡ last }
         ensures failed { self.new.failed ≡ self.old.failed }
@@ -85,7 +86,7 @@ impl LowerEmitter {
     }
 
     /// What a call of the writer answered whose token was noted ahead is passed on in short: a refused one wrote no token.
-    fn settle_noted(&mut self, answer: Result, before: Snapshot<Last>) -> Answer
+    pub(crate) fn settle_noted(&mut self, answer: Result, before: Snapshot<Last>) -> Answer
         ensures same { result ≡ in_short answer }
         ensures ok { OnOk result ((self.new.token.value ≡ self.old.token.value) × (self.new.failed ≡ self.old.failed)) }
         ensures err { OnErr result ((self.new.token.value ≡ before.value) × (self.new.failed ≡ true)) }
@@ -296,7 +297,7 @@ impl LowerEmitter {
         requires { begins_letter word.now ≡ true }
         ensures items { Does (keyword span word.now) (state_of cfg.now (W.sheet wr.old) self.old) (state_of cfg.now (W.sheet wr.new) self.new) result }
         // The text reads as the tokens so far and this one, whatever follows that doesn't fuse.
-        ensures reads { (text_before : List ℕ) (tokens : List lexical.Token) → IsWord word.now → ReadsSoFar text_before tokens (state_of cfg.now (W.sheet wr.old) self.old) → OnOk result (ReadsSoFar text_before (tokens ++ lexical.word word.now ∷ []) (state_of cfg.now (W.sheet wr.new) self.new)) }
+        ensures reads { (text_before : List ℕ) (tokens : List lexical.Token) (remarks : List Remark) → IsWord word.now → ReadsSoFar text_before tokens remarks (state_of cfg.now (W.sheet wr.old) self.old) → OnOk result (ReadsSoFar text_before (tokens ++ lexical.word word.now ∷ []) remarks (state_of cfg.now (W.sheet wr.new) self.new)) }
         ensures level { OnOk result ((W.sheet wr.new).indentation ≡ (W.sheet wr.old).indentation) }
     {
         if self.failed || blank_due_after(self.row, StartClass::NameCharacter) {
@@ -317,7 +318,7 @@ impl LowerEmitter {
         requires { begins_letter word.now ≡ true }
         ensures items { Does (keyword span word.now) (state_of cfg.now (W.sheet wr.old) self.old) (state_of cfg.now (W.sheet wr.new) self.new) result }
         // The text reads as the tokens so far and this one, whatever follows that doesn't fuse.
-        ensures reads { (text_before : List ℕ) (tokens : List lexical.Token) → IsWord word.now → ReadsSoFar text_before tokens (state_of cfg.now (W.sheet wr.old) self.old) → OnOk result (ReadsSoFar text_before (tokens ++ lexical.word word.now ∷ []) (state_of cfg.now (W.sheet wr.new) self.new)) }
+        ensures reads { (text_before : List ℕ) (tokens : List lexical.Token) (remarks : List Remark) → IsWord word.now → ReadsSoFar text_before tokens remarks (state_of cfg.now (W.sheet wr.old) self.old) → OnOk result (ReadsSoFar text_before (tokens ++ lexical.word word.now ∷ []) remarks (state_of cfg.now (W.sheet wr.new) self.new)) }
         ensures level { OnOk result ((W.sheet wr.new).indentation ≡ (W.sheet wr.old).indentation) }
     {
         self.keyword_here(cfg, wr, span, word)
@@ -336,7 +337,7 @@ impl LowerEmitter {
         requires { begins_letter word.now ≡ true }
         ensures items { Does (keyword span word.now) (state_of cfg.now (W.sheet wr.old) self.old) (state_of cfg.now (W.sheet wr.new) self.new) result }
         // The text reads as the tokens so far and this one, whatever follows that doesn't fuse.
-        ensures reads { (text_before : List ℕ) (tokens : List lexical.Token) → IsWord word.now → ReadsSoFar text_before tokens (state_of cfg.now (W.sheet wr.old) self.old) → OnOk result (ReadsSoFar text_before (tokens ++ lexical.word word.now ∷ []) (state_of cfg.now (W.sheet wr.new) self.new)) }
+        ensures reads { (text_before : List ℕ) (tokens : List lexical.Token) (remarks : List Remark) → IsWord word.now → ReadsSoFar text_before tokens remarks (state_of cfg.now (W.sheet wr.old) self.old) → OnOk result (ReadsSoFar text_before (tokens ++ lexical.word word.now ∷ []) remarks (state_of cfg.now (W.sheet wr.new) self.new)) }
         ensures level { OnOk result ((W.sheet wr.new).indentation ≡ (W.sheet wr.old).indentation) }
     {
         self.guard_word(cfg, wr, word)?;
@@ -349,7 +350,7 @@ impl LowerEmitter {
     pub fn operator<W: WriteJs>(&mut self, cfg: &Config, wr: &mut W, mark: Punctuator) -> Answer
         ensures items { Does (operator (spelling mark)) (state_of cfg.now (W.sheet wr.old) self.old) (state_of cfg.now (W.sheet wr.new) self.new) result }
         // The text reads as the tokens so far and this one, whatever follows that doesn't fuse.
-        ensures reads { (text_before : List ℕ) (tokens : List lexical.Token) → ReadsSoFar text_before tokens (state_of cfg.now (W.sheet wr.old) self.old) → OnOk result (ReadsSoFar text_before (tokens ++ lexical.punctuator (spelling mark) ∷ []) (state_of cfg.now (W.sheet wr.new) self.new)) }
+        ensures reads { (text_before : List ℕ) (tokens : List lexical.Token) (remarks : List Remark) → ReadsSoFar text_before tokens remarks (state_of cfg.now (W.sheet wr.old) self.old) → OnOk result (ReadsSoFar text_before (tokens ++ lexical.punctuator (spelling mark) ∷ []) remarks (state_of cfg.now (W.sheet wr.new) self.new)) }
         ensures level { OnOk result ((W.sheet wr.new).indentation ≡ (W.sheet wr.old).indentation) }
     {
         if self.is_apart(mark) {
@@ -363,7 +364,7 @@ impl LowerEmitter {
     fn operator_apart<W: WriteJs>(&mut self, cfg: &Config, wr: &mut W, mark: Punctuator) -> Answer
         ensures items { Does (operator (spelling mark)) (state_of cfg.now (W.sheet wr.old) self.old) (state_of cfg.now (W.sheet wr.new) self.new) result }
         // The text reads as the tokens so far and this one, whatever follows that doesn't fuse.
-        ensures reads { (text_before : List ℕ) (tokens : List lexical.Token) → ReadsSoFar text_before tokens (state_of cfg.now (W.sheet wr.old) self.old) → OnOk result (ReadsSoFar text_before (tokens ++ lexical.punctuator (spelling mark) ∷ []) (state_of cfg.now (W.sheet wr.new) self.new)) }
+        ensures reads { (text_before : List ℕ) (tokens : List lexical.Token) (remarks : List Remark) → ReadsSoFar text_before tokens remarks (state_of cfg.now (W.sheet wr.old) self.old) → OnOk result (ReadsSoFar text_before (tokens ++ lexical.punctuator (spelling mark) ∷ []) remarks (state_of cfg.now (W.sheet wr.new) self.new)) }
         ensures level { OnOk result ((W.sheet wr.new).indentation ≡ (W.sheet wr.old).indentation) }
     {
         self.operator_here(cfg, wr, mark)
@@ -375,7 +376,7 @@ impl LowerEmitter {
     fn operator_here<W: WriteJs>(&mut self, cfg: &Config, wr: &mut W, mark: Punctuator) -> Answer
         ensures items { Does (operator (spelling mark)) (state_of cfg.now (W.sheet wr.old) self.old) (state_of cfg.now (W.sheet wr.new) self.new) result }
         // The text reads as the tokens so far and this one, whatever follows that doesn't fuse.
-        ensures reads { (text_before : List ℕ) (tokens : List lexical.Token) → ReadsSoFar text_before tokens (state_of cfg.now (W.sheet wr.old) self.old) → OnOk result (ReadsSoFar text_before (tokens ++ lexical.punctuator (spelling mark) ∷ []) (state_of cfg.now (W.sheet wr.new) self.new)) }
+        ensures reads { (text_before : List ℕ) (tokens : List lexical.Token) (remarks : List Remark) → ReadsSoFar text_before tokens remarks (state_of cfg.now (W.sheet wr.old) self.old) → OnOk result (ReadsSoFar text_before (tokens ++ lexical.punctuator (spelling mark) ∷ []) remarks (state_of cfg.now (W.sheet wr.new) self.new)) }
         ensures level { OnOk result ((W.sheet wr.new).indentation ≡ (W.sheet wr.old).indentation) }
     {
         self.guard_mark(cfg, wr, mark)?;
@@ -395,7 +396,7 @@ impl LowerEmitter {
         requires { begins_letter text.now ≡ true }
         ensures items { Does (word_operator text.now) (state_of cfg.now (W.sheet wr.old) self.old) (state_of cfg.now (W.sheet wr.new) self.new) result }
         // The text reads as the tokens so far and this one, whatever follows that doesn't fuse.
-        ensures reads { (text_before : List ℕ) (tokens : List lexical.Token) → IsWord text.now → ReadsSoFar text_before tokens (state_of cfg.now (W.sheet wr.old) self.old) → OnOk result (ReadsSoFar text_before (tokens ++ lexical.word text.now ∷ []) (state_of cfg.now (W.sheet wr.new) self.new)) }
+        ensures reads { (text_before : List ℕ) (tokens : List lexical.Token) (remarks : List Remark) → IsWord text.now → ReadsSoFar text_before tokens remarks (state_of cfg.now (W.sheet wr.old) self.old) → OnOk result (ReadsSoFar text_before (tokens ++ lexical.word text.now ∷ []) remarks (state_of cfg.now (W.sheet wr.new) self.new)) }
         ensures level { OnOk result ((W.sheet wr.new).indentation ≡ (W.sheet wr.old).indentation) }
     {
         self.guard_word(cfg, wr, text)?;
@@ -408,7 +409,7 @@ impl LowerEmitter {
     pub fn punct<W: WriteJs>(&mut self, cfg: &Config, wr: &mut W, mark: Punctuator) -> Answer
         ensures items { Does (punct (spelling mark)) (state_of cfg.now (W.sheet wr.old) self.old) (state_of cfg.now (W.sheet wr.new) self.new) result }
         // The text reads as the tokens so far and this one, whatever follows that doesn't fuse.
-        ensures reads { (text_before : List ℕ) (tokens : List lexical.Token) → ReadsSoFar text_before tokens (state_of cfg.now (W.sheet wr.old) self.old) → OnOk result (ReadsSoFar text_before (tokens ++ lexical.punctuator (spelling mark) ∷ []) (state_of cfg.now (W.sheet wr.new) self.new)) }
+        ensures reads { (text_before : List ℕ) (tokens : List lexical.Token) (remarks : List Remark) → ReadsSoFar text_before tokens remarks (state_of cfg.now (W.sheet wr.old) self.old) → OnOk result (ReadsSoFar text_before (tokens ++ lexical.punctuator (spelling mark) ∷ []) remarks (state_of cfg.now (W.sheet wr.new) self.new)) }
         ensures level { OnOk result ((W.sheet wr.new).indentation ≡ (W.sheet wr.old).indentation) }
     {
         if self.is_apart(mark) {
@@ -427,7 +428,7 @@ impl LowerEmitter {
     ) -> Answer
         ensures items { Does (punct (spelling mark)) (state_of cfg.now (W.sheet wr.old) self.old) (state_of cfg.now (W.sheet wr.new) self.new) result }
         // The text reads as the tokens so far and this one, whatever follows that doesn't fuse.
-        ensures reads { (text_before : List ℕ) (tokens : List lexical.Token) → ReadsSoFar text_before tokens (state_of cfg.now (W.sheet wr.old) self.old) → OnOk result (ReadsSoFar text_before (tokens ++ lexical.punctuator (spelling mark) ∷ []) (state_of cfg.now (W.sheet wr.new) self.new)) }
+        ensures reads { (text_before : List ℕ) (tokens : List lexical.Token) (remarks : List Remark) → ReadsSoFar text_before tokens remarks (state_of cfg.now (W.sheet wr.old) self.old) → OnOk result (ReadsSoFar text_before (tokens ++ lexical.punctuator (spelling mark) ∷ []) remarks (state_of cfg.now (W.sheet wr.new) self.new)) }
         ensures level { OnOk result ((W.sheet wr.new).indentation ≡ (W.sheet wr.old).indentation) }
     {
         self.punct_here(cfg, wr, mark)
@@ -439,7 +440,7 @@ impl LowerEmitter {
     fn punct_here<W: WriteJs>(&mut self, cfg: &Config, wr: &mut W, mark: Punctuator) -> Answer
         ensures items { Does (punct (spelling mark)) (state_of cfg.now (W.sheet wr.old) self.old) (state_of cfg.now (W.sheet wr.new) self.new) result }
         // The text reads as the tokens so far and this one, whatever follows that doesn't fuse.
-        ensures reads { (text_before : List ℕ) (tokens : List lexical.Token) → ReadsSoFar text_before tokens (state_of cfg.now (W.sheet wr.old) self.old) → OnOk result (ReadsSoFar text_before (tokens ++ lexical.punctuator (spelling mark) ∷ []) (state_of cfg.now (W.sheet wr.new) self.new)) }
+        ensures reads { (text_before : List ℕ) (tokens : List lexical.Token) (remarks : List Remark) → ReadsSoFar text_before tokens remarks (state_of cfg.now (W.sheet wr.old) self.old) → OnOk result (ReadsSoFar text_before (tokens ++ lexical.punctuator (spelling mark) ∷ []) remarks (state_of cfg.now (W.sheet wr.new) self.new)) }
         ensures level { OnOk result ((W.sheet wr.new).indentation ≡ (W.sheet wr.old).indentation) }
     {
         self.guard_mark(cfg, wr, mark)?;
@@ -470,7 +471,7 @@ impl LowerEmitter {
     pub fn semi<W: WriteJs>(&mut self, cfg: &Config, wr: &mut W) -> Answer
         ensures items { Does (semi) (state_of cfg.now (W.sheet wr.old) self.old) (state_of cfg.now (W.sheet wr.new) self.new) result }
         // The text reads as the tokens so far and this one, whatever follows that doesn't fuse.
-        ensures reads { (text_before : List ℕ) (tokens : List lexical.Token) → ReadsSoFar text_before tokens (state_of cfg.now (W.sheet wr.old) self.old) → OnOk result (ReadsSoFar text_before (tokens ++ lexical.ending ∷ []) (state_of cfg.now (W.sheet wr.new) self.new)) }
+        ensures reads { (text_before : List ℕ) (tokens : List lexical.Token) (remarks : List Remark) → ReadsSoFar text_before tokens remarks (state_of cfg.now (W.sheet wr.old) self.old) → OnOk result (ReadsSoFar text_before (tokens ++ lexical.ending ∷ []) remarks (state_of cfg.now (W.sheet wr.new) self.new)) }
         ensures level { OnOk result ((W.sheet wr.new).indentation ≡ (W.sheet wr.old).indentation) }
     {
         if self.is_apart(Punctuator::Semicolon) {
@@ -484,7 +485,7 @@ impl LowerEmitter {
     fn semi_apart<W: WriteJs>(&mut self, cfg: &Config, wr: &mut W) -> Answer
         ensures items { Does (semi) (state_of cfg.now (W.sheet wr.old) self.old) (state_of cfg.now (W.sheet wr.new) self.new) result }
         // The text reads as the tokens so far and this one, whatever follows that doesn't fuse.
-        ensures reads { (text_before : List ℕ) (tokens : List lexical.Token) → ReadsSoFar text_before tokens (state_of cfg.now (W.sheet wr.old) self.old) → OnOk result (ReadsSoFar text_before (tokens ++ lexical.ending ∷ []) (state_of cfg.now (W.sheet wr.new) self.new)) }
+        ensures reads { (text_before : List ℕ) (tokens : List lexical.Token) (remarks : List Remark) → ReadsSoFar text_before tokens remarks (state_of cfg.now (W.sheet wr.old) self.old) → OnOk result (ReadsSoFar text_before (tokens ++ lexical.ending ∷ []) remarks (state_of cfg.now (W.sheet wr.new) self.new)) }
         ensures level { OnOk result ((W.sheet wr.new).indentation ≡ (W.sheet wr.old).indentation) }
     {
         self.semi_here(cfg, wr)
@@ -496,7 +497,7 @@ impl LowerEmitter {
     fn semi_here<W: WriteJs>(&mut self, cfg: &Config, wr: &mut W) -> Answer
         ensures items { Does (semi) (state_of cfg.now (W.sheet wr.old) self.old) (state_of cfg.now (W.sheet wr.new) self.new) result }
         // The text reads as the tokens so far and this one, whatever follows that doesn't fuse.
-        ensures reads { (text_before : List ℕ) (tokens : List lexical.Token) → ReadsSoFar text_before tokens (state_of cfg.now (W.sheet wr.old) self.old) → OnOk result (ReadsSoFar text_before (tokens ++ lexical.ending ∷ []) (state_of cfg.now (W.sheet wr.new) self.new)) }
+        ensures reads { (text_before : List ℕ) (tokens : List lexical.Token) (remarks : List Remark) → ReadsSoFar text_before tokens remarks (state_of cfg.now (W.sheet wr.old) self.old) → OnOk result (ReadsSoFar text_before (tokens ++ lexical.ending ∷ []) remarks (state_of cfg.now (W.sheet wr.new) self.new)) }
         ensures level { OnOk result ((W.sheet wr.new).indentation ≡ (W.sheet wr.old).indentation) }
     {
         self.guard_mark(cfg, wr, Punctuator::Semicolon)?;
@@ -603,7 +604,7 @@ impl LowerEmitter {
     }
 
     /// Records a position. A writer that keeps none isn't asked to.
-    fn record<W: WriteJs>(&mut self, cfg: &Config, wr: &mut W, pos: BytePos) -> Answer
+    pub(crate) fn record<W: WriteJs>(&mut self, cfg: &Config, wr: &mut W, pos: BytePos) -> Answer
         ensures items { Does (step (Plain (Position pos))) (state_of cfg.now (W.sheet wr.old) self.old) (state_of cfg.now (W.sheet wr.new) self.new) result }
         ensures level { OnOk result ((W.sheet wr.new).indentation ≡ (W.sheet wr.old).indentation) }
         ensures fresh { OnOk result (self.new.failed ≡ false) }

@@ -1,2 +1,3 @@
+pub mod ClosedMaps
 pub mod FirstTokens
 pub mod LinkLaws

@@ -1,5 +1,5 @@
 -- What is written of what a link holds, by its sort, and what it reads as.
-use Rattle.std.proofs.Common.{◌≡◌, sym, ap, ◌∙◌, subst, Option, Some, None, Result}
+use Rattle.std.proofs.Common.{◌≡◌, sym, ap, ◌∙◌, subst, ℕ, Bool, List, Option, Some, None, Result, OnOk}
 use Rattle.swc_ecma_codegen_common.specs.declared.errors.Refusal.{Refusal}
 use Rattle.swc_ecma_codegen_tree.specs.declared.links.AnyNode.{AnyNode}
 use Rattle.swc_ecma_codegen_tree.specs.declared.links.AnyNode.TheVariants as whole
@@ -10,10 +10,13 @@ use Rattle.swc_ecma_codegen_tree.specs.declared.pats.AssignTarget.{AssignTarget}
 use Rattle.swc_ecma_codegen_ast.specs.ExprPhrases.{member_expr}
 use Rattle.swc_ecma_codegen_ast.specs.AssignPhrases as target_lists
 use Rattle.swc_ecma_codegen_ast.specs.PartPhrases as part_lists
+use Rattle.swc_ecma_codegen_ast.specs.Phrases.{Phrase}
 use Rattle.swc_ecma_codegen_ast.specs.TreePhrases.{node_phrase, phrase}
 use Rattle.swc_ecma_codegen_ast.specs.declared.roles.Role.TheVariants.{MemberExpression, AssignmentTarget}
 use Rattle.swc_ecma_codegen_ast.proofs.TreeLaws.{phrase_member_expr, phrase_expr_part}
-use Rattle.swc_ecma_codegen_base.specs.Run.{Part, State, Follows, nothing}
+use Rattle.swc_ecma_codegen_util.specs.declared.config.Config.{Config}
+use Rattle.swc_ecma_codegen_base.specs.Run.{Env, Part, State, Follows, nothing}
+use Rattle.swc_ecma_codegen_base.specs.Written.{AddsText, taken_remarks}
 use Rattle.swc_ecma_codegen.specs.declared.nodes.Place.{Place}
 use Rattle.swc_ecma_codegen.specs.declared.nodes.Place.TheVariants.{Plain}
 use Rattle.swc_ecma_codegen.specs.Exprs.{member, member_at}
@@ -60,6 +63,10 @@ none_written items o h = ap (λ z. if_some_at items z Plain) h ∙ (λ i. λ res
 -- what is done of one is done of the other
 pub follows_part : (p q : Part) (a b : State) (r : Result (Unit {0}) Refusal) → p ≡ q → Follows (p nothing) a b r → Follows (q nothing) a b r
 follows_part p q a b r e h = subst (λ z. Follows (z nothing) a b r) e h
+
+-- and what is taken for one is taken for the other
+pub reads_part : {T E : Type 0} (p q : Part) (env : Env) (r : Result T E) (config : Config) (holds : Bool) (phrase : Phrase) (old new : List ℕ) → p ≡ q → OnOk r (AddsText config holds phrase (taken_remarks p env) old new) → OnOk r (AddsText config holds phrase (taken_remarks q env) old new)
+reads_part p q env r config holds phrase old new e h = subst (λ z. OnOk r (AddsText config holds phrase (taken_remarks z env) old new)) e h
 
 -- ---- what it reads as
 

@@ -24,6 +24,9 @@ ghost use Rattle.swc_ecma_codegen_text_writer.specs.Sheet.{HoldsNone};
 ghost use Rattle.swc_ecma_codegen_text_writer.specs.View.{new_sheet};
 ghost use Rattle.swc_ecma_codegen_base.specs.declared.refusals.Unprintable.TheVariants.{BadShape, NameOutOfTarget};
 ghost use Rattle.swc_ecma_codegen_ast.specs.SourceLines.{Lines};
+ghost use Rattle.swc_ecma_codegen_ast.specs.CommentMaps.{Maps, with_leading, with_trailing};
+ghost use Rattle.swc_ecma_codegen_ast.specs.Comments.{is_closed, remark_of, AreClosed};
+ghost use Rattle.swc_ecma_codegen_ast.specs.declared.comments.Comment.{Comment};
 ghost use Rattle.swc_ecma_codegen_base.specs.Run.{Env, Follows, Plan, State, nothing, refused, makes_text, start, steps_in, steps_of, unprintable_in};
 ghost use Rattle.swc_ecma_codegen_base.specs.Lits.{prints_raw, string_at, value_text};
 ghost use Rattle.swc_ecma_codegen_base.specs.Scripts.{value_strings};
@@ -64,15 +67,24 @@ pub fn expressions_and_statements_are_roots()
     ensures begin { (root : Root) (s : State) → root_hashbang root ≡ false → IsNew s → MayBegin root s }
 {}
 
-/// A new emitter over a new `JsWriter`, whose lines end with LF or with CR and LF, is one that these laws speak of, whatever the root; and
-/// after `set_indent_str` of blanks and tabs, and inside `omit_trailing_semi`. It is ready, whatever its lines end with. Under
-/// `ascii_only` it is one that is to write ASCII.
+/// A new emitter over a new `JsWriter`, whose lines end with LF or with CR and LF, is one that these laws speak of, whatever
+/// the root, the source text and the comments; and after `set_indent_str` of blanks and tabs, and inside
+/// `omit_trailing_semi`. It is ready, whatever its lines end with. Under `ascii_only` it is one that is to write ASCII.
 pub fn new_emitter_reads()
-    ensures new { (root : Root) (lines : Lines) (config : Config) (bytes line_end : List ℕ) → IsLineEnd line_end → MayBegin root (start lines config (new_sheet bytes line_end)) }
-    ensures holding { (root : Root) (lines : Lines) (config : Config) (bytes line_end : List ℕ) → IsLineEnd line_end → MayBegin root (start lines config (record (new_sheet bytes line_end) { semicolons = HoldsNone })) }
-    ensures ready { (lines : Lines) (config : Config) (bytes line_end : List ℕ) → IsReady (start lines config (new_sheet bytes line_end)) }
-    ensures ascii { (lines : Lines) (config : Config) (bytes line_end : List ℕ) → config.ascii_only ≡ true → IsLineEnd line_end → WantsAscii (start lines config (new_sheet bytes line_end)) }
-    ensures indented { (root : Root) (lines : Lines) (config : Config) (bytes line_end indent : List ℕ) → IsLineEnd line_end → all_indent indent ≡ true → MayBegin root (start lines config (record (new_sheet bytes line_end) { indent_text = indent })) }
+    ensures new { (root : Root) (lines : Lines) (maps : Maps) (config : Config) (bytes line_end : List ℕ) → IsLineEnd line_end → MayBegin root (start lines maps config (new_sheet bytes line_end)) }
+    ensures holding { (root : Root) (lines : Lines) (maps : Maps) (config : Config) (bytes line_end : List ℕ) → IsLineEnd line_end → MayBegin root (start lines maps config (record (new_sheet bytes line_end) { semicolons = HoldsNone })) }
+    ensures ready { (lines : Lines) (maps : Maps) (config : Config) (bytes line_end : List ℕ) → IsReady (start lines maps config (new_sheet bytes line_end)) }
+    ensures ascii { (lines : Lines) (maps : Maps) (config : Config) (bytes line_end : List ℕ) → config.ascii_only ≡ true → IsLineEnd line_end → WantsAscii (start lines maps config (new_sheet bytes line_end)) }
+    ensures indented { (root : Root) (lines : Lines) (maps : Maps) (config : Config) (bytes line_end indent : List ℕ) → IsLineEnd line_end → all_indent indent ≡ true → MayBegin root (start lines maps config (record (new_sheet bytes line_end) { indent_text = indent })) }
+{}
+
+/// Comments that are put into maps one by one can be read back, where each of them can: no line terminator stands in one of
+/// a line, and no `*/` in one of a block.
+#[tactic(auto, using(crate::proofs::ClosedMaps::nowhere_closed, crate::proofs::ClosedMaps::leading_closed, crate::proofs::ClosedMaps::trailing_closed))]
+pub fn added_comments_can_be_read_back()
+    ensures none { (maps : Maps) → ((pos : ℕ) → maps.leading pos ≡ None) → ((pos : ℕ) → maps.trailing pos ≡ None) → AreClosed maps }
+    ensures leading { (maps : Maps) (pos : ℕ) (comment : Comment) → AreClosed maps → is_closed (remark_of comment) ≡ true → AreClosed (with_leading pos comment maps) }
+    ensures trailing { (maps : Maps) (pos : ℕ) (comment : Comment) → AreClosed maps → is_closed (remark_of comment) ≡ true → AreClosed (with_trailing pos comment maps) }
 {}
 
 /// Where an expression begins with a word, a name or a number, by the first token of a list that

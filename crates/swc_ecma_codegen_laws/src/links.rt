@@ -1,16 +1,18 @@
 //! Laws of links, references, boxes and options, whatever links hold: `emit_with` of one writes what is written of what it
-//! holds, and where that is what is written of a root, what it adds to the text reads as that root.
+//! holds, and where that is what is written of a root, what it adds to the text reads as that root, with the comments that it
+//! took between the tokens.
 
 ghost use Rattle.std.specs.Prelude.{◌≡◌, true, false, Some, None, OnOk, IsOk};
 ghost use Rattle.swc_ecma_codegen_common.specs.Refusals.{in_short};
 ghost use Rattle.swc_ecma_codegen_tree.specs.declared.exprs.MemberExpr.{MemberExpr};
 ghost use Rattle.swc_ecma_codegen_tree.specs.declared.pats.AssignTarget.{AssignTarget};
 ghost use Rattle.swc_ecma_codegen_ast.specs.AssignPhrases.{assign_target};
+ghost use Rattle.swc_ecma_codegen_ast.specs.Comments.{maps_in, AreClosed};
 ghost use Rattle.swc_ecma_codegen_ast.specs.ExprPhrases.{member_expr};
 ghost use Rattle.swc_ecma_codegen_ast.specs.TreePhrases.{phrase};
 ghost use Rattle.swc_ecma_codegen_ast.specs.declared.roles.Role.TheVariants.{MemberExpression, AssignmentTarget};
 ghost use Rattle.swc_ecma_codegen_base.specs.Run.{Follows, nothing};
-ghost use Rattle.swc_ecma_codegen_base.specs.Written.{AddsReading};
+ghost use Rattle.swc_ecma_codegen_base.specs.Written.{AddsReading, taken_remarks};
 ghost use Rattle.swc_ecma_codegen.specs.declared.nodes.Place.TheVariants.{Plain};
 ghost use Rattle.swc_ecma_codegen.specs.Answers.{any_answers};
 ghost use Rattle.swc_ecma_codegen.specs.Exprs.{member as member_items};
@@ -55,8 +57,8 @@ pub fn emitted_link_reads<K, N: EmitAt + Spanned, W: WriteJs, S: SourceMapper, C
     link: &Link<K, N>,
     e: &mut Emitter<'_, W, S, C>,
 ) -> Result
-    ensures items { Follows (N.items link.now.node.value Plain nothing) (state_of S.lines W.sheet e.old) (state_of S.lines W.sheet e.new) (in_short result) }
-    ensures reads { (root : Root) → N.items link.now.node.value Plain ≡ root_items root → is_well_formed_root root ≡ true → MayBegin root (state_of S.lines W.sheet e.old) → OnOk result (AddsReading e.old.cfg (root_phrase root) (W.sheet e.old.wr) (W.sheet e.new.wr)) }
+    ensures items { Follows (N.items link.now.node.value Plain nothing) (state_of S.lines C.maps W.sheet e.old) (state_of S.lines C.maps W.sheet e.new) (in_short result) }
+    ensures reads { (root : Root) → N.items link.now.node.value Plain ≡ root_items root → is_well_formed_root root ≡ true → MayBegin root (state_of S.lines C.maps W.sheet e.old) → AreClosed (maps_in C.maps e.old.comments) → OnOk result (AddsReading e.old.cfg (root_phrase root) (taken_remarks (N.items link.now.node.value Plain) (state_of S.lines C.maps W.sheet e.old).env) (W.sheet e.old.wr) (W.sheet e.new.wr)) }
 {
     link.emit_with(e)
 }
@@ -66,8 +68,8 @@ pub fn emitted_ref_reads<T: EmitAt + Spanned, W: WriteJs, S: SourceMapper, C: Co
     node: &&T,
     e: &mut Emitter<'_, W, S, C>,
 ) -> Result
-    ensures items { Follows (T.items node.now.now Plain nothing) (state_of S.lines W.sheet e.old) (state_of S.lines W.sheet e.new) (in_short result) }
-    ensures reads { (root : Root) → T.items node.now.now Plain ≡ root_items root → is_well_formed_root root ≡ true → MayBegin root (state_of S.lines W.sheet e.old) → OnOk result (AddsReading e.old.cfg (root_phrase root) (W.sheet e.old.wr) (W.sheet e.new.wr)) }
+    ensures items { Follows (T.items node.now.now Plain nothing) (state_of S.lines C.maps W.sheet e.old) (state_of S.lines C.maps W.sheet e.new) (in_short result) }
+    ensures reads { (root : Root) → T.items node.now.now Plain ≡ root_items root → is_well_formed_root root ≡ true → MayBegin root (state_of S.lines C.maps W.sheet e.old) → AreClosed (maps_in C.maps e.old.comments) → OnOk result (AddsReading e.old.cfg (root_phrase root) (taken_remarks (T.items node.now.now Plain) (state_of S.lines C.maps W.sheet e.old).env) (W.sheet e.old.wr) (W.sheet e.new.wr)) }
 {
     node.emit_with(e)
 }
@@ -77,8 +79,8 @@ pub fn emitted_box_reads<T: EmitAt + Spanned, W: WriteJs, S: SourceMapper, C: Co
     node: &Box<T>,
     e: &mut Emitter<'_, W, S, C>,
 ) -> Result
-    ensures items { Follows (T.items node.now.value Plain nothing) (state_of S.lines W.sheet e.old) (state_of S.lines W.sheet e.new) (in_short result) }
-    ensures reads { (root : Root) → T.items node.now.value Plain ≡ root_items root → is_well_formed_root root ≡ true → MayBegin root (state_of S.lines W.sheet e.old) → OnOk result (AddsReading e.old.cfg (root_phrase root) (W.sheet e.old.wr) (W.sheet e.new.wr)) }
+    ensures items { Follows (T.items node.now.value Plain nothing) (state_of S.lines C.maps W.sheet e.old) (state_of S.lines C.maps W.sheet e.new) (in_short result) }
+    ensures reads { (root : Root) → T.items node.now.value Plain ≡ root_items root → is_well_formed_root root ≡ true → MayBegin root (state_of S.lines C.maps W.sheet e.old) → AreClosed (maps_in C.maps e.old.comments) → OnOk result (AddsReading e.old.cfg (root_phrase root) (taken_remarks (T.items node.now.value Plain) (state_of S.lines C.maps W.sheet e.old).env) (W.sheet e.old.wr) (W.sheet e.new.wr)) }
 {
     node.emit_with(e)
 }
@@ -88,10 +90,10 @@ pub fn emitted_option_reads<T: EmitAt + Spanned, W: WriteJs, S: SourceMapper, C:
     node: &Option<T>,
     e: &mut Emitter<'_, W, S, C>,
 ) -> Result
-    ensures items { (some : T) → node.now ≡ Some some → Follows (T.items some Plain nothing) (state_of S.lines W.sheet e.old) (state_of S.lines W.sheet e.new) (in_short result) }
-    ensures reads { (some : T) (root : Root) → node.now ≡ Some some → T.items some Plain ≡ root_items root → is_well_formed_root root ≡ true → MayBegin root (state_of S.lines W.sheet e.old) → OnOk result (AddsReading e.old.cfg (root_phrase root) (W.sheet e.old.wr) (W.sheet e.new.wr)) }
-    ensures none { node.now ≡ None → state_of S.lines W.sheet e.new ≡ state_of S.lines W.sheet e.old }
-    ensures none_made { node.now ≡ None → (state_of S.lines W.sheet e.old).failed ≡ false → IsOk result }
+    ensures items { (some : T) → node.now ≡ Some some → Follows (T.items some Plain nothing) (state_of S.lines C.maps W.sheet e.old) (state_of S.lines C.maps W.sheet e.new) (in_short result) }
+    ensures reads { (some : T) (root : Root) → node.now ≡ Some some → T.items some Plain ≡ root_items root → is_well_formed_root root ≡ true → MayBegin root (state_of S.lines C.maps W.sheet e.old) → AreClosed (maps_in C.maps e.old.comments) → OnOk result (AddsReading e.old.cfg (root_phrase root) (taken_remarks (T.items some Plain) (state_of S.lines C.maps W.sheet e.old).env) (W.sheet e.old.wr) (W.sheet e.new.wr)) }
+    ensures none { node.now ≡ None → state_of S.lines C.maps W.sheet e.new ≡ state_of S.lines C.maps W.sheet e.old }
+    ensures none_made { node.now ≡ None → (state_of S.lines C.maps W.sheet e.old).failed ≡ false → IsOk result }
 {
     node.emit_with(e)
 }

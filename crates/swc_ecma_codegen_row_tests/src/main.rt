@@ -11,9 +11,14 @@
 //! kind before it, as `reading` lists them (`n:a`), or one that says when it stands: `P` for a punctuator that stands only
 //! with blanks, `e` for a semicolon that ends a statement, `c` for a comma that stands where the source text of its list
 //! ends with one, `C` for one that then stands only with blanks.
+//! A step may be given the places of its first spans: `a~3-4 (•)~2-5`. A row `commented` has comments, before positions or after,
+//! with `¦` between: `before 3 /* b */¦after 5~8-12 // c`, of which the second stands from 8 to 12 in its source text. They are in
+//! the order in which they are taken; those that aren't are given again.
 //! A row `literal` says of one, in JSON, which tokens it is, and its texts with the words of each column of `literals`.
 #![tactic(auto)]
 
+mod between;
+mod commented;
 mod depths;
 mod fields;
 mod formats;
@@ -26,6 +31,7 @@ mod numbers;
 mod over;
 mod patterns;
 mod reading;
+mod remarks;
 mod rows;
 mod runs;
 mod sources;

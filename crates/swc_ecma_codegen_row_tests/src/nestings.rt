@@ -1,7 +1,7 @@
 //! Every operator, some literals, and an expression of each other type, as operands.
 
 use crate::sources::source_of;
-use crate::steps::{Step, named, tree_of};
+use crate::steps::{Made, Step, named, tree_of};
 use crate::trees::{has_texts, texts_read};
 use std::alloc::{AllocError, Global};
 
@@ -46,7 +46,7 @@ fn is_printed(
     let source = source_of(alloc, "apart", None)?;
     for turn in 0..4 {
         let words = nesting(alloc, operators, place, turn)?;
-        let holds = match tree_of(alloc, steps, &words, true, false)? {
+        let holds = match tree_of(alloc, steps, &words, Made::Expression, false)? {
             Some(tree) if turn == 0 => has_texts(alloc, &tree, true, [&pretty, &minified])?,
             Some(tree) => texts_read(alloc, &source, &tree, false)?.is_some(),
             None => false,

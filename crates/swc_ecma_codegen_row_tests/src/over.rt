@@ -16,8 +16,8 @@ pub fn has_texts_over(
 ) -> Result<bool, AllocError> {
     match texts_read(alloc, source, tree, comma)? {
         Some(texts) => Ok(
-            texts.pretty.as_slice() == pretty.as_bytes()
-                && texts.minified.as_slice() == minified.as_bytes(),
+            texts.pretty.text.as_slice() == pretty.as_bytes()
+                && texts.minified.text.as_slice() == minified.as_bytes(),
         ),
         None => Ok(false),
     }

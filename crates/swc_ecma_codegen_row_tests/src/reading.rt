@@ -1,5 +1,6 @@
 //! Texts read back, by the definitions of ECMA-262.
 
+use crate::between::comments_between;
 use std::alloc::{AllocError, Global};
 use swc_ecma_codegen_ast::kinds::{Kind, TemplatePart};
 use swc_ecma_codegen_ast::names::name_value;
@@ -25,6 +26,22 @@ pub const PRETTY: Manner = Manner {
     minified: false,
     holds: false,
     omits_last: false,
+    comma: false,
+};
+
+/// Without blanks, and with every semicolon.
+pub const MINIFIED: Manner = Manner {
+    minified: true,
+    holds: false,
+    omits_last: false,
+    comma: false,
+};
+
+/// Without blanks, and without semicolons that aren't needed.
+pub const SHORT: Manner = Manner {
+    minified: true,
+    holds: true,
+    omits_last: true,
     comma: false,
 };
 
@@ -124,7 +141,34 @@ fn tokens_of<'a>(
     Ok(found)
 }
 
-/// Whether a text reads as these tokens. A name, a number, a big integer or a string may be spelled otherwise there.
+/// The tokens of a text, where it reads as these tokens. A name, a number, a big integer or a string may be spelled otherwise
+/// there.
+fn found_as<'a>(
+    alloc: Global,
+    text: &'a [char],
+    tokens: &str,
+    manner: Manner,
+) -> Result<Option<Vec<&'a [char]>>, AllocError> {
+    let tokens = tokens_of(alloc, tokens, manner)?;
+    let mut kinds = Vec::new(alloc);
+    for (letter, _) in &tokens {
+        kinds.push(kind_of(letter.chars().next().unwrap_or('p')))?;
+    }
+    let Some(found) = read_tokens(alloc, text, &kinds)? else {
+        return Ok(None);
+    };
+    let mut left = found.as_slice();
+    for (letter, spelling) in &tokens {
+        match left {
+            [first, rest @ ..] if is_token(alloc, letter, first, &characters(alloc, spelling)?)? =>
+                { left = rest }
+            _ => return Ok(None),
+        }
+    }
+    Ok(if left.is_empty() { Some(found) } else { None })
+}
+
+/// Whether a text reads as these tokens.
 pub fn reads_as(
     alloc: Global,
     text: &str,
@@ -132,23 +176,22 @@ pub fn reads_as(
     manner: Manner,
 ) -> Result<bool, AllocError> {
     let text = characters(alloc, text)?;
-    let tokens = tokens_of(alloc, tokens, manner)?;
-    let mut kinds = Vec::new(alloc);
-    for (letter, _) in &tokens {
-        kinds.push(kind_of(letter.chars().next().unwrap_or('p')))?;
+    Ok(found_as(alloc, &text, tokens, manner)?.is_some())
+}
+
+/// The comments between the tokens of a text as they are written, with `¦` after each, where it reads as these tokens:
+/// `/* a */¦// b¦`.
+pub fn comments_read(
+    alloc: Global,
+    text: &str,
+    tokens: &str,
+    manner: Manner,
+) -> Result<Option<String>, AllocError> {
+    let text = characters(alloc, text)?;
+    match found_as(alloc, &text, tokens, manner)? {
+        Some(found) => Ok(Some(comments_between(alloc, &text, &found)?)),
+        None => Ok(None),
     }
-    let Some(found) = read_tokens(alloc, &text, &kinds)? else {
-        return Ok(false);
-    };
-    let mut left = found.as_slice();
-    for (letter, spelling) in &tokens {
-        match left {
-            [first, rest @ ..] if is_token(alloc, letter, first, &characters(alloc, spelling)?)? =>
-                { left = rest }
-            _ => return Ok(false),
-        }
-    }
-    Ok(left.is_empty())
 }
 
 /// The name in a private name.
@@ -157,6 +200,16 @@ fn without_mark(text: &[char]) -> &[char] {
         ['#', name @ ..] => name,
         _ => text,
     }
+}
+
+/// Whether a text is this hashbang, whose blanks are written as `␣` there, since tokens stand with blanks between.
+fn is_hashbang_of(found: &[char], token: &[char]) -> bool {
+    for (c, wanted) in found.iter().zip(token) {
+        if *c != (if *wanted == '␣' { ' ' } else { *wanted }) {
+            return false;
+        }
+    }
+    found.len() == token.len()
 }
 
 /// Whether a text is this token of this kind.
@@ -185,6 +238,7 @@ fn is_token(
             (Some(a), Some(b)) => Ok(a.as_slice() == b.as_slice()),
             _ => Ok(false),
         },
+        "!" => Ok(is_hashbang_of(found, token)),
         _ => Ok(found == token),
     }
 }

@@ -1,15 +1,16 @@
 //! What the words of the rows ask, those of trees first.
 
+use crate::commented::Wanted;
 use crate::depths::have_text;
 use crate::fields::{EXPRESSION, LITERAL, PROGRAM, bytes, fields, is_yes, json};
 use crate::looks::look;
 use crate::nestings::are_printed;
 use crate::over::{has_commas, has_texts_over};
-use crate::runs::answers;
+use crate::runs::{answers, prints};
 use crate::sources::source_of;
-use crate::steps::{Step, Tree, tree_of};
+use crate::steps::{Made, Step, Tree, tree_of};
 use crate::trees::{has_texts, is_formed, is_printed_with, prints_expr};
-use crate::{lexical, literals};
+use crate::{commented, lexical, literals};
 use std::alloc::{AllocError, Global};
 use swc_ecma_codegen_common::Error;
 use swc_ecma_codegen_json::ReadError;
@@ -20,7 +21,7 @@ pub fn holds(alloc: Global, steps: &[Step], line: &str) -> Result<bool, Error> {
     let [word, rest @ ..] = fields.as_slice() else {
         return Ok(false);
     };
-    match (word.strip_prefix("script_").unwrap_or(word), rest) {
+    match (made_by(word).1, rest) {
         ("operator" | "expression" | "step", [_, _, _]) => Ok(true),
         ("nestings" | "placed", [outer, place, pretty, minified]) => {
             let sort = if word.as_str() == "placed" {
@@ -33,12 +34,27 @@ pub fn holds(alloc: Global, steps: &[Step], line: &str) -> Result<bool, Error> {
         ("prints" | "over", [given, words, rest @ ..]) => {
             Ok(of_steps(alloc, steps, word, words, given, rest)?)
         }
+        ("commented" | "commented_node" | "commented_places", [words, comments, rest @ ..]) => Ok(
+            of_comments(alloc, steps, word, words, comments, rest)?,
+        ),
         ("tree" | "script" | "malformed" | "well_formed" | "node" | "commas", [words, rest @ ..]) =>
             Ok(of_steps(alloc, steps, word, words, "", rest)?),
         (_, [short, rest @ ..]) if word.ends_with("program") || word.ends_with("expr") => {
             Ok(of_json(alloc, word, short, rest)?)
         }
         _ => of_more(alloc, word, rest),
+    }
+}
+
+/// What the steps of a row make, by how its word begins, and the rest of that word.
+fn made_by(word: &str) -> (Made, &str) {
+    if let Some(rest) = word.strip_prefix("script_") {
+        return (Made::Statements, rest);
+    }
+    match word.strip_prefix("program_") {
+        Some(rest) => (Made::Program, rest),
+        None if word == "script" => (Made::Statements, word),
+        None => (Made::Expression, word),
     }
 }
 
@@ -52,17 +68,46 @@ fn of_steps(
     given: &str,
     rest: &[String],
 ) -> Result<bool, AllocError> {
-    let is_expression = !word.starts_with("script");
-    let in_places = word.ends_with("over") || word.ends_with("commas");
-    let Some(tree) = tree_of(alloc, steps, words, is_expression, in_places)? else {
+    let (made, word) = made_by(word);
+    let in_places = word == "over" || word == "commas";
+    let Some(tree) = tree_of(alloc, steps, words, made, in_places)? else {
         return Ok(false);
     };
-    match (word.strip_prefix("script_").unwrap_or(word), rest) {
+    match (word, rest) {
         ("well_formed", [answer]) => is_formed(alloc, &tree.json, is_yes(answer)),
         ("node", [text]) => prints_expr(alloc, &tree.json, text),
         ("prints", [text]) => is_printed_with(alloc, given, &tree, text),
         (word, [pretty, minified, more @ ..]) => {
             of_texts(alloc, &tree, word, given, [pretty, minified], more)
+        }
+        _ => Ok(false),
+    }
+}
+
+/// What a tree in steps answers with comments.
+fn of_comments(
+    alloc: Global,
+    steps: &[Step],
+    word: &str,
+    words: &str,
+    comments: &str,
+    rest: &[String],
+) -> Result<bool, AllocError> {
+    let (made, word) = made_by(word);
+    let Some(tree) = tree_of(alloc, steps, words, made, false)? else {
+        return Ok(false);
+    };
+    match (word, rest) {
+        ("commented", [left, pretty, minified, short]) => {
+            let wanted = Wanted {
+                left,
+                texts: [pretty, minified, short],
+            };
+            commented::has_texts(alloc, &tree, comments, wanted)
+        }
+        ("commented_node", [text]) => commented::has_node_text(alloc, &tree, comments, text),
+        ("commented_places", [text, places]) => {
+            commented::has_places(alloc, &tree, comments, [text, places])
         }
         _ => Ok(false),
     }
@@ -112,8 +157,8 @@ fn of_json(alloc: Global, word: &str, short: &str, rest: &[String]) -> Result<bo
         ("expr", [text]) => prints_expr(alloc, &json, text),
         ("malformed_program", [pretty, minified]) => Ok(
             is_formed(alloc, &json, false)?
-                && answers(alloc, "", bytes, (0, pretty, ""))?
-                && answers(alloc, "--minify", bytes, (0, minified, ""))?,
+                && prints(alloc, false, "", bytes, pretty)?
+                && prints(alloc, false, "--minify", bytes, minified)?,
         ),
         _ => Ok(false),
     }
@@ -158,7 +203,7 @@ fn is_refused(
     reason: ReadError,
     line: &str,
 ) -> Result<bool, AllocError> {
-    match look(alloc, &source_of(alloc, "apart", None)?, json) {
+    match look(alloc, &source_of(alloc, "apart", None)?, json, &[]) {
         Ok(_) => Ok(false),
         Err(error) => Ok(error == reason && answers(alloc, "", json, (1, "", line))?),
     }
@@ -176,11 +221,12 @@ fn are_no_trees(alloc: Global, json: &[u8]) -> Result<bool, AllocError> {
 
 /// Whether the program is read, but isn't well-formed and isn't printed.
 fn is_unprinted(alloc: Global, json: &[u8]) -> Result<bool, AllocError> {
-    match look(alloc, &source_of(alloc, "apart", None)?, json) {
+    match look(alloc, &source_of(alloc, "apart", None)?, json, &[]) {
         Ok(look) => Ok(
             look.well_formed == Some(false)
                 && matches!(&look.texts, Err(Error::UnsupportedNode))
-                && answers(alloc, "", json, (1, "", "refused: unsupported node\n"))?,
+                && answers(alloc, "", json, (1, "", "not well-formed\n"))?
+                && answers(alloc, "--any", json, (1, "", "refused: unsupported node\n"))?,
         ),
         Err(_) => Ok(false),
     }

@@ -19,3 +19,21 @@ pub fn answers(
     let answer = run(alloc, &given, &mut input, &mut out, &mut err);
     Ok(answer == status && out.as_slice() == text.as_bytes() && err.as_slice() == lines.as_bytes())
 }
+
+/// Whether a run prints this text of a tree, with these words; of one that isn't well-formed only with `--any`.
+pub fn prints(
+    alloc: Global,
+    well_formed: bool,
+    words: &str,
+    json: &[u8],
+    text: &str,
+) -> Result<bool, AllocError> {
+    if well_formed {
+        return answers(alloc, words, json, (0, text, ""));
+    }
+    let any = format!(in alloc; "{words} --any")?;
+    Ok(
+        answers(alloc, words, json, (1, "", "not well-formed\n"))?
+            && answers(alloc, &any, json, (0, text, ""))?,
+    )
+}

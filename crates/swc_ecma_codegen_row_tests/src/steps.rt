@@ -1,6 +1,6 @@
 //! Trees in steps: their JSON, and their tokens in the order of the text, by the grammar alone.
 
-use crate::fields::{EXPRESSION, STATEMENTS, fields, json};
+use crate::fields::{EXPRESSION, PROGRAM, STATEMENTS, fields, json};
 use std::alloc::{AllocError, Global};
 
 /// Stands for an operand.
@@ -98,34 +98,83 @@ fn joined(alloc: Global, texts: &[String], between: &str) -> Result<String, Allo
     Ok(joined)
 }
 
-/// The script that the steps of these words make: of an expression, or of statements. With `in_places` each node has a place
-/// of its own. `None` where a word is none.
+/// The name of a step, without the places that a word gives: `(•)` of `(•)~3-4~8-9`.
+fn without_places(word: &str) -> &str {
+    let mut name = word;
+    for _ in 0..word.len() {
+        match name.rsplit_once('~') {
+            Some((rest, place)) if place.contains('-') => name = rest,
+            _ => return name,
+        }
+    }
+    name
+}
+
+/// The JSON of a step whose first spans have these places: `~3-4~8-9`. Others stand nowhere.
+fn placed(alloc: Global, json: &str, places: &str) -> Result<String, AllocError> {
+    let mut placed = String::new(alloc);
+    let mut places = places.split('~');
+    for (at, part) in json.split('~').enumerate() {
+        // (nothing stands before the first span, and before the first place)
+        let place = match places.next() {
+            Some(place) => place.split_once('-'),
+            None => None,
+        };
+        match place {
+            Some((lo, hi)) => write!(placed, "{{\"lo\":{lo},\"hi\":{hi}}}")?,
+            None if at > 0 => placed.push('~')?,
+            None => {}
+        }
+        placed.push_str(part)?;
+    }
+    Ok(placed)
+}
+
+/// What steps make: an expression, statements, or a program.
+#[derive(Debug, Clone, Copy)]
+pub enum Made {
+    Expression,
+    Statements,
+    Program,
+}
+
+/// The program that the steps of these words make. With `in_places` each node has a place of its own; else those whose step
+/// gives it one do: `a~3-4`. `None` where a word is none.
 pub fn tree_of(
     alloc: Global,
     steps: &[Step],
     words: &str,
-    is_expression: bool,
+    made: Made,
     in_places: bool,
 ) -> Result<Option<Tree>, AllocError> {
     let mut nodes = Vec::new(alloc);
     let mut tokens = Vec::new(alloc);
     for word in words.split_ascii_whitespace() {
-        let Some(step) = named(steps, word) else {
+        let name = without_places(word);
+        let Some(step) = named(steps, name) else {
             return Ok(None);
         };
-        make(alloc, &step.json, &mut nodes)?;
+        let places = word.strip_prefix(name).unwrap_or("");
+        make(alloc, &placed(alloc, &step.json, places)?, &mut nodes)?;
         make(alloc, &step.tokens, &mut tokens)?;
     }
     let short = joined(alloc, &nodes, ",")?;
-    let mut tokens = joined(alloc, &tokens, " ")?;
-    let mut frame = STATEMENTS;
-    if is_expression {
-        frame = EXPRESSION;
-        tokens.push_str(" e:;")?;
-    }
-    Ok(Some(Tree {
-        json: json(alloc, frame, &short, in_places)?,
-        tokens,
-        is_expression,
+    let tokens = joined(alloc, &tokens, " ")?;
+    Ok(Some(match made {
+        Made::Expression => Tree {
+            json: json(alloc, EXPRESSION, &short, in_places)?,
+            tokens: format!(in alloc; "{tokens} e:;")?,
+            is_expression: true,
+        },
+        Made::Statements => Tree {
+            json: json(alloc, STATEMENTS, &short, in_places)?,
+            tokens,
+            is_expression: false,
+        },
+        Made::Program => Tree {
+            json: json(alloc, PROGRAM, &short, in_places)?,
+            tokens,
+            is_expression: false,
+        },
     }))
 }

@@ -2,14 +2,14 @@
 
 use crate::looks::{Answers, Texts, look};
 use crate::reading::{Manner, reads_as};
-use crate::runs::answers;
+use crate::runs::{answers, prints};
 use crate::sources::{Source, source_of};
 use crate::steps::Tree;
 use std::alloc::{AllocError, Global};
 
 /// The texts of a program over a source text, where it is well-formed, or isn't.
 fn texts_where(alloc: Global, source: &Source, json: &str, well_formed: bool) -> Option<Texts> {
-    match look(alloc, source, json.as_bytes()) {
+    match look(alloc, source, json.as_bytes(), &[]) {
         Ok(
             Answers {
                 well_formed: Some(answer),
@@ -31,7 +31,7 @@ pub fn texts_read(
     let Some(texts) = texts_where(alloc, source, &tree.json, true) else {
         return Ok(None);
     };
-    for (minified, text) in [(false, &texts.pretty), (true, &texts.minified)] {
+    for (minified, text) in [(false, &texts.pretty.text), (true, &texts.minified.text)] {
         let manner = Manner {
             minified,
             holds: false,
@@ -54,15 +54,16 @@ fn has_text(
     alloc: Global,
     texts: &Texts,
     json: &str,
+    well_formed: bool,
     is_expression: bool,
     text: &str,
 ) -> Result<bool, AllocError> {
     let is_alone = texts.code.strip_suffix(";\n") == Some(texts.node.as_str());
     Ok(
         texts.code.as_str() == text
-            && texts.pretty.as_slice() == text.as_bytes()
+            && texts.pretty.text.as_slice() == text.as_bytes()
             && (!is_expression || is_alone)
-            && answers(alloc, "", json.as_bytes(), (0, text, ""))?,
+            && prints(alloc, well_formed, "", json.as_bytes(), text)?,
     )
 }
 
@@ -81,8 +82,15 @@ pub fn has_texts(
     };
     match texts {
         Some(texts) => Ok(
-            texts.minified.as_slice() == minified.as_bytes()
-                && has_text(alloc, &texts, &tree.json, tree.is_expression, pretty)?,
+            texts.minified.text.as_slice() == minified.as_bytes()
+                && has_text(
+                    alloc,
+                    &texts,
+                    &tree.json,
+                    well_formed,
+                    tree.is_expression,
+                    pretty,
+                )?,
         ),
         None => Ok(false),
     }
@@ -91,14 +99,19 @@ pub fn has_texts(
 /// Whether the JSON of a statement's expression has this text.
 pub fn prints_expr(alloc: Global, json: &str, text: &str) -> Result<bool, AllocError> {
     match texts_where(alloc, &source_of(alloc, "apart", None)?, json, true) {
-        Some(texts) => has_text(alloc, &texts, json, true, text),
+        Some(texts) => has_text(alloc, &texts, json, true, true, text),
         None => Ok(false),
     }
 }
 
 /// Whether a program answers so when it is asked whether it is well-formed.
 pub fn is_formed(alloc: Global, json: &str, well_formed: bool) -> Result<bool, AllocError> {
-    match look(alloc, &source_of(alloc, "apart", None)?, json.as_bytes()) {
+    match look(
+        alloc,
+        &source_of(alloc, "apart", None)?,
+        json.as_bytes(),
+        &[],
+    ) {
         Ok(look) => Ok(look.well_formed == Some(well_formed)),
         Err(_) => Ok(false),
     }

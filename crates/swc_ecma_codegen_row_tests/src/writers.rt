@@ -109,7 +109,7 @@ fn position(text: &str) -> Result<BytePos, Error> {
 }
 
 /// Each pair as a position, its line and its column, as `7:1:1`, with a blank between two.
-fn told_by(alloc: Global, pairs: &[(BytePos, LineCol)]) -> Result<String, AllocError> {
+pub fn told_by(alloc: Global, pairs: &[(BytePos, LineCol)]) -> Result<String, AllocError> {
     let mut text = String::new(alloc);
     for (pos, place) in pairs {
         if !text.is_empty() {

@@ -2,7 +2,7 @@
 //! that, so one test makes all of them.
 
 use crate::trees::Tree;
-use crate::{calls, faults, links, settings};
+use crate::{calls, comments, faults, links, settings};
 use std::alloc::{AllocError, Global};
 use std::test::Fail;
 use swc_ecma_codegen_tree::AnyNode;
@@ -29,6 +29,7 @@ fn made<N: Tree>(alloc: Global) -> Result<Tally, Fail> {
         failing: Vec::new(alloc),
     };
     calls::check::<N>(alloc, &mut tally)?;
+    comments::check::<N>(alloc, &mut tally)?;
     faults::check::<N>(alloc, &mut tally)?;
     links::check::<N>(alloc, &mut tally)?;
     settings::check::<N>(alloc, &mut tally)?;

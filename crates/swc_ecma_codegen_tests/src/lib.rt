@@ -10,6 +10,8 @@ mod calls;
 #[cfg(test)]
 mod checks;
 #[cfg(test)]
+mod comments;
+#[cfg(test)]
 mod emissions;
 #[cfg(test)]
 mod faults;

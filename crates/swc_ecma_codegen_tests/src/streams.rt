@@ -83,7 +83,11 @@ fn input_of_single_bytes(rt: HostRuntime) {
 #[test]
 fn output_that_fails_midway(rt: HostRuntime) {
     let alloc = rt.alloc();
-    for fault in [Fault::Kind(ErrorKind::Other), Fault::TakesNothing] {
+    for fault in [
+        Fault::Kind(ErrorKind::Other),
+        Fault::Kind(ErrorKind::Interrupted),
+        Fault::TakesNothing,
+    ] {
         for room in 0..12 {
             let out = Page::failing(room, fault);
             let line = "refused: writer\n";

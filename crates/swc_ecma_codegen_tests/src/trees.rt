@@ -16,9 +16,10 @@ use swc_ecma_codegen_common::{DUMMY_SP, Error, EsVersion, Result as Answer};
 use swc_ecma_codegen_grammar::Fits;
 use swc_ecma_codegen_json::{ReadError, Tree as ReadTree, program_from_slice};
 use swc_ecma_codegen_laws::{
-    bad_shapes_are_refused_first, emitted_box_reads, emitted_link_reads, emitted_option_reads,
-    emitted_ref_reads, expressions_and_statements_are_roots, first_token_is_told,
-    layouts_keep_the_tokens, links_write_members, links_write_targets, links_write_their_roots,
+    added_comments_can_be_read_back, bad_shapes_are_refused_first, emitted_box_reads,
+    emitted_link_reads, emitted_option_reads, emitted_ref_reads,
+    expressions_and_statements_are_roots, first_token_is_told, layouts_keep_the_tokens,
+    links_write_members, links_write_targets, links_write_their_roots,
     names_out_of_target_are_refused, new_emitter_reads, one_reading,
     plain_trees_keep_no_other_text, plain_trees_take_no_memory, reduced_tokens_read,
     spaced_tokens_read, strings_by_value_are_told, well_formed_trees_are_supported,
@@ -307,6 +308,7 @@ fn laws_of_trees() {
     names_out_of_target_are_refused();
     well_formed_trees_are_supported();
     bad_shapes_are_refused_first();
+    added_comments_can_be_read_back();
     layouts_keep_the_tokens();
 }
 

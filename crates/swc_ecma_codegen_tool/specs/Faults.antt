@@ -4,13 +4,14 @@ use Rattle.swc_ecma_codegen_common.specs.declared.errors.Error.{Error}
 use Rattle.swc_ecma_codegen_common.specs.declared.errors.Refusal.{Refusal}
 use Rattle.swc_ecma_codegen_common.specs.declared.errors.Refusal.TheVariants as refusals
 use Rattle.swc_ecma_codegen_common.specs.Refusals.{reason_of}
+use Rattle.swc_ecma_codegen_ast.specs.Comments.{no_maps}
 use Rattle.swc_ecma_codegen_ast.specs.SourceLines.{no_lines}
 use Rattle.swc_ecma_codegen_json.specs.declared.errors.ReadError.{ReadError}
 use Rattle.swc_ecma_codegen_json.specs.declared.errors.ReadError.TheVariants as unread
 use Rattle.swc_ecma_codegen_base.specs.Run.{Part, start}
 use Rattle.swc_ecma_codegen.specs.Texts.{GivesCause}
 use Rattle.swc_ecma_codegen_tool.specs.declared.faults.Fault.{Fault}
-use Rattle.swc_ecma_codegen_tool.specs.declared.faults.Fault.TheVariants.{Usage, CannotRead, BadTree, Writer, Memory, UnsupportedNode, BadShape, NameOutOfTarget, PositionTooLarge, Failed}
+use Rattle.swc_ecma_codegen_tool.specs.declared.faults.Fault.TheVariants.{Usage, CannotRead, BadTree, NotWellFormed, Writer, Memory, UnsupportedNode, BadShape, NameOutOfTarget, PositionTooLarge, Failed}
 use Rattle.swc_ecma_codegen_tool.specs.declared.words.Options.{Options}
 use Rattle.swc_ecma_codegen_tool.specs.Prints.{sheet_for}
 use Rattle.swc_ecma_codegen_tool.specs.Words.{settings_of}
@@ -34,13 +35,14 @@ fault_of_emission refusals.Failed = Failed
 -- an emission of a part, as the options ask for it, gives cause for a fault
 abbrev pub GivesFault : Options → Part → Fault → Type 0
 GivesFault options part fault =
-    (error : Error) × (fault ≡ fault_of_emission (reason_of error)) × GivesCause part (start no_lines (settings_of options) (sheet_for options)) error
+    (error : Error) × (fault ≡ fault_of_emission (reason_of error)) × GivesCause part (start no_lines no_maps (settings_of options) (sheet_for options)) error
 
 -- the line that tells of a fault
 abbrev pub line_of : Fault → List ℕ
 line_of Usage = codes "usage: ecmagen [options]\n"
 line_of CannotRead = codes "cannot read\n"
 line_of BadTree = codes "bad tree\n"
+line_of NotWellFormed = codes "not well-formed\n"
 line_of Writer = codes "refused: writer\n"
 line_of Memory = codes "refused: memory\n"
 line_of UnsupportedNode = codes "refused: unsupported node\n"

@@ -6,7 +6,9 @@ use Rattle.swc_ecma_codegen_tree.specs.declared.links.AnyNode.{AnyNode}
 use Rattle.swc_ecma_codegen_tree.specs.declared.programs.Program.{Program}
 use Rattle.swc_ecma_codegen_text_writer.specs.Sheet.{Sheet, HoldsNone}
 use Rattle.swc_ecma_codegen_text_writer.specs.View.{keeping}
+use Rattle.swc_ecma_codegen_ast.specs.Comments.{no_maps}
 use Rattle.swc_ecma_codegen_ast.specs.SourceLines.{no_lines}
+use Rattle.swc_ecma_codegen_ast.specs.TreePhrases.{is_well_formed}
 use Rattle.swc_ecma_codegen_base.specs.Run.{Part, printed, start}
 use Rattle.swc_ecma_codegen.specs.Answers.{any_answers}
 use Rattle.swc_ecma_codegen.specs.Programs.{program}
@@ -32,11 +34,15 @@ sheet_for options = with_semicolons options.minify (with_positions options.posit
 
 -- the text of a part, as the options ask for it
 unfoldable pub text_with : Options → Part → List ℕ
-text_with options part = (printed part (start no_lines (settings_of options) (sheet_for options))).sheet.text
+text_with options part = (printed part (start no_lines no_maps (settings_of options) (sheet_for options))).sheet.text
+
+-- a program may be printed: it is well-formed, unless any is to be
+abbrev pub MayPrint : Options → Program AnyNode → Type 0
+MayPrint options p = options.any ≡ false → is_well_formed p ≡ true
 
 -- a text is that of a program
 abbrev pub IsText : Options → List ℕ → Type 0
-IsText options text = (p : Program AnyNode) × (text ≡ text_with options (program any_answers any_items p))
+IsText options text = (p : Program AnyNode) × MayPrint options p × (text ≡ text_with options (program any_answers any_items p))
 
 -- the text of one program is added to what a writer tells
 abbrev pub AddsText : Options → Option (List ℕ) → Option (List ℕ) → Type 0

@@ -38,7 +38,8 @@ is_option word =
     || (bytes_eq word (codes "--assert")
     || (bytes_eq word (codes "--inline-script")
     || (bytes_eq word (codes "--positions")
-    || is_target word)))))
+    || (bytes_eq word (codes "--any")
+    || is_target word))))))
 
 -- each word is an option, and the name of a version comes after each `--target` and nowhere else; it is due at first, or isn't
 abbrev pub are_options_from : {Z : Type 0} → Bool → List (String Z) → Bool
@@ -71,6 +72,7 @@ options_of words =
       inline_script = is_given (codes "--inline-script") words;
       target = last_version EsNext words;
       positions = is_given (codes "--positions") words;
+      any = is_given (codes "--any") words;
     }
 
 -- the settings that this asks for

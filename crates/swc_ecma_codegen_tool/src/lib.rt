@@ -1,9 +1,10 @@
 //! The program, as a function over its words and its streams.
 #![tactic(auto)]
 
-ghost use Rattle.std.specs.Prelude.{◌≡◌, ◌≢◌, ◌⊎◌, ◌≤◌, false, true, [], length, take, Err, OnOk, OnErr, IfOk};
+ghost use Rattle.std.specs.Prelude.{◌≡◌, ◌≢◌, ◌⊎◌, ◌≤◌, ◌||◌, false, true, [], length, take, Err, OnOk, OnErr, IfOk};
 ghost use Rattle.std.specs.Io.KnownBytes.{Appends};
 ghost use Rattle.std.specs.IoError.{error_kind};
+ghost use Rattle.swc_ecma_codegen_ast.specs.TreePhrases.{is_well_formed};
 ghost use Rattle.swc_ecma_codegen_tool.specs.Faults.{line_of};
 ghost use Rattle.swc_ecma_codegen_tool.specs.Prints.{AddsText, AddsFront, AddsFrontOfText};
 ghost use Rattle.swc_ecma_codegen_tool.specs.Words.{are_options, options_of};
@@ -19,21 +20,24 @@ use crate::words::Options;
 use std::alloc::Global;
 use std::io;
 use std::io::{ErrorKind, Read, Write};
+use swc_ecma_codegen::is_well_formed;
 use swc_ecma_codegen_common::{BytePos, LineCol};
 use swc_ecma_codegen_json::{Tree, program_from_slice};
+use swc_ecma_codegen_tree::Program;
 
 /// A run of the program: `words` are those after its name. Standard input is one program as JSON, and its text goes to
 /// `out`, whole, after it was made in memory. The answer is the status.
 ///
-/// The words are `--minify`, `--omit-last-semi`, `--ascii-only`, `--assert`, `--inline-script`, `--positions` and `--target` with a
+/// The words are `--minify`, `--omit-last-semi`, `--ascii-only`, `--assert`, `--inline-script`, `--positions`, `--any` and `--target` with a
 /// version after it (`es3`, `es5`, `es2015` to `es2022`, `esnext`), in any order; one that is given again counts once, and of
-/// targets the last. With `--positions`, after the text, `err` gets a line for each position of the source that was recorded: `4 0 2`
+/// targets the last. With `--any` a program that isn't well-formed is printed too: the name `a b` as `a b;`. With `--positions`, after the text, `err` gets a line for each position of the source that was recorded: `4 0 2`
 /// says that what stands at 4 there was written in line 0, column 2.
 ///
 /// On a fault `err` gets one line, and `out` nothing, save what it took before a fault of its own. The status is 2 for
 /// wrong words, else 1: `cannot read` for a failed read and for bytes that aren't UTF-8, `bad tree` for what is no
-/// program's JSON, and `refused: ` and a reason for an emission that is refused, for want of memory, and for a fault of
-/// `out` (`refused: writer`). A fault of `err` changes no status.
+/// program's JSON, `not well-formed` for a program that isn't, and `refused: ` and a reason for an emission that is refused, for
+/// want of memory, and for a fault of `out`, an interruption too (`refused: writer`). Faults are found in this order. A fault of
+/// `err` changes no status.
 pub fn run<R: Read, O: Write, E: Write>(
     alloc: Global,
     words: &[String],
@@ -113,10 +117,20 @@ fn print<R: Read, O: Write>(
     let program = program_from_slice(alloc, bytes.as_slice()).map_err(Fault::of_reading)?;
     // a `Tree` lets a program go by a `drop` that is proved once
     let tree = Tree(program);
+    if !may_print(options, &tree.0) {
+        return Err(Fault::NotWellFormed);
+    }
     let mut positions = Vec::new(alloc);
     let text = text_of(alloc, options, &tree.0, &mut positions)?;
     send(&text, out)?;
     Ok(positions)
+}
+
+/// Whether a program is printed: it is well-formed, unless any is to be.
+fn may_print(options: Options, program: &Program) -> bool
+    ensures { result ≡ (options.any || is_well_formed program.now) }
+{
+    options.any || is_well_formed(program)
 }
 
 /// Writes a text. After a fault a beginning of it is out.
@@ -136,7 +150,7 @@ fn send<O: Write>(text: &[u8], out: &mut O) -> Result<(), Fault>
     Err(Fault::Writer)
 }
 
-/// Writes a beginning of some bytes, and says how long it is. Where the call was interrupted, that is nothing yet.
+/// Writes a beginning of some bytes, and says how long it is. A call that was interrupted is a fault, as any other.
 #[tactic(auto, using(crate::proofs::Kept::kept_appends))]
 fn write_some<O: Write>(bytes: &[u8], out: &mut O) -> Result<usize, Fault>
     ensures taken { IfOk result (λ n. (n ≤ length bytes.now) × Appends (O.contents out.old) (O.contents out.new) (take n bytes.now)) }
@@ -146,7 +160,6 @@ fn write_some<O: Write>(bytes: &[u8], out: &mut O) -> Result<usize, Fault>
     match out.write(bytes) {
         Ok(0) => Err(Fault::Writer),
         Ok(taken) => Ok(taken),
-        Err(error) if error.kind() == ErrorKind::Interrupted => Ok(0),
         Err(_) => Err(Fault::Writer),
     }
 }

@@ -4,6 +4,7 @@ ghost use Rattle.std.specs.Prelude.{◌≡◌, ◌≢◌, [], Err, IfErr, IfOk};
 ghost use Rattle.swc_ecma_codegen_common.specs.Refusals.{reason_of};
 ghost use Rattle.swc_ecma_codegen_common.specs.declared.errors.Error.{Error};
 ghost use Rattle.swc_ecma_codegen_text_writer.specs.View.{sheet_of};
+ghost use Rattle.swc_ecma_codegen_ast.specs.Comments.{no_maps};
 ghost use Rattle.swc_ecma_codegen_ast.specs.SourceLines.{no_lines};
 ghost use Rattle.swc_ecma_codegen_base.specs.Run.{printed, start};
 ghost use Rattle.swc_ecma_codegen.specs.Texts.{blank_sheet, GivesCause};
@@ -66,15 +67,16 @@ fn new_writer<'a>(
     JsWriter::new(alloc, &NoSource, "\n", Vec::new(alloc), kept)
 }
 
-/// Prints a tree to a writer, whose faults are want of memory, and gives the writer back.
+/// Prints a tree without comments to a writer, whose faults are want of memory, and gives the writer back.
+#[tactic(auto, unfolding(swc_ecma_codegen_ast::specs::Comments::maps_in))]
 fn printed_on<P: Node, W: WriteJs + Drop>(
     alloc: Global,
     config: Config,
     tree: &P,
     wr: W,
 ) -> Result<W, Fault>
-    ensures sheet { IfOk result (λ w. W.sheet w ≡ (printed (P.part tree.now) (start no_lines config (W.sheet wr))).sheet) }
-    ensures cause { IfErr result (λ fault. (error : Error) × (fault ≡ fault_of_emission (reason_of error)) × GivesCause (P.part tree.now) (start no_lines config (W.sheet wr)) error) }
+    ensures sheet { IfOk result (λ w. W.sheet w ≡ (printed (P.part tree.now) (start no_lines no_maps config (W.sheet wr))).sheet) }
+    ensures cause { IfErr result (λ fault. (error : Error) × (fault ≡ fault_of_emission (reason_of error)) × GivesCause (P.part tree.now) (start no_lines no_maps config (W.sheet wr)) error) }
     ensures no_usage { result ≢ Err Fault.Usage }
 {
     let mut emitter = Emitter::new(alloc, config, &NoSource, None::<CommentMaps>, wr);

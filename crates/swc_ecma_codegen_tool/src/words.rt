@@ -32,6 +32,8 @@ pub struct Options {
     pub target: EsVersion,
     /// `--positions`: standard error gets the positions of the source, with where they stand in the text.
     pub positions: bool,
+    /// `--any`: a program that isn't well-formed is printed too.
+    pub any: bool,
 }
 
 impl Options {
@@ -51,6 +53,7 @@ impl Options {
             inline_script: is_given(words, "--inline-script"),
             target: last_version(words),
             positions: is_given(words, "--positions"),
+            any: is_given(words, "--any"),
         })
     }
 
@@ -100,6 +103,7 @@ fn is_option(word: &str) -> bool
             | "--assert"
             | "--inline-script"
             | "--positions"
+            | "--any"
             | "--target"
     )
 }

@@ -12,6 +12,7 @@ use Rattle.swc_ecma_codegen_tree.specs.declared.stmts.Stmt.TheVariants as stmts
 use Rattle.swc_ecma_codegen_tree.specs.declared.stmts.ExprStmt.{ExprStmt}
 use Rattle.swc_ecma_codegen_tree.specs.Held.{sorted_at, sorted_in}
 use Rattle.swc_ecma_codegen_tree.specs.SortedNodes.{expr_at}
+use Rattle.swc_ecma_codegen_ast.specs.Comments.{all_tame}
 use Rattle.swc_ecma_codegen_ast.specs.ExprPhrases.{expr, unary_expr, unary_op}
 use Rattle.swc_ecma_codegen_ast.specs.NamePhrases.{ident}
 use Rattle.swc_ecma_codegen_ast.specs.Names.{name_value}
@@ -89,9 +90,10 @@ pub short_negation : (bytes : List ℕ) (n : ExprStmt AnyNode) → IsNegation he
 short_negation bytes n h = let (at, same) = negation_read bytes n h in subst (λ p. token_count p < 2 ^ 32) (sym same) (negation_short at bytes)
 
 -- a text that reads as one reads as its tokens
-pub negation_reads : (bytes : List ℕ) (n : ExprStmt AnyNode) (text : List ℕ) → IsNegation held_expr bytes n → ReadsAs default_config false (stmt_phrase (stmts.Expr n)) text → Reads (chars text) (negation_tokens bytes) []
+pub negation_reads : (bytes : List ℕ) (n : ExprStmt AnyNode) (text : List ℕ) → IsNegation held_expr bytes n → ReadsAs default_config false (stmt_phrase (stmts.Expr n)) [] text → Reads (chars text) (negation_tokens bytes) []
+unfolding all_tame
 negation_reads bytes n text h reading =
     let (at, same) = negation_read bytes n h in
     let listed : reading.tokens ≡ negation_tokens bytes =
     negation_listed (settings_of default_config) at bytes reading.tokens (subst (λ p. Generates (settings_of default_config) p reading.tokens) same reading.is_list) in
-    subst (λ ts. Reads (chars text) ts []) (reading.whole refl ∙ listed) reading.reads
+    subst (λ ts. Reads (chars text) ts []) (reading.whole refl ∙ listed) (reading.keeps_lines refl)

@@ -1,8 +1,10 @@
--- Why a caller gives no text.
+-- Where the emissions of callers begin, and why one gives no text.
 use Rattle.std.specs.Prelude.{◌≡◌, true, false}
 use Rattle.swc_ecma_codegen_common.specs.declared.errors.Error.TheVariants.{Writer, OutOfMemory}
 use Rattle.swc_ecma_codegen_tree.specs.declared.links.AnyNode.{AnyNode}
 use Rattle.swc_ecma_codegen_tree.specs.declared.programs.Program.{Program}
+use Rattle.swc_ecma_codegen_ast.specs.CommentMaps.{Maps}
+use Rattle.swc_ecma_codegen_ast.specs.Comments.{no_maps}
 use Rattle.swc_ecma_codegen_ast.specs.SourceLines.{no_lines}
 use Rattle.swc_ecma_codegen_ast.specs.TreePhrases.{is_well_formed}
 use Rattle.swc_ecma_codegen_util.specs.Defaults.{default_config}
@@ -20,7 +22,11 @@ minified_config = record default_config { minify = true }
 
 -- where a minified emission begins, on a writer that holds semicolons back
 abbrev pub minified_start : State
-minified_start = start no_lines minified_config (record blank_sheet { semicolons = HoldsNone })
+minified_start = start no_lines no_maps minified_config (record blank_sheet { semicolons = HoldsNone })
+
+-- where an emission with comments begins, with the settings that stand where none are given
+abbrev pub commented_start : Maps → State
+commented_start maps = start no_lines maps default_config blank_sheet
 
 -- no program was read
 abbrev pub IsUnread : NoText → Type 0

@@ -1,6 +1,7 @@
 use Rattle.std.proofs.Common.{◌≡◌, [], ◌∷◌, ◌∙◌, ap, inl, refl, subst, sym, true}
 use Rattle.std.proofs.lemmas.Result.{err_from_is_err_and}
 use Rattle.swc_ecma_codegen_util.specs.declared.config.Config.{Config}
+use Rattle.swc_ecma_codegen_ast.specs.Comments.{no_maps}
 use Rattle.swc_ecma_codegen_ast.specs.SourceLines.{no_lines}
 use Rattle.swc_ecma_codegen_text_writer.specs.Told.{told}
 use Rattle.swc_ecma_codegen_text_writer.specs.Sheet.{Sheet, HoldsNone}
@@ -24,12 +25,12 @@ returns-clause-reads g c = λ root same well.
     let end : Sheet = with_held c.in_ok-printed.printed.pending (sheet_of c.in_ok-printed.printed.inner) in
     let begun : held ≡ blank =
     c.omit_trailing_semi.ensures ∙ ap (λ (s : Sheet). record s { semicolons = HoldsNone }) (c.new-writer.ensures.sheet refl ∙ ap (λ t. new_sheet t (10 ∷ [])) c.new.ensures.items) in
-    let fresh : MayBegin root (start no_lines config held) =
-    subst (λ s. MayBegin root (start no_lines config s)) (sym begun) (record { is_new = record { nothing_written = refl; nothing_held = refl; indent_text = refl; line_end = inl refl; leaves_out = refl }; at_margin = λ hashbang line. refl }) in
-    let added : AddsReading config phrase blank end = subst (λ s. AddsReading config phrase s end) begun (c.in_ok-printed.ensures.reads root same well fresh) in
+    let fresh : MayBegin root (start no_lines no_maps config held) =
+    subst (λ s. MayBegin root (start no_lines no_maps config s)) (sym begun) (record { is_new = record { nothing_written = refl; nothing_held = refl; indent_text = refl; line_end = inl refl; leaves_out = refl }; at_margin = λ hashbang line. refl }) in
+    let added : AddsReading config phrase [] blank end = subst (λ s. AddsReading config phrase [] s end) begun (c.in_ok-printed.ensures.reads root same well fresh) in
     let all : c.into_inner.result.items ≡ end.text = ap told (c.into_inner.ensures.text refl) ∙ ap (λ (s : Sheet). s.text) c.into_inner-plain.ensures.sheet in
-    let reading = subst (λ t. ReadsAs config true phrase t) (sym (all ∙ added.is_added)) added.reading in
-    subst (λ k. ReadsAs k true phrase c.into_inner.result.items) (c.with_minify-config.ensures ∙ ap (λ (k : Config). record k { minify = true }) c.default.ensures) reading
+    let reading = subst (λ t. ReadsAs config true phrase [] t) (sym (all ∙ added.is_added)) added.reading in
+    subst (λ k. ReadsAs k true phrase [] c.into_inner.result.items) (c.with_minify-config.ensures ∙ ap (λ (k : Config). record k { minify = true }) c.default.ensures) reading
 
 -- an emission that is refused began there too
 pub returns-in_err-printed-clause-cause : goal.returns-in_err-printed-clause-cause
@@ -42,4 +43,4 @@ returns-in_err-printed-clause-cause g c =
     c.omit_trailing_semi.ensures ∙ ap (λ (s : Sheet). record s { semicolons = HoldsNone }) (c.new-writer.ensures.sheet refl ∙ ap (λ t. new_sheet t (10 ∷ [])) c.new.ensures.items) in
     let asked = c.with_minify-config.ensures ∙ ap (λ (k : Config). record k { minify = true }) c.default.ensures in
     let p = err_from_is_err_and c.from_residual.result c.from_residual.ensures.1 in
-    rw (p.1, p.2) (subst (λ s. GivesCause part s error) (ap (λ k. start no_lines k held) asked ∙ ap (start no_lines minified_config) begun) c.in_err-printed.ensures.cause)
+    rw (p.1, p.2) (subst (λ s. GivesCause part s error) (ap (λ k. start no_lines no_maps k held) asked ∙ ap (start no_lines no_maps minified_config) begun) c.in_err-printed.ensures.cause)

@@ -1,18 +1,26 @@
-use Rattle.std.proofs.Common.{ap, subst, sym}
-use Rattle.swc_ecma_codegen_base.specs.Run.{State}
-use Rattle.swc_ecma_codegen_base.specs.Written.{AddsReading}
+use Rattle.std.proofs.Common.{[], ap, subst, sym}
+use Rattle.swc_ecma_codegen_ast.specs.Comments.{AreClosed, maps_in, no_maps}
+use Rattle.swc_ecma_codegen_ast.specs.SourceLines.{no_lines}
+use Rattle.swc_ecma_codegen_base.proofs.NoneTaken.{no_maps_bare, no_maps_closed, same_remarks}
+use Rattle.swc_ecma_codegen_base.specs.Run.{State, start}
+use Rattle.swc_ecma_codegen_base.specs.Written.{AddsReading, taken_remarks}
 use Rattle.swc_ecma_codegen_text_writer.specs.Recorded.{RecordsTruly}
 use Rattle.swc_ecma_codegen.specs.Roots.{root_phrase, MayBegin}
 use Rattle.swc_ecma_codegen_uses.proofs.printed_on.Goals as goal
 
--- a new emitter stands at the start, over the sheet that was handed in and under these settings
+-- a new emitter stands at the start, over the sheet that was handed in, under these settings and without comments, of which it takes none
 pub returns-clause-reads : goal.returns-clause-reads
+unfolding maps_in
 returns-clause-reads g c = λ root same well fresh.
-    let begun = c.new-emitter.ensures.state in
+    let part = g.P.Node.part c.args.node.now in
+    let old = g.W.WriteJs.sheet c.args.wr in
     let end = g.W.WriteJs.sheet c.emit_with.new.e.wr in
-    let reads = c.in_ok-emit_with.ensures.reads root same well (subst (MayBegin root) (sym begun) fresh) in
-    let over = subst (λ s. AddsReading c.new-emitter.result.cfg (root_phrase root) s end) (ap (λ (s : State). s.sheet) begun) reads in
-    subst (λ config. AddsReading config (root_phrase root) (g.W.WriteJs.sheet c.args.wr) end) (ap (λ (s : State). s.env.config) begun) over
+    let begun = c.new-emitter.ensures.state in
+    let closed = subst AreClosed (sym (ap (λ (s : State). s.env.maps) begun)) no_maps_closed in
+    let reads = c.in_ok-emit_with.ensures.reads root same well (subst (MayBegin root) (sym begun) fresh) closed in
+    let over : AddsReading c.args.config (root_phrase root) (taken_remarks part (start no_lines no_maps c.args.config old).env) old end =
+    subst (λ (s : State). AddsReading s.env.config (root_phrase root) (taken_remarks part s.env) s.sheet end) begun reads in
+    subst (λ remarks. AddsReading c.args.config (root_phrase root) remarks old end) (same_remarks [] part (start no_lines no_maps c.args.config old).env no_maps_bare) over
 
 pub returns-clause-recorded : goal.returns-clause-recorded
 returns-clause-recorded g c =

@@ -1,5 +1,5 @@
 use Rattle.std.proofs.Common.{ap, ◌∙◌}
-use Rattle.swc_ecma_codegen_ast.specs.SourceLines.{no_lines}
+use Rattle.swc_ecma_codegen_ast.specs.Comments.{maps_in}
 use Rattle.swc_ecma_codegen_base.specs.Run.{State, Follows, printed, start}
 use Rattle.swc_ecma_codegen.proofs.code.print_to.Goals as goal
 
@@ -10,6 +10,6 @@ returns g c = record {
       ap g.W.WriteJs.sheet c.into_writer.ensures
       ∙ ap (λ (s : State). s.sheet)
       (c.in_ok-emit_with.ensures.items.1
-      ∙ ap (printed (g.N.Node.part c.args.node.now)) (c.new-emitter.ensures.state ∙ ap (λ k. start no_lines k (g.W.WriteJs.sheet c.args.wr)) c.default.ensures));
+      ∙ ap (printed (g.N.Node.part c.args.node.now)) (c.new-emitter.ensures.state ∙ ap (λ k. start (g.S.SourceMapper.lines c.args.cm.now) (maps_in g.C.Comments.maps c.args.comments) k (g.W.WriteJs.sheet c.args.wr)) c.default.ensures));
   cause = tt;
 }

@@ -5,7 +5,7 @@ use Rattle.swc_ecma_codegen_base.proofs.Spelled.{spelled_in_ascii, not_spelled}
 use Rattle.swc_ecma_codegen_base.proofs.LowerEmitter.ascii_symbol.Goals as goal
 
 pub returns-then-self-clause-items : goal.returns-then-self-clause-items
-returns-then-self-clause-items g c = λ lines rest. does_failed _ _ c.if-self.true lines
+returns-then-self-clause-items g c = λ lines maps rest. does_failed _ _ c.if-self.true lines maps
 
 pub returns-in-Ok-clause-items : goal.returns-in-Ok-clause-items
 returns-in-Ok-clause-items g c = spelled_in_ascii _ _ _ _ _ _ c.requires c.in-Ok.ensures.out_of_target (c.deref.ensures ∙ c.in-Ok.ensures.exactly) c.symbol.ensures.items

@@ -6,7 +6,7 @@ use Rattle.swc_ecma_codegen_base.proofs.KeySteps.{key_in_ascii, key_not_made}
 use Rattle.swc_ecma_codegen_base.proofs.LowerEmitter.escaped_key.Goals as goal
 
 pub returns-then-self-clause-items : goal.returns-then-self-clause-items
-returns-then-self-clause-items g c = λ lines rest. does_failed _ _ c.if-self.true lines
+returns-then-self-clause-items g c = λ lines maps rest. does_failed _ _ c.if-self.true lines maps
 
 pub returns-in-Ok-clause-items : goal.returns-in-Ok-clause-items
 returns-in-Ok-clause-items g c = key_in_ascii _ _ _ _ _ _ _ c.if-self.false c.requires c.wants_quotes-quoted.ensures (c.deref.ensures ∙ c.in-Ok.ensures.exactly) c.ascii_key.ensures.items

@@ -5,7 +5,7 @@ use Rattle.swc_ecma_codegen_base.proofs.PrivateSteps.{private_remade, private_no
 use Rattle.swc_ecma_codegen_base.proofs.LowerEmitter.mended_private.Goals as goal
 
 pub returns-then-self-clause-items : goal.returns-then-self-clause-items
-returns-then-self-clause-items g c = λ lines rest. does_failed _ _ c.if-self.true lines
+returns-then-self-clause-items g c = λ lines maps rest. does_failed _ _ c.if-self.true lines maps
 
 pub returns-in-Ok-clause-items : goal.returns-in-Ok-clause-items
 returns-in-Ok-clause-items g c = private_remade _ _ _ _ _ _ c.if-self.false (c.deref.ensures.value ∙ c.in-Ok.ensures.value) c.spelled_private.ensures.items

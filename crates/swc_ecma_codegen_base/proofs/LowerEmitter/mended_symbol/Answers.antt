@@ -5,7 +5,7 @@ use Rattle.swc_ecma_codegen_base.proofs.Spelled.{remade, not_remade}
 use Rattle.swc_ecma_codegen_base.proofs.LowerEmitter.mended_symbol.Goals as goal
 
 pub returns-then-self-clause-items : goal.returns-then-self-clause-items
-returns-then-self-clause-items g c = λ lines rest. does_failed _ _ c.if-self.true lines
+returns-then-self-clause-items g c = λ lines maps rest. does_failed _ _ c.if-self.true lines maps
 
 pub returns-in-Ok-clause-items : goal.returns-in-Ok-clause-items
 returns-in-Ok-clause-items g c = remade _ _ _ _ _ _ (c.deref.ensures.value ∙ c.in-Ok.ensures.value) c.spelled_symbol.ensures.items

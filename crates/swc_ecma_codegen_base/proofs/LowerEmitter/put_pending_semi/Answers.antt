@@ -7,7 +7,7 @@ use Rattle.swc_ecma_codegen_base.proofs.Emitting.{does_failed}
 use Rattle.swc_ecma_codegen_base.proofs.LowerEmitter.put_pending_semi.Goals as goal
 
 pub returns-then-self-clause-items : goal.returns-then-self-clause-items
-returns-then-self-clause-items g c = λ lines rest. does_failed _ _ c.if-self.true lines
+returns-then-self-clause-items g c = λ lines maps rest. does_failed _ _ c.if-self.true lines maps
 
 pub returns-clause-items : goal.returns-clause-items
 unfolding after_plain commit_pending_semi

@@ -7,6 +7,7 @@ use Rattle.swc_ecma_codegen_text_writer.specs.Told.{told}
 use Rattle.swc_ecma_codegen_text_writer.specs.Sheet.{Sheet, HoldsNone, holds_semicolons}
 use Rattle.swc_ecma_codegen_text_writer.specs.Held.{with_held}
 use Rattle.swc_ecma_codegen_text_writer.specs.View.{sheet_of}
+use Rattle.swc_ecma_codegen_ast.specs.Comments.{no_maps}
 use Rattle.swc_ecma_codegen_ast.specs.SourceLines.{no_lines}
 use Rattle.swc_ecma_codegen_base.specs.Run.{Part, printed, start}
 use Rattle.swc_ecma_codegen.specs.Texts.{blank_sheet, GivesCause}
@@ -37,13 +38,13 @@ returns-in_ok-writer-clause-text g c =
     let held : Sheet = with_held c.omit_trailing_semi.result.pending (sheet_of c.omit_trailing_semi.result.inner) in
     let begun : held ≡ sheet_for options =
     c.omit_trailing_semi.ensures ∙ ap (λ (s : Sheet). record s { semicolons = HoldsNone }) c.new_writer-writer.ensures ∙ ap (λ minify. with_semicolons minify (with_positions options.positions blank_sheet)) (sym c.if-options.true) in
-    let end : (sheet_of c.in_ok-writer.writer.inner).text ≡ (printed part (start no_lines c.settings-config.result held)).sheet.text = ap (λ (s : Sheet). s.text) c.in_ok-writer.ensures.sheet in
-    all ∙ under ∙ end ∙ ap (λ config. (printed part (start no_lines config held)).sheet.text) c.settings-config.ensures ∙ ap (λ s. (printed part (start no_lines (settings_of options) s)).sheet.text) begun
+    let end : (sheet_of c.in_ok-writer.writer.inner).text ≡ (printed part (start no_lines no_maps c.settings-config.result held)).sheet.text = ap (λ (s : Sheet). s.text) c.in_ok-writer.ensures.sheet in
+    all ∙ under ∙ end ∙ ap (λ config. (printed part (start no_lines no_maps config held)).sheet.text) c.settings-config.ensures ∙ ap (λ s. (printed part (start no_lines no_maps (settings_of options) s)).sheet.text) begun
 
 -- an emission with these settings from this sheet is the one that the options ask for
-gives_fault : (options : Options) (part : Part) (config : Config) (s : Sheet) (fault : Fault) → config ≡ settings_of options → s ≡ sheet_for options → ((error : Error) × (fault ≡ fault_of_emission (reason_of error)) × GivesCause part (start no_lines config s) error) → GivesFault options part fault
+gives_fault : (options : Options) (part : Part) (config : Config) (s : Sheet) (fault : Fault) → config ≡ settings_of options → s ≡ sheet_for options → ((error : Error) × (fault ≡ fault_of_emission (reason_of error)) × GivesCause part (start no_lines no_maps config s) error) → GivesFault options part fault
 gives_fault options part config s fault asked begun (error, named, cause) =
-    (error, named, subst (λ a. GivesCause part a error) (ap (λ k. start no_lines k s) asked ∙ ap (start no_lines (settings_of options)) begun) cause)
+    (error, named, subst (λ a. GivesCause part a error) (ap (λ k. start no_lines no_maps k s) asked ∙ ap (start no_lines no_maps (settings_of options)) begun) cause)
 
 pub returns-in_err-writer-clause-cause : goal.returns-in_err-writer-clause-cause
 unfolding with_held with_semicolons

@@ -24,18 +24,18 @@ returns-clause-front g c = follows_front (g.T.EmitAt.items c.args.node.now Plain
 pub returns-clause-cause : goal.returns-clause-cause
 returns-clause-cause g c =
     let part = g.T.EmitAt.items c.args.node.now Plain in
-    let a : State = state_of g.S.SourceMapper.lines g.W.WriteJs.sheet c.args.self.now in
-    let b : State = state_of g.S.SourceMapper.lines g.W.WriteJs.sheet c.answer.new.self in
+    let a : State = state_of g.S.SourceMapper.lines g.C.Comments.maps g.W.WriteJs.sheet c.args.self.now in
+    let b : State = state_of g.S.SourceMapper.lines g.C.Comments.maps g.W.WriteJs.sheet c.answer.new.self in
     if_err_in_short (λ e. HasCause (steps_in part a) e a b) _ (follows_cause (part nothing) _ _ _ (returns-clause-items g c))
 
 pub returns-clause-succeeds : goal.returns-clause-succeeds
 returns-clause-succeeds g c = λ h. is_ok_in_short _ (follows_succeeds (g.T.EmitAt.items c.args.node.now Plain nothing) _ _ _ (returns-clause-items g c) h)
 
 pub returns-clause-marked : goal.returns-clause-marked
-returns-clause-marked g c = on_err_in_short ((state_of g.S.SourceMapper.lines g.W.WriteJs.sheet c.answer.new.self).failed ≡ true) c.answer.result (follows_marked (g.T.EmitAt.items c.args.node.now Plain nothing) _ _ _ (returns-clause-items g c))
+returns-clause-marked g c = on_err_in_short ((state_of g.S.SourceMapper.lines g.C.Comments.maps g.W.WriteJs.sheet c.answer.new.self).failed ≡ true) c.answer.result (follows_marked (g.T.EmitAt.items c.args.node.now Plain nothing) _ _ _ (returns-clause-items g c))
 
 pub returns-clause-level : goal.returns-clause-level
 returns-clause-level g c =
-    let a : Standing = record { state = state_of g.S.SourceMapper.lines g.W.WriteJs.sheet c.args.self.now; refusal = None } in
-    let b : Standing = standing_of g.S.SourceMapper.lines g.W.WriteJs.sheet c.emit_at.new.e in
+    let a : Standing = record { state = state_of g.S.SourceMapper.lines g.C.Comments.maps g.W.WriteJs.sheet c.args.self.now; refusal = None } in
+    let b : Standing = standing_of g.S.SourceMapper.lines g.C.Comments.maps g.W.WriteJs.sheet c.emit_at.new.e in
     stays_at_length a b _ _ c.emit_at.ensures.level c.answer.ensures.answer c.answer.ensures.state

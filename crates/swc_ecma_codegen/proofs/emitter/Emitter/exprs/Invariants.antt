@@ -6,6 +6,6 @@ use Rattle.swc_ecma_codegen.proofs.emitter.Emitter.exprs.Given as goal
 
 abbrev pub invariant-loop-node : goal.invariant-loop-node
 invariant-loop-node g l = record {
-  items : Continues (listed (held g.N.EmitAt.items) l.first (drop l.node-index l.nodes)) (standing_of g.S.SourceMapper.lines g.W.WriteJs.sheet l.self) (listed (held g.N.EmitAt.items) true l.nodes) (standing_of g.S.SourceMapper.lines g.W.WriteJs.sheet l.initial.self);
-  level : Stays (standing_of g.S.SourceMapper.lines g.W.WriteJs.sheet l.initial.self) (standing_of g.S.SourceMapper.lines g.W.WriteJs.sheet l.self);
+  items : Continues (listed (held g.N.EmitAt.items) l.first (drop l.node-index l.nodes)) (standing_of g.S.SourceMapper.lines g.C.Comments.maps g.W.WriteJs.sheet l.self) (listed (held g.N.EmitAt.items) true l.nodes) (standing_of g.S.SourceMapper.lines g.C.Comments.maps g.W.WriteJs.sheet l.initial.self);
+  level : Stays (standing_of g.S.SourceMapper.lines g.C.Comments.maps g.W.WriteJs.sheet l.initial.self) (standing_of g.S.SourceMapper.lines g.C.Comments.maps g.W.WriteJs.sheet l.self);
 }

@@ -11,8 +11,8 @@ use Rattle.swc_ecma_codegen.proofs.emitter.Emitter.flat_block_list.Goals as goal
 
 pub returns-clause-items : goal.returns-clause-items
 returns-clause-items g c =
-    let a : Standing = standing_of g.S.SourceMapper.lines g.W.WriteJs.sheet c.args.self.now in
-    let b : Standing = standing_of g.S.SourceMapper.lines g.W.WriteJs.sheet c.list.new.self in
+    let a : Standing = standing_of g.S.SourceMapper.lines g.C.Comments.maps g.W.WriteJs.sheet c.args.self.now in
+    let b : Standing = standing_of g.S.SourceMapper.lines g.C.Comments.maps g.W.WriteJs.sheet c.list.new.self in
     let format : c.flat_block_format.result.0 ≡ flat_block_format = c.flat_block_format.ensures in
     let P : ℕ → Type 0 = λ z. Makes (list z c.args.node.now.span (map (child_of (stmt_span (place_of g.N.Known.answers)) (λ s place. stmt g.N.Known.answers g.N.EmitAt.items s)) c.args.node.now.stmts.items)) a b in
     let Q : List (Stmt _) → Type 0 = λ xs. Makes (list c.flat_block_format.result.0 c.args.node.now.span (map (child_of (stmt_span (place_of g.N.Known.answers)) (λ s place. stmt g.N.Known.answers g.N.EmitAt.items s)) xs)) a b in

@@ -11,8 +11,8 @@ use Rattle.swc_ecma_codegen.proofs.emitter.Emitter.object_props.Goals as goal
 pub returns-clause-items : goal.returns-clause-items
 unfolding object_children
 returns-clause-items g c =
-    let a : Standing = standing_of g.S.SourceMapper.lines g.W.WriteJs.sheet c.args.self.now in
-    let b : Standing = standing_of g.S.SourceMapper.lines g.W.WriteJs.sheet c.list.new.self in
+    let a : Standing = standing_of g.S.SourceMapper.lines g.C.Comments.maps g.W.WriteJs.sheet c.args.self.now in
+    let b : Standing = standing_of g.S.SourceMapper.lines g.C.Comments.maps g.W.WriteJs.sheet c.list.new.self in
     let format : c.object_format.result.0 ≡ object_format = c.object_format.ensures in
     let P : ℕ → Type 0 = λ z. Makes (list z c.args.node.now.span (map (child_of (prop_or_spread_span (place_of g.N.Known.answers)) (λ p place. prop_or_spread g.N.Known.answers g.N.EmitAt.items p)) c.args.node.now.props.items)) a b in
     let Q : List (PropOrSpread _) → Type 0 = λ xs. Makes (list c.object_format.result.0 c.args.node.now.span (map (child_of (prop_or_spread_span (place_of g.N.Known.answers)) (λ p place. prop_or_spread g.N.Known.answers g.N.EmitAt.items p)) xs)) a b in

@@ -5,6 +5,6 @@ use Rattle.swc_ecma_codegen.proofs.emitter.Emitter.star_export.Given as goal
 
 abbrev pub invariant-loop-specifier : goal.invariant-loop-specifier
 invariant-loop-specifier g l = record {
-  items : Continues (star_export (drop l.specifier-index l.specifiers)) (standing_of g.S.SourceMapper.lines g.W.WriteJs.sheet l.self) (star_export l.specifiers) (standing_of g.S.SourceMapper.lines g.W.WriteJs.sheet l.initial.self);
-  level : Stays (standing_of g.S.SourceMapper.lines g.W.WriteJs.sheet l.initial.self) (standing_of g.S.SourceMapper.lines g.W.WriteJs.sheet l.self);
+  items : Continues (star_export (drop l.specifier-index l.specifiers)) (standing_of g.S.SourceMapper.lines g.C.Comments.maps g.W.WriteJs.sheet l.self) (star_export l.specifiers) (standing_of g.S.SourceMapper.lines g.C.Comments.maps g.W.WriteJs.sheet l.initial.self);
+  level : Stays (standing_of g.S.SourceMapper.lines g.C.Comments.maps g.W.WriteJs.sheet l.initial.self) (standing_of g.S.SourceMapper.lines g.C.Comments.maps g.W.WriteJs.sheet l.self);
 }

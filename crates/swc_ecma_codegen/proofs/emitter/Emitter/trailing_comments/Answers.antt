@@ -1,9 +1,0 @@
-use Rattle.std.proofs.Common.{rules}
-use Rattle.swc_ecma_codegen.proofs.Standings.{makes_here, unrefused}
-use Rattle.swc_ecma_codegen.proofs.emitter.Emitter.trailing_comments.Goals as goal
-
-pub returns-clause-items : goal.returns-clause-items
-returns-clause-items g c = makes_here (g.S.SourceMapper.lines c.args.self.now.cm.now) _ _ _ _ _ _ c.trailing_comments.ensures.items (search rules) c.keep.ensures
-
-pub returns-clause-level : goal.returns-clause-level
-returns-clause-level g c = unrefused _ _ _ _ c.trailing_comments.ensures.level (search rules) c.keep.ensures
