@@ -54,7 +54,7 @@ function parsed(text) {
   const [open, close] = frame(text);
   for (const sourceType of ['script', 'module']) {
     try {
-      return babel.parse(open + text + close, { sourceType, plugins: PLUGINS, tokens: true, allowSuperOutsideMethod: true, allowImportExportEverywhere: true });
+      return babel.parse(open + text + close, { sourceType, plugins: PLUGINS, tokens: true, attachComment: false, allowSuperOutsideMethod: true, allowImportExportEverywhere: true });
     } catch (error) {
       // (the other may have it)
     }

@@ -13,8 +13,8 @@ NAMES = ["a", "in_", "$", "\u00e9"]
 LETTERS = ["a", ",", " ", "\U0001f600"]
 MAPPERS = {"same": "same", "apart": "different", "even": "parity"}
 # A text that a row asks for: the row, the words of a run, the JSON of the tree, the text, the lines on standard error, and
-# the tokens, or nothing where the row tells none.
-Case = collections.namedtuple("Case", "row words tree text lines tokens")
+# the tokens, or nothing where the row tells none; with comments, these and what of them is left, by their positions.
+Case = collections.namedtuple("Case", "row words tree text lines tokens comments left", defaults=[None, None])
 
 
 def decoded(field):
@@ -44,6 +44,30 @@ def in_places(short):
     return tree(re.sub("~", span, short))
 
 
+def in_place(short, places):
+    """A step's JSON whose first spans are these."""
+    places = iter(places)
+
+    def span(found):
+        place = next(places, None)
+        return '{"lo":%s,"hi":%s}' % tuple(place.split("-")) if place else found[0]
+
+    return re.sub("~", span, short)
+
+
+def comments_of(field):
+    """Comments by the positions that they stand before or after: those of `before 3 /* a */¦after 5~7-11 // b`."""
+    found = {"leading": {}, "trailing": {}}
+    for part in field.split("¦") if field else []:
+        side, place, written = part.split(" ", 2)
+        pos, _, span = place.partition("~")
+        lo, hi = map(int, (span or "0-0").split("-"))
+        kind, text = ("Line", written[2:]) if written.startswith("//") else ("Block", written[2:-2])
+        comment = {"kind": kind, "text": text, "span": {"lo": lo, "hi": hi}}
+        found["leading" if side == "before" else "trailing"].setdefault(pos, []).append(comment)
+    return found
+
+
 def snippets():
     """The texts of up to four letters, the shorter ones first."""
     return ["".join(text) for length in range(5) for text in itertools.product(LETTERS, repeat=length)]
@@ -71,7 +95,8 @@ def written(tokens, words, comma=False):
     left = {"p:}", "p:;", "e:;"} if is_minified and "--bare" not in words else set()
     if is_minified and "--omit-last-semi" in words:
         left.add(None)
-    absent = "PC" * is_minified + "cC" * (not comma)
+    # (`^` is no token: no line may end there)
+    absent = "^" + "PC" * is_minified + "cC" * (not comma)
     found = ["p" + token[1:] if token[0] in "PcC" else token for token in tokens.split() if token[0] not in absent]
     return [token for token, after in zip(found, found[1:] + [None]) if token != "e:;" or after not in left]
 
@@ -94,7 +119,8 @@ class Table:
         """What steps leave: their JSON (0) or their tokens (1)."""
         left = []
         for word in words.split():
-            text = self.steps[word][part]
+            name, *places = re.split("~(?=[0-9]+-[0-9])", word)
+            text = self.steps[name][part] if part else in_place(self.steps[name][part], places)
             from_ = len(left) - text.count("•")
             left[from_:] = [filled(text, left[from_:])]
         return left
@@ -126,8 +152,28 @@ class Table:
         both = [(words, texts[0]), ([*words, "--minify", "--bare"], texts[1])]
         return [Case(row, words, program, text, "", written(tokens, words, comma)) for words, text in both]
 
+    def program_of(self, word, made_of):
+        """The program that the steps of a row make, and its tokens."""
+        parts, tokens = self.made(made_of, 0), " ".join(self.made(made_of, 1))
+        if word.startswith("program_"):
+            return tree(parts[-1]), tokens
+        return (script_of(",".join(parts)), tokens) if word.startswith("script_") else (script(parts[-1]), tokens + " e:;")
+
+    def commented(self, row, word, made_of, comments, left, texts):
+        """The texts of a tree with comments, pretty, minified, and minified without semicolons that aren't needed."""
+        program, tokens = self.program_of(word, made_of)
+        manners = ([], ["--minify", "--bare"], ["--minify", "--omit-last-semi"])
+        both = (comments_of(comments), comments_of(left))
+        return [Case(row, words, program, text, "", written(tokens, words), *both) for words, text in zip(manners, texts) if text != "…"]
+
     def of_row(self, row, fields):
         word, rest = fields[0], fields[1:]
+        if word.endswith("commented"):
+            return self.commented(row, word, *rest[:3], rest[3:])
+        if word.endswith("commented_places"):
+            program, _ = self.program_of(word, rest[0])
+            lines = "".join("%s %s %s\n" % tuple(place.split(":")) for place in rest[3].split())
+            return [Case(row, ["--positions"], program, rest[2], lines, None, comments_of(rest[1]))]
         if word in ("tree", "malformed", "script", "script_malformed"):
             return self.both(row, *rest, word.startswith("script"))
         if word == "node":
