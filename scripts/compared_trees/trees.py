@@ -5,6 +5,8 @@ import os
 import random
 import subprocess
 
+from varied import varied
+
 TOGETHER = 200  # statements in a script that is made
 NOWHERE = {"lo": 0, "hi": 0}
 A = {"span": NOWHERE, "sym": "a", "optional": False}
@@ -56,7 +58,8 @@ def restricted(node, under=None, departs=False):
     """A tree of what is printed alike; `under` is the name of the variant or of the member that holds it.
 
     With `departs` the reference is one that prints as this printer does where only its texts differ by intent
-    (docs/DIFFERENCES.md): declarations by `using`, decorators of private methods, dots after numbers, calls of `new`.
+    (docs/DIFFERENCES.md): declarations by `using`, decorators of private methods, dots after numbers, calls of `new`, semicolons that
+    are held back.
     """
     if isinstance(node, list):
         return [restricted(item, under, departs) for item in node]
@@ -110,7 +113,7 @@ def restricted(node, under=None, departs=False):
         if name in made:
             made[name] = None
     # (the reference forgets the semicolon of a function without a body before most punctuators)
-    if "body" in made and made["body"] is None:
+    if "body" in made and made["body"] is None and not departs:
         made["body"] = {"span": NOWHERE, "stmts": []}
     return made
 
@@ -156,7 +159,7 @@ def made_by(tool, count, seed, size, together=TOGETHER, departs=False):
         ran = subprocess.run(["node", tool, *words], stdout=subprocess.PIPE, check=True)
         for line in ran.stdout.decode().split("\n"):
             if line:
-                node = json.loads(line)["tree"]
+                node = varied(json.loads(line)["tree"], rng)
                 node = {"Expr": {"span": NOWHERE, "expr": node}} if root == "Expr" else node
                 body.extend(restricted([node], "body", departs))
         count -= some

@@ -1,21 +1,23 @@
 -- What is written of an expression, whatever its variant, is what it reads as.
-use Rattle.std.proofs.Common.{◌≡◌, Bool, true, false, [], refl, ap, ◌∙◌, subst}
+use Rattle.std.proofs.Common.{◌≡◌, Bool, true, false, cond, ◌&&◌, [], codes, refl, sym, ap, ◌∙◌, subst}
 use Rattle.swc_ecma_codegen_common.specs.declared.positions.Span.{Span}
 use Rattle.swc_ecma_codegen_tree.specs.declared.exprs.Expr.{Expr}
 use Rattle.swc_ecma_codegen_tree.specs.declared.exprs.Expr.TheVariants as exprs
 use Rattle.swc_ecma_codegen_spans.specs.Spans.{expr_span}
-use Rattle.swc_ecma_codegen_ast.specs.Phrases.{Phrase}
+use Rattle.swc_ecma_codegen_ast.specs.Phrases.{Phrase, ◌>◌, mark}
 use Rattle.swc_ecma_codegen_ast.specs.ExprPhrases as lists
+use Rattle.swc_ecma_codegen_ast.specs.TreePhrases.{is_sequence, field_value}
 use Rattle.swc_ecma_codegen_ast.specs.declared.roles.Role.{Role}
 use Rattle.swc_ecma_codegen_ast.specs.declared.roles.Role.TheVariants.{Template}
 use Rattle.swc_ecma_codegen_base.specs.Run.{Env}
 use Rattle.swc_ecma_codegen_base.specs.Words.{trailing_comments}
 use Rattle.swc_ecma_codegen_base.proofs.Printed.{writes_if, writes_nothing, writes_trailing, Fills}
-use Rattle.swc_ecma_codegen_base.proofs.Phrased.{Prints, before, prints_never}
+use Rattle.swc_ecma_codegen_base.proofs.Phrased.{Prints, then, before, prints_never, prints_punct}
 use Rattle.swc_ecma_codegen.specs.declared.nodes.Place.{Place}
-use Rattle.swc_ecma_codegen.specs.declared.nodes.Place.TheVariants.{Plain}
+use Rattle.swc_ecma_codegen.specs.declared.nodes.Place.TheVariants.{Plain, FieldValue}
 use Rattle.swc_ecma_codegen.specs.Answers.{place_of}
 use Rattle.swc_ecma_codegen.specs.AnyExpr as words
+use Rattle.swc_ecma_codegen.specs.AnyExpr.{is_field_value}
 use Rattle.swc_ecma_codegen.specs.Calls as calls
 use Rattle.swc_ecma_codegen.proofs.FunctionExprParts.{fn_expr_prints, arrow_expr_prints, class_expr_prints}
 use Rattle.swc_ecma_codegen.proofs.CallParts.{array_lit_prints, call_prints, new_prints}
@@ -23,6 +25,7 @@ use Rattle.swc_ecma_codegen.proofs.TemplateParts.{tagged_tpl_prints}
 use Rattle.swc_ecma_codegen.proofs.PropParts.{object_lit_prints}
 use Rattle.swc_ecma_codegen.proofs.ExprParts.{this_prints, unary_prints, update_prints, bin_prints, assign_prints, member_prints, super_prop_expr_prints, cond_prints, seq_prints, ident_prints, lit_prints, yield_prints, meta_prop_expr_prints, await_prints, paren_prints, private_name_prints, opt_chain_prints}
 use Rattle.swc_ecma_codegen.proofs.Linked.{Linked}
+use Rattle.swc_ecma_codegen.proofs.MarkWords as marks
 
 writes_closed : (env : Env) (left : Bool) (span : Span) → Fills env (words.expr_closed left span)
 unfolding words.expr_closed
@@ -78,3 +81,29 @@ pub callee_expr_prints : {X : Type 0} (l : Linked X) (n : Expr X) (place : Place
 callee_expr_prints l n place h =
     let P : Phrase → Type 0 = λ f. Prints l.env (words.expr l.asks l.items n place) f in
     subst P (ap (λ b. lists.expr_in l.reads b n) h) (expr_prints l n place)
+
+-- ---- where it stands
+
+and_none : (b : Bool) → (b && false) ≡ false
+and_none true = refl
+and_none false = refl
+
+not_wrapped : {X : Type 0} (n : Expr X) (place : Place) → is_field_value place ≡ false → words.is_wrapped n place ≡ false
+unfolding words.is_wrapped
+not_wrapped n place h = ap (λ b. is_sequence n && b) h ∙ and_none (is_sequence n)
+
+-- elsewhere it has no parentheses of its own
+pub unwrapped_prints : {X : Type 0} {f : Phrase} (l : Linked X) (n : Expr X) (place : Place) → is_field_value place ≡ false → Prints l.env (words.expr l.asks l.items n place) f → Prints l.env (words.placed_expr l.asks l.items n place) f
+unfolding words.placed_expr
+unwrapped_prints {f = f} l n place h p =
+    subst (λ b. Prints l.env (λ rest. cond b (words.wrapped l.asks l.items n rest) (words.expr l.asks l.items n place rest)) f) (sym (not_wrapped n place h)) p
+
+value_prints : {X : Type 0} (l : Linked X) (n : Expr X) (sequence : Bool) → Prints l.env (λ rest. cond (sequence && true) (words.wrapped l.asks l.items n rest) (words.expr l.asks l.items n FieldValue rest)) (cond sequence (mark (codes "(") > lists.expr l.reads n > mark (codes ")")) (lists.expr l.reads n))
+unfolding words.wrapped
+value_prints l n true = then (prints_punct l.env (codes "(") marks.left_parenthesis) (then (plain_expr_prints l n Plain refl) (prints_punct l.env (codes ")") marks.right_parenthesis))
+value_prints l n false = plain_expr_prints l n FieldValue refl
+
+-- the value of a field
+pub field_value_prints : {X : Type 0} (l : Linked X) (n : Expr X) → Prints l.env (words.placed_expr l.asks l.items n FieldValue) (field_value l.reads n)
+unfolding words.placed_expr words.is_wrapped is_field_value field_value
+field_value_prints l n = value_prints l n (is_sequence n)

@@ -4,9 +4,8 @@ use Rattle.swc_ecma_codegen_tree.specs.declared.links.AnyNode.{AnyNode, out-AnyN
 use Rattle.swc_ecma_codegen_tree.specs.declared.links.AnyNode.TheOpen as nodes
 use Rattle.swc_ecma_codegen_tree.specs.declared.links.AnyNode.TheVariants as whole
 use Rattle.swc_ecma_codegen_tree.specs.declared.links.AnyNode.TheViews.{out-roll-AnyNode}
-use Rattle.swc_ecma_codegen_tree.specs.declared.exprs.Expr.{Expr}
 use Rattle.swc_ecma_codegen_tree.specs.declared.stmts.Stmt.{Stmt}
-use Rattle.swc_ecma_codegen.specs.Branches.{is_block, is_sequence, node_block, any_block}
+use Rattle.swc_ecma_codegen.specs.Branches.{is_block, node_block, any_block}
 
 pub any_block_of : (n : AnyNode) → any_block n ≡ node_block (out-AnyNode n)
 unfolding any_block
@@ -15,7 +14,3 @@ any_block_of n = refl
 pub any_block_stmt : (n : Stmt AnyNode) → any_block (whole.Stmt n) ≡ is_block n
 unfolding any_block node_block
 any_block_stmt n = ap (λ z. node_block (out-AnyNode z)) (sym (whole.rolls-Stmt n)) ∙ ap node_block (out-roll-AnyNode (nodes.Stmt n))
-
-pub any_block_expr : (n : Expr AnyNode) → any_block (whole.Expr n) ≡ is_sequence n
-unfolding any_block node_block
-any_block_expr n = ap (λ z. node_block (out-AnyNode z)) (sym (whole.rolls-Expr n)) ∙ ap node_block (out-roll-AnyNode (nodes.Expr n))

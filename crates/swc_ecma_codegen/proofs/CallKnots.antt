@@ -17,6 +17,7 @@ use Rattle.swc_ecma_codegen_tree.specs.declared.parts.ExprPart.TheVariants as ex
 use Rattle.swc_ecma_codegen_spans.specs.Spans.{expr_span, option_span, expr_or_spread_span}
 use Rattle.swc_ecma_codegen_ast.specs.ElementPhrases.{last_is_hole}
 use Rattle.swc_ecma_codegen_ast.proofs.Mapped.{list_mapped, hole_mapped}
+use Rattle.swc_ecma_codegen_ast.specs.TreePhrases.{is_sequence}
 use Rattle.swc_ecma_codegen_base.specs.Lists.{ListChild, list}
 use Rattle.swc_ecma_codegen_base.specs.Run.{Plan, Part, refuse}
 use Rattle.swc_ecma_codegen_base.specs.Words.{keyword, punct, commit_pending_semi, start_of, end_of, leading_comments, trailing_comments}
@@ -56,11 +57,11 @@ elements_mapped g h asks items asked put none some same parent xs rest =
 -- ---- arrays, calls and `new`
 
 pub array_lit_mapped : {X Y : Type 0} (g : X → Y) (asks : Y → Answers) (items : Y → Place → Part) (n : ArrayLit X) (place : Place) (rest : Plan) → node_items asks items (map-AnyNode X Y g (nodes.Expr (exprs.Array n))) place rest ≡ expr (λ x. asks (g x)) (λ x. items (g x)) (exprs.Array n) place rest
-unfolding node_items expr words.expr_parts words.expr_closed expr_span words.leaves_comments array_lit expr_or_spread expr_or_spread_span
+unfolding node_items expr words.expr_parts words.expr_closed expr_span words.leaves_comments words.placed_expr words.is_wrapped is_sequence array_lit expr_or_spread expr_or_spread_span
 array_lit_mapped g asks items n place rest = ap (λ z. leading_comments n.span.lo (start_of n.span (punct (codes "[") z))) (elements_mapped _ _ asks items (λ x. asks (g x)) (λ x. items (g x)) refl (λ x. refl) (λ x. refl) n.span n.elems.items (punct (codes "]") (end_of n.span (trailing_comments true n.span.hi rest))))
 
 call_by : {X Y : Type 0} (g : X → Y) (asks : Y → Answers) (items : Y → Place → Part) (n : CallExpr X) (c : Callee X) (type_args : Option (TsTypeParamInstantiationBox X)) (place : Place) (rest : Plan) → node_items asks items (map-AnyNode X Y g (nodes.Expr (exprs.Call (record n { callee = c; type_args = type_args })))) place rest ≡ expr (λ x. asks (g x)) (λ x. items (g x)) (exprs.Call (record n { callee = c; type_args = type_args })) place rest
-unfolding node_items expr words.expr_parts words.expr_closed expr_span words.leaves_comments call_expr call_parts callee expr_or_spread expr_or_spread_span unsupported refuse
+unfolding node_items expr words.expr_parts words.expr_closed expr_span words.leaves_comments words.placed_expr words.is_wrapped is_sequence call_expr call_parts callee expr_or_spread expr_or_spread_span unsupported refuse
 call_by g asks items n (callees.Super c) None place rest = ap (λ z. commit_pending_semi (leading_comments n.span.lo (start_of n.span (super_keyword c z)))) (arguments_mapped _ asks items (λ x. asks (g x)) (λ x. items (g x)) (λ x. refl) call_format n.span n.args.items (trailing_comments true n.span.hi rest))
 call_by g asks items n (callees.Import c) None place rest = ap (λ z. commit_pending_semi (leading_comments n.span.lo (start_of n.span (import_callee c z)))) (arguments_mapped _ asks items (λ x. asks (g x)) (λ x. items (g x)) (λ x. refl) call_format n.span n.args.items (trailing_comments true n.span.hi rest))
 call_by g asks items n (callees.Expr c) None place rest = ap (λ z. commit_pending_semi (leading_comments n.span.lo (start_of n.span (items (g c.node.value) places.Callee z)))) (arguments_mapped _ asks items (λ x. asks (g x)) (λ x. items (g x)) (λ x. refl) call_format n.span n.args.items (trailing_comments true n.span.hi rest))
@@ -78,7 +79,7 @@ listed_arguments_mapped g asks items asked put same parent false (x ∷ xs) rest
 listed_arguments_mapped g asks items asked put same parent true xs rest = arguments_mapped g asks items asked put same new_format parent xs rest
 
 new_by : {X Y : Type 0} (g : X → Y) (asks : Y → Answers) (items : Y → Place → Part) (n : NewExpr X) (args : Option (Vec (ExprOrSpread X) Global)) (type_args : Option (TsTypeParamInstantiationBox X)) (place : Place) (rest : Plan) → node_items asks items (map-AnyNode X Y g (nodes.Expr (exprs.New (record n { args = args; type_args = type_args })))) place rest ≡ expr (λ x. asks (g x)) (λ x. items (g x)) (exprs.New (record n { args = args; type_args = type_args })) place rest
-unfolding node_items expr words.expr_parts words.expr_closed expr_span words.leaves_comments new_expr new_parts new_arguments expr_or_spread expr_or_spread_span unsupported refuse
+unfolding node_items expr words.expr_parts words.expr_closed expr_span words.leaves_comments words.placed_expr words.is_wrapped is_sequence new_expr new_parts new_arguments expr_or_spread expr_or_spread_span unsupported refuse
 new_by g asks items n None None place rest = refl
 new_by g asks items n (Some args) None place rest =
     ap (λ z. commit_pending_semi (leading_comments n.span.lo (start_of n.span (keyword None (codes "new") (new_gap (asks (g n.callee.node.value)).starts (items (g n.callee.node.value) places.Plain z))))))

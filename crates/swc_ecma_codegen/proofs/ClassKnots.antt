@@ -28,7 +28,7 @@ use Rattle.swc_ecma_codegen_base.specs.Words.{keyword, punct, space, formatting_
 use Rattle.swc_ecma_codegen.specs.declared.nodes.Place.{Place}
 use Rattle.swc_ecma_codegen.specs.declared.nodes.Place.TheVariants.{Plain, ClassHead}
 use Rattle.swc_ecma_codegen.specs.Answers.{Answers}
-use Rattle.swc_ecma_codegen.specs.Classes.{class_members_format, heritage, class_trailing, class_tail, class, constructor_param, constructor_param_place, constructor_body, constructor_tail, constructor_word, constructor_parts, class_constructor, method_word, method_kind, class_method_parts, class_method, private_kind, private_method_parts, private_method, wrapped, prop_value, class_prop_parts, class_prop, private_prop_tail, private_prop_parts, private_prop, accessor_key, accessor_tail, auto_accessor_parts, auto_accessor, static_block, class_member}
+use Rattle.swc_ecma_codegen.specs.Classes.{class_members_format, heritage, class_trailing, class_tail, class, constructor_param, constructor_param_place, constructor_body, constructor_tail, constructor_word, constructor_parts, class_constructor, method_word, method_kind, class_method_parts, class_method, private_kind, private_method_parts, private_method, prop_value, class_prop_parts, class_prop, private_prop_tail, private_prop_parts, private_prop, accessor_key, accessor_tail, auto_accessor_parts, auto_accessor, static_block, class_member}
 use Rattle.swc_ecma_codegen.specs.Exprs.{blank}
 use Rattle.swc_ecma_codegen.specs.FunctionExprs.{comma_list_format}
 use Rattle.swc_ecma_codegen.specs.Functions.{decorator, decorator_lines, decorators_format, decorator_place, param}
@@ -101,8 +101,8 @@ private_method_by g asks items b n Setter place rest = refl
 prop_same : {X Y : Type 0} (g : Decorator X → Decorator Y) (items : Y → Place → Part) (put : X → Place → Part) → ((d : Decorator X) → decorator items (g d) ≡ decorator put d) → (n : ClassProp X) (typed : Bool) (after rest : Plan) → cond typed (unsupported rest) (leading_comments n.span.lo (start_of n.span (decorator_lines items (map g n.decorators.items) after))) ≡ cond typed (unsupported rest) (leading_comments n.span.lo (start_of n.span (decorator_lines put n.decorators.items after)))
 prop_same g items put same n typed after rest = ap (λ z. cond typed (unsupported rest) (leading_comments n.span.lo (start_of n.span z))) (decorators_mapped g items put same n.decorators.items after)
 
-prop_by : {X Y : Type 0} (g : X → Y) (asks : Y → Answers) (items : Y → Place → Part) (b : Box (class_members.ClassMember X) Global) (n : ClassProp X) (type_ann : Option (TsTypeAnnBox X)) (value : Option (ExprBox X)) (place : Place) (rest : Plan) → node_items asks items (map-AnyNode X Y g (as_member b (members.ClassProp (record n { type_ann = type_ann; value = value })))) place rest ≡ class_prop (λ x. asks (g x)) (λ x. items (g x)) (record n { type_ann = type_ann; value = value }) rest
-unfolding node_items stmt_part class_member class_prop class_prop_parts prop_value wrapped decorator
+prop_by : {X Y : Type 0} (g : X → Y) (asks : Y → Answers) (items : Y → Place → Part) (b : Box (class_members.ClassMember X) Global) (n : ClassProp X) (type_ann : Option (TsTypeAnnBox X)) (value : Option (ExprBox X)) (place : Place) (rest : Plan) → node_items asks items (map-AnyNode X Y g (as_member b (members.ClassProp (record n { type_ann = type_ann; value = value })))) place rest ≡ class_prop (λ x. items (g x)) (record n { type_ann = type_ann; value = value }) rest
+unfolding node_items stmt_part class_member class_prop class_prop_parts prop_value decorator
 prop_by g asks items b n None None place rest = prop_same _ items (λ x. items (g x)) (λ d. refl) n _ _ rest
 prop_by g asks items b n None (Some v) place rest = prop_same _ items (λ x. items (g x)) (λ d. refl) n _ _ rest
 prop_by g asks items b n (Some t) None place rest = refl
@@ -111,8 +111,8 @@ prop_by g asks items b n (Some t) (Some v) place rest = refl
 private_prop_same : {X : Type 0} (n : PrivateProp X) (typed : Bool) (cs ds : List ListChild) (after rest : Plan) → cs ≡ ds → cond typed (unsupported rest) (leading_comments n.span.lo (start_of n.span (list decorators_format n.span cs after))) ≡ cond typed (unsupported rest) (leading_comments n.span.lo (start_of n.span (list decorators_format n.span ds after)))
 private_prop_same n typed cs ds after rest e = ap (λ z. cond typed (unsupported rest) (leading_comments n.span.lo (start_of n.span (list decorators_format n.span z after)))) e
 
-private_prop_by : {X Y : Type 0} (g : X → Y) (asks : Y → Answers) (items : Y → Place → Part) (b : Box (class_members.ClassMember X) Global) (n : PrivateProp X) (type_ann : Option (TsTypeAnnBox X)) (value : Option (ExprBox X)) (place : Place) (rest : Plan) → node_items asks items (map-AnyNode X Y g (as_member b (members.PrivateProp (record n { type_ann = type_ann; value = value })))) place rest ≡ private_prop (λ x. asks (g x)) (λ x. items (g x)) (record n { type_ann = type_ann; value = value }) rest
-unfolding node_items stmt_part class_member private_prop private_prop_parts private_prop_tail prop_value wrapped decorator
+private_prop_by : {X Y : Type 0} (g : X → Y) (asks : Y → Answers) (items : Y → Place → Part) (b : Box (class_members.ClassMember X) Global) (n : PrivateProp X) (type_ann : Option (TsTypeAnnBox X)) (value : Option (ExprBox X)) (place : Place) (rest : Plan) → node_items asks items (map-AnyNode X Y g (as_member b (members.PrivateProp (record n { type_ann = type_ann; value = value })))) place rest ≡ private_prop (λ x. items (g x)) (record n { type_ann = type_ann; value = value }) rest
+unfolding node_items stmt_part class_member private_prop private_prop_parts private_prop_tail prop_value decorator
 private_prop_by {X} g asks items b n None None place rest = private_prop_same n _ _ _ _ rest (list_mapped {A = Decorator X} _ _ (child_of decorator_place (λ d place. decorator (λ x. items (g x)) d)) (λ d. refl) n.decorators.items)
 private_prop_by {X} g asks items b n None (Some v) place rest = private_prop_same n _ _ _ _ rest (list_mapped {A = Decorator X} _ _ (child_of decorator_place (λ d place. decorator (λ x. items (g x)) d)) (λ d. refl) n.decorators.items)
 private_prop_by g asks items b n (Some t) None place rest = refl

@@ -1,6 +1,6 @@
 -- What is written of classes is what they read as.
 use Rattle.std.proofs.Common.{Bool, true, false, cond, ◌||◌, is_some, List, map, codes, Option, Some, None, refl}
-use Rattle.swc_ecma_codegen_tree.specs.Links.{BlockStmtBox, ClassMemberBox, ExprBox}
+use Rattle.swc_ecma_codegen_tree.specs.Links.{BlockStmtBox, ClassMemberBox, ExprBox, FunctionBox}
 use Rattle.swc_ecma_codegen_tree.specs.declared.classes.Class as class_nodes
 use Rattle.swc_ecma_codegen_tree.specs.declared.classes.ClassMember as class_members
 use Rattle.swc_ecma_codegen_tree.specs.declared.classes.ClassMember.TheVariants as members
@@ -25,18 +25,17 @@ use Rattle.swc_ecma_codegen_ast.specs.FunctionPhrases.{word_if}
 use Rattle.swc_ecma_codegen_ast.specs.FunctionPhrases as function_lists
 use Rattle.swc_ecma_codegen_ast.specs.Phrases as phrases
 use Rattle.swc_ecma_codegen_ast.specs.Phrases.{◌>◌, mark, word}
-use Rattle.swc_ecma_codegen_ast.specs.declared.roles.Role.TheVariants.{ClassHead as HeadOfClass, ClassTail, Member, MethodHead as HeadOfMethod, MethodDecorators as DecoratorsOfMethod, MethodTail as TailOfMethod, PrivateTail as TailOfPrivate}
-use Rattle.swc_ecma_codegen_base.specs.Choices.{optional_parentheses}
+use Rattle.swc_ecma_codegen_ast.specs.declared.roles.Role.TheVariants.{ClassHead as HeadOfClass, ClassTail, Member, MethodHead as HeadOfMethod, MethodDecorators as DecoratorsOfMethod, MethodTail as TailOfMethod, AccessorTail as TailOfAccessor, FieldValue as ValueOfField}
 use Rattle.swc_ecma_codegen_base.specs.Run.{Env}
 use Rattle.swc_ecma_codegen_base.specs.Words.{keyword, punct, last_of}
 use Rattle.swc_ecma_codegen_base.proofs.ListLaws.{IsUndelimited, prints_list, prints_in_order, prints_bracketed_in_order}
-use Rattle.swc_ecma_codegen_base.proofs.Choices.{prints_optional_parentheses}
 use Rattle.swc_ecma_codegen_base.proofs.Phrased.{Prints, PrintsAt, prints_wider, joined_then, then, after, before, prints_nothing, prints_never, prints_keyword, prints_punct, prints_semi}
 use Rattle.swc_ecma_codegen_base.proofs.Printed.{makes_wider, writes_nothing, writes_space, writes_formatting_space, writes_position, writes_position_before, writes_leading}
 use Rattle.swc_ecma_codegen_base.proofs.Shapes.{open_, ended_if_any, closed, loose, joining_if_any}
 use Rattle.swc_ecma_codegen.specs.declared.nodes.Place.{Place}
-use Rattle.swc_ecma_codegen.specs.declared.nodes.Place.TheVariants.{Plain, MethodHead, StaticHead}
+use Rattle.swc_ecma_codegen.specs.declared.nodes.Place.TheVariants.{Plain, MethodHead, StaticHead, MethodTail}
 use Rattle.swc_ecma_codegen.specs.Classes as words
+use Rattle.swc_ecma_codegen.specs.Places.{behind_key}
 use Rattle.swc_ecma_codegen.specs.FunctionExprs.{comma_list_format}
 use Rattle.swc_ecma_codegen.specs.Functions.{decorators_format, decorator, decorator_lines, decorator_place}
 use Rattle.swc_ecma_codegen.proofs.ExprParts.{ident_prints, private_name_prints, writes_blank}
@@ -95,9 +94,9 @@ unfolding words.constructor_param lists.constructor_param
 constructor_param_prints l (params.Param n) = param_prints l n
 constructor_param_prints l (params.TsParamProp n) = prints_never
 
-constructor_body_prints : {X : Type 0} (l : Linked X) (body : Option (BlockStmtBox X)) → Prints l.env (words.constructor_body l.items body) (lists.method_body l.reads body)
-unfolding words.constructor_body lists.method_body
-constructor_body_prints l None = prints_punct l.env (codes ";") marks.semicolon
+constructor_body_prints : {X : Type 0} (l : Linked X) (body : Option (BlockStmtBox X)) → Prints l.env (words.constructor_body l.items body) (function_lists.function_body l.reads body)
+unfolding words.constructor_body function_lists.function_body
+constructor_body_prints l None = prints_semi l.env
 constructor_body_prints l (Some n) = block_at l n Plain
 
 constructor_prints : {X : Type 0} (l : Linked X) (n : Constructor X) → Prints l.env (words.class_constructor l.asks l.items n) (lists.class_constructor l.reads n)
@@ -134,6 +133,12 @@ kind_prints l n Method = word_prints l n n.is_static
 kind_prints l n Getter = prints_wider joining_if_any refl (then (static_prints l.env n.is_static) (get_prints l.env (l.asks n.key.node.value).starts))
 kind_prints l n Setter = prints_wider joining_if_any refl (then (static_prints l.env n.is_static) (set_prints l.env (l.asks n.key.node.value).starts))
 
+tail_prints : {X : Type 0} (l : Linked X) (n : FunctionBox X) (place : Place) (kind : MethodKind) → Prints l.env (l.items n.node.value (behind_key place)) (l.reads n.node.value (lists.tail_role kind))
+unfolding lists.tail_role
+tail_prints l n place Method = l.law n.node.value place TailOfMethod
+tail_prints l n place Getter = l.law n.node.value place TailOfAccessor
+tail_prints l n place Setter = l.law n.node.value place TailOfAccessor
+
 method_prints : {X : Type 0} (l : Linked X) (n : ClassMethod X) → Prints l.env (words.class_method l.asks l.items n) (lists.class_method l.reads n)
 unfolding words.class_method words.class_method_parts lists.class_method lists.method_kind
 method_prints l n = refused_or (is_some n.accessibility || (n.is_abstract || (n.is_optional || n.is_override)))
@@ -141,7 +146,7 @@ method_prints l n = refused_or (is_some n.accessibility || (n.is_abstract || (n.
     (after (writes_leading l.env (l.asks n.key.node.value).place.lo)
     (after (writes_position l.env n.span.lo)
     (then (l.law n.function.node.value Plain DecoratorsOfMethod)
-    (then (kind_prints l n n.kind) (then (prop_name_at l n.key) (l.law n.function.node.value Plain TailOfMethod)))))))
+    (then (kind_prints l n n.kind) (then (prop_name_at l n.key) (tail_prints l n.function MethodTail n.kind)))))))
 
 private_kind_prints : {X : Type 0} (l : Linked X) (n : PrivateMethod X) (kind : MethodKind) → PrintsAt joining_if_any l.env (words.private_kind l.items kind n) (lists.kind_head l.reads kind n.function)
 unfolding words.private_kind lists.kind_head
@@ -155,18 +160,18 @@ private_method_prints l n = refused_or (is_some n.accessibility || (n.is_abstrac
     (after (writes_leading l.env n.span.lo)
     (after (writes_position l.env n.span.lo)
     (then (l.law n.function.node.value Plain DecoratorsOfMethod)
-    (then (then (static_prints l.env n.is_static) (private_kind_prints l n n.kind)) (then (private_name_prints l n.key) (l.law n.function.node.value Plain TailOfPrivate))))))
+    (then (then (static_prints l.env n.is_static) (private_kind_prints l n n.kind)) (then (private_name_prints l n.key) (tail_prints l n.function Plain n.kind))))))
 
-value_prints : {X : Type 0} (l : Linked X) (n : Option (ExprBox X)) → PrintsAt open_ l.env (words.prop_value l.asks l.items n) (lists.prop_value l.reads n)
-unfolding words.prop_value words.wrapped lists.prop_value optional_parentheses
+value_prints : {X : Type 0} (l : Linked X) (n : Option (ExprBox X)) → PrintsAt open_ l.env (words.prop_value l.items n) (lists.prop_value l.reads n)
+unfolding words.prop_value lists.prop_value
 value_prints l None = prints_nothing
 value_prints l (Some n) =
     prints_wider open_ refl
     (after (writes_formatting_space l.env)
     (then (prints_punct l.env (codes "=") marks.equal)
-    (after (writes_formatting_space l.env) (prints_optional_parentheses (l.asks n.node.value).block (expr_at l n Plain)))))
+    (after (writes_formatting_space l.env) (l.law n.node.value Plain ValueOfField))))
 
-prop_prints : {X : Type 0} (l : Linked X) (n : ClassProp X) → Prints l.env (words.class_prop l.asks l.items n) (lists.class_prop l.reads n)
+prop_prints : {X : Type 0} (l : Linked X) (n : ClassProp X) → Prints l.env (words.class_prop l.items n) (lists.class_prop l.reads n)
 unfolding words.class_prop words.class_prop_parts lists.class_prop
 prop_prints l n = refused_or (is_typed_prop n)
     (after (writes_leading l.env n.span.lo)
@@ -176,7 +181,7 @@ prop_prints l n = refused_or (is_typed_prop n)
     (then (prop_name_at l n.key)
     (then (value_prints l n.value) (before (prints_semi l.env) (writes_position l.env n.span.hi))))))))
 
-private_prop_prints : {X : Type 0} (l : Linked X) (n : PrivateProp X) → PrintsAt closed l.env (words.private_prop l.asks l.items n) (lists.private_prop l.reads n)
+private_prop_prints : {X : Type 0} (l : Linked X) (n : PrivateProp X) → PrintsAt closed l.env (words.private_prop l.items n) (lists.private_prop l.reads n)
 unfolding words.private_prop words.private_prop_parts words.private_prop_tail lists.private_prop lists.decorators
 private_prop_prints l n = refused_or (is_typed_private n)
     (after (writes_leading l.env n.span.lo)

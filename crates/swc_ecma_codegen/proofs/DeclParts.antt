@@ -124,5 +124,5 @@ unfolding words.decl words.without_head words.by_export words.variables words.re
 exported_tail_prints l (decls.Class n) = exported_class_prints l n
 exported_tail_prints l (decls.Fn n) = fn_decl_prints l n
 exported_tail_prints l (decls.Var n) = then (var_decl_prints l n) (before (prints_semi l.env) (writes_position l.env n.span.hi))
-exported_tail_prints l (decls.Using n) = prints_never
+exported_tail_prints l (decls.Using n) = then (using_decl_prints l n) (prints_semi l.env)
 exported_tail_prints l n = prints_never

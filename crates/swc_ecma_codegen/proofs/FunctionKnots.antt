@@ -17,19 +17,20 @@ use Rattle.swc_ecma_codegen_tree.specs.declared.stmts.Stmt.{Stmt}
 use Rattle.swc_ecma_codegen_spans.specs.Spans.{expr_span, stmt_span, node_span}
 use Rattle.swc_ecma_codegen_ast.proofs.Mapped.{list_mapped}
 use Rattle.swc_ecma_codegen_ast.proofs.MappedFunctions.{some_mapped}
+use Rattle.swc_ecma_codegen_ast.specs.TreePhrases.{is_sequence}
 use Rattle.swc_ecma_codegen_base.specs.Run.{Plan, Part, refuse}
 use Rattle.swc_ecma_codegen_base.specs.Lists.{ListChild, list}
 use Rattle.swc_ecma_codegen_base.specs.Words.{by_maps, punct, leading_comments, start_of, end_of}
 use Rattle.swc_ecma_codegen.specs.declared.nodes.Place.{Place}
-use Rattle.swc_ecma_codegen.specs.declared.nodes.Place.TheVariants.{Plain, FunctionHead, MethodHead, DeclarationHead, StaticHead, MethodDecorators, MethodTail, PrivateTail}
+use Rattle.swc_ecma_codegen.specs.declared.nodes.Place.TheVariants.{Plain, FunctionHead, MethodHead, DeclarationHead, StaticHead, MethodDecorators, MethodTail}
 use Rattle.swc_ecma_codegen.specs.declared.patterns.PatternKind.{PatternKind}
 use Rattle.swc_ecma_codegen.specs.Answers.{Answers, place_of}
 use Rattle.swc_ecma_codegen.specs.Blocks.{block_lines, block_start, block_stmt}
-use Rattle.swc_ecma_codegen.specs.AnyExpr.{expr, expr_parts, expr_closed, leaves_comments}
+use Rattle.swc_ecma_codegen.specs.AnyExpr.{expr, expr_parts, expr_closed, leaves_comments, is_wrapped, placed_expr}
 use Rattle.swc_ecma_codegen.specs.Commented.{has_comment_after}
 use Rattle.swc_ecma_codegen_ast.specs.CommentMaps.{Maps}
 use Rattle.swc_ecma_codegen.specs.FunctionExprs.{comma_list_format, is_plain, is_name, is_only, async_arrow, star, has_comment_behind, arrow_within, arrow_parameters, arrow_body, arrow_parts, arrow_expr}
-use Rattle.swc_ecma_codegen.specs.Functions.{decorators_format, decorator, decorator_place, param, function_body, fn_trailing_parts, fn_trailing, function_head, declaration_head, method_head, static_head, decorator_lines, method_body, method_tail_parts, method_tail, private_tail, function}
+use Rattle.swc_ecma_codegen.specs.Functions.{decorators_format, decorator, decorator_place, param, function_body, fn_trailing_parts, fn_trailing, function_head, declaration_head, method_head, static_head, decorator_lines, method_body, method_tail_parts, method_tail, function}
 use Rattle.swc_ecma_codegen.specs.Lists.{child_of, in_order, unsupported}
 use Rattle.swc_ecma_codegen.specs.Parts.{expr_part, stmt_part}
 use Rattle.swc_ecma_codegen.specs.Stmts.{stmt}
@@ -54,8 +55,8 @@ with_parts n body type_params return_type = record n { body = body; type_params 
 
 trailing_mapped : {X Y : Type 0} (g : X → Y) (asks : Y → Answers) (items : Y → Place → Part) (b : Box (functions.Function X) Global) (n : functions.Function X) (body : Option (BlockStmtBox X)) (type_params : Option (TsTypeParamDeclBox X)) (return_type : Option (TsTypeAnnBox X)) (rest : Plan) → node_items asks items (map-AnyNode X Y g (nodes.StmtPart (stmt_parts.Function (record b { value = with_parts n body type_params return_type })))) Plain rest ≡ fn_trailing (λ x. asks (g x)) (λ x. items (g x)) (with_parts n body type_params return_type) rest
 unfolding node_items expr_part stmt_part function fn_trailing fn_trailing_parts function_body param decorator unsupported refuse
-trailing_mapped {X} {Y} g asks items b n None None None rest = either_same _ _ _ _ _ (some_mapped _ n.decorators.items) (ap (λ z. punct (codes "(") z) (children_mapped {A = Param X} _ _ _ (λ p. param_same p.span _ _ _ _ (list_mapped {A = Decorator X} _ _ (child_of decorator_place (λ d place. decorator (λ x. items (g x)) d)) (λ d. refl) p.decorators.items) (pat_mapped g asks items p.pat Plain)) comma_list_format n.span n.params.items _))
-trailing_mapped {X} {Y} g asks items b n (Some body) None None rest = either_same _ _ _ _ _ (some_mapped _ n.decorators.items) (ap (λ z. punct (codes "(") z) (children_mapped {A = Param X} _ _ _ (λ p. param_same p.span _ _ _ _ (list_mapped {A = Decorator X} _ _ (child_of decorator_place (λ d place. decorator (λ x. items (g x)) d)) (λ d. refl) p.decorators.items) (pat_mapped g asks items p.pat Plain)) comma_list_format n.span n.params.items _))
+trailing_mapped {X} {Y} g asks items b n None None None rest = ap (λ z. punct (codes "(") z) (children_mapped {A = Param X} _ _ _ (λ p. param_same p.span _ _ _ _ (list_mapped {A = Decorator X} _ _ (child_of decorator_place (λ d place. decorator (λ x. items (g x)) d)) (λ d. refl) p.decorators.items) (pat_mapped g asks items p.pat Plain)) comma_list_format n.span n.params.items _)
+trailing_mapped {X} {Y} g asks items b n (Some body) None None rest = ap (λ z. punct (codes "(") z) (children_mapped {A = Param X} _ _ _ (λ p. param_same p.span _ _ _ _ (list_mapped {A = Decorator X} _ _ (child_of decorator_place (λ d place. decorator (λ x. items (g x)) d)) (λ d. refl) p.decorators.items) (pat_mapped g asks items p.pat Plain)) comma_list_format n.span n.params.items _)
 trailing_mapped g asks items b n None None (Some t) rest = refl
 trailing_mapped g asks items b n None (Some p) t rest = refl
 trailing_mapped g asks items b n (Some body) None (Some t) rest = refl
@@ -78,15 +79,6 @@ tail_mapped g asks items b n None (Some p) t rest = refl
 tail_mapped g asks items b n (Some body) None (Some t) rest = refl
 tail_mapped g asks items b n (Some body) (Some p) t rest = refl
 
-private_tail_mapped : {X Y : Type 0} (g : X → Y) (asks : Y → Answers) (items : Y → Place → Part) (b : Box (functions.Function X) Global) (n : functions.Function X) (body : Option (BlockStmtBox X)) (type_params : Option (TsTypeParamDeclBox X)) (return_type : Option (TsTypeAnnBox X)) (rest : Plan) → node_items asks items (map-AnyNode X Y g (nodes.StmtPart (stmt_parts.Function (record b { value = with_parts n body type_params return_type })))) PrivateTail rest ≡ private_tail (λ x. asks (g x)) (λ x. items (g x)) (with_parts n body type_params return_type) rest
-unfolding node_items expr_part stmt_part function private_tail fn_trailing_parts function_body param decorator unsupported refuse
-private_tail_mapped {X} {Y} g asks items b n None None None rest = ap (λ z. punct (codes "(") z) (children_mapped {A = Param X} _ _ _ (λ p. param_same p.span _ _ _ _ (list_mapped {A = Decorator X} _ _ (child_of decorator_place (λ d place. decorator (λ x. items (g x)) d)) (λ d. refl) p.decorators.items) (pat_mapped g asks items p.pat Plain)) comma_list_format n.span n.params.items _)
-private_tail_mapped {X} {Y} g asks items b n (Some body) None None rest = ap (λ z. punct (codes "(") z) (children_mapped {A = Param X} _ _ _ (λ p. param_same p.span _ _ _ _ (list_mapped {A = Decorator X} _ _ (child_of decorator_place (λ d place. decorator (λ x. items (g x)) d)) (λ d. refl) p.decorators.items) (pat_mapped g asks items p.pat Plain)) comma_list_format n.span n.params.items _)
-private_tail_mapped g asks items b n None None (Some t) rest = refl
-private_tail_mapped g asks items b n None (Some p) t rest = refl
-private_tail_mapped g asks items b n (Some body) None (Some t) rest = refl
-private_tail_mapped g asks items b n (Some body) (Some p) t rest = refl
-
 method_decorators_mapped : {X Y : Type 0} (g : X → Y) (asks : Y → Answers) (items : Y → Place → Part) (b : Box (functions.Function X) Global) (rest : Plan) → node_items asks items (map-AnyNode X Y g (nodes.StmtPart (stmt_parts.Function b))) MethodDecorators rest ≡ decorator_lines (λ x. items (g x)) b.value.decorators.items rest
 unfolding node_items stmt_part function decorator
 method_decorators_mapped g asks items b rest = decorators_mapped _ items (λ x. items (g x)) (λ d. refl) b.value.decorators.items rest
@@ -99,7 +91,6 @@ function_mapped g asks items b DeclarationHead rest = refl
 function_mapped g asks items b (StaticHead starts) rest = refl
 function_mapped g asks items b MethodDecorators rest = method_decorators_mapped g asks items b rest
 function_mapped g asks items b MethodTail rest = tail_mapped g asks items b b.value b.value.body b.value.type_params b.value.return_type rest
-function_mapped g asks items b PrivateTail rest = private_tail_mapped g asks items b b.value b.value.body b.value.type_params b.value.return_type rest
 function_mapped g asks items b place rest = trailing_mapped g asks items b b.value b.value.body b.value.type_params b.value.return_type rest
 
 -- ---- blocks
@@ -137,7 +128,7 @@ arrow_same : {X : Type 0} (n : ArrowExpr X) (named other : Bool) (plain bare : B
 arrow_same n named other plain bare behind beyond cs ds after e k b h = ap (λ z. head_of n z (params_of n plain behind cs after)) e ∙ ap (λ z. head_of n other (params_of n z behind cs after)) k ∙ ap (λ z. head_of n other (params_of n bare z cs after)) b ∙ ap (λ z. head_of n other (params_of n bare beyond z after)) h
 
 arrow_mapped : {X Y : Type 0} (g : X → Y) (asks : Y → Answers) (items : Y → Place → Part) (b : Box (ArrowExpr X) Global) (n : ArrowExpr X) (body : BlockStmtOrExpr X) (type_params : Option (TsTypeParamDeclBox X)) (return_type : Option (TsTypeAnnBox X)) (place : Place) (rest : Plan) → node_items asks items (map-AnyNode X Y g (nodes.Expr (exprs.Arrow (record b { value = record n { body = body; type_params = type_params; return_type = return_type } })))) place rest ≡ expr (λ x. asks (g x)) (λ x. items (g x)) (exprs.Arrow (record b { value = record n { body = body; type_params = type_params; return_type = return_type } })) place rest
-unfolding node_items expr expr_parts expr_closed expr_span leaves_comments arrow_expr arrow_parts arrow_parameters arrow_body unsupported refuse
+unfolding node_items expr expr_parts expr_closed expr_span leaves_comments placed_expr is_wrapped is_sequence arrow_expr arrow_parts arrow_parameters arrow_body unsupported refuse
 arrow_mapped {X} g asks items b n (bodies.BlockStmt m) None None place rest = arrow_same n _ _ _ _ _ _ _ _ _ (only_mapped _ is_name asks (λ x. asks (g x)) (λ p. refl) n.params.items) (only_mapped _ is_plain asks (λ x. asks (g x)) (λ p. refl) n.params.items) (behind_mapped _ asks (λ x. asks (g x)) (λ p. refl) n.params.items) (list_mapped {A = PatBox X} _ _ (child_of (λ p. (asks (g p.node.value)).place) (λ p place. items (g p.node.value) place)) (λ p. refl) n.params.items)
 arrow_mapped {X} g asks items b n (bodies.Expr m) None None place rest = arrow_same n _ _ _ _ _ _ _ _ _ (only_mapped _ is_name asks (λ x. asks (g x)) (λ p. refl) n.params.items) (only_mapped _ is_plain asks (λ x. asks (g x)) (λ p. refl) n.params.items) (behind_mapped _ asks (λ x. asks (g x)) (λ p. refl) n.params.items) (list_mapped {A = PatBox X} _ _ (child_of (λ p. (asks (g p.node.value)).place) (λ p place. items (g p.node.value) place)) (λ p. refl) n.params.items)
 arrow_mapped g asks items b n body None (Some t) place rest = refl

@@ -1,10 +1,10 @@
 -- What is written of functions and blocks is what it reads as.
-use Rattle.std.proofs.Common.{refl, Bool, true, false, ◌||◌, is_some, List, [], map, codes, Option, Some, None}
+use Rattle.std.proofs.Common.{refl, Bool, true, false, cond, ◌||◌, is_some, List, [], map, codes, Option, Some, None}
 use Rattle.swc_ecma_codegen_tree.specs.Links.{BlockStmtBox}
 use Rattle.swc_ecma_codegen_tree.specs.declared.decls.Decorator.{Decorator}
 use Rattle.swc_ecma_codegen_tree.specs.declared.decls.Param.{Param}
 use Rattle.swc_ecma_codegen_tree.specs.declared.decls.Function as functions
-use Rattle.swc_ecma_codegen_ast.specs.Phrases.{Phrase, ◌>◌, mark, word}
+use Rattle.swc_ecma_codegen_ast.specs.Phrases.{Phrase, Never, ◌>◌, mark, word}
 use Rattle.swc_ecma_codegen_ast.specs.Phrases as phrases
 use Rattle.swc_ecma_codegen_ast.specs.ClassPhrases as classes
 use Rattle.swc_ecma_codegen_ast.specs.FunctionPhrases as lists
@@ -12,14 +12,15 @@ use Rattle.swc_ecma_codegen_ast.specs.FunctionPhrases.{is_some_listed}
 use Rattle.swc_ecma_codegen_base.specs.Run.{Env, Part}
 use Rattle.swc_ecma_codegen_base.specs.Words.{space, formatting_space, line_end, position}
 use Rattle.swc_ecma_codegen_base.proofs.ListLaws.{IsUndelimited, prints_list, prints_in_order}
-use Rattle.swc_ecma_codegen_base.proofs.Phrased.{Prints, then, after, before, prints_nothing, prints_keyword, prints_punct, prints_semi, PrintsAt, prints_wider, joined_then}
+use Rattle.swc_ecma_codegen_base.proofs.Phrased.{Prints, then, after, before, prints_nothing, prints_never, prints_keyword, prints_punct, prints_semi, PrintsAt, prints_wider, joined_then}
 use Rattle.swc_ecma_codegen_base.proofs.Printed.{writes_then, writes_if, writes_space, writes_formatting_space, writes_line, writes_position, writes_leading, Fills}
 use Rattle.swc_ecma_codegen.specs.declared.nodes.Place.{Place}
-use Rattle.swc_ecma_codegen.specs.declared.nodes.Place.TheVariants.{Plain, Body, DeclarationHead, StaticHead}
-use Rattle.swc_ecma_codegen.specs.Places.{before_name, before_method}
+use Rattle.swc_ecma_codegen.specs.declared.nodes.Place.TheVariants.{Plain, Body, DeclarationHead, StaticHead, MethodTail}
+use Rattle.swc_ecma_codegen.specs.Places.{before_name, before_method, behind_key}
 use Rattle.swc_ecma_codegen.specs.Functions as words
 use Rattle.swc_ecma_codegen.specs.FunctionExprs.{comma_list_format}
 use Rattle.swc_ecma_codegen.specs.Functions.{decorators_format, decorator_place, param_place}
+use Rattle.swc_ecma_codegen.specs.Lists.{unsupported}
 use Rattle.swc_ecma_codegen.proofs.Impossible.{refused_or}
 use Rattle.swc_ecma_codegen.proofs.FunctionExprParts.{star_prints}
 use Rattle.swc_ecma_codegen.proofs.Linked.{Linked, expr_at, block_at}
@@ -64,9 +65,16 @@ trailing_prints l n =
     (then (prints_list l.env comma_list_format n.span param_place (words.param l.asks l.items) (lists.param l.reads) (λ p. prints_wider loose refl (param_prints l p)) refl refl refl refl n.params.items)
     (then (prints_punct l.env (codes ")") marks.right_parenthesis) (body_prints l n.body)))
 
+-- what TypeScript adds is refused; decorators are passed over, and no function that isn't a method's has any
+plain_or : {env : Env} {p : Part} {f : Phrase} (typed returns decorated : Bool) → Prints env p f → Prints env (λ rest. cond (typed || returns) (unsupported rest) (p rest)) (cond (typed || (returns || decorated)) Never f)
+plain_or true returns decorated h = prints_never
+plain_or false true decorated h = prints_never
+plain_or false false true h = prints_never
+plain_or false false false h = h
+
 pub fn_trailing_prints : {X : Type 0} (l : Linked X) (n : functions.Function X) → Prints l.env (words.fn_trailing l.asks l.items n) (lists.function l.reads n)
 unfolding words.fn_trailing lists.function
-fn_trailing_prints l n = refused_or (is_some n.type_params || (is_some n.return_type || is_some_listed n.decorators.items)) (trailing_prints l n)
+fn_trailing_prints l n = plain_or (is_some n.type_params) (is_some n.return_type) (is_some_listed n.decorators.items) (trailing_prints l n)
 
 async_prints : (env : Env) (wanted : Bool) → PrintsAt open_ env (words.async_word wanted) (lists.word_if wanted (word (codes "async")))
 unfolding words.async_word lists.word_if
@@ -130,22 +138,37 @@ pub method_decorators_print : {X : Type 0} (l : Linked X) (n : functions.Functio
 unfolding classes.method_decorators
 method_decorators_print l n = decorators_print l n.decorators.items
 
-method_body_prints : {X : Type 0} (l : Linked X) (body : Option (BlockStmtBox X)) → Prints l.env (words.method_body l.items body) (classes.method_body l.reads body)
-unfolding words.method_body classes.method_body
-method_body_prints l None = prints_punct l.env (codes ";") marks.semicolon
+method_body_prints : {X : Type 0} (l : Linked X) (body : Option (BlockStmtBox X)) → Prints l.env (words.method_body l.items body) (lists.function_body l.reads body)
+unfolding words.method_body lists.function_body
+method_body_prints l None = prints_semi l.env
 method_body_prints l (Some n) = after (writes_formatting_space l.env) (block_at l n Plain)
 
-method_trailing_prints : {X : Type 0} (l : Linked X) (n : functions.Function X) → Prints l.env (words.method_tail_parts l.asks l.items n) (mark (codes "(") > phrases.listed (codes ",") (map (lists.param l.reads) n.params.items) > mark (codes ")") > classes.method_body l.reads n.body)
+method_trailing_prints : {X : Type 0} (l : Linked X) (n : functions.Function X) → Prints l.env (words.method_tail_parts l.asks l.items n) (mark (codes "(") > phrases.listed (codes ",") (map (lists.param l.reads) n.params.items) > mark (codes ")") > lists.function_body l.reads n.body)
 unfolding words.method_tail_parts
 method_trailing_prints l n =
     then (prints_punct l.env (codes "(") marks.left_parenthesis)
     (then (prints_list l.env comma_list_format n.span param_place (words.param l.asks l.items) (lists.param l.reads) (λ p. prints_wider loose refl (param_prints l p)) refl refl refl refl n.params.items)
     (then (prints_punct l.env (codes ")") marks.right_parenthesis) (method_body_prints l n.body)))
 
-pub method_tail_prints : {X : Type 0} (l : Linked X) (n : functions.Function X) → Prints l.env (words.method_tail l.asks l.items n) (classes.method_tail l.reads n)
+plain_tail_prints : {X : Type 0} (l : Linked X) (n : functions.Function X) → Prints l.env (words.method_tail l.asks l.items n) (classes.method_tail l.reads n)
 unfolding words.method_tail classes.method_tail
-method_tail_prints l n = refused_or (is_some n.type_params || is_some n.return_type) (method_trailing_prints l n)
+plain_tail_prints l n = refused_or (is_some n.type_params || is_some n.return_type) (method_trailing_prints l n)
 
-pub private_tail_prints : {X : Type 0} (l : Linked X) (n : functions.Function X) → Prints l.env (words.private_tail l.asks l.items n) (classes.private_tail l.reads n)
-unfolding words.private_tail classes.private_tail
+private_tail_prints : {X : Type 0} (l : Linked X) (n : functions.Function X) → Prints l.env (words.fn_trailing l.asks l.items n) (classes.method_tail l.reads n)
+unfolding words.fn_trailing classes.method_tail
 private_tail_prints l n = refused_or (is_some n.type_params || is_some n.return_type) (trailing_prints l n)
+
+-- what of a method stands behind its key, private or not
+pub method_tail_prints : {X : Type 0} (l : Linked X) (n : functions.Function X) (place : Place) → Prints l.env (words.function l.asks l.items n (behind_key place)) (classes.method_tail l.reads n)
+unfolding words.function
+method_tail_prints l n MethodTail = plain_tail_prints l n
+method_tail_prints l n place = private_tail_prints l n
+
+never_or : {env : Env} {p : Part} {f : Phrase} (never : Bool) → Prints env p f → Prints env p (cond never Never f)
+never_or true h = prints_never
+never_or false h = h
+
+-- a getter and a setter are written as a method
+pub accessor_tail_prints : {X : Type 0} (l : Linked X) (n : functions.Function X) (place : Place) → Prints l.env (words.function l.asks l.items n (behind_key place)) (classes.accessor_tail l.reads n)
+unfolding classes.accessor_tail
+accessor_tail_prints l n place = never_or (n.is_async || n.is_generator) (method_tail_prints l n place)

@@ -1,5 +1,5 @@
 -- What is written of whole nodes.
-use Rattle.std.proofs.Common.{◌≡◌, List, [], ◌∷◌, Bool, true, false, map, refl, sym, ◌∙◌, ap, Option, Some, None}
+use Rattle.std.proofs.Common.{◌≡◌, List, [], ◌∷◌, Bool, true, false, cond, ◌&&◌, map, codes, refl, sym, ◌∙◌, ap, Option, Some, None}
 use Rattle.swc_ecma_codegen_tree.specs.declared.links.AnyNode.{AnyNode, AnyNode-F, map-AnyNode, roll-AnyNode, out-AnyNode}
 use Rattle.swc_ecma_codegen_tree.specs.declared.links.AnyNode.TheOpen as nodes
 use Rattle.swc_ecma_codegen_tree.specs.declared.links.AnyNode.TheViews.{roll-out-AnyNode}
@@ -20,6 +20,7 @@ use Rattle.swc_ecma_codegen_tree.specs.declared.exprs.OptChainExpr.{OptChainExpr
 use Rattle.swc_ecma_codegen_tree.specs.declared.exprs.OptChainBase.{OptChainBase}
 use Rattle.swc_ecma_codegen_tree.specs.declared.exprs.OptChainBase.TheVariants as chain_bases
 use Rattle.swc_ecma_codegen_tree.specs.declared.exprs.YieldExpr.{YieldExpr}
+use Rattle.swc_ecma_codegen_tree.specs.declared.exprs.SeqExpr.{SeqExpr}
 use Rattle.swc_ecma_codegen_tree.specs.declared.idents.Ident.{Ident}
 use Rattle.swc_ecma_codegen_tree.specs.declared.parts.ExprPart.{ExprPart}
 use Rattle.swc_ecma_codegen_tree.specs.declared.parts.ExprPart.TheVariants as expr_parts
@@ -30,14 +31,15 @@ use Rattle.swc_ecma_codegen_tree.specs.declared.pats.AssignTarget.TheVariants as
 use Rattle.swc_ecma_codegen_tree.specs.declared.pats.SimpleAssignTarget.{SimpleAssignTarget}
 use Rattle.swc_ecma_codegen_tree.specs.declared.pats.SimpleAssignTarget.TheVariants as simple_targets
 use Rattle.swc_ecma_codegen_spans.specs.Spans.{expr_span, fn_expr_span, class_expr_span}
+use Rattle.swc_ecma_codegen_ast.specs.TreePhrases.{is_sequence}
 use Rattle.swc_ecma_codegen_base.specs.Run.{Plan, Part, refuse}
-use Rattle.swc_ecma_codegen_base.specs.Words.{trailing_comments}
+use Rattle.swc_ecma_codegen_base.specs.Words.{punct, trailing_comments}
 use Rattle.swc_ecma_codegen.specs.declared.nodes.Place.{Place}
-use Rattle.swc_ecma_codegen.specs.declared.nodes.Place.TheVariants.{Plain, Chain}
+use Rattle.swc_ecma_codegen.specs.declared.nodes.Place.TheVariants.{Plain, Chain, FieldValue}
 use Rattle.swc_ecma_codegen.specs.Answers.{Answers, any_answers}
 use Rattle.swc_ecma_codegen.specs.Lists.{comma, listed, unsupported}
 use Rattle.swc_ecma_codegen.specs.Exprs.{this, unary, update, update_parts, bin, bin_operator, bin_trailing, member, member_at, member_prop, object_place, computed_prop_name, super_prop, super_prop_expr, chain_mark, chain_prop, chain_member, chain_base, opt_chain, meta_prop_expr, assign, yield_argument_in, yield_argument, yield_arg, yield_expr, await_expr, choice, seq, held, paren, ident, opened}
-use Rattle.swc_ecma_codegen.specs.AnyExpr.{expr_parts, expr_closed, leaves_comments, expr}
+use Rattle.swc_ecma_codegen.specs.AnyExpr.{expr_parts, expr_closed, leaves_comments, expr, is_field_value, is_wrapped, wrapped, placed_expr}
 use Rattle.swc_ecma_codegen.specs.FunctionExprs.{fn_expr, optional_name}
 use Rattle.swc_ecma_codegen.specs.ClassExprs.{class_expr}
 use Rattle.swc_ecma_codegen.specs.Names.{binding_ident}
@@ -75,23 +77,28 @@ member_mapped g asks items span obj n (Chain false) rest = refl
 member_mapped g asks items span obj n place rest = refl
 
 super_mapped : {X Y : Type 0} (g : X → Y) (asks : Y → Answers) (items : Y → Place → Part) (n : SuperPropExpr X) (prop : SuperProp X) (place : Place) (rest : Plan) → node_items asks items (map-AnyNode X Y g (nodes.Expr (exprs.SuperProp (record n { prop = prop })))) place rest ≡ expr (λ x. asks (g x)) (λ x. items (g x)) (exprs.SuperProp (record n { prop = prop })) place rest
-unfolding node_items expr expr_parts expr_closed expr_span leaves_comments super_prop_expr super_prop computed_prop_name
+unfolding node_items expr expr_parts expr_closed expr_span leaves_comments placed_expr is_wrapped is_sequence super_prop_expr super_prop computed_prop_name
 super_mapped g asks items n (super_props.Ident p) place rest = refl
 super_mapped g asks items n (super_props.Computed p) place rest = refl
 
 chain_mapped : {X Y : Type 0} (g : X → Y) (asks : Y → Answers) (items : Y → Place → Part) (n : OptChainExpr X) (base : OptChainBase X) (place : Place) (rest : Plan) → node_items asks items (map-AnyNode X Y g (nodes.Expr (exprs.OptChain (record n { base = base })))) place rest ≡ expr (λ x. asks (g x)) (λ x. items (g x)) (exprs.OptChain (record n { base = base })) place rest
-unfolding node_items expr expr_parts expr_closed expr_span leaves_comments opt_chain chain_base unsupported refuse
+unfolding node_items expr expr_parts expr_closed expr_span leaves_comments placed_expr is_wrapped is_sequence opt_chain chain_base unsupported refuse
 chain_mapped g asks items n (chain_bases.Member b) place rest = refl
 chain_mapped g asks items n (chain_bases.Call b) place rest = refl
 
 yield_mapped : {X Y : Type 0} (g : X → Y) (asks : Y → Answers) (items : Y → Place → Part) (n : YieldExpr X) (arg : Option (ExprBox X)) (place : Place) (rest : Plan) → node_items asks items (map-AnyNode X Y g (nodes.Expr (exprs.Yield (record n { arg = arg })))) place rest ≡ expr (λ x. asks (g x)) (λ x. items (g x)) (exprs.Yield (record n { arg = arg })) place rest
-unfolding node_items expr expr_parts expr_closed expr_span leaves_comments yield_expr yield_arg yield_argument yield_argument_in
+unfolding node_items expr expr_parts expr_closed expr_span leaves_comments placed_expr is_wrapped is_sequence yield_expr yield_arg yield_argument yield_argument_in
 yield_mapped g asks items n None place rest = refl
 yield_mapped g asks items n (Some x) place rest = refl
 
-expr_mapped : {X Y : Type 0} (g : X → Y) (asks : Y → Answers) (items : Y → Place → Part) (n : Expr X) (place : Place) (rest : Plan) → node_items asks items (map-AnyNode X Y g (nodes.Expr n)) place rest ≡ expr (λ x. asks (g x)) (λ x. items (g x)) n place rest
-unfolding node_items expr expr_parts expr_closed expr_span fn_expr_span class_expr_span leaves_comments member_at unsupported refuse fn_expr class_expr optional_name this unary update update_parts bin bin_operator bin_trailing assign meta_prop_expr await_expr choice seq paren ident expr_part
-expr_mapped {X} g asks items (exprs.Seq n) place rest = ap (opened n.span) (listed_mapped {A = ExprBox X} _ (held items) (held (λ x. items (g x))) (λ x. refl) true n.exprs.items (trailing_comments true n.span.hi rest))
+seq_mapped : {X Y : Type 0} (g : X → Y) (asks : Y → Answers) (items : Y → Place → Part) (n : SeqExpr X) (rest : Plan) → node_items asks items (map-AnyNode X Y g (nodes.Expr (exprs.Seq n))) Plain rest ≡ expr (λ x. asks (g x)) (λ x. items (g x)) (exprs.Seq n) Plain rest
+unfolding node_items expr expr_parts expr_closed expr_span leaves_comments placed_expr is_wrapped is_field_value is_sequence seq
+seq_mapped {X} g asks items n rest = ap (opened n.span) (listed_mapped {A = ExprBox X} _ (held items) (held (λ x. items (g x))) (λ x. refl) true n.exprs.items (trailing_comments true n.span.hi rest))
+
+expr_mapped : {X Y : Type 0} (g : X → Y) (asks : Y → Answers) (items : Y → Place → Part) (n : Expr X) (place : Place) (rest : Plan) → node_items asks items (map-AnyNode X Y g (nodes.Expr n)) place rest ≡ placed_expr (λ x. asks (g x)) (λ x. items (g x)) n place rest
+unfolding node_items expr expr_parts expr_closed expr_span fn_expr_span class_expr_span leaves_comments placed_expr wrapped is_wrapped is_field_value is_sequence member_at unsupported refuse fn_expr class_expr optional_name this unary update update_parts bin bin_operator bin_trailing assign meta_prop_expr await_expr choice seq paren ident expr_part
+expr_mapped g asks items (exprs.Seq n) FieldValue rest = ap (punct (codes "(")) (seq_mapped g asks items n (punct (codes ")") rest))
+expr_mapped g asks items (exprs.Seq n) place rest = seq_mapped g asks items n rest
 expr_mapped g asks items (exprs.Array n) place rest = array_lit_mapped g asks items n place rest
 expr_mapped g asks items (exprs.Object n) place rest = object_lit_mapped g asks items n Plain (trailing_comments true n.span.hi rest)
 expr_mapped g asks items (exprs.Call n) place rest = call_mapped g asks items n place rest
@@ -181,9 +188,18 @@ items_of {X} g n place = λ i. λ rest. (items_of_layer (map-AnyNode X AnyNode g
 pub any_items_of : (n : AnyNode) (place : Place) → any_items n place ≡ node_items any_answers any_items (out-AnyNode n) place
 any_items_of n place = λ i. λ rest. (at_rest (ap any_items (sym (roll-out-AnyNode n))) place rest ∙ items_of_layer (out-AnyNode n) place rest) i
 
-pub any_items_expr : (n : Expr AnyNode) (place : Place) → any_items (whole.Expr n) place ≡ expr any_answers any_items n place
+pub any_items_expr : (n : Expr AnyNode) (place : Place) → any_items (whole.Expr n) place ≡ placed_expr any_answers any_items n place
 unfolding node_items
 any_items_expr n place = λ i. λ rest. (at_rest (ap any_items (sym (whole.rolls-Expr n))) place rest ∙ items_of_layer (nodes.Expr n) place rest) i
+
+never_wrapped : (b : Bool) → (b && false) ≡ false
+never_wrapped true = refl
+never_wrapped false = refl
+
+-- where nothing is asked of it, it has no parentheses of its own
+pub any_items_plain_expr : (n : Expr AnyNode) → any_items (whole.Expr n) Plain ≡ expr any_answers any_items n Plain
+unfolding placed_expr is_wrapped is_field_value
+any_items_plain_expr n = any_items_expr n Plain ∙ (λ i. λ rest. ap (λ b. cond b (wrapped any_answers any_items n rest) (expr any_answers any_items n Plain rest)) (never_wrapped (is_sequence n)) i)
 
 pub any_items_stmt : (n : Stmt AnyNode) (place : Place) → any_items (whole.Stmt n) place ≡ stmt any_answers any_items n
 unfolding node_items

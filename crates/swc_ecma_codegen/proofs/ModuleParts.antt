@@ -31,12 +31,12 @@ use Rattle.swc_ecma_codegen_tree.specs.declared.programs.ModuleDecl.TheVariants 
 use Rattle.swc_ecma_codegen_tree.specs.declared.programs.ModuleItem.{ModuleItem}
 use Rattle.swc_ecma_codegen_tree.specs.declared.programs.ModuleItem.TheVariants as module_items
 use Rattle.swc_ecma_codegen_spans.specs.Spans.{import_specifier_span, export_specifier_span, module_item_span, module_decl_span}
-use Rattle.swc_ecma_codegen_ast.specs.ElementPhrases.{trailing_comma}
+use Rattle.swc_ecma_codegen_ast.specs.ElementPhrases.{closing_of}
 use Rattle.swc_ecma_codegen_ast.specs.ModulePhrases as lists
 use Rattle.swc_ecma_codegen_ast.specs.StmtPhrases as stmt_lists
 use Rattle.swc_ecma_codegen_ast.specs.NamePhrases.{ident}
 use Rattle.swc_ecma_codegen_ast.specs.Phrases as phrases
-use Rattle.swc_ecma_codegen_ast.specs.Phrases.{Phrase, Never, OptionalComma, ◌>◌, mark, word, ending, is_possible}
+use Rattle.swc_ecma_codegen_ast.specs.Phrases.{Phrase, Never, CommaBefore, RightBrace, closing_mark, ◌>◌, mark, word, ending, is_possible}
 use Rattle.swc_ecma_codegen_ast.specs.LitPhrases.{str_lit}
 use Rattle.swc_ecma_codegen_ast.specs.declared.roles.Role.TheVariants.{ObjectLiteral, ModuleDeclaration, ExportedHead as HeadOfExported, ExportedTail as TailOfExported}
 use Rattle.swc_ecma_codegen_base.specs.Lists.{list}
@@ -136,7 +136,7 @@ named_after (imported.Named n ∷ ns) w = named_after ns (and_parts (is_possible
 named_after (n ∷ ns) w = absurd (true≢false (sym w))
 
 abbrev braced_imports : List ImportSpecifier → Phrase
-braced_imports ns = mark (codes "{") > phrases.listed (codes ",") (map lists.import_specifier ns) > trailing_comma ns > mark (codes "}")
+braced_imports ns = mark (codes "{") > phrases.listed (codes ",") (map lists.import_specifier ns) > closing_of RightBrace ns
 
 named_braced : (n : ImportNamedSpecifier) (ns : List ImportSpecifier) → is_possible (braced_imports (imported.Named n ∷ ns)) ≡ true → all_named ns ≡ true
 unfolding is_possible phrases.listed lists.import_specifier
@@ -144,17 +144,17 @@ named_braced n ns w =
     let names : Bool = is_possible (lists.import_named n) && is_possible (phrases.each_after (codes ",") (map lists.import_specifier ns)) in
     named_after ns (and_parts (is_possible (lists.import_named n)) _ (and_parts names _ w).0).1
 
-import_list_prints : {X : Type 0} (l : Linked X) (parent : Span) (close : Part) (after_list : Phrase) → Prints l.env close after_list → (ns : List ImportSpecifier) → PrintsAt closed l.env (λ rest. list words.named_format parent (children_of import_specifier_span words.import_specifier ns) (close rest)) (phrases.listed (codes ",") (map lists.import_specifier ns) > trailing_comma ns > after_list)
-unfolding phrases.listed trailing_comma
-import_list_prints l parent close after_list closed [] = after (writes_no_list l.env words.named_format parent) (then prints_nothing (then prints_nothing closed))
-import_list_prints l parent close after_list closed (n ∷ ns) =
-    prints_some l.env words.named_format parent import_specifier_span words.import_specifier lists.import_specifier OptionalComma after_list close
-    (λ n. loosened (import_specifier_prints l n)) refl refl (λ last. prints_optional_closing l.env words.named_format parent last refl refl) closed n ns
+import_list_prints : {X : Type 0} (l : Linked X) (parent : Span) (close : Part) → Prints l.env close (mark (codes "}")) → (ns : List ImportSpecifier) → PrintsAt closed l.env (λ rest. list words.named_format parent (children_of import_specifier_span words.import_specifier ns) (close rest)) (phrases.listed (codes ",") (map lists.import_specifier ns) > closing_of RightBrace ns)
+unfolding phrases.listed closing_of closing_mark
+import_list_prints l parent close h [] = after (writes_no_list l.env words.named_format parent) (then prints_nothing h)
+import_list_prints l parent close h (n ∷ ns) =
+    prints_some l.env words.named_format parent import_specifier_span words.import_specifier lists.import_specifier (CommaBefore RightBrace) close
+    (λ n. loosened (import_specifier_prints l n)) refl refl (λ last. prints_optional_closing l.env words.named_format parent last RightBrace close refl refl h) n ns
 
 import_braces_print : {X : Type 0} (l : Linked X) (parent : Span) (ns : List ImportSpecifier) → all_named ns ≡ true → Prints l.env (λ rest. punct (codes "{") (words.import_list parent ns (punct (codes "}") rest))) (braced_imports ns)
 import_braces_print l parent ns h =
     let P : List ImportSpecifier → Type 0 = λ xs. Prints l.env (λ rest. punct (codes "{") (list words.named_format parent (children_of import_specifier_span words.import_specifier xs) (punct (codes "}") rest))) (braced_imports ns) in
-    subst P (sym (named_kept ns h)) (then (prints_punct l.env (codes "{") marks.left_brace) (import_list_prints l parent (punct (codes "}")) (mark (codes "}")) (prints_punct l.env (codes "}") marks.right_brace) ns))
+    subst P (sym (named_kept ns h)) (then (prints_punct l.env (codes "{") marks.left_brace) (import_list_prints l parent (punct (codes "}")) (prints_punct l.env (codes "}") marks.right_brace) ns))
 
 -- the orders of specifiers that the language has
 data Ordered : List ImportSpecifier → Type 0 where
@@ -313,18 +313,18 @@ exported_braced n ns w =
     let names : Bool = is_possible (lists.export_named_specifier n) && is_possible (phrases.each_after (codes ",") (map lists.export_specifier ns)) in
     exported_after ns (and_parts (is_possible (lists.export_named_specifier n)) _ (and_parts names _ w).0).1
 
-export_list_prints : {X : Type 0} (l : Linked X) (parent : Span) (close : Part) (after_list : Phrase) → Prints l.env close after_list → (ns : List ExportSpecifier) → PrintsAt closed l.env (λ rest. list words.named_format parent (children_of export_specifier_span words.export_specifier ns) (close rest)) (phrases.listed (codes ",") (map lists.export_specifier ns) > trailing_comma ns > after_list)
-unfolding phrases.listed trailing_comma
-export_list_prints l parent close after_list closed [] = after (writes_no_list l.env words.named_format parent) (then prints_nothing (then prints_nothing closed))
-export_list_prints l parent close after_list closed (n ∷ ns) =
-    prints_some l.env words.named_format parent export_specifier_span words.export_specifier lists.export_specifier OptionalComma after_list close
-    (λ n. loosened (export_specifier_prints l n)) refl refl (λ last. prints_optional_closing l.env words.named_format parent last refl refl) closed n ns
+export_list_prints : {X : Type 0} (l : Linked X) (parent : Span) (close : Part) → Prints l.env close (mark (codes "}")) → (ns : List ExportSpecifier) → PrintsAt closed l.env (λ rest. list words.named_format parent (children_of export_specifier_span words.export_specifier ns) (close rest)) (phrases.listed (codes ",") (map lists.export_specifier ns) > closing_of RightBrace ns)
+unfolding phrases.listed closing_of closing_mark
+export_list_prints l parent close h [] = after (writes_no_list l.env words.named_format parent) (then prints_nothing h)
+export_list_prints l parent close h (n ∷ ns) =
+    prints_some l.env words.named_format parent export_specifier_span words.export_specifier lists.export_specifier (CommaBefore RightBrace) close
+    (λ n. loosened (export_specifier_prints l n)) refl refl (λ last. prints_optional_closing l.env words.named_format parent last RightBrace close refl refl h) n ns
 
 export_braces_print : {X : Type 0} (l : Linked X) (parent : Span) (ns : List ExportSpecifier) → all_exported ns ≡ true → Prints l.env (words.export_braces parent ns) (lists.export_braces ns)
 unfolding words.export_braces lists.export_braces
 export_braces_print l parent ns h =
     let P : List ExportSpecifier → Type 0 = λ xs. Prints l.env (λ rest. punct (codes "{") (list words.named_format parent (children_of export_specifier_span words.export_specifier xs) (punct (codes "}") rest))) (lists.export_braces ns) in
-    subst P (sym (exported_kept ns h)) (then (prints_punct l.env (codes "{") marks.left_brace) (export_list_prints l parent (punct (codes "}")) (mark (codes "}")) (prints_punct l.env (codes "}") marks.right_brace) ns))
+    subst P (sym (exported_kept ns h)) (then (prints_punct l.env (codes "{") marks.left_brace) (export_list_prints l parent (punct (codes "}")) (prints_punct l.env (codes "}") marks.right_brace) ns))
 
 namespace_prints : {X : Type 0} (l : Linked X) (n : ExportNamespaceSpecifier) → Prints l.env (words.export_namespace n) (lists.export_namespace n)
 unfolding words.export_namespace lists.export_namespace
@@ -354,7 +354,8 @@ export_clause_prints l parent (exported.Default n ∷ ns) = prints_impossible re
 
 from_clause_prints : {X : Type 0} (l : Linked X) (with_ : Option (ObjectLitBox X)) (needed : Bool) (n : Option Str) → PrintsAt open_ l.env (words.from_clause l.items with_ needed n) (lists.from_clause l.reads with_ n)
 unfolding words.from_clause lists.from_clause
-from_clause_prints l with_ needed None = prints_nothing
+from_clause_prints l None needed None = prints_nothing
+from_clause_prints l (Some w) needed None = prints_never
 from_clause_prints l with_ needed (Some n) = prints_wider open_ refl (after (writes_blank l.env needed) (then (from_prints l.env) (then (prints_str l.env n) (attributes_print l with_))))
 
 export_named_prints : {X : Type 0} (l : Linked X) (n : NamedExport X) → Prints l.env (words.export_named l.items n) (lists.export_named l.reads n)

@@ -5,7 +5,7 @@ use Rattle.swc_ecma_codegen_tree.specs.declared.parts.ExprPart.TheVariants as ex
 use Rattle.swc_ecma_codegen_tree.specs.declared.parts.StmtPart.{StmtPart}
 use Rattle.swc_ecma_codegen_tree.specs.declared.parts.StmtPart.TheVariants as stmt_parts
 use Rattle.swc_ecma_codegen_ast.specs.declared.roles.Role.{Role}
-use Rattle.swc_ecma_codegen_ast.specs.declared.roles.Role.TheVariants.{AssignmentTarget, Pattern, PlainParameter, PropertyName, ObjectLiteral, Function, FunctionHead, MethodHead, Block, Declaration, VariableDeclaration, ChainCall, Template, TaggedTemplate, ClassHead, ClassTail, Member, MethodDecorators, MethodTail, PrivateTail, ModuleDeclaration, ExportedHead, ExportedTail}
+use Rattle.swc_ecma_codegen_ast.specs.declared.roles.Role.TheVariants.{AssignmentTarget, Pattern, PlainParameter, PropertyName, ObjectLiteral, Function, FunctionHead, MethodHead, Block, Declaration, VariableDeclaration, ChainCall, Template, TaggedTemplate, ClassHead, ClassTail, Member, MethodDecorators, MethodTail, AccessorTail, ModuleDeclaration, ExportedHead, ExportedTail}
 use Rattle.swc_ecma_codegen_ast.specs.PartPhrases as lists
 use Rattle.swc_ecma_codegen_base.proofs.Phrased.{prints_never, PrintsAt}
 use Rattle.swc_ecma_codegen.specs.declared.nodes.Place.{Place}
@@ -16,7 +16,7 @@ use Rattle.swc_ecma_codegen.specs.Functions.{function}
 use Rattle.swc_ecma_codegen.proofs.BlockParts.{block_stmt_prints}
 use Rattle.swc_ecma_codegen.proofs.DeclParts.{decl_prints, exported_head_prints, exported_tail_prints, var_decl_prints}
 use Rattle.swc_ecma_codegen.proofs.ClassParts.{class_head_prints, class_tail_prints, class_member_prints}
-use Rattle.swc_ecma_codegen.proofs.FunctionParts.{fn_trailing_prints, head_prints, before_method_prints, method_decorators_print, method_tail_prints, private_tail_prints}
+use Rattle.swc_ecma_codegen.proofs.FunctionParts.{fn_trailing_prints, head_prints, before_method_prints, method_decorators_print, method_tail_prints, accessor_tail_prints}
 use Rattle.swc_ecma_codegen.proofs.Linked.{Linked, role_shape}
 use Rattle.swc_ecma_codegen.proofs.ModuleParts.{module_decl_prints}
 use Rattle.swc_ecma_codegen.proofs.PatParts.{pat_prints, plain_prints}
@@ -44,8 +44,8 @@ stmt_part_prints l (stmt_parts.Function n) place Function = fn_trailing_prints l
 stmt_part_prints l (stmt_parts.Function n) place FunctionHead = head_prints l n.value place
 stmt_part_prints l (stmt_parts.Function n) place MethodHead = before_method_prints l n.value place
 stmt_part_prints l (stmt_parts.Function n) place MethodDecorators = method_decorators_print l n.value
-stmt_part_prints l (stmt_parts.Function n) place MethodTail = method_tail_prints l n.value
-stmt_part_prints l (stmt_parts.Function n) place PrivateTail = private_tail_prints l n.value
+stmt_part_prints l (stmt_parts.Function n) place MethodTail = method_tail_prints l n.value place
+stmt_part_prints l (stmt_parts.Function n) place AccessorTail = accessor_tail_prints l n.value place
 stmt_part_prints l (stmt_parts.Class n) place ClassHead = class_head_prints l n.value
 stmt_part_prints l (stmt_parts.Class n) place ClassTail = class_tail_prints l n.value
 stmt_part_prints l (stmt_parts.ClassMember n) place Member = class_member_prints l n.value

@@ -15,9 +15,9 @@ use Rattle.swc_ecma_codegen_tree.specs.declared.pats.AssignPatProp.{AssignPatPro
 use Rattle.swc_ecma_codegen_tree.specs.declared.pats.AssignTargetPat.{AssignTargetPat}
 use Rattle.swc_ecma_codegen_tree.specs.declared.pats.AssignTargetPat.TheVariants as target_pats
 use Rattle.swc_ecma_codegen_spans.specs.Spans.{prop_name_span, option_span, pat_span, object_pat_prop_span}
-use Rattle.swc_ecma_codegen_ast.specs.Phrases.{Phrase, OptionalComma, ◌>◌, mark}
+use Rattle.swc_ecma_codegen_ast.specs.Phrases.{Phrase, CommaBefore, RightBracket, RightBrace, closing_mark, ◌>◌, mark}
 use Rattle.swc_ecma_codegen_ast.specs.Phrases as phrases
-use Rattle.swc_ecma_codegen_ast.specs.ElementPhrases.{element, last_is_hole, elements_end, trailing_comma}
+use Rattle.swc_ecma_codegen_ast.specs.ElementPhrases.{element, last_is_hole, elements_end, closing_of}
 use Rattle.swc_ecma_codegen_ast.specs.PatPhrases as lists
 use Rattle.swc_ecma_codegen_base.specs.Run.{Env, Part}
 use Rattle.swc_ecma_codegen_base.specs.Lists.{list, list_closing}
@@ -49,10 +49,11 @@ unfolding if_some_at element
 element_prints l None = prints_nothing
 element_prints l (Some n) = prints_wider open_ refl (pat_at l n)
 
--- a comma after a hole that is last, or an optional one
-end_prints : (env : Env) (hole : Bool) (parent last : Span) → PrintsAt loose env (list_closing (array_pat_format hole) parent last) (cond hole (mark (codes ",")) OptionalComma)
-end_prints env true parent last = prints_forced_closing env (array_pat_format true) parent last refl refl refl
-end_prints env false parent last = prints_optional_closing env (array_pat_format false) parent last refl refl
+-- a comma after a hole that is last, or an optional one, to the bracket
+end_prints : {A : Type 0} (env : Env) (hole : Bool) (parent last : Span) (close : Part) → Prints env close (mark (codes "]")) → (x : A) (xs : List A) → PrintsAt closed env (λ rest. list_closing (array_pat_format hole) parent last (close rest)) (elements_end hole (x ∷ xs))
+unfolding elements_end closing_of closing_mark
+end_prints env true parent last close h x xs = prints_wider closed refl (then (prints_forced_closing env (array_pat_format true) parent last refl refl refl) h)
+end_prints env false parent last close h x xs = prints_optional_closing env (array_pat_format false) parent last RightBracket close refl refl h
 
 is_list : (hole : Bool) → Rattle.swc_ecma_codegen_ast.specs.ListFormats.comma_delimited (array_pat_format hole) ≡ true
 is_list true = refl
@@ -65,20 +66,20 @@ is_flat false = refl
 abbrev elements_list : {X : Type 0} → Linked X → Span → List (Option (PatBox X)) → Part
 elements_list l parent xs = list (array_pat_format (last_is_hole xs)) parent (children_of (option_span (pat_place l.asks)) (λ o. if_some_at (pat_items l.items) o Plain) xs)
 
-elements_prints : {X : Type 0} (l : Linked X) (parent : Span) (close : Part) (after_list : Phrase) → Prints l.env close after_list → (xs : List (Option (PatBox X))) → PrintsAt closed l.env (λ rest. elements_list l parent xs (close rest)) (phrases.listed (codes ",") (map (element (lists.pat_at l.reads)) xs) > elements_end xs (trailing_comma xs) > after_list)
-unfolding phrases.listed elements_end trailing_comma last_is_hole
-elements_prints l parent close after_list closed [] = after (writes_no_list l.env (array_pat_format false) parent) (then prints_nothing (then prints_nothing closed))
-elements_prints l parent close after_list closed (x ∷ xs) =
+elements_prints : {X : Type 0} (l : Linked X) (parent : Span) (close : Part) → Prints l.env close (mark (codes "]")) → (xs : List (Option (PatBox X))) → PrintsAt closed l.env (λ rest. elements_list l parent xs (close rest)) (phrases.listed (codes ",") (map (element (lists.pat_at l.reads)) xs) > elements_end (last_is_hole xs) xs)
+unfolding phrases.listed elements_end closing_of closing_mark last_is_hole
+elements_prints l parent close h [] = after (writes_no_list l.env (array_pat_format false) parent) (then prints_nothing h)
+elements_prints l parent close h (x ∷ xs) =
     let hole : Bool = last_is_hole (x ∷ xs) in
-    prints_some l.env (array_pat_format hole) parent (option_span (pat_place l.asks)) (λ o. if_some_at (pat_items l.items) o Plain) (element (lists.pat_at l.reads)) (cond hole (mark (codes ",")) OptionalComma) after_list close
-    (λ n. prints_wider loose refl (element_prints l n)) (is_list hole) (is_flat hole) (end_prints l.env hole parent) closed x xs
+    prints_some l.env (array_pat_format hole) parent (option_span (pat_place l.asks)) (λ o. if_some_at (pat_items l.items) o Plain) (element (lists.pat_at l.reads)) (elements_end hole (x ∷ xs)) close
+    (λ n. prints_wider loose refl (element_prints l n)) (is_list hole) (is_flat hole) (λ last. end_prints l.env hole parent last close h x xs) x xs
 
-array_parts_prints : {X : Type 0} (l : Linked X) (n : ArrayPat X) → Prints l.env (words.array_pat_parts l.asks l.items n) (mark (codes "[") > phrases.listed (codes ",") (map (element (lists.pat_at l.reads)) n.elems.items) > elements_end n.elems.items (trailing_comma n.elems.items) > mark (codes "]"))
+array_parts_prints : {X : Type 0} (l : Linked X) (n : ArrayPat X) → Prints l.env (words.array_pat_parts l.asks l.items n) (mark (codes "[") > phrases.listed (codes ",") (map (element (lists.pat_at l.reads)) n.elems.items) > elements_end (last_is_hole n.elems.items) n.elems.items)
 unfolding words.array_pat_parts
 array_parts_prints l n =
     after (writes_opened l.env n.span)
     (then (prints_punct l.env (codes "[") marks.left_bracket)
-    (elements_prints l n.span (λ rest. punct (codes "]") (position n.span.hi rest)) (mark (codes "]")) (before (prints_punct l.env (codes "]") marks.right_bracket) (writes_position l.env n.span.hi)) n.elems.items))
+    (elements_prints l n.span (λ rest. punct (codes "]") (position n.span.hi rest)) (before (prints_punct l.env (codes "]") marks.right_bracket) (writes_position l.env n.span.hi)) n.elems.items))
 
 array_pat_prints : {X : Type 0} (l : Linked X) (n : ArrayPat X) → Prints l.env (words.array_pat l.asks l.items n) (lists.array_pat l.reads n)
 unfolding words.array_pat lists.array_pat
@@ -126,19 +127,19 @@ prop_prints l (pat_props.Rest n) = rest_pat_prints l n
 abbrev props_list : {X : Type 0} → Linked X → Span → List (ObjectPatProp X) → Part
 props_list l parent xs = list object_pat_format parent (children_of (object_pat_prop_span (place_of l.asks)) (words.object_pat_prop l.asks l.items) xs)
 
-props_prints : {X : Type 0} (l : Linked X) (parent : Span) (close : Part) (after_list : Phrase) → Prints l.env close after_list → (xs : List (ObjectPatProp X)) → PrintsAt closed l.env (λ rest. props_list l parent xs (close rest)) (phrases.listed (codes ",") (map (lists.object_pat_prop l.reads) xs) > trailing_comma xs > after_list)
-unfolding phrases.listed trailing_comma
-props_prints l parent close after_list closed [] = after (writes_no_list l.env object_pat_format parent) (then prints_nothing (then prints_nothing closed))
-props_prints l parent close after_list closed (x ∷ xs) =
-    prints_some l.env object_pat_format parent (object_pat_prop_span (place_of l.asks)) (words.object_pat_prop l.asks l.items) (lists.object_pat_prop l.reads) OptionalComma after_list close
-    (λ n. loosened (prop_prints l n)) refl refl (λ last. prints_optional_closing l.env object_pat_format parent last refl refl) closed x xs
+props_prints : {X : Type 0} (l : Linked X) (parent : Span) (close : Part) → Prints l.env close (mark (codes "}")) → (xs : List (ObjectPatProp X)) → PrintsAt closed l.env (λ rest. props_list l parent xs (close rest)) (phrases.listed (codes ",") (map (lists.object_pat_prop l.reads) xs) > closing_of RightBrace xs)
+unfolding phrases.listed closing_of closing_mark
+props_prints l parent close h [] = after (writes_no_list l.env object_pat_format parent) (then prints_nothing h)
+props_prints l parent close h (x ∷ xs) =
+    prints_some l.env object_pat_format parent (object_pat_prop_span (place_of l.asks)) (words.object_pat_prop l.asks l.items) (lists.object_pat_prop l.reads) (CommaBefore RightBrace) close
+    (λ n. loosened (prop_prints l n)) refl refl (λ last. prints_optional_closing l.env object_pat_format parent last RightBrace close refl refl h) x xs
 
-object_parts_prints : {X : Type 0} (l : Linked X) (n : ObjectPat X) → Prints l.env (words.object_pat_parts l.asks l.items n) (mark (codes "{") > phrases.listed (codes ",") (map (lists.object_pat_prop l.reads) n.props.items) > trailing_comma n.props.items > mark (codes "}"))
+object_parts_prints : {X : Type 0} (l : Linked X) (n : ObjectPat X) → Prints l.env (words.object_pat_parts l.asks l.items n) (mark (codes "{") > phrases.listed (codes ",") (map (lists.object_pat_prop l.reads) n.props.items) > closing_of RightBrace n.props.items)
 unfolding words.object_pat_parts
 object_parts_prints l n =
     after (writes_opened l.env n.span)
     (then (prints_punct l.env (codes "{") marks.left_brace)
-    (props_prints l n.span (λ rest. punct (codes "}") (position n.span.hi rest)) (mark (codes "}")) (before (prints_punct l.env (codes "}") marks.right_brace) (writes_position l.env n.span.hi)) n.props.items))
+    (props_prints l n.span (λ rest. punct (codes "}") (position n.span.hi rest)) (before (prints_punct l.env (codes "}") marks.right_brace) (writes_position l.env n.span.hi)) n.props.items))
 
 object_pat_prints : {X : Type 0} (l : Linked X) (n : ObjectPat X) → Prints l.env (words.object_pat l.asks l.items n) (lists.object_pat l.reads n)
 unfolding words.object_pat lists.object_pat

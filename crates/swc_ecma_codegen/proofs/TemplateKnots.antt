@@ -12,6 +12,7 @@ use Rattle.swc_ecma_codegen_common.specs.declared.positions.Span.{Span}
 use Rattle.swc_ecma_codegen_spans.specs.Spans.{expr_span}
 use Rattle.swc_ecma_codegen_ast.specs.TemplatePhrases.{is_counted, part_before}
 use Rattle.swc_ecma_codegen_ast.proofs.MappedTemplates.{length_mapped}
+use Rattle.swc_ecma_codegen_ast.specs.TreePhrases.{is_sequence}
 use Rattle.swc_ecma_codegen_base.specs.Run.{Plan, Part, refuse}
 use Rattle.swc_ecma_codegen_base.specs.Templates.{tpl_element}
 use Rattle.swc_ecma_codegen_base.specs.Words.{start_of, end_of, leading_comments}
@@ -51,7 +52,7 @@ unfolding node_items expr_part tpl tpl_placed
 tpl_mapped g asks items n place rest = counted_mapped _ items (λ x. items (g x)) (λ x. refl) (is_tagged place) n.span n.exprs.items n.quasis.items rest
 
 tagged_by : {X Y : Type 0} (g : X → Y) (asks : Y → Answers) (items : Y → Place → Part) (n : TaggedTpl X) (type_params : Option (TsTypeParamInstantiationBox X)) (place : Place) (rest : Plan) → node_items asks items (map-AnyNode X Y g (nodes.Expr (exprs.TaggedTpl (record n { type_params = type_params })))) place rest ≡ expr (λ x. asks (g x)) (λ x. items (g x)) (exprs.TaggedTpl (record n { type_params = type_params })) place rest
-unfolding node_items expr words.expr_parts words.expr_closed expr_span words.leaves_comments tagged_tpl tagged_tpl_parts unsupported refuse
+unfolding node_items expr words.expr_parts words.expr_closed expr_span words.leaves_comments words.placed_expr words.is_wrapped is_sequence tagged_tpl tagged_tpl_parts unsupported refuse
 tagged_by g asks items n None place rest = refl
 tagged_by g asks items n (Some t) place rest = refl
 

@@ -7,22 +7,23 @@ use Rattle.swc_ecma_codegen_tree.specs.declared.links.AnyNode.TheBlock.{the_fami
 use Rattle.swc_ecma_codegen_tree.specs.declared.links.AnyNode.TheFolds.{claims}
 use Rattle.swc_ecma_codegen_ast.specs.Phrases.{Phrase}
 use Rattle.swc_ecma_codegen_ast.specs.declared.roles.Role.{Role}
-use Rattle.swc_ecma_codegen_ast.specs.declared.roles.Role.TheVariants.{Expression, Callee as IsCallee, Statement, MemberExpression, ChainMember}
+use Rattle.swc_ecma_codegen_ast.specs.declared.roles.Role.TheVariants.{Expression, Callee as IsCallee, FieldValue as ValueOfField, Statement, MemberExpression, ChainMember}
 use Rattle.swc_ecma_codegen_ast.specs.TreePhrases.{node_phrase, phrase}
 use Rattle.swc_ecma_codegen_ast.proofs.TreeLaws.{phrase_of}
 use Rattle.swc_ecma_codegen_base.specs.Run.{Env, Part}
 use Rattle.swc_ecma_codegen_base.proofs.Phrased.{prints_never, PrintsAt}
 use Rattle.swc_ecma_codegen.specs.declared.nodes.Place.{Place}
-use Rattle.swc_ecma_codegen.specs.declared.nodes.Place.TheVariants.{Object, DottedObject, Callee}
+use Rattle.swc_ecma_codegen.specs.declared.nodes.Place.TheVariants.{Object, DottedObject, Callee, FieldValue}
 use Rattle.swc_ecma_codegen.specs.Answers.{any_answers}
 use Rattle.swc_ecma_codegen.specs.Exprs.{member_at}
+use Rattle.swc_ecma_codegen.specs.AnyExpr.{is_field_value}
 use Rattle.swc_ecma_codegen.specs.Calls.{keeps_arguments}
 use Rattle.swc_ecma_codegen.specs.Places.{placed, outside, inside}
 use Rattle.swc_ecma_codegen.specs.Tree.{node_items, any_items}
 use Rattle.swc_ecma_codegen.proofs.Knots.{items_of}
 use Rattle.swc_ecma_codegen.proofs.Linked.{Linked, role_shape}
 use Rattle.swc_ecma_codegen.proofs.ExprParts.{member_prints, chain_member_prints}
-use Rattle.swc_ecma_codegen.proofs.AnyExprParts.{plain_expr_prints, callee_expr_prints}
+use Rattle.swc_ecma_codegen.proofs.AnyExprParts.{plain_expr_prints, callee_expr_prints, unwrapped_prints, field_value_prints}
 use Rattle.swc_ecma_codegen.proofs.PartLaws.{part_prints, stmt_part_prints}
 use Rattle.swc_ecma_codegen.proofs.PatternLaws.{plain_reads}
 use Rattle.swc_ecma_codegen.proofs.StmtParts.{stmt_prints}
@@ -32,6 +33,7 @@ outside_leaves : (place : Place) → keeps_arguments (outside place) ≡ false
 outside_leaves Object = refl
 outside_leaves (DottedObject prop) = refl
 outside_leaves Callee = refl
+outside_leaves FieldValue = refl
 outside_leaves place = refl
 
 inside_keeps : (place : Place) → keeps_arguments (inside place) ≡ true
@@ -39,11 +41,27 @@ inside_keeps Object = refl
 inside_keeps (DottedObject prop) = refl
 inside_keeps place = refl
 
+-- neither of the two is the place of a field's value
+outside_elsewhere : (place : Place) → is_field_value (outside place) ≡ false
+unfolding is_field_value
+outside_elsewhere Object = refl
+outside_elsewhere (DottedObject prop) = refl
+outside_elsewhere Callee = refl
+outside_elsewhere FieldValue = refl
+outside_elsewhere place = refl
+
+inside_elsewhere : (place : Place) → is_field_value (inside place) ≡ false
+unfolding is_field_value
+inside_elsewhere Object = refl
+inside_elsewhere (DottedObject prop) = refl
+inside_elsewhere place = refl
+
 -- one node, in its role: in any other it is Never
 node_prints : {X : Type 0} (l : Linked X) (n : AnyNode-F X) (place : Place) (role : Role) → PrintsAt (role_shape role) l.env (node_items l.asks l.items n (placed role place)) (node_phrase l.reads n role)
 unfolding node_items node_phrase member_at
-node_prints l (nodes.Expr n) place Expression = plain_expr_prints l n (outside place) (outside_leaves place)
-node_prints l (nodes.Expr n) place IsCallee = callee_expr_prints l n (inside place) (inside_keeps place)
+node_prints l (nodes.Expr n) place Expression = unwrapped_prints l n (outside place) (outside_elsewhere place) (plain_expr_prints l n (outside place) (outside_leaves place))
+node_prints l (nodes.Expr n) place IsCallee = unwrapped_prints l n (inside place) (inside_elsewhere place) (callee_expr_prints l n (inside place) (inside_keeps place))
+node_prints l (nodes.Expr n) place ValueOfField = field_value_prints l n
 node_prints l (nodes.Stmt n) place Statement = stmt_prints l n
 node_prints l (nodes.MemberExpr n) place MemberExpression = member_prints l n
 node_prints l (nodes.MemberExpr n) place (ChainMember optional) = chain_member_prints l optional n

@@ -27,9 +27,9 @@ use Rattle.swc_ecma_codegen_base.specs.Targets.{is_out}
 use Rattle.swc_ecma_codegen_base.specs.Escapes.{may_make_text}
 use Rattle.swc_ecma_codegen_base.specs.Named.{RecordsNames, PlacesNames}
 use Rattle.swc_ecma_codegen_literals.specs.AsciiNames.{is_ascii_text}
-use Rattle.swc_ecma_codegen_base.specs.Ascii.{keeps_other, may_keep_other, AddsAscii, WantsAscii}
+use Rattle.swc_ecma_codegen_base.specs.Ascii.{other_texts, may_keep_other, AddsAscii, WantsAscii}
 use Rattle.swc_ecma_codegen_base.specs.Scripts.{value_strings, AddsSafe}
-use Rattle.swc_ecma_codegen_base.proofs.AsciiTexts.{printed_ascii, printed_keeps}
+use Rattle.swc_ecma_codegen_base.proofs.AsciiTexts.{printed_ascii, printed_keeps, none_other}
 use Rattle.swc_ecma_codegen_base.proofs.ScriptTexts.{printed_safe}
 use Rattle.swc_ecma_codegen_text_writer.specs.Recorded.{RecordsTruly}
 use Rattle.swc_ecma_codegen_ast.specs.Phrases.{Phrase, is_possible, names_in}
@@ -158,20 +158,20 @@ pub program_names : (n : Program AnyNode) (a b : State) (r : Result (Unit {0}) E
 program_names n a b r w k e h = root_names (OfProgram n) _ a b r refl w k e h
 
 -- under ASCII only what is added is ASCII, save what stands as it is
-pub root_ascii : (n : Root) (p : Part) (a b : State) (r : Result (Unit {0}) Error) → p ≡ root_items n → is_well_formed_root n ≡ true → WantsAscii a → keeps_other (steps_of (p nothing a.env)) ≡ false → Follows (p nothing) a b (in_short r) → OnOk r (AddsAscii (texts_of (taken_in (steps_of (p nothing a.env)) a.env.maps)) a.sheet.text b.sheet.text)
-root_ascii n p a b r same w s k h = on_ok_in_short _ r (printed_ascii p (root_phrase n) a b (in_short r) (subst (λ z. PrintsAt (root_shape n) a.env z (root_phrase n)) (sym same) (root_prints a.env s.leaves_out n)) w s k h)
+pub root_ascii : (n : Root) (p : Part) (a b : State) (r : Result (Unit {0}) Error) → p ≡ root_items n → is_well_formed_root n ≡ true → WantsAscii a → Follows (p nothing) a b (in_short r) → OnOk r (AddsAscii (other_texts (steps_of (p nothing a.env))) a.sheet.text b.sheet.text)
+root_ascii n p a b r same w s h = on_ok_in_short _ r (printed_ascii p (root_phrase n) a b (in_short r) (subst (λ z. PrintsAt (root_shape n) a.env z (root_phrase n)) (sym same) (root_prints a.env s.leaves_out n)) w s h)
 
-pub item_ascii : (n : ModuleItem AnyNode) (a b : State) (r : Result (Unit {0}) Error) → is_possible (stmt_lists.module_item phrase n) ≡ true → WantsAscii a → keeps_other (steps_of (module_item any_answers any_items n nothing a.env)) ≡ false → Follows (module_item any_answers any_items n nothing) a b (in_short r) → OnOk r (AddsAscii (texts_of (taken_in (steps_of (module_item any_answers any_items n nothing a.env)) a.env.maps)) a.sheet.text b.sheet.text)
-item_ascii n a b r w s k h = root_ascii (OfItem n) _ a b r refl w s k h
+pub item_ascii : (n : ModuleItem AnyNode) (a b : State) (r : Result (Unit {0}) Error) → is_possible (stmt_lists.module_item phrase n) ≡ true → WantsAscii a → Follows (module_item any_answers any_items n nothing) a b (in_short r) → OnOk r (AddsAscii (other_texts (steps_of (module_item any_answers any_items n nothing a.env))) a.sheet.text b.sheet.text)
+item_ascii n a b r w s h = root_ascii (OfItem n) _ a b r refl w s h
 
-pub module_ascii : (n : Module AnyNode) (a b : State) (r : Result (Unit {0}) Error) → is_well_formed (a_module n) ≡ true → WantsAscii a → keeps_other (steps_of (programs.whole_module any_answers any_items n nothing a.env)) ≡ false → Follows (programs.whole_module any_answers any_items n nothing) a b (in_short r) → OnOk r (AddsAscii (texts_of (taken_in (steps_of (programs.whole_module any_answers any_items n nothing a.env)) a.env.maps)) a.sheet.text b.sheet.text)
-module_ascii n a b r w s k h = root_ascii (OfModule n) _ a b r refl w s k h
+pub module_ascii : (n : Module AnyNode) (a b : State) (r : Result (Unit {0}) Error) → is_well_formed (a_module n) ≡ true → WantsAscii a → Follows (programs.whole_module any_answers any_items n nothing) a b (in_short r) → OnOk r (AddsAscii (other_texts (steps_of (programs.whole_module any_answers any_items n nothing a.env))) a.sheet.text b.sheet.text)
+module_ascii n a b r w s h = root_ascii (OfModule n) _ a b r refl w s h
 
-pub script_ascii : (n : Script AnyNode) (a b : State) (r : Result (Unit {0}) Error) → is_well_formed (a_script n) ≡ true → WantsAscii a → keeps_other (steps_of (programs.script any_answers any_items n nothing a.env)) ≡ false → Follows (programs.script any_answers any_items n nothing) a b (in_short r) → OnOk r (AddsAscii (texts_of (taken_in (steps_of (programs.script any_answers any_items n nothing a.env)) a.env.maps)) a.sheet.text b.sheet.text)
-script_ascii n a b r w s k h = root_ascii (OfScript n) _ a b r refl w s k h
+pub script_ascii : (n : Script AnyNode) (a b : State) (r : Result (Unit {0}) Error) → is_well_formed (a_script n) ≡ true → WantsAscii a → Follows (programs.script any_answers any_items n nothing) a b (in_short r) → OnOk r (AddsAscii (other_texts (steps_of (programs.script any_answers any_items n nothing a.env))) a.sheet.text b.sheet.text)
+script_ascii n a b r w s h = root_ascii (OfScript n) _ a b r refl w s h
 
-pub program_ascii : (n : Program AnyNode) (a b : State) (r : Result (Unit {0}) Error) → is_well_formed n ≡ true → WantsAscii a → keeps_other (steps_of (programs.program any_answers any_items n nothing a.env)) ≡ false → Follows (programs.program any_answers any_items n nothing) a b (in_short r) → OnOk r (AddsAscii (texts_of (taken_in (steps_of (programs.program any_answers any_items n nothing a.env)) a.env.maps)) a.sheet.text b.sheet.text)
-program_ascii n a b r w s k h = root_ascii (OfProgram n) _ a b r refl w s k h
+pub program_ascii : (n : Program AnyNode) (a b : State) (r : Result (Unit {0}) Error) → is_well_formed n ≡ true → WantsAscii a → Follows (programs.program any_answers any_items n nothing) a b (in_short r) → OnOk r (AddsAscii (other_texts (steps_of (programs.program any_answers any_items n nothing a.env))) a.sheet.text b.sheet.text)
+program_ascii n a b r w s h = root_ascii (OfProgram n) _ a b r refl w s h
 
 -- under `inline_script` each string that is printed by its value is safe inside a script
 pub root_safe : (n : Root) (p : Part) (a b : State) (r : Result (Unit {0}) Error) → p ≡ root_items n → is_well_formed_root n ≡ true → a.env.config.inline_script ≡ true → a.env.keeps_invalid ≡ false → Follows (p nothing) a b (in_short r) → OnOk r (AddsSafe (value_strings (steps_of (p nothing a.env))) a.sheet.text b.sheet.text)
@@ -189,9 +189,9 @@ script_safe n a b r w i e h = root_safe (OfScript n) _ a b r refl w i e h
 pub program_safe : (n : Program AnyNode) (a b : State) (r : Result (Unit {0}) Error) → is_well_formed n ≡ true → a.env.config.inline_script ≡ true → a.env.keeps_invalid ≡ false → Follows (programs.program any_answers any_items n nothing) a b (in_short r) → OnOk r (AddsSafe (value_strings (steps_of (programs.program any_answers any_items n nothing a.env))) a.sheet.text b.sheet.text)
 program_safe n a b r w i e h = root_safe (OfProgram n) _ a b r refl w i e h
 
--- no text stands as it is that isn't ASCII, where no such token is in the tree
-pub root_keeps : (n : Root) (s : State) → is_well_formed_root n ≡ true → s.env.keeps_invalid ≡ false → is_out s.env.config (root_phrase n) ≡ false → may_keep_other (root_phrase n) ≡ false → keeps_other (steps_of (steps_in (root_items n) s)) ≡ false
-root_keeps n s w e o none = printed_keeps (root_items n) (root_phrase n) s.env (root_prints s.env e n) w o none
+-- only texts of comments aren't ASCII, where no token is in the tree that stands as it is and isn't
+pub root_keeps : (n : Root) (s : State) → is_well_formed_root n ≡ true → s.env.keeps_invalid ≡ false → is_out s.env.config (root_phrase n) ≡ false → may_keep_other (root_phrase n) ≡ false → other_texts (steps_of (steps_in (root_items n) s)) ≡ spoken (steps_of (steps_in (root_items n) s))
+root_keeps n s w e o none = none_other (steps_of (steps_in (root_items n) s)) (printed_keeps (root_items n) (root_phrase n) s.env (root_prints s.env e n) w o none)
 
 -- a new emitter over a new writer
 pub new_wants_ascii : (lines : Lines) (maps : Maps) (config : Config) (bytes line_end : List ℕ) → config.ascii_only ≡ true → IsLineEnd line_end → WantsAscii (start lines maps config (new_sheet bytes line_end))

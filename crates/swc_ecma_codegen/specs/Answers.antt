@@ -31,7 +31,7 @@ pub record Answers : Type 0 where
   pub space : BinaryOp → Bool
   -- what it begins with, where it is a pattern
   pub pattern : PatternKind
-  -- it is a block, where it is a statement, or a sequence, where it is an expression: `a, b`
+  -- it is a block, where it is a statement
   pub block : Bool
   -- a line ends in or after a comment before one of its leftmost parts
   pub breaks : Maps → Bool

@@ -1,13 +1,14 @@
 -- What is written of an expression, by its variant.
-use Rattle.std.specs.Prelude.{Bool, true, false, if◌then◌else◌}
+use Rattle.std.specs.Prelude.{Bool, true, false, ◌&&◌, if◌then◌else◌, codes}
 use Rattle.swc_ecma_codegen_common.specs.declared.positions.Span.{Span}
 use Rattle.swc_ecma_codegen_tree.specs.declared.exprs.Expr.{Expr}
 use Rattle.swc_ecma_codegen_tree.specs.declared.exprs.Expr.TheVariants as exprs
 use Rattle.swc_ecma_codegen_spans.specs.Spans.{expr_span}
+use Rattle.swc_ecma_codegen_ast.specs.TreePhrases.{is_sequence}
 use Rattle.swc_ecma_codegen_base.specs.Run.{Part}
-use Rattle.swc_ecma_codegen_base.specs.Words.{trailing_comments}
+use Rattle.swc_ecma_codegen_base.specs.Words.{punct, trailing_comments}
 use Rattle.swc_ecma_codegen.specs.declared.nodes.Place.{Place}
-use Rattle.swc_ecma_codegen.specs.declared.nodes.Place.TheVariants.{Plain, LeftOperand}
+use Rattle.swc_ecma_codegen.specs.declared.nodes.Place.TheVariants.{Plain, LeftOperand, FieldValue}
 use Rattle.swc_ecma_codegen.specs.Answers.{Answers, place_of}
 use Rattle.swc_ecma_codegen.specs.FunctionExprs.{fn_expr, arrow_expr}
 use Rattle.swc_ecma_codegen.specs.ClassExprs.{class_expr}
@@ -63,3 +64,19 @@ expr_closed left span rest = if left then rest else trailing_comments true span.
 
 unfoldable pub expr : {X : Type 0} → (X → Answers) → (X → Place → Part) → Expr X → Place → Part
 expr asks items n place rest = expr_parts asks items n place (expr_closed (leaves_comments n place) (expr_span (place_of asks) n) rest)
+
+unfoldable pub is_field_value : Place → Bool
+is_field_value FieldValue = true
+is_field_value place = false
+
+-- a sequence stands in parentheses where it is the value of a field
+unfoldable pub is_wrapped : {X : Type 0} → Expr X → Place → Bool
+is_wrapped n place = is_sequence n && is_field_value place
+
+-- `(a, b)`
+unfoldable pub wrapped : {X : Type 0} → (X → Answers) → (X → Place → Part) → Expr X → Part
+wrapped asks items n rest = punct (codes "(") (expr asks items n Plain (punct (codes ")") rest))
+
+-- an expression where it stands
+unfoldable pub placed_expr : {X : Type 0} → (X → Answers) → (X → Place → Part) → Expr X → Place → Part
+placed_expr asks items n place rest = if is_wrapped n place then wrapped asks items n rest else expr asks items n place rest

@@ -1,9 +1,7 @@
--- What an `if` asks of its first statement, and a field of a class of its value.
+-- What an `if` asks of its first statement.
 use Rattle.std.specs.Prelude.{Bool, true, false}
 use Rattle.swc_ecma_codegen_tree.specs.declared.links.AnyNode.{AnyNode, AnyNode-F, out-AnyNode}
 use Rattle.swc_ecma_codegen_tree.specs.declared.links.AnyNode.TheOpen as nodes
-use Rattle.swc_ecma_codegen_tree.specs.declared.exprs.Expr.{Expr}
-use Rattle.swc_ecma_codegen_tree.specs.declared.exprs.Expr.TheVariants as exprs
 use Rattle.swc_ecma_codegen_tree.specs.declared.stmts.Stmt.{Stmt}
 use Rattle.swc_ecma_codegen_tree.specs.declared.stmts.Stmt.TheVariants as stmts
 
@@ -12,14 +10,8 @@ unfoldable pub is_block : {X : Type 0} → Stmt X → Bool
 is_block (stmts.Block n) = true
 is_block n = false
 
--- `a, b`: parentheses stand round it where it is the value of a field
-unfoldable pub is_sequence : {X : Type 0} → Expr X → Bool
-is_sequence (exprs.Seq n) = true
-is_sequence n = false
-
 unfoldable pub node_block : {X : Type 0} → AnyNode-F X → Bool
 node_block (nodes.Stmt n) = is_block n
-node_block (nodes.Expr n) = is_sequence n
 node_block n = false
 
 unfoldable pub any_block : AnyNode → Bool

@@ -25,7 +25,7 @@ use Rattle.swc_ecma_codegen_base.specs.Run.{Part}
 use Rattle.swc_ecma_codegen_base.specs.Lists.{list}
 use Rattle.swc_ecma_codegen_base.specs.Words.{keyword, punct, semi, space, formatting_space, start_of, end_of, last_of, leading_comments}
 use Rattle.swc_ecma_codegen.specs.declared.nodes.Place.{Place}
-use Rattle.swc_ecma_codegen.specs.declared.nodes.Place.TheVariants.{Plain, ClassHead, MethodHead, StaticHead, MethodDecorators, MethodTail, PrivateTail}
+use Rattle.swc_ecma_codegen.specs.declared.nodes.Place.TheVariants.{Plain, ClassHead, MethodHead, StaticHead, MethodDecorators, MethodTail, FieldValue}
 use Rattle.swc_ecma_codegen.specs.Answers.{Answers}
 use Rattle.swc_ecma_codegen.specs.FunctionExprs.{comma_list_format}
 use Rattle.swc_ecma_codegen.specs.Functions.{decorator, decorator_lines, decorators_format, decorator_place, param}
@@ -78,9 +78,9 @@ unfoldable pub constructor_param_place : {X : Type 0} → ParamOrTsParamProp X �
 constructor_param_place (params.Param n) = n.span
 constructor_param_place (params.TsParamProp n) = n.span
 
--- `{ a; }` without a blank, or the semicolon in its place, which is never left out
+-- `{ a; }` without a blank, or the semicolon in its place
 unfoldable pub constructor_body : {X : Type 0} → (X → Place → Part) → Option (BlockStmtBox X) → Part
-constructor_body items None rest = punct (codes ";") rest
+constructor_body items None rest = semi rest
 constructor_body items (Some n) rest = items n.node.value Plain rest
 
 abbrev pub constructor_params : {X : Type 0} → (X → Answers) → (X → Place → Part) → Constructor X → Part
@@ -143,48 +143,43 @@ private_method_parts items n rest =
     leading_comments n.span.lo
     (start_of n.span
     (items n.function.node.value MethodDecorators
-    (static_word n.is_static (private_kind items n.kind n (private_name n.key (items n.function.node.value PrivateTail rest))))))
+    (static_word n.is_static (private_kind items n.kind n (private_name n.key (items n.function.node.value Plain rest))))))
 
 unfoldable pub private_method : {X : Type 0} → (X → Place → Part) → PrivateMethod X → Part
 private_method items n rest = if is_some n.accessibility || (n.is_abstract || (n.is_optional || n.is_override)) then unsupported rest else private_method_parts items n rest
 
--- `a`, and a sequence in parentheses: `(a, b)`
-unfoldable pub wrapped : {X : Type 0} → (X → Answers) → (X → Place → Part) → ExprBox X → Part
-wrapped asks items n rest =
-    if (asks n.node.value).block then punct (codes "(") (items n.node.value Plain (punct (codes ")") rest)) else items n.node.value Plain rest
-
--- `= a` of `class B { c = a; }`
-unfoldable pub prop_value : {X : Type 0} → (X → Answers) → (X → Place → Part) → Option (ExprBox X) → Part
-prop_value asks items None rest = rest
-prop_value asks items (Some n) rest = formatting_space (punct (codes "=") (formatting_space (wrapped asks items n rest)))
+-- `= a` of `class B { c = a; }`; a sequence stands in parentheses, `= (a, b)`
+unfoldable pub prop_value : {X : Type 0} → (X → Place → Part) → Option (ExprBox X) → Part
+prop_value items None rest = rest
+prop_value items (Some n) rest = formatting_space (punct (codes "=") (formatting_space (items n.node.value FieldValue rest)))
 
 -- `@a static b = c;`
-unfoldable pub class_prop_parts : {X : Type 0} → (X → Answers) → (X → Place → Part) → ClassProp X → Part
-class_prop_parts asks items n rest =
+unfoldable pub class_prop_parts : {X : Type 0} → (X → Place → Part) → ClassProp X → Part
+class_prop_parts items n rest =
     leading_comments n.span.lo
     (start_of n.span
     (decorator_lines items n.decorators.items
-    (static_word n.is_static (items n.key.node.value Plain (prop_value asks items n.value (semi (end_of n.span rest)))))))
+    (static_word n.is_static (items n.key.node.value Plain (prop_value items n.value (semi (end_of n.span rest)))))))
 
-unfoldable pub class_prop : {X : Type 0} → (X → Answers) → (X → Place → Part) → ClassProp X → Part
-class_prop asks items n rest = if is_typed_prop n then unsupported rest else class_prop_parts asks items n rest
+unfoldable pub class_prop : {X : Type 0} → (X → Place → Part) → ClassProp X → Part
+class_prop items n rest = if is_typed_prop n then unsupported rest else class_prop_parts items n rest
 
 abbrev pub private_decorators : {X : Type 0} → (X → Place → Part) → PrivateProp X → Part
 private_decorators items n = list decorators_format n.span (map (child_of decorator_place (λ d place. decorator items d)) n.decorators.items)
 
 -- `#b = c;`
-unfoldable pub private_prop_tail : {X : Type 0} → (X → Answers) → (X → Place → Part) → PrivateProp X → Part
-private_prop_tail asks items n rest = private_name n.key (prop_value asks items n.value (semi (end_of n.span rest)))
+unfoldable pub private_prop_tail : {X : Type 0} → (X → Place → Part) → PrivateProp X → Part
+private_prop_tail items n rest = private_name n.key (prop_value items n.value (semi (end_of n.span rest)))
 
 -- `@a static #b = c;`
-unfoldable pub private_prop_parts : {X : Type 0} → (X → Answers) → (X → Place → Part) → PrivateProp X → Part
-private_prop_parts asks items n rest =
+unfoldable pub private_prop_parts : {X : Type 0} → (X → Place → Part) → PrivateProp X → Part
+private_prop_parts items n rest =
     leading_comments n.span.lo
     (start_of n.span
-    (private_decorators items n (static_word n.is_static (private_prop_tail asks items n rest))))
+    (private_decorators items n (static_word n.is_static (private_prop_tail items n rest))))
 
-unfoldable pub private_prop : {X : Type 0} → (X → Answers) → (X → Place → Part) → PrivateProp X → Part
-private_prop asks items n rest = if is_typed_private n then unsupported rest else private_prop_parts asks items n rest
+unfoldable pub private_prop : {X : Type 0} → (X → Place → Part) → PrivateProp X → Part
+private_prop items n rest = if is_typed_private n then unsupported rest else private_prop_parts items n rest
 
 unfoldable pub accessor_key : {X : Type 0} → (X → Place → Part) → Key X → Part
 accessor_key items (keys.Public n) rest = items n.node.value Plain rest
@@ -215,8 +210,8 @@ unfoldable pub class_member : {X : Type 0} → (X → Answers) → (X → Place 
 class_member asks items (members.Constructor n) rest = class_constructor asks items n rest
 class_member asks items (members.Method n) rest = class_method asks items n rest
 class_member asks items (members.PrivateMethod n) rest = private_method items n rest
-class_member asks items (members.ClassProp n) rest = class_prop asks items n rest
-class_member asks items (members.PrivateProp n) rest = private_prop asks items n rest
+class_member asks items (members.ClassProp n) rest = class_prop items n rest
+class_member asks items (members.PrivateProp n) rest = private_prop items n rest
 class_member asks items (members.Empty n) rest = empty_member n rest
 class_member asks items (members.StaticBlock n) rest = static_block items n rest
 class_member asks items (members.AutoAccessor n) rest = auto_accessor items n rest

@@ -5,12 +5,11 @@ use Rattle.swc_ecma_codegen_tree.specs.Links.{BlockStmtBox}
 use Rattle.swc_ecma_codegen_tree.specs.declared.decls.Decorator.{Decorator}
 use Rattle.swc_ecma_codegen_tree.specs.declared.decls.Param.{Param}
 use Rattle.swc_ecma_codegen_tree.specs.declared.decls.Function as functions
-use Rattle.swc_ecma_codegen_ast.specs.FunctionPhrases.{is_some_listed}
 use Rattle.swc_ecma_codegen_base.specs.Run.{Part}
 use Rattle.swc_ecma_codegen_base.specs.Lists.{list}
 use Rattle.swc_ecma_codegen_base.specs.Words.{keyword, punct, semi, space, formatting_space, line_end, start_of, end_of, leading_comments}
 use Rattle.swc_ecma_codegen.specs.declared.nodes.Place.{Place}
-use Rattle.swc_ecma_codegen.specs.declared.nodes.Place.TheVariants.{Plain, Body, FunctionHead, MethodHead, DeclarationHead, StaticHead, MethodDecorators, MethodTail, PrivateTail}
+use Rattle.swc_ecma_codegen.specs.declared.nodes.Place.TheVariants.{Plain, Body, FunctionHead, MethodHead, DeclarationHead, StaticHead, MethodDecorators, MethodTail}
 use Rattle.swc_ecma_codegen.specs.Answers.{Answers}
 use Rattle.swc_ecma_codegen.specs.FunctionExprs.{comma_list_format, star}
 use Rattle.swc_ecma_codegen.specs.Lists.{child_of, in_order, unsupported}
@@ -58,11 +57,9 @@ fn_trailing_parts asks items n rest =
     (parameters asks items n
     (punct (codes ")") (function_body items n.body rest)))
 
--- Only methods of classes have decorators.
+-- decorators of a function that is no method's are passed over
 unfoldable pub fn_trailing : {X : Type 0} → (X → Answers) → (X → Place → Part) → functions.Function X → Part
-fn_trailing asks items n rest =
-    if is_some n.type_params || (is_some n.return_type || is_some_listed n.decorators.items) then unsupported rest
-    else fn_trailing_parts asks items n rest
+fn_trailing asks items n rest = if is_some n.type_params || is_some n.return_type then unsupported rest else fn_trailing_parts asks items n rest
 
 -- `async` and a blank, where it is so
 unfoldable pub async_word : Bool → Part
@@ -95,9 +92,9 @@ static_head starts n rest = static_gap (n.is_async || (not n.is_generator && sta
 abbrev pub decorator_lines : {X : Type 0} → (X → Place → Part) → List (Decorator X) → Part
 decorator_lines items ns = in_order (decorator items) ns
 
--- the body of a method, or a semicolon, which is never left out
+-- the body of a method, or the semicolon in its place
 unfoldable pub method_body : {X : Type 0} → (X → Place → Part) → Option (BlockStmtBox X) → Part
-method_body items None rest = punct (codes ";") rest
+method_body items None rest = semi rest
 method_body items (Some n) rest = formatting_space (items n.node.value Plain rest)
 
 unfoldable pub method_tail_parts : {X : Type 0} → (X → Answers) → (X → Place → Part) → functions.Function X → Part
@@ -110,10 +107,6 @@ method_tail_parts asks items n rest =
 unfoldable pub method_tail : {X : Type 0} → (X → Answers) → (X → Place → Part) → functions.Function X → Part
 method_tail asks items n rest = if is_some n.type_params || is_some n.return_type then unsupported rest else method_tail_parts asks items n rest
 
--- the same of a private method, with a semicolon that may be left out
-unfoldable pub private_tail : {X : Type 0} → (X → Answers) → (X → Place → Part) → functions.Function X → Part
-private_tail asks items n rest = if is_some n.type_params || is_some n.return_type then unsupported rest else fn_trailing_parts asks items n rest
-
 -- a function, or what of it stands before its name
 unfoldable pub function : {X : Type 0} → (X → Answers) → (X → Place → Part) → functions.Function X → Place → Part
 function asks items n FunctionHead rest = function_head n rest
@@ -122,5 +115,4 @@ function asks items n DeclarationHead rest = declaration_head n rest
 function asks items n (StaticHead starts) rest = static_head starts n rest
 function asks items n MethodDecorators rest = decorator_lines items n.decorators.items rest
 function asks items n MethodTail rest = method_tail asks items n rest
-function asks items n PrivateTail rest = private_tail asks items n rest
 function asks items n place rest = fn_trailing asks items n rest

@@ -1,14 +1,15 @@
 -- Where a node may stand in its role.
 use Rattle.swc_ecma_codegen_ast.specs.declared.roles.Role.{Role}
-use Rattle.swc_ecma_codegen_ast.specs.declared.roles.Role.TheVariants.{MemberExpression, ChainMember, Function, FunctionHead as HeadOfFunction, MethodHead as HeadOfMethod, Expression, Callee as IsCallee, ChainCall, Template, TaggedTemplate, ClassHead as HeadOfClass, ClassTail, MethodDecorators as DecoratorsOfMethod, MethodTail as TailOfMethod, PrivateTail as TailOfPrivate, ModuleDeclaration, Declaration, ExportedHead as HeadOfExported, ExportedTail as TailOfExported}
+use Rattle.swc_ecma_codegen_ast.specs.declared.roles.Role.TheVariants.{MemberExpression, ChainMember, Function, FunctionHead as HeadOfFunction, MethodHead as HeadOfMethod, Expression, Callee as IsCallee, ChainCall, Template, TaggedTemplate, ClassHead as HeadOfClass, ClassTail, MethodDecorators as DecoratorsOfMethod, MethodTail as TailOfMethod, AccessorTail as TailOfAccessor, FieldValue as ValueOfField, ModuleDeclaration, Declaration, ExportedHead as HeadOfExported, ExportedTail as TailOfExported}
 use Rattle.swc_ecma_codegen.specs.declared.nodes.Place.{Place}
-use Rattle.swc_ecma_codegen.specs.declared.nodes.Place.TheVariants.{Plain, Chain, FunctionHead, MethodHead, DeclarationHead, Object, DottedObject, Callee, Tagged, ClassHead, StaticHead, MethodDecorators, MethodTail, PrivateTail, ExportedHead, ExportedTail}
+use Rattle.swc_ecma_codegen.specs.declared.nodes.Place.TheVariants.{Plain, Chain, FunctionHead, MethodHead, DeclarationHead, Object, DottedObject, Callee, Tagged, ClassHead, StaticHead, MethodDecorators, MethodTail, FieldValue, ExportedHead, ExportedTail}
 
--- a place outside of a callee, and one inside
+-- a place where nothing is asked of an expression, and one inside of a callee
 abbrev pub outside : Place → Place
 outside Object = Plain
 outside (DottedObject prop) = Plain
 outside Callee = Plain
+outside FieldValue = Plain
 outside place = place
 
 abbrev pub inside : Place → Place
@@ -26,6 +27,11 @@ abbrev pub before_method : Place → Place
 before_method (StaticHead starts) = StaticHead starts
 before_method place = MethodHead
 
+-- what of a method stands behind its key: of a private one as of any function
+abbrev pub behind_key : Place → Place
+behind_key MethodTail = MethodTail
+behind_key place = Plain
+
 -- a declaration that isn't exported
 abbrev pub declared : Place → Place
 declared ExportedHead = Plain
@@ -33,7 +39,8 @@ declared ExportedTail = Plain
 declared place = place
 
 -- An expression stands where it is called or has a property where that is its role, and there alone, and so does a member, or a call,
--- in a chain, what of a function or a class stands before its name, and a template with a tag; another node stands where it is put.
+-- in a chain, what of a function or a class stands before its name, a template with a tag, and the value of a field; another node stands
+-- where it is put.
 abbrev pub placed : Role → Place → Place
 placed Expression place = outside place
 placed IsCallee place = inside place
@@ -45,8 +52,9 @@ placed HeadOfMethod place = before_method place
 placed HeadOfClass place = ClassHead
 placed ClassTail place = Plain
 placed DecoratorsOfMethod place = MethodDecorators
-placed TailOfMethod place = MethodTail
-placed TailOfPrivate place = PrivateTail
+placed TailOfMethod place = behind_key place
+placed TailOfAccessor place = behind_key place
+placed ValueOfField place = FieldValue
 placed (ChainCall optional) place = Chain optional
 placed Declaration place = declared place
 placed HeadOfExported place = ExportedHead

@@ -5,7 +5,7 @@ use Rattle.swc_ecma_codegen_tree.specs.declared.links.AnyNode.TheFolds.{para-Any
 use Rattle.swc_ecma_codegen_base.specs.Run.{Part}
 use Rattle.swc_ecma_codegen.specs.declared.nodes.Place.{Place}
 use Rattle.swc_ecma_codegen.specs.Answers.{Answers, any_answers}
-use Rattle.swc_ecma_codegen.specs.AnyExpr.{expr}
+use Rattle.swc_ecma_codegen.specs.AnyExpr.{placed_expr}
 use Rattle.swc_ecma_codegen.specs.Exprs.{member_at}
 use Rattle.swc_ecma_codegen.specs.Parts.{expr_part, stmt_part}
 use Rattle.swc_ecma_codegen.specs.Stmts.{stmt}
@@ -13,7 +13,7 @@ use Rattle.swc_ecma_codegen.specs.Lists.{unsupported}
 
 -- one node, from what is known of what its links hold
 unfoldable pub node_items : {X : Type 0} → (X → Answers) → (X → Place → Part) → AnyNode-F X → Place → Part
-node_items asks items (nodes.Expr n) place = expr asks items n place
+node_items asks items (nodes.Expr n) place = placed_expr asks items n place
 node_items asks items (nodes.Stmt n) place = stmt asks items n
 node_items asks items (nodes.MemberExpr n) place = member_at items n place
 node_items asks items (nodes.ExprPart n) place = expr_part asks items n place

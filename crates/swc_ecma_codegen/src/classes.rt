@@ -4,7 +4,7 @@ ghost use Rattle.std.specs.Prelude.{◌≡◌, codes};
 ghost use Rattle.swc_ecma_codegen.specs.Standing.{Makes, Stays, standing_of};
 ghost use Rattle.swc_ecma_codegen_ast.specs.ClassPhrases.{is_typed_class, is_typed_prop, is_typed_private, is_typed_accessor};
 ghost use Rattle.swc_ecma_codegen.specs.ClassExprs.{class_expr};
-ghost use Rattle.swc_ecma_codegen.specs.Classes.{class_members_format, heritage, member_list, class, class_tail, class_decl, constructor_param, constructor_param_place, constructor_params, constructor_body, constructor_tail, constructor_word, class_constructor, static_word, accessor_word, method_word, method_kind, class_method, private_kind, private_method, wrapped, prop_value, class_prop, private_decorators, private_prop_tail, private_prop, accessor_key, accessor_decorators, accessor_tail, auto_accessor, static_block, empty_member, class_member};
+ghost use Rattle.swc_ecma_codegen.specs.Classes.{class_members_format, heritage, member_list, class, class_tail, class_decl, constructor_param, constructor_param_place, constructor_params, constructor_body, constructor_tail, constructor_word, class_constructor, static_word, accessor_word, method_word, method_kind, class_method, private_kind, private_method, prop_value, class_prop, private_decorators, private_prop_tail, private_prop, accessor_key, accessor_decorators, accessor_tail, auto_accessor, static_block, empty_member, class_member};
 
 use crate::blocks::is_some_listed;
 use crate::emitter::Emitter;
@@ -215,7 +215,7 @@ impl<N: Held> EmitAt for PrivateMethod<N> {
         e.static_word(self.is_static);
         e.private_kind(self);
         self.key.emit_at(e, Place::Plain);
-        self.function.held().emit_at(e, Place::PrivateTail);
+        self.function.held().emit_at(e, Place::Plain);
     }
 }
 
@@ -246,7 +246,7 @@ impl<N: Held> EmitAt for ClassMethod<N> {
 }
 
 impl<N: Held> EmitAt for PrivateProp<N> {
-    ghost items = { λ n _. private_prop N.answers N.items n };
+    ghost items = { λ n _. private_prop N.items n };
 
     #[tactic(auto, unfolding(crate::specs::Classes::private_prop, crate::specs::Classes::private_prop_parts))]
     fn emit_at<W: WriteJs, S: SourceMapper, C: Comments>(
@@ -266,7 +266,7 @@ impl<N: Held> EmitAt for PrivateProp<N> {
 }
 
 impl<N: Held> EmitAt for ClassProp<N> {
-    ghost items = { λ n _. class_prop N.answers N.items n };
+    ghost items = { λ n _. class_prop N.items n };
 
     #[tactic(auto, unfolding(crate::specs::Classes::class_prop, crate::specs::Classes::class_prop_parts))]
     fn emit_at<W: WriteJs, S: SourceMapper, C: Comments>(
@@ -454,7 +454,7 @@ impl<W: WriteJs, S: SourceMapper, C: Comments> Emitter<'_, W, S, C> {
     /// Writes `#b = c;`
     #[tactic(auto, unfolding(crate::specs::Classes::private_prop_tail))]
     fn private_prop_tail<N: Held>(&mut self, node: &PrivateProp<N>)
-        ensures items { Makes (private_prop_tail N.answers N.items node.now) (standing_of S.lines C.maps W.sheet self.old) (standing_of S.lines C.maps W.sheet self.new) }
+        ensures items { Makes (private_prop_tail N.items node.now) (standing_of S.lines C.maps W.sheet self.old) (standing_of S.lines C.maps W.sheet self.new) }
         ensures level { Stays (standing_of S.lines C.maps W.sheet self.old) (standing_of S.lines C.maps W.sheet self.new) }
     {
         node.key.emit_at(self, Place::Plain);
@@ -553,24 +553,10 @@ impl<W: WriteJs, S: SourceMapper, C: Comments> Emitter<'_, W, S, C> {
         }
     }
 
-    /// Writes the value of a field, with parentheses round a sequence.
-    #[tactic(auto, unfolding(crate::specs::Classes::wrapped))]
-    fn wrapped<N: Held>(&mut self, value: &ExprBox<N>)
-        ensures items { Makes (wrapped N.answers N.items value.now) (standing_of S.lines C.maps W.sheet self.old) (standing_of S.lines C.maps W.sheet self.new) }
-        ensures level { Stays (standing_of S.lines C.maps W.sheet self.old) (standing_of S.lines C.maps W.sheet self.new) }
-    {
-        if !value.held().block() {
-            return value.held().emit_at(self, Place::Plain);
-        }
-        self.punct(Punctuator::LeftParenthesis);
-        value.held().emit_at(self, Place::Plain);
-        self.punct(Punctuator::RightParenthesis);
-    }
-
     /// Writes `= a` of a field, where it is so.
     #[tactic(auto, unfolding(crate::specs::Classes::prop_value))]
     fn prop_value<N: Held>(&mut self, value: &Option<ExprBox<N>>)
-        ensures items { Makes (prop_value N.answers N.items value.now) (standing_of S.lines C.maps W.sheet self.old) (standing_of S.lines C.maps W.sheet self.new) }
+        ensures items { Makes (prop_value N.items value.now) (standing_of S.lines C.maps W.sheet self.old) (standing_of S.lines C.maps W.sheet self.new) }
         ensures level { Stays (standing_of S.lines C.maps W.sheet self.old) (standing_of S.lines C.maps W.sheet self.new) }
     {
         match value {
@@ -578,7 +564,7 @@ impl<W: WriteJs, S: SourceMapper, C: Comments> Emitter<'_, W, S, C> {
                 self.formatting_space();
                 self.punct(Punctuator::Equal);
                 self.formatting_space();
-                self.wrapped(value)
+                value.held().emit_at(self, Place::FieldValue)
             }
             None => {}
         }
@@ -592,7 +578,7 @@ impl<W: WriteJs, S: SourceMapper, C: Comments> Emitter<'_, W, S, C> {
     {
         match body {
             Some(body) => body.held().emit_at(self, Place::Plain),
-            None => self.punct(Punctuator::Semicolon),
+            None => self.semi(),
         }
     }
 }

@@ -47,7 +47,7 @@ impl<'a, W: WriteJs, S: SourceMapper, C: Comments> Emitter<'a, W, S, C> {
     ghost use Rattle.swc_ecma_codegen_ast.specs.Phrases.{is_possible, names_in};
     ghost use Rattle.swc_ecma_codegen_text_writer.specs.Recorded.{RecordsTruly};
     ghost use Rattle.swc_ecma_codegen_base.specs.Named.{RecordsNames, PlacesNames};
-    ghost use Rattle.swc_ecma_codegen_base.specs.Ascii.{keeps_other, AddsAscii, WantsAscii};
+    ghost use Rattle.swc_ecma_codegen_base.specs.Ascii.{other_texts, AddsAscii, WantsAscii};
     ghost use Rattle.swc_ecma_codegen_base.specs.Scripts.{value_strings, AddsSafe};
     ghost use Rattle.swc_ecma_codegen_base.specs.Written.{IsNew, AddsReading, taken_remarks};
     ghost use Rattle.swc_ecma_codegen_base.specs.Ready.{IsPlainTree, IsReady};
@@ -124,9 +124,9 @@ impl<'a, W: WriteJs, S: SourceMapper, C: Comments> Emitter<'a, W, S, C> {
         ensures names { is_well_formed node.now ≡ true → (W.sheet self.old.wr).keeps_positions ≡ true → (W.sheet self.old.wr).keeps_invalid ≡ false → OnOk result (RecordsNames self.old.cfg (names_in (program_phrase node.now)) (W.sheet self.old.wr) (W.sheet self.new.wr)) }
         // Where positions are kept, each of these names stands as its own token behind those before it: what is before it reads as them.
         ensures places { is_well_formed node.now ≡ true → MayBegin (OfProgram node.now) (state_of S.lines C.maps W.sheet self.old) → AreClosed (maps_in C.maps self.old.comments) → (W.sheet self.old.wr).keeps_positions ≡ true → OnOk result (PlacesNames self.old.cfg (program_phrase node.now) (taken_remarks (program any_answers any_items node.now) (state_of S.lines C.maps W.sheet self.old).env) (W.sheet self.old.wr) (W.sheet self.new.wr)) }
-        // Where the settings ask for ASCII, what is added is, unless a text that stands as it is in the tree isn't: a regular
-        // expression, a template with a tag, a hashbang, or a directive with a backslash; and but for the texts of comments.
-        ensures ascii { is_well_formed node.now ≡ true → WantsAscii (state_of S.lines C.maps W.sheet self.old) → keeps_other (steps_of (steps_in (program any_answers any_items node.now) (state_of S.lines C.maps W.sheet self.old))) ≡ false → OnOk result (AddsAscii (texts_of (taken_in (steps_of (steps_in (program any_answers any_items node.now) (state_of S.lines C.maps W.sheet self.old))) (maps_in C.maps self.old.comments))) (W.sheet self.old.wr).text (W.sheet self.new.wr).text) }
+        // Where the settings ask for ASCII, what is added is, but for the texts that stand as they are in the tree and aren't (a
+        // regular expression, a template with a tag, a hashbang, a directive with a backslash), and those of comments.
+        ensures ascii { is_well_formed node.now ≡ true → WantsAscii (state_of S.lines C.maps W.sheet self.old) → OnOk result (AddsAscii (other_texts (steps_of (steps_in (program any_answers any_items node.now) (state_of S.lines C.maps W.sheet self.old)))) (W.sheet self.old.wr).text (W.sheet self.new.wr).text) }
         // Under `inline_script` no string of a well-formed tree that is printed by its value ends a script of an HTML page, or
         // opens or closes a comment there: it holds no `<!--`, no `-->`, and no `</script` before `>` or ASCII whitespace.
         ensures inline { is_well_formed node.now ≡ true → self.old.cfg.inline_script ≡ true → (W.sheet self.old.wr).keeps_invalid ≡ false → OnOk result (AddsSafe (value_strings (steps_of (steps_in (program any_answers any_items node.now) (state_of S.lines C.maps W.sheet self.old)))) (W.sheet self.old.wr).text (W.sheet self.new.wr).text) }
@@ -171,9 +171,9 @@ impl<'a, W: WriteJs, S: SourceMapper, C: Comments> Emitter<'a, W, S, C> {
         ensures names { is_well_formed (Program.Module node.now) ≡ true → (W.sheet self.old.wr).keeps_positions ≡ true → (W.sheet self.old.wr).keeps_invalid ≡ false → OnOk result (RecordsNames self.old.cfg (names_in (program_phrase (Program.Module node.now))) (W.sheet self.old.wr) (W.sheet self.new.wr)) }
         // Where positions are kept, each of these names stands as its own token behind those before it: what is before it reads as them.
         ensures places { is_well_formed (Program.Module node.now) ≡ true → MayBegin (OfModule node.now) (state_of S.lines C.maps W.sheet self.old) → AreClosed (maps_in C.maps self.old.comments) → (W.sheet self.old.wr).keeps_positions ≡ true → OnOk result (PlacesNames self.old.cfg (program_phrase (Program.Module node.now)) (taken_remarks (whole_module any_answers any_items node.now) (state_of S.lines C.maps W.sheet self.old).env) (W.sheet self.old.wr) (W.sheet self.new.wr)) }
-        // Where the settings ask for ASCII, what is added is, unless a text that stands as it is in the tree isn't: a regular
-        // expression, a template with a tag, a hashbang, or a directive with a backslash; and but for the texts of comments.
-        ensures ascii { is_well_formed (Program.Module node.now) ≡ true → WantsAscii (state_of S.lines C.maps W.sheet self.old) → keeps_other (steps_of (steps_in (whole_module any_answers any_items node.now) (state_of S.lines C.maps W.sheet self.old))) ≡ false → OnOk result (AddsAscii (texts_of (taken_in (steps_of (steps_in (whole_module any_answers any_items node.now) (state_of S.lines C.maps W.sheet self.old))) (maps_in C.maps self.old.comments))) (W.sheet self.old.wr).text (W.sheet self.new.wr).text) }
+        // Where the settings ask for ASCII, what is added is, but for the texts that stand as they are in the tree and aren't (a
+        // regular expression, a template with a tag, a hashbang, a directive with a backslash), and those of comments.
+        ensures ascii { is_well_formed (Program.Module node.now) ≡ true → WantsAscii (state_of S.lines C.maps W.sheet self.old) → OnOk result (AddsAscii (other_texts (steps_of (steps_in (whole_module any_answers any_items node.now) (state_of S.lines C.maps W.sheet self.old)))) (W.sheet self.old.wr).text (W.sheet self.new.wr).text) }
         // Under `inline_script` no string of a well-formed tree that is printed by its value ends a script of an HTML page, or
         // opens or closes a comment there: it holds no `<!--`, no `-->`, and no `</script` before `>` or ASCII whitespace.
         ensures inline { is_well_formed (Program.Module node.now) ≡ true → self.old.cfg.inline_script ≡ true → (W.sheet self.old.wr).keeps_invalid ≡ false → OnOk result (AddsSafe (value_strings (steps_of (steps_in (whole_module any_answers any_items node.now) (state_of S.lines C.maps W.sheet self.old)))) (W.sheet self.old.wr).text (W.sheet self.new.wr).text) }
@@ -216,9 +216,9 @@ impl<'a, W: WriteJs, S: SourceMapper, C: Comments> Emitter<'a, W, S, C> {
         ensures names { is_well_formed (Program.Script node.now) ≡ true → (W.sheet self.old.wr).keeps_positions ≡ true → (W.sheet self.old.wr).keeps_invalid ≡ false → OnOk result (RecordsNames self.old.cfg (names_in (program_phrase (Program.Script node.now))) (W.sheet self.old.wr) (W.sheet self.new.wr)) }
         // Where positions are kept, each of these names stands as its own token behind those before it: what is before it reads as them.
         ensures places { is_well_formed (Program.Script node.now) ≡ true → MayBegin (OfScript node.now) (state_of S.lines C.maps W.sheet self.old) → AreClosed (maps_in C.maps self.old.comments) → (W.sheet self.old.wr).keeps_positions ≡ true → OnOk result (PlacesNames self.old.cfg (program_phrase (Program.Script node.now)) (taken_remarks (script any_answers any_items node.now) (state_of S.lines C.maps W.sheet self.old).env) (W.sheet self.old.wr) (W.sheet self.new.wr)) }
-        // Where the settings ask for ASCII, what is added is, unless a text that stands as it is in the tree isn't: a regular
-        // expression, a template with a tag, a hashbang, or a directive with a backslash; and but for the texts of comments.
-        ensures ascii { is_well_formed (Program.Script node.now) ≡ true → WantsAscii (state_of S.lines C.maps W.sheet self.old) → keeps_other (steps_of (steps_in (script any_answers any_items node.now) (state_of S.lines C.maps W.sheet self.old))) ≡ false → OnOk result (AddsAscii (texts_of (taken_in (steps_of (steps_in (script any_answers any_items node.now) (state_of S.lines C.maps W.sheet self.old))) (maps_in C.maps self.old.comments))) (W.sheet self.old.wr).text (W.sheet self.new.wr).text) }
+        // Where the settings ask for ASCII, what is added is, but for the texts that stand as they are in the tree and aren't (a
+        // regular expression, a template with a tag, a hashbang, a directive with a backslash), and those of comments.
+        ensures ascii { is_well_formed (Program.Script node.now) ≡ true → WantsAscii (state_of S.lines C.maps W.sheet self.old) → OnOk result (AddsAscii (other_texts (steps_of (steps_in (script any_answers any_items node.now) (state_of S.lines C.maps W.sheet self.old)))) (W.sheet self.old.wr).text (W.sheet self.new.wr).text) }
         // Under `inline_script` no string of a well-formed tree that is printed by its value ends a script of an HTML page, or
         // opens or closes a comment there: it holds no `<!--`, no `-->`, and no `</script` before `>` or ASCII whitespace.
         ensures inline { is_well_formed (Program.Script node.now) ≡ true → self.old.cfg.inline_script ≡ true → (W.sheet self.old.wr).keeps_invalid ≡ false → OnOk result (AddsSafe (value_strings (steps_of (steps_in (script any_answers any_items node.now) (state_of S.lines C.maps W.sheet self.old)))) (W.sheet self.old.wr).text (W.sheet self.new.wr).text) }
@@ -259,9 +259,9 @@ impl<'a, W: WriteJs, S: SourceMapper, C: Comments> Emitter<'a, W, S, C> {
         ensures names { is_possible (item_phrase phrase node.now) ≡ true → (W.sheet self.old.wr).keeps_positions ≡ true → (W.sheet self.old.wr).keeps_invalid ≡ false → OnOk result (RecordsNames self.old.cfg (names_in (item_phrase phrase node.now)) (W.sheet self.old.wr) (W.sheet self.new.wr)) }
         // Where positions are kept, each of these names stands as its own token behind those before it: what is before it reads as them.
         ensures places { is_possible (item_phrase phrase node.now) ≡ true → IsNew (state_of S.lines C.maps W.sheet self.old) → AreClosed (maps_in C.maps self.old.comments) → (W.sheet self.old.wr).keeps_positions ≡ true → OnOk result (PlacesNames self.old.cfg (item_phrase phrase node.now) (taken_remarks (module_item any_answers any_items node.now) (state_of S.lines C.maps W.sheet self.old).env) (W.sheet self.old.wr) (W.sheet self.new.wr)) }
-        // Where the settings ask for ASCII, what is added is, unless a text that stands as it is in the tree isn't: a regular
-        // expression, a template with a tag, a hashbang, or a directive with a backslash; and but for the texts of comments.
-        ensures ascii { is_possible (item_phrase phrase node.now) ≡ true → WantsAscii (state_of S.lines C.maps W.sheet self.old) → keeps_other (steps_of (steps_in (module_item any_answers any_items node.now) (state_of S.lines C.maps W.sheet self.old))) ≡ false → OnOk result (AddsAscii (texts_of (taken_in (steps_of (steps_in (module_item any_answers any_items node.now) (state_of S.lines C.maps W.sheet self.old))) (maps_in C.maps self.old.comments))) (W.sheet self.old.wr).text (W.sheet self.new.wr).text) }
+        // Where the settings ask for ASCII, what is added is, but for the texts that stand as they are in the tree and aren't (a
+        // regular expression, a template with a tag, a hashbang, a directive with a backslash), and those of comments.
+        ensures ascii { is_possible (item_phrase phrase node.now) ≡ true → WantsAscii (state_of S.lines C.maps W.sheet self.old) → OnOk result (AddsAscii (other_texts (steps_of (steps_in (module_item any_answers any_items node.now) (state_of S.lines C.maps W.sheet self.old)))) (W.sheet self.old.wr).text (W.sheet self.new.wr).text) }
         // Under `inline_script` no string of a well-formed tree that is printed by its value ends a script of an HTML page, or
         // opens or closes a comment there: it holds no `<!--`, no `-->`, and no `</script` before `>` or ASCII whitespace.
         ensures inline { is_possible (item_phrase phrase node.now) ≡ true → self.old.cfg.inline_script ≡ true → (W.sheet self.old.wr).keeps_invalid ≡ false → OnOk result (AddsSafe (value_strings (steps_of (steps_in (module_item any_answers any_items node.now) (state_of S.lines C.maps W.sheet self.old)))) (W.sheet self.old.wr).text (W.sheet self.new.wr).text) }
@@ -286,8 +286,10 @@ impl<'a, W: WriteJs, S: SourceMapper, C: Comments> Emitter<'a, W, S, C> {
     }
 
     /// Prints the name of what a module imports or exports: a name, or a string. swc's `emit_module_export_name`.
-    #[tactic(auto, using(crate::proofs::TreeReads::steps_taken, swc_ecma_codegen_base::proofs::Made::ready_after))]
+    #[tactic(auto, using(crate::proofs::TreeReads::steps_recorded, crate::proofs::TreeReads::steps_taken, swc_ecma_codegen_base::proofs::Made::ready_after))]
     pub fn emit_module_export_name(&mut self, node: &ModuleExportName) -> Result
+        // Each position that is recorded holds the place that the text had reached, and none is recorded twice.
+        ensures recorded { OnOk result (RecordsTruly (W.sheet self.old.wr) (W.sheet self.new.wr)) }
         // What is gone from the comments is what was taken.
         ensures taken { OnOk result ((maps_in C.maps self.new.comments) ≡ maps_after (steps_of (steps_in (module_export_name node.now) (state_of S.lines C.maps W.sheet self.old))) (maps_in C.maps self.old.comments)) }
         // Its steps are made, or it halts.

@@ -4,13 +4,14 @@ ghost use Rattle.std.specs.Prelude.{◌≡◌, Some, None, true};
 ghost use Rattle.swc_ecma_codegen_base.specs.Starts.{begins_letter};
 ghost use Rattle.swc_ecma_codegen.specs.Standing.{Makes, Stays, standing_of};
 ghost use Rattle.swc_ecma_codegen.specs.Exprs.{ident, ident_name, private_name, this, unary_op, unary_gap, unary, update_parts, update, binary_op, before_op, after_op, bin_operator, tight_operator, spaced_operator, word_between, bin_trailing, bin_opened, bin, computed_prop_name, choice, meta_prop_expr, assign, yield_star, yield_arg, yield_argument, yield_argument_in, yield_expr, spread_element, await_expr, seq, paren};
-ghost use Rattle.swc_ecma_codegen.specs.AnyExpr.{expr_parts, is_left_operand, leaves_comments, expr_closed, expr};
+ghost use Rattle.swc_ecma_codegen.specs.AnyExpr.{expr_parts, is_left_operand, leaves_comments, expr_closed, expr, wrapped, placed_expr};
 ghost use Rattle.swc_ecma_codegen_spans.specs.Spans.{expr_span};
 ghost use Rattle.swc_ecma_codegen.specs.Answers.{place_of};
 ghost use Rattle.swc_ecma_codegen.specs.Operands.{operand_space};
 ghost use Rattle.swc_ecma_codegen.specs.declared.nodes.Place.TheVariants.{Plain};
 ghost use Rattle.swc_ecma_codegen_util.specs.Starts.{is_word_op as is_word_unary};
 
+use crate::branches::is_wrapped;
 use crate::emitter::Emitter;
 use crate::lits::is_number_object;
 use crate::marks::{assign_mark, binary_mark, unary_mark, update_mark};
@@ -145,6 +146,38 @@ fn commented<N: Held, W: WriteJs, S: SourceMapper, C: Comments>(
 {
     expr_parts(node, e, place);
     e.expr_closed(node, place);
+}
+
+/// Writes an expression in parentheses.
+#[inline(never)]
+#[tactic(auto, unfolding(crate::specs::AnyExpr::wrapped))]
+fn wrapped<N: Held, W: WriteJs, S: SourceMapper, C: Comments>(
+    node: &Expr<N>,
+    e: &mut Emitter<'_, W, S, C>,
+)
+    ensures items { Makes (wrapped N.answers N.items node.now) (standing_of S.lines C.maps W.sheet e.old) (standing_of S.lines C.maps W.sheet e.new) }
+    ensures level { Stays (standing_of S.lines C.maps W.sheet e.old) (standing_of S.lines C.maps W.sheet e.new) }
+{
+    e.punct(Punctuator::LeftParenthesis);
+    commented(node, e, Place::Plain);
+    e.punct(Punctuator::RightParenthesis);
+}
+
+/// Writes an expression where it stands: a sequence that is the value of a field stands in parentheses.
+#[inline(always)]
+#[tactic(auto, unfolding(crate::specs::AnyExpr::placed_expr))]
+pub(crate) fn placed_expr<N: Held, W: WriteJs, S: SourceMapper, C: Comments>(
+    node: &Expr<N>,
+    e: &mut Emitter<'_, W, S, C>,
+    place: Place,
+)
+    ensures items { Makes (placed_expr N.answers N.items node.now place) (standing_of S.lines C.maps W.sheet e.old) (standing_of S.lines C.maps W.sheet e.new) }
+    ensures level { Stays (standing_of S.lines C.maps W.sheet e.old) (standing_of S.lines C.maps W.sheet e.new) }
+{
+    if is_wrapped(node, place) {
+        return wrapped(node, e);
+    }
+    node.emit_at(e, place);
 }
 
 impl EmitAt for MetaPropExpr {

@@ -5,9 +5,8 @@ ghost use Rattle.swc_ecma_codegen_ast.specs.Comments.{maps_in};
 ghost use Rattle.swc_ecma_codegen_literals.specs.Punctuators.{spelling};
 ghost use Rattle.swc_ecma_codegen.specs.Standing.{Makes, Stays, standing_of};
 ghost use Rattle.swc_ecma_codegen.specs.FunctionExprs.{comma_list_format, star, optional_name, fn_expr, is_plain, is_name, is_only, async_arrow, parenthesis, has_comment_behind, arrow_children, arrow_list, arrow_within, arrow_parameters, arrow_body, arrow_expr};
-ghost use Rattle.swc_ecma_codegen.specs.Functions.{decorators_format, decorator, decorators, decorator_lines, param, function_body, parameters, fn_trailing_parts, fn_trailing, static_gap, static_head, method_body, method_tail_parts, method_tail, private_tail, async_word, function_head, star_or_space, declaration_head, method_head, function};
+ghost use Rattle.swc_ecma_codegen.specs.Functions.{decorators_format, decorator, decorators, decorator_lines, param, function_body, parameters, fn_trailing_parts, fn_trailing, static_gap, static_head, method_body, method_tail_parts, method_tail, async_word, function_head, star_or_space, declaration_head, method_head, function};
 
-use crate::blocks::is_some_listed;
 use crate::commented::has_comment_after;
 use crate::emitter::Emitter;
 use crate::nodes::{Asked, Child, EmitAt, Held, Place};
@@ -165,7 +164,6 @@ impl<N: Held> EmitAt for Function<N> {
             Place::StaticHead(starts) => e.static_head(starts, self),
             Place::MethodDecorators => e.decorator_lines(&self.decorators),
             Place::MethodTail => e.method_tail(self),
-            Place::PrivateTail => e.private_tail(self),
             _ => e.fn_trailing(self),
         }
     }
@@ -293,16 +291,13 @@ impl<W: WriteJs, S: SourceMapper, C: Comments> Emitter<'_, W, S, C> {
         self.star(node.is_generator);
     }
 
-    /// Writes `(a) { b; }` of `function f(a) { b; }`. swc's `emit_fn_trailing`.
+    /// Writes `(a) { b; }` of `function f(a) { b; }`, and of a private method, without decorators. swc's `emit_fn_trailing`.
     #[tactic(auto, unfolding(crate::specs::Functions::fn_trailing))]
     fn fn_trailing<N: Held>(&mut self, node: &Function<N>)
         ensures items { Makes (fn_trailing N.answers N.items node.now) (standing_of S.lines C.maps W.sheet self.old) (standing_of S.lines C.maps W.sheet self.new) }
         ensures level { Stays (standing_of S.lines C.maps W.sheet self.old) (standing_of S.lines C.maps W.sheet self.new) }
     {
-        if node.type_params.is_some()
-            || node.return_type.is_some()
-            || is_some_listed(&node.decorators)
-        {
+        if node.type_params.is_some() || node.return_type.is_some() {
             return self.unsupported();
         }
         self.fn_trailing_parts(node)
@@ -319,7 +314,7 @@ impl<W: WriteJs, S: SourceMapper, C: Comments> Emitter<'_, W, S, C> {
                 self.formatting_space();
                 body.held().emit_at(self, Place::Plain)
             }
-            None => self.punct(Punctuator::Semicolon),
+            None => self.semi(),
         }
     }
 
@@ -345,18 +340,6 @@ impl<W: WriteJs, S: SourceMapper, C: Comments> Emitter<'_, W, S, C> {
             return self.unsupported();
         }
         self.method_tail_parts(node)
-    }
-
-    /// Writes `(a) { b; }` of a private method, whose decorators stand elsewhere.
-    #[tactic(auto, unfolding(crate::specs::Functions::private_tail))]
-    fn private_tail<N: Held>(&mut self, node: &Function<N>)
-        ensures items { Makes (private_tail N.answers N.items node.now) (standing_of S.lines C.maps W.sheet self.old) (standing_of S.lines C.maps W.sheet self.new) }
-        ensures level { Stays (standing_of S.lines C.maps W.sheet self.old) (standing_of S.lines C.maps W.sheet self.new) }
-    {
-        if node.type_params.is_some() || node.return_type.is_some() {
-            return self.unsupported();
-        }
-        self.fn_trailing_parts(node)
     }
 
     /// Writes `(a) { b; }`.

@@ -4,9 +4,10 @@
 ghost use Rattle.swc_ecma_codegen.specs.Answers.{any_answers};
 ghost use Rattle.swc_ecma_codegen.specs.Tree.{any_items};
 
-use crate::branches::{is_block, is_sequence};
+use crate::branches::is_block;
 use crate::commented::BreaksBefore;
 use crate::emitter::Emitter;
+use crate::expr::placed_expr;
 use crate::nodes::{Asked, EmitAt, Held, Known, Place, Question, Reply};
 use crate::operands::{Operand, SpaceBefore};
 use crate::patterns::{PatternKind, kind_of_part};
@@ -23,7 +24,7 @@ impl Known for AnyNode {
 
 impl Asked for AnyNode {
     #[inline(always)]
-    #[tactic(auto, using(crate::proofs::PatternLaws::any_pattern_of, crate::proofs::PatternLaws::any_pattern_part, crate::proofs::BranchLaws::any_block_of, crate::proofs::BranchLaws::any_block_stmt, crate::proofs::BranchLaws::any_block_expr), unfolding(crate::specs::Answers::reply_of, crate::specs::Answers::any_answers, crate::specs::Patterns::node_pattern, crate::specs::Branches::node_block))]
+    #[tactic(auto, using(crate::proofs::PatternLaws::any_pattern_of, crate::proofs::PatternLaws::any_pattern_part, crate::proofs::BranchLaws::any_block_of, crate::proofs::BranchLaws::any_block_stmt), unfolding(crate::specs::Answers::reply_of, crate::specs::Answers::any_answers, crate::specs::Patterns::node_pattern, crate::specs::Branches::node_block))]
     fn reply(&self, question: Question) -> Reply {
         match (question, self) {
             (Question::Place, _) => Reply::Place(self.span()),
@@ -34,7 +35,6 @@ impl Asked for AnyNode {
             (Question::Pattern, AnyNode::ExprPart(part)) => Reply::Pattern(kind_of_part(part)),
             (Question::Pattern, _) => Reply::Pattern(PatternKind::Other),
             (Question::Block, AnyNode::Stmt(node)) => Reply::Truth(is_block(node)),
-            (Question::Block, AnyNode::Expr(node)) => Reply::Truth(is_sequence(node)),
             (Question::Block, _) => Reply::Truth(false),
         }
     }
@@ -55,7 +55,7 @@ impl EmitAt for AnyNode {
         place: Place,
     ) {
         match self {
-            AnyNode::Expr(node) => node.emit_at(e, place),
+            AnyNode::Expr(node) => placed_expr(node, e, place),
             AnyNode::Stmt(node) => node.emit_at(e, place),
             AnyNode::MemberExpr(node) => node.emit_at(e, place),
             AnyNode::ExprPart(node) => node.emit_at(e, place),

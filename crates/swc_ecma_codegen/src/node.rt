@@ -7,7 +7,7 @@ ghost use Rattle.swc_ecma_codegen_base.specs.Run.{Part, Follows, HasCause, IsUnh
 ghost use Rattle.swc_ecma_codegen_ast.specs.Phrases.{names_in};
 ghost use Rattle.swc_ecma_codegen_text_writer.specs.Recorded.{RecordsTruly};
 ghost use Rattle.swc_ecma_codegen_base.specs.Named.{RecordsNames, PlacesNames};
-ghost use Rattle.swc_ecma_codegen_base.specs.Ascii.{keeps_other, AddsAscii, WantsAscii};
+ghost use Rattle.swc_ecma_codegen_base.specs.Ascii.{other_texts, AddsAscii, WantsAscii};
 ghost use Rattle.swc_ecma_codegen_base.specs.Scripts.{value_strings, AddsSafe};
 ghost use Rattle.swc_ecma_codegen_base.specs.Written.{AddsReading, taken_remarks};
 ghost use Rattle.swc_ecma_codegen_ast.specs.Comments.{maps_in, AreClosed, texts_of};
@@ -50,9 +50,9 @@ pub trait Node: Spanned {
         ensures names { (root : Root) → part self.now ≡ root_items root → is_well_formed_root root ≡ true → (W.sheet e.old.wr).keeps_positions ≡ true → (W.sheet e.old.wr).keeps_invalid ≡ false → OnOk result (RecordsNames e.old.cfg (names_in (root_phrase root)) (W.sheet e.old.wr) (W.sheet e.new.wr)) }
         // Where positions are kept, each of these names stands as its own token behind those before it: what is before it reads as them.
         ensures places { (root : Root) → part self.now ≡ root_items root → is_well_formed_root root ≡ true → MayBegin root (state_of S.lines C.maps W.sheet e.old) → AreClosed (maps_in C.maps e.old.comments) → (W.sheet e.old.wr).keeps_positions ≡ true → OnOk result (PlacesNames e.old.cfg (root_phrase root) (taken_remarks (part self.now) (state_of S.lines C.maps W.sheet e.old).env) (W.sheet e.old.wr) (W.sheet e.new.wr)) }
-        // Where the settings ask for ASCII, what is added is, unless a text that stands as it is in the tree isn't: a regular
-        // expression, a template with a tag, a hashbang, or a directive with a backslash; and but for the texts of comments.
-        ensures ascii { (root : Root) → part self.now ≡ root_items root → is_well_formed_root root ≡ true → WantsAscii (state_of S.lines C.maps W.sheet e.old) → keeps_other (steps_of (steps_in (part self.now) (state_of S.lines C.maps W.sheet e.old))) ≡ false → OnOk result (AddsAscii (texts_of (taken_in (steps_of (steps_in (part self.now) (state_of S.lines C.maps W.sheet e.old))) (maps_in C.maps e.old.comments))) (W.sheet e.old.wr).text (W.sheet e.new.wr).text) }
+        // Where the settings ask for ASCII, what is added is, but for the texts that stand as they are in the tree and aren't (a
+        // regular expression, a template with a tag, a hashbang, a directive with a backslash), and those of comments.
+        ensures ascii { (root : Root) → part self.now ≡ root_items root → is_well_formed_root root ≡ true → WantsAscii (state_of S.lines C.maps W.sheet e.old) → OnOk result (AddsAscii (other_texts (steps_of (steps_in (part self.now) (state_of S.lines C.maps W.sheet e.old)))) (W.sheet e.old.wr).text (W.sheet e.new.wr).text) }
         // Under `inline_script` no string of a well-formed tree that is printed by its value ends a script of an HTML page, or
         // opens or closes a comment there: it holds no `<!--`, no `-->`, and no `</script` before `>` or ASCII whitespace.
         ensures inline { (root : Root) → part self.now ≡ root_items root → is_well_formed_root root ≡ true → e.old.cfg.inline_script ≡ true → (W.sheet e.old.wr).keeps_invalid ≡ false → OnOk result (AddsSafe (value_strings (steps_of (steps_in (part self.now) (state_of S.lines C.maps W.sheet e.old)))) (W.sheet e.old.wr).text (W.sheet e.new.wr).text) }

@@ -53,8 +53,8 @@ pub enum Place {
     MethodDecorators,
     /// The function of a method, whose decorators stand elsewhere: `() {}` of `@a b() {}`
     MethodTail,
-    /// The same of a private method: `() {}` of `@a #b() {}`
-    PrivateTail,
+    /// The value of a field, where a sequence stands in parentheses: `(a, b)` of `class B { c = (a, b); }`
+    FieldValue,
     /// What of a declaration stands before `export`: `@a` of `@a export class B {}`
     ExportedHead,
     /// And what stands after it: `class B {}`
@@ -81,7 +81,7 @@ pub enum Question {
     Space(BinaryOp),
     /// What it begins with, where it is a pattern.
     Pattern,
-    /// Whether it is a block, where it is a statement, or a sequence, where it is an expression.
+    /// Whether it is a block, where it is a statement.
     Block,
 }
 
@@ -170,7 +170,7 @@ pub trait Asked: Known {
         }
     }
 
-    /// Whether it is a block, where it is a statement, or a sequence, where it is an expression.
+    /// Whether it is a block, where it is a statement.
     #[inline(always)]
     #[tactic(auto, unfolding(crate::specs::Answers::reply_of))]
     final fn block(&self) -> bool

@@ -1,5 +1,6 @@
 -- The lists of a tree under settings that differ in whether they minify.
 use Rattle.std.proofs.Common.{◌≡◌, ◌⊎◌, Bool, true, false, ◌&&◌, cond, List, [], ◌∷◌, ◌++◌, append_assoc, append-nil, refl, sym, ap, ◌∙◌, subst, inl, inr}
+use Rattle.std.proofs.lemmas.Bool.{or_parts, true≢false}
 use Rattle.std.specs.List.{list_all, list_any}
 use Rattle.std.specs.Prelude.{ℕ, not, nat_lt, Some, codes}
 use Rattle.swc_ecma_codegen_common.specs.declared.versions.EsVersion.{EsVersion}
@@ -7,9 +8,9 @@ use Rattle.swc_ecma_codegen_ast.specs.declared.kinds.Kind.TheVariants.{Str, Punc
 use Rattle.swc_ecma_codegen_ast.specs.CodeUnits.{all_utf16}
 use Rattle.swc_ecma_codegen_ast.specs.Endings.{IsReduced}
 use Rattle.swc_ecma_codegen_ast.specs.Keys.{wants_quotes, is_quoted, key_token}
-use Rattle.swc_ecma_codegen_ast.specs.Layouts.{AreAlike, PutsIn, no_more, token, with_semicolon, with_comma, with_parentheses, AreSameBut, IsWritten}
+use Rattle.swc_ecma_codegen_ast.specs.Layouts.{AreAlike, Alongside, leaves_open, PutsIn, no_more, token, with_semicolon, with_comma, with_parentheses, AreSameBut, IsWritten}
 use Rattle.swc_ecma_codegen_ast.specs.Names.{name_value}
-use Rattle.swc_ecma_codegen_ast.specs.Phrases.{Phrase, Never, Nothing, One, NameOf, KeyOf, PrivateOf, Then, OptionalComma, OptionalParentheses, Chosen, EmptyArguments, LoopEnding, AttributesWord, Generates, chosen, open_parenthesis, close_parenthesis, in_parentheses}
+use Rattle.swc_ecma_codegen_ast.specs.Phrases.{Phrase, Never, Nothing, One, NameOf, KeyOf, PrivateOf, Then, CommaBefore, OptionalParentheses, Chosen, EmptyArguments, LoopEnding, AttributesWord, Generates, chosen, closing_mark, closing_token, comma, open_parenthesis, close_parenthesis, in_parentheses}
 use Rattle.swc_ecma_codegen_ast.specs.Settings.{Settings, is_up_to_es5}
 use Rattle.swc_ecma_codegen_ast.specs.SpelledNames.{spelled_name}
 use Rattle.swc_ecma_codegen_ast.specs.Tokens.{Token, Units, ending}
@@ -88,10 +89,15 @@ less_of xs ys zs (with_semicolon us vs p) (inl h) =
     let k = less_of us vs h.0 p h.2 in
     record { less = k.less; drops = k.drops; puts = subst (λ z. PutsIn k.less z) (sym h.1) (with_semicolon k.less h.0 k.puts) }
 less_of xs ys zs (with_semicolon us vs p) (inr h) = less_of us vs zs p h.1
-less_of xs ys zs (with_comma us vs p) h =
-    let m = kept_mark (codes ",") vs zs h in
-    let k = less_of us vs m.0 p m.2 in
-    record { less = k.less; drops = k.drops; puts = subst (λ z. PutsIn k.less z) (sym m.1) (with_comma k.less m.0 k.puts) }
+less_of xs ys zs (with_comma close us vs p) h =
+    let m = kept_mark (codes ",") (closing_token close ∷ vs) zs h in
+    let n = kept_mark (closing_mark close) vs m.0 m.2 in
+    let k = less_of us vs n.0 p n.2 in
+    record {
+      less = closing_token close ∷ k.less;
+      drops = inl (k.less, refl, k.drops);
+      puts = subst (λ z. PutsIn (closing_token close ∷ k.less) z) (sym (m.1 ∙ ap (λ z. comma ∷ z) n.1)) (with_comma close k.less n.0 k.puts);
+    }
 less_of xs ys zs (with_parentheses ks bs us vs p q) h =
     let m = kept_mark (codes "(") (us ++ (close_parenthesis ∷ vs)) zs h in
     let s = split us (close_parenthesis ∷ vs) m.0 m.2 in
@@ -105,7 +111,9 @@ puts_back xs ys zs no_more h = subst (λ z. PutsIn z []) (sym h) no_more
 puts_back xs ys zs (token x us vs p) (inl h) = subst (λ z. PutsIn z (x ∷ vs)) (sym h.1) (token x h.0 vs (puts_back us vs h.0 p h.2))
 puts_back xs ys zs (token x us vs p) (inr h) = subst (λ (z : Token). PutsIn zs (z ∷ vs)) (sym h.0) (with_semicolon zs vs (puts_back us vs zs p h.1))
 puts_back xs ys zs (with_semicolon us vs p) h = with_semicolon zs vs (puts_back us vs zs p h)
-puts_back xs ys zs (with_comma us vs p) h = with_comma zs vs (puts_back us vs zs p h)
+puts_back xs ys zs (with_comma close us vs p) h =
+    let m = kept_mark (closing_mark close) us zs h in
+    subst (λ z. PutsIn z (comma ∷ closing_token close ∷ vs)) (sym m.1) (with_comma close m.0 vs (puts_back us vs m.0 p m.2))
 puts_back xs ys zs (with_parentheses ks bs us vs p q) h =
     let s = split ks bs zs h in
     subst (λ z. PutsIn z (open_parenthesis ∷ (us ++ (close_parenthesis ∷ vs)))) (sym s.is) (with_parentheses s.left s.right us vs (puts_back ks us s.left p s.of_first) (puts_back bs vs s.right q s.of_second))
@@ -127,7 +135,7 @@ core s (NameOf at bytes) = tokens.name (name_value (spelled_name bytes)) ∷ []
 core s (KeyOf at bytes) = key_token s bytes ∷ []
 core s (PrivateOf bytes) = tokens.private_name (name_value (spelled_name bytes)) ∷ []
 core s (Then a b) = core s a ++ core s b
-core s OptionalComma = []
+core s (CommaBefore close) = closing_token close ∷ []
 core s (OptionalParentheses a) = core s a
 core s (Chosen EmptyArguments) = []
 core s (Chosen LoopEnding) = []
@@ -137,7 +145,7 @@ puts_both : (xs ys us vs : List Token) → PutsIn xs us → PutsIn ys vs → Put
 puts_both xs ys us vs no_more q = q
 puts_both xs ys us vs (token x ks bs p) q = token x (ks ++ ys) (bs ++ vs) (puts_both ks ys bs vs p q)
 puts_both xs ys us vs (with_semicolon ks bs p) q = with_semicolon (ks ++ ys) (bs ++ vs) (puts_both ks ys bs vs p q)
-puts_both xs ys us vs (with_comma ks bs p) q = with_comma (ks ++ ys) (bs ++ vs) (puts_both ks ys bs vs p q)
+puts_both xs ys us vs (with_comma close ks bs p) q = with_comma close (ks ++ ys) (bs ++ vs) (puts_both ks ys bs vs p q)
 puts_both xs ys us vs (with_parentheses ks bs cs ds p r) q =
     subst (λ z. PutsIn z ((open_parenthesis ∷ (cs ++ (close_parenthesis ∷ ds))) ++ vs)) (sym (append_assoc ks bs ys))
     (subst (λ z. PutsIn (ks ++ (bs ++ ys)) (open_parenthesis ∷ z)) (sym (append_assoc cs (close_parenthesis ∷ ds) vs)) (with_parentheses ks (bs ++ ys) cs (ds ++ vs) p (puts_both bs ys ds vs r q)))
@@ -168,8 +176,8 @@ listed s (NameOf at bytes) ts g = one_token _ ts g
 listed s (KeyOf at bytes) ts g = one_token _ ts g
 listed s (PrivateOf bytes) ts g = one_token _ ts g
 listed s (Then a b) ts g = subst (λ z. PutsIn (core s a ++ core s b) z) (sym g.4) (puts_both (core s a) (core s b) g.0 g.1 (listed s a g.0 g.2) (listed s b g.1 g.3))
-listed s OptionalComma ts (inl g) = no_token ts g
-listed s OptionalComma ts (inr g) = subst (λ z. PutsIn [] z) (sym g) (with_comma [] [] no_more)
+listed s (CommaBefore close) ts (inl g) = one_token _ ts g
+listed s (CommaBefore close) ts (inr g) = subst (λ z. PutsIn (closing_token close ∷ []) z) (sym g) (with_comma close [] [] no_more)
 listed s (OptionalParentheses a) ts (inl g) = listed s a ts g
 listed s (OptionalParentheses a) ts (inr g) = subst (λ z. PutsIn (core s a) z) (sym g.2) (within (core s a) g.0 (listed s a g.0 g.1))
 listed s (Chosen EmptyArguments) ts g = subst (λ z. PutsIn [] z) (sym g) (arguments s)
@@ -185,6 +193,14 @@ same_key s t bytes a =
     let token_by : Bool → EsVersion → Token = λ b v. cond (b && (not (list_all (λ c. nat_lt c 128) text) && list_any (wants_quotes v) text)) quoted (tokens.name (name_value text)) in
     ap (λ b. token_by b s.target) a.ascii_only ∙ ap (λ v. token_by t.ascii_only v) a.target
 
+same_word : (s t : Settings) → AreAlike s t → chosen s AttributesWord ≡ chosen t AttributesWord
+unfolding chosen
+same_word s t a = ap (λ b. tokens.word (cond b (codes "assert") (codes "with")) ∷ []) a.assert_for_attributes
+
+same_ending : (s t : Settings) → AreAlike s t → chosen s LoopEnding ≡ chosen t LoopEnding
+unfolding chosen
+same_ending s t a = ap (λ v. cond (is_up_to_es5 v) (ending ∷ []) []) a.target
+
 core_same : (s t : Settings) (f : Phrase) → AreAlike s t → core s f ≡ core t f
 unfolding core chosen
 core_same s t Never a = refl
@@ -194,11 +210,11 @@ core_same s t (NameOf at bytes) a = refl
 core_same s t (KeyOf at bytes) a = ap (λ x. x ∷ []) (same_key s t bytes a)
 core_same s t (PrivateOf bytes) a = refl
 core_same s t (Then f g) a = ap (λ z. z ++ core s g) (core_same s t f a) ∙ ap (λ z. core t f ++ z) (core_same s t g a)
-core_same s t OptionalComma a = refl
+core_same s t (CommaBefore close) a = refl
 core_same s t (OptionalParentheses f) a = core_same s t f a
 core_same s t (Chosen EmptyArguments) a = refl
 core_same s t (Chosen LoopEnding) a = refl
-core_same s t (Chosen AttributesWord) a = ap (λ b. tokens.word (cond b (codes "assert") (codes "with")) ∷ []) a.assert_for_attributes
+core_same s t (Chosen AttributesWord) a = same_word s t a
 
 -- The lists of a phrase are the same but for what a layout may leave out.
 pub lists_alike : (s t : Settings) (f : Phrase) (xs ys : List Token) → AreAlike s t → Generates s f xs → Generates t f ys → AreSameBut xs ys
@@ -207,3 +223,44 @@ lists_alike s t f xs ys a g h = record { both = core s f; first = listed s f xs 
 -- so is what is written of them
 pub written_alike : (s t : Settings) (f : Phrase) (xs ys : List Token) → AreAlike s t → IsWritten s f xs → IsWritten t f ys → AreSameBut xs ys
 written_alike s t f xs ys a g h = same_reduced g.tokens h.tokens xs ys (lists_alike s t f g.tokens h.tokens a g.is_list h.is_list) g.reduced h.reduced
+
+-- ---- by what syntax leaves open
+
+-- Two lists of a phrase differ where it leaves something open, and nowhere else.
+pub alongside : (s t : Settings) (f : Phrase) (xs ys : List Token) → AreAlike s t → Generates s f xs → Generates t f ys → Alongside s t f xs ys
+unfolding Alongside Generates
+alongside s t Never xs ys a g h = g
+alongside s t Nothing xs ys a g h = (g, h)
+alongside s t (One x) xs ys a g h = (g, h)
+alongside s t (NameOf at bytes) xs ys a g h = (g, h)
+alongside s t (KeyOf at bytes) xs ys a g h = (g, h ∙ ap (λ x. x ∷ []) (sym (same_key s t bytes a)))
+alongside s t (PrivateOf bytes) xs ys a g h = (g, h)
+alongside s t (Then e f) xs ys a g h = (g.0, g.1, h.0, h.1, alongside s t e g.0 h.0 a g.2 h.2, alongside s t f g.1 h.1 a g.3 h.3, g.4, h.4)
+alongside s t (CommaBefore close) xs ys a g h = (g, h)
+alongside s t (OptionalParentheses f) xs ys a (inl g) (inl h) = (xs, ys, alongside s t f xs ys a g h, inl refl, inl refl)
+alongside s t (OptionalParentheses f) xs ys a (inl g) (inr h) = (xs, h.0, alongside s t f xs h.0 a g h.1, inl refl, inr h.2)
+alongside s t (OptionalParentheses f) xs ys a (inr g) (inl h) = (g.0, ys, alongside s t f g.0 ys a g.1 h, inr g.2, inl refl)
+alongside s t (OptionalParentheses f) xs ys a (inr g) (inr h) = (g.0, h.0, alongside s t f g.0 h.0 a g.1 h.1, inr g.2, inr h.2)
+alongside s t (Chosen EmptyArguments) xs ys a g h = (g, h)
+alongside s t (Chosen LoopEnding) xs ys a g h = (g, h ∙ sym (same_ending s t a))
+alongside s t (Chosen AttributesWord) xs ys a g h = (g, h ∙ sym (same_word s t a))
+
+-- so do those that what is written is reduced from
+pub written_alongside : (s t : Settings) (f : Phrase) (xs ys : List Token) → AreAlike s t → (g : IsWritten s f xs) → (h : IsWritten t f ys) → Alongside s t f g.tokens h.tokens
+written_alongside s t f xs ys a g h = alongside s t f g.tokens h.tokens a g.is_list h.is_list
+
+-- Where a phrase leaves nothing open, it has one list under the same settings.
+pub one_list : (s : Settings) (f : Phrase) (xs ys : List Token) → leaves_open f ≡ false → Generates s f xs → Generates s f ys → xs ≡ ys
+unfolding leaves_open Generates
+one_list s Never xs ys e g h = absurd g
+one_list s Nothing xs ys e g h = g ∙ sym h
+one_list s (One x) xs ys e g h = g ∙ sym h
+one_list s (NameOf at bytes) xs ys e g h = g ∙ sym h
+one_list s (KeyOf at bytes) xs ys e g h = g ∙ sym h
+one_list s (PrivateOf bytes) xs ys e g h = g ∙ sym h
+one_list s (Then a b) xs ys e g h =
+    let p = or_parts (leaves_open a) (leaves_open b) e in
+    g.4 ∙ ap (λ z. z ++ g.1) (one_list s a g.0 h.0 p.0 g.2 h.2) ∙ ap (λ z. h.0 ++ z) (one_list s b g.1 h.1 p.1 g.3 h.3) ∙ sym h.4
+one_list s (CommaBefore close) xs ys e g h = absurd (true≢false e)
+one_list s (OptionalParentheses a) xs ys e g h = absurd (true≢false e)
+one_list s (Chosen choice) xs ys e g h = g ∙ sym h

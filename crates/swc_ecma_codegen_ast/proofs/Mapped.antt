@@ -1,7 +1,7 @@
 -- What is there by cases, and lists that are mapped.
 use Rattle.std.proofs.Common.{◌≡◌, refl, ◌∙◌, ap, List, [], ◌∷◌, map, Option, Some, None}
-use Rattle.swc_ecma_codegen_ast.specs.Phrases.{Phrase}
-use Rattle.swc_ecma_codegen_ast.specs.ElementPhrases.{element, last_is_hole, trailing_comma}
+use Rattle.swc_ecma_codegen_ast.specs.Phrases.{Phrase, Closing}
+use Rattle.swc_ecma_codegen_ast.specs.ElementPhrases.{element, last_is_hole, closing_of}
 
 pub list_mapped : {A B C : Type 0} (g : A → B) (e : B → C) (d : A → C) → ((x : A) → e (g x) ≡ d x) → (xs : List A) → map e (map g xs) ≡ map d xs
 list_mapped g e d same [] = refl
@@ -25,7 +25,7 @@ hole_mapped g h none some (Some x ∷ []) = ap (λ z. last_is_hole (z ∷ [])) (
 hole_mapped g h none some (None ∷ p ∷ xs) = ap (λ z. last_is_hole (z ∷ g p ∷ map g xs)) none ∙ hole_mapped g h none some (p ∷ xs)
 hole_mapped g h none some (Some x ∷ p ∷ xs) = ap (λ z. last_is_hole (z ∷ g p ∷ map g xs)) (some x) ∙ hole_mapped g h none some (p ∷ xs)
 
-pub comma_mapped : {A B : Type 0} (g : A → B) (xs : List A) → trailing_comma (map g xs) ≡ trailing_comma xs
-unfolding trailing_comma
-comma_mapped g [] = refl
-comma_mapped g (x ∷ xs) = refl
+pub closing_mapped : {A B : Type 0} (close : Closing) (g : A → B) (xs : List A) → closing_of close (map g xs) ≡ closing_of close xs
+unfolding closing_of
+closing_mapped close g [] = refl
+closing_mapped close g (x ∷ xs) = refl

@@ -25,10 +25,10 @@ use Rattle.swc_ecma_codegen_tree.specs.declared.decls.Param.{Param}
 use Rattle.swc_ecma_codegen_tree.specs.declared.decls.Function as functions
 use Rattle.swc_ecma_codegen_ast.specs.Phrases.{Phrase, Never, ◌>◌, mark, word, listed, in_order}
 use Rattle.swc_ecma_codegen_ast.specs.declared.roles.Role.{Role}
-use Rattle.swc_ecma_codegen_ast.specs.declared.roles.Role.TheVariants.{ClassHead, ClassTail, Member, MethodDecorators, MethodTail, PrivateTail}
+use Rattle.swc_ecma_codegen_ast.specs.declared.roles.Role.TheVariants.{ClassHead, ClassTail, Member, MethodDecorators, MethodTail, AccessorTail}
 use Rattle.swc_ecma_codegen_ast.specs.PatPhrases.{initializer}
 use Rattle.swc_ecma_codegen_ast.specs.FunctionPhrases.{decorator, param, function_body}
-use Rattle.swc_ecma_codegen_ast.specs.ClassPhrases.{member_at, decorators, class_head, heritage, class_tail, constructor_param, class_constructor, method_decorators, method_body, method_tail, private_tail, kind_head, method_kind, class_method, private_method, prop_value, class_prop, private_prop, accessor_key, auto_accessor, static_block, class_member}
+use Rattle.swc_ecma_codegen_ast.specs.ClassPhrases.{member_at, decorators, class_head, heritage, class_tail, constructor_param, class_constructor, method_decorators, method_tail, accessor_tail, tail_role, kind_head, method_kind, class_method, private_method, prop_value, class_prop, private_prop, accessor_key, auto_accessor, static_block, class_member}
 use Rattle.swc_ecma_codegen_ast.specs.PartPhrases.{expr_part, stmt_part}
 use Rattle.swc_ecma_codegen_ast.specs.TreePhrases.{node_phrase}
 use Rattle.swc_ecma_codegen_ast.proofs.Mapped.{list_mapped}
@@ -49,9 +49,9 @@ unfolding node_phrase stmt_part method_decorators decorator
 method_decorators_mapped g f b = decorators_mapped _ f (λ x. f (g x)) (λ n. refl) b.value.decorators.items
 
 tail_by : {X Y : Type 0} (g : X → Y) (f : Y → Role → Phrase) (b : Box (functions.Function X) Global) (n : functions.Function X) (body : Option (BlockStmtBox X)) (type_params : Option (TsTypeParamDeclBox X)) (return_type : Option (TsTypeAnnBox X)) → node_phrase f (map-AnyNode X Y g (nodes.StmtPart (stmt_parts.Function (record b { value = with_parts n body type_params return_type })))) MethodTail ≡ method_tail (λ x. f (g x)) (with_parts n body type_params return_type)
-unfolding node_phrase expr_part stmt_part method_tail method_body decorator
-tail_by {X} {Y} g f b n None None None = ap (λ ps. mark (codes "(") > listed (codes ",") ps > mark (codes ")") > method_body (λ x. f (g x)) None) (list_mapped _ (param f) (param (λ x. f (g x))) (param_mapped {X = X} {Y = Y} _ _ f (λ x. f (g x)) (λ x. refl) (λ x. pat_mapped g f x.pat) (λ x. refl)) n.params.items)
-tail_by {X} {Y} g f b n (Some body) None None = ap (λ ps. mark (codes "(") > listed (codes ",") ps > mark (codes ")") > method_body (λ x. f (g x)) (Some body)) (list_mapped _ (param f) (param (λ x. f (g x))) (param_mapped {X = X} {Y = Y} _ _ f (λ x. f (g x)) (λ x. refl) (λ x. pat_mapped g f x.pat) (λ x. refl)) n.params.items)
+unfolding node_phrase expr_part stmt_part method_tail function_body decorator
+tail_by {X} {Y} g f b n None None None = ap (λ ps. mark (codes "(") > listed (codes ",") ps > mark (codes ")") > function_body (λ x. f (g x)) None) (list_mapped _ (param f) (param (λ x. f (g x))) (param_mapped {X = X} {Y = Y} _ _ f (λ x. f (g x)) (λ x. refl) (λ x. pat_mapped g f x.pat) (λ x. refl)) n.params.items)
+tail_by {X} {Y} g f b n (Some body) None None = ap (λ ps. mark (codes "(") > listed (codes ",") ps > mark (codes ")") > function_body (λ x. f (g x)) (Some body)) (list_mapped _ (param f) (param (λ x. f (g x))) (param_mapped {X = X} {Y = Y} _ _ f (λ x. f (g x)) (λ x. refl) (λ x. pat_mapped g f x.pat) (λ x. refl)) n.params.items)
 tail_by g f b n None None (Some t) = refl
 tail_by g f b n (Some body) None (Some t) = refl
 tail_by g f b n None (Some p) t = refl
@@ -60,17 +60,9 @@ tail_by g f b n (Some body) (Some p) t = refl
 pub method_tail_mapped : {X Y : Type 0} (g : X → Y) (f : Y → Role → Phrase) (b : Box (functions.Function X) Global) → node_phrase f (map-AnyNode X Y g (nodes.StmtPart (stmt_parts.Function b))) MethodTail ≡ method_tail (λ x. f (g x)) b.value
 method_tail_mapped g f b = tail_by g f b b.value b.value.body b.value.type_params b.value.return_type
 
-private_tail_by : {X Y : Type 0} (g : X → Y) (f : Y → Role → Phrase) (b : Box (functions.Function X) Global) (n : functions.Function X) (body : Option (BlockStmtBox X)) (type_params : Option (TsTypeParamDeclBox X)) (return_type : Option (TsTypeAnnBox X)) → node_phrase f (map-AnyNode X Y g (nodes.StmtPart (stmt_parts.Function (record b { value = with_parts n body type_params return_type })))) PrivateTail ≡ private_tail (λ x. f (g x)) (with_parts n body type_params return_type)
-unfolding node_phrase expr_part stmt_part private_tail function_body decorator
-private_tail_by {X} {Y} g f b n None None None = ap (λ ps. mark (codes "(") > listed (codes ",") ps > mark (codes ")") > function_body (λ x. f (g x)) None) (list_mapped _ (param f) (param (λ x. f (g x))) (param_mapped {X = X} {Y = Y} _ _ f (λ x. f (g x)) (λ x. refl) (λ x. pat_mapped g f x.pat) (λ x. refl)) n.params.items)
-private_tail_by {X} {Y} g f b n (Some body) None None = ap (λ ps. mark (codes "(") > listed (codes ",") ps > mark (codes ")") > function_body (λ x. f (g x)) (Some body)) (list_mapped _ (param f) (param (λ x. f (g x))) (param_mapped {X = X} {Y = Y} _ _ f (λ x. f (g x)) (λ x. refl) (λ x. pat_mapped g f x.pat) (λ x. refl)) n.params.items)
-private_tail_by g f b n None None (Some t) = refl
-private_tail_by g f b n (Some body) None (Some t) = refl
-private_tail_by g f b n None (Some p) t = refl
-private_tail_by g f b n (Some body) (Some p) t = refl
-
-pub private_tail_mapped : {X Y : Type 0} (g : X → Y) (f : Y → Role → Phrase) (b : Box (functions.Function X) Global) → node_phrase f (map-AnyNode X Y g (nodes.StmtPart (stmt_parts.Function b))) PrivateTail ≡ private_tail (λ x. f (g x)) b.value
-private_tail_mapped g f b = private_tail_by g f b b.value b.value.body b.value.type_params b.value.return_type
+pub accessor_tail_mapped : {X Y : Type 0} (g : X → Y) (f : Y → Role → Phrase) (b : Box (functions.Function X) Global) → node_phrase f (map-AnyNode X Y g (nodes.StmtPart (stmt_parts.Function b))) AccessorTail ≡ accessor_tail (λ x. f (g x)) b.value
+unfolding node_phrase stmt_part accessor_tail
+accessor_tail_mapped g f b = ap (λ p. cond (b.value.is_async || b.value.is_generator) Never p) (method_tail_mapped g f b)
 
 -- ---- classes
 
@@ -112,18 +104,18 @@ each_param P typed plain (params.TsParamProp n) = typed n
 each_param P typed plain (params.Param n) = plain n
 
 constructor_by : {X Y : Type 0} (g : X → Y) (f : Y → Role → Phrase) (b : Box (class_members.ClassMember X) Global) (n : Constructor X) (body : Option (BlockStmtBox X)) → node_phrase f (map-AnyNode X Y g (as_member b (members.Constructor (record n { body = body })))) Member ≡ class_constructor (λ x. f (g x)) (record n { body = body })
-unfolding node_phrase expr_part stmt_part class_member class_constructor constructor_param method_body decorator
-constructor_by {X} {Y} g f b n None = ap (λ ps. cond (is_some n.accessibility) Never (word (codes "constructor") > mark (codes "(") > listed (codes ",") ps > mark (codes ")") > method_body (λ x. f (g x)) None)) (list_mapped {A = ParamOrTsParamProp X} _ (constructor_param f) (constructor_param (λ x. f (g x))) (each_param {X = X} _ (λ m. refl) (param_mapped {X = X} {Y = Y} _ _ f (λ x. f (g x)) (λ x. refl) (λ x. pat_mapped g f x.pat) (λ x. refl))) n.params.items)
-constructor_by {X} {Y} g f b n (Some body) = ap (λ ps. cond (is_some n.accessibility) Never (word (codes "constructor") > mark (codes "(") > listed (codes ",") ps > mark (codes ")") > method_body (λ x. f (g x)) (Some body))) (list_mapped {A = ParamOrTsParamProp X} _ (constructor_param f) (constructor_param (λ x. f (g x))) (each_param {X = X} _ (λ m. refl) (param_mapped {X = X} {Y = Y} _ _ f (λ x. f (g x)) (λ x. refl) (λ x. pat_mapped g f x.pat) (λ x. refl))) n.params.items)
+unfolding node_phrase expr_part stmt_part class_member class_constructor constructor_param function_body decorator
+constructor_by {X} {Y} g f b n None = ap (λ ps. cond (is_some n.accessibility) Never (word (codes "constructor") > mark (codes "(") > listed (codes ",") ps > mark (codes ")") > function_body (λ x. f (g x)) None)) (list_mapped {A = ParamOrTsParamProp X} _ (constructor_param f) (constructor_param (λ x. f (g x))) (each_param {X = X} _ (λ m. refl) (param_mapped {X = X} {Y = Y} _ _ f (λ x. f (g x)) (λ x. refl) (λ x. pat_mapped g f x.pat) (λ x. refl))) n.params.items)
+constructor_by {X} {Y} g f b n (Some body) = ap (λ ps. cond (is_some n.accessibility) Never (word (codes "constructor") > mark (codes "(") > listed (codes ",") ps > mark (codes ")") > function_body (λ x. f (g x)) (Some body))) (list_mapped {A = ParamOrTsParamProp X} _ (constructor_param f) (constructor_param (λ x. f (g x))) (each_param {X = X} _ (λ m. refl) (param_mapped {X = X} {Y = Y} _ _ f (λ x. f (g x)) (λ x. refl) (λ x. pat_mapped g f x.pat) (λ x. refl))) n.params.items)
 
 method_by : {X Y : Type 0} (g : X → Y) (f : Y → Role → Phrase) (b : Box (class_members.ClassMember X) Global) (n : ClassMethod X) (kind : MethodKind) → node_phrase f (map-AnyNode X Y g (as_member b (members.Method (record n { kind = kind })))) Member ≡ class_method (λ x. f (g x)) (record n { kind = kind })
-unfolding node_phrase stmt_part class_member class_method method_kind kind_head
+unfolding node_phrase stmt_part class_member class_method method_kind kind_head tail_role
 method_by g f b n Method = refl
 method_by g f b n Getter = refl
 method_by g f b n Setter = refl
 
 private_method_by : {X Y : Type 0} (g : X → Y) (f : Y → Role → Phrase) (b : Box (class_members.ClassMember X) Global) (n : PrivateMethod X) (kind : MethodKind) → node_phrase f (map-AnyNode X Y g (as_member b (members.PrivateMethod (record n { kind = kind })))) Member ≡ private_method (λ x. f (g x)) (record n { kind = kind })
-unfolding node_phrase stmt_part class_member private_method method_kind kind_head
+unfolding node_phrase stmt_part class_member private_method method_kind kind_head tail_role
 private_method_by g f b n Method = refl
 private_method_by g f b n Getter = refl
 private_method_by g f b n Setter = refl

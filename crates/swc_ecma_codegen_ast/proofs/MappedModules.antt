@@ -70,5 +70,4 @@ exported_head_mapped g f n = refl
 pub exported_tail_mapped : {X Y : Type 0} (g : X → Y) (f : Y → Role → Phrase) (n : Decl X) → node_phrase f (map-AnyNode X Y g (nodes.StmtPart (stmt_parts.Decl n))) ExportedTail ≡ exported_tail (λ x. f (g x)) n
 unfolding node_phrase stmt_part exported_tail
 exported_tail_mapped g f (decls.Class n) = refl
-exported_tail_mapped g f (decls.Using n) = refl
 exported_tail_mapped g f n = decl_mapped g f n

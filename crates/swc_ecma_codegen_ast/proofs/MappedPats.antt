@@ -17,28 +17,28 @@ use Rattle.swc_ecma_codegen_tree.specs.declared.pats.KeyValuePatProp.{KeyValuePa
 use Rattle.swc_ecma_codegen_tree.specs.declared.pats.AssignTarget.TheVariants as targets
 use Rattle.swc_ecma_codegen_tree.specs.declared.pats.AssignTargetPat.{AssignTargetPat}
 use Rattle.swc_ecma_codegen_tree.specs.declared.pats.AssignTargetPat.TheVariants as target_pats
-use Rattle.swc_ecma_codegen_ast.specs.Phrases.{Phrase, ◌>◌, mark, listed}
+use Rattle.swc_ecma_codegen_ast.specs.Phrases.{Phrase, RightBracket, RightBrace, ◌>◌, mark, listed}
 use Rattle.swc_ecma_codegen_ast.specs.declared.roles.Role.{Role}
 use Rattle.swc_ecma_codegen_ast.specs.declared.roles.Role.TheVariants.{Pattern, PlainParameter, AssignmentTarget}
-use Rattle.swc_ecma_codegen_ast.specs.ElementPhrases.{element, last_is_hole, elements_end, trailing_comma}
+use Rattle.swc_ecma_codegen_ast.specs.ElementPhrases.{element, last_is_hole, elements_end, closing_of}
 use Rattle.swc_ecma_codegen_ast.specs.NamePhrases.{binding_ident}
 use Rattle.swc_ecma_codegen_ast.specs.PatPhrases.{pat_at, initializer, array_pat, rest_pat, assign_pat, key_value_pat_prop, assign_pat_prop, object_pat_prop, object_pat, pat, plain_name, plain_parameter, assign_target_pat}
 use Rattle.swc_ecma_codegen_ast.specs.AssignPhrases.{assign_target}
 use Rattle.swc_ecma_codegen_ast.specs.PartPhrases.{expr_part}
 use Rattle.swc_ecma_codegen_ast.specs.TreePhrases.{node_phrase}
-use Rattle.swc_ecma_codegen_ast.proofs.Mapped.{list_mapped, element_mapped, hole_mapped, comma_mapped}
+use Rattle.swc_ecma_codegen_ast.proofs.Mapped.{list_mapped, element_mapped, hole_mapped, closing_mapped}
 use Rattle.swc_ecma_codegen_ast.proofs.MappedKeys.{prop_name_mapped}
 
 -- ---- elements and properties
 
 abbrev bracketed : List Phrase → Bool → Phrase → Phrase
-bracketed ps hole tail = mark (codes "[") > listed (codes ",") ps > cond hole (mark (codes ",")) tail > mark (codes "]")
+bracketed ps hole tail = mark (codes "[") > listed (codes ",") ps > cond hole (mark (codes ",") > mark (codes "]")) tail
 
-elements_mapped : {X Y : Type 0} (g : Option (PatBox X) → Option (PatBox Y)) (h : PatBox X → PatBox Y) (f : Y → Role → Phrase) (d : X → Role → Phrase) → g None ≡ None → ((x : PatBox X) → g (Some x) ≡ Some (h x)) → ((x : PatBox X) → pat_at f (h x) ≡ pat_at d x) → (xs : List (Option (PatBox X))) → bracketed (map (element (pat_at f)) (map g xs)) (last_is_hole (map g xs)) (trailing_comma (map g xs)) ≡ bracketed (map (element (pat_at d)) xs) (last_is_hole xs) (trailing_comma xs)
+elements_mapped : {X Y : Type 0} (g : Option (PatBox X) → Option (PatBox Y)) (h : PatBox X → PatBox Y) (f : Y → Role → Phrase) (d : X → Role → Phrase) → g None ≡ None → ((x : PatBox X) → g (Some x) ≡ Some (h x)) → ((x : PatBox X) → pat_at f (h x) ≡ pat_at d x) → (xs : List (Option (PatBox X))) → bracketed (map (element (pat_at f)) (map g xs)) (last_is_hole (map g xs)) (closing_of RightBracket (map g xs)) ≡ bracketed (map (element (pat_at d)) xs) (last_is_hole xs) (closing_of RightBracket xs)
 elements_mapped g h f d none some same xs =
-    ap (λ ps. bracketed ps (last_is_hole (map g xs)) (trailing_comma (map g xs))) (list_mapped g (element (pat_at f)) (element (pat_at d)) (element_mapped g h (pat_at f) (pat_at d) none some same) xs)
-    ∙ ap (λ b. bracketed (map (element (pat_at d)) xs) b (trailing_comma (map g xs))) (hole_mapped g h none some xs)
-    ∙ ap (λ c. bracketed (map (element (pat_at d)) xs) (last_is_hole xs) c) (comma_mapped g xs)
+    ap (λ ps. bracketed ps (last_is_hole (map g xs)) (closing_of RightBracket (map g xs))) (list_mapped g (element (pat_at f)) (element (pat_at d)) (element_mapped g h (pat_at f) (pat_at d) none some same) xs)
+    ∙ ap (λ b. bracketed (map (element (pat_at d)) xs) b (closing_of RightBracket (map g xs))) (hole_mapped g h none some xs)
+    ∙ ap (λ c. bracketed (map (element (pat_at d)) xs) (last_is_hole xs) c) (closing_mapped RightBracket g xs)
 
 -- what holds of each property, by what is there, holds of all
 assign_by : {X : Type 0} (P : ObjectPatProp X → Type 0)
@@ -80,10 +80,10 @@ pub by_cases : {X : Type 0} (P : ObjectPatProp X → Type 0)
 by_cases P key_value plain valued typed both rest typed_rest =
     each_prop P key_value (assign_by P plain valued typed both) (rest_by (λ n. P (pat_props.Rest n)) rest typed_rest)
 
-props_mapped : {X Y : Type 0} (g : ObjectPatProp X → ObjectPatProp Y) (f : Y → Role → Phrase) (d : X → Role → Phrase) → ((n : ObjectPatProp X) → object_pat_prop f (g n) ≡ object_pat_prop d n) → (xs : List (ObjectPatProp X)) → (mark (codes "{") > listed (codes ",") (map (object_pat_prop f) (map g xs)) > trailing_comma (map g xs) > mark (codes "}")) ≡ (mark (codes "{") > listed (codes ",") (map (object_pat_prop d) xs) > trailing_comma xs > mark (codes "}"))
+props_mapped : {X Y : Type 0} (g : ObjectPatProp X → ObjectPatProp Y) (f : Y → Role → Phrase) (d : X → Role → Phrase) → ((n : ObjectPatProp X) → object_pat_prop f (g n) ≡ object_pat_prop d n) → (xs : List (ObjectPatProp X)) → (mark (codes "{") > listed (codes ",") (map (object_pat_prop f) (map g xs)) > closing_of RightBrace (map g xs)) ≡ (mark (codes "{") > listed (codes ",") (map (object_pat_prop d) xs) > closing_of RightBrace xs)
 props_mapped g f d same xs =
-    ap (λ ps. mark (codes "{") > listed (codes ",") ps > trailing_comma (map g xs) > mark (codes "}")) (list_mapped g (object_pat_prop f) (object_pat_prop d) same xs)
-    ∙ ap (λ c. mark (codes "{") > listed (codes ",") (map (object_pat_prop d) xs) > c > mark (codes "}")) (comma_mapped g xs)
+    ap (λ ps. mark (codes "{") > listed (codes ",") ps > closing_of RightBrace (map g xs)) (list_mapped g (object_pat_prop f) (object_pat_prop d) same xs)
+    ∙ ap (λ c. mark (codes "{") > listed (codes ",") (map (object_pat_prop d) xs) > c) (closing_mapped RightBrace g xs)
 
 -- ---- patterns
 

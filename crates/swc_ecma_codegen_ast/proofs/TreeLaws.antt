@@ -29,9 +29,9 @@ use Rattle.swc_ecma_codegen_tree.specs.declared.idents.Ident.{Ident}
 use Rattle.swc_ecma_codegen_tree.specs.declared.parts.StmtPart.{StmtPart}
 use Rattle.swc_ecma_codegen_tree.specs.declared.parts.StmtPart.TheVariants as stmt_parts
 use Rattle.swc_ecma_codegen_tree.specs.declared.stmts.Stmt.{Stmt}
-use Rattle.swc_ecma_codegen_ast.specs.Phrases.{Phrase, some_listed}
+use Rattle.swc_ecma_codegen_ast.specs.Phrases.{Phrase, ◌>◌, mark, some_listed}
 use Rattle.swc_ecma_codegen_ast.specs.declared.roles.Role.{Role}
-use Rattle.swc_ecma_codegen_ast.specs.declared.roles.Role.TheVariants.{Expression, Statement, MemberExpression, ChainMember, AssignmentTarget, Pattern, PlainParameter, PropertyName, ObjectLiteral, Function, Block, Declaration, VariableDeclaration, Callee, ChainCall, Template, TaggedTemplate, ClassHead, ClassTail, Member, MethodDecorators, MethodTail, PrivateTail, ModuleDeclaration, ExportedHead, ExportedTail}
+use Rattle.swc_ecma_codegen_ast.specs.declared.roles.Role.TheVariants.{Expression, Statement, MemberExpression, ChainMember, AssignmentTarget, Pattern, PlainParameter, PropertyName, ObjectLiteral, Function, Block, Declaration, VariableDeclaration, Callee, ChainCall, Template, TaggedTemplate, ClassHead, ClassTail, Member, MethodDecorators, MethodTail, AccessorTail, FieldValue, ModuleDeclaration, ExportedHead, ExportedTail}
 use Rattle.swc_ecma_codegen_ast.specs.ExprPhrases.{expr, expr_at, this_expr, unary_expr, update_expr, bin_expr, member_prop, member_expr, super_prop, super_prop_expr, chain_mark, chain_prop, chain_member, chain_base, opt_chain_expr, meta_prop_expr, assign_expr, yield_arg, yield_expr, await_expr, cond_expr, seq_expr, paren_expr, expr_in, yield_rest}
 use Rattle.swc_ecma_codegen_ast.specs.KeyPhrases.{computed_prop_name}
 use Rattle.swc_ecma_codegen_ast.specs.NamePhrases.{binding_ident}
@@ -39,14 +39,14 @@ use Rattle.swc_ecma_codegen_ast.specs.AssignPhrases.{assign_target, simple_assig
 use Rattle.swc_ecma_codegen_ast.specs.PartPhrases.{expr_part, stmt_part}
 use Rattle.swc_ecma_codegen_ast.specs.ClassPhrases.{class_expr}
 use Rattle.swc_ecma_codegen_ast.specs.FunctionPhrases.{function_head, method_head, fn_expr}
-use Rattle.swc_ecma_codegen_ast.specs.TreePhrases.{node_phrase, phrase}
+use Rattle.swc_ecma_codegen_ast.specs.TreePhrases.{is_sequence, field_value, node_phrase, phrase}
 use Rattle.swc_ecma_codegen_ast.proofs.Mapped.{list_mapped}
 use Rattle.swc_ecma_codegen_ast.proofs.MappedFunctions.{function_part_mapped, block_mapped, arrow_expr_mapped}
 use Rattle.swc_ecma_codegen_ast.proofs.MappedStmts.{stmt_mapped, decl_mapped, var_decl_mapped}
 use Rattle.swc_ecma_codegen_ast.proofs.MappedPats.{pat_mapped, plain_mapped, target_pat_mapped}
 use Rattle.swc_ecma_codegen_ast.proofs.MappedKeys.{prop_name_mapped}
 use Rattle.swc_ecma_codegen_ast.proofs.MappedProps.{object_lit_mapped}
-use Rattle.swc_ecma_codegen_ast.proofs.MappedClasses.{method_decorators_mapped, method_tail_mapped, private_tail_mapped, class_head_mapped, class_tail_mapped, class_member_mapped}
+use Rattle.swc_ecma_codegen_ast.proofs.MappedClasses.{method_decorators_mapped, method_tail_mapped, accessor_tail_mapped, class_head_mapped, class_tail_mapped, class_member_mapped}
 use Rattle.swc_ecma_codegen_ast.proofs.MappedModules.{module_decl_mapped, exported_head_mapped, exported_tail_mapped}
 use Rattle.swc_ecma_codegen_ast.proofs.MappedTemplates.{tpl_mapped, tagged_mapped, tagged_tpl_mapped}
 use Rattle.swc_ecma_codegen_ast.proofs.MappedCalls.{array_lit_mapped, call_mapped, new_mapped, chain_call_mapped}
@@ -96,6 +96,12 @@ callee_mapped : {X Y : Type 0} (g : X → Y) (f : Y → Role → Phrase) (n : Ex
 unfolding node_phrase expr_in
 callee_mapped g f (exprs.New n) = new_mapped g f true n
 callee_mapped g f n = expr_mapped g f n
+
+-- the value of a field is an expression, in parentheses where it is a sequence
+field_value_mapped : {X Y : Type 0} (g : X → Y) (f : Y → Role → Phrase) (n : Expr X) → node_phrase f (map-AnyNode X Y g (nodes.Expr n)) FieldValue ≡ field_value (λ x. f (g x)) n
+unfolding node_phrase field_value is_sequence
+field_value_mapped g f (exprs.Seq n) = ap (λ p. mark (codes "(") > p > mark (codes ")")) (expr_mapped g f (exprs.Seq n))
+field_value_mapped g f n = expr_mapped g f n
 
 chain_member_mapped : {X Y : Type 0} (g : X → Y) (f : Y → Role → Phrase) (span : Span) (obj : ExprBox X) (prop : MemberProp X) (optional : Bool) → node_phrase f (map-AnyNode X Y g (nodes.MemberExpr (record { span = span; obj = obj; prop = prop }))) (ChainMember optional) ≡ chain_member (λ x. f (g x)) optional (record { span = span; obj = obj; prop = prop })
 unfolding node_phrase chain_member chain_mark chain_prop computed_prop_name
@@ -155,7 +161,7 @@ unfolding node_phrase stmt_part function_head method_head
 stmt_part_mapped g f (stmt_parts.Function n) Function = function_part_mapped g f n
 stmt_part_mapped g f (stmt_parts.Function n) MethodDecorators = method_decorators_mapped g f n
 stmt_part_mapped g f (stmt_parts.Function n) MethodTail = method_tail_mapped g f n
-stmt_part_mapped g f (stmt_parts.Function n) PrivateTail = private_tail_mapped g f n
+stmt_part_mapped g f (stmt_parts.Function n) AccessorTail = accessor_tail_mapped g f n
 stmt_part_mapped g f (stmt_parts.Class n) ClassHead = class_head_mapped g f n
 stmt_part_mapped g f (stmt_parts.Class n) ClassTail = class_tail_mapped g f n
 stmt_part_mapped g f (stmt_parts.ClassMember n) Member = class_member_mapped g f n
@@ -171,6 +177,7 @@ node_mapped : {X Y : Type 0} (g : X → Y) (f : Y → Role → Phrase) (n : AnyN
 unfolding node_phrase
 node_mapped g f (nodes.Expr n) Expression = expr_mapped g f n
 node_mapped g f (nodes.Expr n) Callee = callee_mapped g f n
+node_mapped g f (nodes.Expr n) FieldValue = field_value_mapped g f n
 node_mapped g f (nodes.Stmt n) Statement = stmt_mapped g f n
 node_mapped g f (nodes.MemberExpr n) MemberExpression = member_mapped g f n.span n.obj n.prop
 node_mapped g f (nodes.MemberExpr n) (ChainMember optional) = chain_member_mapped g f n.span n.obj n.prop optional

@@ -1,7 +1,7 @@
 -- Classes: one production a node. `f` says what is read of what a link holds, in its role. What TypeScript adds isn't printed
 -- yet: types and their parameters, modifiers, and index signatures. ECMA-262, section 15.7.
 use Rattle.std.specs.Prelude.{Bool, true, false, ◌||◌, is_some, if◌then◌else◌, List, map, codes, Option, Some, None}
-use Rattle.swc_ecma_codegen_tree.specs.Links.{BlockStmtBox, ClassMemberBox, ExprBox, FunctionBox}
+use Rattle.swc_ecma_codegen_tree.specs.Links.{ClassMemberBox, ExprBox, FunctionBox}
 use Rattle.swc_ecma_codegen_tree.specs.declared.classes.Class as classes
 use Rattle.swc_ecma_codegen_tree.specs.declared.classes.ClassMember as class_members
 use Rattle.swc_ecma_codegen_tree.specs.declared.classes.ClassMember.TheVariants as members
@@ -22,12 +22,12 @@ use Rattle.swc_ecma_codegen_tree.specs.declared.decls.ClassDecl.{ClassDecl}
 use Rattle.swc_ecma_codegen_tree.specs.declared.decls.Decorator.{Decorator}
 use Rattle.swc_ecma_codegen_tree.specs.declared.decls.Function as functions
 use Rattle.swc_ecma_codegen_tree.specs.declared.exprs.ClassExpr.{ClassExpr}
-use Rattle.swc_ecma_codegen_ast.specs.Phrases.{Phrase, Never, Nothing, OptionalParentheses, ◌>◌, word, mark, same_line, ending, listed, in_order}
+use Rattle.swc_ecma_codegen_ast.specs.Phrases.{Phrase, Never, Nothing, ◌>◌, word, mark, same_line, ending, listed, in_order}
 use Rattle.swc_ecma_codegen_ast.specs.NamePhrases.{ident, private_name}
 use Rattle.swc_ecma_codegen_ast.specs.PatPhrases.{value_at, prop_name_at, initializer}
 use Rattle.swc_ecma_codegen_ast.specs.FunctionPhrases.{block_at, word_if, is_some_listed, decorator, param, function_body, optional_name}
 use Rattle.swc_ecma_codegen_ast.specs.declared.roles.Role.{Role}
-use Rattle.swc_ecma_codegen_ast.specs.declared.roles.Role.TheVariants.{ClassHead, ClassTail, Member, MethodHead, MethodDecorators, MethodTail, PrivateTail}
+use Rattle.swc_ecma_codegen_ast.specs.declared.roles.Role.TheVariants.{ClassHead, ClassTail, Member, MethodHead, MethodDecorators, MethodTail, AccessorTail, FieldValue}
 
 -- a member that a link holds
 abbrev pub member_at : {X : Type 0} → (X → Role → Phrase) → ClassMemberBox X → Phrase
@@ -68,31 +68,29 @@ unfoldable pub constructor_param : {X : Type 0} → (X → Role → Phrase) → 
 constructor_param f (params.Param n) = param f n
 constructor_param f (params.TsParamProp n) = Never
 
--- `{ a; }`, or a semicolon, which is never left out
-unfoldable pub method_body : {X : Type 0} → (X → Role → Phrase) → Option (BlockStmtBox X) → Phrase
-method_body f None = mark (codes ";")
-method_body f (Some n) = block_at f n
-
--- `constructor(a) { b; }`
+-- `constructor(a) { b; }`, or `constructor(a);`
 unfoldable pub class_constructor : {X : Type 0} → (X → Role → Phrase) → Constructor X → Phrase
 class_constructor f n =
     if is_some n.accessibility then Never
-    else (word (codes "constructor") > mark (codes "(") > listed (codes ",") (map (constructor_param f) n.params.items) > mark (codes ")") > method_body f n.body)
+    else (word (codes "constructor") > mark (codes "(") > listed (codes ",") (map (constructor_param f) n.params.items) > mark (codes ")") > function_body f n.body)
 
--- what of a method stands before its modifiers, and `(a) { b; }`
+-- what of a method stands before its modifiers, and `(a) { b; }`, or `(a);`
 unfoldable pub method_decorators : {X : Type 0} → (X → Role → Phrase) → functions.Function X → Phrase
 method_decorators f n = decorators f n.decorators.items
 
 unfoldable pub method_tail : {X : Type 0} → (X → Role → Phrase) → functions.Function X → Phrase
 method_tail f n =
     if is_some n.type_params || is_some n.return_type then Never
-    else (mark (codes "(") > listed (codes ",") (map (param f) n.params.items) > mark (codes ")") > method_body f n.body)
-
--- the same of a private method, with a semicolon that may be left out
-unfoldable pub private_tail : {X : Type 0} → (X → Role → Phrase) → functions.Function X → Phrase
-private_tail f n =
-    if is_some n.type_params || is_some n.return_type then Never
     else (mark (codes "(") > listed (codes ",") (map (param f) n.params.items) > mark (codes ")") > function_body f n.body)
+
+-- the same of a getter or a setter, which is neither async nor a generator
+unfoldable pub accessor_tail : {X : Type 0} → (X → Role → Phrase) → functions.Function X → Phrase
+accessor_tail f n = if n.is_async || n.is_generator then Never else method_tail f n
+
+unfoldable pub tail_role : MethodKind → Role
+tail_role Method = MethodTail
+tail_role Getter = AccessorTail
+tail_role Setter = AccessorTail
 
 -- section 15.4: `async *`, `get` or `set`
 unfoldable pub kind_head : {X : Type 0} → (X → Role → Phrase) → MethodKind → FunctionBox X → Phrase
@@ -108,18 +106,18 @@ method_kind f is_static kind n = word_if is_static (word (codes "static")) > kin
 unfoldable pub class_method : {X : Type 0} → (X → Role → Phrase) → ClassMethod X → Phrase
 class_method f n =
     if is_some n.accessibility || (n.is_abstract || (n.is_optional || n.is_override)) then Never
-    else (f n.function.node.value MethodDecorators > method_kind f n.is_static n.kind n.function > prop_name_at f n.key > f n.function.node.value MethodTail)
+    else (f n.function.node.value MethodDecorators > method_kind f n.is_static n.kind n.function > prop_name_at f n.key > f n.function.node.value (tail_role n.kind))
 
 -- `static async *#a(b) { c; }`
 unfoldable pub private_method : {X : Type 0} → (X → Role → Phrase) → PrivateMethod X → Phrase
 private_method f n =
     if is_some n.accessibility || (n.is_abstract || (n.is_optional || n.is_override)) then Never
-    else (f n.function.node.value MethodDecorators > method_kind f n.is_static n.kind n.function > private_name n.key > f n.function.node.value PrivateTail)
+    else (f n.function.node.value MethodDecorators > method_kind f n.is_static n.kind n.function > private_name n.key > f n.function.node.value (tail_role n.kind))
 
--- `= a` of `class B { c = a; }`; parentheses may stand round it
+-- `= a` of `class B { c = a; }`; a sequence stands in parentheses, `= (a, b)`
 unfoldable pub prop_value : {X : Type 0} → (X → Role → Phrase) → Option (ExprBox X) → Phrase
 prop_value f None = Nothing
-prop_value f (Some n) = mark (codes "=") > OptionalParentheses (value_at f n)
+prop_value f (Some n) = mark (codes "=") > f n.node.value FieldValue
 
 -- what TypeScript adds to a field
 abbrev pub is_typed_prop : {X : Type 0} → ClassProp X → Bool

@@ -26,10 +26,10 @@ use Rattle.swc_ecma_codegen_tree.specs.declared.modules.ModuleExportName.TheVari
 use Rattle.swc_ecma_codegen_tree.specs.declared.modules.NamedExport.{NamedExport}
 use Rattle.swc_ecma_codegen_tree.specs.declared.programs.ModuleDecl.{ModuleDecl}
 use Rattle.swc_ecma_codegen_tree.specs.declared.programs.ModuleDecl.TheVariants as module_decls
-use Rattle.swc_ecma_codegen_ast.specs.Phrases.{Phrase, Never, Nothing, Chosen, AttributesWord, ◌>◌, word, mark, ending, listed}
+use Rattle.swc_ecma_codegen_ast.specs.Phrases.{Phrase, Never, Nothing, RightBrace, Chosen, AttributesWord, ◌>◌, word, mark, ending, listed}
 use Rattle.swc_ecma_codegen_ast.specs.ClassPhrases.{class_expr}
 use Rattle.swc_ecma_codegen_ast.specs.DeclPhrases.{decl}
-use Rattle.swc_ecma_codegen_ast.specs.ElementPhrases.{trailing_comma}
+use Rattle.swc_ecma_codegen_ast.specs.ElementPhrases.{closing_of}
 use Rattle.swc_ecma_codegen_ast.specs.FunctionPhrases.{fn_expr}
 use Rattle.swc_ecma_codegen_ast.specs.LitPhrases.{str_lit}
 use Rattle.swc_ecma_codegen_ast.specs.NamePhrases.{ident}
@@ -61,7 +61,7 @@ import_specifier n = Never
 -- `{ a, b as c }` or `* as a`
 unfoldable pub import_bindings : List ImportSpecifier → Phrase
 import_bindings (imported.Namespace n ∷ []) = mark (codes "*") > word (codes "as") > ident n.local
-import_bindings ns = mark (codes "{") > listed (codes ",") (map import_specifier ns) > trailing_comma ns > mark (codes "}")
+import_bindings ns = mark (codes "{") > listed (codes ",") (map import_specifier ns) > closing_of RightBrace ns
 
 -- what stands after the default one, which is first: `, { b }`
 unfoldable pub after_default : List ImportSpecifier → Phrase
@@ -113,7 +113,7 @@ export_namespace n = mark (codes "*") > word (codes "as") > module_export_name n
 
 -- `{ a, b as c }`
 unfoldable pub export_braces : List ExportSpecifier → Phrase
-export_braces ns = mark (codes "{") > listed (codes ",") (map export_specifier ns) > trailing_comma ns > mark (codes "}")
+export_braces ns = mark (codes "{") > listed (codes ",") (map export_specifier ns) > closing_of RightBrace ns
 
 -- `{ a }` or `* as a`, and both in a proposal
 unfoldable pub export_clause : List ExportSpecifier → Phrase
@@ -123,8 +123,9 @@ export_clause ns = export_braces ns
 
 -- `from 'a'`, where it is so; without it there are no attributes
 unfoldable pub from_clause : {X : Type 0} → (X → Role → Phrase) → Option (ObjectLitBox X) → Option Str → Phrase
-from_clause f with_ None = Nothing
 from_clause f with_ (Some n) = word (codes "from") > str_lit n > attributes f with_
+from_clause f None None = Nothing
+from_clause f (Some n) None = Never
 
 -- `export { a, b as c } from 'd';`
 unfoldable pub export_named : {X : Type 0} → (X → Role → Phrase) → NamedExport X → Phrase
@@ -143,10 +144,9 @@ unfoldable pub exported_head : {X : Type 0} → (X → Role → Phrase) → Decl
 exported_head f (decls.Class n) = f n.class.node.value ClassHead
 exported_head f n = Nothing
 
--- And what stands after it. One by `using` isn't exported in the proposal.
+-- and what stands after it
 unfoldable pub exported_tail : {X : Type 0} → (X → Role → Phrase) → Decl X → Phrase
 exported_tail f (decls.Class n) = if n.declare then Never else (word (codes "class") > ident n.ident > f n.class.node.value ClassTail)
-exported_tail f (decls.Using n) = Never
 exported_tail f n = decl f n
 
 -- `export let a = b;`

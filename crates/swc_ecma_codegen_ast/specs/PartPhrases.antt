@@ -6,7 +6,7 @@ use Rattle.swc_ecma_codegen_tree.specs.declared.parts.StmtPart.{StmtPart}
 use Rattle.swc_ecma_codegen_tree.specs.declared.parts.StmtPart.TheVariants as stmt_parts
 use Rattle.swc_ecma_codegen_ast.specs.Phrases.{Phrase, Never}
 use Rattle.swc_ecma_codegen_ast.specs.declared.roles.Role.{Role}
-use Rattle.swc_ecma_codegen_ast.specs.declared.roles.Role.TheVariants.{AssignmentTarget, Pattern, PlainParameter, PropertyName, ObjectLiteral, Function, FunctionHead, MethodHead, Block, Declaration, VariableDeclaration, ChainCall, Template, TaggedTemplate, ClassHead, ClassTail, Member, MethodDecorators, MethodTail, PrivateTail, ModuleDeclaration, ExportedHead, ExportedTail}
+use Rattle.swc_ecma_codegen_ast.specs.declared.roles.Role.TheVariants.{AssignmentTarget, Pattern, PlainParameter, PropertyName, ObjectLiteral, Function, FunctionHead, MethodHead, Block, Declaration, VariableDeclaration, ChainCall, Template, TaggedTemplate, ClassHead, ClassTail, Member, MethodDecorators, MethodTail, AccessorTail, ModuleDeclaration, ExportedHead, ExportedTail}
 use Rattle.swc_ecma_codegen_ast.specs.AssignPhrases.{assign_target}
 use Rattle.swc_ecma_codegen_ast.specs.CallPhrases.{chain_call}
 use Rattle.swc_ecma_codegen_ast.specs.KeyPhrases.{prop_name}
@@ -15,7 +15,7 @@ use Rattle.swc_ecma_codegen_ast.specs.PatPhrases.{pat, plain_parameter}
 use Rattle.swc_ecma_codegen_ast.specs.PropPhrases.{object_lit}
 use Rattle.swc_ecma_codegen_ast.specs.FunctionPhrases.{function, function_head, method_head}
 use Rattle.swc_ecma_codegen_ast.specs.TemplatePhrases.{tpl}
-use Rattle.swc_ecma_codegen_ast.specs.ClassPhrases.{class_head, class_tail, class_member, method_decorators, method_tail, private_tail}
+use Rattle.swc_ecma_codegen_ast.specs.ClassPhrases.{class_head, class_tail, class_member, method_decorators, method_tail, accessor_tail}
 use Rattle.swc_ecma_codegen_ast.specs.DeclPhrases.{decl, var_decl}
 use Rattle.swc_ecma_codegen_ast.specs.StmtPhrases.{block_stmt}
 
@@ -36,7 +36,7 @@ stmt_part f (stmt_parts.Function n) FunctionHead = function_head n.value
 stmt_part f (stmt_parts.Function n) MethodHead = method_head n.value
 stmt_part f (stmt_parts.Function n) MethodDecorators = method_decorators f n.value
 stmt_part f (stmt_parts.Function n) MethodTail = method_tail f n.value
-stmt_part f (stmt_parts.Function n) PrivateTail = private_tail f n.value
+stmt_part f (stmt_parts.Function n) AccessorTail = accessor_tail f n.value
 stmt_part f (stmt_parts.Class n) ClassHead = class_head f n.value
 stmt_part f (stmt_parts.Class n) ClassTail = class_tail f n.value
 stmt_part f (stmt_parts.ClassMember n) Member = class_member f n.value

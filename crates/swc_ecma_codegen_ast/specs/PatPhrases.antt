@@ -15,8 +15,8 @@ use Rattle.swc_ecma_codegen_tree.specs.declared.pats.AssignPatProp.{AssignPatPro
 use Rattle.swc_ecma_codegen_tree.specs.declared.pats.AssignTargetPat.{AssignTargetPat}
 use Rattle.swc_ecma_codegen_tree.specs.declared.pats.AssignTargetPat.TheVariants as target_pats
 use Rattle.swc_ecma_codegen_tree.specs.declared.idents.BindingIdent.{BindingIdent}
-use Rattle.swc_ecma_codegen_ast.specs.Phrases.{Phrase, Never, Nothing, ◌>◌, mark, listed}
-use Rattle.swc_ecma_codegen_ast.specs.ElementPhrases.{element, elements_end, trailing_comma}
+use Rattle.swc_ecma_codegen_ast.specs.Phrases.{Phrase, Never, Nothing, RightBrace, ◌>◌, mark, listed}
+use Rattle.swc_ecma_codegen_ast.specs.ElementPhrases.{element, last_is_hole, closing_of, elements_end}
 use Rattle.swc_ecma_codegen_ast.specs.KeyPhrases.{prop_name}
 use Rattle.swc_ecma_codegen_ast.specs.NamePhrases.{binding_ident}
 use Rattle.swc_ecma_codegen_ast.specs.declared.roles.Role.{Role}
@@ -41,7 +41,7 @@ initializer f (Some n) = mark (codes "=") > value_at f n
 unfoldable pub array_pat : {X : Type 0} → (X → Role → Phrase) → ArrayPat X → Phrase
 array_pat f n =
     if n.optional || is_some n.type_ann then Never
-    else (mark (codes "[") > listed (codes ",") (map (element (pat_at f)) n.elems.items) > elements_end n.elems.items (trailing_comma n.elems.items) > mark (codes "]"))
+    else (mark (codes "[") > listed (codes ",") (map (element (pat_at f)) n.elems.items) > elements_end (last_is_hole n.elems.items) n.elems.items)
 
 -- `...a`
 unfoldable pub rest_pat : {X : Type 0} → (X → Role → Phrase) → RestPat X → Phrase
@@ -68,7 +68,7 @@ object_pat_prop f (pat_props.Rest n) = rest_pat f n
 unfoldable pub object_pat : {X : Type 0} → (X → Role → Phrase) → ObjectPat X → Phrase
 object_pat f n =
     if n.optional || is_some n.type_ann then Never
-    else (mark (codes "{") > listed (codes ",") (map (object_pat_prop f) n.props.items) > trailing_comma n.props.items > mark (codes "}"))
+    else (mark (codes "{") > listed (codes ",") (map (object_pat_prop f) n.props.items) > closing_of RightBrace n.props.items)
 
 -- as `a.b` of `[a.b] = c`, an expression may stand for a pattern
 unfoldable pub pat : {X : Type 0} → (X → Role → Phrase) → Pat X → Phrase

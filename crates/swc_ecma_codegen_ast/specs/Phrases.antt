@@ -15,9 +15,18 @@ pub data Choice : Type 0 where
   LoopEnding : Choice
   AttributesWord : Choice
 
+-- the marks before which a trailing comma may stand: `[a,]` and `{ a, }`
+pub data Closing : Type 0 where
+  RightBracket : Closing
+  RightBrace : Closing
+
+unfoldable pub closing_mark : Closing → List ℕ
+closing_mark RightBracket = codes "]"
+closing_mark RightBrace = codes "}"
+
 -- No list at all, no token, one token, a name by its bytes in the tree and where it stands in its source, the same of a key of
--- a property, a private name by its bytes in the tree, without `#`, or one list and then another. What syntax leaves open: a comma or none, `[a,] = b` or `[a] = b`; a list, bare or
--- in parentheses, `a => b` or `(a) => b`; what is chosen by the settings.
+-- a property, a private name by its bytes in the tree, without `#`, or one list and then another. What syntax leaves open: a closing mark, with a comma before
+-- it or without, `[a,] = b` or `[a] = b`; a list, bare or in parentheses, `a => b` or `(a) => b`; what is chosen by the settings.
 pub data Phrase : Type 0 where
   Never : Phrase
   Nothing : Phrase
@@ -26,7 +35,7 @@ pub data Phrase : Type 0 where
   KeyOf : (at : BytePos) → (bytes : List ℕ) → Phrase
   PrivateOf : (bytes : List ℕ) → Phrase
   Then : (first second : Phrase) → Phrase
-  OptionalComma : Phrase
+  CommaBefore : (close : Closing) → Phrase
   OptionalParentheses : (inside : Phrase) → Phrase
   Chosen : (choice : Choice) → Phrase
 
@@ -46,6 +55,10 @@ close_parenthesis = tokens.punctuator (codes ")")
 abbrev pub in_parentheses : List Token → List Token
 in_parentheses ts = open_parenthesis ∷ (ts ++ (close_parenthesis ∷ []))
 
+-- the token of a closing mark
+abbrev pub closing_token : Closing → Token
+closing_token close = tokens.punctuator (closing_mark close)
+
 -- the tokens of a choice
 unfoldable pub chosen : Settings → Choice → List Token
 chosen s EmptyArguments = if s.minify then [] else in_parentheses []
@@ -61,7 +74,7 @@ Generates s (NameOf at bytes) ts = ts ≡ tokens.name (name_value (spelled_name 
 Generates s (KeyOf at bytes) ts = ts ≡ key_token s bytes ∷ []
 Generates s (PrivateOf bytes) ts = ts ≡ tokens.private_name (name_value (spelled_name bytes)) ∷ []
 Generates s (Then a b) ts = (us vs : List Token) × Generates s a us × Generates s b vs × (ts ≡ us ++ vs)
-Generates s OptionalComma ts = (ts ≡ []) ⊎ (ts ≡ comma ∷ [])
+Generates s (CommaBefore close) ts = (ts ≡ closing_token close ∷ []) ⊎ (ts ≡ comma ∷ closing_token close ∷ [])
 Generates s (OptionalParentheses a) ts = Generates s a ts ⊎ ((us : List Token) × Generates s a us × (ts ≡ in_parentheses us))
 Generates s (Chosen choice) ts = ts ≡ chosen s choice
 
@@ -74,7 +87,7 @@ is_possible (NameOf at bytes) = is_well_formed_name bytes
 is_possible (KeyOf at bytes) = is_well_formed_name bytes
 is_possible (PrivateOf bytes) = is_well_formed_name bytes
 is_possible (Then a b) = is_possible a && is_possible b
-is_possible OptionalComma = true
+is_possible (CommaBefore close) = true
 is_possible (OptionalParentheses a) = is_possible a
 is_possible (Chosen choice) = true
 
@@ -93,7 +106,7 @@ names_in (NameOf at bytes) = record { at = at; bytes = bytes; is_key = false } �
 names_in (KeyOf at bytes) = record { at = at; bytes = bytes; is_key = true } ∷ []
 names_in (PrivateOf bytes) = []
 names_in (Then a b) = names_in a ++ names_in b
-names_in OptionalComma = []
+names_in (CommaBefore close) = []
 names_in (OptionalParentheses a) = names_in a
 names_in (Chosen choice) = []
 

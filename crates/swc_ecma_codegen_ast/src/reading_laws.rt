@@ -1,12 +1,12 @@
 //! Laws of reading, each the contract of a function that does nothing.
 
-ghost use Rattle.std.specs.Prelude.{◌≡◌, ℕ, List};
+ghost use Rattle.std.specs.Prelude.{◌≡◌, ℕ, false, List};
 ghost use Rattle.swc_ecma_codegen_ast.specs.Tokens.{Token};
 ghost use Rattle.swc_ecma_codegen_ast.specs.Trivia.{Remark};
 ghost use Rattle.swc_ecma_codegen_ast.specs.Reads.{Reads, kinds_of};
 ghost use Rattle.swc_ecma_codegen_ast.specs.Endings.{IsReduced};
 ghost use Rattle.swc_ecma_codegen_ast.specs.GapRules.{Start};
-ghost use Rattle.swc_ecma_codegen_ast.specs.Layouts.{AreAlike, AreSameBut, IsWritten};
+ghost use Rattle.swc_ecma_codegen_ast.specs.Layouts.{AreAlike, Alongside, AreSameBut, IsWritten, leaves_open};
 ghost use Rattle.swc_ecma_codegen_ast.specs.Phrases.{Phrase, Generates};
 ghost use Rattle.swc_ecma_codegen_ast.specs.Settings.{Settings};
 ghost use Rattle.swc_ecma_codegen_ast.specs.Parts.{Part, text_of, tokens_of, remarks_in, AllSpelled, AtStart, KeepsLines, NoneFuse, Reduced, spaced};
@@ -33,10 +33,14 @@ pub fn one_reading()
     ensures { (xs ys : List Token) (text : List ℕ) (cs ds : List Remark) → Reads text xs cs → Reads text ys ds → kinds_of xs ≡ kinds_of ys → (xs ≡ ys) × (cs ≡ ds) }
 {}
 
-/// The lists of a tree under settings that differ in whether they minify are the same but for semicolons that end a
-/// statement, commas and pairs of parentheses: `(a) => new B();` and minified `a=>new B`. So are those that are written of
-/// it, where a writer leaves semicolons out.
+/// Under settings that differ in whether they minify the lists of a tree are the same part for part, but for what syntax leaves
+/// open: a comma before the mark that closes a list, some parentheses, and the empty arguments of `new`: `(a) => new B();`
+/// and minified `a=>new B`. So are those that what is written of it is reduced from, where a writer leaves semicolons out. By
+/// their tokens alone the written lists are the same but for semicolons that end a statement, commas before `]` and `}`,
+/// and pairs of parentheses. Under the same settings there is one list, where syntax leaves nothing open.
 pub fn layouts_keep_the_tokens()
-    ensures lists { (s t : Settings) (phrase : Phrase) (xs ys : List Token) → AreAlike s t → Generates s phrase xs → Generates t phrase ys → AreSameBut xs ys }
-    ensures written { (s t : Settings) (phrase : Phrase) (xs ys : List Token) → AreAlike s t → IsWritten s phrase xs → IsWritten t phrase ys → AreSameBut xs ys }
+    ensures lists { (s t : Settings) (phrase : Phrase) (xs ys : List Token) → AreAlike s t → Generates s phrase xs → Generates t phrase ys → Alongside s t phrase xs ys }
+    ensures reduced { (s t : Settings) (phrase : Phrase) (us vs : List Token) → AreAlike s t → (x : IsWritten s phrase us) → (y : IsWritten t phrase vs) → Alongside s t phrase x.tokens y.tokens }
+    ensures written { (s t : Settings) (phrase : Phrase) (us vs : List Token) → AreAlike s t → IsWritten s phrase us → IsWritten t phrase vs → AreSameBut us vs }
+    ensures one { (s : Settings) (phrase : Phrase) (xs ys : List Token) → leaves_open phrase ≡ false → Generates s phrase xs → Generates s phrase ys → xs ≡ ys }
 {}

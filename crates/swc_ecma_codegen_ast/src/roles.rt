@@ -49,8 +49,10 @@ pub enum Role {
     MethodDecorators,
     /// `() {}` of `class B { @a c() {} }`: the function of a method, whose decorators stand elsewhere.
     MethodTail,
-    /// `() {}` of `class B { @a #c() {} }`: the same of a private method.
-    PrivateTail,
+    /// `() {}` of `class B { get a() {} }`: the same of a getter or a setter, which is neither async nor a generator.
+    AccessorTail,
+    /// `(a, b)` of `class B { c = (a, b); }`: an expression, and a sequence in parentheses.
+    FieldValue,
     /// `import a from "b";` or `export { a };`.
     ModuleDeclaration,
     /// `@a` of `@a export class B {}`: what of a declaration stands before the word.

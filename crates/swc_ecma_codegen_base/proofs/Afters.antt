@@ -25,4 +25,6 @@ after_is (last.Mark q) p = after_each q p
 after_is last.LessBang p = refl
 after_is last.Closing p = refl
 after_is last.Whole p = refl
+after_is last.TextEnd p = refl
+after_is last.TagNameEnd p = refl
 after_is last.LineEnd p = refl

@@ -1,27 +1,27 @@
 -- What an emission under ASCII only adds to a text.
-use Rattle.std.proofs.Common.{◌≡◌, ℕ, zero, suc, Bool, true, false, cond, ◌||◌, List, [], ◌∷◌, ◌++◌, codes, nat_lt, refl, sym, ap, ◌∙◌, subst, append_assoc, append-nil, inl, inr, Option, Some, None, Result, Ok, Err, OnOk}
+use Rattle.std.proofs.Common.{◌≡◌, ℕ, zero, suc, Bool, true, false, cond, not, ◌&&◌, ◌||◌, List, [], ◌∷◌, ◌++◌, codes, nat_lt, refl, sym, ap, ◌∙◌, subst, append_assoc, append-nil, inl, inr, Option, Some, None, Result, Ok, Err, OnOk}
 use Rattle.std.specs.List.{repeat}
 use Rattle.std.specs.Str.{chars}
-use Rattle.std.proofs.lemmas.Bool.{and_from, and_parts, false_from_ne_true, true≢false}
+use Rattle.std.proofs.lemmas.Bool.{and_from, and_parts, or_parts, false_from_ne_true, true≢false}
 use Rattle.std.proofs.lemmas.List.Folds.{list_all-append}
 use Rattle.swc_ecma_codegen_common.specs.declared.errors.Refusal.{Refusal}
 use Rattle.swc_ecma_codegen_common.specs.declared.positions.Span.{Span}
 use Rattle.swc_ecma_codegen_ast.specs.GapRules.{fuses, Apart}
 use Rattle.swc_ecma_codegen_ast.specs.Settings.{Settings, is_up_to_es5}
-use Rattle.swc_ecma_codegen_ast.specs.Phrases.{Phrase, Never, Nothing, One, NameOf, KeyOf, PrivateOf, Then, OptionalComma, OptionalParentheses, Chosen, EmptyArguments, LoopEnding, AttributesWord, in_parentheses, close_parenthesis, Generates, chosen, is_possible}
+use Rattle.swc_ecma_codegen_ast.specs.Phrases.{Phrase, Never, Nothing, One, NameOf, KeyOf, PrivateOf, Then, CommaBefore, OptionalParentheses, Chosen, EmptyArguments, LoopEnding, AttributesWord, in_parentheses, close_parenthesis, Generates, chosen, is_possible}
 use Rattle.swc_ecma_codegen_ast.specs.Tokens as lexical
 use Rattle.swc_ecma_codegen_text_writer.specs.Sheet.{Item, Semi, Space, Keyword, Operator, Param, Property, Line, Lit, Comment, StrLit, Str, Symbol, Punct, Position, Commit, Deeper, Shallower, Sheet, Semicolons, AtOnce, HoldsNone, HoldsOne, appended, written, literal_written, ended, settled, settled_by, semicolon_by, before_punct, is_ending, dropped, effect}
 use Rattle.swc_ecma_codegen_text_writer.proofs.Sheets.{effect_indent_text, effect_line_end, settled_same}
 use Rattle.swc_ecma_codegen_literals.specs.AsciiNames.{is_ascii_text}
-use Rattle.swc_ecma_codegen_base.specs.Ascii.{is_other_value, keeps_other, are_ascii, keeps_tokens, may_keep_other, WantsAscii, IsAsciiBut, AddsAscii}
-use Rattle.swc_ecma_codegen_ast.specs.Comments.{texts_of}
-use Rattle.swc_ecma_codegen_base.specs.Run.{Env, Part, State, Step, Guard, Token, Plain, Ends, Remake, Take, CommentText, spoken, taken_in, put, run, steps_of, nothing, text_of, Follows}
+use Rattle.swc_ecma_codegen_base.specs.Ascii.{is_other_value, is_other, is_other_piece, is_other_end, is_kept, is_kept_piece, is_kept_end, keeps_other, are_ascii_or_kept, text_if, other_texts, keeps_tokens, may_keep_other, WantsAscii, IsAsciiBut, AddsAscii}
+use Rattle.swc_ecma_codegen_base.specs.Run.{Env, Part, State, Step, Guard, Token, Plain, Ends, Remake, Take, CommentText, spoken, put, run, steps_of, nothing, text_of, Follows}
 use Rattle.swc_ecma_codegen_base.specs.Settings.{settings_of}
 use Rattle.swc_ecma_codegen_base.specs.Targets.{is_out}
 use Rattle.swc_ecma_codegen_base.proofs.Hands.{tokens_keep}
 use Rattle.swc_ecma_codegen_base.proofs.KeyTexts.{key_kept}
 use Rattle.swc_ecma_codegen_base.proofs.Held.{front, front_of, written_text, pointed_keeps}
-use Rattle.swc_ecma_codegen_base.proofs.Phrased.{steps_of_chain, made_not_out, PrintsAt}
+use Rattle.swc_ecma_codegen_base.proofs.PartSteps.{steps_of_chain}
+use Rattle.swc_ecma_codegen_base.proofs.Phrased.{made_not_out, PrintsAt}
 use Rattle.swc_ecma_codegen_base.proofs.Texts.{adds_literal}
 use Rattle.swc_ecma_codegen_base.proofs.Shapes.{Shape}
 
@@ -147,59 +147,117 @@ guard_goes {ts} old t a g =
     elim (fuses a.last (chars t)) as (λ b. Goes ts old (cond b (record a { sheet = effect Space a.sheet; last = Apart }) a).sheet)
     [ true ↦ call_goes old Space a.sheet refl g | false ↦ g ]
 
--- the text of a comment more
-said_adds : {ts : List (List ℕ)} (old t : List ℕ) (s : Sheet) → HasAsciiLines s → AddsAscii ts old s.text → AddsAscii (ts ++ t ∷ []) old (written None t s).text
+-- a text more, whatever it is
+said_adds : {ts : List (List ℕ)} (old : List ℕ) (span : Option Span) (t : List ℕ) (s : Sheet) → HasAsciiLines s → AddsAscii ts old s.text → AddsAscii (ts ++ t ∷ []) old (written span t s).text
 unfolding written
-said_adds {ts} old [] s l h = record { added = h.added; is_added = h.is_added; ascii = subst (λ z. IsAsciiBut (ts ++ [] ∷ []) z) (append-nil h.added) (but_text ts [] h.added [] h.ascii refl) }
-said_adds {ts} old (c ∷ cs) s l h = record {
+said_adds {ts} old span [] s l h = record { added = h.added; is_added = h.is_added; ascii = subst (λ z. IsAsciiBut (ts ++ [] ∷ []) z) (append-nil h.added) (but_text ts [] h.added [] h.ascii refl) }
+said_adds {ts} old span (c ∷ cs) s l h = record {
   added = h.added ++ (front s ++ c ∷ cs);
-  is_added = written_text None c cs s ∙ ap (λ z. z ++ (front s ++ c ∷ cs)) h.is_added ∙ append_assoc old h.added (front s ++ c ∷ cs);
+  is_added = written_text span c cs s ∙ ap (λ z. z ++ (front s ++ c ∷ cs)) h.is_added ∙ append_assoc old h.added (front s ++ c ∷ cs);
   ascii = but_text ts (c ∷ cs) h.added (front s) h.ascii (front_ascii s.at_line_start s l);
 }
 
+literal_said : {ts : List (List ℕ)} (old : List ℕ) (span : Span) (t : List ℕ) (s : Sheet) → HasAsciiLines s → AddsAscii ts old s.text → AddsAscii (ts ++ t ∷ []) old (literal_written span t s).text
+unfolding literal_written
+literal_said {ts} old span [] s l h = record { added = h.added; is_added = h.is_added; ascii = subst (λ z. IsAsciiBut (ts ++ [] ∷ []) z) (append-nil h.added) (but_text ts [] h.added [] h.ascii refl) }
+literal_said {ts} old span (c ∷ cs) s l h = record {
+  added = h.added ++ (front s ++ c ∷ cs);
+  is_added = (adds_literal span c cs s).text ∙ ap (λ z. z ++ (front s ++ c ∷ cs)) h.is_added ∙ append_assoc old h.added (front s ++ c ∷ cs);
+  ascii = but_text ts (c ∷ cs) h.added (front s) h.ascii (front_ascii s.at_line_start s l);
+}
+
+punct_said : {ts : List (List ℕ)} (old : List ℕ) (b : Bool) (span : Option Span) (t : List ℕ) (s : Sheet) → HasAsciiLines s → AddsAscii ts old s.text → AddsAscii (ts ++ t ∷ []) old (written span t (cond b (record s { semicolons = dropped s.semicolons }) (settled s))).text
+punct_said old true span t s l h = said_adds old span t (record s { semicolons = dropped s.semicolons }) (record { indent_text = l.indent_text; line_end = l.line_end }) h
+punct_said old false span t s l h = said_adds old span t (settled s) (settled_lines s l) (settled_adds old s l h)
+
+-- what is no ASCII is no text of a call that has its own
+effect_said : {ts : List (List ℕ)} (old : List ℕ) (x : Item) (s : Sheet) → HasAsciiLines s → is_ascii_text (text_of x) ≡ false → AddsAscii ts old s.text → AddsAscii (ts ++ text_of x ∷ []) old (effect x s).text
+unfolding effect text_of before_punct
+effect_said old (Semi span) s l n h = absurd (true≢false n)
+effect_said old Space s l n h = absurd (true≢false n)
+effect_said old (Keyword span t) s l n h = said_adds old span t (settled s) (settled_lines s l) (settled_adds old s l h)
+effect_said old (Operator span t) s l n h = said_adds old span t (settled s) (settled_lines s l) (settled_adds old s l h)
+effect_said old (Param t) s l n h = said_adds old None t (settled s) (settled_lines s l) (settled_adds old s l h)
+effect_said old (Property t) s l n h = said_adds old None t (settled s) (settled_lines s l) (settled_adds old s l h)
+effect_said old Line s l n h = absurd (true≢false n)
+effect_said old (Lit span t) s l n h = literal_said old span t (settled s) (settled_lines s l) (settled_adds old s l h)
+effect_said old (Comment t) s l n h = said_adds old None t (settled s) (settled_lines s l) (settled_adds old s l h)
+effect_said old (StrLit span t) s l n h = literal_said old span t (settled s) (settled_lines s l) (settled_adds old s l h)
+effect_said old (Str t) s l n h = said_adds old None t (settled s) (settled_lines s l) (settled_adds old s l h)
+effect_said old (Symbol span t) s l n h = said_adds old (Some span) t (settled s) (settled_lines s l) (settled_adds old s l h)
+effect_said old (Punct span t) s l n h = punct_said old (is_ending t) span t s l h
+effect_said old (Position pos) s l n h = absurd (true≢false n)
+effect_said old Commit s l n h = absurd (true≢false n)
+effect_said old Deeper s l n h = absurd (true≢false n)
+effect_said old Shallower s l n h = absurd (true≢false n)
+
 text_goes : {ts : List (List ℕ)} (old t : List ℕ) (s : Sheet) → Goes ts old s → Goes (ts ++ t ∷ []) old (effect (Comment t) s)
 unfolding effect
-text_goes old t s g = record { lines = effect_lines (Comment t) s g.lines; adds = said_adds old t (settled s) (settled_lines s g.lines) (settled_adds old s g.lines g.adds) }
+text_goes old t s g = record { lines = effect_lines (Comment t) s g.lines; adds = said_adds old None t (settled s) (settled_lines s g.lines) (settled_adds old s g.lines g.adds) }
 
-run_goes : {ts : List (List ℕ)} (old : List ℕ) (xs : List Step) (a : State) → are_ascii xs ≡ true → Goes ts old a.sheet → Goes (ts ++ spoken xs) old (run xs a).sheet
-unfolding run put are_ascii spoken
+-- a call that hands over ASCII, or a text that stands as it is
+other_if : {ts : List (List ℕ)} (old : List ℕ) (a kept : Bool) (x : Item) (s : Sheet) → is_ascii_text (text_of x) ≡ a → (a || kept) ≡ true → Goes ts old s → Goes (ts ++ text_if (kept && not a) (text_of x)) old (effect x s)
+other_if {ts} old true true x s e h g = subst (λ z. Goes z old (effect x s)) (sym (append-nil ts)) (call_goes old x s e g)
+other_if {ts} old true false x s e h g = subst (λ z. Goes z old (effect x s)) (sym (append-nil ts)) (call_goes old x s e g)
+other_if old false true x s e h g = record { lines = effect_lines x s g.lines; adds = effect_said old x s g.lines e g.adds }
+other_if old false false x s e h g = absurd (true≢false (sym h))
+
+-- and what goes on behind it
+goes_on : (ts : List (List ℕ)) (old : List ℕ) (b : Bool) (t : List ℕ) (us : List (List ℕ)) (s : Sheet) → Goes ((ts ++ text_if b t) ++ us) old s → Goes (ts ++ (text_if b t ++ us)) old s
+goes_on ts old b t us s g = subst (λ z. Goes z old s) (append_assoc ts (text_if b t) us) g
+
+run_goes : {ts : List (List ℕ)} (old : List ℕ) (xs : List Step) (a : State) → are_ascii_or_kept xs ≡ true → Goes ts old a.sheet → Goes (ts ++ other_texts xs) old (run xs a).sheet
+unfolding run put are_ascii_or_kept other_texts is_other is_other_piece is_other_end
 run_goes {ts} old [] a h g = subst (λ z. Goes z old a.sheet) (sym (append-nil ts)) g
 run_goes old (Guard t ∷ xs) a h g = run_goes old xs (put (Guard t) a) h (guard_goes old t a g)
-run_goes old (Token kind x ∷ xs) a h g = let p = and_parts (is_ascii_text (text_of x)) (are_ascii xs) h in run_goes old xs (put (Token kind x) a) p.1 (call_goes old x a.sheet p.0 g)
-run_goes old (Plain x ∷ xs) a h g = let p = and_parts (is_ascii_text (text_of x)) (are_ascii xs) h in run_goes old xs (put (Plain x) a) p.1 (call_goes old x a.sheet p.0 g)
-run_goes old (Ends tokens x ∷ xs) a h g = let p = and_parts (is_ascii_text (text_of x)) (are_ascii xs) h in run_goes old xs (put (Ends tokens x) a) p.1 (call_goes old x a.sheet p.0 g)
+run_goes {ts} old (Token kind x ∷ xs) a h g =
+    let p = and_parts (is_ascii_text (text_of x) || is_kept x) (are_ascii_or_kept xs) h in
+    goes_on ts old (is_other x) (text_of x) (other_texts xs) (run xs (put (Token kind x) a)).sheet
+    (run_goes {ts = ts ++ text_if (is_other x) (text_of x)} old xs (put (Token kind x) a) p.1 (other_if old (is_ascii_text (text_of x)) (is_kept x) x a.sheet refl p.0 g))
+run_goes {ts} old (Plain x ∷ xs) a h g =
+    let p = and_parts (is_ascii_text (text_of x) || is_kept_piece x) (are_ascii_or_kept xs) h in
+    goes_on ts old (is_other_piece x) (text_of x) (other_texts xs) (run xs (put (Plain x) a)).sheet
+    (run_goes {ts = ts ++ text_if (is_other_piece x) (text_of x)} old xs (put (Plain x) a) p.1 (other_if old (is_ascii_text (text_of x)) (is_kept_piece x) x a.sheet refl p.0 g))
+run_goes {ts} old (Ends tokens x ∷ xs) a h g =
+    let p = and_parts (is_ascii_text (text_of x) || is_kept_end tokens x) (are_ascii_or_kept xs) h in
+    goes_on ts old (is_other_end tokens x) (text_of x) (other_texts xs) (run xs (put (Ends tokens x) a)).sheet
+    (run_goes {ts = ts ++ text_if (is_other_end tokens x) (text_of x)} old xs (put (Ends tokens x) a) p.1 (other_if old (is_ascii_text (text_of x)) (is_kept_end tokens x) x a.sheet refl p.0 g))
 run_goes old (Remake due ∷ xs) a h g = run_goes old xs (put (Remake due) a) h g
 run_goes old (Take side at ∷ xs) a h g = run_goes old xs (put (Take side at) a) h g
 run_goes {ts} old (CommentText t ∷ xs) a h g =
     let k = run_goes old xs (put (CommentText t) a) h (text_goes old t a.sheet g) in
-    subst (λ z. Goes z old (run xs (put (CommentText t) a)).sheet) (append_assoc ts (t ∷ []) (spoken xs)) k
+    subst (λ z. Goes z old (run xs (put (CommentText t) a)).sheet) (append_assoc ts (t ∷ []) (other_texts xs)) k
 
 -- ---- what an emission adds
 
-part_steps : {i : Shape} {p : Part} {f : Phrase} {env : Env} → PrintsAt i env p f → is_possible f ≡ true → is_out env.config f ≡ false → env.config.ascii_only ≡ true → keeps_other (steps_of (p nothing env)) ≡ false → are_ascii (steps_of (p nothing env)) ≡ true
+part_steps : {i : Shape} {p : Part} {f : Phrase} {env : Env} → PrintsAt i env p f → is_possible f ≡ true → is_out env.config f ≡ false → env.config.ascii_only ≡ true → are_ascii_or_kept (steps_of (p nothing env)) ≡ true
 unfolding nothing
-part_steps {p = p} {f = f} {env = env} prints w o e n =
+part_steps {p = p} {f = f} {env = env} prints w o e =
     let h = (prints.where_possible w o env.maps).writes in
     let same : steps_of (p nothing env) ≡ h.steps = ap steps_of (h.is_steps nothing) ∙ steps_of_chain h.steps in
-    ap are_ascii same ∙ h.hands.ascii e (sym (ap keeps_other same) ∙ n)
-
--- the texts of comments that it writes are those that it takes
-part_told : {i : Shape} {p : Part} {f : Phrase} {env : Env} → PrintsAt i env p f → is_possible f ≡ true → is_out env.config f ≡ false → spoken (steps_of (p nothing env)) ≡ texts_of (taken_in (steps_of (p nothing env)) env.maps)
-unfolding nothing
-part_told {p = p} {env = env} prints w o =
-    let h = (prints.where_possible w o env.maps).writes in
-    let same : steps_of (p nothing env) ≡ h.steps = ap steps_of (h.is_steps nothing) ∙ steps_of_chain h.steps in
-    ap spoken same ∙ h.told ∙ sym (ap (λ z. texts_of (taken_in z env.maps)) same)
+    ap are_ascii_or_kept same ∙ h.hands.ascii e
 
 -- under ASCII only what is added is ASCII, save what stands as it is, and the texts of comments
-pub printed_ascii : {i : Shape} (p : Part) (f : Phrase) (a b : State) (r : Result (Unit {0}) Refusal) → PrintsAt i a.env p f → is_possible f ≡ true → WantsAscii a → keeps_other (steps_of (p nothing a.env)) ≡ false → Follows (p nothing) a b r → OnOk r (AddsAscii (texts_of (taken_in (steps_of (p nothing a.env)) a.env.maps)) a.sheet.text b.sheet.text)
+pub printed_ascii : {i : Shape} (p : Part) (f : Phrase) (a b : State) (r : Result (Unit {0}) Refusal) → PrintsAt i a.env p f → is_possible f ≡ true → WantsAscii a → Follows (p nothing) a b r → OnOk r (AddsAscii (other_texts (steps_of (p nothing a.env))) a.sheet.text b.sheet.text)
 unfolding Follows
-printed_ascii p f a b (Ok u) prints w s n k =
+printed_ascii p f a b (Ok u) prints w s k =
     let begin : Goes [] a.sheet.text a.sheet = record { lines = record { indent_text = s.indent_text; line_end = s.line_end }; adds = adds_none a.sheet.text } in
-    let end = run_goes a.sheet.text (steps_of (p nothing a.env)) a (part_steps prints w (made_not_out p f a.env prints w k.0) s.by_settings n) begin in
-    let P : State → Type 0 = λ z. AddsAscii (texts_of (taken_in (steps_of (p nothing a.env)) a.env.maps)) a.sheet.text z.sheet.text in
-    subst P (sym k.1) (subst (λ z. AddsAscii z a.sheet.text (run (steps_of (p nothing a.env)) a).sheet.text) (part_told prints w (made_not_out p f a.env prints w k.0)) end.adds)
-printed_ascii p f a b (Err x) prints w s n k = tt
+    let end = run_goes a.sheet.text (steps_of (p nothing a.env)) a (part_steps prints w (made_not_out p f a.env prints w k.0) s.by_settings) begin in
+    let P : State → Type 0 = λ z. AddsAscii (other_texts (steps_of (p nothing a.env))) a.sheet.text z.sheet.text in
+    subst P (sym k.1) end.adds
+printed_ascii p f a b (Err x) prints w s k = tt
+
+-- where no such text is among the steps, they are the texts of comments
+pub none_other : (xs : List Step) → keeps_other xs ≡ false → other_texts xs ≡ spoken xs
+unfolding keeps_other other_texts spoken
+none_other [] h = refl
+none_other (Guard t ∷ xs) h = none_other xs h
+none_other (Token kind x ∷ xs) h = let p = or_parts (is_other x) (keeps_other xs) h in ap (λ z. text_if z (text_of x) ++ other_texts xs) p.0 ∙ none_other xs p.1
+none_other (Plain x ∷ xs) h = let p = or_parts (is_other_piece x) (keeps_other xs) h in ap (λ z. text_if z (text_of x) ++ other_texts xs) p.0 ∙ none_other xs p.1
+none_other (Ends tokens x ∷ xs) h = let p = or_parts (is_other_end tokens x) (keeps_other xs) h in ap (λ z. text_if z (text_of x) ++ other_texts xs) p.0 ∙ none_other xs p.1
+none_other (Remake due ∷ xs) h = none_other xs h
+none_other (Take side at ∷ xs) h = none_other xs h
+none_other (CommentText t ∷ xs) h = ap (λ z. t ∷ z) (none_other xs h)
 
 -- ---- what may stand as it is, by the tree
 
@@ -230,8 +288,8 @@ kept_listed s (PrivateOf bytes) ts w g = ap keeps_tokens g
 kept_listed s (Then a b) ts w g =
     let p = and_parts (is_possible a) (is_possible b) w in
     ap keeps_tokens g.4 ∙ tokens_keep g.0 g.1 ∙ ap (λ z. z || keeps_tokens g.1) (kept_listed s a g.0 p.0 g.2) ∙ ap (λ z. may_keep_other a || z) (kept_listed s b g.1 p.1 g.3)
-kept_listed s OptionalComma ts w (inl g) = ap keeps_tokens g
-kept_listed s OptionalComma ts w (inr g) = ap keeps_tokens g
+kept_listed s (CommaBefore close) ts w (inl g) = ap keeps_tokens g
+kept_listed s (CommaBefore close) ts w (inr g) = ap keeps_tokens g
 kept_listed s (OptionalParentheses a) ts w (inl g) = kept_listed s a ts w g
 kept_listed s (OptionalParentheses a) ts w (inr g) = ap keeps_tokens g.2 ∙ tokens_keep g.0 (close_parenthesis ∷ []) ∙ kept_alone (keeps_tokens g.0) ∙ kept_listed s a g.0 w g.1
 kept_listed s (Chosen EmptyArguments) ts w g = ap keeps_tokens g ∙ choice_kept s

@@ -41,7 +41,7 @@ free_apart Start e xs h = first_of_all xs h
 free_apart Apart e xs h = h
 free_apart k e xs h = absurd (true≢false (sym e))
 
-nothing_fuses : (k : Last) → fuses k [] ≡ false
+pub nothing_fuses : (k : Last) → fuses k [] ≡ false
 unfolding fuses
 nothing_fuses k = refl
 

@@ -1,7 +1,7 @@
 -- Parts that write what syntax leaves open: one of the lists that their phrase has.
 use Rattle.std.proofs.Common.{◌≡◌, ◌⊎◌, ℕ, None, Bool, true, false, cond, ◌||◌, List, [], ◌∷◌, ◌++◌, ◌&&◌, append-nil, codes, refl, sym, ap, ◌∙◌, subst, inl, inr}
 use Rattle.std.proofs.lemmas.Bool.{cases_Bool, true≢false}
-use Rattle.swc_ecma_codegen_ast.specs.Phrases.{Phrase, Nothing, OptionalComma, OptionalParentheses, Chosen, EmptyArguments, LoopEnding, AttributesWord, Generates, chosen, in_parentheses, comma, open_parenthesis, is_possible, names_in, ◌>◌, mark, ending}
+use Rattle.swc_ecma_codegen_ast.specs.Phrases.{Phrase, Nothing, Closing, CommaBefore, OptionalParentheses, Chosen, EmptyArguments, LoopEnding, AttributesWord, Generates, chosen, closing_mark, closing_token, in_parentheses, comma, open_parenthesis, is_possible, names_in, ◌>◌, mark, ending}
 use Rattle.swc_ecma_codegen_ast.specs.Phrases as phrases
 use Rattle.swc_ecma_codegen_ast.specs.Chars.{is_start, is_part, is_letter, is_digit}
 use Rattle.swc_ecma_codegen_ast.specs.Names.{is_word, all_part}
@@ -12,7 +12,7 @@ use Rattle.swc_ecma_codegen_ast.specs.Tokens.{Token}
 use Rattle.swc_ecma_codegen_ast.specs.Tokens as lexical
 use Rattle.swc_ecma_codegen_util.specs.declared.config.Config.{Config}
 use Rattle.std.specs.Str.{chars, is_utf8}
-use Rattle.swc_ecma_codegen_base.specs.Choices.{optional_comma, optional_parentheses, empty_arguments, loop_ending, attributes_word}
+use Rattle.swc_ecma_codegen_base.specs.Choices.{optional_parentheses, empty_arguments, loop_ending, attributes_word}
 use Rattle.swc_ecma_codegen_base.specs.Escapes.{is_spelled_anew, may_make_text}
 use Rattle.swc_ecma_codegen_base.specs.Run.{Env, Plan, Part, at_maps, no_part}
 use Rattle.swc_ecma_codegen_base.specs.Scripts.{is_str}
@@ -25,7 +25,8 @@ use Rattle.swc_ecma_codegen_base.proofs.Hands.{holds_string}
 use Rattle.swc_ecma_codegen_text_writer.specs.Sheet.{Sheet}
 use Rattle.swc_ecma_codegen_base.specs.Named.{EachName, AllStand}
 use Rattle.swc_ecma_codegen_base.proofs.Printed.{from_where, makes_some, MakesAt}
-use Rattle.swc_ecma_codegen_base.proofs.Phrased.{NamedBy, PlacedBy, Prints, no_names, placed_none, no_strings, then, prints_nothing, prints_keyword, prints_punct, prints_semi, prints_same, PrintsAt, prints_wider}
+use Rattle.swc_ecma_codegen_base.proofs.PartSteps.{NamedBy, PlacedBy, no_names, placed_none, no_strings}
+use Rattle.swc_ecma_codegen_base.proofs.Phrased.{Prints, then, prints_nothing, prints_keyword, prints_punct, prints_semi, prints_same, PrintsAt, prints_wider}
 use Rattle.swc_ecma_codegen_base.proofs.Shapes.{Shape, open_}
 
 -- ---- a phrase whose lists another has too
@@ -58,48 +59,26 @@ prints_among {env = env} {p = p} i h = record {
   where_out = λ w o maps rest. h.where_out (i.possible ∙ w) (i.out ∙ o) maps rest;
 }
 
--- ---- a comma or none
+-- ---- a comma before a closing mark, or none
 
-pub no_comma_among : (config : Config) → IsAmong config Nothing OptionalComma
+pub no_comma_among : (config : Config) (close : Closing) → IsAmong config (mark (closing_mark close)) (CommaBefore close)
 unfolding Generates EachName is_possible is_out may_make_text names_in
-no_comma_among config = record { generates = λ ts g. inl g; possible = refl; out = refl; makes = λ e. refl; names = refl; stands = λ a b us ts g. inl g }
+no_comma_among config close = record { generates = λ ts g. inl g; possible = refl; out = refl; makes = λ e. refl; names = refl; stands = λ a b us ts g. inl g }
 
-pub comma_among : (config : Config) → IsAmong config (mark (codes ",")) OptionalComma
+pub comma_among : (config : Config) (close : Closing) → IsAmong config (mark (codes ",") > mark (closing_mark close)) (CommaBefore close)
 unfolding Generates EachName is_possible is_out may_make_text names_in is_spelled_anew lexical.punctuator
-comma_among config = record { generates = λ ts g. inr g; possible = refl; out = refl; makes = λ e. refl; names = refl; stands = λ a b us ts g. inr g }
-
--- a part that writes nothing, or a comma, writes an optional comma
-pub prints_no_comma : {k : Shape} {env : Env} {p : Part} → PrintsAt k env p Nothing → PrintsAt k env p OptionalComma
-prints_no_comma {env = env} h = prints_among (no_comma_among env.config) h
-
-pub prints_comma : {k : Shape} {env : Env} {p : Part} → PrintsAt k env p (mark (codes ",")) → PrintsAt k env p OptionalComma
-prints_comma {env = env} h = prints_among (comma_among env.config) h
-
--- the same of a part that may take memory to find out whether the comma stands
-commas : (there : Bool) (ts : List Token) → ts ≡ cond there (comma ∷ []) [] → (ts ≡ []) ⊎ (ts ≡ comma ∷ [])
-commas true ts e = inr e
-commas false ts e = inl e
-
-comma_strings : (there : Bool) → holds_string (cond there (comma ∷ []) []) ≡ false
-unfolding holds_string is_str lexical.punctuator
-comma_strings true = refl
-comma_strings false = refl
-
-pub prints_comma_where : {k : Shape} {env : Env} {p : Part} {made : Bool} (there : Bool) → MakesAt k env p (cond there (comma ∷ []) []) made → PrintsAt k env p OptionalComma
-unfolding Generates is_out may_make_text names_in
-prints_comma_where {env = env} {p = p} there h = record {
-  where_possible = λ w o maps. record { tokens = cond there (comma ∷ []) []; generated = commas there _ refl; writes = (makes_some h).from maps; named = no_names (at_maps maps env) p; placed = placed_none (at_maps maps env) p OptionalComma (cond there (comma ∷ []) []) refl (commas there _ refl); safe = no_strings (h.from maps) (comma_strings there) };
-  where_out = λ w o. absurd (true≢false (sym o));
+comma_among config close = record {
+  generates = λ ts g. inr (g.4 ∙ ap (λ z. z ++ g.1) g.2 ∙ ap (λ z. comma ∷ z) g.3);
+  possible = refl;
+  out = refl;
+  makes = λ e. refl;
+  names = refl;
+  stands = λ a b us ts g. inr (g.4 ∙ ap (λ z. z ++ g.1) g.2 ∙ ap (λ z. comma ∷ z) g.3);
 }
 
-comma_is_mark : IsMark (codes ",")
-unfolding is_punctuator is_among is_same punctuators chars is_utf8 lib.Utf8.encode
-comma_is_mark = record { utf8 = refl; ascii = refl; shape = refl }
-
-pub prints_optional_comma : {env : Env} (there : Bool) → PrintsAt open_ env (optional_comma there) OptionalComma
-unfolding optional_comma
-prints_optional_comma {env} true = prints_wider open_ refl (prints_comma (prints_punct env (codes ",") comma_is_mark))
-prints_optional_comma {env} false = prints_no_comma prints_nothing
+-- a part that writes a closing mark alone writes it with an optional comma before it
+pub prints_no_comma : {k : Shape} {env : Env} {p : Part} (close : Closing) → PrintsAt k env p (mark (closing_mark close)) → PrintsAt k env p (CommaBefore close)
+prints_no_comma {env = env} close h = prints_among (no_comma_among env.config close) h
 
 -- ---- parentheses or none
 

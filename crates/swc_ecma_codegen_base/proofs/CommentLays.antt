@@ -20,7 +20,8 @@ use Rattle.swc_ecma_codegen_base.specs.Written.{IsLineEnd, all_indent, is_indent
 use Rattle.swc_ecma_codegen_base.proofs.Held.{front_of, front, written_text, in_line, written_semicolons, pointed_keeps, settled_none, unheld_settled}
 use Rattle.swc_ecma_codegen_base.proofs.Shapes.{open_, fits_blank}
 use Rattle.swc_ecma_codegen_base.proofs.Indented.{indent_utf8, indent_chars, indent_blank, indent_one_line, blanks, blanks_text, blanks_pieces}
-use Rattle.swc_ecma_codegen_base.proofs.Written.{LaysWith, lays_then, lays_settled, lays_blank, lays_guard, after_guard, laid_out, front_indent, settle, settle_rest, apart_open}
+use Rattle.swc_ecma_codegen_base.proofs.Laid.{LaysWith, lays_then, laid_out}
+use Rattle.swc_ecma_codegen_base.proofs.Written.{lays_settled, lays_blank, lays_guard, after_guard, front_indent, settle, settle_rest, apart_open}
 
 -- ---- pieces one after the other
 

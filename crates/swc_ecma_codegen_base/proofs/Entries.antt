@@ -38,6 +38,10 @@ same_token (last.Mark p) t = ap (λ x. fuses x t) (at_place p)
 same_token last.LessBang t = refl
 same_token last.Closing t = refl
 same_token last.Whole t = refl
+same_token last.TextEnd [] = refl
+same_token last.TextEnd (c ∷ n) = refl
+same_token last.TagNameEnd [] = refl
+same_token last.TagNameEnd (c ∷ n) = refl
 same_token last.LineEnd [] = refl
 same_token last.LineEnd (c ∷ n) = refl
 
@@ -45,7 +49,7 @@ rows : length tokens ≡ 63
 unfolding tokens punctuators
 rows = refl
 
-columns : length samples ≡ 32
+columns : length samples ≡ 30
 unfolding samples
 columns = refl
 

@@ -6,7 +6,7 @@ use Rattle.swc_ecma_codegen_text_writer.specs.Sheet.{Item}
 use Rattle.swc_ecma_codegen_literals.specs.AsciiNames.{is_ascii_text}
 use Rattle.swc_ecma_codegen_ast.specs.CommentMaps.{Maps}
 use Rattle.swc_ecma_codegen_base.specs.Run.{Env, at_maps, Step, Guard, Token, Plain, Ends, Remake, Take, CommentText, text_of}
-use Rattle.swc_ecma_codegen_base.specs.Ascii.{is_other, is_other_piece, is_other_end, is_other_value, keeps_other, are_ascii, keeps_tokens}
+use Rattle.swc_ecma_codegen_base.specs.Ascii.{is_other, is_other_piece, is_other_end, is_other_value, keeps_other, are_ascii, is_kept, is_kept_piece, is_kept_end, are_ascii_or_kept, keeps_tokens}
 use Rattle.swc_ecma_codegen_base.specs.Scripts.{is_str, is_string_call}
 
 -- a string is among these steps
@@ -28,7 +28,7 @@ holds_string (x ∷ xs) = is_str x.kind || holds_string xs
 -- Where the settings ask for ASCII, each text is, save what stands as it is in the tree; and of such a text there is a token.
 -- Of a string there is one too.
 pub record Hands (env : Env) (steps : List Step) (ts : List lexical.Token) : Type 0 where
-  pub ascii : env.config.ascii_only ≡ true → keeps_other steps ≡ false → are_ascii steps ≡ true
+  pub ascii : env.config.ascii_only ≡ true → are_ascii_or_kept steps ≡ true
   pub keeps : keeps_other steps ≡ true → keeps_tokens ts ≡ true
   pub strings : has_string steps ≡ true → holds_string ts ≡ true
 
@@ -71,6 +71,34 @@ ascii_append (Remake due ∷ xs) ys = ascii_append xs ys
 ascii_append (Take side at ∷ xs) ys = ascii_append xs ys
 ascii_append (CommentText t ∷ xs) ys = ascii_append xs ys
 
+pub or_kept_append : (xs ys : List Step) → are_ascii_or_kept (xs ++ ys) ≡ (are_ascii_or_kept xs && are_ascii_or_kept ys)
+unfolding are_ascii_or_kept
+or_kept_append [] ys = refl
+or_kept_append (Guard t ∷ xs) ys = or_kept_append xs ys
+or_kept_append (Token kind x ∷ xs) ys = ap (λ z. (is_ascii_text (text_of x) || is_kept x) && z) (or_kept_append xs ys) ∙ and_assoc (is_ascii_text (text_of x) || is_kept x) (are_ascii_or_kept xs) (are_ascii_or_kept ys)
+or_kept_append (Plain x ∷ xs) ys = ap (λ z. (is_ascii_text (text_of x) || is_kept_piece x) && z) (or_kept_append xs ys) ∙ and_assoc (is_ascii_text (text_of x) || is_kept_piece x) (are_ascii_or_kept xs) (are_ascii_or_kept ys)
+or_kept_append (Ends tokens x ∷ xs) ys = ap (λ z. (is_ascii_text (text_of x) || is_kept_end tokens x) && z) (or_kept_append xs ys) ∙ and_assoc (is_ascii_text (text_of x) || is_kept_end tokens x) (are_ascii_or_kept xs) (are_ascii_or_kept ys)
+or_kept_append (Remake due ∷ xs) ys = or_kept_append xs ys
+or_kept_append (Take side at ∷ xs) ys = or_kept_append xs ys
+or_kept_append (CommentText t ∷ xs) ys = or_kept_append xs ys
+
+-- ASCII is one of the two
+call_or_kept : (kept : Bool) (x : Item) (all rest : Bool) → (is_ascii_text (text_of x) && all) ≡ true → (all ≡ true → rest ≡ true) → ((is_ascii_text (text_of x) || kept) && rest) ≡ true
+call_or_kept kept x all rest h k =
+    let p = and_parts (is_ascii_text (text_of x)) all h in
+    and_from (is_ascii_text (text_of x) || kept) rest (or_left (is_ascii_text (text_of x)) kept p.0) (k p.1)
+
+pub kept_of_ascii : (xs : List Step) → are_ascii xs ≡ true → are_ascii_or_kept xs ≡ true
+unfolding are_ascii are_ascii_or_kept
+kept_of_ascii [] h = refl
+kept_of_ascii (Guard t ∷ xs) h = kept_of_ascii xs h
+kept_of_ascii (Token kind x ∷ xs) h = call_or_kept (is_kept x) x (are_ascii xs) (are_ascii_or_kept xs) h (kept_of_ascii xs)
+kept_of_ascii (Plain x ∷ xs) h = call_or_kept (is_kept_piece x) x (are_ascii xs) (are_ascii_or_kept xs) h (kept_of_ascii xs)
+kept_of_ascii (Ends tokens x ∷ xs) h = call_or_kept (is_kept_end tokens x) x (are_ascii xs) (are_ascii_or_kept xs) h (kept_of_ascii xs)
+kept_of_ascii (Remake due ∷ xs) h = kept_of_ascii xs h
+kept_of_ascii (Take side at ∷ xs) h = kept_of_ascii xs h
+kept_of_ascii (CommentText t ∷ xs) h = kept_of_ascii xs h
+
 pub tokens_keep : (ts us : List lexical.Token) → keeps_tokens (ts ++ us) ≡ (keeps_tokens ts || keeps_tokens us)
 unfolding keeps_tokens
 tokens_keep [] us = refl
@@ -97,9 +125,7 @@ or_either x y a b h f g = elim (or_cases x y h) [ inl e ↦ or_left a b (f e) | 
 
 pub hands_then : {env : Env} {xs ys : List Step} {ts us : List lexical.Token} → Hands env xs ts → Hands env ys us → Hands env (xs ++ ys) (ts ++ us)
 hands_then {env} {xs} {ys} {ts} {us} h k = record {
-  ascii = λ e n.
-      let p = or_parts (keeps_other xs) (keeps_other ys) (sym (keeps_append xs ys) ∙ n) in
-      ascii_append xs ys ∙ and_from (are_ascii xs) (are_ascii ys) (h.ascii e p.0) (k.ascii e p.1);
+  ascii = λ e. or_kept_append xs ys ∙ and_from (are_ascii_or_kept xs) (are_ascii_or_kept ys) (h.ascii e) (k.ascii e);
   keeps = λ n. tokens_keep ts us ∙ or_either (keeps_other xs) (keeps_other ys) (keeps_tokens ts) (keeps_tokens us) (sym (keeps_append xs ys) ∙ n) h.keeps k.keeps;
   strings = λ n. holds_append ts us ∙ or_either (has_string xs) (has_string ys) (holds_string ts) (holds_string us) (sym (has_append xs ys) ∙ n) h.strings k.strings;
 }
@@ -126,8 +152,8 @@ ascii_keeps (CommentText t ∷ xs) h = ascii_keeps xs h
 
 -- whatever the settings
 pub hands_ascii : (env : Env) (steps : List Step) (ts : List lexical.Token) → are_ascii steps ≡ true → (has_string steps ≡ true → holds_string ts ≡ true) → Hands env steps ts
-hands_ascii env steps ts a s = record { ascii = λ e n. a; keeps = λ n. absurd (true≢false (sym n ∙ ascii_keeps steps a)); strings = s }
+hands_ascii env steps ts a s = record { ascii = λ e. kept_of_ascii steps a; keeps = λ n. absurd (true≢false (sym n ∙ ascii_keeps steps a)); strings = s }
 
 -- where the settings ask for it
 pub hands_by_settings : (env : Env) (steps : List Step) (ts : List lexical.Token) → (env.config.ascii_only ≡ true → are_ascii steps ≡ true) → keeps_other steps ≡ false → (has_string steps ≡ true → holds_string ts ≡ true) → Hands env steps ts
-hands_by_settings env steps ts a n s = record { ascii = λ e k. a e; keeps = λ k. absurd (true≢false (sym k ∙ n)); strings = s }
+hands_by_settings env steps ts a n s = record { ascii = λ e. kept_of_ascii steps (a e); keeps = λ k. absurd (true≢false (sym k ∙ n)); strings = s }

@@ -20,7 +20,7 @@ use Rattle.swc_ecma_codegen_ast.specs.Phrases.{One, where_}
 use Rattle.swc_ecma_codegen_text_writer.specs.Sheet.{Sheet, StrLit, Punct, Position, Line, holds_semicolons, effect, written, literal_written, ended, appended, pointed, settled, before_punct, is_ending}
 use Rattle.swc_ecma_codegen_text_writer.proofs.Sheets.{pointed_alike, alike_same}
 use Rattle.swc_ecma_codegen_literals.specs.AsciiNames.{is_ascii_text}
-use Rattle.swc_ecma_codegen_base.specs.Ascii.{is_kept_piece, is_other_piece, is_kept_end, is_other_end, is_other_value, keeps_other, are_ascii, keeps_tokens}
+use Rattle.swc_ecma_codegen_base.specs.Ascii.{is_kept_piece, is_other_piece, is_kept_end, is_other_end, is_other_value, keeps_other, are_ascii, keeps_tokens, are_ascii_or_kept}
 use Rattle.swc_ecma_codegen_base.specs.Literals.{hashbang}
 use Rattle.swc_ecma_codegen_base.specs.Run.{at_maps, maps_after, after_step, taken_in, taken_by, spoken, Env, Part, State, Step, Plain, Ends, put, run, step, next, text_of, after_plain, makes_text}
 use Rattle.swc_ecma_codegen_base.specs.Scripts.{is_str, is_string_call}
@@ -37,7 +37,8 @@ use Rattle.swc_ecma_codegen_base.proofs.Phrased.{PrintsAt, prints_one, prints_wh
 use Rattle.swc_ecma_codegen_base.proofs.Printed.{takes_none, makes_silently, MakesAt, chain, no_text}
 use Rattle.swc_ecma_codegen_base.proofs.Shapes.{Shape, first_line, Fits, fits_then, fits_wider, fits_text, fits_end}
 use Rattle.swc_ecma_codegen_base.proofs.Texts.{Adds, adds_written, adds_literal, adds_more}
-use Rattle.swc_ecma_codegen_base.proofs.Written.{LaysWith, LaysAt, IsFirst, Enters, held, laid_out, front_indent, apart_open, settle, settle_rest, lays_settled, lays_position}
+use Rattle.swc_ecma_codegen_base.proofs.Laid.{LaysWith, LaysAt, IsFirst, Enters, held, laid_out}
+use Rattle.swc_ecma_codegen_base.proofs.Written.{front_indent, apart_open, settle, settle_rest, lays_settled, lays_position}
 
 -- ---- the end of a line
 
@@ -153,10 +154,10 @@ calls_add t s =
     let h : Adds (codes "#!") a b = adds_written None 35 (33 ∷ []) a in
     literal_more (codes "#!") t a (settled b) (subst (λ z. Adds (codes "#!") a z) (sym (still_settled (codes "#!") a b (settled_none s) h)) h)
 
-hashbang_steps : List ℕ → List Step
+unfoldable pub hashbang_steps : List ℕ → List Step
 hashbang_steps t = Plain (Punct None (codes "#!")) ∷ Ends ((Hashbang, codes "#!" ++ t) ∷ []) (StrLit dummy_span t) ∷ Plain Line ∷ []
 
-calls_lay : (t : List ℕ) (s : State) → IsUtf8 t → is_one_line (chars t) ≡ true → AtRest s → LaysAt first_line (token_of Hashbang (codes "#!" ++ chars t) ∷ []) s (run (hashbang_steps t) s)
+pub calls_lay : (t : List ℕ) (s : State) → IsUtf8 t → is_one_line (chars t) ≡ true → AtRest s → LaysAt first_line (token_of Hashbang (codes "#!" ++ chars t) ∷ []) s (run (hashbang_steps t) s)
 unfolding hashbang_steps calls_sheet run put effect text_of after_plain before_punct is_ending
 calls_lay t s u h r =
     let m : Sheet = calls_sheet t s.sheet in
@@ -170,14 +171,14 @@ calls_lay t s u h r =
     (lays_settled s _ _ r (line_lays (codes "#!" ++ t) (settle s) m (IsUtf8-append (codes "#!") t mark_utf8 u) shape (settled_none s.sheet) (settle_rest s r) a)))
 
 -- it stands as it is
-kept_line : (b : Bool) → (not b || false) ≡ false → (b && true) ≡ true
-kept_line true h = refl
-kept_line false h = absurd (true≢false h)
+kept_line : (b : Bool) → ((b || true) && true) ≡ true
+kept_line true = refl
+kept_line false = refl
 
 line_hands : (env : Env) (t : List ℕ) → IsUtf8 t → Hands env (hashbang_steps t) (token_of Hashbang (codes "#!" ++ chars t) ∷ [])
-unfolding hashbang_steps are_ascii has_string is_string_call keeps_other is_other_piece is_kept_piece is_other_end is_kept_end is_hashbang_kind text_of keeps_tokens is_other_value token_of value_of
+unfolding hashbang_steps are_ascii_or_kept has_string is_string_call keeps_other is_other_piece is_kept_piece is_other_end is_kept_end is_hashbang_kind text_of keeps_tokens is_other_value token_of value_of
 line_hands env t u = record {
-  ascii = λ e n. kept_line (is_ascii_text t) n;
+  ascii = λ e. kept_line (is_ascii_text t);
   keeps = λ n. or_left (not (is_ascii_text (chars t))) false (not_from_false (is_ascii_text (chars t)) (false_from_ne_true (is_ascii_text (chars t)) (λ a. true≢false (sym n ∙ ap (λ z. not z || false) (ascii_by_chars t u a)))));
   strings = no_text;
 }

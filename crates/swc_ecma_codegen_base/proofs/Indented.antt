@@ -8,6 +8,7 @@ use Rattle.std.proofs.lemmas.Str.Ascii.{IsAscii-cons, IsAscii-nil}
 use Rattle.swc_ecma_codegen_ast.specs.Chars.{is_blank, is_line_end, is_one_line}
 use Rattle.swc_ecma_codegen_ast.specs.Trivia.{Piece, Blank, is_piece, piece_text, pieces_text, all_pieces, remarks_of}
 use Rattle.swc_ecma_codegen_base.specs.Written.{all_indent, is_indent}
+unfoldable pub use Rattle.swc_ecma_codegen_base.specs.Written.{blanks}
 
 pub indent_append : (u v : List ℕ) → all_indent u ≡ true → all_indent v ≡ true → all_indent (u ++ v) ≡ true
 unfolding all_indent
@@ -37,11 +38,6 @@ indent_utf8 u h = IsUtf8-from_ascii u (indent_ascii u h)
 
 pub indent_chars : (u : List ℕ) → all_indent u ≡ true → chars u ≡ u
 indent_chars u h = chars-IsAscii u (indent_ascii u h)
-
--- as blanks between tokens
-unfoldable pub blanks : List ℕ → List Piece
-blanks [] = []
-blanks (c ∷ cs) = Blank c ∷ blanks cs
 
 pub blanks_text : (u : List ℕ) → pieces_text (blanks u) ≡ u
 unfolding blanks pieces_text piece_text

@@ -28,7 +28,8 @@ use Rattle.swc_ecma_codegen_base.proofs.Hands.{holds_string}
 use Rattle.swc_ecma_codegen_base.proofs.KeySteps.{escaped_same, plain_same, symbol_same, bare_same, valid_same}
 use Rattle.swc_ecma_codegen_base.proofs.KeyTexts.{SpellsKey, made_key, kept_key}
 use Rattle.swc_ecma_codegen_base.proofs.LiteralParts.{writes_guard}
-use Rattle.swc_ecma_codegen_base.proofs.Phrased.{IsSafe, NamedBy, PlacedBy, placed_after, Prints, after, names_then, no_names, no_strings, safe_then, prints_same}
+use Rattle.swc_ecma_codegen_base.proofs.PartSteps.{IsSafe, NamedBy, PlacedBy, placed_after, names_then, no_names, no_strings, safe_then}
+use Rattle.swc_ecma_codegen_base.proofs.Phrased.{Prints, after, prints_same}
 use Rattle.swc_ecma_codegen_base.proofs.Positions.{Named, name_named, name_call, name_steps}
 use Rattle.swc_ecma_codegen_base.proofs.Shapes as shapes
 use Rattle.swc_ecma_codegen_base.proofs.Shapes.{Shape, open_}

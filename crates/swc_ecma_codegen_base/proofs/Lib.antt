@@ -21,6 +21,8 @@ pub mod Marks
 pub mod Indented
 pub mod HashbangPrints
 pub mod Held
+pub mod Laid
+pub mod Spots
 pub mod Written
 pub mod Texts
 pub mod NumberEnds
@@ -34,6 +36,7 @@ pub mod NoneTaken
 pub mod NoComments
 pub mod Printed
 pub mod LiteralParts
+pub mod PartSteps
 pub mod Phrased
 pub mod Choices
 pub mod KeyPrints
@@ -58,4 +61,7 @@ pub mod Behind
 pub mod BigPrints
 pub mod TemplatePrints
 pub mod EachLit
+pub mod TokensSoFar
 pub mod ListLaws
+pub mod TagLays
+pub mod TagPrints

@@ -12,7 +12,7 @@ use Rattle.swc_ecma_codegen_ast.specs.Tokens.{token_of}
 use Rattle.swc_ecma_codegen_ast.specs.Punctuators.{is_punctuator, punctuators}
 use Rattle.swc_ecma_codegen_ast.specs.Texts.{is_same, is_among}
 use Rattle.swc_ecma_codegen_ast.specs.Phrases as phrases
-use Rattle.swc_ecma_codegen_ast.specs.Phrases.{Phrase, OptionalComma, is_possible, names_in, mark, ◌>◌}
+use Rattle.swc_ecma_codegen_ast.specs.Phrases.{Phrase, Closing, CommaBefore, closing_mark, is_possible, names_in, mark, ◌>◌}
 use Rattle.swc_ecma_codegen_base.specs.Run.{Env, Plan, Part, Remake, at_maps, maps_after, step, spelling, when_minified, no_part}
 use Rattle.swc_ecma_codegen_base.specs.Words.{punct, formatting_space, formatting_line, trailing_comments}
 use Rattle.swc_ecma_codegen_base.specs.Written.{IsMark}
@@ -25,7 +25,8 @@ use Rattle.swc_ecma_codegen_base.specs.Targets.{is_out}
 use Rattle.swc_ecma_codegen_base.proofs.Hands.{holds_string}
 use Rattle.swc_ecma_codegen_base.proofs.Choices.{IsAmong, placed_among, comma_among, no_comma_among, prints_no_comma}
 use Rattle.swc_ecma_codegen_base.proofs.Shapes.{Shape, open_, ended, loose, closed, past_line, join}
-use Rattle.swc_ecma_codegen_base.proofs.Phrased.{Prints, PrintsAt, prints_wider, loosened, NamedBy, names_then, no_names, placed_after, safe_then, no_strings, then, after as behind, before, prints_nothing, prints_same, prints_punct, prints_mark, mark_spelled}
+use Rattle.swc_ecma_codegen_base.proofs.PartSteps.{NamedBy, names_then, no_names, placed_after, safe_then, no_strings}
+use Rattle.swc_ecma_codegen_base.proofs.Phrased.{Prints, PrintsAt, prints_wider, loosened, then, after as behind, before, prints_nothing, prints_same, prints_punct, prints_mark, mark_spelled}
 
 -- ---- parts
 
@@ -215,15 +216,15 @@ unfolding list first_child_after
 list_in_parts {env = env} h format parent place part x xs maps rest =
     asked_behind h (λ lines. first_child_after format (leading_line lines format parent (place x)) (record { place = place x; part = part x })) maps (more_children format (place x) (children_of place part xs) (list_closing format parent (last_place (place x) (children_of place part xs)) rest))
 
--- One that isn't indented, with what its trailing comma reads as, and what comes after it: `a, b, }`.
-pub prints_some : {A : Type 0} (env : Env) (format : ℕ) (parent : Span) (place : A → Span) (part : A → Part) (e : A → Phrase) (tail after : Phrase) (close : Part) → ((x : A) → PrintsAt loose env (part x) (e x)) → comma_delimited format ≡ true → indented format ≡ false → ((last : Span) → PrintsAt loose env (list_closing format parent last) tail) → Prints env close after → (x : A) (xs : List A) → PrintsAt closed env (λ rest. list format parent (children_of place part (x ∷ xs)) (close rest)) (phrases.listed (codes ",") (map e (x ∷ xs)) > tail > after)
-prints_some env format parent place part e tail after close law c i ends closed x xs =
+-- One that isn't indented, with what its end reads as, to the mark after it: `a, b, }`.
+pub prints_some : {A : Type 0} (env : Env) (format : ℕ) (parent : Span) (place : A → Span) (part : A → Part) (e : A → Phrase) (tail : Phrase) (close : Part) → ((x : A) → PrintsAt loose env (part x) (e x)) → comma_delimited format ≡ true → indented format ≡ false → ((last : Span) → PrintsAt closed env (λ rest. list_closing format parent last (close rest)) tail) → (x : A) (xs : List A) → PrintsAt closed env (λ rest. list format parent (children_of place part (x ∷ xs)) (close rest)) (phrases.listed (codes ",") (map e (x ∷ xs)) > tail)
+prints_some env format parent place part e tail close law c i ends x xs =
     let line : Bool = leading_line env.lines format parent (place x) in
     let last : Span = last_place (place x) (children_of place part xs) in
     let children : Part = children_after format line place part x xs in
     let ending : Part = list_closing format parent last in
     prints_same (λ rest. list format parent (children_of place part (x ∷ xs)) (close rest)) (λ rest. opening format line (children (ending (close rest)))) (λ maps rest. list_in_parts (writes_nothing env) format parent place part x xs maps (close rest))
-    (behind (writes_opening env format line i) (then (prints_children env format line place part e law c x xs) (then (ends last) closed)))
+    (behind (writes_opening env format line i) (then (prints_children env format line place part e law c x xs) (ends last)))
 
 -- One that isn't indented and has no trailing comma.
 pub prints_list : {A : Type 0} (env : Env) (format : ℕ) (parent : Span) (place : A → Span) (part : A → Part) (e : A → Phrase) → ((x : A) → PrintsAt loose env (part x) (e x)) → comma_delimited format ≡ true → indented format ≡ false → forces_trailing_comma format ≡ false → allows_trailing_comma format ≡ false → (xs : List A) → PrintsAt loose env (list format parent (children_of place part xs)) (phrases.listed (codes ",") (map e xs))
@@ -348,9 +349,9 @@ prints_bracketed_in_order env t w p h format parent place part e after close law
 -- ---- a trailing comma where the source text has one
 
 -- What reads the source text may take memory.
-prints_asked : {i : Shape} {env : Env} {f : Phrase} (p : Part) → IsAmong env.config f OptionalComma → PrintsAt i env p f → PrintsAt (join open_ i) env (λ rest. step (Remake true) (p rest)) OptionalComma
+prints_asked : {i : Shape} {env : Env} {f : Phrase} (mark_after : Closing) (p : Part) → IsAmong env.config f (CommaBefore mark_after) → PrintsAt i env p f → PrintsAt (join open_ i) env (λ rest. step (Remake true) (p rest)) (CommaBefore mark_after)
 unfolding is_possible is_out may_make_text names_in holds_string
-prints_asked {env = env} {f = f} p i h = record {
+prints_asked {env = env} {f = f} mark_after p i h = record {
   where_possible = λ w o maps.
       let v : Env = at_maps maps env in
       let m = (writes_remake env true).from maps in
@@ -360,38 +361,43 @@ prints_asked {env = env} {f = f} p i h = record {
         generated = i.generates a.tokens a.generated;
         writes = from_both v (step (Remake true)) p [] a.tokens m a.writes;
         named = subst (λ ns. NamedBy v (λ rest. step (Remake true) (p rest)) ns) i.names (names_then p [] (names_in f) m (no_names v (step (Remake true))) a.named);
-        placed = placed_after p OptionalComma a.tokens m (placed_among i a.placed);
+        placed = placed_after p (CommaBefore mark_after) a.tokens m (placed_among i a.placed);
         safe = safe_then p m (no_strings m refl) a.safe;
       };
   where_out = λ w o. absurd (true≢false (sym o));
 }
 
-prints_read : (env : Env) (b : Bool) → PrintsAt open_ env (λ rest. step (Remake true) (comma_if b rest)) OptionalComma
+-- a part that ends with a closing mark, behind the comma
+abbrev Closes : Env → Closing → Part → Type 0
+Closes env mark_after p = PrintsAt closed env p (mark (closing_mark mark_after))
+
+prints_read : {env : Env} (mark_after : Closing) (end : Part) (b : Bool) → Closes env mark_after end → PrintsAt closed env (λ rest. step (Remake true) (comma_if b (end rest))) (CommaBefore mark_after)
 unfolding comma_if
-prints_read env true = prints_wider open_ refl (prints_asked (comma_if true) (comma_among env.config) (prints_comma_if env))
-prints_read env false = prints_asked (λ rest. rest) (no_comma_among env.config) prints_nothing
+prints_read {env = env} mark_after end true h = prints_wider closed refl (prints_asked mark_after (λ rest. comma_if true (end rest)) (comma_among env.config mark_after) (then (prints_comma_if env) h))
+prints_read {env = env} mark_after end false h = prints_wider closed refl (prints_asked mark_after end (no_comma_among env.config mark_after) h)
 
 nowhere_same : (parent : Span) (rest : Plan) (env : Env) → (parent.lo.0 == 0) ≡ true → source_comma parent rest env ≡ rest env
 unfolding source_comma
 nowhere_same parent rest env h = picked (parent.lo.0 == 0) rest _ env h
 
-prints_source_comma : (env : Env) (parent : Span) → PrintsAt open_ env (source_comma parent) OptionalComma
-prints_source_comma env parent = elim (cases_Bool (parent.lo.0 == 0)) [
-  | inl none ↦ prints_same (source_comma parent) (λ rest. rest) (λ maps rest. nowhere_same parent rest (at_maps maps env) none) (prints_no_comma prints_nothing)
-  | inr some ↦ prints_same (source_comma parent) (λ rest. step (Remake true) (comma_if (source_has_comma (env.lines.snippet parent)) rest)) (λ maps rest. source_same parent rest (at_maps maps env) some) (prints_read env (source_has_comma (env.lines.snippet parent)))
+prints_source_comma : {env : Env} (parent : Span) (mark_after : Closing) (end : Part) → Closes env mark_after end → PrintsAt closed env (λ rest. source_comma parent (end rest)) (CommaBefore mark_after)
+prints_source_comma {env = env} parent mark_after end h = elim (cases_Bool (parent.lo.0 == 0)) [
+  | inl none ↦ prints_same (λ rest. source_comma parent (end rest)) end (λ maps rest. nowhere_same parent (end rest) (at_maps maps env) none) (prints_no_comma mark_after h)
+  | inr some ↦ prints_same (λ rest. source_comma parent (end rest)) (λ rest. step (Remake true) (comma_if (source_has_comma (env.lines.snippet parent)) (end rest))) (λ maps rest. source_same parent (end rest) (at_maps maps env) some) (prints_read mark_after end (source_has_comma (env.lines.snippet parent)) h)
 ]
 
 allowed_same : (format : ℕ) (parent : Span) (rest : Plan) (env : Env) → forces_trailing_comma format ≡ false → allows_trailing_comma format ≡ true → wanted_comma format parent rest env ≡ source_comma parent rest env
 unfolding wanted_comma
 allowed_same format parent rest env f a = passed_over (forces_trailing_comma format) _ _ env f ∙ picked (allows_trailing_comma format) _ rest env a
 
-prints_allowed_comma : (env : Env) (format : ℕ) (parent : Span) → forces_trailing_comma format ≡ false → allows_trailing_comma format ≡ true → PrintsAt open_ env (trailing_comma format parent) OptionalComma
-prints_allowed_comma env format parent f a = elim (cases_Bool (may_have_comma format env.config)) [
-  | inl some ↦ prints_same (trailing_comma format parent) (source_comma parent) (λ maps rest. written_same format parent rest (at_maps maps env) some ∙ allowed_same format parent rest (at_maps maps env) f a) (prints_source_comma env parent)
-  | inr none ↦ prints_same (trailing_comma format parent) (λ rest. rest) (λ maps rest. left_out_same format parent rest (at_maps maps env) none) (prints_no_comma prints_nothing)
+prints_allowed_comma : {env : Env} (format : ℕ) (parent : Span) (mark_after : Closing) (end : Part) → forces_trailing_comma format ≡ false → allows_trailing_comma format ≡ true → Closes env mark_after end → PrintsAt closed env (λ rest. trailing_comma format parent (end rest)) (CommaBefore mark_after)
+prints_allowed_comma {env = env} format parent mark_after end f a h = elim (cases_Bool (may_have_comma format env.config)) [
+  | inl some ↦ prints_same (λ rest. trailing_comma format parent (end rest)) (λ rest. source_comma parent (end rest)) (λ maps rest. written_same format parent (end rest) (at_maps maps env) some ∙ allowed_same format parent (end rest) (at_maps maps env) f a) (prints_source_comma parent mark_after end h)
+  | inr none ↦ prints_same (λ rest. trailing_comma format parent (end rest)) end (λ maps rest. left_out_same format parent (end rest) (at_maps maps env) none) (prints_no_comma mark_after h)
 ]
 
--- `[a, ] = b`
-pub prints_optional_closing : (env : Env) (format : ℕ) (parent last : Span) → forces_trailing_comma format ≡ false → allows_trailing_comma format ≡ true → PrintsAt loose env (list_closing format parent last) OptionalComma
+-- `[a, ] = b`, to the bracket
+pub prints_optional_closing : (env : Env) (format : ℕ) (parent last : Span) (mark_after : Closing) (close : Part) → forces_trailing_comma format ≡ false → allows_trailing_comma format ≡ true → Prints env close (mark (closing_mark mark_after)) → PrintsAt closed env (λ rest. list_closing format parent last (close rest)) (CommaBefore mark_after)
 unfolding list_closing
-prints_optional_closing env format parent last f a = before (prints_allowed_comma env format parent f a) (writes_end env format parent last)
+prints_optional_closing env format parent last mark_after close f a h =
+    prints_allowed_comma format parent mark_after (λ rest. list_end format parent last (close rest)) f a (prints_wider closed refl (behind (writes_end env format parent last) h))

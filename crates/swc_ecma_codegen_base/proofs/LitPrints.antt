@@ -78,7 +78,7 @@ regex_utf8 exp flags u v = IsUtf8-append (codes "/") _ slash_utf8 (IsUtf8-append
 slash_class : (t : List ℕ) → start_class (chars (codes "/" ++ t)) ≡ start_class (chars (codes "/"))
 slash_class t = ap start_class (after_slash t) ∙ plain_class 47 (chars t) (λ e. omega (arith, e)) (λ e. omega (arith, e)) ∙ sym (plain_class 47 [] (λ e. omega (arith, e)) (λ e. omega (arith, e))) ∙ sym (ap start_class slash_chars)
 
-writes_regex_text : (env : Env) (exp flags : List ℕ) → IsUtf8 exp → IsUtf8 flags → is_regex (phrases.regex_text (chars exp) (chars flags)) ≡ true → Writes env (words.regex exp flags) (token_of kinds.Regex (phrases.regex_text (chars exp) (chars flags)) ∷ [])
+pub writes_regex_text : (env : Env) (exp flags : List ℕ) → IsUtf8 exp → IsUtf8 flags → is_regex (phrases.regex_text (chars exp) (chars flags)) ≡ true → Writes env (words.regex exp flags) (token_of kinds.Regex (phrases.regex_text (chars exp) (chars flags)) ∷ [])
 unfolding spelling
 writes_regex_text env exp flags u v h =
     let same = regex_chars exp flags u in

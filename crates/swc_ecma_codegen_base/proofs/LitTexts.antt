@@ -73,7 +73,7 @@ spelled_regex t u h = record {
   some = some_text is_regex t some_regex h;
 }
 
-spelled_number : (t : List ℕ) → IsUtf8 t → is_number (chars t) ≡ true → Spelled Number t
+pub spelled_number : (t : List ℕ) → IsUtf8 t → is_number (chars t) ≡ true → Spelled Number t
 unfolding spelling has_shape is_child is_hashbang_kind last_after
 spelled_number t u h = record {
   utf8 = u;

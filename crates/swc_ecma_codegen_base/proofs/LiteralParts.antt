@@ -1,7 +1,7 @@
 -- What the parts of literals write.
 use Rattle.std.proofs.Common.{◌≡◌, ℕ, Bool, true, false, not, ◌&&◌, ◌||◌, nat_lt, List, [], ◌∷◌, ◌++◌, codes, refl, sym, ap, ◌∙◌, subst, append_assoc, append-nil, inl, inr, arith, None}
 use Rattle.std.specs.Str.{chars}
-use Rattle.std.proofs.lemmas.Bool.{and_from, and_parts, or_cases, or_left, or_parts, not_from_false, false_from_ne_true, true≢false}
+use Rattle.std.proofs.lemmas.Bool.{and_from, and_parts, or_left, not_from_false, false_from_ne_true, true≢false}
 use Rattle.std.proofs.lemmas.List.Folds.{list_all-append}
 use Rattle.swc_ecma_codegen_common.specs.declared.positions.Span.{Span}
 use Rattle.swc_ecma_codegen_spans.specs.Spans.{dummy_span}
@@ -17,7 +17,7 @@ use Rattle.swc_ecma_codegen_text_writer.specs.Sheet as calls
 use Rattle.swc_ecma_codegen_text_writer.specs.Sheet.{Sheet, Lit, StrLit, Punct, effect, written, literal_written, settled, before_punct, is_ending}
 use Rattle.swc_ecma_codegen_literals.specs.AsciiNames.{is_ascii_text}
 use Rattle.swc_ecma_codegen_literals.specs.ValidNames.{has_byte}
-use Rattle.swc_ecma_codegen_base.specs.Ascii.{is_strict, is_kept_directive, is_kept, is_other, is_kept_piece, is_other_piece, is_kept_end, is_other_end, is_other_value, keeps_other, are_ascii, keeps_tokens}
+use Rattle.swc_ecma_codegen_base.specs.Ascii.{is_strict, is_kept_directive, is_kept, is_other, is_kept_piece, is_other_piece, is_kept_end, is_other_end, is_other_value, keeps_other, are_ascii, are_ascii_or_kept, keeps_tokens}
 use Rattle.swc_ecma_codegen_base.specs.Run.{maps_after, after_step, Env, State, Step, Guard, Token, Plain, Ends, put, run, step, spelling, text_of, after_tokens, after_plain, makes_text}
 use Rattle.swc_ecma_codegen_base.specs.Scripts.{is_string_call}
 use Rattle.swc_ecma_codegen_base.specs.Starts.{start_class}
@@ -29,7 +29,8 @@ use Rattle.swc_ecma_codegen_base.proofs.Hands.{Hands, has_string, holds_string, 
 use Rattle.swc_ecma_codegen_base.proofs.Levels.{levels, rise}
 use Rattle.swc_ecma_codegen_base.proofs.NumeralTexts.{numeric_ascii, ascii_by_chars}
 use Rattle.swc_ecma_codegen_base.proofs.Starting.{same_beginning, sample}
-use Rattle.swc_ecma_codegen_base.proofs.Written.{Lays, lays_then, lays_settled, lays_guard, settle, settle_rest, after_guard, Spelled}
+use Rattle.swc_ecma_codegen_base.proofs.Laid.{Lays, lays_then}
+use Rattle.swc_ecma_codegen_base.proofs.Written.{lays_settled, lays_guard, settle, settle_rest, after_guard, Spelled}
 use Rattle.swc_ecma_codegen_base.proofs.Texts.{Adds, adds_written, adds_literal, adds_more, owns, SpelledAs, spelled_one, lays_texts}
 use Rattle.swc_ecma_codegen_base.proofs.Printed.{takes_none, makes_silently, chain, no_text, Makes, Writes, writes_then, writes_step, writes_two, writes_position, writes_commit, writes_leading, Fills}
 
@@ -50,7 +51,7 @@ writes_settled_begun env span t = writes_then env commit_pending_semi (words.beg
 -- ---- a text of tokens, by calls behind a guard
 
 -- what begins alike fuses alike
-alike_fuses : (k : Last) (t u : List ℕ) → start_class t ≡ start_class u → fuses k u ≡ false → fuses k t ≡ false
+pub alike_fuses : (k : Last) (t u : List ℕ) → start_class t ≡ start_class u → fuses k u ≡ false → fuses k t ≡ false
 alike_fuses k t u e f = same_beginning k t ∙ ap (λ z. fuses k (sample z)) e ∙ sym (same_beginning k u) ∙ f
 
 pub lays_guarded : (xs : List (Kind × List ℕ)) (t g : List ℕ) (s b : State) → SpelledAs xs t → start_class (chars t) ≡ start_class (chars g) → AtRest s → Adds t (settled (put (Guard g) s).sheet) b.sheet → b.last ≡ after_tokens xs (put (Guard g) s).last → Lays (tokens_of (owns xs)) s b
@@ -66,17 +67,11 @@ literal_adds span (c ∷ cs) s some = adds_literal span c cs s
 
 -- ---- one token by one call
 
--- what stands as it is, and is ASCII
-ascii_of_kept : (kept a : Bool) → kept ≡ true → (kept && not a) ≡ false → a ≡ true
-ascii_of_kept true true h n = refl
-ascii_of_kept true false h n = absurd (true≢false n)
-ascii_of_kept false a h n = absurd (true≢false (sym h))
-
 either_none : (b : Bool) → (b || false) ≡ true → b ≡ true
 either_none true h = refl
 either_none false h = h
 
-literal_lays : (kind : Kind) (span : Span) (t : List ℕ) (s : State) → Spelled kind t → AtRest s → Lays (token_of kind (spelling kind t) ∷ []) s (put (Token kind (StrLit span t)) (put (Guard t) s))
+pub literal_lays : (kind : Kind) (span : Span) (t : List ℕ) (s : State) → Spelled kind t → AtRest s → Lays (token_of kind (spelling kind t) ∷ []) s (put (Token kind (StrLit span t)) (put (Guard t) s))
 unfolding put effect text_of owns tokens_of after_tokens
 literal_lays kind span t s p r = lays_guarded ((kind, t) ∷ []) t t s _ (spelled_one kind t p) refl r (literal_adds span t (settled (put (Guard t) s).sheet) p.some) refl
 
@@ -91,12 +86,9 @@ literal_token env kind span t p a = literal_handed env kind span t p (hands_asci
 
 -- a string, which is in ASCII where the settings ask for that, save a directive that stands as it is
 string_handed : (env : Env) (t : List ℕ) → (env.config.ascii_only ≡ true → (is_ascii_text t || is_kept_directive t) ≡ true) → Hands env (Guard t ∷ Token Str (StrLit dummy_span t) ∷ []) (token_of Str (spelling Str t) ∷ [])
-unfolding are_ascii has_string is_string_call holds_string keeps_other is_other is_kept is_kept_directive text_of keeps_tokens is_other_value token_of value_of spelling
+unfolding are_ascii_or_kept has_string is_string_call holds_string keeps_other is_other is_kept is_kept_directive text_of keeps_tokens is_other_value token_of value_of spelling
 string_handed env t k = record {
-  ascii = λ e n. and_from (is_ascii_text t) true (elim (or_cases (is_ascii_text t) (is_kept_directive t) (k e)) [
-    | inl a ↦ a
-    | inr d ↦ ascii_of_kept (is_kept_directive t) (is_ascii_text t) d (or_parts (is_kept_directive t && not (is_ascii_text t)) false n).0
-  ]) refl;
+  ascii = λ e. and_from (is_ascii_text t || is_kept_directive t) true (k e) refl;
   keeps = λ n.
       let d = (and_parts (is_kept_directive t) (not (is_ascii_text t)) (either_none (is_kept_directive t && not (is_ascii_text t)) n)).0 in
       or_left (is_strict (string_value true (chars t))) false (and_parts (has_byte 92 t) (is_strict (string_value true (chars t))) d).1;
@@ -210,10 +202,11 @@ regex_lays exp flags s p e r = lays_guarded ((Regex, words.regex_text exp flags)
 regex_steps : List ℕ → List ℕ → List Step
 regex_steps exp flags = Guard (codes "/") ∷ Plain (Punct None (codes "/")) ∷ Plain (calls.Str exp) ∷ Plain (Punct None (codes "/")) ∷ Ends ((Regex, words.regex_text exp flags) ∷ []) (calls.Str flags) ∷ []
 
-neither : (a b : Bool) → (not a || (not b || false)) ≡ false → (a && (b && true)) ≡ true
-neither true true h = refl
-neither true false h = absurd (true≢false h)
-neither false b h = absurd (true≢false h)
+both_kept : (a b : Bool) → ((a || true) && ((b || true) && true)) ≡ true
+both_kept true true = refl
+both_kept true false = refl
+both_kept false true = refl
+both_kept false false = refl
 
 parts_ascii : (exp flags : List ℕ) → is_ascii_text (words.regex_text exp flags) ≡ true → (is_ascii_text exp ≡ true) × (is_ascii_text flags ≡ true)
 parts_ascii exp flags a =
@@ -227,9 +220,9 @@ either_other true false h e f = true≢false (sym f)
 either_other false b h e f = true≢false (sym e)
 
 regex_handed : (env : Env) (exp flags : List ℕ) → Spelled Regex (words.regex_text exp flags) → Hands env (regex_steps exp flags) (token_of Regex (spelling Regex (words.regex_text exp flags)) ∷ [])
-unfolding regex_steps are_ascii has_string is_string_call keeps_other is_other_piece is_kept_piece is_other_end is_kept_end text_of keeps_tokens is_other_value token_of value_of spelling
+unfolding regex_steps are_ascii_or_kept has_string is_string_call keeps_other is_other_piece is_kept_piece is_other_end is_kept_end text_of keeps_tokens is_other_value token_of value_of spelling
 regex_handed env exp flags p = record {
-  ascii = λ e n. neither (is_ascii_text exp) (is_ascii_text flags) n;
+  ascii = λ e. both_kept (is_ascii_text exp) (is_ascii_text flags);
   keeps = λ n.
       let text : List ℕ = words.regex_text exp flags in
       or_left (not (is_ascii_text (chars text))) false (not_from_false (is_ascii_text (chars text)) (false_from_ne_true (is_ascii_text (chars text)) (λ a.

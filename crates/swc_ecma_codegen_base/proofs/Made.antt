@@ -9,7 +9,7 @@ use Rattle.swc_ecma_codegen_base.specs.declared.refusals.Unprintable.{Unprintabl
 use Rattle.swc_ecma_codegen_text_writer.proofs.Sheets.{effect_refused, effect_faults, effect_takes_memory, effect_keeps_positions}
 use Rattle.swc_ecma_codegen_ast.specs.Tokens.{Token as LexicalToken, ending}
 use Rattle.swc_ecma_codegen_ast.specs.Settings.{Settings, is_up_to_es5}
-use Rattle.swc_ecma_codegen_ast.specs.Phrases.{Phrase, Never, Nothing, One, NameOf, KeyOf, PrivateOf, Then, OptionalComma, OptionalParentheses, Chosen, EmptyArguments, LoopEnding, AttributesWord, in_parentheses, close_parenthesis, Generates, chosen, is_possible}
+use Rattle.swc_ecma_codegen_ast.specs.Phrases.{Phrase, Never, Nothing, One, NameOf, KeyOf, PrivateOf, Then, CommaBefore, OptionalParentheses, Chosen, EmptyArguments, LoopEnding, AttributesWord, in_parentheses, close_parenthesis, Generates, chosen, is_possible}
 use Rattle.swc_ecma_codegen_base.specs.declared.refusals.Unprintable.TheVariants.{UnsupportedNode, BadShape, NameOutOfTarget}
 use Rattle.swc_ecma_codegen_base.specs.Targets.{is_out}
 use Rattle.swc_ecma_codegen_base.specs.Run.{Env, at_maps, maps_after, put, Plan, Part, Step, State, run, steps_of, unprintable_in, nothing, Follows, HasCause, PassesLimit, IsUnhindered, earlier, stopped, reached}
@@ -18,7 +18,8 @@ use Rattle.swc_ecma_codegen_base.specs.Ready.{token_count, IsPlainTree, IsReady}
 use Rattle.swc_ecma_codegen_base.proofs.Emitting.{put_failed, put_env}
 use Rattle.swc_ecma_codegen_base.proofs.Fronts.{run_sheet, follows_cause, follows_succeeds}
 use Rattle.swc_ecma_codegen_base.proofs.Levels.{levels, stays_within}
-use Rattle.swc_ecma_codegen_base.proofs.Phrased.{steps_of_chain, goes_on, made_not_out, printed_remakes, PrintsAt}
+use Rattle.swc_ecma_codegen_base.proofs.PartSteps.{steps_of_chain}
+use Rattle.swc_ecma_codegen_base.proofs.Phrased.{goes_on, made_not_out, printed_remakes, PrintsAt}
 use Rattle.swc_ecma_codegen_base.proofs.Targets.{plain_not_out}
 use Rattle.swc_ecma_codegen_base.proofs.Shapes.{Shape}
 
@@ -44,8 +45,8 @@ counted s (Then a b) ts g =
     let k = counted s b g.1 g.3 in
     let e = ap length g.4 in
     omega (arith, h, k, e, length-append g.0 g.1)
-counted s OptionalComma ts (inl g) = let e = ap length g in omega (arith, e)
-counted s OptionalComma ts (inr g) = let e = ap length g in omega (arith, e)
+counted s (CommaBefore close) ts (inl g) = let e = ap length g in omega (arith, e)
+counted s (CommaBefore close) ts (inr g) = let e = ap length g in omega (arith, e)
 counted s (OptionalParentheses a) ts (inl g) = let h = counted s a ts g in omega (arith, h)
 counted s (OptionalParentheses a) ts (inr g) =
     let h = counted s a g.0 g.1 in

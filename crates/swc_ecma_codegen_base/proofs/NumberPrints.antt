@@ -150,7 +150,7 @@ spelled_case env p each NegInfinity (Some raw) e = prints_never
 spelled_case env p each NaN None e = absurd (true≢false e)
 spelled_case env p each NaN (Some raw) e = prints_never
 
-writes_number_text : (env : Env) (value : Value) (negative : Bool) (t : List ℕ) → SignedToken Number value negative t → Writes env (words.number t) (signed_tokens Number value negative)
+pub writes_number_text : (env : Env) (value : Value) (negative : Bool) (t : List ℕ) → SignedToken Number value negative t → Writes env (words.number t) (signed_tokens Number value negative)
 writes_number_text env value negative t h = subst (λ z. Writes env (words.number t) z) (signed_written h) (writes_number env t (signed_spelled h) (some_signed h) (signed_ascii h))
 
 writes_number_by : (env : Env) (in_lit : Bool) (span : Span) (value : Value) (negative : Bool) (t : List ℕ) → SignedToken Number value negative t → Writes env (number_by in_lit span t) (signed_tokens Number value negative)

@@ -29,7 +29,6 @@ use Rattle.swc_ecma_codegen_common.specs.declared.positions.BytePos.{BytePos}
 use Rattle.swc_ecma_codegen_spans.specs.Spans.{dummy_span}
 use Rattle.swc_ecma_codegen_text_writer.specs.Recorded.{RecordsTruly}
 use Rattle.swc_ecma_codegen_text_writer.specs.Sheet.{Sheet, Symbol, Position, Commit, is_ending}
-use Rattle.swc_ecma_codegen_text_writer.proofs.Sheets.{effect_keeps_positions}
 use Rattle.swc_ecma_codegen_ast.specs.Phrases.{Phrase, Never, Nothing, One, NameOf, Then, PlacedName, Generates, is_possible, names_in, where_, ◌>◌, mark}
 use Rattle.swc_ecma_codegen_ast.specs.Phrases as phrases
 use Rattle.swc_ecma_codegen_ast.specs.SpelledNames as names
@@ -41,28 +40,31 @@ use Rattle.swc_ecma_codegen_literals.specs.AsciiNames.{is_ascii_text}
 use Rattle.swc_ecma_codegen_literals.proofs.NameTexts.{ascii_chars}
 use Rattle.swc_ecma_codegen_literals.proofs.SpelledTexts.{ascii_from_all}
 use Rattle.swc_ecma_codegen_base.specs.declared.refusals.Unprintable.TheVariants.{NameOutOfTarget}
-use Rattle.swc_ecma_codegen_base.specs.Run.{Env, Plan, Part, State, Step, Guard, Token, Plain, Remake, Ends, Take, CommentText, at_maps, after_step, maps_after, taken_by, taken_in, spoken, Steps, done, step, steps_of, unprintable_in, refuse, run, nothing, spelling, Follows, HasCause, has_backslash, makes_text}
+use Rattle.swc_ecma_codegen_base.specs.Run.{Env, Plan, Part, State, Step, Guard, Token, Plain, Remake, Ends, Take, CommentText, at_maps, after_step, maps_after, taken_by, taken_in, spoken, Steps, step, steps_of, unprintable_in, refuse, run, nothing, spelling, Follows, HasCause, has_backslash, makes_text}
 use Rattle.swc_ecma_codegen_base.specs.Settings.{settings_of}
+use Rattle.swc_ecma_codegen_base.specs.Tags.{closing, close}
 use Rattle.swc_ecma_codegen_base.specs.Targets.{written_as, wants_escapes, is_out_name, written_name, is_out}
 use Rattle.swc_ecma_codegen_base.specs.Words.{keyword, operator, word_operator, punct, placed_punct, semi, commit_pending_semi, position, by_maps, symbol, valid_symbol, name_text, question, name}
-use Rattle.swc_ecma_codegen_base.specs.Written.{AtRest, is_free, holds_one, IsNew, IsAtMargin, ReadsAs, AddsText, AddsReading, taken_remarks, without_joints, IsWord, IsMark}
+use Rattle.swc_ecma_codegen_base.specs.Written.{AtRest, Spot, Anything, is_free, holds_one, IsNew, IsAtMargin, ReadsAs, AddsText, AddsReading, taken_remarks, without_joints, IsWord, IsMark}
 use Rattle.swc_ecma_codegen_base.specs.Escapes.{may_make_text}
 use Rattle.swc_ecma_codegen_base.specs.Named.{RecordsNames, StandsAfter, EachName, AllStand, PlacesNames}
 use Rattle.swc_ecma_codegen_base.specs.Scripts.{is_str, strings_after, AreSafe}
-use Rattle.swc_ecma_codegen_base.proofs.Fronts.{follows_cause, run_append, run_sheet}
-use Rattle.swc_ecma_codegen_base.proofs.Hands.{has_string, holds_string}
+use Rattle.swc_ecma_codegen_base.proofs.Fronts.{follows_cause}
+use Rattle.swc_ecma_codegen_base.proofs.Hands.{holds_string}
 use Rattle.swc_ecma_codegen_base.proofs.Held.{front, front_of}
 use Rattle.swc_ecma_codegen_base.proofs.Indented.{blanks}
 use Rattle.swc_ecma_codegen_base.proofs.Spelled.{valid_same, spelled_same, out_same}
-use Rattle.swc_ecma_codegen_base.proofs.Positions.{Named, named_none, named_then, named_records, name_named, name_steps, name_call, run_records}
-use Rattle.swc_ecma_codegen_base.proofs.Standing.{Reached, all_more, nameless, reached_first, reached_as, reached_then, name_stands}
-use Rattle.swc_ecma_codegen_base.proofs.ValueStrings.{none_by_value, steps_safe}
+use Rattle.swc_ecma_codegen_base.proofs.Positions.{Named, named_records, name_named, name_steps, name_call, run_records}
+use Rattle.swc_ecma_codegen_base.proofs.Standing.{reached_first, name_stands}
 use Rattle.swc_ecma_codegen_base.proofs.Targets.{Names, names_in_ascii, plain_not_out}
 use Rattle.swc_ecma_codegen_base.proofs.Shapes.{Shape, whole, open_, loose, unbroken_at, joining, joined, at_joint, join, is_within, met_unbroken, broken_from, walk_append}
 use Rattle.swc_ecma_codegen_base.proofs.Appended.{tokens_append}
 use Rattle.swc_ecma_codegen_base.proofs.Jointless.{reads_without}
-use Rattle.swc_ecma_codegen_base.proofs.Written.{LaysWith, Enters, enters_first, enters_wider, held, held_of, Spelled, spelled_word, spelled_name, spelled_mark}
-use Rattle.swc_ecma_codegen_base.proofs.Printed.{remarks_both, MakesFrom, MakesAt, from_wider, from_same, from_both, env_after, remarks_by, remarks_append, closed_append, writes_joined_operator, writes_joined_punct, writes_keyword_joint, chain, or_false, Writes, writes_whatever, writes_then, writes_nothing, writes_keyword, writes_operator, writes_word_operator, writes_punct, writes_placed_punct, writes_semi, writes_commit, writes_leading, writes_name_text}
+use Rattle.swc_ecma_codegen_base.proofs.Laid.{LaysWith, Enters, held, held_of}
+use Rattle.swc_ecma_codegen_base.proofs.Written.{Spelled, spelled_word, spelled_name, spelled_mark}
+use Rattle.swc_ecma_codegen_base.proofs.Printed.{MakesFrom, MakesAt, from_wider, from_same, from_both, env_after, remarks_by, remarks_append, closed_append, writes_joined_operator, writes_joined_punct, writes_keyword_joint, chain, or_false, Writes, writes_whatever, writes_then, writes_nothing, writes_keyword, writes_operator, writes_word_operator, writes_punct, writes_placed_punct, writes_semi, writes_commit, writes_leading, writes_name_text, MakesOn, MakesWithinOn, from_where, writes_close}
+use Rattle.swc_ecma_codegen_base.proofs.PartSteps.{steps_of_chain, steps_alone, NamedBy, no_names, names_then, PlacedOn, PlacedBy, placed_none, placed_then, placed_after, placed_before, placed_wider, placed_same, placed_regrouped, IsSafe, no_strings, safe_then}
+pub use Rattle.swc_ecma_codegen_base.proofs.PartSteps.{steps_of_more}
 
 and_assoc : (a b c : Bool) → ((a && b) && c) ≡ (a && (b && c))
 and_assoc true b c = refl
@@ -72,140 +74,27 @@ or_assoc : (a b c : Bool) → ((a || b) || c) ≡ (a || (b || c))
 or_assoc true b c = refl
 or_assoc false b c = refl
 
--- ---- the steps of a part
-
-pub steps_of_chain : (xs : List Step) → steps_of (chain xs done) ≡ xs
-unfolding steps_of chain
-steps_of_chain [] = refl
-steps_of_chain (x ∷ xs) = ap (λ z. x ∷ z) (steps_of_chain xs)
-
-pub steps_of_more : (xs : List Step) (rest : Steps) → steps_of (chain xs rest) ≡ xs ++ steps_of rest
-unfolding steps_of chain
-steps_of_more [] rest = refl
-steps_of_more (x ∷ xs) rest = ap (λ z. x ∷ z) (steps_of_more xs rest)
-
-steps_alone : {i : Shape} {room : ℕ} {env : Env} {p : Part} {ts : List lexical.Token} {b : Bool} (h : MakesFrom i room env p ts b) → steps_of (p nothing env) ≡ h.steps
-unfolding nothing
-steps_alone h = ap steps_of (h.is_steps nothing) ∙ steps_of_chain h.steps
-
--- the steps of a part, and then those of another
-steps_then : {i : Shape} {room : ℕ} {env : Env} {p : Part} {ts : List lexical.Token} {b : Bool} (h : MakesFrom i room env p ts b) (q : Part) → steps_of (p (q nothing) env) ≡ steps_of (p nothing env) ++ steps_of (q nothing (env_after h.steps env))
-unfolding nothing
-steps_then {env = env} h q =
-    let alone = ap steps_of (h.is_steps nothing) ∙ steps_of_chain h.steps in
-    ap steps_of (h.is_steps (q nothing)) ∙ steps_of_more h.steps (q nothing (env_after h.steps env)) ∙ ap (λ z. z ++ steps_of (q nothing (env_after h.steps env))) (sym alone)
-
--- Where positions are kept, the steps of a part write these names, and record the position of each where it begins.
-unfoldable pub NamedBy : Env → Part → List PlacedName → Type 0
-NamedBy env p names = (s : State) → s.sheet.keeps_positions ≡ true → Named env.config names s.sheet (run (steps_of (p nothing env)) s).sheet
-
-pub no_names : (env : Env) (p : Part) → NamedBy env p []
-unfolding NamedBy
-no_names env p s k = named_none env.config s.sheet _ (run_records (steps_of (p nothing env)) s)
-
-pub names_then : {i : Shape} {room : ℕ} {env : Env} {p : Part} {ts : List lexical.Token} {b : Bool} (q : Part) (xs ys : List PlacedName) (h : MakesFrom i room env p ts b) → NamedBy env p xs → NamedBy (env_after h.steps env) q ys → NamedBy env (λ rest. p (q rest)) (xs ++ ys)
-unfolding NamedBy
-names_then {env = env} {p = p} q xs ys m h k s keeps =
-    let here = steps_of (p nothing env) in
-    let there = steps_of (q nothing (env_after m.steps env)) in
-    let P : List Step → Type 0 = λ z. Named env.config (xs ++ ys) s.sheet (run z s).sheet in
-    let Q : State → Type 0 = λ z. Named env.config (xs ++ ys) s.sheet z.sheet in
-    subst P (sym (steps_then m q)) (subst Q (sym (run_append here there s))
-    (named_then env.config xs ys s.sheet (run here s).sheet (run there (run here s)).sheet (h s keeps) (k (run here s) (run_sheet (λ z. z.keeps_positions) effect_keeps_positions here s ∙ keeps))))
-
--- Where an emission has come so far that a part may stand, and positions are kept, its steps write this list of a phrase, in which each name
--- stands as its own token, with its position where it begins.
-pub record PlacedBy (i : Shape) (env : Env) (p : Part) (f : Phrase) (ts : List lexical.Token) : Type 0 where
-  pub stands : (a s : State) (us : List lexical.Token) → Reached i us a s → s.sheet.keeps_positions ≡ true → all_closed (remarks_by (steps_of (p nothing env)) env) ≡ true → AllStand env.config a.sheet (run (steps_of (p nothing env)) s).sheet us f ts
-
--- a phrase without names
-pub placed_none : {i : Shape} (env : Env) (p : Part) (f : Phrase) (ts : List lexical.Token) → names_in f ≡ [] → Generates (settings_of env.config) f ts → PlacedBy i env p f ts
-placed_none env p f ts e g = record { stands = λ a s us r k c. nameless env.config a.sheet _ us f ts e g }
-
-placed_both : {i j : Shape} {room : ℕ} {env : Env} {p : Part} {ts : List lexical.Token} {b : Bool} (q : Part) (f g : Phrase) (vs : List lexical.Token) (h : MakesFrom i room env p ts b) → PlacedBy i env p f ts → PlacedBy j (env_after h.steps env) q g vs → (a s : State) (us : List lexical.Token) → Reached (join i j) us a s → s.sheet.keeps_positions ≡ true → all_closed (remarks_by (steps_of (p (q nothing) env)) env) ≡ true → AllStand env.config a.sheet (run (steps_of (p (q nothing) env)) s).sheet us f ts × AllStand env.config a.sheet (run (steps_of (p (q nothing) env)) s).sheet (us ++ ts) g vs
-placed_both {i} {j} {env = env} {p = p} {ts = ts} q f g vs h x y a s us r k c =
-    let here : List Step = h.steps in
-    let there : List Step = steps_of (q nothing (env_after here env)) in
-    let same : steps_of (p nothing env) ≡ here = steps_alone h in
-    let whole : steps_of (p (q nothing) env) ≡ here ++ there = steps_then h q ∙ ap (λ z. z ++ there) same in
-    let both : all_closed (remarks_by (here ++ there) env) ≡ true = subst (λ z. all_closed (remarks_by z env) ≡ true) whole c in
-    let rs = remarks_by here env in
-    let qs = remarks_by there (env_after here env) in
-    let closed = and_parts (all_closed rs) (all_closed qs) (sym (closed_append rs qs) ∙ ap all_closed (sym (remarks_both here there env)) ∙ both) in
-    let next : State = run here s in
-    let first : AllStand env.config a.sheet next.sheet us f ts = subst (λ z. AllStand env.config a.sheet (run z s).sheet us f ts) same (x.stands a s us (reached_as i (enters_first i j s r.enters) r) k (subst (λ z. all_closed (remarks_by z env) ≡ true) (sym same) closed.0)) in
-    let reached : Reached j (us ++ ts) a next = reached_then i j us ts a s next r (h.lays s r.rest closed.0) (run_records here s) in
-    let second : AllStand env.config a.sheet (run there next).sheet (us ++ ts) g vs = y.stands a next (us ++ ts) reached (run_sheet (λ z. z.keeps_positions) effect_keeps_positions here s ∙ k) closed.1 in
-    let P : List Step → Type 0 = λ z. AllStand env.config a.sheet (run z s).sheet us f ts × AllStand env.config a.sheet (run z s).sheet (us ++ ts) g vs in
-    let Q : State → Type 0 = λ z. AllStand env.config a.sheet z.sheet us f ts × AllStand env.config a.sheet z.sheet (us ++ ts) g vs in
-    subst P (sym whole) (subst Q (sym (run_append here there s)) (all_more env.config a.sheet next.sheet (run there next).sheet us f ts (run_records there next) first, second))
-
-pub placed_then : {i j : Shape} {room : ℕ} {env : Env} {p : Part} {ts : List lexical.Token} {b : Bool} (q : Part) (f g : Phrase) (vs : List lexical.Token) (h : MakesFrom i room env p ts b) → PlacedBy i env p f ts → PlacedBy j (env_after h.steps env) q g vs → PlacedBy (join i j) env (λ rest. p (q rest)) (Then f g) (ts ++ vs)
-unfolding EachName
-placed_then {ts = ts} q f g vs h x y = record { stands = λ a s us r k c. let z = placed_both q f g vs h x y a s us r k c in (ts, vs, z.0, z.1, refl) }
-
--- behind or before what writes no token
-pub placed_after : {i j : Shape} {room : ℕ} {env : Env} {p : Part} {b : Bool} (q : Part) (g : Phrase) (vs : List lexical.Token) (h : MakesFrom i room env p [] b) → PlacedBy j (env_after h.steps env) q g vs → PlacedBy (join i j) env (λ rest. p (q rest)) g vs
-unfolding names_in Generates nothing
-placed_after {env = env} {p = p} q g vs h y = record {
-  stands = λ a s us r k c. subst (λ z. AllStand env.config a.sheet (run (steps_of (p (q nothing) env)) s).sheet z g vs) (append-nil us) (placed_both q Nothing g vs h (placed_none env p Nothing [] refl refl) y a s us r k c).1;
-}
-
-pub placed_before : {i : Shape} (j : Shape) {room : ℕ} {env : Env} {p : Part} {ts : List lexical.Token} {b : Bool} (q : Part) (f : Phrase) (h : MakesFrom i room env p ts b) → PlacedBy i env p f ts → PlacedBy (join i j) env (λ rest. p (q rest)) f ts
-unfolding names_in Generates
-placed_before j {env = env} {p = p} q f h x = record { stands = λ a s us r k c. (placed_both q f Nothing [] h x (placed_none {i = j} (env_after h.steps env) q Nothing [] refl refl) a s us r k c).0 }
-
-pub placed_wider : {i : Shape} (j : Shape) {env : Env} {p : Part} {f : Phrase} {ts : List lexical.Token} → is_within i j ≡ true → PlacedBy i env p f ts → PlacedBy j env p f ts
-placed_wider {i} j e x = record { stands = λ a s us r k c. x.stands a s us (reached_as i (enters_wider i j s e r.enters) r) k c }
-
-pub placed_same : {i : Shape} {f : Phrase} {ts : List lexical.Token} (env : Env) (p q : Part) → ((rest : Plan) → p rest env ≡ q rest env) → PlacedBy i env q f ts → PlacedBy i env p f ts
-placed_same {f = f} {ts = ts} env p q e x = record {
-  stands = λ a s us r k c. subst (λ (z : Steps). AllStand env.config a.sheet (run (steps_of z) s).sheet us f ts) (sym (e nothing)) (x.stands a s us r k (subst (λ (z : Steps). all_closed (remarks_by (steps_of z) env) ≡ true) (e nothing) c));
-}
-
--- the lists of three phrases, however they are taken together
-placed_regrouped : {i : Shape} {env : Env} {p : Part} {ts : List lexical.Token} (f g h : Phrase) → PlacedBy i env p (Then (Then f g) h) ts → PlacedBy i env p (Then f (Then g h)) ts
-unfolding EachName
-placed_regrouped {env = env} {p = p} f g h x = record {
-  stands = λ a s us r k c.
-      let z = x.stands a s us r k c in
-      let P : List lexical.Token → Type 0 = λ v. AllStand env.config a.sheet (run (steps_of (p nothing env)) s).sheet v h z.1 in
-      (z.2.0, z.2.1 ++ z.1, z.2.2, (z.2.1, z.1, z.2.3, subst P (ap (λ v. us ++ v) z.2.4 ∙ sym (append_assoc us z.2.0 z.2.1)) z.3, refl), z.4 ∙ ap (λ v. v ++ z.1) z.2.4 ∙ append_assoc z.2.0 z.2.1 z.1);
-}
-
--- Under `inline_script` the strings of a part that are printed by their value are safe, whatever was before it.
-unfoldable pub IsSafe : Env → Part → Type 0
-IsSafe env p = env.config.inline_script ≡ true → (anew : Bool) → AreSafe (strings_after anew (steps_of (p nothing env)))
-
--- a part without strings
-pub no_strings : {i : Shape} {room : ℕ} {env : Env} {p : Part} {ts : List lexical.Token} {b : Bool} → MakesFrom i room env p ts b → holds_string ts ≡ false → IsSafe env p
-unfolding IsSafe AreSafe nothing
-no_strings {env = env} {p = p} {ts = ts} h none e anew =
-    let same : steps_of (p nothing env) ≡ h.steps = ap steps_of (h.is_steps nothing) ∙ steps_of_chain h.steps in
-    let no : has_string h.steps ≡ false = false_from_ne_true (has_string h.steps) (λ s. true≢false (sym (h.hands.strings s) ∙ none)) in
-    subst AreSafe (sym (ap (strings_after anew) same ∙ none_by_value anew h.steps no)) tt
-
-pub safe_then : {i : Shape} {room : ℕ} {env : Env} {p : Part} {ts : List lexical.Token} {b : Bool} (q : Part) (h : MakesFrom i room env p ts b) → IsSafe env p → IsSafe (env_after h.steps env) q → IsSafe env (λ rest. p (q rest))
-unfolding IsSafe
-safe_then {env = env} {p = p} q m h k e anew =
-    let here = steps_of (p nothing env) in
-    let there = steps_of (q nothing (env_after m.steps env)) in
-    subst (λ z. AreSafe (strings_after anew z)) (sym (steps_then m q)) (steps_safe here there (h e) (k e) anew)
-
 -- A part writes a token list of a phrase, whatever comes after it, and makes no name anew but those of the phrase.
-pub record Printed (shape : Shape) (env : Env) (part : Part) (phrase : Phrase) : Type 0 where
+pub record PrintedOn (before behind : Spot) (shape : Shape) (env : Env) (part : Part) (phrase : Phrase) : Type 0 where
   pub tokens : List lexical.Token
   pub generated : Generates (settings_of env.config) phrase tokens
-  pub writes : MakesFrom shape (length tokens) env part tokens (may_make_text env.config phrase)
+  pub writes : MakesOn before behind shape (length tokens) env part tokens (may_make_text env.config phrase)
   pub named : NamedBy env part (names_in phrase)
-  pub placed : PlacedBy shape env part phrase tokens
+  pub placed : PlacedOn before shape env part phrase tokens
   pub safe : IsSafe env part
+
+abbrev pub Printed : Shape → Env → Part → Phrase → Type 0
+Printed shape env part phrase = PrintedOn Anything Anything shape env part phrase
 
 -- It does so where the phrase is possible and all its names can be written; else it ends where one can't be, whatever
 -- comes after it; and whatever comments are still to be taken. Which list it writes may hang on these.
-pub record PrintsAt (shape : Shape) (env : Env) (part : Part) (phrase : Phrase) : Type 0 where
-  pub where_possible : is_possible phrase ≡ true → is_out env.config phrase ≡ false → (maps : Maps) → Printed shape (at_maps maps env) part phrase
+pub record PrintsOn (before behind : Spot) (shape : Shape) (env : Env) (part : Part) (phrase : Phrase) : Type 0 where
+  pub where_possible : is_possible phrase ≡ true → is_out env.config phrase ≡ false → (maps : Maps) → PrintedOn before behind shape (at_maps maps env) part phrase
   pub where_out : is_possible phrase ≡ true → is_out env.config phrase ≡ true → (maps : Maps) (rest : Plan) → unprintable_in (part rest (at_maps maps env)) ≡ Some NameOutOfTarget
+
+-- where any token may come, before it and behind it
+abbrev pub PrintsAt : Shape → Env → Part → Phrase → Type 0
+PrintsAt shape env part phrase = PrintsOn Anything Anything shape env part phrase
 
 -- what begins and ends with a token
 abbrev pub Prints : Env → Part → Phrase → Type 0
@@ -228,7 +117,7 @@ unfolding unprintable_in chain
 more_unprintable [] rest = refl
 more_unprintable (x ∷ xs) rest = more_unprintable xs rest
 
-pub goes_on : {i : Shape} {room : ℕ} {env : Env} {p : Part} {ts : List lexical.Token} {b : Bool} (h : MakesFrom i room env p ts b) (rest : Plan) → unprintable_in (p rest env) ≡ unprintable_in (rest (env_after h.steps env))
+pub goes_on : {i : Shape} {room : ℕ} {env : Env} {p : Part} {ts : List lexical.Token} {b : Bool} {v w : Spot} (h : MakesOn v w i room env p ts b) (rest : Plan) → unprintable_in (p rest env) ≡ unprintable_in (rest (env_after h.steps env))
 goes_on {env = env} h rest = ap unprintable_in (h.is_steps rest) ∙ more_unprintable h.steps (rest (env_after h.steps env))
 
 -- one of two is out: the first, or else the second
@@ -236,10 +125,10 @@ out_of_two : {P : Type 0} (a b : Bool) → (a || b) ≡ true → (a ≡ true →
 out_of_two true b h f g = f refl
 out_of_two false b h f g = g refl h
 
--- one part after the other
-pub then : {i j : Shape} {env : Env} {p q : Part} {f g : Phrase} → PrintsAt i env p f → PrintsAt j env q g → PrintsAt (join i j) env (λ rest. p (q rest)) (Then f g)
+-- one part after the other, where the second may stand behind the first
+pub then_on : {u v w : Spot} {i j : Shape} {env : Env} {p q : Part} {f g : Phrase} → PrintsOn u v i env p f → PrintsOn v w j env q g → PrintsOn u w (join i j) env (λ rest. p (q rest)) (Then f g)
 unfolding Generates is_possible is_out may_make_text names_in
-then {env = env} {p = p} {q = q} {f = f} {g = g} h k = record {
+then_on {env = env} {p = p} {q = q} {f = f} {g = g} h k = record {
   where_possible = λ w o maps.
       let both = and_parts (is_possible f) (is_possible g) w in
       let none = or_parts (is_out env.config f) (is_out env.config g) o in
@@ -258,10 +147,13 @@ then {env = env} {p = p} {q = q} {f = f} {g = g} h k = record {
       out_of_two (is_out env.config f) (is_out env.config g) o (λ e. h.where_out both.0 e maps (q rest)) (λ n e. let a = (h.where_possible both.0 n maps).writes in goes_on a (q rest) ∙ k.where_out both.1 e (maps_after a.steps maps) rest);
 }
 
+pub then : {i j : Shape} {env : Env} {p q : Part} {f g : Phrase} → PrintsAt i env p f → PrintsAt j env q g → PrintsAt (join i j) env (λ rest. p (q rest)) (Then f g)
+then h k = then_on h k
+
 -- a part before or after one that writes no token
-pub after : {i j : Shape} {env : Env} {q p : Part} {f : Phrase} → MakesAt i env q [] false → PrintsAt j env p f → PrintsAt (join i j) env (λ rest. q (p rest)) f
+pub after_on : {u v w : Spot} {i j : Shape} {env : Env} {q p : Part} {f : Phrase} → MakesWithinOn u v i 0 env q [] false → PrintsOn v w j env p f → PrintsOn u w (join i j) env (λ rest. q (p rest)) f
 unfolding holds_string
-after {env = env} {q = q} {p = p} {f = f} k h = record {
+after_on {env = env} {q = q} {p = p} {f = f} k h = record {
   where_possible = λ w o maps.
       let x = k.from maps in
       let a = h.where_possible w o (maps_after x.steps maps) in
@@ -275,6 +167,9 @@ after {env = env} {q = q} {p = p} {f = f} k h = record {
       };
   where_out = λ w o maps rest. let x = k.from maps in goes_on x (p rest) ∙ h.where_out w o (maps_after x.steps maps) rest;
 }
+
+pub after : {i j : Shape} {env : Env} {q p : Part} {f : Phrase} → MakesAt i env q [] false → PrintsAt j env p f → PrintsAt (join i j) env (λ rest. q (p rest)) f
+after k h = after_on k h
 
 pub before : {i j : Shape} {env : Env} {p q : Part} {f : Phrase} → PrintsAt i env p f → MakesAt j env q [] false → PrintsAt (join i j) env (λ rest. p (q rest)) f
 unfolding holds_string
@@ -350,6 +245,11 @@ pub prints_one : {i : Shape} (env : Env) (p : Part) (x : lexical.Token) → Make
 unfolding Generates may_make_text names_in
 prints_one env p x h none = prints_made env p x (writes_whatever (may_make_text env.config (One x)) h) (no_string h none)
 
+-- the same between two spots
+pub one_on : {v w : Spot} {i : Shape} (env : Env) (p : Part) (x : lexical.Token) → MakesWithinOn v w i 1 env p (x ∷ []) false → is_str x.kind ≡ false → PrintsOn v w i env p (One x)
+unfolding Generates may_make_text names_in is_out holds_string
+one_on env p x h none = record { where_possible = λ k o maps. record { tokens = x ∷ []; generated = refl; writes = from_where (λ e. absurd (true≢false (sym e))) (h.from maps); named = no_names (at_maps maps env) p; placed = placed_none (at_maps maps env) p (One x) (x ∷ []) refl refl; safe = no_strings (h.from maps) (or_from (is_str x.kind) false none refl) }; where_out = λ k o. absurd (true≢false (sym o)) }
+
 -- ---- words and punctuators, which are ASCII
 
 ascii_same : (t : List ℕ) → is_ascii_text t ≡ true → chars t ≡ t
@@ -391,6 +291,10 @@ question_is_mark = record { utf8 = refl; ascii = refl; shape = refl }
 pub prints_semi : (env : Env) → Prints env semi phrases.ending
 unfolding token_of value_of spelling lexical.ending is_str
 prints_semi env = prints_one env semi _ (writes_semi env) refl
+
+pub prints_close : (env : Env) → Prints env close (One closing)
+unfolding token_of value_of spelling closing is_str chars lib.Utf8.encode
+prints_close env = prints_one env close _ (writes_close env) refl
 
 -- ---- tokens behind `[no LineTerminator here]`, and before it
 
@@ -559,7 +463,7 @@ no_end_tokens true s = refl
 no_end_tokens false s = refl
 
 -- where no line ends within the whole none does within its front
-kept_front : (xs ys : List parts.Part) (w : OfLine) → is_broken (walk w (xs ++ ys)) ≡ false → is_broken (walk w xs) ≡ false
+pub kept_front : (xs ys : List parts.Part) (w : OfLine) → is_broken (walk w (xs ++ ys)) ≡ false → is_broken (walk w xs) ≡ false
 kept_front xs ys w h = still_whole ys (walk w xs) (ap is_broken (sym (walk_append xs ys w)) ∙ h)
   where
     still_whole : (ys : List parts.Part) (v : OfLine) → is_broken (walk v ys) ≡ false → is_broken v ≡ false
@@ -570,11 +474,11 @@ no_front : (b : Bool) (s : Sheet) → (b ≡ true → s.indentation ≡ 0) → f
 no_front true s m = ap (λ n. repeat n s.indent_text) (m refl)
 no_front false s m = refl
 
-enters_new : (anywhere : Bool) (a : State) → IsNew a → (anywhere ≡ false → IsAtMargin a) → Enters (unbroken_at anywhere) a
+pub enters_new : (anywhere : Bool) (a : State) → IsNew a → (anywhere ≡ false → IsAtMargin a) → Enters (unbroken_at anywhere) a
 enters_new true a n m = inl refl
 enters_new false a n m = inr (refl, record { nothing_written = n.nothing_written; nothing_held = n.nothing_held; at_margin = no_front a.sheet.at_line_start a.sheet (m refl) })
 
-laid_reads : {rs : List Remark} (anywhere : Bool) (config : Config) (f : Phrase) (ts : List lexical.Token) (a b : State) → Generates (settings_of config) f ts → IsNew a → (anywhere ≡ false → IsAtMargin a) → LaysWith (unbroken_at anywhere) ts rs a b → AddsReading config f rs a.sheet b.sheet
+pub laid_reads : {rs : List Remark} (anywhere : Bool) (config : Config) (f : Phrase) (ts : List lexical.Token) (a b : State) → Generates (settings_of config) f ts → IsNew a → (anywhere ≡ false → IsAtMargin a) → LaysWith (unbroken_at anywhere) ts rs a b → AddsReading config f rs a.sheet b.sheet
 unfolding NoneFuse is_broken
 laid_reads {rs} anywhere config f ts a b g n m l =
     let last : Bool = holds_one b.sheet.semicolons in

@@ -5,19 +5,20 @@ use Rattle.swc_ecma_codegen_common.specs.declared.positions.BytePos.{BytePos}
 use Rattle.swc_ecma_codegen_common.specs.declared.positions.Span.{Span}
 use Rattle.swc_ecma_codegen_spans.specs.Spans.{dummy_span}
 use Rattle.swc_ecma_codegen_ast.specs.declared.kinds.Kind.{Kind}
-use Rattle.swc_ecma_codegen_ast.specs.declared.kinds.Kind.TheVariants.{Word, Name, Punctuator, Ending}
+use Rattle.swc_ecma_codegen_ast.specs.declared.kinds.Kind.TheVariants.{Word, Name, Punctuator, Ending, Close}
 use Rattle.swc_ecma_codegen_ast.specs.Tokens as lexical
 use Rattle.swc_ecma_codegen_ast.specs.Tokens.{token_of}
-use Rattle.swc_ecma_codegen_text_writer.specs.Sheet.{Semi, Space, Keyword, Operator, Line, Symbol, Punct, Position, Commit, Deeper, Shallower, effect, is_ending}
+use Rattle.swc_ecma_codegen_text_writer.specs.Sheet.{Semi, Space, Keyword, Operator, Line, Symbol, Punct, Position, Commit, Deeper, Shallower, effect, is_ending, before_punct}
 use Rattle.swc_ecma_codegen_ast.specs.ValidNames.{turned}
 use Rattle.swc_ecma_codegen_base.specs.Run.{Env, Plan, Part, State, Step, Guard, Token, Plain, Ends, Remake, Take, CommentText, Steps, next, at_maps, after_step, maps_after, taken_by, taken_in, spoken, put, run, step, spelling, text_of, after_token, after_plain, when_minified, no_part, has_backslash, makes_text}
 use Rattle.swc_ecma_codegen_base.specs.Words.{keyword, operator, word_operator, punct, placed_punct, semi, space, formatting_space, line_end, formatting_line, commit_pending_semi, position, position_before, comment_blank, before_closing, comment_by, comment, comments, take_comments, leading_comments, trailing_comments, comments_before_end, symbol, spelled_symbol, valid_symbol, name_text}
 use Rattle.swc_ecma_codegen_base.specs.Lists.{deeper, shallower}
+use Rattle.swc_ecma_codegen_base.specs.Tags.{close}
 use Rattle.swc_ecma_codegen_literals.specs.AsciiNames.{is_ascii_text}
 use Rattle.swc_ecma_codegen_base.specs.Ascii.{is_kept, is_other, is_kept_piece, is_other_piece, keeps_other, are_ascii}
 use Rattle.swc_ecma_codegen_base.specs.Scripts.{is_string_call}
 use Rattle.swc_ecma_codegen_base.specs.Targets.{wants_escapes, in_ascii, is_out_name, written_name}
-use Rattle.swc_ecma_codegen_base.specs.Written.{AtRest}
+use Rattle.swc_ecma_codegen_base.specs.Written.{AtRest, RestsAt, Spot, Anything}
 use Rattle.swc_ecma_codegen_base.proofs.Emitting.{minified_same, pretty_same}
 use Rattle.swc_ecma_codegen_base.proofs.Fronts.{run_append}
 use Rattle.swc_ecma_codegen_base.proofs.Hands.{Hands, has_string, has_append, ascii_append, hands_ascii, hands_at, hands_from, hands_by_settings, hands_then}
@@ -38,7 +39,8 @@ use Rattle.swc_ecma_codegen_base.proofs.ValueStrings.{anew_after, anew_append}
 use Rattle.swc_ecma_codegen_base.proofs.CommentLays.{lays_line_comment, lays_line_noted, lays_block_comment, lays_block_noted, lays_comment_blank}
 use Rattle.swc_ecma_codegen_ast.specs.declared.comments.Comment.{Comment}
 use Rattle.swc_ecma_codegen_ast.specs.Comments.{Side, Leading, Trailing, comments_at, taken_out, no_maps, comment_bytes, remark_by, remark_of, remarks_of, texts_of, is_closed, all_closed}
-use Rattle.swc_ecma_codegen_base.proofs.Written.{LaysWith, LaysAt, lays_wider, lays_joint_token, lays_joint_punct, lays_token_joint, lays_then, lays_nothing, lays_blank, lays_line, lays_commit, lays_level, lays_position, lays_taken, rest_taken, lays_token, lays_punct, lays_semi, lays_placed, Spelled, own_put, punct_put, semi_put}
+use Rattle.swc_ecma_codegen_base.proofs.Laid.{LaysWith, LaysAt, lays_wider, lays_then, lays_nothing, lays_taken, rest_taken, LaysTo}
+use Rattle.swc_ecma_codegen_base.proofs.Written.{lays_joint_token, lays_joint_punct, lays_token_joint, lays_blank, lays_line, lays_commit, lays_level, lays_position, lays_token, lays_punct, lays_semi, lays_placed, Spelled, own_put, punct_put, semi_put, spelled_close}
 
 -- some steps, and then more
 unfoldable pub chain : List Step → Steps → Steps
@@ -61,18 +63,25 @@ remarks_by xs env = remarks_of (taken_in xs env.maps)
 -- A part is these steps, whatever comes after it, and they write these tokens with the comments between that they take; where `made` is
 -- false, none of their texts is made anew, in memory. They make no more levels than `room`, and hand over ASCII where the settings ask
 -- for that, save the texts of those comments.
-pub record MakesFrom (shape : Shape) (room : ℕ) (env : Env) (part : Part) (ts : List lexical.Token) (made : Bool) : Type 0 where
+pub record MakesOn (before behind : Spot) (shape : Shape) (room : ℕ) (env : Env) (part : Part) (ts : List lexical.Token) (made : Bool) : Type 0 where
   pub steps : List Step
   pub is_steps : (rest : Plan) → part rest env ≡ chain steps (rest (env_after steps env))
-  pub lays : (s : State) → AtRest s → all_closed (remarks_by steps env) ≡ true → LaysWith shape ts (remarks_by steps env) s (run steps s)
+  pub lays : (s : State) → RestsAt before s → all_closed (remarks_by steps env) ≡ true → LaysTo behind shape ts (remarks_by steps env) s (run steps s)
   pub remakes : makes_text steps ≡ true → made ≡ true
   pub deep : levels steps ≤ room
   pub hands : Hands env steps ts
   pub told : spoken steps ≡ texts_of (taken_in steps env.maps)
 
+-- where any token may come, before it and behind it
+abbrev pub MakesFrom : Shape → ℕ → Env → Part → List lexical.Token → Bool → Type 0
+MakesFrom shape room env part ts made = MakesOn Anything Anything shape room env part ts made
+
 -- It does so whatever comments are still to be taken.
-pub record MakesWithin (shape : Shape) (room : ℕ) (env : Env) (part : Part) (ts : List lexical.Token) (made : Bool) : Type 0 where
-  pub from : (maps : Maps) → MakesFrom shape room (at_maps maps env) part ts made
+pub record MakesWithinOn (before behind : Spot) (shape : Shape) (room : ℕ) (env : Env) (part : Part) (ts : List lexical.Token) (made : Bool) : Type 0 where
+  pub from : (maps : Maps) → MakesOn before behind shape room (at_maps maps env) part ts made
+
+abbrev pub MakesWithin : Shape → ℕ → Env → Part → List lexical.Token → Bool → Type 0
+MakesWithin shape room env part ts made = MakesWithinOn Anything Anything shape room env part ts made
 
 -- They make no more levels than tokens.
 abbrev pub MakesAt : Shape → Env → Part → List lexical.Token → Bool → Type 0
@@ -164,8 +173,8 @@ pub remarks_both : (xs ys : List Step) (env : Env) → remarks_by (xs ++ ys) env
 remarks_both xs ys env = ap remarks_of (taken_append xs ys env.maps) ∙ remarks_append (taken_in xs env.maps) (taken_in ys (maps_after xs env.maps))
 
 -- one part after the other, where the second begins with the comments that the first leaves
-pub from_then : {i j : Shape} (env : Env) (p q : Part) (ts us : List lexical.Token) {m n : ℕ} {a b : Bool} (h : MakesFrom i m env p ts a) → MakesFrom j n (env_after h.steps env) q us b → MakesFrom (join i j) (m + n) env (λ rest. p (q rest)) (ts ++ us) (a || b)
-from_then {i} {j} env p q ts us {m} {n} {a} {b} h k = record {
+pub from_then : {i j : Shape} {u v w : Spot} (env : Env) (p q : Part) (ts us : List lexical.Token) {m n : ℕ} {a b : Bool} (h : MakesOn u v i m env p ts a) → MakesOn v w j n (env_after h.steps env) q us b → MakesOn u w (join i j) (m + n) env (λ rest. p (q rest)) (ts ++ us) (a || b)
+from_then {i} {j} {u} {v} {w} env p q ts us {m} {n} {a} {b} h k = record {
   steps = h.steps ++ k.steps;
   is_steps = λ rest.
       h.is_steps (q rest) ∙ ap (λ z. chain h.steps z) (k.is_steps rest) ∙ sym (chain_append h.steps k.steps (rest (env_after k.steps (env_after h.steps env))))
@@ -174,8 +183,8 @@ from_then {i} {j} env p q ts us {m} {n} {a} {b} h k = record {
       let both = remarks_both h.steps k.steps env in
       let closed = and_parts (all_closed (remarks_by h.steps env)) (all_closed (remarks_by k.steps (env_after h.steps env))) (sym (closed_append (remarks_by h.steps env) (remarks_by k.steps (env_after h.steps env))) ∙ ap all_closed (sym both) ∙ c) in
       let x = h.lays s r closed.0 in
-      let P : State → Type 0 = λ z. LaysWith (join i j) (ts ++ us) (remarks_by h.steps env ++ remarks_by k.steps (env_after h.steps env)) s z in
-      let Q : List Remark → Type 0 = λ z. LaysWith (join i j) (ts ++ us) z s (run (h.steps ++ k.steps) s) in
+      let P : State → Type 0 = λ z. LaysTo w (join i j) (ts ++ us) (remarks_by h.steps env ++ remarks_by k.steps (env_after h.steps env)) s z in
+      let Q : List Remark → Type 0 = λ z. LaysTo w (join i j) (ts ++ us) z s (run (h.steps ++ k.steps) s) in
       subst Q (sym both) (subst P (sym (run_append h.steps k.steps s)) (lays_then ts us s (run h.steps s) (run k.steps (run h.steps s)) x (k.lays (run h.steps s) x.rest closed.1)));
   remakes = λ e. or_either (makes_text h.steps) (makes_text k.steps) a b (sym (remakes_append h.steps k.steps) ∙ e) h.remakes k.remakes;
   deep = let x = h.deep in let y = k.deep in omega (arith, x, y, levels_append h.steps k.steps);
@@ -188,13 +197,13 @@ pub within_then : {i j : Shape} (env : Env) (p q : Part) (ts us : List lexical.T
 within_then env p q ts us h k = record { from = λ maps. let x = h.from maps in from_then (at_maps maps env) p q ts us x (k.from (maps_after x.steps maps)) }
 
 -- with more room, with less known of lines, with memory that may be taken
-pub from_room : {i : Shape} {env : Env} {p : Part} {ts : List lexical.Token} {a : Bool} (m n : ℕ) → m ≤ n → MakesFrom i m env p ts a → MakesFrom i n env p ts a
+pub from_room : {i : Shape} {env : Env} {p : Part} {ts : List lexical.Token} {a : Bool} {v w : Spot} (m n : ℕ) → m ≤ n → MakesOn v w i m env p ts a → MakesOn v w i n env p ts a
 from_room m n le h = record { steps = h.steps; is_steps = h.is_steps; lays = h.lays; remakes = h.remakes; deep = let x = h.deep in omega (arith, x, le); hands = h.hands; told = h.told }
 
-pub from_wider : {i : Shape} (j : Shape) {env : Env} {p : Part} {ts : List lexical.Token} {a : Bool} {room : ℕ} → is_within i j ≡ true → MakesFrom i room env p ts a → MakesFrom j room env p ts a
+pub from_wider : {i : Shape} (j : Shape) {env : Env} {p : Part} {ts : List lexical.Token} {a : Bool} {room : ℕ} {v w : Spot} → is_within i j ≡ true → MakesOn v w i room env p ts a → MakesOn v w j room env p ts a
 from_wider j e h = record { steps = h.steps; is_steps = h.is_steps; lays = λ s r c. lays_wider j e (h.lays s r c); remakes = h.remakes; deep = h.deep; hands = h.hands; told = h.told }
 
-pub from_where : {i : Shape} {env : Env} {p : Part} {ts : List lexical.Token} {a b : Bool} {room : ℕ} → (a ≡ true → b ≡ true) → MakesFrom i room env p ts a → MakesFrom i room env p ts b
+pub from_where : {i : Shape} {env : Env} {p : Part} {ts : List lexical.Token} {a b : Bool} {room : ℕ} {v w : Spot} → (a ≡ true → b ≡ true) → MakesOn v w i room env p ts a → MakesOn v w i room env p ts b
 from_where k h = record { steps = h.steps; is_steps = h.is_steps; lays = h.lays; remakes = λ e. k (h.remakes e); deep = h.deep; hands = h.hands; told = h.told }
 
 -- a part that is written as another is
@@ -202,7 +211,7 @@ pub from_same : {i : Shape} (env : Env) (p q : Part) (ts : List lexical.Token) {
 from_same env p q ts e h = record { steps = h.steps; is_steps = λ rest. e rest ∙ h.is_steps rest; lays = h.lays; remakes = h.remakes; deep = h.deep; hands = h.hands; told = h.told }
 
 -- one after the other, with as much room as tokens
-pub from_both : {i j : Shape} (env : Env) (p q : Part) (ts us : List lexical.Token) {a b : Bool} (h : MakesFrom i (length ts) env p ts a) → MakesFrom j (length us) (env_after h.steps env) q us b → MakesFrom (join i j) (length (ts ++ us)) env (λ rest. p (q rest)) (ts ++ us) (a || b)
+pub from_both : {i j : Shape} {u v w : Spot} (env : Env) (p q : Part) (ts us : List lexical.Token) {a b : Bool} (h : MakesOn u v i (length ts) env p ts a) → MakesOn v w j (length us) (env_after h.steps env) q us b → MakesOn u w (join i j) (length (ts ++ us)) env (λ rest. p (q rest)) (ts ++ us) (a || b)
 from_both env p q ts us h k = from_room (length ts + length us) (length (ts ++ us)) (omega (arith, length-append ts us)) (from_then env p q ts us h k)
 
 pub with_room : {i : Shape} {env : Env} {p : Part} {ts : List lexical.Token} {a : Bool} (m n : ℕ) → m ≤ n → MakesWithin i m env p ts a → MakesWithin i n env p ts a
@@ -307,6 +316,22 @@ pub writes_step : {i : Shape} (env : Env) (x : Step) (ts : List lexical.Token) �
 unfolding step chain run maps_after
 writes_step env x ts n h k a = makes_silently env (step x) (x ∷ []) ts n (λ maps rest. refl) h (λ e. e) k a
 
+-- steps that take no comments, between two spots
+pub makes_on : {v w : Spot} {i : Shape} {room : ℕ} {made : Bool} (env : Env) (p : Part) (steps : List Step) (ts : List lexical.Token) → takes_none steps ≡ true → ((maps : Maps) (rest : Plan) → p rest (at_maps maps env) ≡ chain steps (rest (at_maps (maps_after steps maps) env))) → ((s : State) → RestsAt v s → LaysTo w i ts [] s (run steps s)) → (makes_text steps ≡ true → made ≡ true) → levels steps ≤ room → Hands env steps ts → MakesWithinOn v w i room env p ts made
+makes_on {v} {w} {i} env p steps ts none is lays remakes deep hands = record {
+  from = λ maps.
+      let taken : taken_in steps maps ≡ [] = silent_taken steps maps none in
+      record {
+        steps = steps;
+        is_steps = is maps;
+        lays = λ s r c. let P : List Comment → Type 0 = λ z. LaysTo w i ts (remarks_of z) s (run steps s) in subst P (sym taken) (unfold remarks_of in lays s r);
+        remakes = remakes;
+        deep = deep;
+        hands = hands_at maps hands;
+        told = silent_spoken steps none ∙ sym (ap texts_of taken ∙ (unfold texts_of in refl));
+      };
+}
+
 -- a text is made anew, where that is due
 pub writes_remake : (env : Env) (due : Bool) → MakesAt open_ env (step (Remake due)) [] due
 unfolding put makes_text levels are_ascii has_string is_string_call takes_none
@@ -357,6 +382,10 @@ writes_placed_punct env span t p a = writes_two env (Guard t) (Token Punctuator 
 pub writes_semi : (env : Env) → Writes env semi (token_of Ending (spelling Ending (codes ";")) ∷ [])
 unfolding semi put effect text_of after_token semi_put makes_text levels rise are_ascii has_string is_string_call takes_none maps_after after_step
 writes_semi env = writes_two env (Guard (codes ";")) (Token Ending (Semi None)) _ refl (λ s r. lays_semi None s r) (omega arith) (hands_ascii env _ _ refl no_text)
+
+pub writes_close : (env : Env) → Writes env close (token_of Close (spelling Close (codes ">")) ∷ [])
+unfolding close put effect text_of after_token own_put before_punct is_ending makes_text levels rise are_ascii has_string is_string_call takes_none maps_after after_step
+writes_close env = writes_two env (Guard (codes ">")) (Token Close (Punct None (codes ">"))) _ refl (λ s r. lays_token Close None (codes ">") s spelled_close r) (omega arith) (hands_ascii env _ _ refl no_text)
 
 -- ---- tokens behind `[no LineTerminator here]`, and before it
 

@@ -33,13 +33,15 @@ use Rattle.swc_ecma_codegen_base.proofs.Hands.{has_string, has_append, keeps_app
 use Rattle.swc_ecma_codegen_base.proofs.Held.{settled_none}
 use Rattle.swc_ecma_codegen_base.proofs.Levels.{levels, levels_append, rise}
 use Rattle.swc_ecma_codegen_base.proofs.LiteralParts.{lays_guarded, still_settled, writes_guard}
-use Rattle.swc_ecma_codegen_base.proofs.Phrased.{Prints, after, before, name_written, no_names, placed_none, no_string}
+use Rattle.swc_ecma_codegen_base.proofs.PartSteps.{no_names, placed_none}
+use Rattle.swc_ecma_codegen_base.proofs.Phrased.{Prints, after, before, name_written, no_string}
 use Rattle.swc_ecma_codegen_base.proofs.Printed.{takes_none, takes_append, from_silently, Makes, Writes, chain, chain_append, or_false, remakes_append, writes_same, writes_then, writes_remake, writes_position, writes_leading}
 use Rattle.swc_ecma_codegen_base.proofs.PrivateSteps.{private_same, private_out, valid_same}
 use Rattle.swc_ecma_codegen_base.proofs.Starting.{plain_class}
 use Rattle.swc_ecma_codegen_base.proofs.TemplateLaws.{Inside, position_inside}
 use Rattle.swc_ecma_codegen_base.proofs.Texts.{Adds, adds_written, adds_more, owns, spelled_one}
-use Rattle.swc_ecma_codegen_base.proofs.Written.{Lays, Spelled}
+use Rattle.swc_ecma_codegen_base.proofs.Laid.{Lays}
+use Rattle.swc_ecma_codegen_base.proofs.Written.{Spelled}
 
 -- ---- its spelling
 

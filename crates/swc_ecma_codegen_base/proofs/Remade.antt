@@ -17,7 +17,8 @@ use Rattle.swc_ecma_codegen_base.specs.Literals.{begun}
 use Rattle.swc_ecma_codegen_base.proofs.Hands.{holds_string}
 use Rattle.swc_ecma_codegen_base.proofs.LiteralParts.{writes_begun}
 use Rattle.swc_ecma_codegen_base.proofs.LitTexts.{signed_tokens}
-use Rattle.swc_ecma_codegen_base.proofs.Phrased.{IsSafe, Prints, no_names, placed_none, no_string, no_strings, prints_made}
+use Rattle.swc_ecma_codegen_base.proofs.PartSteps.{IsSafe, no_names, placed_none, no_strings}
+use Rattle.swc_ecma_codegen_base.proofs.Phrased.{Prints, no_string, prints_made}
 use Rattle.swc_ecma_codegen_base.proofs.Printed.{Makes, makes_some, writes_if, writes_nothing, writes_remake, writes_then, Fills}
 
 -- what begins as a `Lit` before it begins as itself

@@ -12,7 +12,8 @@ use Rattle.swc_ecma_codegen_base.specs.Run.{Part, State, Step, Guard, Token, Pla
 use Rattle.swc_ecma_codegen_base.specs.Scripts.{is_string_call, string_by_value, strings_after, value_strings, AreSafe, StandIn, AddsSafe}
 use Rattle.swc_ecma_codegen_base.specs.Targets.{is_out}
 use Rattle.swc_ecma_codegen_base.proofs.Held.{front}
-use Rattle.swc_ecma_codegen_base.proofs.Phrased.{IsSafe, made_not_out, PrintsAt}
+use Rattle.swc_ecma_codegen_base.proofs.PartSteps.{IsSafe}
+use Rattle.swc_ecma_codegen_base.proofs.Phrased.{made_not_out, PrintsAt}
 use Rattle.swc_ecma_codegen_base.proofs.Positions.{put_records}
 use Rattle.swc_ecma_codegen_base.proofs.Texts.{adds_literal}
 use Rattle.swc_ecma_codegen_base.proofs.Shapes.{Shape}

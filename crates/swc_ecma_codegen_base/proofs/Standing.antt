@@ -8,7 +8,7 @@ use Rattle.swc_ecma_codegen_ast.specs.Endings.{IsReduced}
 use Rattle.swc_ecma_codegen_ast.specs.GapRules.{Last, Start, fuses, allows, last_after_gap, last_after}
 use Rattle.swc_ecma_codegen_ast.specs.Parts as parts
 use Rattle.swc_ecma_codegen_ast.specs.Parts.{Gap, Own, NoneFuse, Reduced, tokens_of, remarks_in}
-use Rattle.swc_ecma_codegen_ast.specs.Phrases.{Phrase, PlacedName, Never, Nothing, One, NameOf, KeyOf, PrivateOf, Then, OptionalComma, OptionalParentheses, Chosen, Generates, names_in}
+use Rattle.swc_ecma_codegen_ast.specs.Phrases.{Phrase, PlacedName, Never, Nothing, One, NameOf, KeyOf, PrivateOf, Then, CommaBefore, OptionalParentheses, Chosen, Generates, names_in}
 use Rattle.swc_ecma_codegen_ast.specs.Reads.{Reads}
 use Rattle.swc_ecma_codegen_ast.specs.Tokens.{Token, token_of}
 use Rattle.swc_ecma_codegen_ast.specs.Trivia.{Remark, Piece}
@@ -23,7 +23,7 @@ use Rattle.swc_ecma_codegen_base.specs.Named.{IsRecorded, StandsAfter, EachName,
 use Rattle.swc_ecma_codegen_base.specs.Run.{State, put, run, spelling, after_plain}
 use Rattle.swc_ecma_codegen_base.specs.Settings.{settings_of}
 use Rattle.swc_ecma_codegen_base.specs.Targets.{written_as}
-use Rattle.swc_ecma_codegen_base.specs.Written.{AtRest, IsNew, holds_one, all_indent, without_joints}
+use Rattle.swc_ecma_codegen_base.specs.Written.{AtRest, RestsAt, Spot, Anything, IsNew, holds_one, all_indent, without_joints}
 use Rattle.swc_ecma_codegen_base.proofs.Appended.{text_append, tokens_append, remarks_append}
 use Rattle.swc_ecma_codegen_base.proofs.Fronts.{run_sheet}
 use Rattle.swc_ecma_codegen_base.proofs.Held.{front, started_text, pointed_keeps}
@@ -31,7 +31,9 @@ use Rattle.swc_ecma_codegen_base.proofs.Indented.{blanks, blanks_text, indent_ch
 use Rattle.swc_ecma_codegen_base.proofs.Jointless.{reads_without}
 use Rattle.swc_ecma_codegen_base.proofs.Positions.{recorded_more, noted_has, is_none, symbol_sheet, before_name, before_unheld, name_steps, name_call, run_records}
 use Rattle.swc_ecma_codegen_base.proofs.Shapes.{Shape, open_, join}
-use Rattle.swc_ecma_codegen_base.proofs.Written.{LaysWith, Enters, Spelled, held, held_of, enters_first, enters_second, front_indent, own_apart, laid_text, apart_open, settle, lays_commit, lays_guard, lays_then, after_guard}
+use Rattle.swc_ecma_codegen_base.proofs.Spots.{is_narrower, rests_narrower}
+use Rattle.swc_ecma_codegen_base.proofs.Laid.{LaysTo, Enters, held, held_of, enters_first, enters_second, lays_then}
+use Rattle.swc_ecma_codegen_base.proofs.Written.{Spelled, front_indent, own_apart, laid_text, apart_open, settle, lays_commit, lays_guard, after_guard}
 
 -- ---- what stands there stays
 
@@ -60,7 +62,7 @@ all_more config a b c us (NameOf at bytes) ts r h = (h.0, stands_more config a b
 all_more config a b c us (KeyOf at bytes) ts r h = (h.0, stands_more config a b c us _ _ r h.1)
 all_more config a b c us (PrivateOf bytes) ts r h = h
 all_more config a b c us (Then f g) ts r h = (h.0, h.1, all_more config a b c us f h.0 r h.2, all_more config a b c (us ++ h.0) g h.1 r h.3, h.4)
-all_more config a b c us OptionalComma ts r h = h
+all_more config a b c us (CommaBefore close) ts r h = h
 all_more config a b c us (OptionalParentheses f) ts r (inl h) = inl (all_more config a b c us f ts r h)
 all_more config a b c us (OptionalParentheses f) ts r (inr h) = inr (h.0, all_more config a b c _ f h.0 r h.1, h.2)
 all_more config a b c us (Chosen choice) ts r h = h
@@ -84,7 +86,7 @@ nameless config a b us (NameOf at bytes) ts e h = absurd (cc)
 nameless config a b us (KeyOf at bytes) ts e h = absurd (cc)
 nameless config a b us (PrivateOf bytes) ts e h = h
 nameless config a b us (Then f g) ts e h = (h.0, h.1, nameless config a b us f h.0 (none_left (names_in f) (names_in g) e) h.2, nameless config a b (us ++ h.0) g h.1 (none_right (names_in f) (names_in g) e) h.3, h.4)
-nameless config a b us OptionalComma ts e h = h
+nameless config a b us (CommaBefore close) ts e h = h
 nameless config a b us (OptionalParentheses f) ts e (inl h) = inl (nameless config a b us f ts e h)
 nameless config a b us (OptionalParentheses f) ts e (inr h) = inr (h.0, nameless config a b _ f h.0 e h.1, h.2)
 nameless config a b us (Chosen choice) ts e h = h
@@ -92,7 +94,7 @@ nameless config a b us (Chosen choice) ts e h = h
 -- ---- how far an emission has come
 
 -- From where an emission began to here these tokens were asked for, and parts of a shape may stand next.
-pub record Reached (i : Shape) (us : List Token) (a s : State) : Type 0 where
+pub record ReachedAt (spot : Spot) (i : Shape) (us : List Token) (a s : State) : Type 0 where
   pub is_new : IsNew a
   pub out : List parts.Part
   pub laid : List parts.Part
@@ -106,8 +108,12 @@ pub record Reached (i : Shape) (us : List Token) (a s : State) : Type 0 where
   pub holds : holds_semicolons s.sheet.semicolons ≡ holds_semicolons a.sheet.semicolons
   pub whole : holds_semicolons a.sheet.semicolons ≡ false → laid ≡ out
   pub place : s.sheet.place ≡ after_text bytes a.sheet.place
-  pub rest : AtRest s
+  pub rest : RestsAt spot s
   pub enters : Enters i s
+
+-- where any token may stand next
+abbrev pub Reached : Shape → List Token → State → State → Type 0
+Reached i us a s = ReachedAt Anything i us a s
 
 pub reached_first : (i : Shape) (a : State) → IsNew a → AtRest a → Enters i a → Reached i [] a a
 unfolding tokens_of parts.text_of after_text
@@ -129,14 +135,18 @@ reached_first i a n r e = record {
   enters = e;
 }
 
-pub reached_as : (i : Shape) {j : Shape} {us : List Token} {a s : State} → Enters i s → Reached j us a s → Reached i us a s
+pub reached_as : {v : Spot} (i : Shape) {j : Shape} {us : List Token} {a s : State} → Enters i s → ReachedAt v j us a s → ReachedAt v i us a s
 reached_as i e r = record { is_new = r.is_new; out = r.out; laid = r.laid; bytes = r.bytes; text = r.text; utf8 = r.utf8; spells = r.spells; tokens = r.tokens; apart = r.apart; reduces = r.reduces; holds = r.holds; whole = r.whole; place = r.place; rest = r.rest; enters = e }
+
+-- where less is known of what may stand next
+pub reached_narrower : (v w : Spot) {i : Shape} {us : List Token} {a s : State} → is_narrower v w ≡ true → ReachedAt v i us a s → ReachedAt w i us a s
+reached_narrower v w {s = s} e r = record { is_new = r.is_new; out = r.out; laid = r.laid; bytes = r.bytes; text = r.text; utf8 = r.utf8; spells = r.spells; tokens = r.tokens; apart = r.apart; reduces = r.reduces; holds = r.holds; whole = r.whole; place = r.place; rest = rests_narrower v w s e r.rest; enters = r.enters }
 
 pub reached_same : {i : Shape} {us vs : List Token} {a s : State} → us ≡ vs → Reached i us a s → Reached i vs a s
 reached_same {i} {a = a} {s = s} e r = subst (λ z. Reached i z a s) e r
 
 -- and further
-pub reached_then : (i j : Shape) {rs : List Remark} (us ts : List Token) (a s b : State) → Reached (join i j) us a s → LaysWith i ts rs s b → RecordsTruly s.sheet b.sheet → Reached j (us ++ ts) a b
+pub reached_then : {v w : Spot} (i j : Shape) {rs : List Remark} (us ts : List Token) (a s b : State) → ReachedAt v (join i j) us a s → LaysTo w i ts rs s b → RecordsTruly s.sheet b.sheet → ReachedAt w j (us ++ ts) a b
 reached_then i j us ts a s b r h t =
     let same : t.text ≡ h.bytes = append_cancel_left s.sheet.text t.text h.bytes (sym t.is_text ∙ h.text) in
     record {

@@ -12,9 +12,9 @@ use Rattle.swc_ecma_codegen_base.specs.declared.starts.StartClass.{StartClass}
 use Rattle.swc_ecma_codegen_base.specs.declared.starts.StartClass.TheVariants as start
 use Rattle.swc_ecma_codegen_base.proofs.Strangers.{is_in, all_pass, passes, marks, and_false, stranger_same, stranger_apart, dot_same, dash_same, other_same}
 
--- a text of each class, and two that stand for none
+-- a text of each class
 unfoldable pub samples : List (List ℕ)
-samples = codes "a" ∷ codes "0" ∷ codes ".0" ∷ codes "." ∷ codes "--" ∷ codes "{" ∷ codes "}" ∷ codes "(" ∷ codes ")" ∷ codes "[" ∷ codes "]" ∷ codes ";" ∷ codes "," ∷ codes "<" ∷ codes ">" ∷ codes "=" ∷ codes "!" ∷ codes "+" ∷ codes "-" ∷ codes "*" ∷ codes "%" ∷ codes "&" ∷ codes "|" ∷ codes "^" ∷ codes "~" ∷ codes "?" ∷ codes ":" ∷ codes "/" ∷ codes "@" ∷ codes "" ∷ codes "" ∷ codes "" ∷ []
+samples = codes "a" ∷ codes "0" ∷ codes ".0" ∷ codes "." ∷ codes "--" ∷ codes "{" ∷ codes "}" ∷ codes "(" ∷ codes ")" ∷ codes "[" ∷ codes "]" ∷ codes ";" ∷ codes "," ∷ codes "<" ∷ codes ">" ∷ codes "=" ∷ codes "!" ∷ codes "+" ∷ codes "-" ∷ codes "*" ∷ codes "%" ∷ codes "&" ∷ codes "|" ∷ codes "^" ∷ codes "~" ∷ codes "?" ∷ codes ":" ∷ codes "/" ∷ codes "@" ∷ codes "" ∷ []
 
 unfoldable pub sample : StartClass → List ℕ
 sample s = get_or samples (order s) []

@@ -47,7 +47,8 @@ use Rattle.swc_ecma_codegen_ast.specs.declared.comments.Comment.{Comment}
 use Rattle.swc_ecma_codegen_base.proofs.ValueStrings.{anew_after, strings_append, none_by_value}
 use Rattle.swc_ecma_codegen_base.proofs.LitTexts.{spelled_string}
 use Rattle.swc_ecma_codegen_base.proofs.LiteralParts.{writes_settled_begun, writes_string}
-use Rattle.swc_ecma_codegen_base.proofs.Phrased.{IsSafe, Prints, prints_same, prints_where}
+use Rattle.swc_ecma_codegen_base.proofs.PartSteps.{IsSafe}
+use Rattle.swc_ecma_codegen_base.proofs.Phrased.{Prints, prints_same, prints_where}
 use Rattle.swc_ecma_codegen_base.proofs.Printed.{Says, says_comments, chain, Writes, writes_if, writes_nothing, writes_position, writes_then, Fills}
 use Rattle.swc_ecma_codegen_base.proofs.RawTexts.{ascii_is}
 use Rattle.swc_ecma_codegen_base.proofs.Remade.{makes_remade, prints_anew, writes_begun_in}

@@ -1,7 +1,7 @@
 -- What the calls of a part of a template write: one token.
-use Rattle.std.proofs.Common.{◌≡◌, ℕ, ◌+◌, Bool, true, false, cond, not, ◌&&◌, ◌||◌, ◌==◌, List, [], ◌∷◌, ◌++◌, codes, None, refl, sym, ap, ◌∙◌, subst, append_assoc, append-nil, arith}
+use Rattle.std.proofs.Common.{◌≡◌, ℕ, ◌+◌, Bool, true, false, cond, not, ◌&&◌, ◌||◌, ◌==◌, List, [], ◌∷◌, ◌++◌, codes, None, refl, sym, ap, ◌∙◌, subst, append_assoc, append-nil, arith, ◌⊎◌, inl, inr}
 use Rattle.std.specs.Str.{chars, is_utf8, IsUtf8}
-use Rattle.std.proofs.lemmas.Bool.{and_from, and_parts, or_from, or_parts, or_left, false_from_ne_true, true≢false}
+use Rattle.std.proofs.lemmas.Bool.{and_from, and_parts, or_from, or_left, false_from_ne_true, true≢false}
 use Rattle.std.proofs.lemmas.List.Folds.{list_all-append}
 use Rattle.std.proofs.lemmas.Str.{chars-append, IsUtf8-from_is_utf8}
 use Rattle.swc_ecma_codegen_common.specs.declared.positions.BytePos.{BytePos}
@@ -9,30 +9,33 @@ use Rattle.swc_ecma_codegen_common.specs.declared.positions.Span.{Span}
 use Rattle.swc_ecma_codegen_spans.specs.Spans.{dummy_span}
 use Rattle.swc_ecma_codegen_ast.specs.declared.kinds.Kind.{Kind}
 use Rattle.swc_ecma_codegen_ast.specs.declared.kinds.TemplatePart.{TemplatePart}
-use Rattle.swc_ecma_codegen_ast.specs.GapRules.{Last, Whole, allows, last_after}
+use Rattle.swc_ecma_codegen_ast.specs.GapRules.{Last, Whole, allows, fuses, last_after}
 use Rattle.swc_ecma_codegen_ast.specs.Reads.{is_child, is_hashbang_kind}
-use Rattle.swc_ecma_codegen_ast.specs.Parts.{tokens_of}
+use Rattle.swc_ecma_codegen_ast.specs.Parts.{IsEnding, tokens_of}
+use Rattle.swc_ecma_codegen_ast.specs.Parts as parts
+use Rattle.swc_ecma_codegen_ast.specs.Texts.{begins}
 use Rattle.swc_ecma_codegen_ast.specs.Templates.{part_end, part_units}
 use Rattle.swc_ecma_codegen_ast.specs.TemplatePhrases.{part_kind, part_begin, part_text}
 use Rattle.swc_ecma_codegen_ast.specs.Tokens.{Characters, Units, has_shape, token_of, value_of, part_value}
-use Rattle.swc_ecma_codegen_text_writer.specs.Sheet.{Sheet, Semicolons, AtOnce, HoldsNone, HoldsOne, Commit, Position, Punct, StrLit, effect, written, literal_written, settled, before_punct, is_ending, dropped, pointed}
+use Rattle.swc_ecma_codegen_text_writer.specs.Sheet.{Sheet, Semicolons, AtOnce, HoldsNone, HoldsOne, Position, Punct, StrLit, effect, written, literal_written, settled, before_punct, is_ending, dropped, pointed}
 use Rattle.swc_ecma_codegen_literals.specs.AsciiNames.{is_ascii_text}
-use Rattle.swc_ecma_codegen_base.specs.Ascii.{is_other_piece, is_kept_piece, is_other_end, is_kept_end, is_other_value, keeps_other, keeps_tokens, are_ascii}
+use Rattle.swc_ecma_codegen_base.specs.Ascii.{is_other_piece, is_kept_piece, is_other_end, is_kept_end, is_other_value, keeps_other, keeps_tokens, are_ascii, are_ascii_or_kept}
 use Rattle.swc_ecma_codegen_base.specs.Run.{at_maps, after_step, Env, Plan, Part, State, Step, Guard, Plain, Ends, put, run, step, spelling, text_of, after_token, after_tokens, after_plain, makes_text}
 use Rattle.swc_ecma_codegen_base.specs.Starts.{start_class}
 use Rattle.swc_ecma_codegen_base.specs.Templates as words
-use Rattle.swc_ecma_codegen_base.specs.Words.{commit_pending_semi, position}
+use Rattle.swc_ecma_codegen_base.specs.Words.{position}
 use Rattle.swc_ecma_codegen_base.specs.Written.{AtRest, holds_one}
 use Rattle.swc_ecma_codegen_base.proofs.Fronts.{run_append}
-use Rattle.swc_ecma_codegen_base.proofs.Hands.{Hands, has_string, has_append, keeps_append, ascii_append, ascii_keeps}
+use Rattle.swc_ecma_codegen_base.proofs.Hands.{Hands, has_string, has_append, keeps_append, ascii_append, ascii_keeps, or_kept_append, kept_of_ascii}
 use Rattle.swc_ecma_codegen_base.proofs.Held.{pointed_keeps, settled_none}
 use Rattle.swc_ecma_codegen_base.proofs.NumeralTexts.{ascii_by_chars}
 use Rattle.swc_ecma_codegen_base.proofs.Levels.{levels, levels_append, rise}
-use Rattle.swc_ecma_codegen_base.proofs.LiteralParts.{lays_guarded, still_settled, more_adds}
+use Rattle.swc_ecma_codegen_base.proofs.LiteralParts.{alike_fuses, still_settled, more_adds}
 use Rattle.swc_ecma_codegen_base.proofs.Printed.{takes_none, takes_append, from_silently, Writes, chain, chain_append, remakes_append}
 use Rattle.swc_ecma_codegen_base.proofs.Starting.{plain_class}
-use Rattle.swc_ecma_codegen_base.proofs.Texts.{Adds, adds_written, adds_literal, adds_more, owns, spelled_one}
-use Rattle.swc_ecma_codegen_base.proofs.Written.{Lays, Spelled}
+use Rattle.swc_ecma_codegen_base.proofs.Texts.{Adds, adds_written, adds_literal, adds_more, owns, SpelledAs, spelled_one, lays_texts, lost_texts}
+use Rattle.swc_ecma_codegen_base.proofs.Laid.{Lays, lays_then}
+use Rattle.swc_ecma_codegen_base.proofs.Written.{Spelled, after_guard, lays_guard, lays_settled, settle, settle_rest}
 
 -- a part ends by itself
 pub after_part : (first : Bool) (part : TemplatePart) (t : List ℕ) (k : Last) → after_tokens ((part_kind first part, t) ∷ []) k ≡ Whole
@@ -54,10 +57,10 @@ pub record Inside (env : Env) (part : Part) (t : List ℕ) (tagged : Bool) : Typ
   pub strings : has_string steps ≡ false
   pub ascii : is_ascii_text t ≡ true → are_ascii steps ≡ true
   pub others : tagged ≡ false → keeps_other steps ≡ false
-  pub told : tagged ≡ true → keeps_other steps ≡ false → is_ascii_text t ≡ true
+  pub handed : (tagged ≡ true) ⊎ (is_ascii_text t ≡ true) → are_ascii_or_kept steps ≡ true
 
 inside_then : {env : Env} {p q : Part} {t v : List ℕ} {b : Bool} → Inside env p t b → Inside env q v b → Inside env (λ rest. p (q rest)) (t ++ v) b
-inside_then {env} {p} {q} {t} {v} h k = record {
+inside_then {env} {p} {q} {t} {v} {b} h k = record {
   steps = h.steps ++ k.steps;
   is_steps = λ rest. h.is_steps (q rest) ∙ ap (λ z. chain h.steps z) (k.is_steps rest) ∙ sym (chain_append h.steps k.steps (rest env));
   adds = λ u a s o e.
@@ -72,9 +75,12 @@ inside_then {env} {p} {q} {t} {v} h k = record {
       let both = and_parts (is_ascii_text t) (is_ascii_text v) (sym (list_all-append _ t v) ∙ e) in
       ascii_append h.steps k.steps ∙ and_from (are_ascii h.steps) (are_ascii k.steps) (h.ascii both.0) (k.ascii both.1);
   others = λ e. keeps_append h.steps k.steps ∙ or_from (keeps_other h.steps) (keeps_other k.steps) (h.others e) (k.others e);
-  told = λ e n.
-      let neither = or_parts (keeps_other h.steps) (keeps_other k.steps) (sym (keeps_append h.steps k.steps) ∙ n) in
-      list_all-append _ t v ∙ and_from (is_ascii_text t) (is_ascii_text v) (h.told e neither.0) (k.told e neither.1);
+  handed = λ e.
+      let both : ((b ≡ true) ⊎ (is_ascii_text t ≡ true)) × ((b ≡ true) ⊎ (is_ascii_text v ≡ true)) = elim e [
+        | inl i ↦ (inl i, inl i)
+        | inr a ↦ let p = and_parts (is_ascii_text t) (is_ascii_text v) (sym (list_all-append _ t v) ∙ a) in (inr p.0, inr p.1)
+      ] in
+      or_kept_append h.steps k.steps ∙ and_from (are_ascii_or_kept h.steps) (are_ascii_or_kept k.steps) (h.handed both.0) (k.handed both.1);
 }
 
 -- ---- a position
@@ -89,7 +95,7 @@ pointed_adds pos t a b h = record {
 }
 
 recorded_inside : (env : Env) (pos : BytePos) (tagged : Bool) → Inside env (step (Plain (Position pos))) [] tagged
-unfolding step chain run put effect text_of after_plain makes_text levels rise are_ascii has_string keeps_other is_other_piece is_kept_piece takes_none after_step
+unfolding step chain run put effect text_of after_plain makes_text levels rise are_ascii are_ascii_or_kept has_string keeps_other is_other_piece is_kept_piece takes_none after_step
 recorded_inside env pos tagged = record {
   steps = Plain (Position pos) ∷ [];
   is_steps = λ rest. refl;
@@ -101,11 +107,11 @@ recorded_inside env pos tagged = record {
   strings = refl;
   ascii = λ e. refl;
   others = λ e. refl;
-  told = λ e n. refl;
+  handed = λ e. refl;
 }
 
 nothing_inside : (env : Env) (tagged : Bool) → Inside env (λ rest. rest) [] tagged
-unfolding chain run makes_text levels are_ascii has_string keeps_other takes_none
+unfolding chain run makes_text levels are_ascii are_ascii_or_kept has_string keeps_other takes_none
 nothing_inside env tagged = record {
   steps = [];
   is_steps = λ rest. refl;
@@ -117,7 +123,7 @@ nothing_inside env tagged = record {
   strings = refl;
   ascii = λ e. refl;
   others = λ e. refl;
-  told = λ e n. refl;
+  handed = λ e. refl;
 }
 
 inside_if : {env : Env} (b : Bool) {p q : Part} {t : List ℕ} {tagged : Bool} → Inside env p t tagged → Inside env q t tagged → Inside env (λ rest. cond b (p rest) (q rest)) t tagged
@@ -138,13 +144,17 @@ literal_more (c ∷ cs) u a b o h = subst (λ z. Adds (u ++ (c ∷ cs)) a (liter
 text_ascii : (t : List ℕ) → is_ascii_text t ≡ true → (is_ascii_text t && true) ≡ true
 text_ascii t a = and_from (is_ascii_text t) true a refl
 
--- what stands as it is, and is no other text, is ASCII
-ascii_told : (b : Bool) → (not b || false) ≡ false → b ≡ true
-ascii_told true h = refl
-ascii_told false h = absurd (true≢false h)
+-- what stands as it is
+stands_kept : (b : Bool) → ((b || true) && true) ≡ true
+stands_kept true = refl
+stands_kept false = refl
+
+-- and what is ASCII, as one with a tag alone may not be
+ascii_kept : (kept b : Bool) → b ≡ true → ((b || kept) && true) ≡ true
+ascii_kept kept b a = and_from (b || kept) true (or_left b kept a) refl
 
 text_inside : (env : Env) (tagged : Bool) (t : List ℕ) → Inside env (words.inside tagged t) t tagged
-unfolding words.inside step chain run put effect text_of after_plain after_tokens makes_text levels rise are_ascii has_string keeps_other is_other_piece is_kept_piece is_other_end is_kept_end takes_none after_step
+unfolding words.inside step chain run put effect text_of after_plain after_tokens makes_text levels rise are_ascii are_ascii_or_kept has_string keeps_other is_other_piece is_kept_piece is_other_end is_kept_end takes_none after_step
 text_inside env true t = record {
   steps = Ends [] (StrLit dummy_span t) ∷ [];
   is_steps = λ rest. refl;
@@ -156,7 +166,7 @@ text_inside env true t = record {
   strings = refl;
   ascii = λ e. text_ascii t e;
   others = λ e. absurd (true≢false e);
-  told = λ e n. ascii_told (is_ascii_text t) n;
+  handed = λ e. stands_kept (is_ascii_text t);
 }
 text_inside env false t = record {
   steps = Plain (StrLit dummy_span t) ∷ [];
@@ -169,7 +179,7 @@ text_inside env false t = record {
   strings = refl;
   ascii = λ e. text_ascii t e;
   others = λ e. refl;
-  told = λ e. absurd (true≢false (sym e));
+  handed = λ e. elim e [ inl i ↦ absurd (true≢false (sym i)) | inr a ↦ ascii_kept false (is_ascii_text t) a ];
 }
 
 -- a text between two positions
@@ -181,37 +191,39 @@ placed_inside env tagged span t =
 
 -- ---- the mark with which a part begins
 
-none_dropped : (x : Semicolons) → holds_one x ≡ false → dropped x ≡ x
-unfolding holds_one dropped
-none_dropped AtOnce h = refl
-none_dropped HoldsNone h = refl
-none_dropped (HoldsOne span) h = absurd (true≢false h)
-
-unheld_before : (s : Sheet) → holds_one s.semicolons ≡ false → before_punct (codes "}") s ≡ s
-unfolding before_punct is_ending
-unheld_before s h = ap (λ x. record s { semicolons = x }) (none_dropped s.semicolons h)
-
 begin_steps : Bool → List Step
-begin_steps true = Plain (Punct None (codes "`")) ∷ []
-begin_steps false = Plain Commit ∷ Plain (Punct None (codes "}")) ∷ []
+begin_steps first = Plain (Punct None (part_begin first)) ∷ []
 
 begin_is : (env : Env) (first : Bool) (rest : Plan) → words.opened first rest env ≡ chain (begin_steps first) (rest env)
-unfolding words.opened begin_steps part_begin commit_pending_semi step chain after_step
-begin_is env true rest = refl
-begin_is env false rest = refl
+unfolding words.opened begin_steps step chain after_step
+begin_is env first rest = refl
 
-begin_adds : (first : Bool) (s : State) → Adds (part_begin first) (settled s.sheet) (run (begin_steps first) s).sheet
-unfolding begin_steps part_begin run put effect before_punct is_ending
-begin_adds true s = adds_written None 96 [] (settled s.sheet)
-begin_adds false s = subst (λ z. Adds (codes "}") (settled s.sheet) (written None (codes "}") z)) (sym (unheld_before (settled s.sheet) (settled_none s.sheet))) (adds_written None 125 [] (settled s.sheet))
+-- where it is written: behind a semicolon that was held back, or in its place
+abbrev begun_on : Bool → Sheet → Sheet
+begun_on first s = before_punct (part_begin first) s
+
+lost_none : (x : Semicolons) → holds_one (dropped x) ≡ false
+unfolding holds_one dropped
+lost_none AtOnce = refl
+lost_none HoldsNone = refl
+lost_none (HoldsOne span) = refl
+
+begun_none : (first : Bool) (s : Sheet) → holds_one (begun_on first s).semicolons ≡ false
+unfolding part_begin before_punct is_ending
+begun_none true s = settled_none s
+begun_none false s = lost_none s.semicolons
+
+begin_adds : (first : Bool) (s : State) → Adds (part_begin first) (begun_on first s.sheet) (run (begin_steps first) s).sheet
+unfolding begin_steps part_begin run put effect
+begin_adds true s = adds_written None 96 [] (begun_on true s.sheet)
+begin_adds false s = adds_written None 125 [] (begun_on false s.sheet)
 
 begin_last : (first : Bool) (s : State) → (run (begin_steps first) s).last ≡ s.last
 unfolding begin_steps run put after_plain
-begin_last true s = refl
-begin_last false s = refl
+begin_last first s = refl
 
 begin_plain : (first : Bool) → (makes_text (begin_steps first) ≡ false) × (levels (begin_steps first) ≡ 0) × (has_string (begin_steps first) ≡ false) × (are_ascii (begin_steps first) ≡ true) × (keeps_other (begin_steps first) ≡ false)
-unfolding begin_steps makes_text levels rise has_string are_ascii text_of keeps_other is_other_piece is_kept_piece
+unfolding begin_steps part_begin makes_text levels rise has_string are_ascii text_of keeps_other is_other_piece is_kept_piece
 begin_plain true = (refl, refl, refl, refl, refl)
 begin_plain false = (refl, refl, refl, refl, refl)
 
@@ -269,11 +281,11 @@ unfolding part_kind spelling is_child is_hashbang_kind last_after allows
 part_spelled true part t u h some = record { utf8 = u; same = refl; shape = h; no_child = λ e. true≢false (sym e); no_hashbang = λ e. true≢false (sym e); allowed = λ k v. refl; some = some }
 part_spelled false part t u h some = record { utf8 = u; same = refl; shape = h; no_child = λ e. true≢false (sym e); no_hashbang = λ e. true≢false (sym e); allowed = λ k v. refl; some = some }
 
-part_adds : {env : Env} (first : Bool) (part : TemplatePart) (span : Span) (t : List ℕ) (h : Inside env (words.placed_inside part.tagged span t) t part.tagged) (text : List ℕ) (s : State) → Adds (part_text first part t) (settled s.sheet) (run (begin_steps first ++ (h.steps ++ (Ends ((part_kind first part, text) ∷ []) (Punct None (part_end part)) ∷ []))) s).sheet
+part_adds : {env : Env} (first : Bool) (part : TemplatePart) (span : Span) (t : List ℕ) (h : Inside env (words.placed_inside part.tagged span t) t part.tagged) (text : List ℕ) (s : State) → Adds (part_text first part t) (begun_on first s.sheet) (run (begin_steps first ++ (h.steps ++ (Ends ((part_kind first part, text) ∷ []) (Punct None (part_end part)) ∷ []))) s).sheet
 unfolding part_text
 part_adds first part span t h text s =
-    let a : Sheet = settled s.sheet in
-    let o = settled_none s.sheet in
+    let a : Sheet = begun_on first s.sheet in
+    let o = begun_none first s.sheet in
     let begun : State = run (begin_steps first) s in
     let last : Step = Ends ((part_kind first part, text) ∷ []) (Punct None (part_end part)) in
     let P : State → Type 0 = λ z. Adds (part_begin first ++ (t ++ part_end part)) a z.sheet in
@@ -335,12 +347,12 @@ all_other first part inner text =
     keeps_append (begin_steps first) (inner ++ last) ∙ ap (λ b. b || keeps_other (inner ++ last)) (begin_plain first).4
     ∙ keeps_append inner last ∙ ap (λ b. keeps_other inner || b) (last_other part (part_kind first part) text) ∙ or_none (keeps_other inner)
 
-all_ascii : (first : Bool) (part : TemplatePart) (inner : List Step) (text : List ℕ) → are_ascii inner ≡ true → are_ascii (all_steps first part inner text) ≡ true
-unfolding are_ascii
-all_ascii first part inner text h =
+all_handed : (first : Bool) (part : TemplatePart) (inner : List Step) (text : List ℕ) → are_ascii_or_kept inner ≡ true → are_ascii_or_kept (all_steps first part inner text) ≡ true
+unfolding begin_steps are_ascii_or_kept
+all_handed first part inner text h =
     let last : List Step = Ends ((part_kind first part, text) ∷ []) (Punct None (part_end part)) ∷ [] in
-    ascii_append (begin_steps first) (inner ++ last) ∙ and_from (are_ascii (begin_steps first)) (are_ascii (inner ++ last)) (begin_plain first).3
-    (ascii_append inner last ∙ and_from (are_ascii inner) (are_ascii last) h (last_ascii part (part_kind first part) text))
+    or_kept_append (begin_steps first) (inner ++ last) ∙ and_from (are_ascii_or_kept (begin_steps first)) (are_ascii_or_kept (inner ++ last)) (kept_of_ascii (begin_steps first) (begin_plain first).3)
+    (or_kept_append inner last ∙ and_from (are_ascii_or_kept inner) (are_ascii_or_kept last) h (kept_of_ascii last (last_ascii part (part_kind first part) text)))
 
 by_tag : (tagged : Bool) (A : Type 0) → (tagged ≡ true → A) → (tagged ≡ false → A) → A
 by_tag true A h k = h refl
@@ -353,7 +365,7 @@ part_hands env first part span t h p a =
     let kind : Kind = part_kind first part in
     let last : List Step = Ends ((kind, text) ∷ []) (Punct None (part_end part)) ∷ [] in
     record {
-      ascii = λ e n. all_ascii first part h.steps text (h.ascii (by_tag part.tagged (is_ascii_text t ≡ true) (λ y. h.told y (sym (all_other first part h.steps text) ∙ n)) (λ y. a e y)));
+      ascii = λ e. all_handed first part h.steps text (h.handed (by_tag part.tagged ((part.tagged ≡ true) ⊎ (is_ascii_text t ≡ true)) (λ y. inl y) (λ y. inr (a e y))));
       keeps = λ n.
           let kept = sym (all_other first part h.steps text) ∙ n in
           let tagged : part.tagged ≡ true = by_tag part.tagged (part.tagged ≡ true) (λ y. y) (λ y. absurd (true≢false (sym kept ∙ h.others y))) in
@@ -362,12 +374,34 @@ part_hands env first part span t h p a =
       strings = λ n. no_text (sym (has_append (begin_steps first) (h.steps ++ last) ∙ or_from (has_string (begin_steps first)) (has_string (h.steps ++ last)) (begin_plain first).2 (has_append h.steps last ∙ or_from (has_string h.steps) false h.strings refl)) ∙ n);
     }
 
+-- what a part begins with, a semicolon that was held back isn't needed before it
+part_ends : (part : TemplatePart) (t : List ℕ) (more : List parts.Part) → IsEnding (owns ((part_kind false part, part_text false part t) ∷ []) ++ more)
+unfolding IsEnding owns spelling part_kind part_text part_begin begins
+part_ends part t more = ap (λ z. begins (codes "}") z || begins (codes ";") z) (chars-append (part_begin false) (t ++ part_end part) (begin_utf8 false) ∙ ap (λ z. z ++ chars (t ++ part_end part)) (begin_chars false))
+
+later_lays : (x : Semicolons) (part : TemplatePart) (t : List ℕ) (s b : State) → x ≡ s.sheet.semicolons → SpelledAs ((part_kind false part, part_text false part t) ∷ []) (part_text false part t) → fuses s.last (chars (part_text false part t)) ≡ false → AtRest s → Adds (part_text false part t) (record s.sheet { semicolons = dropped x }) b.sheet → b.last ≡ after_tokens ((part_kind false part, part_text false part t) ∷ []) s.last → Lays (tokens_of (owns ((part_kind false part, part_text false part t) ∷ []))) s b
+unfolding dropped
+later_lays AtOnce part t s b e p f r h last = lays_texts _ _ s b p f (unfold holds_one in ap holds_one (sym e)) r (subst (λ z. Adds (part_text false part t) (record s.sheet { semicolons = z }) b.sheet) e h) last
+later_lays HoldsNone part t s b e p f r h last = lays_texts _ _ s b p f (unfold holds_one in ap holds_one (sym e)) r (subst (λ z. Adds (part_text false part t) (record s.sheet { semicolons = z }) b.sheet) e h) last
+later_lays (HoldsOne span) part t s b e p f r h last = lost_texts _ _ s b e (part_ends part t) p f r h last
+
+-- a part that begins behind a semicolon that was held back, or in its place
+begun_lays : (first : Bool) (part : TemplatePart) (t : List ℕ) (s b : State) → SpelledAs ((part_kind first part, part_text first part t) ∷ []) (part_text first part t) → fuses s.last (chars (part_text first part t)) ≡ false → AtRest s → Adds (part_text first part t) (begun_on first s.sheet) b.sheet → b.last ≡ after_tokens ((part_kind first part, part_text first part t) ∷ []) s.last → Lays (tokens_of (owns ((part_kind first part, part_text first part t) ∷ []))) s b
+unfolding part_begin before_punct is_ending
+begun_lays true part t s b p f r h last = lays_settled s b _ r (lays_texts _ _ (settle s) b p f (settled_none s.sheet) (settle_rest s r) h last)
+begun_lays false part t s b p f r h last = later_lays s.sheet.semicolons part t s b refl p f r h last
+
 part_lays : (env : Env) (first : Bool) (part : TemplatePart) (span : Span) (t : List ℕ) (h : Inside env (words.placed_inside part.tagged span t) t part.tagged) → Spelled (part_kind first part) (part_text first part t) → (s : State) → AtRest s → Lays (token_of (part_kind first part) (spelling (part_kind first part) (part_text first part t)) ∷ []) s (run (all_steps first part h.steps (part_text first part t)) s)
 unfolding owns tokens_of run part_text
 part_lays env first part span t h p s r =
     let text : List ℕ = part_text first part t in
+    let kind : Kind = part_kind first part in
     let there : State = put (Guard (part_begin first)) s in
-    lays_guarded ((part_kind first part, text) ∷ []) text (part_begin first) s (run (begin_steps first ++ (h.steps ++ (Ends ((part_kind first part, text) ∷ []) (Punct None (part_end part)) ∷ []))) there) (spelled_one (part_kind first part) text p) (part_class first (t ++ part_end part)) r (part_adds first part span t h text there) (part_last first part span t h text there)
+    let b : State = run (begin_steps first ++ (h.steps ++ (Ends ((kind, text) ∷ []) (Punct None (part_end part)) ∷ []))) there in
+    let before = lays_guard (part_begin first) s r in
+    let f = alike_fuses there.last (chars text) (chars (part_begin first)) (part_class first (t ++ part_end part)) (after_guard (part_begin first) s) in
+    lays_then [] (token_of kind (spelling kind text) ∷ []) s there b before
+    (begun_lays first part t there b (spelled_one kind text p) f before.rest (part_adds first part span t h text there) (part_last first part span t h text there))
 
 begin_silent : (first : Bool) → takes_none (begin_steps first) ≡ true
 unfolding begin_steps takes_none

@@ -1,19 +1,20 @@
 -- Texts of several tokens, and tokens of several calls.
-use Rattle.std.proofs.Common.{◌≡◌, ℕ, Bool, true, false, cond, ◌&&◌, List, [], ◌∷◌, ◌++◌, Option, None, codes, refl, sym, ap, ◌∙◌, subst, append_assoc, append-nil}
+use Rattle.std.proofs.Common.{◌≡◌, ℕ, Bool, true, false, cond, ◌&&◌, List, [], ◌∷◌, ◌++◌, Option, None, codes, refl, sym, ap, ◌∙◌, subst, append_assoc, append-nil, inl, inr}
 use Rattle.std.specs.List.{repeat}
 use Rattle.std.specs.Str.{chars, is_utf8, IsUtf8}
 use Rattle.std.proofs.lemmas.Bool.{true≢false}
 use Rattle.std.proofs.lemmas.Str.{chars-append, IsUtf8-append}
 use Rattle.swc_ecma_codegen_common.specs.declared.positions.Span.{Span}
 use Rattle.swc_ecma_codegen_ast.specs.declared.kinds.Kind.{Kind}
-use Rattle.swc_ecma_codegen_ast.specs.declared.kinds.Kind.TheVariants.{Punctuator}
+use Rattle.swc_ecma_codegen_ast.specs.declared.kinds.Kind.TheVariants.{Punctuator, Ending}
 use Rattle.swc_ecma_codegen_ast.specs.Texts.{begins, is_same, is_among}
 use Rattle.swc_ecma_codegen_ast.specs.Punctuators.{is_punctuator, punctuators}
 use Rattle.swc_ecma_codegen_ast.specs.Trivia.{pieces_text, remarks_of}
 use Rattle.swc_ecma_codegen_ast.specs.GapRules.{Last, Start, Apart, Mark, fuses, allows, last_after, mark_after}
 use Rattle.swc_ecma_codegen_ast.specs.Parts as parts
-use Rattle.swc_ecma_codegen_ast.specs.Parts.{Gap, Own, tokens_of, remarks_in, NoneFuse}
-use Rattle.swc_ecma_codegen_text_writer.specs.Sheet.{Sheet, holds_semicolons, recorded, written, literal_written}
+use Rattle.swc_ecma_codegen_ast.specs.Parts.{Gap, Own, tokens_of, remarks_in, IsEnding, NoneFuse, Reduced}
+use Rattle.swc_ecma_codegen_ast.proofs.Dropped.{reduced_after}
+use Rattle.swc_ecma_codegen_text_writer.specs.Sheet.{Sheet, Semicolons, HoldsNone, HoldsOne, holds_semicolons, recorded, written, literal_written}
 use Rattle.swc_ecma_codegen_text_writer.proofs.Sheets.{written_same}
 use Rattle.swc_ecma_codegen_base.specs.Run.{State, spelling, after_token, after_tokens}
 use Rattle.swc_ecma_codegen_base.specs.Written.{IsLineEnd, all_indent, is_free, holds_one, AtRest}
@@ -22,7 +23,8 @@ use Rattle.swc_ecma_codegen_base.proofs.Held.{front, front_of, recorded_keeps, w
 use Rattle.swc_ecma_codegen_base.proofs.Indented.{indent_repeat, indent_utf8, indent_chars, blanks, blanks_text, blanks_remarks}
 use Rattle.swc_ecma_codegen_base.proofs.Strangers.{dash_same}
 use Rattle.swc_ecma_codegen_base.proofs.Shapes.{whole, Fits, fits_indent, fits_then, fits_own as fits_one_own}
-use Rattle.swc_ecma_codegen_base.proofs.Written.{Lays, Spelled, spelled_mark, laid_out, front_indent, apart_open, mark_allows, free_last, own_fits}
+use Rattle.swc_ecma_codegen_base.proofs.Laid.{held_of, Lays, laid_out}
+use Rattle.swc_ecma_codegen_base.proofs.Written.{Spelled, spelled_mark, front_indent, apart_open, mark_allows, free_last, own_fits}
 
 -- ---- what calls add to a sheet
 
@@ -183,4 +185,45 @@ lays_texts xs t s b p f o r h last =
         allowed = λ u. ap (λ k. allows k u) last ∙ p.allowed s.last u;
       };
       fits = λ e. fits_texts (front s.sheet) xs t i p;
+    }
+
+fits_some : (xs : List (Kind × List ℕ)) (t : List ℕ) → SpelledAs xs t → Fits whole (owns xs)
+fits_some [] t p = absurd (no_tokens t p)
+fits_some (x ∷ xs) t p = fits_owns x xs
+
+-- it is lost: tokens stand where it would
+lost_reduces : (x : Semicolons) {span : Option Span} → HoldsOne span ≡ x → (u : List ℕ) (out xs ys : List parts.Part) (s : Sheet) → u ≡ front s → IsEnding (out ++ xs) → Reduced xs ys → Reduced (held_of (holds_one x) s ++ (out ++ xs)) (Gap (blanks u) ∷ (out ++ ys))
+unfolding holds_one Reduced
+lost_reduces x {span} e u out xs ys s f n r =
+    subst (λ z. Reduced (held_of (holds_one z) s ++ (out ++ xs)) (Gap (blanks u) ∷ (out ++ ys))) e
+    (subst (λ z. Reduced (Gap (blanks z) ∷ Own Ending (codes ";") ∷ (out ++ xs)) (Gap (blanks u) ∷ (out ++ ys))) f
+    (inl (out ++ ys, refl, inr (refl, n, reduced_after out xs ys r))))
+
+-- tokens of a text that was added in place of a semicolon that was held back
+pub lost_texts : {span : Option Span} (xs : List (Kind × List ℕ)) (t : List ℕ) (s b : State) → HoldsOne span ≡ s.sheet.semicolons → ((more : List parts.Part) → IsEnding (owns xs ++ more)) → SpelledAs xs t → fuses s.last (chars t) ≡ false → AtRest s → Adds t (record s.sheet { semicolons = HoldsNone }) b.sheet → b.last ≡ after_tokens xs s.last → Lays (tokens_of (owns xs)) s b
+unfolding tokens_of remarks_in parts.text_of holds_one
+lost_texts xs t s b e ending p f r h last =
+    let there : Sheet = record s.sheet { semicolons = HoldsNone } in
+    let i = front_indent there r.indent_text in
+    let none : holds_one b.sheet.semicolons ≡ false = ap holds_one h.semicolons in
+    record {
+      out = owns xs;
+      laid = Gap (blanks (front there)) ∷ owns xs;
+      bytes = front there ++ t;
+      text = h.text;
+      utf8 = IsUtf8-append (front there) t (indent_utf8 _ i) p.utf8;
+      spells = chars-append (front there) t (indent_utf8 _ i) ∙ ap (λ z. z ++ chars t) (indent_chars _ i ∙ sym (blanks_text (front there))) ∙ ap (λ z. pieces_text (blanks (front there)) ++ z) p.same;
+      tokens = refl;
+      remarks = ap (λ z. remarks_of (blanks (front there)) ++ z) (owns_remarks xs) ∙ append-nil (remarks_of (blanks (front there))) ∙ blanks_remarks _;
+      apart = λ k more n. p.fits s.last more f r.allowed (subst (λ z. NoneFuse z more) last n);
+      reduces = λ more ys d. lost_reduces s.sheet.semicolons e (front there) (owns xs) more ys s.sheet refl (ending more) (subst (λ z. Reduced (held_of z b.sheet ++ more) ys) none d);
+      holds = ap holds_semicolons h.semicolons ∙ ap holds_semicolons e;
+      whole = λ w. absurd (true≢false (ap holds_semicolons e ∙ w));
+      rest = record {
+        indent_text = subst (λ z. all_indent z ≡ true) (sym h.indent_text) r.indent_text;
+        line_end = subst (λ z. IsLineEnd z) (sym h.line_end) r.line_end;
+        free = λ o k. absurd (true≢false (sym k ∙ h.in_line));
+        allowed = λ u. ap (λ k. allows k u) last ∙ p.allowed s.last u;
+      };
+      fits = λ k. fits_some xs t p;
     }

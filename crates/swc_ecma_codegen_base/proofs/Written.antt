@@ -1,23 +1,22 @@
 -- What steps write: tokens, and blanks between them.
-use Rattle.std.proofs.Common.{◌≡◌, ◌⊎◌, ℕ, Bool, true, false, cond, List, [], ◌∷◌, ◌++◌, Option, None, codes, refl, sym, ap, ◌∙◌, subst, append_assoc, append-nil, inl, inr, ◌==◌, ◌||◌, ◌&&◌}
+use Rattle.std.proofs.Common.{◌≡◌, ℕ, Bool, true, false, cond, List, [], ◌∷◌, ◌++◌, Option, None, codes, refl, sym, ap, ◌∙◌, subst, append_assoc, append-nil, inl, inr, ◌==◌, ◌||◌}
 use Rattle.std.specs.List.{repeat}
 use Rattle.std.specs.Str.{chars, is_utf8, IsUtf8}
-use Rattle.std.proofs.lemmas.Bool.{and_parts, eqb-true, or_cases, true≢false}
+use Rattle.std.proofs.lemmas.Bool.{eqb-true, or_cases, true≢false}
 use Rattle.std.proofs.lemmas.Str.{chars-nil, chars-append, IsUtf8-nil, IsUtf8-append, IsUtf8-from_is_utf8}
 use Rattle.swc_ecma_codegen_ast.specs.declared.kinds.Kind.{Kind}
-use Rattle.swc_ecma_codegen_ast.specs.declared.kinds.Kind.TheVariants.{Word, Name, Punctuator, Ending}
+use Rattle.swc_ecma_codegen_ast.specs.declared.kinds.Kind.TheVariants.{Word, Name, Punctuator, Ending, Close}
 use Rattle.swc_ecma_codegen_ast.specs.Tokens as lexical
 use Rattle.swc_ecma_codegen_ast.specs.Tokens.{has_shape, token_of}
 use Rattle.swc_ecma_codegen_ast.specs.Names.{is_word, is_name, name_rest}
 use Rattle.swc_ecma_codegen_ast.specs.Punctuators.{is_punctuator, punctuators}
 use Rattle.swc_ecma_codegen_ast.specs.Texts.{begins, is_same, is_among}
 use Rattle.swc_ecma_codegen_ast.specs.Chars.{is_blank}
-use Rattle.swc_ecma_codegen_ast.specs.Comments.{all_tame, is_tame}
 use Rattle.swc_ecma_codegen_ast.specs.Trivia.{Remark, Blank, is_piece, piece_text, pieces_text, all_pieces, remarks_of}
 use Rattle.swc_ecma_codegen_ast.specs.Reads.{is_child, is_hashbang_kind}
 use Rattle.swc_ecma_codegen_ast.specs.GapRules.{Last, Start, Apart, Mark, LessBang, fuses, allows, mark_after, last_after, last_after_gap}
 use Rattle.swc_ecma_codegen_ast.specs.Parts as parts
-use Rattle.swc_ecma_codegen_ast.specs.Parts.{Gap, Own, Joint, tokens_of, remarks_in, NoneFuse}
+use Rattle.swc_ecma_codegen_ast.specs.Parts.{Gap, Own, tokens_of, remarks_in, NoneFuse}
 use Rattle.swc_ecma_codegen_ast.proofs.Reading.{blank_fuses}
 use Rattle.swc_ecma_codegen_common.specs.declared.positions.BytePos.{BytePos}
 use Rattle.swc_ecma_codegen_common.specs.declared.positions.Span.{Span}
@@ -25,169 +24,13 @@ use Rattle.swc_ecma_codegen_ast.specs.Parts.{Reduced, IsEnding}
 use Rattle.swc_ecma_codegen_ast.proofs.Dropped.{reduced_after}
 use Rattle.swc_ecma_codegen_text_writer.specs.Sheet.{Sheet, Semicolons, AtOnce, HoldsNone, HoldsOne, holds_semicolons, Space, Line, appended, written, ended, pointed, settled, settled_by, semicolon_by, dropped, before_punct, is_ending, effect}
 use Rattle.swc_ecma_codegen_text_writer.proofs.Sheets.{written_same, pointed_alike, alike_same}
-use Rattle.swc_ecma_codegen_base.specs.Run.{State, Guard, Take, put, spelling}
-use Rattle.swc_ecma_codegen_ast.specs.Comments.{Side}
-use Rattle.swc_ecma_codegen_base.specs.Written.{IsLineEnd, is_indent, all_indent, is_free, holds_one, AtRest}
+use Rattle.swc_ecma_codegen_base.specs.Run.{State, Guard, put, spelling}
+use Rattle.swc_ecma_codegen_base.specs.Written.{IsLineEnd, is_indent, all_indent, is_free, holds_one, AtRest, RestsAt, Spot, InName}
 use Rattle.swc_ecma_codegen_base.proofs.Held.{front_of, front, written_text, in_line, written_semicolons, pointed_keeps, settled_none}
 use Rattle.swc_ecma_codegen_base.proofs.Behind.{apart_alone, same_after, free_apart, after_indent, in_a_line, blank_apart}
-use Rattle.swc_ecma_codegen_base.proofs.Appended.{text_append, tokens_append, remarks_append}
-use Rattle.swc_ecma_codegen_base.proofs.Shapes.{Shape, whole, open_, loose, joining, joined, join, is_within, within_stands, Fits, fits_then, fits_wider, fits_nothing, fits_joint, fits_own, fits_indent, fits_text, fits_end}
+use Rattle.swc_ecma_codegen_base.proofs.Shapes.{Shape, whole, open_, loose, joining, joined, join, fits_wider, fits_nothing, fits_own, fits_indent, fits_text, fits_end}
 use Rattle.swc_ecma_codegen_base.proofs.Indented.{indent_append, indent_repeat, indent_utf8, indent_chars, blanks, blanks_text, blanks_remarks}
-
--- what is asked for and isn't out yet: a semicolon that is held back, where it would stand
-abbrev pub held_of : Bool → Sheet → List parts.Part
-held_of b s = cond b (Gap (blanks (front s)) ∷ Own Ending (codes ";") ∷ []) []
-
-abbrev pub held : Sheet → List parts.Part
-held s = held_of (holds_one s.semicolons) s
-
--- Nothing was written, and nothing stands before what is written next.
-pub record IsFirst (s : State) : Type 0 where
-  pub nothing_written : s.last ≡ Start
-  pub nothing_held : holds_one s.sheet.semicolons ≡ false
-  pub at_margin : front s.sheet ≡ []
-
--- parts of a shape may stand here
-abbrev pub Enters : Shape → State → Type 0
-Enters i s = (i.anywhere ≡ true) ⊎ ((i.first ≡ true) × IsFirst s)
-
--- From one state to another these tokens were asked for, with blanks between them: parts in which no two fuse, and which lead
--- no further on lines than their shape says. What went out are the same parts without some semicolons that aren't needed, and
--- without one that is still held back. These comments stand between.
-pub record LaysWith (shape : Shape) (ts : List lexical.Token) (rs : List Remark) (a b : State) : Type 0 where
-  pub out : List parts.Part
-  pub laid : List parts.Part
-  pub bytes : List ℕ
-  pub text : b.sheet.text ≡ a.sheet.text ++ bytes
-  pub utf8 : IsUtf8 bytes
-  pub spells : chars bytes ≡ parts.text_of laid
-  pub tokens : tokens_of out ≡ ts
-  pub remarks : remarks_in laid ≡ rs
-  pub apart : Enters shape a → (more : List parts.Part) → NoneFuse b.last more → NoneFuse a.last (out ++ more)
-  pub reduces : (more ys : List parts.Part) → Reduced (held b.sheet ++ more) ys → Reduced (held a.sheet ++ (out ++ more)) (laid ++ ys)
-  -- a writer that holds nothing back leaves nothing out
-  pub holds : holds_semicolons b.sheet.semicolons ≡ holds_semicolons a.sheet.semicolons
-  pub whole : holds_semicolons a.sheet.semicolons ≡ false → laid ≡ out
-  pub rest : AtRest b
-  -- where no line ends in or after a comment
-  pub fits : all_tame rs ≡ true → Fits shape out
-
--- without comments
-abbrev pub LaysAt : Shape → List lexical.Token → State → State → Type 0
-LaysAt shape ts a b = LaysWith shape ts [] a b
-
--- what begins and ends with a token
-abbrev pub Lays : List lexical.Token → State → State → Type 0
-Lays ts a b = LaysAt whole ts a b
-
--- what may stand first of all, or anywhere, is one after the other where the second may stand anywhere
-pub enters_first : (i j : Shape) (a : State) → Enters (join i j) a → Enters i a
-enters_first i j a (inl e) = inl (and_parts i.anywhere j.anywhere e).0
-enters_first i j a (inr k) = inr ((and_parts i.first j.anywhere k.0).0, k.1)
-
-pub enters_second : (i j : Shape) (a b : State) → Enters (join i j) a → Enters j b
-enters_second i j a b (inl e) = inl (and_parts i.anywhere j.anywhere e).1
-enters_second i j a b (inr k) = inl (and_parts i.first j.anywhere k.0).1
-
-pub enters_wider : (i j : Shape) (a : State) → is_within i j ≡ true → Enters j a → Enters i a
-enters_wider i j a e (inl k) = inl ((within_stands i j e).0 k)
-enters_wider i j a e (inr k) = inr ((within_stands i j e).1 k.0, k.1)
-
-tame_append : (xs ys : List Remark) → all_tame (xs ++ ys) ≡ (all_tame xs && all_tame ys)
-unfolding all_tame
-tame_append [] ys = refl
-tame_append (x ∷ xs) ys = ap (λ z. is_tame x && z) (tame_append xs ys) ∙ and_assoc (is_tame x) (all_tame xs) (all_tame ys)
-  where
-    and_assoc : (a b c : Bool) → (a && (b && c)) ≡ ((a && b) && c)
-    and_assoc true b c = refl
-    and_assoc false b c = refl
-
--- one after the other
-pub lays_then : {i j : Shape} {rs qs : List Remark} (ts us : List lexical.Token) (a b c : State) → LaysWith i ts rs a b → LaysWith j us qs b c → LaysWith (join i j) (ts ++ us) (rs ++ qs) a c
-lays_then {i} {j} {rs} {qs} ts us a b c h k = record {
-  out = h.out ++ k.out;
-  laid = h.laid ++ k.laid;
-  bytes = h.bytes ++ k.bytes;
-  text = k.text ∙ ap (λ z. z ++ k.bytes) h.text ∙ append_assoc a.sheet.text h.bytes k.bytes;
-  utf8 = IsUtf8-append h.bytes k.bytes h.utf8 k.utf8;
-  spells = chars-append h.bytes k.bytes h.utf8 ∙ ap (λ z. z ++ chars k.bytes) h.spells ∙ ap (λ z. parts.text_of h.laid ++ z) k.spells ∙ sym (text_append h.laid k.laid);
-  tokens = tokens_append h.out k.out ∙ ap (λ z. z ++ tokens_of k.out) h.tokens ∙ ap (λ z. ts ++ z) k.tokens;
-  remarks = remarks_append h.laid k.laid ∙ ap (λ z. z ++ remarks_in k.laid) h.remarks ∙ ap (λ z. rs ++ z) k.remarks;
-  apart = λ e more n. subst (λ z. NoneFuse a.last z) (sym (append_assoc h.out k.out more)) (h.apart (enters_first i j a e) (k.out ++ more) (k.apart (enters_second i j a b e) more n));
-  reduces = λ more ys r.
-      subst (λ z. Reduced (held a.sheet ++ z) ((h.laid ++ k.laid) ++ ys)) (sym (append_assoc h.out k.out more))
-      (subst (λ z. Reduced (held a.sheet ++ (h.out ++ (k.out ++ more))) z) (sym (append_assoc h.laid k.laid ys)) (h.reduces (k.out ++ more) (k.laid ++ ys) (k.reduces more ys r)));
-  holds = k.holds ∙ h.holds;
-  whole = λ e. ap (λ z. z ++ k.laid) (h.whole e) ∙ ap (λ z. h.out ++ z) (k.whole (h.holds ∙ e));
-  rest = k.rest;
-  fits = λ t. let p = and_parts (all_tame rs) (all_tame qs) (sym (tame_append rs qs) ∙ t) in fits_then h.out k.out (h.fits p.0) (k.fits p.1);
-}
-
--- what leads less far
-pub lays_wider : {i : Shape} (j : Shape) {ts : List lexical.Token} {rs : List Remark} {a b : State} → is_within i j ≡ true → LaysWith i ts rs a b → LaysWith j ts rs a b
-lays_wider {i} j {a = a} e h = record { out = h.out; laid = h.laid; bytes = h.bytes; text = h.text; utf8 = h.utf8; spells = h.spells; tokens = h.tokens; remarks = h.remarks; apart = λ k. h.apart (enters_wider i j a e k); reduces = h.reduces; holds = h.holds; whole = h.whole; rest = h.rest; fits = λ t. fits_wider j e (h.fits t) }
-
--- the parts that are asked for go out, where no semicolon is held back
-pub laid_out : (a b : State) (out more ys : List parts.Part) → holds_one a.sheet.semicolons ≡ false → holds_one b.sheet.semicolons ≡ false → Reduced (held b.sheet ++ more) ys → Reduced (held a.sheet ++ (out ++ more)) (out ++ ys)
-laid_out a b out more ys h k r =
-    subst (λ z. Reduced (held_of z a.sheet ++ (out ++ more)) (out ++ ys)) (sym h) (reduced_after out more ys (subst (λ z. Reduced (held_of z b.sheet ++ more) ys) k r))
-
--- nothing, where nothing that matters changes
-lays_same : (a b : State) → b.sheet.text ≡ a.sheet.text → b.last ≡ a.last → held b.sheet ≡ held a.sheet → holds_semicolons b.sheet.semicolons ≡ holds_semicolons a.sheet.semicolons → AtRest b → LaysAt open_ [] a b
-unfolding parts.text_of tokens_of remarks_in
-lays_same a b t l h o r = record {
-  out = [];
-  laid = [];
-  bytes = [];
-  text = t ∙ sym (append-nil a.sheet.text);
-  utf8 = IsUtf8-nil;
-  spells = chars-nil;
-  tokens = refl;
-  remarks = refl;
-  apart = λ e more n. subst (λ k. NoneFuse k more) l n;
-  reduces = λ more ys d. subst (λ z. Reduced (z ++ more) ys) h d;
-  holds = o;
-  whole = λ e. refl;
-  rest = r;
-  fits = λ t. fits_nothing;
-}
-
-pub lays_nothing : (s : State) → AtRest s → LaysAt open_ [] s s
-lays_nothing s r = lays_same s s refl refl refl refl r
-
--- comments are taken out of the maps: nothing that matters here changes
-pub rest_taken : (side : Side) (at : ℕ) (s : State) → AtRest s → AtRest (put (Take side at) s)
-unfolding put
-rest_taken side at s r = record { indent_text = r.indent_text; line_end = r.line_end; free = r.free; allowed = r.allowed }
-
-enters_taken : (i : Shape) (side : Side) (at : ℕ) (s : State) → Enters i s → Enters i (put (Take side at) s)
-unfolding put
-enters_taken i side at s (inl e) = inl e
-enters_taken i side at s (inr k) = inr (k.0, record { nothing_written = k.1.nothing_written; nothing_held = k.1.nothing_held; at_margin = k.1.at_margin })
-
-pub lays_taken : {i : Shape} {rs : List Remark} {ts : List lexical.Token} (side : Side) (at : ℕ) (s b : State) → LaysWith i ts rs (put (Take side at) s) b → LaysWith i ts rs s b
-unfolding put
-lays_taken {i} side at s b h = record { out = h.out; laid = h.laid; bytes = h.bytes; text = h.text; utf8 = h.utf8; spells = h.spells; tokens = h.tokens; remarks = h.remarks; apart = λ e. h.apart (enters_taken i side at s e); reduces = h.reduces; holds = h.holds; whole = h.whole; rest = h.rest; fits = h.fits }
-
--- `[no LineTerminator here]`, where no semicolon is held back
-pub lays_joint : (s : State) → holds_one s.sheet.semicolons ≡ false → AtRest s → LaysAt joining (lexical.same_line ∷ []) s s
-unfolding parts.text_of tokens_of remarks_in NoneFuse
-lays_joint s o r = record {
-  out = Joint ∷ [];
-  laid = Joint ∷ [];
-  bytes = [];
-  text = sym (append-nil s.sheet.text);
-  utf8 = IsUtf8-nil;
-  spells = chars-nil;
-  tokens = refl;
-  remarks = refl;
-  apart = λ e more n. n;
-  reduces = λ more ys d. laid_out s s (Joint ∷ []) more ys o o d;
-  holds = refl;
-  whole = λ e. refl;
-  rest = r;
-  fits = λ t. fits_joint;
-}
+use Rattle.swc_ecma_codegen_base.proofs.Laid.{held_of, held, Enters, LaysTo, LaysAt, Lays, lays_then, laid_out, lays_same, lays_nothing, lays_joint}
 
 -- ---- texts, and the indentation at a line's start
 
@@ -195,7 +38,7 @@ pub front_indent : (s : Sheet) → all_indent s.indent_text ≡ true → all_ind
 unfolding all_indent
 front_indent s h = elim s.at_line_start as (λ b. all_indent (front_of b s) ≡ true) [ true ↦ indent_repeat s.indentation s.indent_text h | false ↦ refl ]
 
-at_text : (span : Option Span) (c : ℕ) (cs : List ℕ) (s : State) (k : Last) → ((t : List ℕ) → allows k t ≡ true) → all_indent s.sheet.indent_text ≡ true → IsLineEnd s.sheet.line_end → AtRest (record s { sheet = written span (c ∷ cs) s.sheet; last = k })
+pub at_text : (span : Option Span) (c : ℕ) (cs : List ℕ) (s : State) (k : Last) → ((t : List ℕ) → allows k t ≡ true) → all_indent s.sheet.indent_text ≡ true → IsLineEnd s.sheet.line_end → AtRest (record s { sheet = written span (c ∷ cs) s.sheet; last = k })
 at_text span c cs s k h i l = record {
   indent_text = subst (λ z. all_indent z ≡ true) (sym (written_same span (c ∷ cs) s.sheet).indent_text) i;
   line_end = subst (λ z. IsLineEnd z) (sym (written_same span (c ∷ cs) s.sheet).line_end) l;
@@ -204,10 +47,10 @@ at_text span c cs s k h i l = record {
 }
 
 -- nothing is held before a text, nor after it
-still_none : (span : Option Span) (t : List ℕ) (s : Sheet) → holds_one s.semicolons ≡ false → holds_one (written span t s).semicolons ≡ false
+pub still_none : (span : Option Span) (t : List ℕ) (s : Sheet) → holds_one s.semicolons ≡ false → holds_one (written span t s).semicolons ≡ false
 still_none span t s h = ap holds_one (written_semicolons span t s) ∙ h
 
-still_holds : (span : Option Span) (t : List ℕ) (s : Sheet) → holds_semicolons (written span t s).semicolons ≡ holds_semicolons s.semicolons
+pub still_holds : (span : Option Span) (t : List ℕ) (s : Sheet) → holds_semicolons (written span t s).semicolons ≡ holds_semicolons s.semicolons
 still_holds span t s = ap holds_semicolons (written_semicolons span t s)
 
 -- ---- a semicolon that is held back goes out
@@ -232,6 +75,22 @@ settled_at (HoldsOne span) s e r = record {
 pub settle_rest : (s : State) → AtRest s → AtRest (settle s)
 unfolding settle_by
 settle_rest s r = settled_at s.sheet.semicolons s refl r
+
+named_at : (x : Semicolons) (s : State) → x ≡ s.sheet.semicolons → RestsAt InName s → RestsAt InName (settle_by x s)
+unfolding settled_by settle_by
+named_at AtOnce s e r = r
+named_at HoldsNone s e r = r
+named_at (HoldsOne span) s e r = record {
+  indent_text = subst (λ z. all_indent z ≡ true) (sym (written_same span (codes ";") (record s.sheet { semicolons = HoldsNone })).indent_text) r.indent_text;
+  line_end = subst (λ z. IsLineEnd z) (sym (written_same span (codes ";") (record s.sheet { semicolons = HoldsNone })).line_end) r.line_end;
+  free = λ o e. absurd (true≢false (sym e ∙ in_line span 59 [] (record s.sheet { semicolons = HoldsNone })));
+  allowed = r.allowed;
+}
+
+-- the same behind a name in a tag
+pub settle_named : (s : State) → RestsAt InName s → RestsAt InName (settle s)
+unfolding settle_by
+settle_named s r = named_at s.sheet.semicolons s refl r
 
 semicolon_gap : List ℕ → List parts.Part
 semicolon_gap u = Gap (blanks u) ∷ Own Ending (codes ";") ∷ []
@@ -269,7 +128,7 @@ settled_enters i s b e (inl k) = inl k
 settled_enters i s b e (inr k) = absurd (true≢false (ap holds_one e ∙ k.1.nothing_held))
 
 -- it stands before what is laid from there
-settles : {i : Shape} {rs : List Remark} (x : Semicolons) (s b : State) (ts : List lexical.Token) → x ≡ s.sheet.semicolons → AtRest s → LaysWith i ts rs (settle_by x s) b → LaysWith i ts rs s b
+settles : {i : Shape} {rs : List Remark} {v w : Spot} (x : Semicolons) (s b : State) (ts : List lexical.Token) → x ≡ s.sheet.semicolons → RestsAt v s → LaysTo w i ts rs (settle_by x s) b → LaysTo w i ts rs s b
 unfolding settle_by settled_by holds_one semicolon_gap
 settles AtOnce s b ts e r l = l
 settles HoldsNone s b ts e r l = l
@@ -296,7 +155,7 @@ settles {i} (HoldsOne span) s b ts e r l =
       fits = l.fits;
     }
 
-pub lays_settled : {i : Shape} {rs : List Remark} (s b : State) (ts : List lexical.Token) → AtRest s → LaysWith i ts rs (settle s) b → LaysWith i ts rs s b
+pub lays_settled : {i : Shape} {rs : List Remark} {v w : Spot} (s b : State) (ts : List lexical.Token) → RestsAt v s → LaysTo w i ts rs (settle s) b → LaysTo w i ts rs s b
 unfolding settle_by
 lays_settled s b ts r l = settles s.sheet.semicolons s b ts refl r l
 
@@ -503,6 +362,18 @@ spelled_ending = record {
   no_child = λ e. true≢false (sym e);
   no_hashbang = λ e. true≢false (sym e);
   allowed = λ k v. mark_allows k (codes ";") v;
+  some = λ e. cc;
+}
+
+pub spelled_close : Spelled Close (codes ">")
+unfolding spelling has_shape is_child is_hashbang_kind last_after allows is_same chars is_utf8 lib.Utf8.encode
+spelled_close = record {
+  utf8 = IsUtf8-from_is_utf8 (codes ">") refl;
+  same = refl;
+  shape = refl;
+  no_child = λ e. true≢false (sym e);
+  no_hashbang = λ e. true≢false (sym e);
+  allowed = λ k v. refl;
   some = λ e. cc;
 }
 
@@ -778,7 +649,7 @@ lays_semi span s r =
     lays_then [] (token_of Ending (spelling Ending (codes ";")) ∷ []) s (put (Guard (codes ";")) s) (semi_put span (put (Guard (codes ";")) s)) g (lays_semi_own span (put (Guard (codes ";")) s) (after_guard (codes ";") s) g.rest)
 
 -- a token, and `[no LineTerminator here]`
-own_none : (kind : Kind) (span : Option Span) (t : List ℕ) (s : State) → holds_one (own_put kind span t s).sheet.semicolons ≡ false
+pub own_none : (kind : Kind) (span : Option Span) (t : List ℕ) (s : State) → holds_one (own_put kind span t s).sheet.semicolons ≡ false
 unfolding own_put
 own_none kind span t s = still_none span t (settled s.sheet) (settled_none s.sheet)
 

@@ -1,9 +1,9 @@
 -- Which texts are ASCII where the settings ask for that, and which stand as they are in the tree.
-use Rattle.std.specs.Prelude.{◌≡◌, ℕ, Bool, true, false, not, ◌&&◌, ◌||◌, List, [], ◌∷◌, ◌++◌, codes, Option, Some, None}
+use Rattle.std.specs.Prelude.{◌≡◌, ℕ, Bool, true, false, not, ◌&&◌, ◌||◌, if◌then◌else◌, List, [], ◌∷◌, ◌++◌, codes, Option, Some, None}
 use Rattle.std.specs.Str.{chars}
 use Rattle.swc_ecma_codegen_ast.specs.declared.kinds.Kind.{Kind}
 use Rattle.swc_ecma_codegen_ast.specs.declared.kinds.Kind.TheVariants as kinds
-use Rattle.swc_ecma_codegen_ast.specs.Phrases.{Phrase, Never, Nothing, One, NameOf, KeyOf, PrivateOf, Then, OptionalComma, OptionalParentheses, Chosen}
+use Rattle.swc_ecma_codegen_ast.specs.Phrases.{Phrase, Never, Nothing, One, NameOf, KeyOf, PrivateOf, Then, CommaBefore, OptionalParentheses, Chosen}
 use Rattle.swc_ecma_codegen_ast.specs.Reads.{is_hashbang_kind}
 use Rattle.swc_ecma_codegen_ast.specs.StringValues.{string_value}
 use Rattle.swc_ecma_codegen_ast.specs.Texts.{is_same}
@@ -73,6 +73,32 @@ are_ascii (Remake due ∷ xs) = are_ascii xs
 are_ascii (Take side at ∷ xs) = are_ascii xs
 are_ascii (CommentText t ∷ xs) = are_ascii xs
 
+-- each of them hands ASCII over, or a text that stands as it is; of comments nothing is said
+unfoldable pub are_ascii_or_kept : List Step → Bool
+are_ascii_or_kept [] = true
+are_ascii_or_kept (Guard t ∷ xs) = are_ascii_or_kept xs
+are_ascii_or_kept (Token kind x ∷ xs) = (is_ascii_text (text_of x) || is_kept x) && are_ascii_or_kept xs
+are_ascii_or_kept (Plain x ∷ xs) = (is_ascii_text (text_of x) || is_kept_piece x) && are_ascii_or_kept xs
+are_ascii_or_kept (Ends tokens x ∷ xs) = (is_ascii_text (text_of x) || is_kept_end tokens x) && are_ascii_or_kept xs
+are_ascii_or_kept (Remake due ∷ xs) = are_ascii_or_kept xs
+are_ascii_or_kept (Take side at ∷ xs) = are_ascii_or_kept xs
+are_ascii_or_kept (CommentText t ∷ xs) = are_ascii_or_kept xs
+
+-- a text before others, where it is one of them
+abbrev pub text_if : Bool → List ℕ → List (List ℕ)
+text_if b t = if b then t ∷ [] else []
+
+-- The texts of these steps that stand as they are in the tree and aren't ASCII, and those of comments, in order.
+unfoldable pub other_texts : List Step → List (List ℕ)
+other_texts [] = []
+other_texts (Guard t ∷ xs) = other_texts xs
+other_texts (Token kind x ∷ xs) = text_if (is_other x) (text_of x) ++ other_texts xs
+other_texts (Plain x ∷ xs) = text_if (is_other_piece x) (text_of x) ++ other_texts xs
+other_texts (Ends tokens x ∷ xs) = text_if (is_other_end tokens x) (text_of x) ++ other_texts xs
+other_texts (Remake due ∷ xs) = other_texts xs
+other_texts (Take side at ∷ xs) = other_texts xs
+other_texts (CommentText t ∷ xs) = t ∷ other_texts xs
+
 -- a token that may stand as it is in the tree, and not in ASCII: a regular expression, a part of a template with a tag, a hashbang, or a
 -- string that may be a directive
 unfoldable pub is_other_value : Kind → Value → Bool
@@ -96,7 +122,7 @@ may_keep_other (NameOf at bytes) = false
 may_keep_other (KeyOf at bytes) = false
 may_keep_other (PrivateOf bytes) = false
 may_keep_other (Then a b) = may_keep_other a || may_keep_other b
-may_keep_other OptionalComma = false
+may_keep_other (CommaBefore close) = false
 may_keep_other (OptionalParentheses a) = may_keep_other a
 may_keep_other (Chosen choice) = false
 
@@ -113,8 +139,8 @@ unfoldable pub IsAsciiBut : List (List ℕ) → List ℕ → Type 0
 IsAsciiBut [] t = is_ascii_text t ≡ true
 IsAsciiBut (c ∷ cs) t = (before rest : List ℕ) × (t ≡ before ++ (c ++ rest)) × (is_ascii_text before ≡ true) × IsAsciiBut cs rest
 
--- what a text is longer by is ASCII, save the texts of comments
-pub record AddsAscii (comments : List (List ℕ)) (old new : List ℕ) : Type 0 where
+-- what a text is longer by is ASCII, save these texts
+pub record AddsAscii (others : List (List ℕ)) (old new : List ℕ) : Type 0 where
   pub added : List ℕ
   pub is_added : new ≡ old ++ added
-  pub ascii : IsAsciiBut comments added
+  pub ascii : IsAsciiBut others added

@@ -4,10 +4,6 @@ use Rattle.swc_ecma_codegen_ast.specs.Settings.{is_up_to_es5}
 use Rattle.swc_ecma_codegen_base.specs.Run.{Part, when_minified, no_part}
 use Rattle.swc_ecma_codegen_base.specs.Words.{keyword, punct, semi}
 
--- a comma or none: `[a,] = b`, `[a] = b`
-unfoldable pub optional_comma : Bool → Part
-optional_comma there rest = if there then punct (codes ",") rest else rest
-
 -- a part in parentheses or bare: `(a) => b`, `a => b`
 unfoldable pub optional_parentheses : Bool → Part → Part
 optional_parentheses there part rest = if there then punct (codes "(") (part (punct (codes ")") rest)) else part rest

@@ -1,6 +1,6 @@
 -- What of a tree may take memory.
 use Rattle.std.specs.Prelude.{Bool, true, false, not, ◌||◌}
-use Rattle.swc_ecma_codegen_ast.specs.Phrases.{Phrase, Never, Nothing, One, NameOf, KeyOf, PrivateOf, Then, OptionalComma, OptionalParentheses, Chosen}
+use Rattle.swc_ecma_codegen_ast.specs.Phrases.{Phrase, Never, Nothing, One, NameOf, KeyOf, PrivateOf, Then, CommaBefore, OptionalParentheses, Chosen}
 use Rattle.swc_ecma_codegen_ast.specs.declared.kinds.Kind.{Kind}
 use Rattle.swc_ecma_codegen_ast.specs.declared.kinds.Kind.TheVariants.{Number, BigInt, Str, Template, TemplateRest}
 use Rattle.swc_ecma_codegen_ast.specs.ValidNames.{turned}
@@ -28,6 +28,6 @@ may_make_text config (NameOf at bytes) = has_backslash bytes || wants_escapes co
 may_make_text config (KeyOf at bytes) = has_backslash bytes || wants_escapes config (turned bytes)
 may_make_text config (PrivateOf bytes) = has_backslash bytes || wants_escapes config (turned bytes)
 may_make_text config (Then a b) = may_make_text config a || may_make_text config b
-may_make_text config OptionalComma = true
+may_make_text config (CommaBefore close) = true
 may_make_text config (OptionalParentheses a) = may_make_text config a
 may_make_text config (Chosen choice) = false

@@ -17,6 +17,8 @@ last_at (last.Mark p) = rules.Mark (spelling p)
 last_at last.LessBang = rules.LessBang
 last_at last.Closing = rules.Whole
 last_at last.Whole = rules.Whole
+last_at last.TextEnd = rules.TextEnd
+last_at last.TagNameEnd = rules.TagNameEnd
 last_at last.LineEnd = rules.LineEnd
 
 unfoldable pub class_of : Last → TokenClass
@@ -28,6 +30,8 @@ class_of (last.Mark p) = class.Punctuator p
 class_of last.LessBang = class.LessBang
 class_of last.Closing = class.Closing
 class_of last.Whole = class.Rest
+class_of last.TextEnd = class.Rest
+class_of last.TagNameEnd = class.Word
 class_of last.LineEnd = class.Rest
 
 -- the last token after a punctuator that nothing parts from one of a class

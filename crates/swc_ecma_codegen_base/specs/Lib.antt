@@ -2,6 +2,8 @@ pub mod Run
 pub mod Settings
 pub mod Targets
 pub mod Words
+pub mod Tags
+pub mod Adds
 pub mod Choices
 pub mod Keys
 pub mod Literals

@@ -5,7 +5,7 @@ use Rattle.std.specs.Str.{chars}
 use Rattle.swc_ecma_codegen_ast.specs.Endings.{IsReduced}
 use Rattle.swc_ecma_codegen_ast.specs.Keys.{key_token}
 use Rattle.swc_ecma_codegen_ast.specs.Names.{name_value}
-use Rattle.swc_ecma_codegen_ast.specs.Phrases.{PlacedName, Phrase, Never, Nothing, One, NameOf, KeyOf, PrivateOf, Then, OptionalComma, OptionalParentheses, Chosen, chosen, comma, open_parenthesis, in_parentheses}
+use Rattle.swc_ecma_codegen_ast.specs.Phrases.{PlacedName, Phrase, Never, Nothing, One, NameOf, KeyOf, PrivateOf, Then, CommaBefore, OptionalParentheses, Chosen, chosen, closing_token, comma, open_parenthesis, in_parentheses}
 use Rattle.swc_ecma_codegen_ast.specs.Reads.{Reads}
 use Rattle.swc_ecma_codegen_ast.specs.Settings.{Settings}
 use Rattle.swc_ecma_codegen_ast.specs.SpelledNames.{spelled_name}
@@ -64,7 +64,7 @@ EachName holds s behind (NameOf at bytes) ts =
 EachName holds s behind (KeyOf at bytes) ts = (ts ≡ key_token s bytes ∷ []) × holds behind (key_token s bytes) (record { at = at; bytes = bytes; is_key = true })
 EachName holds s behind (PrivateOf bytes) ts = ts ≡ tokens.private_name (name_value (spelled_name bytes)) ∷ []
 EachName holds s behind (Then a b) ts = (us vs : List Token) × EachName holds s behind a us × EachName holds s (behind ++ us) b vs × (ts ≡ us ++ vs)
-EachName holds s behind OptionalComma ts = (ts ≡ []) ⊎ (ts ≡ comma ∷ [])
+EachName holds s behind (CommaBefore close) ts = (ts ≡ closing_token close ∷ []) ⊎ (ts ≡ comma ∷ closing_token close ∷ [])
 EachName holds s behind (OptionalParentheses a) ts = EachName holds s behind a ts ⊎ ((us : List Token) × EachName holds s (behind ++ (open_parenthesis ∷ [])) a us × (ts ≡ in_parentheses us))
 EachName holds s behind (Chosen choice) ts = ts ≡ chosen s choice
 

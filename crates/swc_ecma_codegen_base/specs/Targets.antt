@@ -1,7 +1,7 @@
 -- How names are spelled in ASCII, and which can't be so spelled for a target.
 use Rattle.std.specs.Prelude.{ℕ, Bool, true, false, not, ◌&&◌, ◌||◌, if◌then◌else◌, List}
 use Rattle.std.specs.Str.{chars}
-use Rattle.swc_ecma_codegen_ast.specs.Phrases.{Phrase, Never, Nothing, One, NameOf, KeyOf, PrivateOf, Then, OptionalComma, OptionalParentheses, Chosen, PlacedName}
+use Rattle.swc_ecma_codegen_ast.specs.Phrases.{Phrase, Never, Nothing, One, NameOf, KeyOf, PrivateOf, Then, CommaBefore, OptionalParentheses, Chosen, PlacedName}
 use Rattle.swc_ecma_codegen_ast.specs.ValidNames.{turned}
 use Rattle.swc_ecma_codegen_util.specs.declared.config.Config.{Config}
 use Rattle.swc_ecma_codegen_literals.specs.AsciiNames.{is_ascii_text, is_out_of_target, ascii_name}
@@ -39,6 +39,6 @@ is_out config (NameOf at bytes) = is_out_name config (turned bytes)
 is_out config (KeyOf at bytes) = false
 is_out config (PrivateOf bytes) = is_out_name config (turned bytes)
 is_out config (Then a b) = is_out config a || is_out config b
-is_out config OptionalComma = false
+is_out config (CommaBefore close) = false
 is_out config (OptionalParentheses a) = is_out config a
 is_out config (Chosen choice) = false

@@ -14,7 +14,7 @@ use Rattle.swc_ecma_codegen_literals.specs.AsciiNames.{is_ascii_text}
 use Rattle.swc_ecma_codegen_literals.specs.TemplateTexts.{template_text}
 use Rattle.swc_ecma_codegen_literals.specs.ValidNames.{has_byte}
 use Rattle.swc_ecma_codegen_base.specs.Run.{Part, step, Guard, Plain, Ends, Remake}
-use Rattle.swc_ecma_codegen_base.specs.Words.{commit_pending_semi, start_of, end_of}
+use Rattle.swc_ecma_codegen_base.specs.Words.{start_of, end_of}
 
 -- CR LF and CR as LF
 unfoldable pub with_line_feeds : List ℕ → List ℕ
@@ -44,11 +44,9 @@ inside tagged t rest = if tagged then step (Ends [] (StrLit dummy_span t)) rest 
 unfoldable pub placed_inside : Bool → Span → List ℕ → Part
 placed_inside tagged span t rest = start_of span (inside tagged t (end_of span rest))
 
--- The back quote before the first part, and the `}` before a later one. A semicolon that is held back is no part of it.
+-- the back quote before the first part, and the `}` before a later one
 unfoldable pub opened : Bool → Part
-opened first rest =
-    if first then step (Plain (Punct None (part_begin true))) rest
-    else commit_pending_semi (step (Plain (Punct None (part_begin false))) rest)
+opened first rest = step (Plain (Punct None (part_begin first))) rest
 
 -- `${`, or the back quote, with which it ends
 unfoldable pub closed : Bool → TemplatePart → List ℕ → Part

@@ -53,18 +53,17 @@ const START_CLASSES: usize = StartClass::Rest as usize + 1;
 
 const _: () = prove!(BLANKS.len() == TOKEN_CLASSES);
 
-const _: () = prove!(BLANKS[0].len() == START_CLASSES + 2);
+const _: () = prove!(BLANKS[0].len() == START_CLASSES);
 
 const T: bool = true;
 
 const F: bool = false;
 
 /// The row of a class that nothing fuses with.
-const NONE: [bool; 32] = [F; 32];
+const NONE: [bool; 30] = [F; 30];
 
 /// Whether a blank is due: a row for each class of tokens, in their order, and a column for each class of texts.
-/// Two more columns stand for no class: a row of 32 is found by a shift.
-const BLANKS: [[bool; 32]; 63] = [
+const BLANKS: [[bool; 30]; 63] = [
     // `{`
     NONE,
     // `}`
@@ -80,7 +79,6 @@ const BLANKS: [[bool; 32]; 63] = [
     // `.`
     [
         F, T, T, T, F, F, F, F, F, F, F, F, F, F, F, F, F, F, F, F, F, F, F, F, F, F, F, F, F, F,
-        F, F,
     ],
     // `...`
     NONE,
@@ -91,12 +89,10 @@ const BLANKS: [[bool; 32]; 63] = [
     // `<`
     [
         F, F, F, F, F, F, F, F, F, F, F, F, F, T, F, T, F, F, F, F, F, F, F, F, F, F, F, F, F, F,
-        F, F,
     ],
     // `>`
     [
         F, F, F, F, F, F, F, F, F, F, F, F, F, F, T, T, F, F, F, F, F, F, F, F, F, F, F, F, F, F,
-        F, F,
     ],
     // `<=`
     NONE,
@@ -105,12 +101,10 @@ const BLANKS: [[bool; 32]; 63] = [
     // `==`
     [
         F, F, F, F, F, F, F, F, F, F, F, F, F, F, F, T, F, F, F, F, F, F, F, F, F, F, F, F, F, F,
-        F, F,
     ],
     // `!=`
     [
         F, F, F, F, F, F, F, F, F, F, F, F, F, F, F, T, F, F, F, F, F, F, F, F, F, F, F, F, F, F,
-        F, F,
     ],
     // `===`
     NONE,
@@ -119,98 +113,80 @@ const BLANKS: [[bool; 32]; 63] = [
     // `+`
     [
         F, F, F, F, F, F, F, F, F, F, F, F, F, F, F, T, F, T, F, F, F, F, F, F, F, F, F, F, F, F,
-        F, F,
     ],
     // `-`
     [
         F, F, F, F, T, F, F, F, F, F, F, F, F, F, F, T, F, F, T, F, F, F, F, F, F, F, F, F, F, F,
-        F, F,
     ],
     // `*`
     [
         F, F, F, F, F, F, F, F, F, F, F, F, F, F, F, T, F, F, F, T, F, F, F, F, F, F, F, F, F, F,
-        F, F,
     ],
     // `%`
     [
         F, F, F, F, F, F, F, F, F, F, F, F, F, F, F, T, F, F, F, F, F, F, F, F, F, F, F, F, F, F,
-        F, F,
     ],
     // `**`
     [
         F, F, F, F, F, F, F, F, F, F, F, F, F, F, F, T, F, F, F, F, F, F, F, F, F, F, F, F, F, F,
-        F, F,
     ],
     // `++`
     NONE,
     // `--`
     [
         F, F, F, F, F, F, F, F, F, F, F, F, F, F, T, F, F, F, F, F, F, F, F, F, F, F, F, F, F, F,
-        F, F,
     ],
     // `<<`
     [
         F, F, F, F, F, F, F, F, F, F, F, F, F, F, F, T, F, F, F, F, F, F, F, F, F, F, F, F, F, F,
-        F, F,
     ],
     // `>>`
     [
         F, F, F, F, F, F, F, F, F, F, F, F, F, F, T, T, F, F, F, F, F, F, F, F, F, F, F, F, F, F,
-        F, F,
     ],
     // `>>>`
     [
         F, F, F, F, F, F, F, F, F, F, F, F, F, F, F, T, F, F, F, F, F, F, F, F, F, F, F, F, F, F,
-        F, F,
     ],
     // `&`
     [
         F, F, F, F, F, F, F, F, F, F, F, F, F, F, F, T, F, F, F, F, F, T, F, F, F, F, F, F, F, F,
-        F, F,
     ],
     // `|`
     [
         F, F, F, F, F, F, F, F, F, F, F, F, F, F, F, T, F, F, F, F, F, F, T, F, F, F, F, F, F, F,
-        F, F,
     ],
     // `^`
     [
         F, F, F, F, F, F, F, F, F, F, F, F, F, F, F, T, F, F, F, F, F, F, F, F, F, F, F, F, F, F,
-        F, F,
     ],
     // `!`
     [
         F, F, F, F, F, F, F, F, F, F, F, F, F, F, F, T, F, F, F, F, F, F, F, F, F, F, F, F, F, F,
-        F, F,
     ],
     // `~`
     NONE,
     // `&&`
     [
         F, F, F, F, F, F, F, F, F, F, F, F, F, F, F, T, F, F, F, F, F, F, F, F, F, F, F, F, F, F,
-        F, F,
     ],
     // `||`
     [
         F, F, F, F, F, F, F, F, F, F, F, F, F, F, F, T, F, F, F, F, F, F, F, F, F, F, F, F, F, F,
-        F, F,
     ],
     // `??`
     [
         F, F, F, F, F, F, F, F, F, F, F, F, F, F, F, T, F, F, F, F, F, F, F, F, F, F, F, F, F, F,
-        F, F,
     ],
     // `?`
     [
         F, F, F, T, F, F, F, F, F, F, F, F, F, F, F, F, F, F, F, F, F, F, F, F, F, T, F, F, F, F,
-        F, F,
     ],
     // `:`
     NONE,
     // `=`
     [
         F, F, F, F, F, F, F, F, F, F, F, F, F, F, T, T, F, F, F, F, F, F, F, F, F, F, F, F, F, F,
-        F, F,
     ],
     // `+=`
     NONE,
@@ -245,31 +221,26 @@ const BLANKS: [[bool; 32]; 63] = [
     // `/`
     [
         F, F, F, F, F, F, F, F, F, F, F, F, F, F, F, T, F, F, F, T, F, F, F, F, F, F, F, T, F, F,
-        F, F,
     ],
     // `/=`
     NONE,
     // `?.`
     [
         F, T, F, F, F, F, F, F, F, F, F, F, F, F, F, F, F, F, F, F, F, F, F, F, F, F, F, F, F, F,
-        F, F,
     ],
     // `@`
     NONE,
     // `!` right after `<`
     [
         F, F, F, F, T, F, F, F, F, F, F, F, F, F, F, T, F, F, F, F, F, F, F, F, F, F, F, F, F, F,
-        F, F,
     ],
     // a word
     [
         T, T, F, F, F, F, F, F, F, F, F, F, F, F, F, F, F, F, F, F, F, F, F, F, F, F, F, F, F, F,
-        F, F,
     ],
     // a decimal integer
     [
         T, T, T, T, F, F, F, F, F, F, F, F, F, F, F, F, F, F, F, F, F, F, F, F, F, F, F, F, F, F,
-        F, F,
     ],
     // a closing `>`
     NONE,

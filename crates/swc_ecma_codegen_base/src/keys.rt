@@ -10,6 +10,8 @@ ghost use Rattle.swc_ecma_codegen_base.specs.Keys.{quoted_key, ascii_key, bare_k
 ghost use Rattle.swc_ecma_codegen_ast.specs.Comments.{maps_in};
 ghost use Rattle.swc_ecma_codegen_base.specs.Run.{DoesTaking, Does, step, Token};
 ghost use Rattle.swc_ecma_codegen_base.specs.Targets.{wants_escapes};
+ghost use Rattle.swc_ecma_codegen_ast.specs.Phrases.{KeyOf};
+ghost use Rattle.swc_ecma_codegen_base.specs.Adds.{AddsTaking};
 ghost use Rattle.swc_ecma_codegen_base.specs.View.{state_of};
 
 use crate::LowerEmitter;
@@ -208,6 +210,9 @@ impl LowerEmitter {
         sym: &str,
     ) -> Answer
         ensures items { DoesTaking (key span sym.now) (maps_in C.maps comments.old) (maps_in C.maps comments.new) (state_of cfg.now (W.sheet wr.old) self.old) (state_of cfg.now (W.sheet wr.new) self.new) result }
+        ensures reads { (W.sheet wr.old).keeps_invalid ≡ false →
+            AddsTaking (KeyOf span.lo sym.now) (key span sym.now) (maps_in C.maps comments.old)
+            cfg.now (W.sheet wr.old) self.old (W.sheet wr.new) self.new result }
         ensures level { OnOk result ((W.sheet wr.new).indentation ≡ (W.sheet wr.old).indentation) }
     {
         self.leading_comments(cfg, comments, wr, span.lo)?;

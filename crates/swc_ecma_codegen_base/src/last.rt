@@ -23,6 +23,10 @@ pub enum Last {
     Closing,
     /// Another token that ends by itself.
     Whole,
+    /// Text between tags.
+    TextEnd,
+    /// A name in a tag.
+    TagNameEnd,
     /// A hashbang.
     LineEnd,
 }
@@ -36,8 +40,10 @@ impl Last {
         ensures { result ≡ class_of self }
     {
         match self {
-            Last::Start | Last::Apart | Last::Whole | Last::LineEnd => TokenClass::Rest,
-            Last::WordEnd => TokenClass::Word,
+            Last::Start | Last::Apart | Last::Whole | Last::TextEnd | Last::LineEnd => {
+                TokenClass::Rest
+            }
+            Last::WordEnd | Last::TagNameEnd => TokenClass::Word,
             Last::IntegerEnd => TokenClass::Integer,
             Last::Mark(mark) => TokenClass::Punctuator(mark),
             Last::LessBang => TokenClass::LessBang,

@@ -17,13 +17,13 @@ ghost use Rattle.swc_ecma_codegen_base.specs.Written.{IsNew, ReadsSoFar, AddsTex
 /// A new emission has written no tokens so far.
 #[tactic(auto, using(crate::proofs::SoFar::new_so_far))]
 pub fn nothing_so_far()
-    ensures { (s : State) → IsNew s → holds_semicolons s.sheet.semicolons ≡ false → ReadsSoFar s.sheet.text [] [] s }
+    ensures { (s : State) → IsNew s → ReadsSoFar s.sheet.text [] [] s }
 {}
 
 /// Where nothing follows, what was added reads as the tokens so far.
 #[tactic(auto, using(crate::proofs::SoFar::so_far_reads))]
 pub fn so_far_reads()
-    ensures { (config : Config) (phrase : Phrase) (text_before : List ℕ) (tokens : List Token) (remarks : List Remark) (s : State) → Generates (settings_of config) phrase tokens → ReadsSoFar text_before tokens remarks s → AddsText config false phrase remarks text_before s.sheet.text }
+    ensures { (config : Config) (phrase : Phrase) (text_before : List ℕ) (tokens : List Token) (remarks : List Remark) (s : State) → Generates (settings_of config) phrase tokens → ReadsSoFar text_before tokens remarks s → AddsText config (holds_semicolons s.sheet.semicolons) phrase remarks text_before s.sheet.text }
 {}
 
 /// Blanks, line ends, a semicolon that was held back and positions leave the tokens so far; comments that are taken stand behind those so far.

@@ -21,6 +21,7 @@ mod private_names;
 mod raws;
 mod refusals;
 mod starts;
+mod tags;
 mod templates;
 mod tokens;
 

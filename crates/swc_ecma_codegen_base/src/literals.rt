@@ -1,16 +1,24 @@
 //! Literals, as they are spelled.
 
 ghost use Rattle.std.specs.Prelude.{◌≡◌, OnOk, ◌++◌, ◌∷◌, [], codes, Some, None, true, false, if◌then◌else◌};
-ghost use Rattle.std.specs.Str.{chars};
+ghost use Rattle.std.specs.Str.{chars, is_utf8};
 ghost use Rattle.swc_ecma_codegen_spans.specs.Spans.{dummy_span};
 ghost use Rattle.swc_ecma_codegen_ast.specs.declared.kinds.Kind.TheVariants as kind;
 ghost use Rattle.swc_ecma_codegen_ast.specs.GapRules as rules;
-ghost use Rattle.swc_ecma_codegen_ast.specs.Numbers.{takes_dot};
+ghost use Rattle.swc_ecma_codegen_ast.specs.Chars.{is_one_line};
+ghost use Rattle.swc_ecma_codegen_ast.specs.LitPhrases.{regex_text as regex_characters};
+ghost use Rattle.swc_ecma_codegen_ast.specs.Names.{is_name};
+ghost use Rattle.swc_ecma_codegen_ast.specs.Numbers.{takes_dot, is_big_integer, is_number};
+ghost use Rattle.swc_ecma_codegen_ast.specs.RegularExpressions.{is_regex};
+ghost use Rattle.swc_ecma_codegen_ast.specs.Strings.{is_string};
+ghost use Rattle.swc_ecma_codegen_ast.specs.Tokens.{token_of};
 ghost use Rattle.swc_ecma_codegen_text_writer.specs.Sheet as calls;
 ghost use Rattle.swc_ecma_codegen_text_writer.specs.Sheet.{Lit, StrLit, Punct};
 ghost use Rattle.swc_ecma_codegen_base.specs.Last.{last_at};
 ghost use Rattle.swc_ecma_codegen_base.specs.Run.{Does, step, Token, Plain, Ends};
 ghost use Rattle.swc_ecma_codegen_base.specs.Literals.{size_of, signed, string, number, dotted_number, sign, number_name, big_digits, big_integer, regex_text, regex, hashbang};
+ghost use Rattle.swc_ecma_codegen_base.specs.Written.{IsNew, IsAtMargin, ReadsSoFar};
+ghost use Rattle.swc_ecma_codegen_base.specs.Adds.{Adds, tokens_of_number};
 ghost use Rattle.swc_ecma_codegen_base.specs.View.{state_of};
 
 use crate::LowerEmitter;
@@ -249,6 +257,10 @@ impl LowerEmitter {
     #[tactic(auto, unfolding(crate::specs::Literals::string))]
     pub fn string<W: WriteJs>(&mut self, cfg: &Config, wr: &mut W, text: &str) -> Answer
         ensures items { Does (string text.now) (state_of cfg.now (W.sheet wr.old) self.old) (state_of cfg.now (W.sheet wr.new) self.new) result }
+        // The text reads as the tokens so far and this one, whatever follows that doesn't fuse.
+        ensures reads { is_utf8 text.now ≡ true → is_string (chars text.now) ≡ true →
+            Adds (token_of kind.Str (chars text.now) ∷ [])
+            cfg.now (W.sheet wr.old) self.old (W.sheet wr.new) self.new result }
         ensures level { OnOk result ((W.sheet wr.new).indentation ≡ (W.sheet wr.old).indentation) }
     {
         self.guard(cfg, wr, text, StartClass::of_literal(text))?;
@@ -260,6 +272,9 @@ impl LowerEmitter {
     #[tactic(auto, unfolding(crate::specs::Literals::number))]
     pub fn number<W: WriteJs>(&mut self, cfg: &Config, wr: &mut W, text: &str) -> Answer
         ensures items { Does (number text.now) (state_of cfg.now (W.sheet wr.old) self.old) (state_of cfg.now (W.sheet wr.new) self.new) result }
+        ensures reads { is_utf8 (size_of text.now) ≡ true → is_number (chars (size_of text.now)) ≡ true →
+            Adds (tokens_of_number text.now)
+            cfg.now (W.sheet wr.old) self.old (W.sheet wr.new) self.new result }
         ensures level { OnOk result ((W.sheet wr.new).indentation ≡ (W.sheet wr.old).indentation) }
     {
         self.guard(cfg, wr, text, StartClass::of_literal(text))?;
@@ -309,6 +324,9 @@ impl LowerEmitter {
         text: &str,
     ) -> Answer
         ensures items { Does (number_name span text.now) (state_of cfg.now (W.sheet wr.old) self.old) (state_of cfg.now (W.sheet wr.new) self.new) result }
+        ensures reads { is_utf8 text.now ≡ true → is_name (chars text.now) ≡ true →
+            Adds (token_of kind.Name (chars text.now) ∷ [])
+            cfg.now (W.sheet wr.old) self.old (W.sheet wr.new) self.new result }
         ensures level { OnOk result ((W.sheet wr.new).indentation ≡ (W.sheet wr.old).indentation) }
     {
         self.guard(cfg, wr, text, StartClass::of_literal(text))?;
@@ -344,6 +362,9 @@ impl LowerEmitter {
         text: &str,
     ) -> Answer
         ensures items { Does (big_integer span text.now) (state_of cfg.now (W.sheet wr.old) self.old) (state_of cfg.now (W.sheet wr.new) self.new) result }
+        ensures reads { is_utf8 text.now ≡ true → is_big_integer (chars text.now) ≡ true →
+            Adds (token_of kind.BigInt (chars text.now) ∷ [])
+            cfg.now (W.sheet wr.old) self.old (W.sheet wr.new) self.new result }
         ensures level { OnOk result ((W.sheet wr.new).indentation ≡ (W.sheet wr.old).indentation) }
     {
         self.guard(cfg, wr, text, StartClass::of_literal(text))?;
@@ -355,6 +376,11 @@ impl LowerEmitter {
     #[tactic(auto, unfolding(crate::specs::Literals::regex))]
     pub fn regex<W: WriteJs>(&mut self, cfg: &Config, wr: &mut W, exp: &str, flags: &str) -> Answer
         ensures items { Does (regex exp.now flags.now) (state_of cfg.now (W.sheet wr.old) self.old) (state_of cfg.now (W.sheet wr.new) self.new) result }
+        // `a/` before `/b/` takes a blank between.
+        ensures reads { is_utf8 exp.now ≡ true → is_utf8 flags.now ≡ true →
+            is_regex (regex_characters (chars exp.now) (chars flags.now)) ≡ true →
+            Adds (token_of kind.Regex (regex_characters (chars exp.now) (chars flags.now)) ∷ [])
+            cfg.now (W.sheet wr.old) self.old (W.sheet wr.new) self.new result }
         ensures level { OnOk result ((W.sheet wr.new).indentation ≡ (W.sheet wr.old).indentation) }
     {
         self.guard_mark(cfg, wr, Punctuator::Slash)?;
@@ -369,6 +395,12 @@ impl LowerEmitter {
     #[tactic(auto, unfolding(crate::specs::Literals::hashbang))]
     pub fn hashbang<W: WriteJs>(&mut self, cfg: &Config, wr: &mut W, text: &str) -> Answer
         ensures items { Does (hashbang text.now) (state_of cfg.now (W.sheet wr.old) self.old) (state_of cfg.now (W.sheet wr.new) self.new) result }
+        // It stands first of all in a text.
+        ensures reads { IsNew (state_of cfg.now (W.sheet wr.old) self.old) →
+            IsAtMargin (state_of cfg.now (W.sheet wr.old) self.old) →
+            is_utf8 text.now ≡ true → is_one_line (chars text.now) ≡ true →
+            OnOk result (ReadsSoFar (W.sheet wr.old).text (token_of kind.Hashbang (codes "#!" ++ chars text.now) ∷ [])
+            [] (state_of cfg.now (W.sheet wr.new) self.new)) }
         ensures level { OnOk result ((W.sheet wr.new).indentation ≡ (W.sheet wr.old).indentation) }
     {
         self.put_hashbang_mark(cfg, wr)?;

@@ -8,6 +8,8 @@ ghost use Rattle.swc_ecma_codegen_base.specs.Run.{DoesTaking, Does};
 ghost use Rattle.swc_ecma_codegen_base.specs.Starts.{begins_letter};
 ghost use Rattle.swc_ecma_codegen_base.specs.Literals.{begun, settled_begun};
 ghost use Rattle.swc_ecma_codegen_base.specs.Lits.{begun_in, is_directive, takes_raw, prints_raw, value_text, string_text, directive_end, string_by, string_at, str_lit, bool_node, bool_text, bool_lit, null_lit, regex_lit, lit};
+ghost use Rattle.swc_ecma_codegen_ast.specs.LitPhrases as phrases;
+ghost use Rattle.swc_ecma_codegen_base.specs.Adds.{AddsTaking};
 ghost use Rattle.swc_ecma_codegen_base.specs.View.{state_of};
 
 use crate::LowerEmitter;
@@ -211,6 +213,8 @@ impl LowerEmitter {
         n: &Str,
     ) -> Answer
         ensures items { DoesTaking (str_lit n.now) (maps_in C.maps comments.old) (maps_in C.maps comments.new) (state_of cfg.now (W.sheet wr.old) self.old) (state_of cfg.now (W.sheet wr.new) self.new) result }
+        ensures reads { AddsTaking (phrases.str_lit n.now) (str_lit n.now) (maps_in C.maps comments.old)
+            cfg.now (W.sheet wr.old) self.old (W.sheet wr.new) self.new result }
         ensures level { OnOk result ((W.sheet wr.new).indentation ≡ (W.sheet wr.old).indentation) }
     {
         self.string_at(cfg, comments, wr, n, false)

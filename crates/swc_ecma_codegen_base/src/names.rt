@@ -227,7 +227,14 @@ impl LowerEmitter {
     ) -> Answer
         ensures items { DoesTaking (name span sym.now optional) (maps_in C.maps comments.old) (maps_in C.maps comments.new) (state_of cfg.now (W.sheet wr.old) self.old) (state_of cfg.now (W.sheet wr.new) self.new) result }
         // The text reads as the tokens so far and the name, whatever follows that doesn't fuse.
-        ensures reads { (text_before : List ℕ) (tokens : List Token) (remarks : List Remark) → AreClosed (maps_in C.maps comments.old) → is_well_formed_name sym.now ≡ true → (W.sheet wr.old).keeps_invalid ≡ false → ReadsSoFar text_before tokens remarks (state_of cfg.now (W.sheet wr.old) self.old) → OnOk result (ReadsSoFar text_before (tokens ++ name_tokens sym.now optional) (remarks ++ taken_remarks (name span sym.now optional) (env_of no_lines (maps_in C.maps comments.old) cfg.now (W.sheet wr.old))) (state_of cfg.now (W.sheet wr.new) self.new)) }
+        ensures reads { (text_before : List ℕ) (tokens : List Token) (remarks : List Remark) →
+            AreClosed (maps_in C.maps comments.old) → is_well_formed_name sym.now ≡ true →
+            (W.sheet wr.old).keeps_invalid ≡ false →
+            ReadsSoFar text_before tokens remarks (state_of cfg.now (W.sheet wr.old) self.old) →
+            OnOk result (ReadsSoFar text_before (tokens ++ name_tokens sym.now optional)
+            (remarks ++ taken_remarks (name span sym.now optional)
+            (env_of no_lines (maps_in C.maps comments.old) cfg.now (W.sheet wr.old)))
+            (state_of cfg.now (W.sheet wr.new) self.new)) }
         ensures level { OnOk result ((W.sheet wr.new).indentation ≡ (W.sheet wr.old).indentation) }
     {
         self.leading_comments(cfg, comments, wr, span.lo)?;

@@ -6,6 +6,8 @@ ghost use Rattle.swc_ecma_codegen_common.specs.declared.errors.Error.TheVariants
 ghost use Rattle.swc_ecma_codegen_ast.specs.Comments.{maps_in};
 ghost use Rattle.swc_ecma_codegen_base.specs.Run.{DoesTaking, Does};
 ghost use Rattle.swc_ecma_codegen_base.specs.Lits.{prints_number_raw, is_finite, by_value, decimal_text, number_text, makes_number, is_named, infinity_text, infinity, not_a_number, named_number, number_by, spelled_number, number_at, number_lit, between_dots, before_property, object_by, spelled_object, number_object, prints_big_raw, big_int_text, makes_big_int, big_int_parts, big_int_by, big_int_at, big_int_lit};
+ghost use Rattle.swc_ecma_codegen_ast.specs.LitPhrases as phrases;
+ghost use Rattle.swc_ecma_codegen_base.specs.Adds.{AddsTaking};
 ghost use Rattle.swc_ecma_codegen_base.specs.View.{state_of};
 
 use crate::LowerEmitter;
@@ -284,6 +286,8 @@ impl LowerEmitter {
         n: &Number,
     ) -> Answer
         ensures items { DoesTaking (number_lit n.now) (maps_in C.maps comments.old) (maps_in C.maps comments.new) (state_of cfg.now (W.sheet wr.old) self.old) (state_of cfg.now (W.sheet wr.new) self.new) result }
+        ensures reads { AddsTaking (phrases.number n.now) (number_lit n.now) (maps_in C.maps comments.old)
+            cfg.now (W.sheet wr.old) self.old (W.sheet wr.new) self.new result }
         ensures level { OnOk result ((W.sheet wr.new).indentation ≡ (W.sheet wr.old).indentation) }
     {
         self.number_at(cfg, comments, wr, n, false)
@@ -469,6 +473,8 @@ impl LowerEmitter {
         n: &BigInt,
     ) -> Answer
         ensures items { DoesTaking (big_int_lit n.now) (maps_in C.maps comments.old) (maps_in C.maps comments.new) (state_of cfg.now (W.sheet wr.old) self.old) (state_of cfg.now (W.sheet wr.new) self.new) result }
+        ensures reads { AddsTaking (phrases.big_int n.now) (big_int_lit n.now) (maps_in C.maps comments.old)
+            cfg.now (W.sheet wr.old) self.old (W.sheet wr.new) self.new result }
         ensures level { OnOk result ((W.sheet wr.new).indentation ≡ (W.sheet wr.old).indentation) }
     {
         self.big_int_at(cfg, comments, wr, n, false)

@@ -6,6 +6,8 @@ ghost use Rattle.swc_ecma_codegen_base.specs.PrivateNames.{hashed, private_token
 ghost use Rattle.swc_ecma_codegen_ast.specs.Comments.{maps_in};
 ghost use Rattle.swc_ecma_codegen_base.specs.Run.{DoesTaking, Does, step, Plain};
 ghost use Rattle.swc_ecma_codegen_base.specs.Targets.{wants_escapes};
+ghost use Rattle.swc_ecma_codegen_ast.specs.Phrases.{PrivateOf};
+ghost use Rattle.swc_ecma_codegen_base.specs.Adds.{AddsTaking};
 ghost use Rattle.swc_ecma_codegen_base.specs.View.{state_of};
 
 use crate::LowerEmitter;
@@ -197,6 +199,9 @@ impl LowerEmitter {
         name: &str,
     ) -> Answer
         ensures items { DoesTaking (private_name span name.now) (maps_in C.maps comments.old) (maps_in C.maps comments.new) (state_of cfg.now (W.sheet wr.old) self.old) (state_of cfg.now (W.sheet wr.new) self.new) result }
+        ensures reads { (W.sheet wr.old).keeps_invalid ≡ false →
+            AddsTaking (PrivateOf name.now) (private_name span name.now) (maps_in C.maps comments.old)
+            cfg.now (W.sheet wr.old) self.old (W.sheet wr.new) self.new result }
         ensures level { OnOk result ((W.sheet wr.new).indentation ≡ (W.sheet wr.old).indentation) }
     {
         self.leading_comments(cfg, comments, wr, span.lo)?;

@@ -12,7 +12,7 @@ ghost use Rattle.swc_ecma_codegen_text_writer.specs.Sheet.{StrLit, Punct};
 ghost use Rattle.swc_ecma_codegen_literals.specs.ValidNames.{has_byte};
 ghost use Rattle.swc_ecma_codegen_base.specs.Run.{Does, step, Guard, Plain, Ends};
 ghost use Rattle.swc_ecma_codegen_base.specs.Starts.{start_class};
-ghost use Rattle.swc_ecma_codegen_base.specs.Templates.{with_line_feeds, is_respelled, cooked_text, makes_cooked, inside, placed_inside, opened, closed, part_by, cooked_part, tpl_element};
+ghost use Rattle.swc_ecma_codegen_base.specs.Templates.{with_line_feeds, is_respelled, cooked_text, makes_cooked, inside, placed_inside, closed, part_by, cooked_part, tpl_element};
 ghost use Rattle.swc_ecma_codegen_base.specs.View.{state_of};
 
 use crate::LowerEmitter;
@@ -169,21 +169,6 @@ impl LowerEmitter {
         self.settle(answer, Last::Whole)
     }
 
-    /// Writes the mark with which a part begins.
-    #[tactic(auto, unfolding(crate::specs::Templates::opened))]
-    fn part_opened<W: WriteJs>(&mut self, cfg: &Config, wr: &mut W, first: bool) -> Answer
-        ensures items { Does (opened first) (state_of cfg.now (W.sheet wr.old) self.old) (state_of cfg.now (W.sheet wr.new) self.new) result }
-        ensures level { OnOk result ((W.sheet wr.new).indentation ≡ (W.sheet wr.old).indentation) }
-        ensures fresh { OnOk result (self.new.failed ≡ false) }
-    {
-        if first {
-            return self.put_begin(cfg, wr, true);
-        }
-        self.commit_pending_semi(cfg, wr)?;
-        self.put_begin(cfg, wr, false)?;
-        Ok(())
-    }
-
     /// Writes what stands inside of a part.
     #[tactic(auto, unfolding(crate::specs::Templates::inside))]
     fn part_inside<W: WriteJs>(
@@ -227,7 +212,7 @@ impl LowerEmitter {
     }
 
     /// Writes a part of a template by its text: one token.
-    #[tactic(auto, unfolding(crate::specs::Templates::part_by))]
+    #[tactic(auto, unfolding(crate::specs::Templates::part_by, crate::specs::Templates::opened))]
     fn part_by<W: WriteJs>(
         &mut self,
         cfg: &Config,
@@ -242,7 +227,7 @@ impl LowerEmitter {
     {
         let begin = part_begin(first);
         self.guard(cfg, wr, begin, StartClass::of_text(begin))?;
-        self.part_opened(cfg, wr, first)?;
+        self.put_begin(cfg, wr, first)?;
         self.placed_inside(cfg, wr, part.tagged, span, text)?;
         self.put_end(cfg, wr, first, part, text)?;
         Ok(())

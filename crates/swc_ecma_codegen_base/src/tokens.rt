@@ -4,7 +4,7 @@
 //! part of the frames of nodes, which are there once for each level of a tree. So a token takes one call or two. What else calls the
 //! writer is never inlined.
 
-ghost use Rattle.std.specs.Prelude.{◌≡◌, ℕ, None, OnOk, OnErr, Option, List, [], ◌∷◌, ◌++◌, codes, true, false};
+ghost use Rattle.std.specs.Prelude.{◌≡◌, None, OnOk, OnErr, Option, [], ◌∷◌, codes, true, false};
 ghost use Rattle.std.specs.Str.{chars};
 ghost use Rattle.swc_ecma_codegen_common.specs.Refusals.{in_short, reason_of};
 ghost use Rattle.swc_ecma_codegen_literals.specs.Punctuators.{spelling};
@@ -14,11 +14,11 @@ ghost use Rattle.swc_ecma_codegen_text_writer.specs.Sheet.{Semi, Keyword, Operat
 ghost use Rattle.swc_ecma_codegen_ast.specs.GapRules.{fuses};
 ghost use Rattle.swc_ecma_codegen_ast.specs.declared.kinds.Kind.TheVariants as kind;
 ghost use Rattle.swc_ecma_codegen_ast.specs.Tokens as lexical;
-ghost use Rattle.swc_ecma_codegen_ast.specs.Trivia.{Remark};
 ghost use Rattle.swc_ecma_codegen_base.specs.Last.{last_at};
 ghost use Rattle.swc_ecma_codegen_base.specs.Run.{Does, step, Guard, Token, Plain};
 ghost use Rattle.swc_ecma_codegen_base.specs.Words.{keyword, operator, operator_between, punct_between, word_operator, punct, placed_punct, semi, space, formatting_space, formatting_line, line_end, commit_pending_semi, position, position_before};
-ghost use Rattle.swc_ecma_codegen_base.specs.Written.{IsWord, ReadsSoFar};
+ghost use Rattle.swc_ecma_codegen_base.specs.Written.{IsWord};
+ghost use Rattle.swc_ecma_codegen_base.specs.Adds.{Adds};
 ghost use Rattle.swc_ecma_codegen_base.specs.View.{state_of};
 
 use crate::LowerEmitter;
@@ -297,7 +297,8 @@ impl LowerEmitter {
         requires { begins_letter word.now ≡ true }
         ensures items { Does (keyword span word.now) (state_of cfg.now (W.sheet wr.old) self.old) (state_of cfg.now (W.sheet wr.new) self.new) result }
         // The text reads as the tokens so far and this one, whatever follows that doesn't fuse.
-        ensures reads { (text_before : List ℕ) (tokens : List lexical.Token) (remarks : List Remark) → IsWord word.now → ReadsSoFar text_before tokens remarks (state_of cfg.now (W.sheet wr.old) self.old) → OnOk result (ReadsSoFar text_before (tokens ++ lexical.word word.now ∷ []) remarks (state_of cfg.now (W.sheet wr.new) self.new)) }
+        ensures reads { IsWord word.now → Adds (lexical.word word.now ∷ [])
+            cfg.now (W.sheet wr.old) self.old (W.sheet wr.new) self.new result }
         ensures level { OnOk result ((W.sheet wr.new).indentation ≡ (W.sheet wr.old).indentation) }
     {
         if self.failed || blank_due_after(self.row, StartClass::NameCharacter) {
@@ -317,8 +318,8 @@ impl LowerEmitter {
     ) -> Answer
         requires { begins_letter word.now ≡ true }
         ensures items { Does (keyword span word.now) (state_of cfg.now (W.sheet wr.old) self.old) (state_of cfg.now (W.sheet wr.new) self.new) result }
-        // The text reads as the tokens so far and this one, whatever follows that doesn't fuse.
-        ensures reads { (text_before : List ℕ) (tokens : List lexical.Token) (remarks : List Remark) → IsWord word.now → ReadsSoFar text_before tokens remarks (state_of cfg.now (W.sheet wr.old) self.old) → OnOk result (ReadsSoFar text_before (tokens ++ lexical.word word.now ∷ []) remarks (state_of cfg.now (W.sheet wr.new) self.new)) }
+        ensures reads { IsWord word.now → Adds (lexical.word word.now ∷ [])
+            cfg.now (W.sheet wr.old) self.old (W.sheet wr.new) self.new result }
         ensures level { OnOk result ((W.sheet wr.new).indentation ≡ (W.sheet wr.old).indentation) }
     {
         self.keyword_here(cfg, wr, span, word)
@@ -336,8 +337,8 @@ impl LowerEmitter {
     ) -> Answer
         requires { begins_letter word.now ≡ true }
         ensures items { Does (keyword span word.now) (state_of cfg.now (W.sheet wr.old) self.old) (state_of cfg.now (W.sheet wr.new) self.new) result }
-        // The text reads as the tokens so far and this one, whatever follows that doesn't fuse.
-        ensures reads { (text_before : List ℕ) (tokens : List lexical.Token) (remarks : List Remark) → IsWord word.now → ReadsSoFar text_before tokens remarks (state_of cfg.now (W.sheet wr.old) self.old) → OnOk result (ReadsSoFar text_before (tokens ++ lexical.word word.now ∷ []) remarks (state_of cfg.now (W.sheet wr.new) self.new)) }
+        ensures reads { IsWord word.now → Adds (lexical.word word.now ∷ [])
+            cfg.now (W.sheet wr.old) self.old (W.sheet wr.new) self.new result }
         ensures level { OnOk result ((W.sheet wr.new).indentation ≡ (W.sheet wr.old).indentation) }
     {
         self.guard_word(cfg, wr, word)?;
@@ -350,7 +351,8 @@ impl LowerEmitter {
     pub fn operator<W: WriteJs>(&mut self, cfg: &Config, wr: &mut W, mark: Punctuator) -> Answer
         ensures items { Does (operator (spelling mark)) (state_of cfg.now (W.sheet wr.old) self.old) (state_of cfg.now (W.sheet wr.new) self.new) result }
         // The text reads as the tokens so far and this one, whatever follows that doesn't fuse.
-        ensures reads { (text_before : List ℕ) (tokens : List lexical.Token) (remarks : List Remark) → ReadsSoFar text_before tokens remarks (state_of cfg.now (W.sheet wr.old) self.old) → OnOk result (ReadsSoFar text_before (tokens ++ lexical.punctuator (spelling mark) ∷ []) remarks (state_of cfg.now (W.sheet wr.new) self.new)) }
+        ensures reads { Adds (lexical.punctuator (spelling mark) ∷ [])
+            cfg.now (W.sheet wr.old) self.old (W.sheet wr.new) self.new result }
         ensures level { OnOk result ((W.sheet wr.new).indentation ≡ (W.sheet wr.old).indentation) }
     {
         if self.is_apart(mark) {
@@ -363,8 +365,8 @@ impl LowerEmitter {
     #[inline(never)]
     fn operator_apart<W: WriteJs>(&mut self, cfg: &Config, wr: &mut W, mark: Punctuator) -> Answer
         ensures items { Does (operator (spelling mark)) (state_of cfg.now (W.sheet wr.old) self.old) (state_of cfg.now (W.sheet wr.new) self.new) result }
-        // The text reads as the tokens so far and this one, whatever follows that doesn't fuse.
-        ensures reads { (text_before : List ℕ) (tokens : List lexical.Token) (remarks : List Remark) → ReadsSoFar text_before tokens remarks (state_of cfg.now (W.sheet wr.old) self.old) → OnOk result (ReadsSoFar text_before (tokens ++ lexical.punctuator (spelling mark) ∷ []) remarks (state_of cfg.now (W.sheet wr.new) self.new)) }
+        ensures reads { Adds (lexical.punctuator (spelling mark) ∷ [])
+            cfg.now (W.sheet wr.old) self.old (W.sheet wr.new) self.new result }
         ensures level { OnOk result ((W.sheet wr.new).indentation ≡ (W.sheet wr.old).indentation) }
     {
         self.operator_here(cfg, wr, mark)
@@ -375,8 +377,8 @@ impl LowerEmitter {
     #[tactic(auto, unfolding(crate::specs::Words::operator))]
     fn operator_here<W: WriteJs>(&mut self, cfg: &Config, wr: &mut W, mark: Punctuator) -> Answer
         ensures items { Does (operator (spelling mark)) (state_of cfg.now (W.sheet wr.old) self.old) (state_of cfg.now (W.sheet wr.new) self.new) result }
-        // The text reads as the tokens so far and this one, whatever follows that doesn't fuse.
-        ensures reads { (text_before : List ℕ) (tokens : List lexical.Token) (remarks : List Remark) → ReadsSoFar text_before tokens remarks (state_of cfg.now (W.sheet wr.old) self.old) → OnOk result (ReadsSoFar text_before (tokens ++ lexical.punctuator (spelling mark) ∷ []) remarks (state_of cfg.now (W.sheet wr.new) self.new)) }
+        ensures reads { Adds (lexical.punctuator (spelling mark) ∷ [])
+            cfg.now (W.sheet wr.old) self.old (W.sheet wr.new) self.new result }
         ensures level { OnOk result ((W.sheet wr.new).indentation ≡ (W.sheet wr.old).indentation) }
     {
         self.guard_mark(cfg, wr, mark)?;
@@ -396,7 +398,8 @@ impl LowerEmitter {
         requires { begins_letter text.now ≡ true }
         ensures items { Does (word_operator text.now) (state_of cfg.now (W.sheet wr.old) self.old) (state_of cfg.now (W.sheet wr.new) self.new) result }
         // The text reads as the tokens so far and this one, whatever follows that doesn't fuse.
-        ensures reads { (text_before : List ℕ) (tokens : List lexical.Token) (remarks : List Remark) → IsWord text.now → ReadsSoFar text_before tokens remarks (state_of cfg.now (W.sheet wr.old) self.old) → OnOk result (ReadsSoFar text_before (tokens ++ lexical.word text.now ∷ []) remarks (state_of cfg.now (W.sheet wr.new) self.new)) }
+        ensures reads { IsWord text.now → Adds (lexical.word text.now ∷ [])
+            cfg.now (W.sheet wr.old) self.old (W.sheet wr.new) self.new result }
         ensures level { OnOk result ((W.sheet wr.new).indentation ≡ (W.sheet wr.old).indentation) }
     {
         self.guard_word(cfg, wr, text)?;
@@ -409,7 +412,8 @@ impl LowerEmitter {
     pub fn punct<W: WriteJs>(&mut self, cfg: &Config, wr: &mut W, mark: Punctuator) -> Answer
         ensures items { Does (punct (spelling mark)) (state_of cfg.now (W.sheet wr.old) self.old) (state_of cfg.now (W.sheet wr.new) self.new) result }
         // The text reads as the tokens so far and this one, whatever follows that doesn't fuse.
-        ensures reads { (text_before : List ℕ) (tokens : List lexical.Token) (remarks : List Remark) → ReadsSoFar text_before tokens remarks (state_of cfg.now (W.sheet wr.old) self.old) → OnOk result (ReadsSoFar text_before (tokens ++ lexical.punctuator (spelling mark) ∷ []) remarks (state_of cfg.now (W.sheet wr.new) self.new)) }
+        ensures reads { Adds (lexical.punctuator (spelling mark) ∷ [])
+            cfg.now (W.sheet wr.old) self.old (W.sheet wr.new) self.new result }
         ensures level { OnOk result ((W.sheet wr.new).indentation ≡ (W.sheet wr.old).indentation) }
     {
         if self.is_apart(mark) {
@@ -427,8 +431,8 @@ impl LowerEmitter {
         mark: Punctuator,
     ) -> Answer
         ensures items { Does (punct (spelling mark)) (state_of cfg.now (W.sheet wr.old) self.old) (state_of cfg.now (W.sheet wr.new) self.new) result }
-        // The text reads as the tokens so far and this one, whatever follows that doesn't fuse.
-        ensures reads { (text_before : List ℕ) (tokens : List lexical.Token) (remarks : List Remark) → ReadsSoFar text_before tokens remarks (state_of cfg.now (W.sheet wr.old) self.old) → OnOk result (ReadsSoFar text_before (tokens ++ lexical.punctuator (spelling mark) ∷ []) remarks (state_of cfg.now (W.sheet wr.new) self.new)) }
+        ensures reads { Adds (lexical.punctuator (spelling mark) ∷ [])
+            cfg.now (W.sheet wr.old) self.old (W.sheet wr.new) self.new result }
         ensures level { OnOk result ((W.sheet wr.new).indentation ≡ (W.sheet wr.old).indentation) }
     {
         self.punct_here(cfg, wr, mark)
@@ -439,8 +443,8 @@ impl LowerEmitter {
     #[tactic(auto, unfolding(crate::specs::Words::punct))]
     fn punct_here<W: WriteJs>(&mut self, cfg: &Config, wr: &mut W, mark: Punctuator) -> Answer
         ensures items { Does (punct (spelling mark)) (state_of cfg.now (W.sheet wr.old) self.old) (state_of cfg.now (W.sheet wr.new) self.new) result }
-        // The text reads as the tokens so far and this one, whatever follows that doesn't fuse.
-        ensures reads { (text_before : List ℕ) (tokens : List lexical.Token) (remarks : List Remark) → ReadsSoFar text_before tokens remarks (state_of cfg.now (W.sheet wr.old) self.old) → OnOk result (ReadsSoFar text_before (tokens ++ lexical.punctuator (spelling mark) ∷ []) remarks (state_of cfg.now (W.sheet wr.new) self.new)) }
+        ensures reads { Adds (lexical.punctuator (spelling mark) ∷ [])
+            cfg.now (W.sheet wr.old) self.old (W.sheet wr.new) self.new result }
         ensures level { OnOk result ((W.sheet wr.new).indentation ≡ (W.sheet wr.old).indentation) }
     {
         self.guard_mark(cfg, wr, mark)?;
@@ -459,6 +463,8 @@ impl LowerEmitter {
         mark: Punctuator,
     ) -> Answer
         ensures items { Does (placed_punct span (spelling mark)) (state_of cfg.now (W.sheet wr.old) self.old) (state_of cfg.now (W.sheet wr.new) self.new) result }
+        ensures reads { Adds (lexical.punctuator (spelling mark) ∷ [])
+            cfg.now (W.sheet wr.old) self.old (W.sheet wr.new) self.new result }
         ensures level { OnOk result ((W.sheet wr.new).indentation ≡ (W.sheet wr.old).indentation) }
     {
         self.guard_mark(cfg, wr, mark)?;
@@ -471,7 +477,8 @@ impl LowerEmitter {
     pub fn semi<W: WriteJs>(&mut self, cfg: &Config, wr: &mut W) -> Answer
         ensures items { Does (semi) (state_of cfg.now (W.sheet wr.old) self.old) (state_of cfg.now (W.sheet wr.new) self.new) result }
         // The text reads as the tokens so far and this one, whatever follows that doesn't fuse.
-        ensures reads { (text_before : List ℕ) (tokens : List lexical.Token) (remarks : List Remark) → ReadsSoFar text_before tokens remarks (state_of cfg.now (W.sheet wr.old) self.old) → OnOk result (ReadsSoFar text_before (tokens ++ lexical.ending ∷ []) remarks (state_of cfg.now (W.sheet wr.new) self.new)) }
+        ensures reads { Adds (lexical.ending ∷ [])
+            cfg.now (W.sheet wr.old) self.old (W.sheet wr.new) self.new result }
         ensures level { OnOk result ((W.sheet wr.new).indentation ≡ (W.sheet wr.old).indentation) }
     {
         if self.is_apart(Punctuator::Semicolon) {
@@ -484,8 +491,8 @@ impl LowerEmitter {
     #[inline(never)]
     fn semi_apart<W: WriteJs>(&mut self, cfg: &Config, wr: &mut W) -> Answer
         ensures items { Does (semi) (state_of cfg.now (W.sheet wr.old) self.old) (state_of cfg.now (W.sheet wr.new) self.new) result }
-        // The text reads as the tokens so far and this one, whatever follows that doesn't fuse.
-        ensures reads { (text_before : List ℕ) (tokens : List lexical.Token) (remarks : List Remark) → ReadsSoFar text_before tokens remarks (state_of cfg.now (W.sheet wr.old) self.old) → OnOk result (ReadsSoFar text_before (tokens ++ lexical.ending ∷ []) remarks (state_of cfg.now (W.sheet wr.new) self.new)) }
+        ensures reads { Adds (lexical.ending ∷ [])
+            cfg.now (W.sheet wr.old) self.old (W.sheet wr.new) self.new result }
         ensures level { OnOk result ((W.sheet wr.new).indentation ≡ (W.sheet wr.old).indentation) }
     {
         self.semi_here(cfg, wr)
@@ -496,8 +503,8 @@ impl LowerEmitter {
     #[tactic(auto, unfolding(crate::specs::Words::semi))]
     fn semi_here<W: WriteJs>(&mut self, cfg: &Config, wr: &mut W) -> Answer
         ensures items { Does (semi) (state_of cfg.now (W.sheet wr.old) self.old) (state_of cfg.now (W.sheet wr.new) self.new) result }
-        // The text reads as the tokens so far and this one, whatever follows that doesn't fuse.
-        ensures reads { (text_before : List ℕ) (tokens : List lexical.Token) (remarks : List Remark) → ReadsSoFar text_before tokens remarks (state_of cfg.now (W.sheet wr.old) self.old) → OnOk result (ReadsSoFar text_before (tokens ++ lexical.ending ∷ []) remarks (state_of cfg.now (W.sheet wr.new) self.new)) }
+        ensures reads { Adds (lexical.ending ∷ [])
+            cfg.now (W.sheet wr.old) self.old (W.sheet wr.new) self.new result }
         ensures level { OnOk result ((W.sheet wr.new).indentation ≡ (W.sheet wr.old).indentation) }
     {
         self.guard_mark(cfg, wr, Punctuator::Semicolon)?;
@@ -539,6 +546,8 @@ impl LowerEmitter {
         mark: Punctuator,
     ) -> Answer
         ensures items { Does (operator_between (spelling mark)) (state_of cfg.now (W.sheet wr.old) self.old) (state_of cfg.now (W.sheet wr.new) self.new) result }
+        ensures reads { Adds (lexical.punctuator (spelling mark) ∷ [])
+            cfg.now (W.sheet wr.old) self.old (W.sheet wr.new) self.new result }
         ensures level { OnOk result ((W.sheet wr.new).indentation ≡ (W.sheet wr.old).indentation) }
     {
         self.space_here(cfg, wr)?;
@@ -557,6 +566,8 @@ impl LowerEmitter {
         mark: Punctuator,
     ) -> Answer
         ensures items { Does (punct_between (spelling mark)) (state_of cfg.now (W.sheet wr.old) self.old) (state_of cfg.now (W.sheet wr.new) self.new) result }
+        ensures reads { Adds (lexical.punctuator (spelling mark) ∷ [])
+            cfg.now (W.sheet wr.old) self.old (W.sheet wr.new) self.new result }
         ensures level { OnOk result ((W.sheet wr.new).indentation ≡ (W.sheet wr.old).indentation) }
     {
         self.space_here(cfg, wr)?;

@@ -1,5 +1,6 @@
 -- When modules, imports and exports are well-formed.
-use Rattle.std.proofs.Common.{◌≡◌, Bool, true, false, not, ◌&&◌, List, [], ◌∷◌, map, codes, Some, refl, ap, ◌∙◌}
+use Rattle.std.proofs.Common.{◌≡◌, Bool, true, false, not, ◌&&◌, is_none, List, [], ◌∷◌, map, codes, Option, Some, None, refl, ap, ◌∙◌}
+use Rattle.swc_ecma_codegen_tree.specs.Links.{ObjectLitBox}
 use Rattle.swc_ecma_codegen_tree.specs.declared.decls.ClassDecl.{ClassDecl}
 use Rattle.swc_ecma_codegen_tree.specs.declared.decls.Decl.TheVariants as decls
 use Rattle.swc_ecma_codegen_tree.specs.declared.modules.ExportAll.{ExportAll}
@@ -14,8 +15,8 @@ use Rattle.swc_ecma_codegen_tree.specs.declared.modules.ImportSpecifier.{ImportS
 use Rattle.swc_ecma_codegen_tree.specs.declared.modules.ImportSpecifier.TheVariants as imported
 use Rattle.swc_ecma_codegen_tree.specs.declared.modules.ModuleExportName.{ModuleExportName}
 use Rattle.swc_ecma_codegen_tree.specs.declared.modules.NamedExport.{NamedExport}
-use Rattle.swc_ecma_codegen_ast.specs.Phrases.{Phrase, Never, ◌>◌, mark, listed, is_possible}
-use Rattle.swc_ecma_codegen_ast.specs.ElementPhrases.{trailing_comma}
+use Rattle.swc_ecma_codegen_ast.specs.Phrases.{Phrase, RightBrace, ◌>◌, mark, listed, is_possible}
+use Rattle.swc_ecma_codegen_ast.specs.ElementPhrases.{closing_of}
 use Rattle.swc_ecma_codegen_ast.specs.LitPhrases.{str_lit}
 use Rattle.swc_ecma_codegen_ast.specs.ModulePhrases.{attributes, module_export_name, imported_as, import_named, import_specifier, import_bindings, after_default, import_clause, import_phase, import_decl, exported_as, export_named_specifier, export_specifier, export_namespace, export_braces, export_clause, from_clause, export_named, export_all, exported_tail}
 use Rattle.swc_ecma_codegen_ast.specs.NamePhrases.{ident}
@@ -25,14 +26,14 @@ use Rattle.swc_ecma_codegen_grammar.specs.ModuleForms.{bindings_fit, others_fit,
 use Rattle.swc_ecma_codegen_grammar.specs.Possible.{all_possible}
 use Rattle.swc_ecma_codegen_grammar.proofs.ClassesPossible.{typed}
 use Rattle.swc_ecma_codegen_grammar.proofs.Lists.{listed_possible, and_true}
-use Rattle.swc_ecma_codegen_grammar.proofs.PatsPossible.{comma_possible}
+use Rattle.swc_ecma_codegen_grammar.proofs.PatsPossible.{closing_possible}
 
 -- what stands between braces
-braces : {A : Type 0} (e : A → Phrase) (ns : List A) → is_possible (mark (codes "{") > listed (codes ",") (map e ns) > trailing_comma ns > mark (codes "}")) ≡ all_possible e ns
+braces : {A : Type 0} (e : A → Phrase) (ns : List A) → is_possible (mark (codes "{") > listed (codes ",") (map e ns) > closing_of RightBrace ns) ≡ all_possible e ns
 unfolding is_possible
 braces e ns =
-    ap (λ b. b && (is_possible (trailing_comma ns) && true)) (listed_possible (codes ",") e ns)
-    ∙ ap (λ b. all_possible e ns && (b && true)) (comma_possible ns)
+    ap (λ b. b && is_possible (closing_of RightBrace ns)) (listed_possible (codes ",") e ns)
+    ∙ ap (λ b. all_possible e ns && b) (closing_possible RightBrace ns)
     ∙ and_true (all_possible e ns)
 
 -- ---- imports
@@ -95,6 +96,12 @@ exports_possible (exported.Namespace n ∷ m ∷ ns) = ap (λ b. is_possible (mo
 exports_possible (exported.Named n ∷ ns) = braces export_specifier (exported.Named n ∷ ns)
 exports_possible (exported.Default n ∷ ns) = braces export_specifier (exported.Default n ∷ ns)
 
+-- without another module there are no attributes
+pub no_module_possible : {X : Type 0} (f : X → Role → Phrase) (with_ : Option (ObjectLitBox X)) → is_possible (from_clause f with_ None) ≡ is_none with_
+unfolding is_possible from_clause
+no_module_possible f None = refl
+no_module_possible f (Some n) = refl
+
 pub export_named_possible : {X : Type 0} (f : X → Role → Phrase) (n : NamedExport X) → is_possible (export_named f n) ≡ (not n.type_only && (exports_fit n.specifiers.items && is_possible (from_clause f n.with_ n.src)))
 unfolding is_possible export_named
 export_named_possible f n =
@@ -109,8 +116,3 @@ export_all_possible f n = typed n.type_only _ _ (ap (λ b. is_possible (str_lit 
 pub exported_class_possible : {X : Type 0} (f : X → Role → Phrase) (n : ClassDecl X) → is_possible (exported_tail f (decls.Class n)) ≡ (not n.declare && (is_possible (ident n.ident) && is_possible (f n.class.node.value ClassTail)))
 unfolding is_possible exported_tail
 exported_class_possible f n = typed n.declare _ _ refl
-
--- one by `using` isn't exported
-pub never_possible : is_possible Never ≡ false
-unfolding is_possible
-never_possible = refl

@@ -2,16 +2,16 @@
 
 ghost use Rattle.std.specs.Prelude.{◌≡◌};
 ghost use Rattle.swc_ecma_codegen_ast.specs.Phrases.{is_possible};
-ghost use Rattle.swc_ecma_codegen_ast.specs.ClassPhrases.{class_head, heritage, is_typed_class, class_tail, class_decl, class_expr, constructor_param, method_body, class_constructor, method_decorators, method_tail, private_tail, kind_head, class_method, private_method, prop_value, is_typed_prop, class_prop, is_typed_private, private_prop, accessor_key, is_typed_accessor, auto_accessor, static_block, class_member};
+ghost use Rattle.swc_ecma_codegen_ast.specs.ClassPhrases.{class_head, heritage, is_typed_class, class_tail, class_decl, class_expr, constructor_param, class_constructor, method_decorators, method_tail, accessor_tail, tail_role, kind_head, class_method, private_method, prop_value, is_typed_prop, class_prop, is_typed_private, private_prop, accessor_key, is_typed_accessor, auto_accessor, static_block, class_member};
 
 use crate::forms::{Fits, WellFormed, all_well_formed};
 use crate::functions::{is_body, is_optional_name};
 use crate::pats::is_initializer;
 use swc_ecma_codegen_ast::roles::Role;
 use swc_ecma_codegen_tree::{
-    AutoAccessor, BlockStmtBox, Class, ClassDecl, ClassExpr, ClassMember, ClassMethod, ClassProp,
-    Constructor, ExprBox, Function, FunctionBox, Key, MethodKind, ParamOrTsParamProp,
-    PrivateMethod, PrivateProp, StaticBlock,
+    AutoAccessor, Class, ClassDecl, ClassExpr, ClassMember, ClassMethod, ClassProp, Constructor,
+    ExprBox, Function, FunctionBox, Key, MethodKind, ParamOrTsParamProp, PrivateMethod,
+    PrivateProp, StaticBlock,
 };
 
 /// Whether what stands before the word of a class is well-formed.
@@ -88,23 +88,12 @@ impl<N: Fits> WellFormed for ParamOrTsParamProp<N> {
     }
 }
 
-/// Whether the body of a method is well-formed, or there is none.
-#[tactic(auto, unfolding(swc_ecma_codegen_ast::specs::ClassPhrases::method_body, swc_ecma_codegen_ast::specs::Phrases::is_possible))]
-fn is_method_body<N: Fits>(body: &Option<BlockStmtBox<N>>) -> bool
-    ensures { result ≡ is_possible (method_body N.reads body.now) }
-{
-    match body {
-        Some(body) => body.is_well_formed(),
-        None => true,
-    }
-}
-
 impl<N: Fits> WellFormed for Constructor<N> {
     ghost phrase = { class_constructor N.reads };
 
     #[tactic(auto, using(crate::proofs::ClassesPossible::constructor_possible))]
     fn is_well_formed(&self) -> bool {
-        self.accessibility.is_none() && all_well_formed(&self.params) && is_method_body(&self.body)
+        self.accessibility.is_none() && all_well_formed(&self.params) && is_body(&self.body)
     }
 }
 
@@ -124,18 +113,26 @@ pub(crate) fn is_method_tail<N: Fits>(node: &Function<N>) -> bool
     node.type_params.is_none()
         && node.return_type.is_none()
         && all_well_formed(&node.params)
-        && is_method_body(&node.body)
+        && is_body(&node.body)
 }
 
-/// Whether the rest of a private method is well-formed.
-#[tactic(auto, using(crate::proofs::ClassesPossible::private_tail_possible))]
-pub(crate) fn is_private_tail<N: Fits>(node: &Function<N>) -> bool
-    ensures { result ≡ is_possible (private_tail N.reads node.now) }
+/// The same of a getter or a setter, which is neither async nor a generator.
+#[tactic(auto, using(crate::proofs::ClassesPossible::accessor_tail_possible))]
+pub(crate) fn is_accessor_tail<N: Fits>(node: &Function<N>) -> bool
+    ensures { result ≡ is_possible (accessor_tail N.reads node.now) }
 {
-    node.type_params.is_none()
-        && node.return_type.is_none()
-        && all_well_formed(&node.params)
-        && is_body(&node.body)
+    !node.is_async && !node.is_generator && is_method_tail(node)
+}
+
+/// Whether what stands behind the key of a method, a getter or a setter is well-formed.
+#[tactic(auto, unfolding(swc_ecma_codegen_ast::specs::ClassPhrases::tail_role))]
+fn is_tail<N: Fits>(kind: MethodKind, function: &FunctionBox<N>) -> bool
+    ensures { result ≡ is_possible (N.reads function.now.node.value (tail_role kind)) }
+{
+    match kind {
+        MethodKind::Method => function.held().fits(Role::MethodTail),
+        MethodKind::Getter | MethodKind::Setter => function.held().fits(Role::AccessorTail),
+    }
 }
 
 /// Whether what stands before the key of a method is well-formed.
@@ -161,7 +158,7 @@ impl<N: Fits> WellFormed for ClassMethod<N> {
             && self.function.held().fits(Role::MethodDecorators)
             && is_kind_head(self.kind, &self.function)
             && self.key.is_well_formed()
-            && self.function.held().fits(Role::MethodTail)
+            && is_tail(self.kind, &self.function)
     }
 }
 
@@ -177,7 +174,7 @@ impl<N: Fits> WellFormed for PrivateMethod<N> {
             && self.function.held().fits(Role::MethodDecorators)
             && is_kind_head(self.kind, &self.function)
             && self.key.is_well_formed()
-            && self.function.held().fits(Role::PrivateTail)
+            && is_tail(self.kind, &self.function)
     }
 }
 
@@ -187,7 +184,7 @@ fn is_prop_value<N: Fits>(value: &Option<ExprBox<N>>) -> bool
     ensures { result ≡ is_possible (prop_value N.reads value.now) }
 {
     match value {
-        Some(value) => value.is_well_formed(),
+        Some(value) => value.held().fits(Role::FieldValue),
         None => true,
     }
 }

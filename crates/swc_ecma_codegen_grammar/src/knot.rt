@@ -13,10 +13,12 @@ use swc_ecma_codegen_tree::{AnyNode, Expr, ModuleItem, Program, Stmt};
 impl Fits for AnyNode {
     ghost reads = { phrase };
 
-    #[tactic(auto, using(swc_ecma_codegen_ast::proofs::TreeLaws::phrase_at, swc_ecma_codegen_ast::proofs::TreeLaws::phrase_expr, swc_ecma_codegen_ast::proofs::TreeLaws::phrase_stmt, swc_ecma_codegen_ast::proofs::TreeLaws::phrase_member_expr, swc_ecma_codegen_ast::proofs::TreeLaws::phrase_expr_part, swc_ecma_codegen_ast::proofs::TreeLaws::phrase_stmt_part, crate::proofs::Possible::chain_member_possible, crate::proofs::CallsPossible::callee_possible), unfolding(swc_ecma_codegen_ast::specs::TreePhrases::node_phrase, swc_ecma_codegen_ast::specs::Phrases::is_possible))]
+    #[tactic(auto, using(swc_ecma_codegen_ast::proofs::TreeLaws::phrase_at, swc_ecma_codegen_ast::proofs::TreeLaws::phrase_expr, swc_ecma_codegen_ast::proofs::TreeLaws::phrase_stmt, swc_ecma_codegen_ast::proofs::TreeLaws::phrase_member_expr, swc_ecma_codegen_ast::proofs::TreeLaws::phrase_expr_part, swc_ecma_codegen_ast::proofs::TreeLaws::phrase_stmt_part, crate::proofs::Possible::chain_member_possible, crate::proofs::CallsPossible::callee_possible, crate::proofs::ClassesPossible::field_value_possible), unfolding(swc_ecma_codegen_ast::specs::TreePhrases::node_phrase, swc_ecma_codegen_ast::specs::Phrases::is_possible))]
     fn fits(&self, role: Role) -> bool {
         match (self, role) {
-            (AnyNode::Expr(node), Role::Expression | Role::Callee) => node.is_well_formed(),
+            (AnyNode::Expr(node), Role::Expression | Role::Callee | Role::FieldValue) => {
+                node.is_well_formed()
+            }
             (AnyNode::Stmt(node), Role::Statement) => node.is_well_formed(),
             (AnyNode::MemberExpr(node), Role::MemberExpression) => node.is_well_formed(),
             // `a?.b` is where `a.b` is.

@@ -165,13 +165,13 @@ fn exports_fit(specifiers: &[ExportSpecifier]) -> bool
 }
 
 /// Whether the name of another module, with its attributes, is well-formed, or there is none.
-#[tactic(auto, unfolding(swc_ecma_codegen_ast::specs::ModulePhrases::from_clause, swc_ecma_codegen_ast::specs::Phrases::is_possible))]
+#[tactic(auto, using(crate::proofs::ModulesPossible::no_module_possible), unfolding(swc_ecma_codegen_ast::specs::ModulePhrases::from_clause, swc_ecma_codegen_ast::specs::Phrases::is_possible))]
 fn is_from_clause<N: Fits>(with_: &Option<ObjectLitBox<N>>, src: &Option<Str>) -> bool
     ensures { result ≡ is_possible (from_clause N.reads with_.now src.now) }
 {
     match src {
         Some(src) => src.is_well_formed() && are_attributes(with_),
-        None => true,
+        None => with_.is_none(),
     }
 }
 
@@ -205,7 +205,7 @@ pub(crate) fn is_exported_head<N: Fits>(node: &Decl<N>) -> bool
 }
 
 /// Whether what stands after it is well-formed.
-#[tactic(auto, using(crate::proofs::ModulesPossible::exported_class_possible, crate::proofs::ModulesPossible::never_possible), unfolding(swc_ecma_codegen_ast::specs::ModulePhrases::exported_tail))]
+#[tactic(auto, using(crate::proofs::ModulesPossible::exported_class_possible), unfolding(swc_ecma_codegen_ast::specs::ModulePhrases::exported_tail))]
 pub(crate) fn is_exported_tail<N: Fits>(node: &Decl<N>) -> bool
     ensures { result ≡ is_possible (exported_tail N.reads node.now) }
 {
@@ -215,7 +215,6 @@ pub(crate) fn is_exported_tail<N: Fits>(node: &Decl<N>) -> bool
                 && class.ident.is_well_formed()
                 && class.class.held().fits(Role::ClassTail)
         }
-        Decl::Using(_) => false,
         _ => node.is_well_formed(),
     }
 }

@@ -4,7 +4,7 @@ ghost use Rattle.std.specs.Prelude.{◌≡◌};
 ghost use Rattle.swc_ecma_codegen_ast.specs.Phrases.{is_possible};
 ghost use Rattle.swc_ecma_codegen_ast.specs.PartPhrases.{expr_part, stmt_part};
 
-use crate::classes::{are_method_decorators, is_class_head, is_method_tail, is_private_tail};
+use crate::classes::{are_method_decorators, is_accessor_tail, is_class_head, is_method_tail};
 use crate::forms::{Fits, WellFormed};
 use crate::modules::{is_exported_head, is_exported_tail};
 use crate::pats::is_plain_parameter;
@@ -41,7 +41,7 @@ pub(crate) fn stmt_part_fits<N: Fits>(part: &StmtPart<N>, role: Role) -> bool
         (StmtPart::Function(_), Role::FunctionHead | Role::MethodHead) => true,
         (StmtPart::Function(node), Role::MethodDecorators) => are_method_decorators(node),
         (StmtPart::Function(node), Role::MethodTail) => is_method_tail(node),
-        (StmtPart::Function(node), Role::PrivateTail) => is_private_tail(node),
+        (StmtPart::Function(node), Role::AccessorTail) => is_accessor_tail(node),
         (StmtPart::Class(node), Role::ClassHead) => is_class_head(node),
         (StmtPart::Class(node), Role::ClassTail) => node.is_well_formed(),
         (StmtPart::ClassMember(node), Role::Member) => node.is_well_formed(),

@@ -6,11 +6,10 @@ use crate::{held, made, names, values};
 use serde::Name;
 use swc_ecma_codegen_common::Span;
 use swc_ecma_codegen_tree::{
-    ExprBox, IdentName, JSXAttr, JSXAttrName, JSXAttrOrSpread, JSXAttrValue, JSXAttrValueBox,
-    JSXClosingElement, JSXClosingFragment, JSXElement, JSXElementChild, JSXElementChildBox,
-    JSXElementName, JSXEmptyExpr, JSXExpr, JSXExprContainer, JSXFragment, JSXMemberExpr,
-    JSXNamespacedName, JSXObject, JSXObjectBox, JSXOpeningElement, JSXOpeningFragment,
-    JSXSpreadChild,
+    ExprBox, IdentName, JSXAttr, JSXAttrName, JSXAttrOrSpread, JSXAttrValue, JSXClosingElement,
+    JSXClosingFragment, JSXElement, JSXElementChild, JSXElementName, JSXEmptyExpr, JSXExpr,
+    JSXExprContainer, JSXFragment, JSXMemberExpr, JSXNamespacedName, JSXObject, JSXObjectBox,
+    JSXOpeningElement, JSXOpeningFragment, JSXSpreadChild,
 };
 
 impl<N: Drop> ReadFrom<N> for JSXElement<N> {
@@ -18,10 +17,7 @@ impl<N: Drop> ReadFrom<N> for JSXElement<N> {
         Span,
         (
             JSXOpeningElement<N>,
-            (
-                Vec<JSXElementChildBox<N>>,
-                (Option<JSXClosingElement<N>>, ()),
-            ),
+            (Vec<JSXElementChild<N>>, (Option<JSXClosingElement<N>>, ())),
         ),
     );
 
@@ -79,7 +75,7 @@ impl<N: Drop> ReadFrom<N> for JSXFragment<N> {
         Span,
         (
             JSXOpeningFragment,
-            (Vec<JSXElementChildBox<N>>, (JSXClosingFragment, ())),
+            (Vec<JSXElementChild<N>>, (JSXClosingFragment, ())),
         ),
     );
 
@@ -205,7 +201,7 @@ impl<N: Drop> ReadFrom<N> for JSXAttrOrSpread<N> {
 }
 
 impl<N: Drop> ReadFrom<N> for JSXAttr<N> {
-    type Parts = (Span, (JSXAttrName, (Option<JSXAttrValueBox<N>>, ())));
+    type Parts = (Span, (JSXAttrName, (Option<JSXAttrValue<N>>, ())));
 
     fn names() -> &'static [Name<'static>] {
         names!(span, name, value)

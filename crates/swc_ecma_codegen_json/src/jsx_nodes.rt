@@ -4,23 +4,7 @@
 use crate::part;
 use crate::reading::{JSXPartSort, Make};
 use crate::source::{Failed, Source};
-use swc_ecma_codegen_tree::{
-    JSXAttrValue, JSXElement, JSXElementChild, JSXFragment, JSXObject, JSXPart,
-};
-
-fn jsx_element_child<N: Drop, S: Source, M: Make<N>>(
-    source: &mut S,
-    make: &M,
-) -> Result<JSXPart<N>, Failed> {
-    part!(JSXElementChild, source, make)
-}
-
-fn jsx_attr_value<N: Drop, S: Source, M: Make<N>>(
-    source: &mut S,
-    make: &M,
-) -> Result<JSXPart<N>, Failed> {
-    part!(JSXAttrValue, source, make)
-}
+use swc_ecma_codegen_tree::{JSXElement, JSXFragment, JSXObject, JSXPart};
 
 fn jsx_element<N: Drop, S: Source, M: Make<N>>(
     source: &mut S,
@@ -50,8 +34,6 @@ pub fn read_jsx_part<N: Drop, S: Source, M: Make<N>>(
     make: &M,
 ) -> Result<JSXPart<N>, Failed> {
     match sort {
-        JSXPartSort::JSXElementChild => jsx_element_child(source, make),
-        JSXPartSort::JSXAttrValue => jsx_attr_value(source, make),
         JSXPartSort::JSXElement => jsx_element(source, make),
         JSXPartSort::JSXFragment => jsx_fragment(source, make),
         JSXPartSort::JSXObject => jsx_object(source, make),

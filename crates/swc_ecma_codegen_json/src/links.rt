@@ -6,10 +6,9 @@ use crate::reading::{
 use crate::source::{Failed, Fault, Source};
 use swc_ecma_codegen_tree::{
     Link, ToAssignTarget, ToBlockStmt, ToClass, ToClassMember, ToDecl, ToExpr, ToFunction,
-    ToJSXAttrValue, ToJSXElement, ToJSXElementChild, ToJSXFragment, ToJSXObject, ToMemberExpr,
-    ToModuleDecl, ToObjectLit, ToOptCall, ToPat, ToPropName, ToStmt, ToTpl, ToTsEntityName,
-    ToTsFnParam, ToTsNamespaceBody, ToTsType, ToTsTypeAnn, ToTsTypeElement, ToTsTypeParamDecl,
-    ToTsTypeParamInstantiation, ToVarDecl,
+    ToJSXElement, ToJSXFragment, ToJSXObject, ToMemberExpr, ToModuleDecl, ToObjectLit, ToOptCall,
+    ToPat, ToPropName, ToStmt, ToTpl, ToTsEntityName, ToTsFnParam, ToTsNamespaceBody, ToTsType,
+    ToTsTypeAnn, ToTsTypeElement, ToTsTypeParamDecl, ToTsTypeParamInstantiation, ToVarDecl,
 };
 
 /// What a link is to, as what makes that knows it.
@@ -96,14 +95,6 @@ impl ReadSort for ToVarDecl {
 
 impl ReadSort for ToClassMember {
     const SORT: Sort = Sort::StmtPart(StmtPartSort::ClassMember);
-}
-
-impl ReadSort for ToJSXElementChild {
-    const SORT: Sort = Sort::JSXPart(JSXPartSort::JSXElementChild);
-}
-
-impl ReadSort for ToJSXAttrValue {
-    const SORT: Sort = Sort::JSXPart(JSXPartSort::JSXAttrValue);
 }
 
 impl ReadSort for ToJSXElement {

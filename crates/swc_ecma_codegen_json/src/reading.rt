@@ -43,8 +43,6 @@ pub enum StmtPartSort {
 /// The sorts of JSX.
 #[derive(Debug, Clone, Copy, PartialEq, Eq)]
 pub enum JSXPartSort {
-    JSXElementChild,
-    JSXAttrValue,
     JSXElement,
     JSXFragment,
     JSXObject,

@@ -56,7 +56,7 @@ use Rattle.swc_ecma_codegen_ast.specs.Phrases.{Phrase, Never, Nothing, One, Name
 use Rattle.swc_ecma_codegen_ast.specs.Phrases as phrases
 use Rattle.swc_ecma_codegen_ast.specs.Settings.{Settings}
 use Rattle.swc_ecma_codegen_ast.specs.declared.roles.Role.{Role}
-use Rattle.swc_ecma_codegen_ast.specs.declared.roles.Role.TheVariants.{Expression, Statement, MemberExpression, ChainMember, AssignmentTarget, Pattern, PlainParameter, PropertyName, ObjectLiteral, Function, FunctionHead, MethodHead, Block, Declaration, VariableDeclaration, Callee as IsCallee, ChainCall, Template, TaggedTemplate, ClassHead, ClassTail, Member, MethodDecorators, MethodTail, PrivateTail, ModuleDeclaration, ExportedHead, ExportedTail}
+use Rattle.swc_ecma_codegen_ast.specs.declared.roles.Role.TheVariants.{Expression, Statement, MemberExpression, ChainMember, AssignmentTarget, Pattern, PlainParameter, PropertyName, ObjectLiteral, Function, FunctionHead, MethodHead, Block, Declaration, VariableDeclaration, Callee as IsCallee, ChainCall, Template, TaggedTemplate, ClassHead, ClassTail, Member, MethodDecorators, MethodTail, AccessorTail, FieldValue, ModuleDeclaration, ExportedHead, ExportedTail}
 use Rattle.swc_ecma_codegen_ast.specs.NamePhrases as names
 use Rattle.swc_ecma_codegen_ast.specs.ExprPhrases as lists
 use Rattle.swc_ecma_codegen_ast.specs.LitPhrases as lit_lists
@@ -201,7 +201,7 @@ begins_update : (prefix : Bool) (op : List ℕ) (f : Phrase) (b : Bool) → Begi
 begins_update true op f b h = begins_then (mark op) f false (begins_mark op false)
 begins_update false op f b h = begins_then f (phrases.same_line > mark op) b h
 
--- In these roles something begins that is asked how it begins. A property and a member are never asked, and what stands before the
+-- In these roles something begins that is asked how it begins. A property, the value of one and a member are never asked, and what stands before the
 -- name of a method or before a class may be nothing.
 leads : Role → Bool
 leads MethodHead = false
@@ -210,7 +210,8 @@ leads ClassTail = false
 leads Member = false
 leads MethodDecorators = false
 leads MethodTail = false
-leads PrivateTail = false
+leads AccessorTail = false
+leads FieldValue = false
 leads ModuleDeclaration = false
 leads ExportedHead = false
 leads ExportedTail = false
@@ -472,7 +473,7 @@ stmt_part_begins reads starts law (stmt_parts.Function n) FunctionHead h = funct
 stmt_part_begins reads starts law (stmt_parts.Function n) MethodHead h = absurd (true≢false (sym h))
 stmt_part_begins reads starts law (stmt_parts.Function n) MethodDecorators h = absurd (true≢false (sym h))
 stmt_part_begins reads starts law (stmt_parts.Function n) MethodTail h = absurd (true≢false (sym h))
-stmt_part_begins reads starts law (stmt_parts.Function n) PrivateTail h = absurd (true≢false (sym h))
+stmt_part_begins reads starts law (stmt_parts.Function n) AccessorTail h = absurd (true≢false (sym h))
 stmt_part_begins reads starts law (stmt_parts.Decl n) ExportedHead h = absurd (true≢false (sym h))
 stmt_part_begins reads starts law (stmt_parts.Decl n) ExportedTail h = absurd (true≢false (sym h))
 stmt_part_begins reads starts law (stmt_parts.ModuleDecl n) ModuleDeclaration h = absurd (true≢false (sym h))
@@ -491,6 +492,7 @@ node_begins reads starts law (nodes.Expr n) IsCallee h = callee_expr_begins read
 node_begins reads starts law (nodes.Stmt n) Statement h = stmt_begins reads starts law n
 node_begins reads starts law (nodes.MemberExpr n) MemberExpression h = begins_then _ _ _ (law n.obj.node.value IsCallee refl)
 node_begins reads starts law (nodes.MemberExpr n) (ChainMember optional) h = begins_then _ _ _ (law n.obj.node.value IsCallee refl)
+node_begins reads starts law (nodes.Expr n) FieldValue h = absurd (true≢false (sym h))
 node_begins reads starts law (nodes.ExprPart n) role h = part_begins reads starts law n role h
 node_begins reads starts law (nodes.StmtPart n) role h = stmt_part_begins reads starts law n role h
 node_begins reads starts law n role h = begins_never _

@@ -1,3 +1,6 @@
+pub mod BasicTrees
 pub mod ClosedMaps
 pub mod FirstTokens
 pub mod LinkLaws
+pub mod Quiet
+pub mod SameTokens

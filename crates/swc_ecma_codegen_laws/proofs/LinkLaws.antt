@@ -27,13 +27,13 @@ use Rattle.swc_ecma_codegen.specs.Lists.{if_some_at}
 use Rattle.swc_ecma_codegen.specs.Roots.{Root, OfExpr, OfStmt, OfItem, OfModule, OfScript, OfProgram, OfLink, root_items}
 use Rattle.swc_ecma_codegen_laws.specs.HeldRoots.{IsHeld}
 use Rattle.swc_ecma_codegen.specs.Tree.{any_items}
-use Rattle.swc_ecma_codegen.proofs.Knots.{any_items_expr, any_items_stmt, any_items_member_expr, any_items_expr_part}
+use Rattle.swc_ecma_codegen.proofs.Knots.{any_items_plain_expr, any_items_stmt, any_items_member_expr, any_items_expr_part}
 
 -- ---- what is written
 
 -- a link writes what it holds
 pub held_written : (n : AnyNode) (root : Root) → IsHeld n root → any_items n Plain ≡ root_items root
-held_written n (OfExpr e) h = ap (λ z. any_items z Plain) h ∙ any_items_expr e Plain
+held_written n (OfExpr e) h = ap (λ z. any_items z Plain) h ∙ any_items_plain_expr e
 held_written n (OfStmt s) h = ap (λ z. any_items z Plain) h ∙ any_items_stmt s Plain
 held_written n (OfLink m role) h = ap (λ z. any_items z Plain) h.0 ∙ ap (any_items m) (sym h.1)
 held_written n (OfItem i) h = absurd h

@@ -1,2 +1,4 @@
+pub mod Basic
 pub mod FirstTokens
 pub mod HeldRoots
+pub mod SameTokens

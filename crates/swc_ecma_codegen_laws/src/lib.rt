@@ -17,7 +17,7 @@ ghost use Rattle.swc_ecma_codegen_util.specs.declared.config.Config.{Config};
 ghost use Rattle.swc_ecma_codegen_ast.specs.Tokens.{Token};
 ghost use Rattle.swc_ecma_codegen_ast.specs.Phrases.{Phrase, Generates};
 ghost use Rattle.swc_ecma_codegen_ast.specs.Settings.{Settings};
-ghost use Rattle.swc_ecma_codegen_ast.specs.Layouts.{AreAlike, AreSameBut, IsWritten};
+ghost use Rattle.swc_ecma_codegen_ast.specs.Layouts.{AreAlike, Alongside, AreSameBut, IsWritten, leaves_open};
 ghost use Rattle.swc_ecma_codegen_ast.specs.TemplatePhrases.{is_counted};
 ghost use Rattle.swc_ecma_codegen_ast.specs.TreePhrases.{expr_phrase};
 ghost use Rattle.swc_ecma_codegen_text_writer.specs.Sheet.{HoldsNone};
@@ -27,11 +27,13 @@ ghost use Rattle.swc_ecma_codegen_ast.specs.SourceLines.{Lines};
 ghost use Rattle.swc_ecma_codegen_ast.specs.CommentMaps.{Maps, with_leading, with_trailing};
 ghost use Rattle.swc_ecma_codegen_ast.specs.Comments.{is_closed, remark_of, AreClosed};
 ghost use Rattle.swc_ecma_codegen_ast.specs.declared.comments.Comment.{Comment};
-ghost use Rattle.swc_ecma_codegen_base.specs.Run.{Env, Follows, Plan, State, nothing, refused, makes_text, start, steps_in, steps_of, unprintable_in};
+ghost use Rattle.swc_ecma_codegen_base.specs.Run.{Env, Follows, Plan, State, nothing, refused, makes_text, spoken, start, steps_in, steps_of, unprintable_in};
 ghost use Rattle.swc_ecma_codegen_base.specs.Lits.{prints_raw, string_at, value_text};
 ghost use Rattle.swc_ecma_codegen_base.specs.Scripts.{value_strings};
 ghost use Rattle.swc_ecma_codegen_base.specs.Targets.{is_out};
-ghost use Rattle.swc_ecma_codegen_base.specs.Written.{IsLineEnd, IsNew, all_indent};
+ghost use Rattle.swc_ecma_codegen_ast.specs.Trivia.{Remark};
+ghost use Rattle.swc_ecma_codegen_base.specs.Settings.{settings_of};
+ghost use Rattle.swc_ecma_codegen_base.specs.Written.{IsLineEnd, IsNew, ReadsAs, all_indent, taken_remarks};
 ghost use Rattle.swc_ecma_codegen_base.specs.Ready.{IsReady};
 ghost use Rattle.swc_ecma_codegen_util.specs.Starts.{expr_starts, any_starts};
 ghost use Rattle.swc_ecma_codegen.specs.declared.nodes.Place.TheVariants.{Plain};
@@ -42,12 +44,15 @@ ghost use Rattle.swc_ecma_codegen.specs.Stmts.{stmt as stmt_items};
 ghost use Rattle.swc_ecma_codegen.specs.Templates.{tpl};
 ghost use Rattle.swc_ecma_codegen.specs.Tree.{any_items};
 ghost use Rattle.swc_ecma_codegen_base.specs.Escapes.{may_make_text};
-ghost use Rattle.swc_ecma_codegen_base.specs.Ascii.{keeps_other, may_keep_other, WantsAscii};
+ghost use Rattle.swc_ecma_codegen_base.specs.Ascii.{other_texts, may_keep_other, WantsAscii};
 ghost use Rattle.swc_ecma_codegen.specs.Roots.{Root, OfExpr, OfStmt, root_items, root_phrase, root_hashbang, is_well_formed_root, MayBegin};
 ghost use Rattle.swc_ecma_codegen_laws.specs.FirstTokens.{joins_a_word};
+ghost use Rattle.swc_ecma_codegen_laws.specs.SameTokens.{AddTokensAlike, AddOneList};
 
+mod basic;
 mod links;
 
+pub use crate::basic::{basic_nodes_take_no_memory, basic_trees_take_no_memory};
 pub use crate::links::{
     emitted_box_reads, emitted_link_reads, emitted_option_reads, emitted_ref_reads,
     links_write_members, links_write_targets, links_write_their_roots,
@@ -107,12 +112,12 @@ pub fn plain_trees_take_no_memory()
     ensures { (root : Root) (s : State) → is_well_formed_root root ≡ true → s.env.keeps_invalid ≡ false → may_make_text s.env.config (root_phrase root) ≡ false → makes_text (steps_of (steps_in (root_items root) s)) ≡ false }
 {}
 
-/// No text stands as it is in the tree and isn't ASCII, among the steps of an emission of a well-formed tree whose names can
-/// all be written, where each regular expression and hashbang of the tree is ASCII and no string of it reads `use strict`: what the
-/// clause `ascii` of `emit_with` asks. With such a string it asks that this one has no backslash, or is ASCII.
+/// Only texts of comments aren't ASCII among the steps of an emission of a well-formed tree whose names can all be written,
+/// where each regular expression, template with a tag and hashbang of the tree is ASCII and no string of it reads `use strict`: of
+/// these texts the clause `ascii` of `emit_with` speaks. Such a string is another only where it has a backslash and isn't ASCII.
 #[tactic(auto, using(swc_ecma_codegen::proofs::TreeReads::root_keeps))]
 pub fn plain_trees_keep_no_other_text()
-    ensures { (root : Root) (s : State) → is_well_formed_root root ≡ true → s.env.keeps_invalid ≡ false → is_out s.env.config (root_phrase root) ≡ false → may_keep_other (root_phrase root) ≡ false → keeps_other (steps_of (steps_in (root_items root) s)) ≡ false }
+    ensures { (root : Root) (s : State) → is_well_formed_root root ≡ true → s.env.keeps_invalid ≡ false → is_out s.env.config (root_phrase root) ≡ false → may_keep_other (root_phrase root) ≡ false → other_texts (steps_of (steps_in (root_items root) s)) ≡ spoken (steps_of (steps_in (root_items root) s)) }
 {}
 
 /// A string literal is printed by its value exactly where its raw isn't printed: it is one of the strings that the clause
@@ -148,10 +153,31 @@ pub fn bad_shapes_are_refused_first()
     ensures template { (n : Tpl AnyNode) (tagged : Bool) (rest : Plan) (env : Env) → is_counted n.exprs.items n.quasis.items ≡ false → tpl any_items tagged n rest env ≡ refused BadShape }
 {}
 
-/// The lists of a tree under settings that differ in whether they minify are the same but for semicolons that end a
-/// statement, commas and pairs of parentheses: `(a) => new B();` and minified `a=>new B`. So are those that are written of
-/// it, where a writer leaves semicolons out.
+/// Under settings that differ in whether they minify the lists of a tree are the same part for part, but for what syntax leaves
+/// open: a comma before the mark that closes a list, some parentheses, and the empty arguments of `new`: `(a) => new B();`
+/// and minified `a=>new B`. So are those that what is written of it is reduced from, where a writer leaves semicolons out. By
+/// their tokens alone the written lists are the same but for semicolons that end a statement, commas before `]` and `}`,
+/// and pairs of parentheses.
 pub fn layouts_keep_the_tokens()
-    ensures lists { (s t : Settings) (phrase : Phrase) (xs ys : List Token) → AreAlike s t → Generates s phrase xs → Generates t phrase ys → AreSameBut xs ys }
-    ensures written { (s t : Settings) (phrase : Phrase) (xs ys : List Token) → AreAlike s t → IsWritten s phrase xs → IsWritten t phrase ys → AreSameBut xs ys }
+    ensures lists { (s t : Settings) (phrase : Phrase) (xs ys : List Token) → AreAlike s t → Generates s phrase xs → Generates t phrase ys → Alongside s t phrase xs ys }
+    ensures reduced { (s t : Settings) (phrase : Phrase) (us vs : List Token) → AreAlike s t → (x : IsWritten s phrase us) → (y : IsWritten t phrase vs) → Alongside s t phrase x.tokens y.tokens }
+    ensures written { (s t : Settings) (phrase : Phrase) (us vs : List Token) → AreAlike s t → IsWritten s phrase us → IsWritten t phrase vs → AreSameBut us vs }
+{}
+
+/// Two emissions of one well-formed tree under the same settings write the same tokens with the same values, whatever the map of
+/// the source text answers, whatever the indentation, the line end and the comments, but for what syntax leaves open: a
+/// comma before `]` or `}`, which is asked of the source text, and parentheses round the only parameter of an arrow function or
+/// round an argument, which depend on comments. So do two texts that each read as the tree; and where syntax leaves nothing
+/// open, all that is written is the same, over a writer that holds no semicolons back.
+pub fn source_texts_keep_the_tokens()
+    ensures texts { (config : Config) (holds : Bool) (phrase : Phrase) (first second : List Remark) (us vs : List ℕ) → (x : ReadsAs config holds phrase first us) → (y : ReadsAs config holds phrase second vs) → Alongside (settings_of config) (settings_of config) phrase x.tokens y.tokens }
+    ensures same { (config : Config) (phrase : Phrase) (first second : List Remark) (us vs : List ℕ) → leaves_open phrase ≡ false → (x : ReadsAs config false phrase first us) → (y : ReadsAs config false phrase second vs) → x.written ≡ y.written }
+    ensures emissions { (root : Root) (a b c d : State) → is_well_formed_root root ≡ true → MayBegin root a → MayBegin root c → AreClosed a.env.maps → AreClosed c.env.maps → a.env.config ≡ c.env.config → Follows (root_items root nothing) a b (Ok tt) → Follows (root_items root nothing) c d (Ok tt) → AddTokensAlike c.env.config (root_phrase root) (taken_remarks (root_items root) a.env) (taken_remarks (root_items root) c.env) a.sheet b.sheet c.sheet d.sheet }
+{}
+
+/// Two emissions of one well-formed tree that go by the same settings, the same answers of the map of the source text and the
+/// same comments write one list of tokens, with the same comments between, whatever the indentation, the line end, and
+/// what was written before. Where a writer holds semicolons back, some of those that end a statement may be left out of it.
+pub fn indentations_keep_the_tokens()
+    ensures { (root : Root) (a b c d : State) → is_well_formed_root root ≡ true → MayBegin root a → MayBegin root c → AreClosed a.env.maps → a.env ≡ c.env → Follows (root_items root nothing) a b (Ok tt) → Follows (root_items root nothing) c d (Ok tt) → AddOneList a.env.config (root_phrase root) (taken_remarks (root_items root) a.env) a.sheet b.sheet c.sheet d.sheet }
 {}

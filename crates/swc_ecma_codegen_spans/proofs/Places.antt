@@ -13,9 +13,7 @@ use Rattle.swc_ecma_codegen_tree.specs.declared.classes.ClassMember.{ClassMember
 use Rattle.swc_ecma_codegen_tree.specs.declared.decls.Decl.{Decl}
 use Rattle.swc_ecma_codegen_tree.specs.declared.exprs.Expr.{Expr}
 use Rattle.swc_ecma_codegen_tree.specs.declared.decls.Function.{Function}
-use Rattle.swc_ecma_codegen_tree.specs.declared.jsx.JSXAttrValue.{JSXAttrValue}
 use Rattle.swc_ecma_codegen_tree.specs.declared.jsx.JSXElement.{JSXElement}
-use Rattle.swc_ecma_codegen_tree.specs.declared.jsx.JSXElementChild.{JSXElementChild}
 use Rattle.swc_ecma_codegen_tree.specs.declared.jsx.JSXFragment.{JSXFragment}
 use Rattle.swc_ecma_codegen_tree.specs.declared.jsx.JSXObject.{JSXObject}
 use Rattle.swc_ecma_codegen_tree.specs.declared.exprs.MemberExpr.{MemberExpr}
@@ -43,8 +41,6 @@ use Rattle.swc_ecma_codegen_tree.specs.declared.pats.AssignTargetPat.TheVariants
 use Rattle.swc_ecma_codegen_tree.specs.declared.classes.ClassMember.TheVariants as class_members
 use Rattle.swc_ecma_codegen_tree.specs.declared.decls.Decl.TheVariants as decls
 use Rattle.swc_ecma_codegen_tree.specs.declared.exprs.Expr.TheVariants as exprs
-use Rattle.swc_ecma_codegen_tree.specs.declared.jsx.JSXAttrValue.TheVariants as jsx_attr_values
-use Rattle.swc_ecma_codegen_tree.specs.declared.jsx.JSXElementChild.TheVariants as jsx_element_childs
 use Rattle.swc_ecma_codegen_tree.specs.declared.jsx.JSXObject.TheVariants as jsx_objects
 use Rattle.swc_ecma_codegen_tree.specs.declared.programs.ModuleDecl.TheVariants as module_decls
 use Rattle.swc_ecma_codegen_tree.specs.declared.pats.Pat.TheVariants as pats
@@ -67,7 +63,7 @@ use Rattle.swc_ecma_codegen_tree.specs.declared.parts.JSXPart.TheVariants as jsx
 use Rattle.swc_ecma_codegen_tree.specs.declared.parts.TsPart.{TsPart}
 use Rattle.swc_ecma_codegen_tree.specs.declared.parts.TsPart.TheVariants as ts_parts
 use Rattle.std.specs.Box.{with_value}
-use Rattle.swc_ecma_codegen_spans.specs.Spans.{assign_target_pat_span, assign_target_span, binding_ident_span, class_decl_span, class_expr_span, class_member_span, decl_span, expr_span, fn_decl_span, fn_expr_span, jsx_attr_value_span, jsx_element_child_span, jsx_member_expr_span, jsx_namespaced_name_span, jsx_object_span, lit_span, module_decl_span, pat_span, prop_name_span, simple_assign_target_span, stmt_span, ts_entity_name_span, ts_fn_or_constructor_type_span, ts_fn_param_span, ts_namespace_body_span, ts_type_element_span, ts_type_span, ts_union_or_intersection_type_span, node_span, any_span, expr_part_span, stmt_part_span, jsx_part_span, ts_part_span}
+use Rattle.swc_ecma_codegen_spans.specs.Spans.{assign_target_pat_span, assign_target_span, binding_ident_span, class_decl_span, class_expr_span, class_member_span, decl_span, expr_span, fn_decl_span, fn_expr_span, jsx_member_expr_span, jsx_namespaced_name_span, jsx_object_span, lit_span, module_decl_span, pat_span, prop_name_span, simple_assign_target_span, stmt_span, ts_entity_name_span, ts_fn_or_constructor_type_span, ts_fn_param_span, ts_namespace_body_span, ts_type_element_span, ts_type_span, ts_union_or_intersection_type_span, node_span, any_span, expr_part_span, stmt_part_span, jsx_part_span, ts_part_span}
 
 known_of : AnyNode-F AnyNode → AnyNode-F Span
 known_of = map-AnyNode AnyNode Span any_span
@@ -180,21 +176,6 @@ ts_type_known b (ts_types.TsMappedType n) = refl
 ts_type_known b (ts_types.TsLitType n) = refl
 ts_type_known b (ts_types.TsTypePredicate n) = refl
 ts_type_known b (ts_types.TsImportType n) = refl
-
-jsx_element_child_known : (n : JSXElementChild AnyNode) → node_span (λ known. known) (known_of (nodes.JSXPart (jsx_parts.JSXElementChild n))) ≡ jsx_element_child_span any_span n
-unfolding node_span known_of jsx_part_span jsx_element_child_span
-jsx_element_child_known (jsx_element_childs.JSXText n) = refl
-jsx_element_child_known (jsx_element_childs.JSXExprContainer n) = refl
-jsx_element_child_known (jsx_element_childs.JSXSpreadChild n) = refl
-jsx_element_child_known (jsx_element_childs.JSXElement n) = refl
-jsx_element_child_known (jsx_element_childs.JSXFragment n) = refl
-
-jsx_attr_value_known : (b : (Box (JSXAttrValue AnyNode) Global)) (n : JSXAttrValue AnyNode) → node_span (λ known. known) (known_of (nodes.JSXPart (jsx_parts.JSXAttrValue (with_value b n)))) ≡ jsx_attr_value_span any_span n
-unfolding node_span known_of jsx_part_span jsx_attr_value_span lit_span
-jsx_attr_value_known b (jsx_attr_values.Lit n) = refl
-jsx_attr_value_known b (jsx_attr_values.JSXExprContainer n) = refl
-jsx_attr_value_known b (jsx_attr_values.JSXElement n) = refl
-jsx_attr_value_known b (jsx_attr_values.JSXFragment n) = refl
 
 ts_namespace_body_known : (n : TsNamespaceBody AnyNode) → node_span (λ known. known) (known_of (nodes.TsPart (ts_parts.TsNamespaceBody n))) ≡ ts_namespace_body_span n
 unfolding node_span known_of ts_part_span ts_namespace_body_span
@@ -350,8 +331,6 @@ stmt_part_known (stmt_parts.ClassMember n) = class_member_known n n.value
 
 jsx_part_known : (n : JSXPart AnyNode) → node_span (λ known. known) (known_of (nodes.JSXPart n)) ≡ jsx_part_span any_span n
 unfolding node_span known_of jsx_part_span
-jsx_part_known (jsx_parts.JSXElementChild n) = jsx_element_child_known n
-jsx_part_known (jsx_parts.JSXAttrValue n) = jsx_attr_value_known n n.value
 jsx_part_known (jsx_parts.JSXElement n) = jsx_element_known n n.value
 jsx_part_known (jsx_parts.JSXFragment n) = jsx_fragment_known n
 jsx_part_known (jsx_parts.JSXObject n) = jsx_object_known n

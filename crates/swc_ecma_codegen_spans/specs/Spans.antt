@@ -543,8 +543,6 @@ stmt_part_span f (stmt_parts.VarDecl n) = n.span
 stmt_part_span f (stmt_parts.ClassMember n) = class_member_span n.value
 
 unfoldable pub jsx_part_span : {X : Type 0} → (X → Span) → JSXPart X → Span
-jsx_part_span f (jsx_parts.JSXElementChild n) = jsx_element_child_span f n
-jsx_part_span f (jsx_parts.JSXAttrValue n) = jsx_attr_value_span f n.value
 jsx_part_span f (jsx_parts.JSXElement n) = n.value.span
 jsx_part_span f (jsx_parts.JSXFragment n) = n.span
 jsx_part_span f (jsx_parts.JSXObject n) = jsx_object_span f n

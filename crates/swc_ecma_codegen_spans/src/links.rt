@@ -53,8 +53,6 @@ impl<N: Spanned> Spanned for JSXPart<N> {
     #[tactic(auto, unfolding(crate::specs::Spans::jsx_part_span))]
     fn span(&self) -> Span {
         match self {
-            JSXPart::JSXElementChild(node) => node.span(),
-            JSXPart::JSXAttrValue(node) => node.span(),
             JSXPart::JSXElement(node) => node.span(),
             JSXPart::JSXFragment(node) => node.span(),
             JSXPart::JSXObject(node) => node.span(),

@@ -4,8 +4,8 @@ use crate::checks::Tally;
 use crate::emissions::Emission;
 use crate::pipes::Page;
 use crate::trees::{
-    DECREMENT, EXPORT, HASHBANGS, INVALID, MEMBER, Tree, expr_of, script_of, settings,
-    statement_of, written_by_links, written_parts, written_whole,
+    DECREMENT, DEFAULT_EXPORT, EXPORT, HASHBANGS, INVALID, MEMBER, Tree, expr_of, script_of,
+    settings, statement_of, written_by_links, written_parts, written_whole,
 };
 use std::alloc::{AllocError, Global};
 use std::test::Fail;
@@ -171,9 +171,9 @@ fn prints_hashbangs<N: Tree>(alloc: Global) -> Result<bool, Fail> {
     Ok(all)
 }
 
-/// Whether a tree that can't be printed isn't well-formed, and is refused after what stands before it.
-fn stops_after<P: Node + WellFormed>(alloc: Global, tree: &P, front: &str) -> bool {
-    let emission = Emission::of(alloc, tree, settings(true), Page::new());
+/// Whether a tree that can't be printed isn't well-formed, and is refused after this beginning of its text.
+fn stops_after<P: Node + WellFormed>(alloc: Global, tree: &P, minify: bool, front: &str) -> bool {
+    let emission = Emission::of(alloc, tree, settings(minify), Page::new());
     matches!(&emission.answer, Err(Error::UnsupportedNode))
         && emission.stopped_after(front)
         && !tree.is_well_formed()
@@ -182,7 +182,16 @@ fn stops_after<P: Node + WellFormed>(alloc: Global, tree: &P, front: &str) -> bo
 /// Whether an expression that can't be printed is refused before its first token.
 fn stops_before_invalid<N: Tree>(alloc: Global) -> Result<bool, Fail> {
     let tree = N::read(alloc, INVALID)?;
-    Ok(stops_after(alloc, &tree.0, "a;"))
+    Ok(stops_after(alloc, &tree.0, true, "a;"))
+}
+
+/// Whether a default specifier among braces, which no language has, is refused where its name would stand.
+fn stops_within_braces<N: Tree>(alloc: Global) -> Result<bool, Fail> {
+    let tree = N::read(alloc, DEFAULT_EXPORT)?;
+    Ok(
+        stops_after(alloc, &tree.0, false, "export { ")
+            && stops_after(alloc, &tree.0, true, "export{"),
+    )
 }
 
 pub(crate) fn check<N: Tree>(alloc: Global, tally: &mut Tally) -> Result<(), Fail> {
@@ -216,6 +225,10 @@ pub(crate) fn check<N: Tree>(alloc: Global, tally: &mut Tally) -> Result<(), Fai
     tally.unless(
         stops_before_invalid::<N>(alloc)?,
         "what can't be printed is refused before its first token",
+    )?;
+    tally.unless(
+        stops_within_braces::<N>(alloc)?,
+        "a default specifier is refused among the braces of its export",
     )?;
     Ok(())
 }

@@ -16,13 +16,14 @@ use swc_ecma_codegen_common::{DUMMY_SP, Error, EsVersion, Result as Answer};
 use swc_ecma_codegen_grammar::Fits;
 use swc_ecma_codegen_json::{ReadError, Tree as ReadTree, program_from_slice};
 use swc_ecma_codegen_laws::{
-    added_comments_can_be_read_back, bad_shapes_are_refused_first, emitted_box_reads,
-    emitted_link_reads, emitted_option_reads, emitted_ref_reads,
-    expressions_and_statements_are_roots, first_token_is_told, layouts_keep_the_tokens,
-    links_write_members, links_write_targets, links_write_their_roots,
-    names_out_of_target_are_refused, new_emitter_reads, one_reading,
-    plain_trees_keep_no_other_text, plain_trees_take_no_memory, reduced_tokens_read,
-    spaced_tokens_read, strings_by_value_are_told, well_formed_trees_are_supported,
+    added_comments_can_be_read_back, bad_shapes_are_refused_first, basic_nodes_take_no_memory,
+    basic_trees_take_no_memory, emitted_box_reads, emitted_link_reads, emitted_option_reads,
+    emitted_ref_reads, expressions_and_statements_are_roots, first_token_is_told,
+    indentations_keep_the_tokens, layouts_keep_the_tokens, links_write_members,
+    links_write_targets, links_write_their_roots, names_out_of_target_are_refused,
+    new_emitter_reads, one_reading, plain_trees_keep_no_other_text, plain_trees_take_no_memory,
+    reduced_tokens_read, source_texts_keep_the_tokens, spaced_tokens_read,
+    strings_by_value_are_told, well_formed_trees_are_supported,
 };
 use swc_ecma_codegen_spans::Spanned;
 use swc_ecma_codegen_text_writer::{JsWriter, WriteJs};
@@ -57,6 +58,10 @@ pub(crate) const LITERALS: &str =
 /// `export { a } from "b" with { c: "d" }`, at no place
 pub(crate) const EXPORT: &str =
     r#"{"Module":{"span":{"lo":0,"hi":0},"body":[{"ModuleDecl":{"ExportNamed":{"span":{"lo":0,"hi":0},"specifiers":[{"Named":{"span":{"lo":0,"hi":0},"orig":{"Ident":{"span":{"lo":0,"hi":0},"sym":"a","optional":false}},"exported":null,"is_type_only":false}}],"src":{"span":{"lo":0,"hi":0},"value":"b","raw":null},"type_only":false,"with":{"span":{"lo":0,"hi":0},"props":[{"Prop":{"KeyValue":{"key":{"Ident":{"span":{"lo":0,"hi":0},"sym":"c"}},"value":{"Lit":{"Str":{"span":{"lo":0,"hi":0},"value":"d","raw":null}}}}}}]}}}}],"shebang":null}}"#;
+
+/// An export from `"d"` of the default specifier `a`, at no place
+pub(crate) const DEFAULT_EXPORT: &str =
+    r#"{"Module":{"span":{"lo":0,"hi":0},"body":[{"ModuleDecl":{"ExportNamed":{"span":{"lo":0,"hi":0},"specifiers":[{"Default":{"span":{"lo":0,"hi":0},"exported":{"span":{"lo":0,"hi":0},"sym":"a","optional":false}}}],"src":{"span":{"lo":0,"hi":0},"value":"d","raw":null},"type_only":false,"with":null}}}],"shebang":null}}"#;
 
 /// An import from `"d"` of `b`, of `c`, and of a namespace `a`
 pub(crate) const CROWDED: &str =
@@ -303,6 +308,8 @@ fn laws_of_links() {
 /// The laws of trees: they do nothing.
 fn laws_of_trees() {
     plain_trees_take_no_memory();
+    basic_trees_take_no_memory();
+    basic_nodes_take_no_memory();
     plain_trees_keep_no_other_text();
     strings_by_value_are_told();
     names_out_of_target_are_refused();
@@ -310,6 +317,8 @@ fn laws_of_trees() {
     bad_shapes_are_refused_first();
     added_comments_can_be_read_back();
     layouts_keep_the_tokens();
+    source_texts_keep_the_tokens();
+    indentations_keep_the_tokens();
 }
 
 /// Writes the expression of a statement by its link, what a box holds, and the expression.

@@ -7,19 +7,10 @@ use Rattle.swc_ecma_codegen_common.specs.declared.errors.Refusal.TheVariants.{Wr
 use Rattle.swc_ecma_codegen_common.specs.declared.positions.BytePos.{BytePos}
 use Rattle.swc_ecma_codegen_common.specs.declared.positions.Span.{Span}
 use Rattle.swc_ecma_codegen_text_writer.specs.Told.{Rises, IsFront}
+use Rattle.swc_ecma_codegen_text_writer.specs.Places.{Place, after_text}
+use Rattle.swc_ecma_codegen_text_writer.proofs.Sheets.{front_refl, front_append, front_trans, placed_on}
 use Rattle.swc_ecma_codegen_text_writer.specs.Sheet.{Sheet, Item, Semi, Space, Keyword, Operator, Param, Property, Line, Lit, Comment, StrLit, Str, Symbol, Punct, Position, Commit, Deeper, Shallower, Semicolons, AtOnce, HoldsNone, HoldsOne, holds_semicolons, appended, indented, with_pair, has_pair, pair_at, recorded, start_recorded, end_recorded, pending_recorded, started, written, literal_written, ended, pointed, settled_by, settled, semicolon_by, dropped, is_ending, before_punct, effect, Causes, Stopped, Refuses, earlier, stopped, Writes}
 use Rattle.swc_ecma_codegen_text_writer.specs.Held.{semicolons_of, with_held, WritesAtOnce, Settles}
-
--- ---- fronts
-
-front_refl : {A : Type 0} (t : List A) → IsFront t t
-front_refl t = ([], sym (append-nil t))
-
-front_append : {A : Type 0} (t u : List A) → IsFront t (t ++ u)
-front_append t u = (u, refl)
-
-front_trans : {A : Type 0} (t u v : List A) → IsFront t u → IsFront u v → IsFront t v
-front_trans t u v h k = (h.0 ++ k.0, k.1 ∙ ap (λ x. x ++ k.0) h.1 ∙ append_assoc t h.0 k.0)
 
 -- ---- a sheet but for its semicolons
 
@@ -99,16 +90,18 @@ pointed_moves q pos s =
 -- from the first sheet to the second only text was written
 record Way (a b : Sheet) : Type 0 where
   pub text : IsFront a.text b.text
+  pub place : b.place ≡ after_text text.0 a.place
   pub pairs : IsFront a.pairs b.pairs
   pub same : b ≡ record a { text = b.text; at_line_start = b.at_line_start; semicolons = b.semicolons; pairs = b.pairs; pending = b.pending; place = b.place }
 
 way_refl : (a : Sheet) → Way a a
-way_refl a = record { text = front_refl a.text; pairs = front_refl a.pairs; same = refl }
+way_refl a = record { text = front_refl a.text; place = unfold after_text in refl; pairs = front_refl a.pairs; same = refl }
 
 way_trans : (a b c : Sheet) → Way a b → Way b c → Way a c
 way_trans a b c h k =
     record {
       text = front_trans a.text b.text c.text h.text k.text;
+      place = placed_on h.text.0 k.text.0 a.place b.place c.place h.place k.place;
       pairs = front_trans a.pairs b.pairs c.pairs h.pairs k.pairs;
       same = k.same ∙ ap (λ (s : Sheet). record s { text = c.text; at_line_start = c.at_line_start; semicolons = c.semicolons; pairs = c.pairs; pending = c.pending; place = c.place }) h.same;
     }
@@ -123,7 +116,7 @@ recorded_way : (pos : BytePos) (s : Sheet) → Way s (recorded pos s)
 unfolding recorded
 recorded_way pos s =
     elim s.keeps_positions as (λ b. Way s (cond b (record s { pairs = with_pair pos s.place s.pairs }) s))
-    [ true ↦ record { text = front_refl s.text; pairs = with_pair_grows pos s; same = refl } | false ↦ way_refl s ]
+    [ true ↦ record { text = front_refl s.text; place = unfold after_text in refl; pairs = with_pair_grows pos s; same = refl } | false ↦ way_refl s ]
 
 start_way : (span : Option Span) (s : Sheet) → Way s (start_recorded span s)
 unfolding start_recorded
@@ -137,11 +130,11 @@ end_way (Some span) s = recorded_way span.hi s
 
 -- another start of a line, other semicolons and another pending position
 alike_way : (b : Bool) (q : Semicolons) (p : Option BytePos) (s : Sheet) → Way s (record s { at_line_start = b; semicolons = q; pending = p })
-alike_way b q p s = record { text = front_refl s.text; pairs = front_refl s.pairs; same = refl }
+alike_way b q p s = record { text = front_refl s.text; place = unfold after_text in refl; pairs = front_refl s.pairs; same = refl }
 
 appended_way : (t : List ℕ) (s : Sheet) → Way s (appended t s)
 unfolding appended
-appended_way t s = record { text = front_append s.text t; pairs = front_refl s.pairs; same = refl }
+appended_way t s = record { text = front_append s.text t; place = refl; pairs = front_refl s.pairs; same = refl }
 
 pending_way : (p : Option BytePos) (s : Sheet) → Way s (pending_recorded p s)
 unfolding pending_recorded
@@ -422,6 +415,7 @@ lifted_err x y p q a b e d h l (stopped i j k) =
     stopped i (causes_held x y e p p a b d j) (record {
       grows = k.grows;
       front = subst Text goal k.front;
+      place = k.place;
       more_pairs = k.more_pairs;
       front_pairs = subst Pairs goal k.front_pairs;
       held = inl refl;
@@ -512,6 +506,7 @@ stopped_on x m a b c e k =
     record {
       grows = front_trans a.text b.text c.text way.text k.grows;
       front = subst Text goal k.front;
+      place = placed_on way.text.0 k.grows.0 a.place b.place c.place way.place k.place;
       more_pairs = front_trans a.pairs b.pairs c.pairs way.pairs k.more_pairs;
       front_pairs = subst Pairs goal k.front_pairs;
       held = inr (lost, subst Out e k.grows);
@@ -564,6 +559,7 @@ settled_not x m a b e (stopped i j k) =
     let Pairs : Sheet → Type 0 = λ z. IsFront b.pairs z.pairs in
     stopped i (commit_causes x e a b j) (record {
       grows = k.grows;
+      place = k.place;
       front = subst Text (sym (m.is a)) (front_trans b.text (settled a).text (m.act (settled a)).text k.front (m.text (settled a)));
       more_pairs = k.more_pairs;
       front_pairs = subst Pairs (sym (m.is a)) (front_trans b.pairs (settled a).pairs (m.act (settled a)).pairs k.front_pairs (m.pairs (settled a)));

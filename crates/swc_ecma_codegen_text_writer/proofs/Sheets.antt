@@ -4,44 +4,51 @@ use Rattle.std.specs.List.{repeat}
 use Rattle.swc_ecma_codegen_common.specs.declared.errors.Refusal.{Refusal}
 use Rattle.swc_ecma_codegen_common.specs.declared.positions.BytePos.{BytePos}
 use Rattle.swc_ecma_codegen_common.specs.declared.positions.Span.{Span}
-use Rattle.swc_ecma_codegen_text_writer.specs.Places.{Place}
+use Rattle.swc_ecma_codegen_text_writer.specs.Places.{Place, after_text}
+use Rattle.swc_ecma_codegen_text_writer.proofs.Pairs.{after_both}
 use Rattle.swc_ecma_codegen_text_writer.specs.Told.{IsFront}
 use Rattle.swc_ecma_codegen_text_writer.specs.Sheet.{Sheet, Item, Pair, Semi, Space, Keyword, Operator, Param, Property, Line, Lit, Comment, StrLit, Str, Symbol, Punct, Position, Commit, Deeper, Shallower, Semicolons, AtOnce, HoldsNone, HoldsOne, holds_semicolons, has_pair, pair_at, with_pair, recorded, start_recorded, end_recorded, pending_recorded, appended, indented, started, written, literal_written, ended, pointed, settled_by, settled, semicolon_by, dropped, is_ending, before_punct, effect, effects, Refuses, earlier, stopped, Writes}
 
 -- ---- fronts
 
-pub front_refl : {A : Type 0} (t : List A) → IsFront t t
+abbrev pub front_refl : {A : Type 0} (t : List A) → IsFront t t
 front_refl t = ([], sym (append-nil t))
 
-pub front_append : {A : Type 0} (t u : List A) → IsFront t (t ++ u)
+abbrev pub front_append : {A : Type 0} (t u : List A) → IsFront t (t ++ u)
 front_append t u = (u, refl)
 
-pub front_trans : {A : Type 0} (t u v : List A) → IsFront t u → IsFront u v → IsFront t v
+abbrev pub front_trans : {A : Type 0} (t u v : List A) → IsFront t u → IsFront u v → IsFront t v
 front_trans t u v h k = (h.0 ++ k.0, k.1 ∙ ap (λ x. x ++ k.0) h.1 ∙ append_assoc t h.0 k.0)
 
 -- ---- from one sheet to another
 
+-- the place behind two texts, by that behind the first one
+pub placed_on : (t u : List ℕ) (p q r : Place) → q ≡ after_text t p → r ≡ after_text u q → r ≡ after_text (t ++ u) p
+placed_on t u p q r h k = k ∙ ap (after_text u) h ∙ sym (after_both t u p)
+
 -- From the first sheet to the second text was written and pairs were recorded.
 pub record Alike (a b : Sheet) : Type 0 where
   pub grows : IsFront a.text b.text
+  pub place : b.place ≡ after_text grows.0 a.place
   pub more_pairs : IsFront a.pairs b.pairs
   pub holds : holds_semicolons b.semicolons ≡ holds_semicolons a.semicolons
   pub same : b ≡ record a { text = b.text; at_line_start = b.at_line_start; indentation = b.indentation; semicolons = b.semicolons; pairs = b.pairs; pending = b.pending; place = b.place }
 
 pub alike_refl : (a : Sheet) → Alike a a
-alike_refl a = record { grows = front_refl a.text; more_pairs = front_refl a.pairs; holds = refl; same = refl }
+alike_refl a = record { grows = front_refl a.text; place = unfold after_text in refl; more_pairs = front_refl a.pairs; holds = refl; same = refl }
 
 pub alike_trans : (a b c : Sheet) → Alike a b → Alike b c → Alike a c
 alike_trans a b c h k = record {
   grows = front_trans a.text b.text c.text h.grows k.grows;
+  place = placed_on h.grows.0 k.grows.0 a.place b.place c.place h.place k.place;
   more_pairs = front_trans a.pairs b.pairs c.pairs h.more_pairs k.more_pairs;
   holds = k.holds ∙ h.holds;
   same = k.same ∙ ap (λ (x : Sheet). record x { text = c.text; at_line_start = c.at_line_start; indentation = c.indentation; semicolons = c.semicolons; pairs = c.pairs; pending = c.pending; place = c.place }) h.same;
 }
 
 -- another text, another start, another level and so on, of which only a longer text and more pairs matter
-alike_at : (a b : Sheet) → IsFront a.text b.text → IsFront a.pairs b.pairs → holds_semicolons b.semicolons ≡ holds_semicolons a.semicolons → b ≡ record a { text = b.text; at_line_start = b.at_line_start; indentation = b.indentation; semicolons = b.semicolons; pairs = b.pairs; pending = b.pending; place = b.place } → Alike a b
-alike_at a b h k s e = record { grows = h; more_pairs = k; holds = s; same = e }
+alike_at : (a b : Sheet) (h : IsFront a.text b.text) → b.place ≡ after_text h.0 a.place → IsFront a.pairs b.pairs → holds_semicolons b.semicolons ≡ holds_semicolons a.semicolons → b ≡ record a { text = b.text; at_line_start = b.at_line_start; indentation = b.indentation; semicolons = b.semicolons; pairs = b.pairs; pending = b.pending; place = b.place } → Alike a b
+alike_at a b h p k s e = record { grows = h; place = p; more_pairs = k; holds = s; same = e }
 
 with_pair_grows : (pos : BytePos) (p : Place) (pairs : List Pair) → IsFront pairs (with_pair pos p pairs)
 unfolding with_pair
@@ -53,7 +60,7 @@ pub recorded_alike : (pos : BytePos) (s : Sheet) → Alike s (recorded pos s)
 unfolding recorded
 recorded_alike pos s =
     elim s.keeps_positions as (λ b. Alike s (cond b (record s { pairs = with_pair pos s.place s.pairs }) s))
-    [ true ↦ alike_at s (record s { pairs = with_pair pos s.place s.pairs }) (front_refl s.text) (with_pair_grows pos s.place s.pairs) refl refl | false ↦ alike_refl s ]
+    [ true ↦ alike_at s (record s { pairs = with_pair pos s.place s.pairs }) (front_refl s.text) (unfold after_text in refl) (with_pair_grows pos s.place s.pairs) refl refl | false ↦ alike_refl s ]
 
 pub start_alike : (span : Option Span) (s : Sheet) → Alike s (start_recorded span s)
 unfolding start_recorded
@@ -66,7 +73,7 @@ end_alike None s = alike_refl s
 end_alike (Some span) s = recorded_alike span.hi s
 
 dropped_pending : (s : Sheet) → Alike s (record s { pending = None })
-dropped_pending s = alike_at s (record s { pending = None }) (front_refl s.text) (front_refl s.pairs) refl refl
+dropped_pending s = alike_at s (record s { pending = None }) (front_refl s.text) (unfold after_text in refl) (front_refl s.pairs) refl refl
 
 pub pending_alike : (pos : Option BytePos) (s : Sheet) → Alike s (pending_recorded pos s)
 unfolding pending_recorded
@@ -75,14 +82,14 @@ pending_alike (Some pos) s = alike_trans _ _ _ (dropped_pending s) (recorded_ali
 
 pub appended_alike : (t : List ℕ) (s : Sheet) → Alike s (appended t s)
 unfolding appended
-appended_alike t s = alike_at s (appended t s) (front_append s.text t) (front_refl s.pairs) refl refl
+appended_alike t s = alike_at s (appended t s) (front_append s.text t) refl (front_refl s.pairs) refl refl
 
 pub indented_alike : (n : ℕ) (s : Sheet) → Alike s (indented n s)
 unfolding indented
 indented_alike n s = appended_alike (repeat n s.indent_text) s
 
 in_line : (s : Sheet) → Alike s (record s { at_line_start = false })
-in_line s = alike_at s (record s { at_line_start = false }) (front_refl s.text) (front_refl s.pairs) refl refl
+in_line s = alike_at s (record s { at_line_start = false }) (front_refl s.text) (unfold after_text in refl) (front_refl s.pairs) refl refl
 
 -- the sheet at a line's start, with the indentation out
 pub begun : Sheet → Sheet
@@ -114,7 +121,7 @@ literal_alike span (c ∷ cs) s =
     (alike_trans _ _ _ (written_alike None (c ∷ cs) (recorded span.lo s)) (recorded_alike span.hi (written None (c ∷ cs) (recorded span.lo s))))
 
 at_start : (s : Sheet) → Alike s (record s { at_line_start = true })
-at_start s = alike_at s (record s { at_line_start = true }) (front_refl s.text) (front_refl s.pairs) refl refl
+at_start s = alike_at s (record s { at_line_start = true }) (front_refl s.text) (unfold after_text in refl) (front_refl s.pairs) refl refl
 
 pub ended_alike : (s : Sheet) → Alike s (ended s)
 unfolding ended
@@ -123,7 +130,7 @@ ended_alike s =
     [ true ↦ dropped_pending s | false ↦ alike_trans _ _ _ (appended_alike s.line_end s) (at_start (appended s.line_end s)) ]
 
 other_pending : (pos : BytePos) (s : Sheet) → Alike s (record s { pending = Some pos })
-other_pending pos s = alike_at s (record s { pending = Some pos }) (front_refl s.text) (front_refl s.pairs) refl refl
+other_pending pos s = alike_at s (record s { pending = Some pos }) (front_refl s.text) (unfold after_text in refl) (front_refl s.pairs) refl refl
 
 pub pointed_alike : (pos : BytePos) (s : Sheet) → Alike s (pointed pos s)
 unfolding pointed
@@ -132,7 +139,7 @@ pointed_alike pos s =
     [ true ↦ other_pending pos s | false ↦ recorded_alike pos s ]
 
 other_semicolon : (x : Semicolons) (s : Sheet) → holds_semicolons x ≡ holds_semicolons s.semicolons → Alike s (record s { semicolons = x })
-other_semicolon x s h = alike_at s (record s { semicolons = x }) (front_refl s.text) (front_refl s.pairs) h refl
+other_semicolon x s h = alike_at s (record s { semicolons = x }) (front_refl s.text) (unfold after_text in refl) (front_refl s.pairs) h refl
 
 settled_by_alike : (x : Semicolons) (s : Sheet) → x ≡ s.semicolons → Alike s (settled_by x s)
 unfolding settled_by
@@ -163,7 +170,7 @@ before_punct_alike t s =
     [ true ↦ other_semicolon (dropped s.semicolons) s (dropped_holds s.semicolons) | false ↦ settled_alike s ]
 
 other_level : (n : ℕ) (s : Sheet) → Alike s (record s { indentation = n })
-other_level n s = alike_at s (record s { indentation = n }) (front_refl s.text) (front_refl s.pairs) refl refl
+other_level n s = alike_at s (record s { indentation = n }) (front_refl s.text) (unfold after_text in refl) (front_refl s.pairs) refl refl
 
 after_settled : (s t : Sheet) → Alike (settled s) t → Alike s t
 after_settled s t h = alike_trans s (settled s) t (settled_alike s) h

@@ -1,18 +1,22 @@
 -- Sheets on the way to others.
 use Rattle.std.proofs.Common.{◌≡◌, inl, inr, ℕ, ◌+◌, ◌-◌, ◌^◌, ◌<◌, ◌≤◌, Bool, true, false, List, [], ◌∷◌, ◌++◌, length, refl, sym, ◌∙◌, ap, subst, append_assoc, arith, append-nil, codes, zero, suc, Option, Some, None, Result, Ok, Err, cond, ◌&&◌}
 use Rattle.std.specs.List.{repeat}
+use Rattle.std.proofs.lemmas.List.{append_cancel_left}
+use Rattle.std.specs.declared.io.traits.Write as io
 use Rattle.swc_ecma_codegen_common.specs.declared.errors.Refusal.{Refusal}
 use Rattle.swc_ecma_codegen_common.specs.declared.errors.Refusal.TheVariants.{Writer, OutOfMemory, UnsupportedNode, BadShape, NameOutOfTarget, PositionTooLarge, Failed}
 use Rattle.swc_ecma_codegen_common.specs.declared.positions.BytePos.{BytePos}
 use Rattle.swc_ecma_codegen_common.specs.declared.positions.Span.{Span}
 use Rattle.swc_ecma_codegen_text_writer.specs.Positions.{Records}
 use Rattle.swc_ecma_codegen_text_writer.specs.Kept.{RecordsIn}
-use Rattle.swc_ecma_codegen_text_writer.specs.Told.{IsFront}
+use Rattle.swc_ecma_codegen_text_writer.specs.Told.{told, IsFront}
+use Rattle.swc_ecma_codegen_text_writer.specs.Sent.{sent}
+use Rattle.swc_ecma_codegen_text_writer.specs.declared.outlet.Outlet.{Outlet}
 use Rattle.swc_ecma_codegen_text_writer.specs.Places.{Place, origin, after_text}
 use Rattle.swc_ecma_codegen_text_writer.specs.Sheet.{Sheet, Pair, with_pair, pointed, Item, Causes, earlier, stopped, Writes, Semicolons, AtOnce, appended, indented, start_recorded, end_recorded, pending_recorded, recorded, started, written, literal_written, ended, settled, settled_by, semicolon_by, dropped, is_ending, before_punct, effect, Deeper}
 use Rattle.swc_ecma_codegen_text_writer.specs.View.{HasReason, Halted, Reaches, Prefaces}
 use Rattle.swc_ecma_codegen_text_writer.proofs.Recording.{records_none}
-use Rattle.swc_ecma_codegen_text_writer.proofs.Sheets.{Alike, alike_refl, alike_trans, start_alike, end_alike, pending_alike, appended_alike, indented_alike, front_refl, front_append, front_trans}
+use Rattle.swc_ecma_codegen_text_writer.proofs.Sheets.{Alike, placed_on, alike_refl, alike_trans, start_alike, end_alike, pending_alike, appended_alike, indented_alike, front_refl, front_append, front_trans}
 
 -- ---- copies
 
@@ -84,6 +88,7 @@ halted_on e goal next a b c h l k s =
       reason = reason_alike e a b c h s.reason;
       grows = front_trans a.text b.text c.text h.grows s.grows;
       front = front_trans c.text next.text goal.text s.front k.grows;
+      place = placed_on h.grows.0 s.grows.0 a.place b.place c.place h.place s.place;
       more_pairs = front_trans a.pairs b.pairs c.pairs h.more_pairs s.more_pairs;
       front_pairs = front_trans c.pairs next.pairs goal.pairs s.front_pairs k.more_pairs;
       same = s.same ∙ ap (λ (x : Sheet). record x { text = c.text; whole = c.whole; at_line_start = c.at_line_start; semicolons = c.semicolons; pairs = c.pairs; pending = c.pending; place = c.place; faults = c.faults; refused = true }) same_level;
@@ -135,14 +140,14 @@ started_false s h = ap (λ b. cond b (pending_recorded s.pending (record (indent
 
 pub begun_sheet_alike : (s : Sheet) → Alike s (begun_sheet s)
 unfolding indented appended
-begun_sheet_alike s = record { grows = front_append s.text (repeat s.indentation s.indent_text); more_pairs = front_refl s.pairs; holds = refl; same = refl }
+begun_sheet_alike s = record { grows = front_append s.text (repeat s.indentation s.indent_text); place = refl; more_pairs = front_refl s.pairs; holds = refl; same = refl }
 
 -- from the indentation to the line's start
 pub begun_on : (s : Sheet) → s.at_line_start ≡ true → Alike (indented s.indentation s) (started s)
 unfolding indented appended
 begun_on s h =
     let there : Sheet = indented s.indentation s in
-    let f : Alike there (begun_sheet s) = record { grows = front_refl there.text; more_pairs = front_refl there.pairs; holds = refl; same = refl } in
+    let f : Alike there (begun_sheet s) = record { grows = front_refl there.text; place = unfold after_text in refl; more_pairs = front_refl there.pairs; holds = refl; same = refl } in
     subst (λ (z : Sheet). Alike there z) (sym (started_true s h)) (alike_trans there (begun_sheet s) (pending_recorded s.pending (begun_sheet s)) f (pending_alike s.pending (begun_sheet s)))
 
 -- nothing comes of an empty text
@@ -210,6 +215,14 @@ literal_in_line span t s h k b =
 pub place_on : (before t after : List ℕ) → after ≡ before ++ t → after_text after origin ≡ after_text t (after_text before origin)
 place_on before t after h = ap (λ z. after_text z origin) h ∙ after_append before t origin
 
+-- the place after what an outlet has sent since
+pub place_since : {W : Type 0} {g : io.Ghosts W} (old new : Outlet W g) → new.before ≡ old.before → (h : IsFront (sent old) (sent new)) → after_text new.log.bytes origin ≡ after_text h.0 (after_text old.log.bytes origin)
+place_since {g = g} old new b h =
+    let told_before = told (g.contents old.before.value) in
+    let e : told_before ++ new.log.bytes ≡ told_before ++ (old.log.bytes ++ h.0) =
+    sym (ap (λ z. told (g.contents z.value) ++ new.log.bytes) b) ∙ h.1 ∙ append_assoc told_before old.log.bytes h.0 in
+    place_on old.log.bytes h.0 new.log.bytes (append_cancel_left told_before new.log.bytes (old.log.bytes ++ h.0) e)
+
 -- the same sheet, by what it has of an outlet
 pub outlet_same : (s : Sheet) (x : List ℕ) (b : Bool) (p : Place) (n : ℕ) → x ≡ s.text → b ≡ s.whole → p ≡ s.place → n ≡ s.faults → record s { text = x; whole = b; place = p; faults = n } ≡ s
 outlet_same s x b p n h k l m = λ i. record s { text = h i; whole = k i; place = l i; faults = m i }
@@ -276,19 +289,19 @@ refused_here e goal s c h k r =
     let P : Sheet → Type 0 = λ z. z ≡ record s { text = z.text; whole = z.whole; at_line_start = z.at_line_start; semicolons = z.semicolons; pairs = z.pairs; pending = z.pending; place = z.place; faults = z.faults; refused = true } in
     let T : Sheet → Type 0 = λ z. IsFront z.text goal.text in
     let Q : Sheet → Type 0 = λ z. IsFront z.pairs goal.pairs in
-    let U : Sheet → Type 0 = λ z. IsFront s.text z.text in
     let V : Sheet → Type 0 = λ z. IsFront s.pairs z.pairs in
     record {
       reason = r;
-      grows = subst U (sym h) (front_refl s.text);
+      grows = ([], ap (λ (z : Sheet). z.text) h ∙ sym (append-nil s.text));
       front = subst T (sym h) k.grows;
+      place = unfold after_text in ap (λ (z : Sheet). z.place) h;
       more_pairs = subst V (sym h) (front_refl s.pairs);
       front_pairs = subst Q (sym h) k.more_pairs;
       same = subst P (sym h) refl;
     }
 
 pub pending_dropped : (s : Sheet) → Alike s (record s { pending = None })
-pending_dropped s = record { grows = front_refl s.text; more_pairs = front_refl s.pairs; holds = refl; same = refl }
+pending_dropped s = record { grows = front_refl s.text; place = unfold after_text in refl; more_pairs = front_refl s.pairs; holds = refl; same = refl }
 
 -- the sheet after its pending position was taken, by its parts
 pub taken_sheet : (s : Sheet) (keeps memory : Bool) (pairs : List Pair) (pending : Option BytePos) → keeps ≡ s.keeps_positions → memory ≡ s.takes_memory → pairs ≡ s.pairs → pending ≡ None → record s { keeps_positions = keeps; takes_memory = memory; pairs = pairs; pending = pending } ≡ record s { pending = None }
@@ -363,6 +376,7 @@ writes_halted x e a b o n h k =
     stopped h (reason_causes x e a b k.reason) (record {
       grows = k.grows;
       front = k.front;
+      place = k.place;
       more_pairs = k.more_pairs;
       front_pairs = k.front_pairs;
       held = inr (n ∙ sym (ap dropped o), subst (λ (z : Sheet). IsFront z.text b.text) (sym (settled_at_once a o)) k.grows);
@@ -388,7 +402,7 @@ unfolding ended
 ended_false s h = sym (ap (λ b. cond b (record s { pending = None }) (record (appended s.line_end s) { at_line_start = true })) h)
 
 at_line_alike : (s : Sheet) → Alike s (record s { at_line_start = true })
-at_line_alike s = record { grows = front_refl s.text; more_pairs = front_refl s.pairs; holds = refl; same = refl }
+at_line_alike s = record { grows = front_refl s.text; place = unfold after_text in refl; more_pairs = front_refl s.pairs; holds = refl; same = refl }
 
 -- the line's end failed
 pub line_halted : (e : Refusal) (a c : Sheet) → a.at_line_start ≡ false → Halted e (appended a.line_end a) a c → Halted e (ended a) a c
@@ -406,6 +420,7 @@ deeper_refused a c o r h k =
     let P : Sheet → Type 0 = λ (s : Sheet). s ≡ record a { text = s.text; whole = s.whole; at_line_start = s.at_line_start; semicolons = s.semicolons; pairs = s.pairs; pending = s.pending; place = s.place; faults = s.faults; refused = true } in
     stopped r (inl (refl, h)) (record {
       grows = ([], e ∙ sym (append-nil a.text));
+      place = unfold after_text in ap (λ (s : Sheet). s.place) k;
       front = ([], ap (λ (s : Sheet). s.text) z ∙ sym e ∙ sym (append-nil c.text));
       more_pairs = ([], q ∙ sym (append-nil a.pairs));
       front_pairs = ([], ap (λ (s : Sheet). s.pairs) z ∙ sym q ∙ sym (append-nil c.pairs));

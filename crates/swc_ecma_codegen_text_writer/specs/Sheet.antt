@@ -210,11 +210,12 @@ Causes x NameOutOfTarget old new = ⊥
 Causes x PositionTooLarge old new = ((x ≡ Deeper) × (old.indentation ≡ 2 ^ 32 - 1)) ⊎ ((old.keeps_positions ≡ true) × IsFar new.place)
 Causes x Failed old new = ⊥
 
--- A call was stopped on its way: a beginning of its text is out, a beginning of its pairs is recorded, a semicolon that was held
--- back still is, or is out and no longer held, and nothing else changed but the count of faults.
+-- A call was stopped on its way: a beginning of its text is out, and the place is that behind it; a beginning of its pairs is
+-- recorded, a semicolon that was held back still is, or is out and no longer held, and nothing else changed but the count of faults.
 pub record Stopped (goal old new : Sheet) : Type 0 where
   pub grows : IsFront old.text new.text
   pub front : IsFront new.text goal.text
+  pub place : new.place ≡ after_text grows.0 old.place
   pub more_pairs : IsFront old.pairs new.pairs
   pub front_pairs : IsFront new.pairs goal.pairs
   pub held : (new.semicolons ≡ old.semicolons) ⊎ ((new.semicolons ≡ dropped old.semicolons) × IsFront (settled old).text new.text)

@@ -73,11 +73,12 @@ HasReason NameOutOfTarget old new = ⊥
 HasReason PositionTooLarge old new = (old.keeps_positions ≡ true) × IsFar new.place
 HasReason Failed old new = ⊥
 
--- On the way to a sheet something was refused: a beginning of its text is out, and of its pairs recorded.
+-- On the way to a sheet something was refused: a beginning of its text is out, with the place behind it, and of its pairs recorded.
 pub record Halted (e : Refusal) (goal old new : Sheet) : Type 0 where
   pub reason : HasReason e old new
   pub grows : IsFront old.text new.text
   pub front : IsFront new.text goal.text
+  pub place : new.place ≡ after_text grows.0 old.place
   pub more_pairs : IsFront old.pairs new.pairs
   pub front_pairs : IsFront new.pairs goal.pairs
   pub same : new ≡ record old { text = new.text; whole = new.whole; at_line_start = new.at_line_start; semicolons = new.semicolons; pairs = new.pairs; pending = new.pending; place = new.place; faults = new.faults; refused = true }

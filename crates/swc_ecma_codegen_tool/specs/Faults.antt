@@ -1,5 +1,5 @@
 -- Which fault a run tells of, and how.
-use Rattle.std.specs.Prelude.{◌≡◌, ℕ, List, codes}
+use Rattle.std.specs.Prelude.{◌≡◌, ℕ, List, codes, Err}
 use Rattle.swc_ecma_codegen_common.specs.declared.errors.Error.{Error}
 use Rattle.swc_ecma_codegen_common.specs.declared.errors.Refusal.{Refusal}
 use Rattle.swc_ecma_codegen_common.specs.declared.errors.Refusal.TheVariants as refusals
@@ -8,8 +8,7 @@ use Rattle.swc_ecma_codegen_ast.specs.Comments.{no_maps}
 use Rattle.swc_ecma_codegen_ast.specs.SourceLines.{no_lines}
 use Rattle.swc_ecma_codegen_json.specs.declared.errors.ReadError.{ReadError}
 use Rattle.swc_ecma_codegen_json.specs.declared.errors.ReadError.TheVariants as unread
-use Rattle.swc_ecma_codegen_base.specs.Run.{Part, start}
-use Rattle.swc_ecma_codegen.specs.Texts.{GivesCause}
+use Rattle.swc_ecma_codegen_base.specs.Run.{Part, State, Follows, nothing, start}
 use Rattle.swc_ecma_codegen_tool.specs.declared.faults.Fault.{Fault}
 use Rattle.swc_ecma_codegen_tool.specs.declared.faults.Fault.TheVariants.{Usage, CannotRead, BadTree, NotWellFormed, Writer, Memory, UnsupportedNode, BadShape, NameOutOfTarget, PositionTooLarge, Failed}
 use Rattle.swc_ecma_codegen_tool.specs.declared.words.Options.{Options}
@@ -32,10 +31,15 @@ fault_of_emission refusals.NameOutOfTarget = NameOutOfTarget
 fault_of_emission refusals.PositionTooLarge = PositionTooLarge
 fault_of_emission refusals.Failed = Failed
 
--- an emission of a part, as the options ask for it, gives cause for a fault
+-- an emission of a part that began here has ended there, with the error that a fault tells of
+abbrev pub EndsWithFault : Part → State → State → Fault → Type 0
+EndsWithFault part begun ended fault =
+    (error : Error) × (fault ≡ fault_of_emission (reason_of error)) × Follows (part nothing) begun ended (Err (reason_of error))
+
+-- an emission of a part, as the options ask for it, can end with a fault
 abbrev pub GivesFault : Options → Part → Fault → Type 0
 GivesFault options part fault =
-    (error : Error) × (fault ≡ fault_of_emission (reason_of error)) × GivesCause part (start no_lines no_maps (settings_of options) (sheet_for options)) error
+    (ended : State) × EndsWithFault part (start no_lines no_maps (settings_of options) (sheet_for options)) ended fault
 
 -- the line that tells of a fault
 abbrev pub line_of : Fault → List ℕ

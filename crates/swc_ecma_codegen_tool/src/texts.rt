@@ -1,21 +1,20 @@
 //! The text of a tree, in memory. A function for whatever can be printed costs a check less than one for a program.
 
-ghost use Rattle.std.specs.Prelude.{◌≡◌, ◌≢◌, [], Err, IfErr, IfOk};
-ghost use Rattle.swc_ecma_codegen_common.specs.Refusals.{reason_of};
-ghost use Rattle.swc_ecma_codegen_common.specs.declared.errors.Error.{Error};
+ghost use Rattle.std.specs.Prelude.{◌≡◌, ◌≢◌, [], Err, IfErr, IfOk, OnOk};
 ghost use Rattle.swc_ecma_codegen_text_writer.specs.View.{sheet_of};
 ghost use Rattle.swc_ecma_codegen_ast.specs.Comments.{no_maps};
 ghost use Rattle.swc_ecma_codegen_ast.specs.SourceLines.{no_lines};
-ghost use Rattle.swc_ecma_codegen_base.specs.Run.{printed, start};
-ghost use Rattle.swc_ecma_codegen.specs.Texts.{blank_sheet, GivesCause};
-ghost use Rattle.swc_ecma_codegen_tool.specs.Faults.{fault_of_emission, GivesFault};
+ghost use Rattle.swc_ecma_codegen_base.specs.Run.{State, printed, start};
+ghost use Rattle.swc_ecma_codegen.specs.Texts.{blank_sheet};
+ghost use Rattle.swc_ecma_codegen.specs.View.{state_of};
+ghost use Rattle.swc_ecma_codegen_tool.specs.Faults.{EndsWithFault, GivesFault};
 ghost use Rattle.swc_ecma_codegen_tool.specs.Prints.{text_with, with_positions};
 
 use crate::faults::Fault;
 use crate::words::Options;
 use std::alloc::Global;
-use swc_ecma_codegen::ast::comments::CommentMaps;
-use swc_ecma_codegen::ast::mapper::NoSource;
+use swc_ecma_codegen::ast::comments::{CommentMaps, Comments};
+use swc_ecma_codegen::ast::mapper::{NoSource, SourceMapper};
 use swc_ecma_codegen::{Config, Emitter, Node};
 use swc_ecma_codegen_common::{BytePos, LineCol};
 use swc_ecma_codegen_text_writer::{JsWriter, WriteJs, omit_trailing_semi};
@@ -76,12 +75,28 @@ fn printed_on<P: Node, W: WriteJs + Drop>(
     wr: W,
 ) -> Result<W, Fault>
     ensures sheet { IfOk result (λ w. W.sheet w ≡ (printed (P.part tree.now) (start no_lines no_maps config (W.sheet wr))).sheet) }
-    ensures cause { IfErr result (λ fault. (error : Error) × (fault ≡ fault_of_emission (reason_of error)) × GivesCause (P.part tree.now) (start no_lines no_maps config (W.sheet wr)) error) }
+    ensures cause { IfErr result (λ fault. (ended : State) × EndsWithFault (P.part tree.now) (start no_lines no_maps config (W.sheet wr)) ended fault) }
     ensures no_usage { result ≢ Err Fault.Usage }
 {
     let mut emitter = Emitter::new(alloc, config, &NoSource, None::<CommentMaps>, wr);
-    match tree.emit_with(&mut emitter) {
+    match print_by(tree, &mut emitter) {
         Ok(()) => Ok(emitter.wr),
+        Err(fault) => Err(fault),
+    }
+}
+
+/// Prints a tree. Where it is refused, the emitter has ended as its error says: where memory is wanting, its writer has counted a
+/// fault, or the step that was refused takes memory.
+fn print_by<P: Node, W: WriteJs, S: SourceMapper, C: Comments>(
+    tree: &P,
+    e: &mut Emitter<'_, W, S, C>,
+) -> Result<(), Fault>
+    ensures sheet { OnOk result (W.sheet e.new.wr ≡ (printed (P.part tree.now) (state_of S.lines C.maps W.sheet e.old)).sheet) }
+    ensures cause { IfErr result (EndsWithFault (P.part tree.now) (state_of S.lines C.maps W.sheet e.old) (state_of S.lines C.maps W.sheet e.new)) }
+    ensures no_usage { result ≢ Err Fault.Usage }
+{
+    match tree.emit_with(e) {
+        Ok(()) => Ok(()),
         Err(error) => Err(Fault::of_emission(&error)),
     }
 }

@@ -28,8 +28,6 @@ use Rattle.swc_ecma_codegen_tree.specs.declared.decls.Decl.{Decl}
 use Rattle.swc_ecma_codegen_tree.specs.declared.programs.ModuleDecl.{ModuleDecl}
 use Rattle.swc_ecma_codegen_tree.specs.declared.decls.VarDecl.{VarDecl}
 use Rattle.swc_ecma_codegen_tree.specs.declared.classes.ClassMember.{ClassMember}
-use Rattle.swc_ecma_codegen_tree.specs.declared.jsx.JSXElementChild.{JSXElementChild}
-use Rattle.swc_ecma_codegen_tree.specs.declared.jsx.JSXAttrValue.{JSXAttrValue}
 use Rattle.swc_ecma_codegen_tree.specs.declared.jsx.JSXElement.{JSXElement}
 use Rattle.swc_ecma_codegen_tree.specs.declared.jsx.JSXFragment.{JSXFragment}
 use Rattle.swc_ecma_codegen_tree.specs.declared.jsx.JSXObject.{JSXObject}
@@ -110,14 +108,6 @@ class_member_in (stmt_parts.ClassMember n) = Some n.value
 class_member_in _ = None
 
 -- the part of JSX, where it is of one sort
-abbrev pub jsx_element_child_in : {N : Type 0} → JSXPart N → Option (JSXElementChild N)
-jsx_element_child_in (jsx_parts.JSXElementChild n) = Some n
-jsx_element_child_in _ = None
-
-abbrev pub jsx_attr_value_in : {N : Type 0} → JSXPart N → Option (JSXAttrValue N)
-jsx_attr_value_in (jsx_parts.JSXAttrValue n) = Some n.value
-jsx_attr_value_in _ = None
-
 abbrev pub jsx_element_in : {N : Type 0} → JSXPart N → Option (JSXElement N)
 jsx_element_in (jsx_parts.JSXElement n) = Some n.value
 jsx_element_in _ = None

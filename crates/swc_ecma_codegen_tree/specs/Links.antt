@@ -16,8 +16,6 @@ use Rattle.swc_ecma_codegen_tree.specs.declared.sorts.ToDecl.{ToDecl}
 use Rattle.swc_ecma_codegen_tree.specs.declared.sorts.ToModuleDecl.{ToModuleDecl}
 use Rattle.swc_ecma_codegen_tree.specs.declared.sorts.ToVarDecl.{ToVarDecl}
 use Rattle.swc_ecma_codegen_tree.specs.declared.sorts.ToClassMember.{ToClassMember}
-use Rattle.swc_ecma_codegen_tree.specs.declared.sorts.ToJSXElementChild.{ToJSXElementChild}
-use Rattle.swc_ecma_codegen_tree.specs.declared.sorts.ToJSXAttrValue.{ToJSXAttrValue}
 use Rattle.swc_ecma_codegen_tree.specs.declared.sorts.ToJSXElement.{ToJSXElement}
 use Rattle.swc_ecma_codegen_tree.specs.declared.sorts.ToJSXFragment.{ToJSXFragment}
 use Rattle.swc_ecma_codegen_tree.specs.declared.sorts.ToJSXObject.{ToJSXObject}
@@ -77,12 +75,6 @@ VarDeclBox N = Link ToVarDecl N
 
 abbrev pub ClassMemberBox : Type 0 → Type 0
 ClassMemberBox N = Link ToClassMember N
-
-abbrev pub JSXElementChildBox : Type 0 → Type 0
-JSXElementChildBox N = Link ToJSXElementChild N
-
-abbrev pub JSXAttrValueBox : Type 0 → Type 0
-JSXAttrValueBox N = Link ToJSXAttrValue N
 
 abbrev pub JSXElementBox : Type 0 → Type 0
 JSXElementBox N = Link ToJSXElement N

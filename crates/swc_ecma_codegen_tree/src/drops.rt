@@ -143,8 +143,6 @@ pub(crate) fn let_stmt_part_go<N: Drop>(node: StmtPart<N>) {
 #[inline(always)]
 pub(crate) fn let_jsx_part_go<N: Drop>(node: JSXPart<N>) {
     match node {
-        JSXPart::JSXElementChild(node) => let_go_apart(node),
-        JSXPart::JSXAttrValue(node) => let_go_apart(node),
         JSXPart::JSXElement(node) => let_go_apart(node),
         JSXPart::JSXFragment(node) => let_go_apart(node),
         JSXPart::JSXObject(node) => let_go_apart(node),

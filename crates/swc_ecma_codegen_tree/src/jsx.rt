@@ -5,8 +5,7 @@ use crate::idents::{Ident, IdentName};
 use crate::links::AnyNode;
 use crate::lits::{JSXText, Lit};
 use crate::sorts::{
-    ExprBox, JSXAttrValueBox, JSXElementBox, JSXElementChildBox, JSXFragmentBox, JSXObjectBox,
-    TsTypeParamInstantiationBox,
+    ExprBox, JSXElementBox, JSXFragmentBox, JSXObjectBox, TsTypeParamInstantiationBox,
 };
 use swc_ecma_codegen_common::Span;
 
@@ -17,7 +16,7 @@ pub struct JSXElement<N = AnyNode> {
     /// `<a b={c}>` of `<a b={c}>d</a>`.
     pub opening: JSXOpeningElement<N>,
     /// `d` of `<a b={c}>d</a>`, in order.
-    pub children: Vec<JSXElementChildBox<N>>,
+    pub children: Vec<JSXElementChild<N>>,
     /// `</a>` of `<a>b</a>`; None where the element closes itself, `<a />`.
     pub closing: Option<JSXClosingElement<N>>,
 }
@@ -51,7 +50,7 @@ pub struct JSXFragment<N = AnyNode> {
     /// `<>` of `<>a</>`.
     pub opening: JSXOpeningFragment,
     /// `a` and `{b}` of `<>a{b}</>`, in order.
-    pub children: Vec<JSXElementChildBox<N>>,
+    pub children: Vec<JSXElementChild<N>>,
     /// `</>` of `<>a</>`.
     pub closing: JSXClosingFragment,
 }
@@ -122,7 +121,7 @@ pub struct JSXAttr<N = AnyNode> {
     /// `b` of `<a b="c" />`.
     pub name: JSXAttrName,
     /// `"c"` of `<a b="c" />`; None where only the name is written, `<a b />`.
-    pub value: Option<JSXAttrValueBox<N>>,
+    pub value: Option<JSXAttrValue<N>>,
 }
 
 /// `b` of `<a b="c" />`, or `b:c` of `<a b:c="d" />`. JSX, section JSX Attributes.

@@ -1,55 +1,11 @@
 //! How `JSXPart` holds its sorts.
 
-ghost use Rattle.swc_ecma_codegen_tree.specs.Held.{jsx_element_child_in, jsx_attr_value_in, jsx_element_in, jsx_fragment_in, jsx_object_in};
+ghost use Rattle.swc_ecma_codegen_tree.specs.Held.{jsx_element_in, jsx_fragment_in, jsx_object_in};
 
 use crate::holds::Holds;
-use crate::jsx::{JSXAttrValue, JSXElement, JSXElementChild, JSXFragment, JSXObject};
+use crate::jsx::{JSXElement, JSXFragment, JSXObject};
 use crate::parts::JSXPart;
 use std::alloc::{AllocError, Global};
-
-impl<N: Drop> Holds<JSXElementChild<N>> for JSXPart<N> {
-    ghost node_in = { jsx_element_child_in };
-
-    fn hold(_: Global, node: JSXElementChild<N>) -> Result<JSXPart<N>, AllocError> {
-        Ok(JSXPart::JSXElementChild(node))
-    }
-
-    fn node(&self) -> Option<&JSXElementChild<N>> {
-        match self {
-            JSXPart::JSXElementChild(node) => Some(node),
-            _ => None,
-        }
-    }
-
-    fn into_node(self) -> Result<JSXElementChild<N>, JSXPart<N>> {
-        match self {
-            JSXPart::JSXElementChild(node) => Ok(node),
-            other => Err(other),
-        }
-    }
-}
-
-impl<N: Drop> Holds<JSXAttrValue<N>> for JSXPart<N> {
-    ghost node_in = { jsx_attr_value_in };
-
-    fn hold(alloc: Global, node: JSXAttrValue<N>) -> Result<JSXPart<N>, AllocError> {
-        Ok(JSXPart::JSXAttrValue(Box::new(alloc, node)?))
-    }
-
-    fn node(&self) -> Option<&JSXAttrValue<N>> {
-        match self {
-            JSXPart::JSXAttrValue(node) => Some(node),
-            _ => None,
-        }
-    }
-
-    fn into_node(self) -> Result<JSXAttrValue<N>, JSXPart<N>> {
-        match self {
-            JSXPart::JSXAttrValue(node) => Ok(Box::into_inner(node)),
-            other => Err(other),
-        }
-    }
-}
 
 impl<N: Drop> Holds<JSXElement<N>> for JSXPart<N> {
     ghost node_in = { jsx_element_in };

@@ -5,7 +5,7 @@
 use crate::classes::{Class, ClassMember};
 use crate::decls::{Decl, Function, VarDecl};
 use crate::exprs::{ObjectLit, OptCall, PropName, Tpl};
-use crate::jsx::{JSXAttrValue, JSXElement, JSXElementChild, JSXFragment, JSXObject};
+use crate::jsx::{JSXElement, JSXFragment, JSXObject};
 use crate::links::AnyNode;
 use crate::pats::{AssignTarget, Pat};
 use crate::programs::ModuleDecl;
@@ -42,8 +42,6 @@ pub enum StmtPart<N = AnyNode> {
 /// A part of JSX that a link can hold.
 #[derive(Drop)]
 pub enum JSXPart<N = AnyNode> {
-    JSXElementChild(JSXElementChild<N>),
-    JSXAttrValue(Box<JSXAttrValue<N>>),
     JSXElement(Box<JSXElement<N>>),
     JSXFragment(JSXFragment<N>),
     JSXObject(JSXObject<N>),

@@ -3,13 +3,13 @@
 ghost use Rattle.std.specs.Prelude.{◌≡◌, Option, refl};
 ghost use Rattle.std.specs.Option.{option_and_then};
 ghost use Rattle.std.proofs.Common.{rules};
-ghost use Rattle.swc_ecma_codegen_tree.specs.Held.{pat_in, tpl_in, object_lit_in, prop_name_in, opt_call_in, assign_target_in, function_in, class_in, block_stmt_in, decl_in, module_decl_in, var_decl_in, class_member_in, jsx_element_child_in, jsx_attr_value_in, jsx_element_in, jsx_fragment_in, jsx_object_in, ts_type_in, ts_namespace_body_in, ts_type_ann_in, ts_type_param_decl_in, ts_type_param_instantiation_in, ts_fn_param_in, ts_type_element_in, ts_entity_name_in};
+ghost use Rattle.swc_ecma_codegen_tree.specs.Held.{pat_in, tpl_in, object_lit_in, prop_name_in, opt_call_in, assign_target_in, function_in, class_in, block_stmt_in, decl_in, module_decl_in, var_decl_in, class_member_in, jsx_element_in, jsx_fragment_in, jsx_object_in, ts_type_in, ts_namespace_body_in, ts_type_ann_in, ts_type_param_decl_in, ts_type_param_instantiation_in, ts_fn_param_in, ts_type_element_in, ts_entity_name_in};
 
 use crate::classes::{Class, ClassMember};
 use crate::decls::{Decl, Function, VarDecl};
 use crate::exprs::{Expr, MemberExpr, ObjectLit, OptCall, PropName, Tpl};
 use crate::holds::Holds;
-use crate::jsx::{JSXAttrValue, JSXElement, JSXElementChild, JSXFragment, JSXObject};
+use crate::jsx::{JSXElement, JSXFragment, JSXObject};
 use crate::links::{AnyNode, Link};
 use crate::parts::{ExprPart, JSXPart, StmtPart, TsPart};
 use crate::pats::{AssignTarget, Pat};
@@ -287,38 +287,6 @@ impl<N: Drop> LinkSort<N> for ToClassMember {
     type Part = StmtPart<N>;
 
     ghost linked = { option_and_then class_member_in };
-
-    ghost linked_is_held = { λ part. refl };
-}
-
-/// A link to a child of an element, as `Box<JSXElementChild>` in swc.
-pub type JSXElementChildBox<N = AnyNode> = Link<ToJSXElementChild, N>;
-
-/// To a child of an element.
-pub enum ToJSXElementChild {}
-
-impl<N: Drop> LinkSort<N> for ToJSXElementChild {
-    type Node = JSXElementChild<N>;
-
-    type Part = JSXPart<N>;
-
-    ghost linked = { option_and_then jsx_element_child_in };
-
-    ghost linked_is_held = { λ part. refl };
-}
-
-/// A link to the value of an attribute, as `Box<JSXAttrValue>` in swc.
-pub type JSXAttrValueBox<N = AnyNode> = Link<ToJSXAttrValue, N>;
-
-/// To the value of an attribute.
-pub enum ToJSXAttrValue {}
-
-impl<N: Drop> LinkSort<N> for ToJSXAttrValue {
-    type Node = JSXAttrValue<N>;
-
-    type Part = JSXPart<N>;
-
-    ghost linked = { option_and_then jsx_attr_value_in };
 
     ghost linked_is_held = { λ part. refl };
 }

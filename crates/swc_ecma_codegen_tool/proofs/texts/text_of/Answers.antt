@@ -1,7 +1,5 @@
 use Rattle.std.proofs.Common.{◌≡◌, refl, sym, ap, ◌∙◌, subst, Bool, true, false}
 use Rattle.std.proofs.lemmas.Result.{err_from_is_err_and}
-use Rattle.swc_ecma_codegen_common.specs.declared.errors.Error.{Error}
-use Rattle.swc_ecma_codegen_common.specs.Refusals.{reason_of}
 use Rattle.swc_ecma_codegen_util.specs.declared.config.Config.{Config}
 use Rattle.swc_ecma_codegen_text_writer.specs.Told.{told}
 use Rattle.swc_ecma_codegen_text_writer.specs.Sheet.{Sheet, HoldsNone, holds_semicolons}
@@ -9,9 +7,9 @@ use Rattle.swc_ecma_codegen_text_writer.specs.Held.{with_held}
 use Rattle.swc_ecma_codegen_text_writer.specs.View.{sheet_of}
 use Rattle.swc_ecma_codegen_ast.specs.Comments.{no_maps}
 use Rattle.swc_ecma_codegen_ast.specs.SourceLines.{no_lines}
-use Rattle.swc_ecma_codegen_base.specs.Run.{Part, printed, start}
-use Rattle.swc_ecma_codegen.specs.Texts.{blank_sheet, GivesCause}
-use Rattle.swc_ecma_codegen_tool.specs.Faults.{fault_of_emission, GivesFault}
+use Rattle.swc_ecma_codegen_base.specs.Run.{Part, State, printed, start}
+use Rattle.swc_ecma_codegen.specs.Texts.{blank_sheet}
+use Rattle.swc_ecma_codegen_tool.specs.Faults.{EndsWithFault, GivesFault}
 use Rattle.swc_ecma_codegen_tool.specs.declared.faults.Fault.{Fault}
 use Rattle.swc_ecma_codegen_tool.specs.declared.words.Options.{Options}
 use Rattle.swc_ecma_codegen_tool.specs.Prints.{sheet_for, text_with, with_positions, with_semicolons}
@@ -42,9 +40,9 @@ returns-in_ok-writer-clause-text g c =
     all ∙ under ∙ end ∙ ap (λ config. (printed part (start no_lines no_maps config held)).sheet.text) c.settings-config.ensures ∙ ap (λ s. (printed part (start no_lines no_maps (settings_of options) s)).sheet.text) begun
 
 -- an emission with these settings from this sheet is the one that the options ask for
-gives_fault : (options : Options) (part : Part) (config : Config) (s : Sheet) (fault : Fault) → config ≡ settings_of options → s ≡ sheet_for options → ((error : Error) × (fault ≡ fault_of_emission (reason_of error)) × GivesCause part (start no_lines no_maps config s) error) → GivesFault options part fault
-gives_fault options part config s fault asked begun (error, named, cause) =
-    (error, named, subst (λ a. GivesCause part a error) (ap (λ k. start no_lines no_maps k s) asked ∙ ap (start no_lines no_maps (settings_of options)) begun) cause)
+gives_fault : (options : Options) (part : Part) (config : Config) (s : Sheet) (fault : Fault) → config ≡ settings_of options → s ≡ sheet_for options → ((ended : State) × EndsWithFault part (start no_lines no_maps config s) ended fault) → GivesFault options part fault
+gives_fault options part config s fault asked begun (ended, cause) =
+    (ended, subst (λ a. EndsWithFault part a ended fault) (ap (λ k. start no_lines no_maps k s) asked ∙ ap (start no_lines no_maps (settings_of options)) begun) cause)
 
 pub returns-in_err-writer-clause-cause : goal.returns-in_err-writer-clause-cause
 unfolding with_held with_semicolons

@@ -14,7 +14,7 @@ pub returns-clause-names : goal.returns-clause-names
 returns-clause-names g c = λ root same well kept left_out. root_names root _ _ _ _ same well kept left_out c.emit.ensures.items
 
 pub returns-clause-ascii : goal.returns-clause-ascii
-returns-clause-ascii g c = λ root same well wants keeps. root_ascii root _ _ _ _ same well wants keeps c.emit.ensures.items
+returns-clause-ascii g c = λ root same well wants. root_ascii root _ _ _ _ same well wants c.emit.ensures.items
 
 pub returns-clause-inline : goal.returns-clause-inline
 returns-clause-inline g c = λ root same well inline left_out. root_safe root _ _ _ _ same well inline left_out c.emit.ensures.items

@@ -3,7 +3,7 @@ use Rattle.std.proofs.lemmas.Bool.{true≢false}
 use Rattle.swc_ecma_codegen_text_writer.specs.Sheet.{appended}
 use Rattle.swc_ecma_codegen_text_writer.specs.View.{sheet_of, Reaches, HasReason}
 use Rattle.swc_ecma_codegen_text_writer.proofs.Sheets.{front_refl}
-use Rattle.swc_ecma_codegen_text_writer.proofs.Steps.{sent_sheet, place_on}
+use Rattle.swc_ecma_codegen_text_writer.proofs.Steps.{sent_sheet, place_on, place_since}
 use Rattle.swc_ecma_codegen_text_writer.proofs.basic_impl.Lines.send_plainly.Goals as goal
 
 pub returns-in-Ok : goal.returns-in-Ok
@@ -17,6 +17,7 @@ returns-in-Err g c = record {
   reason = c.in-Err.ensures.counted;
   grows = c.in-Err.ensures.grows;
   front = c.in-Err.ensures.front;
+  place = place_since c.args.self.now.outlet c.write_text.new.self c.in-Err.ensures.before c.in-Err.ensures.grows;
   more_pairs = front_refl _;
   front_pairs = front_refl _;
   same = refl;

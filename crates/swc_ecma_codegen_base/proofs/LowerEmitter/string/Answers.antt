@@ -1,0 +1,10 @@
+use Rattle.swc_ecma_codegen_base.specs.Run.{with_source}
+use Rattle.swc_ecma_codegen_ast.specs.SourceLines.{no_lines}
+use Rattle.swc_ecma_codegen_ast.specs.Comments.{no_maps}
+use Rattle.swc_ecma_codegen_base.specs.Literals as words
+use Rattle.swc_ecma_codegen_base.proofs.TokensSoFar.{string_so_far}
+use Rattle.swc_ecma_codegen_base.proofs.LowerEmitter.string.Goals as goal
+
+pub returns-clause-reads : goal.returns-clause-reads
+unfolding words.string with_source
+returns-clause-reads g c = λ u s old tokens rs h. string_so_far c.args.text.now old tokens rs _ _ u s (λ rest z r f. c.in_ok-guard.ensures.items no_lines no_maps _ z r (c.in_ok-put_string.ensures.items no_lines no_maps rest z r f)) h
