@@ -4,15 +4,15 @@ use Rattle.swc_ecma_codegen_common.specs.declared.positions.Span.{Span}
 use Rattle.swc_ecma_codegen_tree.specs.declared.exprs.Expr.{Expr}
 use Rattle.swc_ecma_codegen_tree.specs.declared.exprs.Expr.TheVariants as exprs
 use Rattle.swc_ecma_codegen_spans.specs.Spans.{expr_span}
-use Rattle.swc_ecma_codegen_ast.specs.Phrases.{Phrase, ◌>◌, mark}
-use Rattle.swc_ecma_codegen_ast.specs.ExprPhrases as lists
-use Rattle.swc_ecma_codegen_ast.specs.TreePhrases.{is_sequence, field_value}
-use Rattle.swc_ecma_codegen_ast.specs.declared.roles.Role.{Role}
-use Rattle.swc_ecma_codegen_ast.specs.declared.roles.Role.TheVariants.{Template}
-use Rattle.swc_ecma_codegen_base.specs.Run.{Env}
-use Rattle.swc_ecma_codegen_base.specs.Words.{trailing_comments}
-use Rattle.swc_ecma_codegen_base.proofs.Printed.{writes_if, writes_nothing, writes_trailing, Fills}
-use Rattle.swc_ecma_codegen_base.proofs.Phrased.{Prints, then, before, prints_never, prints_punct}
+use Rattle.swc_ecma_codegen_grammar.specs.Phrases.{Phrase, ◌>◌, mark}
+use Rattle.swc_ecma_codegen_grammar.specs.ExprPhrases as lists
+use Rattle.swc_ecma_codegen_grammar.specs.TreePhrases.{is_sequence, field_value}
+use Rattle.swc_ecma_codegen_grammar.specs.declared.roles.Role.{Role}
+use Rattle.swc_ecma_codegen_grammar.specs.declared.roles.Role.TheVariants.{Template}
+use Rattle.swc_ecma_codegen_tokens.specs.Run.{Env}
+use Rattle.swc_ecma_codegen_tokens.specs.Words.{trailing_comments}
+use Rattle.swc_ecma_codegen_tokens.proofs.Printed.{writes_if, writes_nothing, writes_trailing, Fills}
+use Rattle.swc_ecma_codegen_tokens.proofs.Phrased.{Prints, then, before, prints_never, prints_punct}
 use Rattle.swc_ecma_codegen.specs.declared.nodes.Place.{Place}
 use Rattle.swc_ecma_codegen.specs.declared.nodes.Place.TheVariants.{Plain, FieldValue}
 use Rattle.swc_ecma_codegen.specs.Answers.{place_of}

@@ -1,12 +1,12 @@
 -- What is done where a setting says so.
 use Rattle.std.proofs.Common.{◌≡◌, ℕ, List, Bool, true, false, ◌&&◌, ◌||◌, not, cond, codes, None, ap, sym, refl, subst}
 use Rattle.std.proofs.lemmas.Bool.{true≢false}
-use Rattle.swc_ecma_codegen_base.specs.Run.{Env, Plan, Part, when_minified, no_part}
-use Rattle.swc_ecma_codegen_base.specs.Words.{by_maps, commit_pending_semi, keyword, punct, semi, trailing_comments}
-use Rattle.swc_ecma_codegen_base.proofs.Emitting.{minified_same, pretty_same}
+use Rattle.swc_ecma_codegen_tokens.specs.Run.{Env, Plan, Part, when_minified, no_part}
+use Rattle.swc_ecma_codegen_tokens.specs.Words.{by_maps, commit_pending_semi, keyword, punct, semi, trailing_comments}
+use Rattle.swc_ecma_codegen_tokens.proofs.Emitting.{minified_same, pretty_same}
 use Rattle.swc_ecma_codegen.specs.FunctionExprs.{parenthesis, is_only, is_plain, has_comment_behind, arrow_children, arrow_within, arrow_parameters}
-use Rattle.swc_ecma_codegen_ast.specs.CommentMaps.{Maps}
-use Rattle.swc_ecma_codegen_base.specs.Lists.{ListChild}
+use Rattle.swc_ecma_codegen_grammar.specs.CommentMaps.{Maps}
+use Rattle.swc_ecma_codegen_tokens.specs.Lists.{ListChild}
 use Rattle.swc_ecma_codegen_tree.specs.declared.exprs.ArrowExpr.{ArrowExpr}
 use Rattle.swc_ecma_codegen.specs.Answers.{Answers}
 use Rattle.swc_ecma_codegen.specs.Blocks.{block_list, block_lines}
@@ -15,9 +15,9 @@ use Rattle.swc_ecma_codegen.specs.Exprs.{yield_argument, yield_argument_in}
 use Rattle.swc_ecma_codegen.specs.Props.{object_list, object_by_maps}
 use Rattle.swc_ecma_codegen.specs.Stmts.{argument, argument_in}
 use Rattle.swc_ecma_codegen.specs.declared.nodes.Place.{Place}
-use Rattle.swc_ecma_codegen_ast.specs.Settings.{is_up_to_es5}
-use Rattle.swc_ecma_codegen_base.specs.Choices.{empty_arguments, loop_ending, attributes_word}
-use Rattle.swc_ecma_codegen_base.proofs.Choices.{ended_same, not_ended_same, assert_same, with_same}
+use Rattle.swc_ecma_codegen_grammar.specs.Settings.{is_up_to_es5}
+use Rattle.swc_ecma_codegen_tokens.specs.Choices.{empty_arguments, loop_ending, attributes_word}
+use Rattle.swc_ecma_codegen_tokens.proofs.Choices.{ended_same, not_ended_same, assert_same, with_same}
 use Rattle.swc_ecma_codegen_common.specs.declared.positions.BytePos.{BytePos}
 use Rattle.swc_ecma_codegen_common.specs.declared.positions.Span.{Span}
 use Rattle.swc_ecma_codegen.specs.Calls.{parentheses}

@@ -2,11 +2,11 @@
 use Rattle.std.proofs.Common.{◌≡◌, ◌∙◌, ℕ, Bool, true, false, cond, List, None, refl, ap}
 use Rattle.swc_ecma_codegen_common.specs.declared.operators.BinaryOp.{BinaryOp}
 use Rattle.swc_ecma_codegen_common.specs.Operators.{binary_text}
-use Rattle.swc_ecma_codegen_ast.specs.declared.kinds.Kind.TheVariants.{Word, Punctuator}
+use Rattle.swc_ecma_codegen_grammar.specs.declared.kinds.Kind.TheVariants.{Word, Punctuator}
 use Rattle.swc_ecma_codegen_text_writer.specs.Sheet.{Space, Operator, Punct}
-use Rattle.swc_ecma_codegen_base.specs.Run.{Env, Plan, Steps, next, Guard, Token, Plain, step, after_step, no_part}
-use Rattle.swc_ecma_codegen_base.specs.Words.{operator, word_operator, punct, space, formatting_space, operator_between, punct_between}
-use Rattle.swc_ecma_codegen_base.proofs.Emitting.{minified_same, pretty_same}
+use Rattle.swc_ecma_codegen_tokens.specs.Run.{Env, Plan, Steps, next, Guard, Token, Plain, step, after_step, no_part}
+use Rattle.swc_ecma_codegen_tokens.specs.Words.{operator, word_operator, punct, space, formatting_space, operator_between, punct_between}
+use Rattle.swc_ecma_codegen_tokens.proofs.Emitting.{minified_same, pretty_same}
 use Rattle.swc_ecma_codegen.specs.Exprs.{blank, space_if, binary_op, spaced_operator, spaced_punct, formatted_operator, word_between}
 use Rattle.swc_ecma_codegen.specs.Operands.{is_word_op}
 use Rattle.swc_ecma_codegen.specs.Standing.{Standing, Makes}

@@ -4,20 +4,20 @@ use Rattle.std.proofs.lemmas.Bool.{cases_Bool}
 use Rattle.swc_ecma_codegen_common.specs.declared.positions.Span.{Span}
 use Rattle.swc_ecma_codegen_tree.specs.declared.stmts.BlockStmt.{BlockStmt}
 use Rattle.swc_ecma_codegen_spans.specs.Spans.{stmt_span}
-use Rattle.swc_ecma_codegen_ast.specs.FunctionPhrases.{is_some_listed}
-use Rattle.swc_ecma_codegen_ast.specs.Phrases.{Phrase, ◌>◌, mark}
-use Rattle.swc_ecma_codegen_ast.specs.Phrases as phrases
-use Rattle.swc_ecma_codegen_ast.specs.StmtPhrases as lists
-use Rattle.swc_ecma_codegen_ast.specs.declared.kinds.Kind.TheVariants.{Punctuator}
+use Rattle.swc_ecma_codegen_grammar.specs.FunctionPhrases.{is_some_listed}
+use Rattle.swc_ecma_codegen_grammar.specs.Phrases.{Phrase, ◌>◌, mark}
+use Rattle.swc_ecma_codegen_grammar.specs.Phrases as phrases
+use Rattle.swc_ecma_codegen_grammar.specs.StmtPhrases as lists
+use Rattle.swc_ecma_codegen_grammar.specs.declared.kinds.Kind.TheVariants.{Punctuator}
 use Rattle.swc_ecma_codegen_text_writer.specs.Sheet.{Punct}
-use Rattle.swc_ecma_codegen_ast.specs.CommentMaps.{Maps}
-use Rattle.swc_ecma_codegen_base.specs.Run.{Env, Plan, Part, at_maps, next, step, after_step, when_minified, Guard, Token}
-use Rattle.swc_ecma_codegen_base.specs.Lists.{list}
-use Rattle.swc_ecma_codegen_base.specs.Words.{by_maps, comments_before_end, punct, position_before}
-use Rattle.swc_ecma_codegen_base.proofs.Emitting.{minified_same, pretty_same}
-use Rattle.swc_ecma_codegen_base.proofs.ListLaws.{IsUndelimited, children_of, prints_bracketed_in_order}
-use Rattle.swc_ecma_codegen_base.proofs.Phrased.{Prints, prints_by_maps, after, prints_same, prints_punct, prints_wider}
-use Rattle.swc_ecma_codegen_base.proofs.Printed.{writes_before_end, writes_nothing, writes_position, writes_position_before, writes_leading, Fills, makes_wider}
+use Rattle.swc_ecma_codegen_grammar.specs.CommentMaps.{Maps}
+use Rattle.swc_ecma_codegen_tokens.specs.Run.{Env, Plan, Part, at_maps, next, step, after_step, when_minified, Guard, Token}
+use Rattle.swc_ecma_codegen_tokens.specs.Lists.{list}
+use Rattle.swc_ecma_codegen_tokens.specs.Words.{by_maps, comments_before_end, punct, position_before}
+use Rattle.swc_ecma_codegen_tokens.proofs.Emitting.{minified_same, pretty_same}
+use Rattle.swc_ecma_codegen_tokens.proofs.ListLaws.{IsUndelimited, children_of, prints_bracketed_in_order}
+use Rattle.swc_ecma_codegen_tokens.proofs.Phrased.{Prints, prints_by_maps, after, prints_same, prints_punct, prints_wider}
+use Rattle.swc_ecma_codegen_tokens.proofs.Printed.{writes_before_end, writes_nothing, writes_position, writes_position_before, writes_leading, Fills, makes_wider}
 use Rattle.swc_ecma_codegen.specs.declared.nodes.Place.{Place}
 use Rattle.swc_ecma_codegen.specs.declared.nodes.Place.TheVariants.{Body}
 use Rattle.swc_ecma_codegen.specs.Answers.{place_of}
@@ -28,7 +28,7 @@ use Rattle.swc_ecma_codegen.specs.Stmts.{stmt}
 use Rattle.swc_ecma_codegen.proofs.Linked.{Linked}
 use Rattle.swc_ecma_codegen.proofs.MarkWords as marks
 use Rattle.swc_ecma_codegen.proofs.StmtParts.{stmt_prints}
-use Rattle.swc_ecma_codegen_base.proofs.Shapes.{loose}
+use Rattle.swc_ecma_codegen_tokens.proofs.Shapes.{loose}
 
 -- what is the same is the same behind a bracket
 pub behind_bracket : (env : Env) (t : List ℕ) (p q : Part) → ((maps : Maps) (rest : Plan) → p rest (at_maps maps env) ≡ q rest (at_maps maps env)) → (maps : Maps) (rest : Plan) → punct t (p rest) (at_maps maps env) ≡ punct t (q rest) (at_maps maps env)

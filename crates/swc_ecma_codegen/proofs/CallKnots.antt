@@ -15,12 +15,12 @@ use Rattle.swc_ecma_codegen_tree.specs.declared.exprs.NewExpr.{NewExpr}
 use Rattle.swc_ecma_codegen_tree.specs.declared.exprs.OptCall.{OptCall}
 use Rattle.swc_ecma_codegen_tree.specs.declared.parts.ExprPart.TheVariants as expr_parts
 use Rattle.swc_ecma_codegen_spans.specs.Spans.{expr_span, option_span, expr_or_spread_span}
-use Rattle.swc_ecma_codegen_ast.specs.ElementPhrases.{last_is_hole}
-use Rattle.swc_ecma_codegen_ast.proofs.Mapped.{list_mapped, hole_mapped}
-use Rattle.swc_ecma_codegen_ast.specs.TreePhrases.{is_sequence}
-use Rattle.swc_ecma_codegen_base.specs.Lists.{ListChild, list}
-use Rattle.swc_ecma_codegen_base.specs.Run.{Plan, Part, refuse}
-use Rattle.swc_ecma_codegen_base.specs.Words.{keyword, punct, commit_pending_semi, start_of, end_of, leading_comments, trailing_comments}
+use Rattle.swc_ecma_codegen_grammar.specs.ElementPhrases.{last_is_hole}
+use Rattle.swc_ecma_codegen_grammar.proofs.Mapped.{list_mapped, hole_mapped}
+use Rattle.swc_ecma_codegen_grammar.specs.TreePhrases.{is_sequence}
+use Rattle.swc_ecma_codegen_tokens.specs.Lists.{ListChild, list}
+use Rattle.swc_ecma_codegen_tokens.specs.Run.{Plan, Part, refuse}
+use Rattle.swc_ecma_codegen_tokens.specs.Words.{keyword, punct, commit_pending_semi, start_of, end_of, leading_comments, trailing_comments}
 use Rattle.swc_ecma_codegen.specs.declared.nodes.Place.{Place}
 use Rattle.swc_ecma_codegen.specs.declared.nodes.Place.TheVariants as places
 use Rattle.swc_ecma_codegen.specs.Answers.{Answers}

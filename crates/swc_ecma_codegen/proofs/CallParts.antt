@@ -14,29 +14,29 @@ use Rattle.swc_ecma_codegen_tree.specs.declared.exprs.Callee.TheVariants as call
 use Rattle.swc_ecma_codegen_tree.specs.declared.exprs.NewExpr.{NewExpr}
 use Rattle.swc_ecma_codegen_tree.specs.declared.exprs.OptCall.{OptCall}
 use Rattle.swc_ecma_codegen_spans.specs.Spans.{option_span, expr_or_spread_span}
-use Rattle.swc_ecma_codegen_ast.specs.Chars.{is_start, is_part, is_letter, is_digit}
-use Rattle.swc_ecma_codegen_ast.specs.Names.{is_word, all_part}
-use Rattle.swc_ecma_codegen_ast.specs.Punctuators.{is_punctuator, punctuators}
-use Rattle.swc_ecma_codegen_ast.specs.Texts.{is_same, is_among}
-use Rattle.swc_ecma_codegen_ast.specs.Phrases.{Phrase, Never, ◌>◌, word, mark}
-use Rattle.swc_ecma_codegen_ast.specs.ElementPhrases.{element, last_is_hole}
-use Rattle.swc_ecma_codegen_ast.specs.CallPhrases as lists
-use Rattle.swc_ecma_codegen_ast.specs.ListFormats.{comma_delimited, allows_trailing_comma, forces_trailing_comma}
-use Rattle.swc_ecma_codegen_ast.specs.declared.roles.Role.TheVariants.{Callee as IsCallee}
-use Rattle.swc_ecma_codegen_base.specs.Run.{Env, Part}
-use Rattle.swc_ecma_codegen_base.specs.Lists.{list}
-use Rattle.swc_ecma_codegen_base.specs.Words.{punct, space, formatting_space, position}
-use Rattle.swc_ecma_codegen_base.specs.Written.{IsWord, IsMark}
-use Rattle.swc_ecma_codegen_base.proofs.Printed.{writes_if, writes_nothing, writes_space, writes_formatting_space, writes_commit, writes_position, writes_leading, Fills, makes_wider}
-use Rattle.swc_ecma_codegen_base.proofs.Phrased.{Prints, then, after, before, prints_nothing, prints_never, prints_keyword, prints_punct, PrintsAt, prints_wider, loosened}
-use Rattle.swc_ecma_codegen_base.proofs.Choices.{prints_empty_arguments}
-use Rattle.swc_ecma_codegen_base.proofs.ListLaws.{prints_bracketed, prints_bracketed_some, prints_forced_closing}
+use Rattle.swc_ecma_codegen_grammar.specs.Chars.{is_start, is_part, is_letter, is_digit}
+use Rattle.swc_ecma_codegen_grammar.specs.Names.{is_word, all_part}
+use Rattle.swc_ecma_codegen_grammar.specs.Punctuators.{is_punctuator, punctuators}
+use Rattle.swc_ecma_codegen_grammar.specs.Texts.{is_same, is_among}
+use Rattle.swc_ecma_codegen_grammar.specs.Phrases.{Phrase, Never, ◌>◌, word, mark}
+use Rattle.swc_ecma_codegen_grammar.specs.ElementPhrases.{element, last_is_hole}
+use Rattle.swc_ecma_codegen_grammar.specs.CallPhrases as lists
+use Rattle.swc_ecma_codegen_grammar.specs.ListFormats.{comma_delimited, allows_trailing_comma, forces_trailing_comma}
+use Rattle.swc_ecma_codegen_grammar.specs.declared.roles.Role.TheVariants.{Callee as IsCallee}
+use Rattle.swc_ecma_codegen_tokens.specs.Run.{Env, Part}
+use Rattle.swc_ecma_codegen_tokens.specs.Lists.{list}
+use Rattle.swc_ecma_codegen_tokens.specs.Words.{punct, space, formatting_space, position}
+use Rattle.swc_ecma_codegen_tokens.specs.Written.{IsWord, IsMark}
+use Rattle.swc_ecma_codegen_tokens.proofs.Printed.{writes_if, writes_nothing, writes_space, writes_formatting_space, writes_commit, writes_position, writes_leading, Fills, makes_wider}
+use Rattle.swc_ecma_codegen_tokens.proofs.Phrased.{Prints, then, after, before, prints_nothing, prints_never, prints_keyword, prints_punct, PrintsAt, prints_wider, loosened}
+use Rattle.swc_ecma_codegen_tokens.proofs.Choices.{prints_empty_arguments}
+use Rattle.swc_ecma_codegen_tokens.proofs.ListLaws.{prints_bracketed, prints_bracketed_some, prints_forced_closing}
 use Rattle.swc_ecma_codegen.specs.declared.nodes.Place.TheVariants.{Plain, Callee}
 use Rattle.swc_ecma_codegen.specs.Answers.{place_of}
 use Rattle.swc_ecma_codegen.specs.Calls as words
 use Rattle.swc_ecma_codegen.specs.Lists.{child_of, if_some_at, unsupported}
 use Rattle.swc_ecma_codegen.proofs.Linked.{Linked, expr_at}
-use Rattle.swc_ecma_codegen_base.proofs.Shapes.{open_, loose}
+use Rattle.swc_ecma_codegen_tokens.proofs.Shapes.{open_, loose}
 
 open_is_mark : IsMark (codes "(")
 unfolding is_punctuator is_among is_same punctuators chars is_utf8 lib.Utf8.encode

@@ -19,12 +19,12 @@ use Rattle.swc_ecma_codegen_tree.specs.declared.classes.AutoAccessor.{AutoAccess
 use Rattle.swc_ecma_codegen_tree.specs.declared.classes.Key.{Key}
 use Rattle.swc_ecma_codegen_tree.specs.declared.classes.Key.TheVariants as keys
 use Rattle.swc_ecma_codegen_tree.specs.declared.decls.Decorator.{Decorator}
-use Rattle.swc_ecma_codegen_ast.proofs.Mapped.{list_mapped}
-use Rattle.swc_ecma_codegen_ast.proofs.MappedFunctions.{some_mapped}
-use Rattle.swc_ecma_codegen_ast.proofs.MappedClasses.{each_param}
-use Rattle.swc_ecma_codegen_base.specs.Lists.{ListChild, list}
-use Rattle.swc_ecma_codegen_base.specs.Run.{Plan, Part, refuse}
-use Rattle.swc_ecma_codegen_base.specs.Words.{keyword, punct, space, formatting_space, start_of, last_of, leading_comments}
+use Rattle.swc_ecma_codegen_grammar.proofs.Mapped.{list_mapped}
+use Rattle.swc_ecma_codegen_grammar.proofs.MappedFunctions.{some_mapped}
+use Rattle.swc_ecma_codegen_grammar.proofs.MappedClasses.{each_param}
+use Rattle.swc_ecma_codegen_tokens.specs.Lists.{ListChild, list}
+use Rattle.swc_ecma_codegen_tokens.specs.Run.{Plan, Part, refuse}
+use Rattle.swc_ecma_codegen_tokens.specs.Words.{keyword, punct, space, formatting_space, start_of, last_of, leading_comments}
 use Rattle.swc_ecma_codegen.specs.declared.nodes.Place.{Place}
 use Rattle.swc_ecma_codegen.specs.declared.nodes.Place.TheVariants.{Plain, ClassHead}
 use Rattle.swc_ecma_codegen.specs.Answers.{Answers}

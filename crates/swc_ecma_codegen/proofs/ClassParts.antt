@@ -19,19 +19,19 @@ use Rattle.swc_ecma_codegen_tree.specs.declared.classes.Key.TheVariants as keys
 use Rattle.swc_ecma_codegen_tree.specs.declared.classes.StaticBlock.{StaticBlock}
 use Rattle.swc_ecma_codegen_tree.specs.declared.decls.ClassDecl.{ClassDecl}
 use Rattle.swc_ecma_codegen_tree.specs.declared.stmts.EmptyStmt.{EmptyStmt}
-use Rattle.swc_ecma_codegen_ast.specs.ClassPhrases as lists
-use Rattle.swc_ecma_codegen_ast.specs.ClassPhrases.{is_typed_class, is_typed_prop, is_typed_private, is_typed_accessor}
-use Rattle.swc_ecma_codegen_ast.specs.FunctionPhrases.{word_if}
-use Rattle.swc_ecma_codegen_ast.specs.FunctionPhrases as function_lists
-use Rattle.swc_ecma_codegen_ast.specs.Phrases as phrases
-use Rattle.swc_ecma_codegen_ast.specs.Phrases.{◌>◌, mark, word}
-use Rattle.swc_ecma_codegen_ast.specs.declared.roles.Role.TheVariants.{ClassHead as HeadOfClass, ClassTail, Member, MethodHead as HeadOfMethod, MethodDecorators as DecoratorsOfMethod, MethodTail as TailOfMethod, AccessorTail as TailOfAccessor, FieldValue as ValueOfField}
-use Rattle.swc_ecma_codegen_base.specs.Run.{Env}
-use Rattle.swc_ecma_codegen_base.specs.Words.{keyword, punct, last_of}
-use Rattle.swc_ecma_codegen_base.proofs.ListLaws.{IsUndelimited, prints_list, prints_in_order, prints_bracketed_in_order}
-use Rattle.swc_ecma_codegen_base.proofs.Phrased.{Prints, PrintsAt, prints_wider, joined_then, then, after, before, prints_nothing, prints_never, prints_keyword, prints_punct, prints_semi}
-use Rattle.swc_ecma_codegen_base.proofs.Printed.{makes_wider, writes_nothing, writes_space, writes_formatting_space, writes_position, writes_position_before, writes_leading}
-use Rattle.swc_ecma_codegen_base.proofs.Shapes.{open_, ended_if_any, closed, loose, joining_if_any}
+use Rattle.swc_ecma_codegen_grammar.specs.ClassPhrases as lists
+use Rattle.swc_ecma_codegen_grammar.specs.ClassPhrases.{is_typed_class, is_typed_prop, is_typed_private, is_typed_accessor}
+use Rattle.swc_ecma_codegen_grammar.specs.FunctionPhrases.{word_if}
+use Rattle.swc_ecma_codegen_grammar.specs.FunctionPhrases as function_lists
+use Rattle.swc_ecma_codegen_grammar.specs.Phrases as phrases
+use Rattle.swc_ecma_codegen_grammar.specs.Phrases.{◌>◌, mark, word}
+use Rattle.swc_ecma_codegen_grammar.specs.declared.roles.Role.TheVariants.{ClassHead as HeadOfClass, ClassTail, Member, MethodHead as HeadOfMethod, MethodDecorators as DecoratorsOfMethod, MethodTail as TailOfMethod, AccessorTail as TailOfAccessor, FieldValue as ValueOfField}
+use Rattle.swc_ecma_codegen_tokens.specs.Run.{Env}
+use Rattle.swc_ecma_codegen_tokens.specs.Words.{keyword, punct, last_of}
+use Rattle.swc_ecma_codegen_tokens.proofs.ListLaws.{IsUndelimited, prints_list, prints_in_order, prints_bracketed_in_order}
+use Rattle.swc_ecma_codegen_tokens.proofs.Phrased.{Prints, PrintsAt, prints_wider, joined_then, then, after, before, prints_nothing, prints_never, prints_keyword, prints_punct, prints_semi}
+use Rattle.swc_ecma_codegen_tokens.proofs.Printed.{makes_wider, writes_nothing, writes_space, writes_formatting_space, writes_position, writes_position_before, writes_leading}
+use Rattle.swc_ecma_codegen_tokens.proofs.Shapes.{open_, ended_if_any, closed, loose, joining_if_any}
 use Rattle.swc_ecma_codegen.specs.declared.nodes.Place.{Place}
 use Rattle.swc_ecma_codegen.specs.declared.nodes.Place.TheVariants.{Plain, MethodHead, StaticHead, MethodTail}
 use Rattle.swc_ecma_codegen.specs.Classes as words

@@ -9,10 +9,10 @@ use Rattle.swc_ecma_codegen_tree.specs.declared.decls.Decl.TheVariants as decls
 use Rattle.swc_ecma_codegen_tree.specs.declared.decls.VarDecl.{VarDecl}
 use Rattle.swc_ecma_codegen_tree.specs.declared.decls.VarDeclarator.{VarDeclarator}
 use Rattle.swc_ecma_codegen_spans.specs.Spans.{class_decl_span, fn_decl_span, decl_span, stmt_part_span, node_span}
-use Rattle.swc_ecma_codegen_ast.proofs.MappedStmts.{by_init}
-use Rattle.swc_ecma_codegen_base.specs.Lists.{ListChild, list}
-use Rattle.swc_ecma_codegen_base.specs.Run.{Plan, Part, refuse}
-use Rattle.swc_ecma_codegen_base.specs.Words.{keyword, semi, space, commit_pending_semi, start_of, leading_comments}
+use Rattle.swc_ecma_codegen_grammar.proofs.MappedStmts.{by_init}
+use Rattle.swc_ecma_codegen_tokens.specs.Lists.{ListChild, list}
+use Rattle.swc_ecma_codegen_tokens.specs.Run.{Plan, Part, refuse}
+use Rattle.swc_ecma_codegen_tokens.specs.Words.{keyword, semi, space, commit_pending_semi, start_of, leading_comments}
 use Rattle.swc_ecma_codegen.specs.declared.nodes.Place.{Place}
 use Rattle.swc_ecma_codegen.specs.declared.nodes.Place.TheVariants.{Plain}
 use Rattle.swc_ecma_codegen.specs.Answers.{Answers, place_of}

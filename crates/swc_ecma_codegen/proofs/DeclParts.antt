@@ -10,16 +10,16 @@ use Rattle.swc_ecma_codegen_tree.specs.declared.decls.VarDecl.{VarDecl}
 use Rattle.swc_ecma_codegen_tree.specs.declared.decls.VarDeclKind.{VarDeclKind}
 use Rattle.swc_ecma_codegen_tree.specs.declared.decls.VarDeclKind.TheVariants.{Var, Let, Const}
 use Rattle.swc_ecma_codegen_tree.specs.declared.decls.VarDeclarator.{VarDeclarator}
-use Rattle.swc_ecma_codegen_ast.specs.declared.roles.Role.TheVariants.{Function, FunctionHead, ClassHead as HeadOfClass, ClassTail}
-use Rattle.swc_ecma_codegen_ast.specs.Phrases as phrases
-use Rattle.swc_ecma_codegen_ast.specs.Phrases.{Never, ◌>◌}
-use Rattle.swc_ecma_codegen_ast.specs.NamePhrases.{ident as ident_list}
-use Rattle.swc_ecma_codegen_ast.specs.ModulePhrases as module_lists
-use Rattle.swc_ecma_codegen_ast.specs.DeclPhrases as lists
-use Rattle.swc_ecma_codegen_base.specs.Run.{Env, Part}
-use Rattle.swc_ecma_codegen_base.proofs.ListLaws.{prints_list_on_line}
-use Rattle.swc_ecma_codegen_base.proofs.Phrased.{Prints, then, after, before, prints_nothing, prints_never, prints_keyword, prints_semi, PrintsAt, prints_wider, joined_then}
-use Rattle.swc_ecma_codegen_base.proofs.Printed.{writes_nothing, writes_space, writes_commit, writes_position, writes_leading, Fills}
+use Rattle.swc_ecma_codegen_grammar.specs.declared.roles.Role.TheVariants.{Function, FunctionHead, ClassHead as HeadOfClass, ClassTail}
+use Rattle.swc_ecma_codegen_grammar.specs.Phrases as phrases
+use Rattle.swc_ecma_codegen_grammar.specs.Phrases.{Never, ◌>◌}
+use Rattle.swc_ecma_codegen_grammar.specs.NamePhrases.{ident as ident_list}
+use Rattle.swc_ecma_codegen_grammar.specs.ModulePhrases as module_lists
+use Rattle.swc_ecma_codegen_grammar.specs.DeclPhrases as lists
+use Rattle.swc_ecma_codegen_tokens.specs.Run.{Env, Part}
+use Rattle.swc_ecma_codegen_tokens.proofs.ListLaws.{prints_list_on_line}
+use Rattle.swc_ecma_codegen_tokens.proofs.Phrased.{Prints, then, after, before, prints_nothing, prints_never, prints_keyword, prints_semi, PrintsAt, prints_wider, joined_then}
+use Rattle.swc_ecma_codegen_tokens.proofs.Printed.{writes_nothing, writes_space, writes_commit, writes_position, writes_leading, Fills}
 use Rattle.swc_ecma_codegen.specs.declared.nodes.Place.{Place}
 use Rattle.swc_ecma_codegen.specs.declared.nodes.Place.TheVariants.{Plain, DeclarationHead, ExportedHead, ExportedTail, Statement}
 use Rattle.swc_ecma_codegen.specs.Places.{declared}
@@ -31,7 +31,7 @@ use Rattle.swc_ecma_codegen.proofs.Impossible.{refused_or}
 use Rattle.swc_ecma_codegen.proofs.Linked.{Linked}
 use Rattle.swc_ecma_codegen.proofs.MarkWords as marks
 use Rattle.swc_ecma_codegen.proofs.PatParts.{initializer_prints, pat_prints}
-use Rattle.swc_ecma_codegen_base.proofs.Shapes.{ended, ended_if_any}
+use Rattle.swc_ecma_codegen_tokens.proofs.Shapes.{ended, ended_if_any}
 
 fn_decl_prints : {X : Type 0} (l : Linked X) (n : FnDecl X) → Prints l.env (words.fn_decl l.asks l.items n) (lists.fn_decl l.reads n)
 unfolding words.fn_decl words.fn_decl_parts lists.fn_decl

@@ -44,27 +44,27 @@ use Rattle.swc_ecma_codegen_tree.specs.declared.lits.Lit.TheVariants as lits
 use Rattle.swc_ecma_codegen_common.specs.Operators.{assign_text, unary_text, binary_text, update_text}
 use Rattle.swc_ecma_codegen_spans.specs.Spans.{spread_element_span}
 use Rattle.swc_ecma_codegen_util.specs.Starts as starts
-use Rattle.swc_ecma_codegen_ast.specs.Chars.{is_start, is_part, is_letter, is_digit}
-use Rattle.swc_ecma_codegen_ast.specs.Names.{is_word, all_part}
-use Rattle.swc_ecma_codegen_ast.specs.Punctuators.{is_punctuator, punctuators}
-use Rattle.swc_ecma_codegen_ast.specs.Texts.{is_same, is_among}
-use Rattle.swc_ecma_codegen_ast.specs.Phrases.{Phrase, OptionalParentheses, One, ◌>◌, mark, word}
-use Rattle.swc_ecma_codegen_ast.specs.NamePhrases as names
-use Rattle.swc_ecma_codegen_ast.specs.ExprPhrases as lists
-use Rattle.swc_ecma_codegen_ast.specs.PropPhrases as prop_lists
-use Rattle.swc_ecma_codegen_ast.specs.KeyPhrases as keys
-use Rattle.swc_ecma_codegen_ast.specs.CallPhrases.{callee_at, value_at}
-use Rattle.swc_ecma_codegen_ast.specs.LitPhrases as lit_lists
-use Rattle.swc_ecma_codegen_ast.specs.declared.roles.Role.TheVariants.{ChainMember, AssignmentTarget, Callee as IsCallee, ChainCall}
-use Rattle.swc_ecma_codegen_base.specs.Run.{Env, Part}
-use Rattle.swc_ecma_codegen_base.specs.Words.{operator, space, formatting_space, position, leading_comments, keyword}
-use Rattle.swc_ecma_codegen_base.proofs.PrivatePrints.{prints_private}
-use Rattle.swc_ecma_codegen_base.proofs.Printed.{writes_then, writes_if, writes_nothing, writes_space, writes_formatting_space, writes_commit, writes_position, writes_position_before, writes_leading, Fills}
-use Rattle.swc_ecma_codegen_base.specs.Written.{IsWord, IsMark}
-use Rattle.swc_ecma_codegen_base.proofs.Choices.{prints_bare, prints_optional_parentheses}
-use Rattle.swc_ecma_codegen_base.proofs.EachLit.{prints_lit}
-use Rattle.swc_ecma_codegen_base.proofs.NumberPrints.{prints_number, prints_number_object}
-use Rattle.swc_ecma_codegen_base.proofs.Phrased.{Prints, prints_by_maps, then, after, before, prints_nothing, prints_never, prints_keyword, prints_word_operator, prints_operator, prints_punct, prints_ident, prints_name, PrintsAt, prints_wider, prints_joined_operator, joined_then}
+use Rattle.swc_ecma_codegen_grammar.specs.Chars.{is_start, is_part, is_letter, is_digit}
+use Rattle.swc_ecma_codegen_grammar.specs.Names.{is_word, all_part}
+use Rattle.swc_ecma_codegen_grammar.specs.Punctuators.{is_punctuator, punctuators}
+use Rattle.swc_ecma_codegen_grammar.specs.Texts.{is_same, is_among}
+use Rattle.swc_ecma_codegen_grammar.specs.Phrases.{Phrase, OptionalParentheses, One, ◌>◌, mark, word}
+use Rattle.swc_ecma_codegen_grammar.specs.NamePhrases as names
+use Rattle.swc_ecma_codegen_grammar.specs.ExprPhrases as lists
+use Rattle.swc_ecma_codegen_grammar.specs.PropPhrases as prop_lists
+use Rattle.swc_ecma_codegen_grammar.specs.KeyPhrases as keys
+use Rattle.swc_ecma_codegen_grammar.specs.CallPhrases.{callee_at, value_at}
+use Rattle.swc_ecma_codegen_grammar.specs.LitPhrases as lit_lists
+use Rattle.swc_ecma_codegen_grammar.specs.declared.roles.Role.TheVariants.{ChainMember, AssignmentTarget, Callee as IsCallee, ChainCall}
+use Rattle.swc_ecma_codegen_tokens.specs.Run.{Env, Part}
+use Rattle.swc_ecma_codegen_tokens.specs.Words.{operator, space, formatting_space, position, leading_comments, keyword}
+use Rattle.swc_ecma_codegen_tokens.proofs.PrivatePrints.{prints_private}
+use Rattle.swc_ecma_codegen_tokens.proofs.Printed.{writes_then, writes_if, writes_nothing, writes_space, writes_formatting_space, writes_commit, writes_position, writes_position_before, writes_leading, Fills}
+use Rattle.swc_ecma_codegen_tokens.specs.Written.{IsWord, IsMark}
+use Rattle.swc_ecma_codegen_tokens.proofs.Choices.{prints_bare, prints_optional_parentheses}
+use Rattle.swc_ecma_codegen_tokens.proofs.EachLit.{prints_lit}
+use Rattle.swc_ecma_codegen_tokens.proofs.NumberPrints.{prints_number, prints_number_object}
+use Rattle.swc_ecma_codegen_tokens.proofs.Phrased.{Prints, prints_by_maps, then, after, before, prints_nothing, prints_never, prints_keyword, prints_word_operator, prints_operator, prints_punct, prints_ident, prints_name, PrintsAt, prints_wider, prints_joined_operator, joined_then}
 use Rattle.swc_ecma_codegen.specs.declared.nodes.Place.{Place}
 use Rattle.swc_ecma_codegen.specs.declared.nodes.Place.TheVariants.{Plain, LeftOperand, Object, DottedObject, Callee, Chain}
 use Rattle.swc_ecma_codegen.specs.Answers.{Answers, place_of}
@@ -75,8 +75,8 @@ use Rattle.swc_ecma_codegen.specs.Lits.{lit_at}
 use Rattle.swc_ecma_codegen.proofs.CallParts.{super_is_word}
 use Rattle.swc_ecma_codegen.proofs.Linked.{Linked, expr_at}
 use Rattle.swc_ecma_codegen.proofs.ListParts.{some_listed_prints}
-use Rattle.swc_ecma_codegen_base.proofs.Shapes.{open_, joined}
-use Rattle.swc_ecma_codegen_ast.specs.Phrases as phrases
+use Rattle.swc_ecma_codegen_tokens.proofs.Shapes.{open_, joined}
+use Rattle.swc_ecma_codegen_grammar.specs.Phrases as phrases
 
 -- ---- blanks and comments
 

@@ -10,36 +10,36 @@ use Rattle.swc_ecma_codegen_tree.specs.declared.exprs.ArrowExpr.{ArrowExpr}
 use Rattle.swc_ecma_codegen_tree.specs.declared.exprs.BlockStmtOrExpr.{BlockStmtOrExpr}
 use Rattle.swc_ecma_codegen_tree.specs.declared.exprs.BlockStmtOrExpr.TheVariants as bodies
 use Rattle.swc_ecma_codegen_tree.specs.declared.idents.Ident.{Ident}
-use Rattle.swc_ecma_codegen_ast.specs.declared.kinds.Kind.TheVariants.{Punctuator}
-use Rattle.swc_ecma_codegen_ast.specs.declared.roles.Role.TheVariants.{Pattern, PlainParameter, Function, FunctionHead, ClassHead, ClassTail}
-use Rattle.swc_ecma_codegen_ast.specs.Tokens as lexical
-use Rattle.swc_ecma_codegen_ast.specs.Tokens.{token_of}
-use Rattle.swc_ecma_codegen_ast.specs.Phrases.{Phrase, Never, OptionalParentheses, ◌>◌, mark, is_possible}
-use Rattle.swc_ecma_codegen_ast.specs.Phrases as phrases
-use Rattle.swc_ecma_codegen_ast.specs.NamePhrases as names
-use Rattle.swc_ecma_codegen_ast.specs.PatPhrases as pats
-use Rattle.swc_ecma_codegen_ast.specs.ClassPhrases as classes
-use Rattle.swc_ecma_codegen_ast.specs.FunctionPhrases as lists
-use Rattle.swc_ecma_codegen_ast.specs.FunctionPhrases.{is_never}
-use Rattle.swc_ecma_codegen_base.specs.Run.{Env, Part, at_maps, spelling, no_part}
-use Rattle.swc_ecma_codegen_base.specs.Lists.{list, deeper}
-use Rattle.swc_ecma_codegen_base.specs.Words.{punct, space, formatting_space}
-use Rattle.swc_ecma_codegen_base.specs.Written.{IsMark}
-use Rattle.swc_ecma_codegen_base.proofs.Choices.{prints_bare, prints_parentheses}
-use Rattle.swc_ecma_codegen_base.proofs.Emitting.{minified_same, pretty_same}
-use Rattle.swc_ecma_codegen_base.proofs.ListLaws.{children_of, prints_list, prints_one_child}
-use Rattle.swc_ecma_codegen_base.proofs.Phrased.{Prints, prints_by_maps, then, after, before, prints_nothing, prints_same, prints_keyword, prints_punct, prints_ident, mark_spelled, PrintsAt, prints_wider, loosened, joined_then, joined_mark, prints_joined_punct, prints_regrouped}
-use Rattle.swc_ecma_codegen_base.proofs.Printed.{with_room, within_then, deeper_within, writes_same, writes_if, writes_nothing, writes_space, writes_formatting_space, writes_commit, writes_position, writes_leading, writes_shallower, Fills, joined_punct_within}
+use Rattle.swc_ecma_codegen_grammar.specs.declared.kinds.Kind.TheVariants.{Punctuator}
+use Rattle.swc_ecma_codegen_grammar.specs.declared.roles.Role.TheVariants.{Pattern, PlainParameter, Function, FunctionHead, ClassHead, ClassTail}
+use Rattle.swc_ecma_codegen_grammar.specs.Tokens as lexical
+use Rattle.swc_ecma_codegen_grammar.specs.Tokens.{token_of}
+use Rattle.swc_ecma_codegen_grammar.specs.Phrases.{Phrase, Never, OptionalParentheses, ◌>◌, mark, is_possible}
+use Rattle.swc_ecma_codegen_grammar.specs.Phrases as phrases
+use Rattle.swc_ecma_codegen_grammar.specs.NamePhrases as names
+use Rattle.swc_ecma_codegen_grammar.specs.PatPhrases as pats
+use Rattle.swc_ecma_codegen_grammar.specs.ClassPhrases as classes
+use Rattle.swc_ecma_codegen_grammar.specs.FunctionPhrases as lists
+use Rattle.swc_ecma_codegen_grammar.specs.FunctionPhrases.{is_never}
+use Rattle.swc_ecma_codegen_tokens.specs.Run.{Env, Part, at_maps, spelling, no_part}
+use Rattle.swc_ecma_codegen_tokens.specs.Lists.{list, deeper}
+use Rattle.swc_ecma_codegen_tokens.specs.Words.{punct, space, formatting_space}
+use Rattle.swc_ecma_codegen_tokens.specs.Written.{IsMark}
+use Rattle.swc_ecma_codegen_tokens.proofs.Choices.{prints_bare, prints_parentheses}
+use Rattle.swc_ecma_codegen_tokens.proofs.Emitting.{minified_same, pretty_same}
+use Rattle.swc_ecma_codegen_tokens.proofs.ListLaws.{children_of, prints_list, prints_one_child}
+use Rattle.swc_ecma_codegen_tokens.proofs.Phrased.{Prints, prints_by_maps, then, after, before, prints_nothing, prints_same, prints_keyword, prints_punct, prints_ident, mark_spelled, PrintsAt, prints_wider, loosened, joined_then, joined_mark, prints_joined_punct, prints_regrouped}
+use Rattle.swc_ecma_codegen_tokens.proofs.Printed.{with_room, within_then, deeper_within, writes_same, writes_if, writes_nothing, writes_space, writes_formatting_space, writes_commit, writes_position, writes_leading, writes_shallower, Fills, joined_punct_within}
 use Rattle.swc_ecma_codegen.specs.declared.nodes.Place.TheVariants.{Plain, Body}
 use Rattle.swc_ecma_codegen.specs.ClassExprs as class_words
 use Rattle.swc_ecma_codegen.specs.FunctionExprs as words
 use Rattle.swc_ecma_codegen.specs.Commented.{has_comment_after}
-use Rattle.swc_ecma_codegen_ast.specs.CommentMaps.{Maps}
+use Rattle.swc_ecma_codegen_grammar.specs.CommentMaps.{Maps}
 use Rattle.swc_ecma_codegen.specs.FunctionExprs.{comma_list_format}
 use Rattle.swc_ecma_codegen.proofs.Impossible.{refused_or, prints_impossible, never_impossible}
 use Rattle.swc_ecma_codegen.proofs.Linked.{Linked, expr_at, pat_at, block_at}
 use Rattle.swc_ecma_codegen.proofs.MarkWords as marks
-use Rattle.swc_ecma_codegen_base.proofs.Shapes.{open_, loose, joined}
+use Rattle.swc_ecma_codegen_tokens.proofs.Shapes.{open_, loose, joined}
 use Rattle.swc_ecma_codegen_text_writer.specs.Sheet.{is_ending}
 
 pub star_prints : (env : Env) (wanted : Bool) → PrintsAt open_ env (words.star wanted) (lists.word_if wanted (mark (codes "*")))

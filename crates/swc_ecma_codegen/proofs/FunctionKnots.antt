@@ -15,12 +15,12 @@ use Rattle.swc_ecma_codegen_tree.specs.declared.exprs.Expr.TheVariants as exprs
 use Rattle.swc_ecma_codegen_tree.specs.declared.stmts.BlockStmt.{BlockStmt}
 use Rattle.swc_ecma_codegen_tree.specs.declared.stmts.Stmt.{Stmt}
 use Rattle.swc_ecma_codegen_spans.specs.Spans.{expr_span, stmt_span, node_span}
-use Rattle.swc_ecma_codegen_ast.proofs.Mapped.{list_mapped}
-use Rattle.swc_ecma_codegen_ast.proofs.MappedFunctions.{some_mapped}
-use Rattle.swc_ecma_codegen_ast.specs.TreePhrases.{is_sequence}
-use Rattle.swc_ecma_codegen_base.specs.Run.{Plan, Part, refuse}
-use Rattle.swc_ecma_codegen_base.specs.Lists.{ListChild, list}
-use Rattle.swc_ecma_codegen_base.specs.Words.{by_maps, punct, leading_comments, start_of, end_of}
+use Rattle.swc_ecma_codegen_grammar.proofs.Mapped.{list_mapped}
+use Rattle.swc_ecma_codegen_grammar.proofs.MappedFunctions.{some_mapped}
+use Rattle.swc_ecma_codegen_grammar.specs.TreePhrases.{is_sequence}
+use Rattle.swc_ecma_codegen_tokens.specs.Run.{Plan, Part, refuse}
+use Rattle.swc_ecma_codegen_tokens.specs.Lists.{ListChild, list}
+use Rattle.swc_ecma_codegen_tokens.specs.Words.{by_maps, punct, leading_comments, start_of, end_of}
 use Rattle.swc_ecma_codegen.specs.declared.nodes.Place.{Place}
 use Rattle.swc_ecma_codegen.specs.declared.nodes.Place.TheVariants.{Plain, FunctionHead, MethodHead, DeclarationHead, StaticHead, MethodDecorators, MethodTail}
 use Rattle.swc_ecma_codegen.specs.declared.patterns.PatternKind.{PatternKind}
@@ -28,7 +28,7 @@ use Rattle.swc_ecma_codegen.specs.Answers.{Answers, place_of}
 use Rattle.swc_ecma_codegen.specs.Blocks.{block_lines, block_start, block_stmt}
 use Rattle.swc_ecma_codegen.specs.AnyExpr.{expr, expr_parts, expr_closed, leaves_comments, is_wrapped, placed_expr}
 use Rattle.swc_ecma_codegen.specs.Commented.{has_comment_after}
-use Rattle.swc_ecma_codegen_ast.specs.CommentMaps.{Maps}
+use Rattle.swc_ecma_codegen_grammar.specs.CommentMaps.{Maps}
 use Rattle.swc_ecma_codegen.specs.FunctionExprs.{comma_list_format, is_plain, is_name, is_only, async_arrow, star, has_comment_behind, arrow_within, arrow_parameters, arrow_body, arrow_parts, arrow_expr}
 use Rattle.swc_ecma_codegen.specs.Functions.{decorators_format, decorator, decorator_place, param, function_body, fn_trailing_parts, fn_trailing, function_head, declaration_head, method_head, static_head, decorator_lines, method_body, method_tail_parts, method_tail, function}
 use Rattle.swc_ecma_codegen.specs.Lists.{child_of, in_order, unsupported}

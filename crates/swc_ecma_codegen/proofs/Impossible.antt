@@ -1,18 +1,18 @@
 -- Phrases that no tree has, and what is said where a phrase is possible.
 use Rattle.std.proofs.Common.{◌≡◌, ◌∙◌, sym, refl, ap, ℕ, Bool, true, false, cond, ◌&&◌, ◌||◌, List, ◌++◌, append-nil, subst}
 use Rattle.std.proofs.lemmas.Bool.{true≢false}
-use Rattle.swc_ecma_codegen_ast.specs.Tokens as lexical
+use Rattle.swc_ecma_codegen_grammar.specs.Tokens as lexical
 use Rattle.swc_ecma_codegen_util.specs.declared.config.Config.{Config}
-use Rattle.swc_ecma_codegen_ast.specs.Phrases.{Phrase, Never, Nothing, ◌>◌, mark, Generates, is_possible, names_in}
-use Rattle.swc_ecma_codegen_ast.specs.FunctionPhrases.{is_never}
-use Rattle.swc_ecma_codegen_base.specs.Escapes.{is_spelled_anew, may_make_text}
-use Rattle.swc_ecma_codegen_base.specs.Named.{EachName, AllStand}
-use Rattle.swc_ecma_codegen_base.specs.Run.{Env, Part}
-use Rattle.swc_ecma_codegen_base.specs.Targets.{is_out}
-use Rattle.swc_ecma_codegen_base.proofs.Choices.{IsAmong, prints_among}
-use Rattle.swc_ecma_codegen_base.proofs.Phrased.{prints_never, PrintsAt}
+use Rattle.swc_ecma_codegen_grammar.specs.Phrases.{Phrase, Never, Nothing, ◌>◌, mark, Generates, is_possible, names_in}
+use Rattle.swc_ecma_codegen_grammar.specs.FunctionPhrases.{is_never}
+use Rattle.swc_ecma_codegen_tokens.specs.Escapes.{is_spelled_anew, may_make_text}
+use Rattle.swc_ecma_codegen_tokens.specs.Named.{EachName, AllStand}
+use Rattle.swc_ecma_codegen_tokens.specs.Run.{Env, Part}
+use Rattle.swc_ecma_codegen_tokens.specs.Targets.{is_out}
+use Rattle.swc_ecma_codegen_tokens.proofs.Choices.{IsAmong, prints_among}
+use Rattle.swc_ecma_codegen_tokens.proofs.Phrased.{prints_never, PrintsAt}
 use Rattle.swc_ecma_codegen.specs.Lists.{unsupported}
-use Rattle.swc_ecma_codegen_base.proofs.Shapes.{Shape}
+use Rattle.swc_ecma_codegen_tokens.proofs.Shapes.{Shape}
 
 -- one that isn't printed yet is refused, and has no list of tokens
 pub refused_or : {i : Shape} {env : Env} {p : Part} {f : Phrase} (refused : Bool) → PrintsAt i env p f → PrintsAt i env (λ rest. cond refused (unsupported rest) (p rest)) (cond refused Never f)

@@ -13,19 +13,19 @@ use Rattle.swc_ecma_codegen_tree.specs.declared.programs.ModuleItem.{ModuleItem}
 use Rattle.swc_ecma_codegen_tree.specs.declared.programs.Program.{Program}
 use Rattle.swc_ecma_codegen_tree.specs.declared.programs.Program.TheVariants as programs
 use Rattle.swc_ecma_codegen_spans.specs.Spans.{module_item_span}
-use Rattle.swc_ecma_codegen_ast.specs.CommentMaps.{Maps, without, without_leading, without_trailing}
-use Rattle.swc_ecma_codegen_ast.specs.Comments.{Leading, Trailing, taken_out, comments_at}
-use Rattle.swc_ecma_codegen_ast.specs.Phrases.{is_possible, Phrase, Nothing, ◌>◌}
-use Rattle.swc_ecma_codegen_ast.specs.Phrases as phrases
-use Rattle.swc_ecma_codegen_ast.specs.StmtPhrases as lists
-use Rattle.swc_ecma_codegen_ast.specs.TreePhrases.{is_well_formed}
-use Rattle.swc_ecma_codegen_base.specs.Run.{Env, Plan, Part, State, Step, Steps, Take, Follows, nothing, step, at_maps, after_step, maps_after, steps_of}
-use Rattle.swc_ecma_codegen_base.specs.Targets.{is_out}
-use Rattle.swc_ecma_codegen_base.specs.Words.{leading_comments, trailing_comments, take_comments, comments}
-use Rattle.swc_ecma_codegen_base.proofs.Printed.{MakesFrom, env_after, maps_append}
-use Rattle.swc_ecma_codegen_base.proofs.Phrased.{prints_nothing, prints_wider, steps_of_more}
-use Rattle.swc_ecma_codegen_base.proofs.Shapes.{Shape, loose}
-use Rattle.swc_ecma_codegen_base.proofs.Short.{on_ok_in_short}
+use Rattle.swc_ecma_codegen_grammar.specs.CommentMaps.{Maps, without, without_leading, without_trailing}
+use Rattle.swc_ecma_codegen_grammar.specs.Comments.{Leading, Trailing, taken_out, comments_at}
+use Rattle.swc_ecma_codegen_grammar.specs.Phrases.{is_possible, Phrase, Nothing, ◌>◌}
+use Rattle.swc_ecma_codegen_grammar.specs.Phrases as phrases
+use Rattle.swc_ecma_codegen_grammar.specs.StmtPhrases as lists
+use Rattle.swc_ecma_codegen_grammar.specs.TreePhrases.{is_well_formed}
+use Rattle.swc_ecma_codegen_tokens.specs.Run.{Env, Plan, Part, State, Step, Steps, Take, Follows, nothing, step, at_maps, after_step, maps_after, steps_of}
+use Rattle.swc_ecma_codegen_tokens.specs.Targets.{is_out}
+use Rattle.swc_ecma_codegen_tokens.specs.Words.{leading_comments, trailing_comments, take_comments, comments}
+use Rattle.swc_ecma_codegen_tokens.proofs.Printed.{MakesFrom, env_after, maps_append}
+use Rattle.swc_ecma_codegen_tokens.proofs.Phrased.{prints_nothing, prints_wider, steps_of_more}
+use Rattle.swc_ecma_codegen_tokens.proofs.Shapes.{Shape, loose}
+use Rattle.swc_ecma_codegen_tokens.proofs.Short.{on_ok_in_short}
 use Rattle.swc_ecma_codegen.specs.Answers.{any_answers, place_of}
 use Rattle.swc_ecma_codegen.specs.Left.{NoneBefore, NoneBeforeItems, NoneBeforeBody}
 use Rattle.swc_ecma_codegen.specs.Lists.{in_order}

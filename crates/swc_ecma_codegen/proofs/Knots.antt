@@ -31,9 +31,9 @@ use Rattle.swc_ecma_codegen_tree.specs.declared.pats.AssignTarget.TheVariants as
 use Rattle.swc_ecma_codegen_tree.specs.declared.pats.SimpleAssignTarget.{SimpleAssignTarget}
 use Rattle.swc_ecma_codegen_tree.specs.declared.pats.SimpleAssignTarget.TheVariants as simple_targets
 use Rattle.swc_ecma_codegen_spans.specs.Spans.{expr_span, fn_expr_span, class_expr_span}
-use Rattle.swc_ecma_codegen_ast.specs.TreePhrases.{is_sequence}
-use Rattle.swc_ecma_codegen_base.specs.Run.{Plan, Part, refuse}
-use Rattle.swc_ecma_codegen_base.specs.Words.{punct, trailing_comments}
+use Rattle.swc_ecma_codegen_grammar.specs.TreePhrases.{is_sequence}
+use Rattle.swc_ecma_codegen_tokens.specs.Run.{Plan, Part, refuse}
+use Rattle.swc_ecma_codegen_tokens.specs.Words.{punct, trailing_comments}
 use Rattle.swc_ecma_codegen.specs.declared.nodes.Place.{Place}
 use Rattle.swc_ecma_codegen.specs.declared.nodes.Place.TheVariants.{Plain, Chain, FieldValue}
 use Rattle.swc_ecma_codegen.specs.Answers.{Answers, any_answers}

@@ -1,17 +1,17 @@
 -- What a law of one node takes: what is known of whatever its links hold.
 use Rattle.std.proofs.Common.{◌≡◌, false, cond}
-use Rattle.swc_ecma_codegen_ast.specs.Phrases.{Phrase, Never}
-use Rattle.swc_ecma_codegen_ast.specs.declared.roles.Role.{Role}
-use Rattle.swc_ecma_codegen_ast.specs.declared.roles.Role.TheVariants.{Expression, Statement, Pattern, PlainParameter, PropertyName, Block, VariableDeclaration, MethodHead, ClassHead, MethodDecorators, Member, ExportedHead, ModuleDeclaration}
+use Rattle.swc_ecma_codegen_grammar.specs.Phrases.{Phrase, Never}
+use Rattle.swc_ecma_codegen_grammar.specs.declared.roles.Role.{Role}
+use Rattle.swc_ecma_codegen_grammar.specs.declared.roles.Role.TheVariants.{Expression, Statement, Pattern, PlainParameter, PropertyName, Block, VariableDeclaration, MethodHead, ClassHead, MethodDecorators, Member, ExportedHead, ModuleDeclaration}
 use Rattle.swc_ecma_codegen_tree.specs.Links.{BlockStmtBox, ExprBox, PatBox, PropNameBox, StmtBox, VarDeclBox}
-use Rattle.swc_ecma_codegen_base.specs.Run.{Env, Part}
-use Rattle.swc_ecma_codegen_base.proofs.Phrased.{Prints, PrintsAt}
+use Rattle.swc_ecma_codegen_tokens.specs.Run.{Env, Part}
+use Rattle.swc_ecma_codegen_tokens.proofs.Phrased.{Prints, PrintsAt}
 use Rattle.swc_ecma_codegen.specs.declared.nodes.Place.{Place}
 use Rattle.swc_ecma_codegen.specs.declared.nodes.Place.TheVariants.{Plain}
 use Rattle.swc_ecma_codegen.specs.Answers.{Answers}
 use Rattle.swc_ecma_codegen.specs.FunctionExprs.{is_plain}
 use Rattle.swc_ecma_codegen.specs.Places.{placed}
-use Rattle.swc_ecma_codegen_base.proofs.Shapes.{Shape, whole, closed, ended, ended_if_any, joining_if_any}
+use Rattle.swc_ecma_codegen_tokens.proofs.Shapes.{Shape, whole, closed, ended, ended_if_any, joining_if_any}
 
 -- A statement may end with the end of its line, as a declaration of a module does, and declarations of variables with a list; decorators
 -- stand on lines of their own, where there are some; of a method there may be `async` before its name, on the line of that name, or

@@ -1,16 +1,16 @@
 -- What lists of nodes write is what they read as.
 use Rattle.std.proofs.Common.{true, false, List, [], ◌∷◌, map, codes, refl}
 use Rattle.std.specs.Str.{chars, is_utf8}
-use Rattle.swc_ecma_codegen_ast.specs.Punctuators.{is_punctuator, punctuators}
-use Rattle.swc_ecma_codegen_ast.specs.Texts.{is_same, is_among}
-use Rattle.swc_ecma_codegen_ast.specs.Phrases as phrases
-use Rattle.swc_ecma_codegen_ast.specs.Phrases.{Phrase, mark}
-use Rattle.swc_ecma_codegen_base.specs.Run.{Env, Part}
-use Rattle.swc_ecma_codegen_base.specs.Written.{IsMark}
-use Rattle.swc_ecma_codegen_base.proofs.Printed.{writes_formatting_space}
-use Rattle.swc_ecma_codegen_base.proofs.Phrased.{Prints, then, before, prints_nothing, prints_never, prints_punct, PrintsAt, prints_wider}
+use Rattle.swc_ecma_codegen_grammar.specs.Punctuators.{is_punctuator, punctuators}
+use Rattle.swc_ecma_codegen_grammar.specs.Texts.{is_same, is_among}
+use Rattle.swc_ecma_codegen_grammar.specs.Phrases as phrases
+use Rattle.swc_ecma_codegen_grammar.specs.Phrases.{Phrase, mark}
+use Rattle.swc_ecma_codegen_tokens.specs.Run.{Env, Part}
+use Rattle.swc_ecma_codegen_tokens.specs.Written.{IsMark}
+use Rattle.swc_ecma_codegen_tokens.proofs.Printed.{writes_formatting_space}
+use Rattle.swc_ecma_codegen_tokens.proofs.Phrased.{Prints, then, before, prints_nothing, prints_never, prints_punct, PrintsAt, prints_wider}
 use Rattle.swc_ecma_codegen.specs.Lists.{comma, listed, in_order}
-use Rattle.swc_ecma_codegen_base.proofs.Shapes.{open_, ended, ended_if_any}
+use Rattle.swc_ecma_codegen_tokens.proofs.Shapes.{open_, ended, ended_if_any}
 
 comma_is_mark : IsMark (codes ",")
 unfolding is_punctuator is_among is_same punctuators chars is_utf8 lib.Utf8.encode

@@ -3,10 +3,10 @@ use Rattle.std.proofs.Common.{◌≡◌, ◌∙◌, ℕ, Bool, true, false, ◌&
 use Rattle.std.proofs.lemmas.Bool.{cases_Bool}
 use Rattle.swc_ecma_codegen_common.specs.declared.positions.Span.{Span}
 use Rattle.swc_ecma_codegen_spans.specs.Spans.{dummy_span}
-use Rattle.swc_ecma_codegen_ast.specs.ListFormats.{multi_line, preserves_lines, no_trailing_new_line, apart, leading_line, separating_line, closing_line}
-use Rattle.swc_ecma_codegen_ast.specs.SourceLines.{Lines}
-use Rattle.swc_ecma_codegen_base.specs.Run.{Plan}
-use Rattle.swc_ecma_codegen_base.specs.Lists.{ListChild, by_lines, trailing_comma, closing, next_child_after, next_child, more_children, last_place, list_closing, list_after}
+use Rattle.swc_ecma_codegen_grammar.specs.ListFormats.{multi_line, preserves_lines, no_trailing_new_line, apart, leading_line, separating_line, closing_line}
+use Rattle.swc_ecma_codegen_grammar.specs.SourceLines.{Lines}
+use Rattle.swc_ecma_codegen_tokens.specs.Run.{Plan}
+use Rattle.swc_ecma_codegen_tokens.specs.Lists.{ListChild, by_lines, trailing_comma, closing, next_child_after, next_child, more_children, last_place, list_closing, list_after}
 use Rattle.swc_ecma_codegen.specs.Lists.{as_asked}
 
 -- what is asked for again

@@ -13,20 +13,20 @@ use Rattle.swc_ecma_codegen_tree.specs.declared.stmts.SwitchStmt.{SwitchStmt}
 use Rattle.swc_ecma_codegen_tree.specs.declared.stmts.VarDeclOrExpr.{VarDeclOrExpr}
 use Rattle.swc_ecma_codegen_tree.specs.declared.stmts.VarDeclOrExpr.TheVariants as inits
 use Rattle.swc_ecma_codegen_tree.specs.declared.stmts.WhileStmt.{WhileStmt}
-use Rattle.swc_ecma_codegen_ast.specs.Phrases.{Phrase, ◌>◌, mark, word}
-use Rattle.swc_ecma_codegen_ast.specs.Phrases as phrases
-use Rattle.swc_ecma_codegen_ast.specs.PatPhrases.{value_at}
-use Rattle.swc_ecma_codegen_ast.specs.FunctionPhrases.{word_if}
-use Rattle.swc_ecma_codegen_ast.specs.StmtPhrases as lists
+use Rattle.swc_ecma_codegen_grammar.specs.Phrases.{Phrase, ◌>◌, mark, word}
+use Rattle.swc_ecma_codegen_grammar.specs.Phrases as phrases
+use Rattle.swc_ecma_codegen_grammar.specs.PatPhrases.{value_at}
+use Rattle.swc_ecma_codegen_grammar.specs.FunctionPhrases.{word_if}
+use Rattle.swc_ecma_codegen_grammar.specs.StmtPhrases as lists
 use Rattle.swc_ecma_codegen_util.specs.Ends.{head_ends}
-use Rattle.swc_ecma_codegen_base.specs.Lists.{by_lines}
-use Rattle.swc_ecma_codegen_base.specs.Run.{Env, Part}
-use Rattle.swc_ecma_codegen_base.specs.Words.{punct, position_before}
-use Rattle.swc_ecma_codegen_base.specs.Written.{IsWord}
-use Rattle.swc_ecma_codegen_base.proofs.Choices.{prints_loop_ending}
-use Rattle.swc_ecma_codegen_base.proofs.ListLaws.{IsUndelimited, prints_bracketed_in_order}
-use Rattle.swc_ecma_codegen_base.proofs.Phrased.{Prints, then, after, before, prints_nothing, prints_same, prints_keyword, prints_punct, PrintsAt, prints_wider, joined_then}
-use Rattle.swc_ecma_codegen_base.proofs.Printed.{writes_nothing, writes_space, writes_formatting_space, writes_commit, writes_position, writes_position_before, makes_wider}
+use Rattle.swc_ecma_codegen_tokens.specs.Lists.{by_lines}
+use Rattle.swc_ecma_codegen_tokens.specs.Run.{Env, Part}
+use Rattle.swc_ecma_codegen_tokens.specs.Words.{punct, position_before}
+use Rattle.swc_ecma_codegen_tokens.specs.Written.{IsWord}
+use Rattle.swc_ecma_codegen_tokens.proofs.Choices.{prints_loop_ending}
+use Rattle.swc_ecma_codegen_tokens.proofs.ListLaws.{IsUndelimited, prints_bracketed_in_order}
+use Rattle.swc_ecma_codegen_tokens.proofs.Phrased.{Prints, then, after, before, prints_nothing, prints_same, prints_keyword, prints_punct, PrintsAt, prints_wider, joined_then}
+use Rattle.swc_ecma_codegen_tokens.proofs.Printed.{writes_nothing, writes_space, writes_formatting_space, writes_commit, writes_position, writes_position_before, makes_wider}
 use Rattle.swc_ecma_codegen.specs.declared.nodes.Place.TheVariants.{Plain}
 use Rattle.swc_ecma_codegen.specs.Exprs.{space_if}
 use Rattle.swc_ecma_codegen.specs.Stmts as words
@@ -36,7 +36,7 @@ use Rattle.swc_ecma_codegen.proofs.ExprParts.{writes_blank, writes_space_if, wri
 use Rattle.swc_ecma_codegen.proofs.Impossible.{prints_last}
 use Rattle.swc_ecma_codegen.proofs.Linked.{Linked, expr_at, stmt_at, pat_at, var_decl_at}
 use Rattle.swc_ecma_codegen.proofs.MarkWords as marks
-use Rattle.swc_ecma_codegen_base.proofs.Shapes.{Shape, open_, ended, loose, on_line, at_joint}
+use Rattle.swc_ecma_codegen_tokens.proofs.Shapes.{Shape, open_, ended, loose, on_line, at_joint}
 
 -- ---- parts of statements
 

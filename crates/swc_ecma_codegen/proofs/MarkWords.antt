@@ -1,11 +1,11 @@
 -- The marks and words of patterns, objects, functions, statements and declarations.
 use Rattle.std.proofs.Common.{codes, refl}
 use Rattle.std.specs.Str.{chars, is_utf8}
-use Rattle.swc_ecma_codegen_ast.specs.Chars.{is_start, is_part, is_letter, is_digit}
-use Rattle.swc_ecma_codegen_ast.specs.Names.{is_word, all_part}
-use Rattle.swc_ecma_codegen_ast.specs.Punctuators.{is_punctuator, punctuators}
-use Rattle.swc_ecma_codegen_ast.specs.Texts.{is_same, is_among}
-use Rattle.swc_ecma_codegen_base.specs.Written.{IsWord, IsMark}
+use Rattle.swc_ecma_codegen_grammar.specs.Chars.{is_start, is_part, is_letter, is_digit}
+use Rattle.swc_ecma_codegen_grammar.specs.Names.{is_word, all_part}
+use Rattle.swc_ecma_codegen_grammar.specs.Punctuators.{is_punctuator, punctuators}
+use Rattle.swc_ecma_codegen_grammar.specs.Texts.{is_same, is_among}
+use Rattle.swc_ecma_codegen_tokens.specs.Written.{IsWord, IsMark}
 
 pub left_parenthesis : IsMark (codes "(")
 unfolding is_punctuator is_among is_same punctuators chars is_utf8 lib.Utf8.encode

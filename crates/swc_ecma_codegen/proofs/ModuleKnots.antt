@@ -14,7 +14,7 @@ use Rattle.swc_ecma_codegen_tree.specs.declared.modules.NamedExport.{NamedExport
 use Rattle.swc_ecma_codegen_tree.specs.declared.programs.ModuleDecl.{ModuleDecl}
 use Rattle.swc_ecma_codegen_tree.specs.declared.programs.ModuleDecl.TheVariants as module_decls
 use Rattle.swc_ecma_codegen_spans.specs.Spans.{module_decl_span}
-use Rattle.swc_ecma_codegen_base.specs.Run.{Plan, Part, refuse}
+use Rattle.swc_ecma_codegen_tokens.specs.Run.{Plan, Part, refuse}
 use Rattle.swc_ecma_codegen.specs.declared.nodes.Place.{Place}
 use Rattle.swc_ecma_codegen.specs.Answers.{Answers}
 use Rattle.swc_ecma_codegen.specs.ClassExprs.{class_expr}

@@ -31,23 +31,23 @@ use Rattle.swc_ecma_codegen_tree.specs.declared.programs.ModuleDecl.TheVariants 
 use Rattle.swc_ecma_codegen_tree.specs.declared.programs.ModuleItem.{ModuleItem}
 use Rattle.swc_ecma_codegen_tree.specs.declared.programs.ModuleItem.TheVariants as module_items
 use Rattle.swc_ecma_codegen_spans.specs.Spans.{import_specifier_span, export_specifier_span, module_item_span, module_decl_span}
-use Rattle.swc_ecma_codegen_ast.specs.ElementPhrases.{closing_of}
-use Rattle.swc_ecma_codegen_ast.specs.ModulePhrases as lists
-use Rattle.swc_ecma_codegen_ast.specs.StmtPhrases as stmt_lists
-use Rattle.swc_ecma_codegen_ast.specs.NamePhrases.{ident}
-use Rattle.swc_ecma_codegen_ast.specs.Phrases as phrases
-use Rattle.swc_ecma_codegen_ast.specs.Phrases.{Phrase, Never, CommaBefore, RightBrace, closing_mark, ◌>◌, mark, word, ending, is_possible}
-use Rattle.swc_ecma_codegen_ast.specs.LitPhrases.{str_lit}
-use Rattle.swc_ecma_codegen_ast.specs.declared.roles.Role.TheVariants.{ObjectLiteral, ModuleDeclaration, ExportedHead as HeadOfExported, ExportedTail as TailOfExported}
-use Rattle.swc_ecma_codegen_base.specs.Lists.{list}
-use Rattle.swc_ecma_codegen_base.specs.Run.{Env, Plan, Part, at_maps}
-use Rattle.swc_ecma_codegen_base.specs.Words.{punct, formatting_space}
-use Rattle.swc_ecma_codegen_base.proofs.ListLaws.{children_of, writes_no_list, prints_some, prints_optional_closing}
-use Rattle.swc_ecma_codegen_base.proofs.Choices.{prints_attributes_word}
-use Rattle.swc_ecma_codegen_base.proofs.Shapes.{Shape, open_, closed, ended}
-use Rattle.swc_ecma_codegen_base.proofs.Phrased.{Prints, PrintsAt, prints_wider, loosened, then, after, before, prints_nothing, prints_never, prints_same, prints_keyword, prints_punct, prints_semi}
-use Rattle.swc_ecma_codegen_base.proofs.Printed.{writes_space, writes_formatting_space, writes_formatting_line, writes_position, writes_leading, writes_trailing}
-use Rattle.swc_ecma_codegen_base.proofs.StringPrints.{prints_str}
+use Rattle.swc_ecma_codegen_grammar.specs.ElementPhrases.{closing_of}
+use Rattle.swc_ecma_codegen_grammar.specs.ModulePhrases as lists
+use Rattle.swc_ecma_codegen_grammar.specs.StmtPhrases as stmt_lists
+use Rattle.swc_ecma_codegen_grammar.specs.NamePhrases.{ident}
+use Rattle.swc_ecma_codegen_grammar.specs.Phrases as phrases
+use Rattle.swc_ecma_codegen_grammar.specs.Phrases.{Phrase, Never, CommaBefore, RightBrace, closing_mark, ◌>◌, mark, word, ending, is_possible}
+use Rattle.swc_ecma_codegen_grammar.specs.LitPhrases.{str_lit}
+use Rattle.swc_ecma_codegen_grammar.specs.declared.roles.Role.TheVariants.{ObjectLiteral, ModuleDeclaration, ExportedHead as HeadOfExported, ExportedTail as TailOfExported}
+use Rattle.swc_ecma_codegen_tokens.specs.Lists.{list}
+use Rattle.swc_ecma_codegen_tokens.specs.Run.{Env, Plan, Part, at_maps}
+use Rattle.swc_ecma_codegen_tokens.specs.Words.{punct, formatting_space}
+use Rattle.swc_ecma_codegen_tokens.proofs.ListLaws.{children_of, writes_no_list, prints_some, prints_optional_closing}
+use Rattle.swc_ecma_codegen_tokens.proofs.Choices.{prints_attributes_word}
+use Rattle.swc_ecma_codegen_tokens.proofs.Shapes.{Shape, open_, closed, ended}
+use Rattle.swc_ecma_codegen_tokens.proofs.Phrased.{Prints, PrintsAt, prints_wider, loosened, then, after, before, prints_nothing, prints_never, prints_same, prints_keyword, prints_punct, prints_semi}
+use Rattle.swc_ecma_codegen_tokens.proofs.Printed.{writes_space, writes_formatting_space, writes_formatting_line, writes_position, writes_leading, writes_trailing}
+use Rattle.swc_ecma_codegen_tokens.proofs.StringPrints.{prints_str}
 use Rattle.swc_ecma_codegen.specs.declared.nodes.Place.TheVariants.{Plain}
 use Rattle.swc_ecma_codegen.specs.Answers.{place_of}
 use Rattle.swc_ecma_codegen.specs.Exprs.{ident as words_ident}

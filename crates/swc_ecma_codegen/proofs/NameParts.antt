@@ -4,14 +4,14 @@ use Rattle.swc_ecma_codegen_tree.specs.declared.exprs.PropName.{PropName}
 use Rattle.swc_ecma_codegen_tree.specs.declared.exprs.PropName.TheVariants as prop_names
 use Rattle.swc_ecma_codegen_tree.specs.declared.idents.Ident.{Ident}
 use Rattle.swc_ecma_codegen_tree.specs.declared.idents.BindingIdent.{BindingIdent}
-use Rattle.swc_ecma_codegen_ast.specs.Phrases.{Never}
-use Rattle.swc_ecma_codegen_ast.specs.KeyPhrases as keys
-use Rattle.swc_ecma_codegen_ast.specs.NamePhrases as names
-use Rattle.swc_ecma_codegen_base.proofs.BigPrints.{prints_big_int}
-use Rattle.swc_ecma_codegen_base.proofs.KeyPrints.{prints_key}
-use Rattle.swc_ecma_codegen_base.proofs.NumberPrints.{prints_number}
-use Rattle.swc_ecma_codegen_base.proofs.Phrased.{Prints, prints_never}
-use Rattle.swc_ecma_codegen_base.proofs.StringPrints.{prints_str}
+use Rattle.swc_ecma_codegen_grammar.specs.Phrases.{Never}
+use Rattle.swc_ecma_codegen_grammar.specs.KeyPhrases as keys
+use Rattle.swc_ecma_codegen_grammar.specs.NamePhrases as names
+use Rattle.swc_ecma_codegen_tokens.proofs.BigPrints.{prints_big_int}
+use Rattle.swc_ecma_codegen_tokens.proofs.KeyPrints.{prints_key}
+use Rattle.swc_ecma_codegen_tokens.proofs.NumberPrints.{prints_number}
+use Rattle.swc_ecma_codegen_tokens.proofs.Phrased.{Prints, prints_never}
+use Rattle.swc_ecma_codegen_tokens.proofs.StringPrints.{prints_str}
 use Rattle.swc_ecma_codegen.specs.Exprs.{ident}
 use Rattle.swc_ecma_codegen.specs.Lists.{unsupported}
 use Rattle.swc_ecma_codegen.specs.Names as bound

@@ -18,12 +18,12 @@ use Rattle.swc_ecma_codegen_tree.specs.declared.pats.AssignTarget.TheVariants as
 use Rattle.swc_ecma_codegen_tree.specs.declared.pats.AssignTargetPat.{AssignTargetPat}
 use Rattle.swc_ecma_codegen_tree.specs.declared.pats.AssignTargetPat.TheVariants as target_pats
 use Rattle.swc_ecma_codegen_spans.specs.Spans.{between, option_span, pat_span, prop_name_span, binding_ident_span, object_pat_prop_span, key_value_pat_prop_span, expr_part_span, node_span}
-use Rattle.swc_ecma_codegen_ast.specs.ElementPhrases.{last_is_hole}
-use Rattle.swc_ecma_codegen_ast.proofs.Mapped.{list_mapped, hole_mapped}
-use Rattle.swc_ecma_codegen_ast.proofs.MappedPats.{by_cases}
-use Rattle.swc_ecma_codegen_base.specs.Run.{Plan, Part, refuse}
-use Rattle.swc_ecma_codegen_base.specs.Lists.{ListChild, list}
-use Rattle.swc_ecma_codegen_base.specs.Words.{punct, formatting_space, end_of}
+use Rattle.swc_ecma_codegen_grammar.specs.ElementPhrases.{last_is_hole}
+use Rattle.swc_ecma_codegen_grammar.proofs.Mapped.{list_mapped, hole_mapped}
+use Rattle.swc_ecma_codegen_grammar.proofs.MappedPats.{by_cases}
+use Rattle.swc_ecma_codegen_tokens.specs.Run.{Plan, Part, refuse}
+use Rattle.swc_ecma_codegen_tokens.specs.Lists.{ListChild, list}
+use Rattle.swc_ecma_codegen_tokens.specs.Words.{punct, formatting_space, end_of}
 use Rattle.swc_ecma_codegen.specs.declared.nodes.Place.{Place}
 use Rattle.swc_ecma_codegen.specs.declared.nodes.Place.TheVariants.{Plain}
 use Rattle.swc_ecma_codegen.specs.Answers.{Answers, place_of}

@@ -15,16 +15,16 @@ use Rattle.swc_ecma_codegen_tree.specs.declared.pats.AssignPatProp.{AssignPatPro
 use Rattle.swc_ecma_codegen_tree.specs.declared.pats.AssignTargetPat.{AssignTargetPat}
 use Rattle.swc_ecma_codegen_tree.specs.declared.pats.AssignTargetPat.TheVariants as target_pats
 use Rattle.swc_ecma_codegen_spans.specs.Spans.{prop_name_span, option_span, pat_span, object_pat_prop_span}
-use Rattle.swc_ecma_codegen_ast.specs.Phrases.{Phrase, CommaBefore, RightBracket, RightBrace, closing_mark, ◌>◌, mark}
-use Rattle.swc_ecma_codegen_ast.specs.Phrases as phrases
-use Rattle.swc_ecma_codegen_ast.specs.ElementPhrases.{element, last_is_hole, elements_end, closing_of}
-use Rattle.swc_ecma_codegen_ast.specs.PatPhrases as lists
-use Rattle.swc_ecma_codegen_base.specs.Run.{Env, Part}
-use Rattle.swc_ecma_codegen_base.specs.Lists.{list, list_closing}
-use Rattle.swc_ecma_codegen_base.specs.Words.{punct, position}
-use Rattle.swc_ecma_codegen_base.proofs.ListLaws.{children_of, writes_no_list, prints_some, prints_forced_closing, prints_optional_closing}
-use Rattle.swc_ecma_codegen_base.proofs.Phrased.{Prints, then, after, before, prints_nothing, prints_never, prints_punct, prints_placed_punct, PrintsAt, prints_wider, loosened}
-use Rattle.swc_ecma_codegen_base.proofs.Printed.{writes_formatting_space, writes_position, writes_leading, writes_trailing}
+use Rattle.swc_ecma_codegen_grammar.specs.Phrases.{Phrase, CommaBefore, RightBracket, RightBrace, closing_mark, ◌>◌, mark}
+use Rattle.swc_ecma_codegen_grammar.specs.Phrases as phrases
+use Rattle.swc_ecma_codegen_grammar.specs.ElementPhrases.{element, last_is_hole, elements_end, closing_of}
+use Rattle.swc_ecma_codegen_grammar.specs.PatPhrases as lists
+use Rattle.swc_ecma_codegen_tokens.specs.Run.{Env, Part}
+use Rattle.swc_ecma_codegen_tokens.specs.Lists.{list, list_closing}
+use Rattle.swc_ecma_codegen_tokens.specs.Words.{punct, position}
+use Rattle.swc_ecma_codegen_tokens.proofs.ListLaws.{children_of, writes_no_list, prints_some, prints_forced_closing, prints_optional_closing}
+use Rattle.swc_ecma_codegen_tokens.proofs.Phrased.{Prints, then, after, before, prints_nothing, prints_never, prints_punct, prints_placed_punct, PrintsAt, prints_wider, loosened}
+use Rattle.swc_ecma_codegen_tokens.proofs.Printed.{writes_formatting_space, writes_position, writes_leading, writes_trailing}
 use Rattle.swc_ecma_codegen.specs.declared.nodes.Place.TheVariants.{Plain}
 use Rattle.swc_ecma_codegen.specs.Answers.{place_of}
 use Rattle.swc_ecma_codegen.specs.Lists.{if_some_at}
@@ -35,7 +35,7 @@ use Rattle.swc_ecma_codegen.proofs.Impossible.{refused_or}
 use Rattle.swc_ecma_codegen.proofs.Linked.{Linked, expr_at, pat_at}
 use Rattle.swc_ecma_codegen.proofs.MarkWords as marks
 use Rattle.swc_ecma_codegen.proofs.NameParts.{binding_ident_prints, prop_name_prints}
-use Rattle.swc_ecma_codegen_base.proofs.Shapes.{open_, loose, closed}
+use Rattle.swc_ecma_codegen_tokens.proofs.Shapes.{open_, loose, closed}
 
 pub initializer_prints : {X : Type 0} (l : Linked X) (n : Option (ExprBox X)) → PrintsAt open_ l.env (words.initializer l.items n) (lists.initializer l.reads n)
 unfolding words.initializer lists.initializer
@@ -55,11 +55,11 @@ unfolding elements_end closing_of closing_mark
 end_prints env true parent last close h x xs = prints_wider closed refl (then (prints_forced_closing env (array_pat_format true) parent last refl refl refl) h)
 end_prints env false parent last close h x xs = prints_optional_closing env (array_pat_format false) parent last RightBracket close refl refl h
 
-is_list : (hole : Bool) → Rattle.swc_ecma_codegen_ast.specs.ListFormats.comma_delimited (array_pat_format hole) ≡ true
+is_list : (hole : Bool) → Rattle.swc_ecma_codegen_grammar.specs.ListFormats.comma_delimited (array_pat_format hole) ≡ true
 is_list true = refl
 is_list false = refl
 
-is_flat : (hole : Bool) → Rattle.swc_ecma_codegen_ast.specs.ListFormats.indented (array_pat_format hole) ≡ false
+is_flat : (hole : Bool) → Rattle.swc_ecma_codegen_grammar.specs.ListFormats.indented (array_pat_format hole) ≡ false
 is_flat true = refl
 is_flat false = refl
 

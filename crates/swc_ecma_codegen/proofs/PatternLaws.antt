@@ -11,14 +11,14 @@ use Rattle.swc_ecma_codegen_tree.specs.declared.parts.StmtPart.{StmtPart}
 use Rattle.swc_ecma_codegen_tree.specs.declared.parts.StmtPart.TheVariants as stmt_parts
 use Rattle.swc_ecma_codegen_tree.specs.declared.pats.Pat.{Pat}
 use Rattle.swc_ecma_codegen_tree.specs.declared.pats.Pat.TheVariants as pats
-use Rattle.swc_ecma_codegen_ast.specs.Phrases.{Phrase, Never}
-use Rattle.swc_ecma_codegen_ast.specs.NamePhrases.{ident, binding_ident}
-use Rattle.swc_ecma_codegen_ast.specs.PartPhrases.{expr_part, stmt_part}
-use Rattle.swc_ecma_codegen_ast.specs.PatPhrases.{pat, plain_name, plain_parameter}
-use Rattle.swc_ecma_codegen_ast.specs.TreePhrases.{node_phrase, phrase}
-use Rattle.swc_ecma_codegen_ast.specs.declared.roles.Role.{Role}
-use Rattle.swc_ecma_codegen_ast.specs.declared.roles.Role.TheVariants.{Pattern, PlainParameter}
-use Rattle.swc_ecma_codegen_ast.proofs.TreeLaws.{phrase_at}
+use Rattle.swc_ecma_codegen_grammar.specs.Phrases.{Phrase, Never}
+use Rattle.swc_ecma_codegen_grammar.specs.NamePhrases.{ident, binding_ident}
+use Rattle.swc_ecma_codegen_grammar.specs.PartPhrases.{expr_part, stmt_part}
+use Rattle.swc_ecma_codegen_grammar.specs.PatPhrases.{pat, plain_name, plain_parameter}
+use Rattle.swc_ecma_codegen_grammar.specs.TreePhrases.{node_phrase, phrase}
+use Rattle.swc_ecma_codegen_grammar.specs.declared.roles.Role.{Role}
+use Rattle.swc_ecma_codegen_grammar.specs.declared.roles.Role.TheVariants.{Pattern, PlainParameter}
+use Rattle.swc_ecma_codegen_grammar.proofs.TreeLaws.{phrase_at}
 use Rattle.swc_ecma_codegen.specs.declared.patterns.PatternKind.TheVariants.{PlainName, Name}
 use Rattle.swc_ecma_codegen.specs.Answers.{any_answers}
 use Rattle.swc_ecma_codegen.specs.FunctionExprs.{is_plain}

@@ -8,14 +8,14 @@ use Rattle.swc_ecma_codegen_tree.specs.declared.programs.Program.{Program}
 use Rattle.swc_ecma_codegen_tree.specs.declared.programs.Program.TheVariants as program_variants
 use Rattle.swc_ecma_codegen_tree.specs.declared.programs.Module.{Module}
 use Rattle.swc_ecma_codegen_tree.specs.declared.programs.Script.{Script}
-use Rattle.swc_ecma_codegen_ast.specs.Phrases.{Phrase, ◌>◌}
-use Rattle.swc_ecma_codegen_ast.specs.Tokens.{Token}
-use Rattle.swc_ecma_codegen_ast.specs.StmtPhrases as lists
-use Rattle.swc_ecma_codegen_base.specs.Literals.{hashbang}
-use Rattle.swc_ecma_codegen_base.specs.Run.{Env, Part, at_maps}
-use Rattle.swc_ecma_codegen_base.specs.Words.{commit_pending_semi, trailing_comments}
-use Rattle.swc_ecma_codegen_base.proofs.Phrased.{then, after, before, prints_nothing, PrintsAt, prints_wider}
-use Rattle.swc_ecma_codegen_base.proofs.Printed.{writes_then, writes_same, writes_nothing, writes_commit, writes_position, writes_leading, writes_trailing, Fills, MakesAt}
+use Rattle.swc_ecma_codegen_grammar.specs.Phrases.{Phrase, ◌>◌}
+use Rattle.swc_ecma_codegen_grammar.specs.Tokens.{Token}
+use Rattle.swc_ecma_codegen_grammar.specs.StmtPhrases as lists
+use Rattle.swc_ecma_codegen_tokens.specs.Literals.{hashbang}
+use Rattle.swc_ecma_codegen_tokens.specs.Run.{Env, Part, at_maps}
+use Rattle.swc_ecma_codegen_tokens.specs.Words.{commit_pending_semi, trailing_comments}
+use Rattle.swc_ecma_codegen_tokens.proofs.Phrased.{then, after, before, prints_nothing, PrintsAt, prints_wider}
+use Rattle.swc_ecma_codegen_tokens.proofs.Printed.{writes_then, writes_same, writes_nothing, writes_commit, writes_position, writes_leading, writes_trailing, Fills, MakesAt}
 use Rattle.swc_ecma_codegen.specs.Modules.{module_item}
 use Rattle.swc_ecma_codegen.specs.Stmts as words
 use Rattle.swc_ecma_codegen.proofs.ModuleParts.{module_item_prints}
@@ -24,8 +24,8 @@ use Rattle.swc_ecma_codegen.specs.Programs as programs
 use Rattle.swc_ecma_codegen.proofs.Asked.{kept_same, committed_same}
 use Rattle.swc_ecma_codegen.proofs.Linked.{Linked}
 use Rattle.swc_ecma_codegen.proofs.ListParts.{in_order_prints}
-use Rattle.swc_ecma_codegen_base.proofs.Shapes.{Shape, loose, loose_at}
-use Rattle.swc_ecma_codegen_base.proofs.HashbangPrints.{prints_hashbang, placed_makes}
+use Rattle.swc_ecma_codegen_tokens.proofs.Shapes.{Shape, loose, loose_at}
+use Rattle.swc_ecma_codegen_tokens.proofs.HashbangPrints.{prints_hashbang, placed_makes}
 
 writes_last_semi : (env : Env) → Fills env programs.last_semi
 writes_last_semi env = elim (cases_Bool env.config.omit_last_semi) [

@@ -7,12 +7,12 @@ use Rattle.swc_ecma_codegen_tree.specs.declared.parts.ExprPart.TheVariants as ex
 use Rattle.swc_ecma_codegen_tree.specs.declared.exprs.ObjectLit.{ObjectLit}
 use Rattle.swc_ecma_codegen_tree.specs.declared.exprs.PropOrSpread.{PropOrSpread}
 use Rattle.swc_ecma_codegen_spans.specs.Spans.{between, key_value_prop_span, assign_prop_span, method_prop_span, prop_span, prop_or_spread_span, spread_element_span, expr_part_span, node_span}
-use Rattle.swc_ecma_codegen_ast.proofs.Mapped.{list_mapped}
-use Rattle.swc_ecma_codegen_ast.proofs.MappedFunctions.{some_mapped}
-use Rattle.swc_ecma_codegen_ast.proofs.MappedProps.{by_prop, each_prop}
-use Rattle.swc_ecma_codegen_base.specs.Run.{Plan, Part, refuse}
-use Rattle.swc_ecma_codegen_base.specs.Lists.{ListChild}
-use Rattle.swc_ecma_codegen_base.specs.Words.{punct, formatting_space}
+use Rattle.swc_ecma_codegen_grammar.proofs.Mapped.{list_mapped}
+use Rattle.swc_ecma_codegen_grammar.proofs.MappedFunctions.{some_mapped}
+use Rattle.swc_ecma_codegen_grammar.proofs.MappedProps.{by_prop, each_prop}
+use Rattle.swc_ecma_codegen_tokens.specs.Run.{Plan, Part, refuse}
+use Rattle.swc_ecma_codegen_tokens.specs.Lists.{ListChild}
+use Rattle.swc_ecma_codegen_tokens.specs.Words.{punct, formatting_space}
 use Rattle.swc_ecma_codegen.specs.declared.nodes.Place.{Place}
 use Rattle.swc_ecma_codegen.specs.declared.nodes.Place.TheVariants.{Plain, MethodHead}
 use Rattle.swc_ecma_codegen.specs.Answers.{Answers, place_of}

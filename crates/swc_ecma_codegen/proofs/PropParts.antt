@@ -14,22 +14,22 @@ use Rattle.swc_ecma_codegen_tree.specs.declared.exprs.GetterProp.{GetterProp}
 use Rattle.swc_ecma_codegen_tree.specs.declared.exprs.SetterProp.{SetterProp}
 use Rattle.swc_ecma_codegen_tree.specs.declared.exprs.MethodProp.{MethodProp}
 use Rattle.swc_ecma_codegen_spans.specs.Spans.{prop_name_span, prop_or_spread_span}
-use Rattle.swc_ecma_codegen_ast.specs.FunctionPhrases.{is_some_listed}
-use Rattle.swc_ecma_codegen_ast.specs.Phrases.{Phrase, ◌>◌, mark, word}
-use Rattle.swc_ecma_codegen_ast.specs.Phrases as phrases
-use Rattle.swc_ecma_codegen_ast.specs.PropPhrases as lists
-use Rattle.swc_ecma_codegen_ast.specs.PatPhrases as heads
-use Rattle.swc_ecma_codegen_ast.specs.declared.roles.Role.TheVariants.{Function, MethodHead}
-use Rattle.swc_ecma_codegen_ast.specs.CommentMaps.{Maps}
+use Rattle.swc_ecma_codegen_grammar.specs.FunctionPhrases.{is_some_listed}
+use Rattle.swc_ecma_codegen_grammar.specs.Phrases.{Phrase, ◌>◌, mark, word}
+use Rattle.swc_ecma_codegen_grammar.specs.Phrases as phrases
+use Rattle.swc_ecma_codegen_grammar.specs.PropPhrases as lists
+use Rattle.swc_ecma_codegen_grammar.specs.PatPhrases as heads
+use Rattle.swc_ecma_codegen_grammar.specs.declared.roles.Role.TheVariants.{Function, MethodHead}
+use Rattle.swc_ecma_codegen_grammar.specs.CommentMaps.{Maps}
 use Rattle.swc_ecma_codegen.specs.Commented.{has_comment_inside}
-use Rattle.swc_ecma_codegen_base.specs.Run.{Env, Part, step, after_step, at_maps, when_minified}
-use Rattle.swc_ecma_codegen_base.specs.Lists.{list}
-use Rattle.swc_ecma_codegen_base.specs.Words.{by_maps, punct, line_end, position, position_before}
-use Rattle.swc_ecma_codegen_base.specs.Written.{IsWord}
-use Rattle.swc_ecma_codegen_base.proofs.Emitting.{minified_same, pretty_same}
-use Rattle.swc_ecma_codegen_base.proofs.ListLaws.{children_of, prints_list, prints_bracketed}
-use Rattle.swc_ecma_codegen_base.proofs.Phrased.{Prints, then, after, before, prints_nothing, prints_same, prints_by_maps, prints_keyword, prints_punct, PrintsAt, prints_wider, loosened}
-use Rattle.swc_ecma_codegen_base.proofs.Printed.{writes_if, writes_nothing, writes_formatting_space, writes_line, writes_position, writes_position_before, Fills}
+use Rattle.swc_ecma_codegen_tokens.specs.Run.{Env, Part, step, after_step, at_maps, when_minified}
+use Rattle.swc_ecma_codegen_tokens.specs.Lists.{list}
+use Rattle.swc_ecma_codegen_tokens.specs.Words.{by_maps, punct, line_end, position, position_before}
+use Rattle.swc_ecma_codegen_tokens.specs.Written.{IsWord}
+use Rattle.swc_ecma_codegen_tokens.proofs.Emitting.{minified_same, pretty_same}
+use Rattle.swc_ecma_codegen_tokens.proofs.ListLaws.{children_of, prints_list, prints_bracketed}
+use Rattle.swc_ecma_codegen_tokens.proofs.Phrased.{Prints, then, after, before, prints_nothing, prints_same, prints_by_maps, prints_keyword, prints_punct, PrintsAt, prints_wider, loosened}
+use Rattle.swc_ecma_codegen_tokens.proofs.Printed.{writes_if, writes_nothing, writes_formatting_space, writes_line, writes_position, writes_position_before, Fills}
 use Rattle.swc_ecma_codegen.specs.declared.nodes.Place.TheVariants.{Plain}
 use Rattle.swc_ecma_codegen.specs.Answers.{place_of}
 use Rattle.swc_ecma_codegen.specs.Props as words
@@ -40,7 +40,7 @@ use Rattle.swc_ecma_codegen.proofs.Impossible.{refused_or}
 use Rattle.swc_ecma_codegen.proofs.Linked.{Linked, expr_at, pat_at, prop_name_at, block_at}
 use Rattle.swc_ecma_codegen.proofs.MarkWords as marks
 use Rattle.swc_ecma_codegen.proofs.NameParts.{prop_name_prints}
-use Rattle.swc_ecma_codegen_base.proofs.Shapes.{open_}
+use Rattle.swc_ecma_codegen_tokens.proofs.Shapes.{open_}
 
 -- ---- properties
 

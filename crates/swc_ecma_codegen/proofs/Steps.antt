@@ -2,17 +2,17 @@
 use Rattle.std.proofs.Common.{◌≡◌, ℕ, ◌+◌, ◌<◌, ◌≤◌, Bool, true, false, not, ◌&&◌, cond, Option, Some, None, List, [], length, get_or, drop, map, ◌∷◌, refl, ◌∙◌, ap, drop-cons, add-one}
 use Rattle.std.specs.List.{filter}
 use Rattle.std.proofs.lemmas.List.{at_drop_all}
-use Rattle.swc_ecma_codegen_ast.specs.ListFormats.{indented}
+use Rattle.swc_ecma_codegen_grammar.specs.ListFormats.{indented}
 use Rattle.swc_ecma_codegen_util.specs.declared.config.Config.{Config}
 use Rattle.swc_ecma_codegen_tree.specs.declared.modules.ImportSpecifier.{ImportSpecifier}
-use Rattle.swc_ecma_codegen_base.specs.Run.{Plan, Part}
+use Rattle.swc_ecma_codegen_tokens.specs.Run.{Plan, Part}
 use Rattle.swc_ecma_codegen_common.specs.declared.positions.Span.{Span}
-use Rattle.swc_ecma_codegen_base.specs.Lists.{ListChild, more_children, last_place, next_child, list_closing, list_after, list, level_if, list_levels}
+use Rattle.swc_ecma_codegen_tokens.specs.Lists.{ListChild, more_children, last_place, next_child, list_closing, list_after, list, level_if, list_levels}
 use Rattle.swc_ecma_codegen.specs.declared.nodes.Place.{Place}
 use Rattle.swc_ecma_codegen_tree.specs.Links.{ExprBox}
 use Rattle.swc_ecma_codegen_tree.specs.declared.exprs.TplElement.{TplElement}
-use Rattle.swc_ecma_codegen_ast.specs.TemplatePhrases.{part_before}
-use Rattle.swc_ecma_codegen_base.specs.Templates.{tpl_element}
+use Rattle.swc_ecma_codegen_grammar.specs.TemplatePhrases.{part_before}
+use Rattle.swc_ecma_codegen_tokens.specs.Templates.{tpl_element}
 use Rattle.swc_ecma_codegen.specs.declared.nodes.Place.TheVariants.{Plain}
 use Rattle.swc_ecma_codegen.specs.Lists.{comma, listed, in_order, child_of, braced_child, braced_rest}
 use Rattle.swc_ecma_codegen.specs.Modules.{is_default, before_brace, before_braces}

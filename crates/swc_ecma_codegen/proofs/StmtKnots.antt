@@ -24,15 +24,15 @@ use Rattle.swc_ecma_codegen_tree.specs.declared.stmts.TryStmt.{TryStmt}
 use Rattle.swc_ecma_codegen_tree.specs.declared.stmts.VarDeclOrExpr.{VarDeclOrExpr}
 use Rattle.swc_ecma_codegen_tree.specs.declared.stmts.VarDeclOrExpr.TheVariants as inits
 use Rattle.swc_ecma_codegen_spans.specs.Spans.{decl_span, stmt_span, stmt_part_span, node_span}
-use Rattle.swc_ecma_codegen_ast.specs.ListFormats.{leading_line}
-use Rattle.swc_ecma_codegen_ast.specs.SourceLines.{Lines}
-use Rattle.swc_ecma_codegen_ast.proofs.Mapped.{list_mapped}
-use Rattle.swc_ecma_codegen_ast.proofs.MappedStmts.{by_init, by_test}
+use Rattle.swc_ecma_codegen_grammar.specs.ListFormats.{leading_line}
+use Rattle.swc_ecma_codegen_grammar.specs.SourceLines.{Lines}
+use Rattle.swc_ecma_codegen_grammar.proofs.Mapped.{list_mapped}
+use Rattle.swc_ecma_codegen_grammar.proofs.MappedStmts.{by_init, by_test}
 use Rattle.swc_ecma_codegen_util.specs.Ends.{init_ends, declarator_ends, head_ends, expr_part_ends, node_ends}
 use Rattle.swc_ecma_codegen_util.proofs.Finishes.{declarators_mapped as ends_mapped, pat_mapped as pat_ends_mapped}
-use Rattle.swc_ecma_codegen_base.specs.Lists.{ListChild, by_lines, list}
-use Rattle.swc_ecma_codegen_base.specs.Run.{Plan, Part, refuse}
-use Rattle.swc_ecma_codegen_base.specs.Words.{keyword, punct, space, formatting_space, last_of, leading_comments, trailing_comments, formatting_line}
+use Rattle.swc_ecma_codegen_tokens.specs.Lists.{ListChild, by_lines, list}
+use Rattle.swc_ecma_codegen_tokens.specs.Run.{Plan, Part, refuse}
+use Rattle.swc_ecma_codegen_tokens.specs.Words.{keyword, punct, space, formatting_space, last_of, leading_comments, trailing_comments, formatting_line}
 use Rattle.swc_ecma_codegen.specs.declared.nodes.Place.{Place}
 use Rattle.swc_ecma_codegen.specs.declared.nodes.Place.TheVariants.{Plain, Statement}
 use Rattle.swc_ecma_codegen.specs.Answers.{Answers, place_of}

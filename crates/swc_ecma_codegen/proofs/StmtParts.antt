@@ -18,16 +18,16 @@ use Rattle.swc_ecma_codegen_tree.specs.declared.stmts.ThrowStmt.{ThrowStmt}
 use Rattle.swc_ecma_codegen_tree.specs.declared.stmts.TryStmt.{TryStmt}
 use Rattle.swc_ecma_codegen_tree.specs.declared.stmts.WithStmt.{WithStmt}
 use Rattle.swc_ecma_codegen_spans.specs.Spans.{stmt_span}
-use Rattle.swc_ecma_codegen_ast.specs.Phrases.{◌>◌, word, OptionalParentheses}
-use Rattle.swc_ecma_codegen_ast.specs.StmtPhrases as lists
-use Rattle.swc_ecma_codegen_ast.specs.CallPhrases.{value_at}
-use Rattle.swc_ecma_codegen_ast.specs.NamePhrases as names
-use Rattle.swc_ecma_codegen_base.specs.Lists.{blank_if}
-use Rattle.swc_ecma_codegen_base.specs.Run.{Env}
-use Rattle.swc_ecma_codegen_base.specs.Words.{formatting_space, formatting_line, trailing_comments, semi}
-use Rattle.swc_ecma_codegen_base.proofs.Choices.{prints_bare, prints_optional_parentheses}
-use Rattle.swc_ecma_codegen_base.proofs.Phrased.{Prints, prints_by_maps, then, after, before, prints_nothing, prints_keyword, prints_punct, prints_semi, PrintsAt, prints_wider, joined_then, prints_ident}
-use Rattle.swc_ecma_codegen_base.proofs.Printed.{writes_then, writes_if, writes_nothing, writes_formatting_space, writes_formatting_line, writes_commit, writes_position, writes_leading, writes_trailing, Fills, makes_wider, EndsLines, writes_space}
+use Rattle.swc_ecma_codegen_grammar.specs.Phrases.{◌>◌, word, OptionalParentheses}
+use Rattle.swc_ecma_codegen_grammar.specs.StmtPhrases as lists
+use Rattle.swc_ecma_codegen_grammar.specs.CallPhrases.{value_at}
+use Rattle.swc_ecma_codegen_grammar.specs.NamePhrases as names
+use Rattle.swc_ecma_codegen_tokens.specs.Lists.{blank_if}
+use Rattle.swc_ecma_codegen_tokens.specs.Run.{Env}
+use Rattle.swc_ecma_codegen_tokens.specs.Words.{formatting_space, formatting_line, trailing_comments, semi}
+use Rattle.swc_ecma_codegen_tokens.proofs.Choices.{prints_bare, prints_optional_parentheses}
+use Rattle.swc_ecma_codegen_tokens.proofs.Phrased.{Prints, prints_by_maps, then, after, before, prints_nothing, prints_keyword, prints_punct, prints_semi, PrintsAt, prints_wider, joined_then, prints_ident}
+use Rattle.swc_ecma_codegen_tokens.proofs.Printed.{writes_then, writes_if, writes_nothing, writes_formatting_space, writes_formatting_line, writes_commit, writes_position, writes_leading, writes_trailing, Fills, makes_wider, EndsLines, writes_space}
 use Rattle.swc_ecma_codegen.specs.declared.nodes.Place.TheVariants.{Plain, Statement}
 use Rattle.swc_ecma_codegen.specs.Answers.{place_of}
 use Rattle.swc_ecma_codegen.specs.Branches.{is_block}
@@ -37,9 +37,9 @@ use Rattle.swc_ecma_codegen.proofs.ExprParts.{writes_opened, ident_prints}
 use Rattle.swc_ecma_codegen.proofs.Linked.{Linked, expr_at, stmt_at, pat_at, block_at}
 use Rattle.swc_ecma_codegen.proofs.LoopParts.{begun, begun_joined, enclosed_then, spaced_expr, spaced_stmt, switch_prints, while_prints, do_while_prints, for_prints, for_in_prints, for_of_prints}
 use Rattle.swc_ecma_codegen.proofs.MarkWords as marks
-use Rattle.swc_ecma_codegen_base.proofs.Shapes.{open_, ended, loose}
+use Rattle.swc_ecma_codegen_tokens.proofs.Shapes.{open_, ended, loose}
 use Rattle.swc_ecma_codegen.specs.FunctionExprs.{optional_name}
-use Rattle.swc_ecma_codegen_base.specs.Written.{IsWord}
+use Rattle.swc_ecma_codegen_tokens.specs.Written.{IsWord}
 
 -- ---- statements
 

@@ -3,8 +3,8 @@ use Rattle.swc_ecma_codegen_tree.specs.declared.pats.AssignTarget.{AssignTarget}
 use Rattle.swc_ecma_codegen_tree.specs.declared.pats.AssignTarget.TheVariants as targets
 use Rattle.swc_ecma_codegen_tree.specs.declared.pats.SimpleAssignTarget.{SimpleAssignTarget}
 use Rattle.swc_ecma_codegen_tree.specs.declared.pats.SimpleAssignTarget.TheVariants as simple_targets
-use Rattle.swc_ecma_codegen_ast.specs.AssignPhrases as lists
-use Rattle.swc_ecma_codegen_base.proofs.Phrased.{Prints, prints_never}
+use Rattle.swc_ecma_codegen_grammar.specs.AssignPhrases as lists
+use Rattle.swc_ecma_codegen_tokens.proofs.Phrased.{Prints, prints_never}
 use Rattle.swc_ecma_codegen.specs.Targets as words
 use Rattle.swc_ecma_codegen.proofs.Linked.{Linked}
 use Rattle.swc_ecma_codegen.proofs.NameParts.{binding_ident_prints}

@@ -10,12 +10,12 @@ use Rattle.swc_ecma_codegen_tree.specs.declared.exprs.TplElement.{TplElement}
 use Rattle.swc_ecma_codegen_tree.specs.declared.exprs.TaggedTpl.{TaggedTpl}
 use Rattle.swc_ecma_codegen_common.specs.declared.positions.Span.{Span}
 use Rattle.swc_ecma_codegen_spans.specs.Spans.{expr_span}
-use Rattle.swc_ecma_codegen_ast.specs.TemplatePhrases.{is_counted, part_before}
-use Rattle.swc_ecma_codegen_ast.proofs.MappedTemplates.{length_mapped}
-use Rattle.swc_ecma_codegen_ast.specs.TreePhrases.{is_sequence}
-use Rattle.swc_ecma_codegen_base.specs.Run.{Plan, Part, refuse}
-use Rattle.swc_ecma_codegen_base.specs.Templates.{tpl_element}
-use Rattle.swc_ecma_codegen_base.specs.Words.{start_of, end_of, leading_comments}
+use Rattle.swc_ecma_codegen_grammar.specs.TemplatePhrases.{is_counted, part_before}
+use Rattle.swc_ecma_codegen_grammar.proofs.MappedTemplates.{length_mapped}
+use Rattle.swc_ecma_codegen_grammar.specs.TreePhrases.{is_sequence}
+use Rattle.swc_ecma_codegen_tokens.specs.Run.{Plan, Part, refuse}
+use Rattle.swc_ecma_codegen_tokens.specs.Templates.{tpl_element}
+use Rattle.swc_ecma_codegen_tokens.specs.Words.{start_of, end_of, leading_comments}
 use Rattle.swc_ecma_codegen.specs.declared.nodes.Place.{Place}
 use Rattle.swc_ecma_codegen.specs.declared.nodes.Place.TheVariants.{Plain}
 use Rattle.swc_ecma_codegen.specs.Answers.{Answers}

@@ -4,15 +4,15 @@ use Rattle.swc_ecma_codegen_tree.specs.Links.{ExprBox}
 use Rattle.swc_ecma_codegen_tree.specs.declared.exprs.Tpl.{Tpl}
 use Rattle.swc_ecma_codegen_tree.specs.declared.exprs.TplElement.{TplElement}
 use Rattle.swc_ecma_codegen_tree.specs.declared.exprs.TaggedTpl.{TaggedTpl}
-use Rattle.swc_ecma_codegen_ast.specs.Phrases.{Phrase, Never, ◌>◌}
-use Rattle.swc_ecma_codegen_ast.specs.TemplatePhrases as lists
-use Rattle.swc_ecma_codegen_ast.specs.TemplatePhrases.{is_counted, part_before}
-use Rattle.swc_ecma_codegen_ast.specs.declared.roles.Role.TheVariants.{TaggedTemplate, Callee as IsCallee}
-use Rattle.swc_ecma_codegen_base.specs.Run.{Env, Part}
-use Rattle.swc_ecma_codegen_base.proofs.Phrased.{Prints, PrintsAt, prints_wider, then, after, before, prints_nothing, prints_never}
-use Rattle.swc_ecma_codegen_base.proofs.Shapes.{open_}
-use Rattle.swc_ecma_codegen_base.proofs.Printed.{writes_leading, writes_position}
-use Rattle.swc_ecma_codegen_base.proofs.TemplatePrints.{tpl_element_prints}
+use Rattle.swc_ecma_codegen_grammar.specs.Phrases.{Phrase, Never, ◌>◌}
+use Rattle.swc_ecma_codegen_grammar.specs.TemplatePhrases as lists
+use Rattle.swc_ecma_codegen_grammar.specs.TemplatePhrases.{is_counted, part_before}
+use Rattle.swc_ecma_codegen_grammar.specs.declared.roles.Role.TheVariants.{TaggedTemplate, Callee as IsCallee}
+use Rattle.swc_ecma_codegen_tokens.specs.Run.{Env, Part}
+use Rattle.swc_ecma_codegen_tokens.proofs.Phrased.{Prints, PrintsAt, prints_wider, then, after, before, prints_nothing, prints_never}
+use Rattle.swc_ecma_codegen_tokens.proofs.Shapes.{open_}
+use Rattle.swc_ecma_codegen_tokens.proofs.Printed.{writes_leading, writes_position}
+use Rattle.swc_ecma_codegen_tokens.proofs.TemplatePrints.{tpl_element_prints}
 use Rattle.swc_ecma_codegen.specs.declared.nodes.Place.{Place}
 use Rattle.swc_ecma_codegen.specs.declared.nodes.Place.TheVariants.{Plain, Callee}
 use Rattle.swc_ecma_codegen.specs.Templates as words

@@ -5,13 +5,13 @@ use Rattle.swc_ecma_codegen_tree.specs.declared.links.AnyNode.{AnyNode, AnyNode-
 use Rattle.swc_ecma_codegen_tree.specs.declared.links.AnyNode.TheOpen as nodes
 use Rattle.swc_ecma_codegen_tree.specs.declared.links.AnyNode.TheBlock.{the_family, member-AnyNode}
 use Rattle.swc_ecma_codegen_tree.specs.declared.links.AnyNode.TheFolds.{claims}
-use Rattle.swc_ecma_codegen_ast.specs.Phrases.{Phrase}
-use Rattle.swc_ecma_codegen_ast.specs.declared.roles.Role.{Role}
-use Rattle.swc_ecma_codegen_ast.specs.declared.roles.Role.TheVariants.{Expression, Callee as IsCallee, FieldValue as ValueOfField, Statement, MemberExpression, ChainMember}
-use Rattle.swc_ecma_codegen_ast.specs.TreePhrases.{node_phrase, phrase}
-use Rattle.swc_ecma_codegen_ast.proofs.TreeLaws.{phrase_of}
-use Rattle.swc_ecma_codegen_base.specs.Run.{Env, Part}
-use Rattle.swc_ecma_codegen_base.proofs.Phrased.{prints_never, PrintsAt}
+use Rattle.swc_ecma_codegen_grammar.specs.Phrases.{Phrase}
+use Rattle.swc_ecma_codegen_grammar.specs.declared.roles.Role.{Role}
+use Rattle.swc_ecma_codegen_grammar.specs.declared.roles.Role.TheVariants.{Expression, Callee as IsCallee, FieldValue as ValueOfField, Statement, MemberExpression, ChainMember}
+use Rattle.swc_ecma_codegen_grammar.specs.TreePhrases.{node_phrase, phrase}
+use Rattle.swc_ecma_codegen_grammar.proofs.TreeLaws.{phrase_of}
+use Rattle.swc_ecma_codegen_tokens.specs.Run.{Env, Part}
+use Rattle.swc_ecma_codegen_tokens.proofs.Phrased.{prints_never, PrintsAt}
 use Rattle.swc_ecma_codegen.specs.declared.nodes.Place.{Place}
 use Rattle.swc_ecma_codegen.specs.declared.nodes.Place.TheVariants.{Object, DottedObject, Callee, FieldValue}
 use Rattle.swc_ecma_codegen.specs.Answers.{any_answers}

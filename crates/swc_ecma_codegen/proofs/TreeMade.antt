@@ -10,30 +10,30 @@ use Rattle.swc_ecma_codegen_tree.specs.declared.programs.Program.TheVariants.{Mo
 use Rattle.swc_ecma_codegen_tree.specs.declared.programs.Module.{Module}
 use Rattle.swc_ecma_codegen_tree.specs.declared.programs.ModuleItem.{ModuleItem}
 use Rattle.swc_ecma_codegen_tree.specs.declared.programs.Script.{Script}
-use Rattle.swc_ecma_codegen_ast.specs.TreePhrases.{phrase, program_phrase}
-use Rattle.swc_ecma_codegen_ast.specs.StmtPhrases as stmt_lists
+use Rattle.swc_ecma_codegen_grammar.specs.TreePhrases.{phrase, program_phrase}
+use Rattle.swc_ecma_codegen_grammar.specs.StmtPhrases as stmt_lists
 use Rattle.swc_ecma_codegen_util.specs.declared.config.Config.{Config}
 use Rattle.swc_ecma_codegen_util.specs.Defaults.{default_config}
 use Rattle.swc_ecma_codegen_text_writer.specs.View.{new_sheet}
-use Rattle.swc_ecma_codegen_ast.specs.SourceLines.{Lines, no_lines}
-use Rattle.swc_ecma_codegen_ast.specs.CommentMaps.{Maps}
-use Rattle.swc_ecma_codegen_ast.specs.Trivia.{Remark}
-use Rattle.swc_ecma_codegen_ast.specs.Comments.{AreClosed, no_maps, remarks_of}
-use Rattle.swc_ecma_codegen_base.proofs.NoneTaken.{none_taken, no_maps_bare, no_maps_closed}
-use Rattle.swc_ecma_codegen_base.specs.Run.{Env, Part, State, nothing, unprintable_in, Follows, HasCause, PassesLimit, IsTooFar, start, steps_in, steps_of}
-use Rattle.swc_ecma_codegen_base.specs.declared.refusals.Unprintable.{Unprintable}
-use Rattle.swc_ecma_codegen_base.specs.Targets.{is_out}
-use Rattle.swc_ecma_codegen_base.specs.Ready.{token_count, IsPlainTree, IsReady}
-use Rattle.swc_ecma_codegen_base.specs.Written.{ReadsAs, taken_remarks}
-use Rattle.swc_ecma_codegen_base.proofs.Short.{is_ok_in_short}
-use Rattle.swc_ecma_codegen_base.proofs.Phrased.{steps_read, whole_reads, PrintsAt}
-use Rattle.swc_ecma_codegen_base.proofs.Made.{plain_made, printable, within}
-use Rattle.swc_ecma_codegen_base.proofs.Targets.{bare_not_out}
+use Rattle.swc_ecma_codegen_grammar.specs.SourceLines.{Lines, no_lines}
+use Rattle.swc_ecma_codegen_grammar.specs.CommentMaps.{Maps}
+use Rattle.swc_ecma_codegen_grammar.specs.Trivia.{Remark}
+use Rattle.swc_ecma_codegen_grammar.specs.Comments.{AreClosed, no_maps, remarks_of}
+use Rattle.swc_ecma_codegen_tokens.proofs.NoneTaken.{none_taken, no_maps_bare, no_maps_closed}
+use Rattle.swc_ecma_codegen_tokens.specs.Run.{Env, Part, State, nothing, unprintable_in, Follows, HasCause, PassesLimit, IsTooFar, start, steps_in, steps_of}
+use Rattle.swc_ecma_codegen_tokens.specs.declared.refusals.Unprintable.{Unprintable}
+use Rattle.swc_ecma_codegen_tokens.specs.Targets.{is_out}
+use Rattle.swc_ecma_codegen_tokens.specs.Ready.{token_count, IsPlainTree, IsReady}
+use Rattle.swc_ecma_codegen_tokens.specs.Written.{ReadsAs, taken_remarks}
+use Rattle.swc_ecma_codegen_tokens.proofs.Short.{is_ok_in_short}
+use Rattle.swc_ecma_codegen_tokens.proofs.Phrased.{steps_read, whole_reads, PrintsAt}
+use Rattle.swc_ecma_codegen_tokens.proofs.Made.{plain_made, printable, within}
+use Rattle.swc_ecma_codegen_tokens.proofs.Targets.{bare_not_out}
 use Rattle.swc_ecma_codegen.specs.Answers.{any_answers}
 use Rattle.swc_ecma_codegen.specs.Modules.{module_item}
 use Rattle.swc_ecma_codegen.specs.Programs as programs
 use Rattle.swc_ecma_codegen.specs.Tree.{any_items}
-use Rattle.swc_ecma_codegen_base.proofs.Fronts.{follows_cause}
+use Rattle.swc_ecma_codegen_tokens.proofs.Fronts.{follows_cause}
 use Rattle.swc_ecma_codegen.specs.Texts.{blank_sheet, text_of, text_over, IsOfWriter, GivesCause}
 use Rattle.swc_ecma_codegen.specs.Roots.{Root, OfItem, OfModule, OfScript, OfProgram, root_items, root_phrase, is_well_formed_root, root_hashbang}
 use Rattle.swc_ecma_codegen.proofs.TreeReads.{root_prints, root_shape, new_begins}

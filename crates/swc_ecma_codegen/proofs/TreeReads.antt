@@ -11,33 +11,33 @@ use Rattle.swc_ecma_codegen_tree.specs.declared.programs.Program.TheVariants.{Mo
 use Rattle.swc_ecma_codegen_tree.specs.declared.programs.Module.{Module}
 use Rattle.swc_ecma_codegen_tree.specs.declared.programs.ModuleItem.{ModuleItem}
 use Rattle.swc_ecma_codegen_tree.specs.declared.programs.Script.{Script}
-use Rattle.swc_ecma_codegen_ast.specs.StmtPhrases as stmt_lists
-use Rattle.swc_ecma_codegen_ast.specs.TemplatePhrases.{is_counted}
-use Rattle.swc_ecma_codegen_ast.specs.TreePhrases.{phrase, program_phrase, is_well_formed}
+use Rattle.swc_ecma_codegen_grammar.specs.StmtPhrases as stmt_lists
+use Rattle.swc_ecma_codegen_grammar.specs.TemplatePhrases.{is_counted}
+use Rattle.swc_ecma_codegen_grammar.specs.TreePhrases.{phrase, program_phrase, is_well_formed}
 use Rattle.swc_ecma_codegen_util.specs.declared.config.Config.{Config}
 use Rattle.swc_ecma_codegen_text_writer.specs.View.{new_sheet}
 use Rattle.swc_ecma_codegen_common.specs.declared.errors.Refusal.TheVariants as refusals
-use Rattle.swc_ecma_codegen_base.specs.declared.refusals.Unprintable.TheVariants.{BadShape, NameOutOfTarget}
-use Rattle.swc_ecma_codegen_ast.specs.SourceLines.{Lines}
-use Rattle.swc_ecma_codegen_ast.specs.CommentMaps.{Maps}
-use Rattle.swc_ecma_codegen_ast.specs.Comments.{AreClosed, texts_of}
+use Rattle.swc_ecma_codegen_tokens.specs.declared.refusals.Unprintable.TheVariants.{BadShape, NameOutOfTarget}
+use Rattle.swc_ecma_codegen_grammar.specs.SourceLines.{Lines}
+use Rattle.swc_ecma_codegen_grammar.specs.CommentMaps.{Maps}
+use Rattle.swc_ecma_codegen_grammar.specs.Comments.{AreClosed, texts_of}
 use Rattle.swc_ecma_codegen_common.specs.declared.errors.Refusal.{Refusal}
-use Rattle.swc_ecma_codegen_base.specs.Run.{Env, Plan, Part, State, refuse, refused, nothing, Follows, start, makes_text, maps_after, taken_in, spoken, steps_of, steps_in, unprintable_in}
-use Rattle.swc_ecma_codegen_base.specs.Targets.{is_out}
-use Rattle.swc_ecma_codegen_base.specs.Escapes.{may_make_text}
-use Rattle.swc_ecma_codegen_base.specs.Named.{RecordsNames, PlacesNames}
+use Rattle.swc_ecma_codegen_tokens.specs.Run.{Env, Plan, Part, State, refuse, refused, nothing, Follows, start, makes_text, maps_after, taken_in, spoken, steps_of, steps_in, unprintable_in}
+use Rattle.swc_ecma_codegen_tokens.specs.Targets.{is_out}
+use Rattle.swc_ecma_codegen_tokens.specs.Escapes.{may_make_text}
+use Rattle.swc_ecma_codegen_tokens.specs.Named.{RecordsNames, PlacesNames}
 use Rattle.swc_ecma_codegen_literals.specs.AsciiNames.{is_ascii_text}
-use Rattle.swc_ecma_codegen_base.specs.Ascii.{other_texts, may_keep_other, AddsAscii, WantsAscii}
-use Rattle.swc_ecma_codegen_base.specs.Scripts.{value_strings, AddsSafe}
-use Rattle.swc_ecma_codegen_base.proofs.AsciiTexts.{printed_ascii, printed_keeps, none_other}
-use Rattle.swc_ecma_codegen_base.proofs.ScriptTexts.{printed_safe}
+use Rattle.swc_ecma_codegen_tokens.specs.Ascii.{other_texts, may_keep_other, AddsAscii, WantsAscii}
+use Rattle.swc_ecma_codegen_tokens.specs.Scripts.{value_strings, AddsSafe}
+use Rattle.swc_ecma_codegen_tokens.proofs.AsciiTexts.{printed_ascii, printed_keeps, none_other}
+use Rattle.swc_ecma_codegen_tokens.proofs.ScriptTexts.{printed_safe}
 use Rattle.swc_ecma_codegen_text_writer.specs.Recorded.{RecordsTruly}
-use Rattle.swc_ecma_codegen_ast.specs.Phrases.{Phrase, is_possible, names_in}
+use Rattle.swc_ecma_codegen_grammar.specs.Phrases.{Phrase, is_possible, names_in}
 use Rattle.swc_ecma_codegen_text_writer.specs.Sheet.{HoldsNone}
-use Rattle.swc_ecma_codegen_base.specs.Written.{IsLineEnd, IsNew, AddsReading, taken_remarks, all_indent, is_indent, holds_one}
-use Rattle.swc_ecma_codegen_base.proofs.Short.{on_ok_in_short}
-use Rattle.swc_ecma_codegen_base.proofs.Phrased.{printed_reads, printed_tells, printed_remakes, printed_names, printed_places, follows_records, PrintsAt, prints_wider}
-use Rattle.swc_ecma_codegen_base.proofs.Made.{run_env, ends_where_out, follows_in_target, follows_out_of_target, follows_shaped, follows_supported}
+use Rattle.swc_ecma_codegen_tokens.specs.Written.{IsLineEnd, IsNew, AddsReading, taken_remarks, all_indent, is_indent, holds_one}
+use Rattle.swc_ecma_codegen_tokens.proofs.Short.{on_ok_in_short}
+use Rattle.swc_ecma_codegen_tokens.proofs.Phrased.{printed_reads, printed_tells, printed_remakes, printed_names, printed_places, follows_records, PrintsAt, prints_wider}
+use Rattle.swc_ecma_codegen_tokens.proofs.Made.{run_env, ends_where_out, follows_in_target, follows_out_of_target, follows_shaped, follows_supported}
 use Rattle.swc_ecma_codegen.specs.declared.nodes.Place.TheVariants.{Plain}
 use Rattle.swc_ecma_codegen.specs.Answers.{any_answers}
 use Rattle.swc_ecma_codegen.specs.Lists.{unsupported}
@@ -51,10 +51,10 @@ use Rattle.swc_ecma_codegen.proofs.ModuleParts.{module_item_prints}
 use Rattle.swc_ecma_codegen.proofs.ProgramParts.{module_prints, script_prints, program_prints}
 use Rattle.swc_ecma_codegen.proofs.StmtParts.{stmt_prints}
 use Rattle.swc_ecma_codegen.proofs.TreeLaw.{prints, known}
-use Rattle.swc_ecma_codegen_base.proofs.Shapes.{Shape, unbroken, unbroken_at, loose_at, is_within}
+use Rattle.swc_ecma_codegen_tokens.proofs.Shapes.{Shape, unbroken, unbroken_at, loose_at, is_within}
 use Rattle.swc_ecma_codegen.proofs.Linked.{role_shape}
-use Rattle.swc_ecma_codegen_ast.specs.declared.roles.Role.{Role}
-use Rattle.swc_ecma_codegen_ast.specs.declared.roles.Role.TheVariants.{Statement, VariableDeclaration, MethodHead, MethodDecorators, ClassHead, ExportedHead, Member, ModuleDeclaration}
+use Rattle.swc_ecma_codegen_grammar.specs.declared.roles.Role.{Role}
+use Rattle.swc_ecma_codegen_grammar.specs.declared.roles.Role.TheVariants.{Statement, VariableDeclaration, MethodHead, MethodDecorators, ClassHead, ExportedHead, Member, ModuleDeclaration}
 
 role_within : (role : Role) → is_within (role_shape role) unbroken ≡ true
 role_within Statement = refl

@@ -1,8 +1,8 @@
 -- Where there are no comments, no line ends before a node.
 use Rattle.std.proofs.Common.{◌≡◌, Bool, true, false, List, [], ◌∷◌, Option, Some, None, refl, sym, ◌∙◌, ap, map, subst}
 use Rattle.std.specs.Prelude.{is_some}
-use Rattle.swc_ecma_codegen_ast.specs.CommentMaps.{Maps, listed}
-use Rattle.swc_ecma_codegen_ast.specs.Comments.{maps_in, no_maps, comments_at, remarks_of, all_tame}
+use Rattle.swc_ecma_codegen_grammar.specs.CommentMaps.{Maps, listed}
+use Rattle.swc_ecma_codegen_grammar.specs.Comments.{maps_in, no_maps, comments_at, remarks_of, all_tame}
 use Rattle.swc_ecma_codegen_spans.specs.Spans.{any_span, expr_span}
 use Rattle.swc_ecma_codegen_tree.specs.declared.links.AnyNode.{AnyNode, AnyNode-F, ind-AnyNode, map-AnyNode, roll-AnyNode}
 use Rattle.swc_ecma_codegen_tree.specs.declared.links.AnyNode.TheOpen as nodes

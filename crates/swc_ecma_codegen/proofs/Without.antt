@@ -4,16 +4,16 @@ use Rattle.std.specs.Prelude.{is_some}
 use Rattle.swc_ecma_codegen_common.specs.declared.errors.Refusal.{Refusal}
 use Rattle.swc_ecma_codegen_common.specs.declared.positions.BytePos.{BytePos}
 use Rattle.swc_ecma_codegen_common.specs.declared.positions.Span.{Span}
-use Rattle.swc_ecma_codegen_ast.specs.CommentMaps.{Maps}
-use Rattle.swc_ecma_codegen_ast.specs.Comments.{maps_in, no_maps}
+use Rattle.swc_ecma_codegen_grammar.specs.CommentMaps.{Maps}
+use Rattle.swc_ecma_codegen_grammar.specs.Comments.{maps_in, no_maps}
 use Rattle.swc_ecma_codegen_spans.specs.Spans.{expr_span}
 use Rattle.swc_ecma_codegen_tree.specs.Links.{PatBox}
 use Rattle.swc_ecma_codegen_tree.specs.declared.exprs.Expr.{Expr}
-use Rattle.swc_ecma_codegen_base.specs.Lists.{child_comments}
-use Rattle.swc_ecma_codegen_base.specs.Run.{Env, Plan, Part, State, Follows, maps_after, nothing, steps_of}
-use Rattle.swc_ecma_codegen_base.specs.Words.{leading_comments, trailing_comments, comments_before_end}
-use Rattle.swc_ecma_codegen_base.proofs.Made.{run_env}
-use Rattle.swc_ecma_codegen_base.proofs.NoComments.{IsSilent, silent_leading, silent_trailing, silent_before_end, silent_child, none_after as none_left}
+use Rattle.swc_ecma_codegen_tokens.specs.Lists.{child_comments}
+use Rattle.swc_ecma_codegen_tokens.specs.Run.{Env, Plan, Part, State, Follows, maps_after, nothing, steps_of}
+use Rattle.swc_ecma_codegen_tokens.specs.Words.{leading_comments, trailing_comments, comments_before_end}
+use Rattle.swc_ecma_codegen_tokens.proofs.Made.{run_env}
+use Rattle.swc_ecma_codegen_tokens.proofs.NoComments.{IsSilent, silent_leading, silent_trailing, silent_before_end, silent_child, none_after as none_left}
 use Rattle.swc_ecma_codegen.specs.declared.nodes.Place.{Place}
 use Rattle.swc_ecma_codegen.specs.Answers.{Answers, place_of}
 use Rattle.swc_ecma_codegen.specs.AnyExpr.{leaves_comments, expr_parts, expr_closed, expr}

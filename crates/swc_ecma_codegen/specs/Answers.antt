@@ -16,7 +16,7 @@ use Rattle.swc_ecma_codegen.specs.Operands.{any_kind, any_space}
 use Rattle.swc_ecma_codegen.specs.Branches.{any_block}
 use Rattle.swc_ecma_codegen.specs.Patterns.{any_pattern}
 use Rattle.swc_ecma_codegen.specs.Commented.{any_breaks}
-use Rattle.swc_ecma_codegen_ast.specs.CommentMaps.{Maps}
+use Rattle.swc_ecma_codegen_grammar.specs.CommentMaps.{Maps}
 
 pub record Answers : Type 0 where
   -- where it stands

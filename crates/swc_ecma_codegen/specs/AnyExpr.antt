@@ -4,9 +4,9 @@ use Rattle.swc_ecma_codegen_common.specs.declared.positions.Span.{Span}
 use Rattle.swc_ecma_codegen_tree.specs.declared.exprs.Expr.{Expr}
 use Rattle.swc_ecma_codegen_tree.specs.declared.exprs.Expr.TheVariants as exprs
 use Rattle.swc_ecma_codegen_spans.specs.Spans.{expr_span}
-use Rattle.swc_ecma_codegen_ast.specs.TreePhrases.{is_sequence}
-use Rattle.swc_ecma_codegen_base.specs.Run.{Part}
-use Rattle.swc_ecma_codegen_base.specs.Words.{punct, trailing_comments}
+use Rattle.swc_ecma_codegen_grammar.specs.TreePhrases.{is_sequence}
+use Rattle.swc_ecma_codegen_tokens.specs.Run.{Part}
+use Rattle.swc_ecma_codegen_tokens.specs.Words.{punct, trailing_comments}
 use Rattle.swc_ecma_codegen.specs.declared.nodes.Place.{Place}
 use Rattle.swc_ecma_codegen.specs.declared.nodes.Place.TheVariants.{Plain, LeftOperand, FieldValue}
 use Rattle.swc_ecma_codegen.specs.Answers.{Answers, place_of}

@@ -3,10 +3,10 @@ use Rattle.std.specs.Prelude.{ℕ, Bool, ◌||◌, if◌then◌else◌, List, ma
 use Rattle.swc_ecma_codegen_common.specs.declared.positions.Span.{Span}
 use Rattle.swc_ecma_codegen_tree.specs.declared.stmts.BlockStmt.{BlockStmt}
 use Rattle.swc_ecma_codegen_spans.specs.Spans.{stmt_span}
-use Rattle.swc_ecma_codegen_ast.specs.FunctionPhrases.{is_some_listed}
-use Rattle.swc_ecma_codegen_base.specs.Lists.{ListChild, list}
-use Rattle.swc_ecma_codegen_base.specs.Run.{Part, when_minified}
-use Rattle.swc_ecma_codegen_base.specs.Words.{by_maps, comments_before_end, punct, start_of, last_of, leading_comments}
+use Rattle.swc_ecma_codegen_grammar.specs.FunctionPhrases.{is_some_listed}
+use Rattle.swc_ecma_codegen_tokens.specs.Lists.{ListChild, list}
+use Rattle.swc_ecma_codegen_tokens.specs.Run.{Part, when_minified}
+use Rattle.swc_ecma_codegen_tokens.specs.Words.{by_maps, comments_before_end, punct, start_of, last_of, leading_comments}
 use Rattle.swc_ecma_codegen.specs.declared.nodes.Place.{Place}
 use Rattle.swc_ecma_codegen.specs.declared.nodes.Place.TheVariants.{Body}
 use Rattle.swc_ecma_codegen.specs.Answers.{Answers, place_of}

@@ -14,11 +14,11 @@ use Rattle.swc_ecma_codegen_tree.specs.declared.exprs.NewExpr.{NewExpr}
 use Rattle.swc_ecma_codegen_tree.specs.declared.exprs.OptCall.{OptCall}
 use Rattle.swc_ecma_codegen_tree.specs.declared.exprs.Super.{Super}
 use Rattle.swc_ecma_codegen_spans.specs.Spans.{option_span, expr_or_spread_span}
-use Rattle.swc_ecma_codegen_ast.specs.ElementPhrases.{last_is_hole}
-use Rattle.swc_ecma_codegen_base.specs.Run.{Part}
-use Rattle.swc_ecma_codegen_base.specs.Choices.{empty_arguments}
-use Rattle.swc_ecma_codegen_base.specs.Lists.{list}
-use Rattle.swc_ecma_codegen_base.specs.Words.{keyword, punct, space, formatting_space, commit_pending_semi, start_of, end_of, leading_comments}
+use Rattle.swc_ecma_codegen_grammar.specs.ElementPhrases.{last_is_hole}
+use Rattle.swc_ecma_codegen_tokens.specs.Run.{Part}
+use Rattle.swc_ecma_codegen_tokens.specs.Choices.{empty_arguments}
+use Rattle.swc_ecma_codegen_tokens.specs.Lists.{list}
+use Rattle.swc_ecma_codegen_tokens.specs.Words.{keyword, punct, space, formatting_space, commit_pending_semi, start_of, end_of, leading_comments}
 use Rattle.swc_ecma_codegen.specs.declared.nodes.Place.{Place}
 use Rattle.swc_ecma_codegen.specs.declared.nodes.Place.TheVariants.{Plain, Object, DottedObject, Callee, Chain}
 use Rattle.swc_ecma_codegen.specs.Answers.{Answers, place_of}

@@ -1,8 +1,8 @@
 -- What is written of a class in an expression.
 use Rattle.std.specs.Prelude.{codes, None}
 use Rattle.swc_ecma_codegen_tree.specs.declared.exprs.ClassExpr.{ClassExpr}
-use Rattle.swc_ecma_codegen_base.specs.Run.{Part}
-use Rattle.swc_ecma_codegen_base.specs.Words.{keyword, start_of, leading_comments}
+use Rattle.swc_ecma_codegen_tokens.specs.Run.{Part}
+use Rattle.swc_ecma_codegen_tokens.specs.Words.{keyword, start_of, leading_comments}
 use Rattle.swc_ecma_codegen.specs.declared.nodes.Place.{Place}
 use Rattle.swc_ecma_codegen.specs.declared.nodes.Place.TheVariants.{Plain, ClassHead}
 use Rattle.swc_ecma_codegen.specs.Answers.{Answers}

@@ -1,8 +1,8 @@
 -- Whether a line ends in or after a comment before one of the leftmost parts of an expression: `return (// a` LF `b)`. Words for
 -- a node take what they ask of what its links hold: where it stands, and what it answers to this.
 use Rattle.std.specs.Prelude.{ℕ, ◌==◌, ◌-◌, if◌then◌else◌, Bool, true, false, not, ◌||◌, List, [], ◌∷◌, is_some}
-use Rattle.swc_ecma_codegen_ast.specs.CommentMaps.{Maps}
-use Rattle.swc_ecma_codegen_ast.specs.Comments.{Leading, comments_at, remarks_of, all_tame}
+use Rattle.swc_ecma_codegen_grammar.specs.CommentMaps.{Maps}
+use Rattle.swc_ecma_codegen_grammar.specs.Comments.{Leading, comments_at, remarks_of, all_tame}
 use Rattle.swc_ecma_codegen_common.specs.declared.positions.Span.{Span}
 use Rattle.swc_ecma_codegen_spans.specs.Spans.{any_span, expr_span}
 use Rattle.swc_ecma_codegen_tree.specs.declared.links.AnyNode.{AnyNode, AnyNode-F}

@@ -6,16 +6,16 @@ use Rattle.swc_ecma_codegen_tree.specs.declared.exprs.ArrowExpr.{ArrowExpr}
 use Rattle.swc_ecma_codegen_tree.specs.declared.exprs.BlockStmtOrExpr.{BlockStmtOrExpr}
 use Rattle.swc_ecma_codegen_tree.specs.declared.exprs.BlockStmtOrExpr.TheVariants as bodies
 use Rattle.swc_ecma_codegen_tree.specs.declared.idents.Ident.{Ident}
-use Rattle.swc_ecma_codegen_base.specs.Run.{Part, when_minified, no_part}
-use Rattle.swc_ecma_codegen_base.specs.Lists.{ListChild, list, deeper, shallower}
-use Rattle.swc_ecma_codegen_base.specs.Words.{by_maps, keyword, punct, space, formatting_space, commit_pending_semi, start_of, leading_comments, name}
+use Rattle.swc_ecma_codegen_tokens.specs.Run.{Part, when_minified, no_part}
+use Rattle.swc_ecma_codegen_tokens.specs.Lists.{ListChild, list, deeper, shallower}
+use Rattle.swc_ecma_codegen_tokens.specs.Words.{by_maps, keyword, punct, space, formatting_space, commit_pending_semi, start_of, leading_comments, name}
 use Rattle.swc_ecma_codegen.specs.declared.nodes.Place.{Place}
 use Rattle.swc_ecma_codegen.specs.declared.nodes.Place.TheVariants.{Plain, Body, FunctionHead}
 use Rattle.swc_ecma_codegen.specs.declared.patterns.PatternKind.{PatternKind}
 use Rattle.swc_ecma_codegen.specs.declared.patterns.PatternKind.TheVariants.{PlainName, Name}
 use Rattle.swc_ecma_codegen.specs.Answers.{Answers}
 use Rattle.swc_ecma_codegen.specs.Commented.{has_comment_after}
-use Rattle.swc_ecma_codegen_ast.specs.CommentMaps.{Maps}
+use Rattle.swc_ecma_codegen_grammar.specs.CommentMaps.{Maps}
 use Rattle.swc_ecma_codegen_common.specs.declared.positions.Span.{Span}
 use Rattle.swc_ecma_codegen.specs.Lists.{child_of, unsupported}
 

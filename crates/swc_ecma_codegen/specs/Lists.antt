@@ -1,14 +1,14 @@
 -- Lists of nodes.
 use Rattle.std.specs.Prelude.{ℕ, Bool, false, if◌then◌else◌, List, [], ◌∷◌, Option, Some, None, codes}
-use Rattle.swc_ecma_codegen_base.specs.Run.{Part, refuse}
-use Rattle.swc_ecma_codegen_base.specs.declared.refusals.Unprintable.TheVariants as unprintable
+use Rattle.swc_ecma_codegen_tokens.specs.Run.{Part, refuse}
+use Rattle.swc_ecma_codegen_tokens.specs.declared.refusals.Unprintable.TheVariants as unprintable
 use Rattle.swc_ecma_codegen_common.specs.declared.positions.Span.{Span}
 use Rattle.swc_ecma_codegen_spans.specs.Spans.{dummy_span}
-use Rattle.swc_ecma_codegen_ast.specs.ListFormats.{preserves_lines}
+use Rattle.swc_ecma_codegen_grammar.specs.ListFormats.{preserves_lines}
 use Rattle.swc_ecma_codegen.specs.declared.nodes.Place.{Place}
 use Rattle.swc_ecma_codegen.specs.declared.nodes.Place.TheVariants.{Plain}
-use Rattle.swc_ecma_codegen_base.specs.Lists.{ListChild, first_child, next_child, list_after, list}
-use Rattle.swc_ecma_codegen_base.specs.Words.{punct, formatting_space}
+use Rattle.swc_ecma_codegen_tokens.specs.Lists.{ListChild, first_child, next_child, list_after, list}
+use Rattle.swc_ecma_codegen_tokens.specs.Words.{punct, formatting_space}
 
 -- a node that has no text here, or none yet
 unfoldable pub unsupported : Part

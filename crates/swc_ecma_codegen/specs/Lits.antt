@@ -2,8 +2,8 @@
 use Rattle.std.specs.Prelude.{Bool, true, false}
 use Rattle.swc_ecma_codegen_tree.specs.declared.lits.Lit.{Lit}
 use Rattle.swc_ecma_codegen_tree.specs.declared.lits.Lit.TheVariants as lits
-use Rattle.swc_ecma_codegen_base.specs.Run.{Part}
-use Rattle.swc_ecma_codegen_base.specs.Lits.{number_lit, number_object, lit}
+use Rattle.swc_ecma_codegen_tokens.specs.Run.{Part}
+use Rattle.swc_ecma_codegen_tokens.specs.Lits.{number_lit, number_object, lit}
 use Rattle.swc_ecma_codegen.specs.declared.nodes.Place.{Place}
 use Rattle.swc_ecma_codegen.specs.declared.nodes.Place.TheVariants.{Object, DottedObject}
 use Rattle.swc_ecma_codegen.specs.Lists.{unsupported}

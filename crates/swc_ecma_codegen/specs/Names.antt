@@ -3,9 +3,9 @@ use Rattle.std.specs.Prelude.{is_some, if◌then◌else◌, string_bytes}
 use Rattle.swc_ecma_codegen_tree.specs.declared.exprs.PropName.{PropName}
 use Rattle.swc_ecma_codegen_tree.specs.declared.exprs.PropName.TheVariants as prop_names
 use Rattle.swc_ecma_codegen_tree.specs.declared.idents.BindingIdent.{BindingIdent}
-use Rattle.swc_ecma_codegen_base.specs.Keys.{key}
-use Rattle.swc_ecma_codegen_base.specs.Lits.{str_lit, number_lit, big_int_lit}
-use Rattle.swc_ecma_codegen_base.specs.Run.{Part}
+use Rattle.swc_ecma_codegen_tokens.specs.Keys.{key}
+use Rattle.swc_ecma_codegen_tokens.specs.Lits.{str_lit, number_lit, big_int_lit}
+use Rattle.swc_ecma_codegen_tokens.specs.Run.{Part}
 use Rattle.swc_ecma_codegen.specs.declared.nodes.Place.{Place}
 use Rattle.swc_ecma_codegen.specs.Exprs.{ident, computed_prop_name}
 use Rattle.swc_ecma_codegen.specs.Lists.{unsupported}

@@ -3,7 +3,7 @@ use Rattle.swc_ecma_codegen_tree.specs.declared.parts.ExprPart.{ExprPart}
 use Rattle.swc_ecma_codegen_tree.specs.declared.parts.ExprPart.TheVariants as expr_parts
 use Rattle.swc_ecma_codegen_tree.specs.declared.parts.StmtPart.{StmtPart}
 use Rattle.swc_ecma_codegen_tree.specs.declared.parts.StmtPart.TheVariants as stmt_parts
-use Rattle.swc_ecma_codegen_base.specs.Run.{Part}
+use Rattle.swc_ecma_codegen_tokens.specs.Run.{Part}
 use Rattle.swc_ecma_codegen.specs.declared.nodes.Place.{Place}
 use Rattle.swc_ecma_codegen.specs.Answers.{Answers}
 use Rattle.swc_ecma_codegen.specs.Blocks.{block_stmt}

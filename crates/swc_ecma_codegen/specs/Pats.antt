@@ -15,10 +15,10 @@ use Rattle.swc_ecma_codegen_tree.specs.declared.pats.AssignPatProp.{AssignPatPro
 use Rattle.swc_ecma_codegen_tree.specs.declared.pats.AssignTargetPat.{AssignTargetPat}
 use Rattle.swc_ecma_codegen_tree.specs.declared.pats.AssignTargetPat.TheVariants as target_pats
 use Rattle.swc_ecma_codegen_spans.specs.Spans.{option_span, pat_span, prop_name_span, object_pat_prop_span}
-use Rattle.swc_ecma_codegen_ast.specs.ElementPhrases.{last_is_hole}
-use Rattle.swc_ecma_codegen_base.specs.Run.{Part}
-use Rattle.swc_ecma_codegen_base.specs.Lists.{list}
-use Rattle.swc_ecma_codegen_base.specs.Words.{punct, placed_punct, formatting_space, end_of, leading_comments, trailing_comments}
+use Rattle.swc_ecma_codegen_grammar.specs.ElementPhrases.{last_is_hole}
+use Rattle.swc_ecma_codegen_tokens.specs.Run.{Part}
+use Rattle.swc_ecma_codegen_tokens.specs.Lists.{list}
+use Rattle.swc_ecma_codegen_tokens.specs.Words.{punct, placed_punct, formatting_space, end_of, leading_comments, trailing_comments}
 use Rattle.swc_ecma_codegen.specs.declared.nodes.Place.{Place}
 use Rattle.swc_ecma_codegen.specs.declared.nodes.Place.TheVariants.{Plain}
 use Rattle.swc_ecma_codegen.specs.Answers.{Answers, place_of}

@@ -6,9 +6,9 @@ use Rattle.swc_ecma_codegen_tree.specs.declared.programs.Module.{Module}
 use Rattle.swc_ecma_codegen_tree.specs.declared.programs.Script.{Script}
 use Rattle.swc_ecma_codegen_tree.specs.declared.programs.Program.{Program}
 use Rattle.swc_ecma_codegen_tree.specs.declared.programs.Program.TheVariants as programs
-use Rattle.swc_ecma_codegen_base.specs.Literals.{hashbang}
-use Rattle.swc_ecma_codegen_base.specs.Run.{Part}
-use Rattle.swc_ecma_codegen_base.specs.Words.{commit_pending_semi, start_of, leading_comments, trailing_comments}
+use Rattle.swc_ecma_codegen_tokens.specs.Literals.{hashbang}
+use Rattle.swc_ecma_codegen_tokens.specs.Run.{Part}
+use Rattle.swc_ecma_codegen_tokens.specs.Words.{commit_pending_semi, start_of, leading_comments, trailing_comments}
 use Rattle.swc_ecma_codegen.specs.declared.nodes.Place.{Place}
 use Rattle.swc_ecma_codegen.specs.Answers.{Answers}
 use Rattle.swc_ecma_codegen.specs.Lists.{in_order}

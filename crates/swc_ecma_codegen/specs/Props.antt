@@ -14,11 +14,11 @@ use Rattle.swc_ecma_codegen_tree.specs.declared.exprs.GetterProp.{GetterProp}
 use Rattle.swc_ecma_codegen_tree.specs.declared.exprs.SetterProp.{SetterProp}
 use Rattle.swc_ecma_codegen_tree.specs.declared.exprs.MethodProp.{MethodProp}
 use Rattle.swc_ecma_codegen_spans.specs.Spans.{prop_name_span, prop_or_spread_span}
-use Rattle.swc_ecma_codegen_ast.specs.FunctionPhrases.{is_some_listed}
-use Rattle.swc_ecma_codegen_base.specs.Lists.{ListChild, list}
-use Rattle.swc_ecma_codegen_base.specs.Run.{Part, when_minified}
+use Rattle.swc_ecma_codegen_grammar.specs.FunctionPhrases.{is_some_listed}
+use Rattle.swc_ecma_codegen_tokens.specs.Lists.{ListChild, list}
+use Rattle.swc_ecma_codegen_tokens.specs.Run.{Part, when_minified}
 use Rattle.swc_ecma_codegen.specs.Commented.{has_comment_inside}
-use Rattle.swc_ecma_codegen_base.specs.Words.{by_maps, keyword, punct, formatting_space, line_end, position, last_of}
+use Rattle.swc_ecma_codegen_tokens.specs.Words.{by_maps, keyword, punct, formatting_space, line_end, position, last_of}
 use Rattle.swc_ecma_codegen.specs.declared.nodes.Place.{Place}
 use Rattle.swc_ecma_codegen.specs.declared.nodes.Place.TheVariants.{Plain, MethodHead}
 use Rattle.swc_ecma_codegen.specs.Answers.{Answers, place_of}

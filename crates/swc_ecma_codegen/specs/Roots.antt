@@ -8,12 +8,12 @@ use Rattle.swc_ecma_codegen_tree.specs.declared.programs.ModuleItem.{ModuleItem}
 use Rattle.swc_ecma_codegen_tree.specs.declared.programs.Program.{Program}
 use Rattle.swc_ecma_codegen_tree.specs.declared.programs.Program.TheVariants as programs
 use Rattle.swc_ecma_codegen_tree.specs.declared.programs.Script.{Script}
-use Rattle.swc_ecma_codegen_ast.specs.StmtPhrases as lists
-use Rattle.swc_ecma_codegen_ast.specs.Phrases.{Phrase, is_possible}
-use Rattle.swc_ecma_codegen_ast.specs.declared.roles.Role.{Role}
-use Rattle.swc_ecma_codegen_ast.specs.TreePhrases.{phrase, expr_phrase, stmt_phrase, program_phrase}
-use Rattle.swc_ecma_codegen_base.specs.Run.{Part, State}
-use Rattle.swc_ecma_codegen_base.specs.Written.{IsNew, IsAtMargin}
+use Rattle.swc_ecma_codegen_grammar.specs.StmtPhrases as lists
+use Rattle.swc_ecma_codegen_grammar.specs.Phrases.{Phrase, is_possible}
+use Rattle.swc_ecma_codegen_grammar.specs.declared.roles.Role.{Role}
+use Rattle.swc_ecma_codegen_grammar.specs.TreePhrases.{phrase, expr_phrase, stmt_phrase, program_phrase}
+use Rattle.swc_ecma_codegen_tokens.specs.Run.{Part, State}
+use Rattle.swc_ecma_codegen_tokens.specs.Written.{IsNew, IsAtMargin}
 use Rattle.swc_ecma_codegen.specs.declared.nodes.Place.TheVariants.{Plain}
 use Rattle.swc_ecma_codegen.specs.Answers.{any_answers}
 use Rattle.swc_ecma_codegen.specs.Places.{placed}

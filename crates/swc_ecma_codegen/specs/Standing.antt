@@ -1,10 +1,10 @@
 -- Where an emitter stands while it prints, and what it makes of plans.
 use Rattle.std.specs.Prelude.{◌≡◌, ◌+◌, ◌≤◌, ℕ, Option, Some, None, Result, Ok, Err}
 use Rattle.swc_ecma_codegen_common.specs.declared.errors.Refusal.{Refusal}
-use Rattle.swc_ecma_codegen_ast.specs.SourceLines.{Lines}
-use Rattle.swc_ecma_codegen_ast.specs.CommentMaps.{Maps}
+use Rattle.swc_ecma_codegen_grammar.specs.SourceLines.{Lines}
+use Rattle.swc_ecma_codegen_grammar.specs.CommentMaps.{Maps}
 use Rattle.swc_ecma_codegen_text_writer.specs.Sheet.{Sheet}
-use Rattle.swc_ecma_codegen_base.specs.Run.{Plan, Part, State, Follows}
+use Rattle.swc_ecma_codegen_tokens.specs.Run.{Plan, Part, State, Follows}
 use Rattle.swc_ecma_codegen.specs.declared.emitter.Emitter.{Emitter}
 use Rattle.swc_ecma_codegen.specs.View.{state_of}
 

@@ -29,13 +29,13 @@ use Rattle.swc_ecma_codegen_tree.specs.declared.stmts.VarDeclOrExpr.TheVariants 
 use Rattle.swc_ecma_codegen_tree.specs.declared.stmts.WhileStmt.{WhileStmt}
 use Rattle.swc_ecma_codegen_tree.specs.declared.stmts.WithStmt.{WithStmt}
 use Rattle.swc_ecma_codegen_spans.specs.Spans.{stmt_span}
-use Rattle.swc_ecma_codegen_ast.specs.ListFormats.{leading_line}
-use Rattle.swc_ecma_codegen_ast.specs.SourceLines.{Lines}
+use Rattle.swc_ecma_codegen_grammar.specs.ListFormats.{leading_line}
+use Rattle.swc_ecma_codegen_grammar.specs.SourceLines.{Lines}
 use Rattle.swc_ecma_codegen_util.specs.Ends.{head_ends}
-use Rattle.swc_ecma_codegen_base.specs.Choices.{loop_ending, optional_parentheses}
-use Rattle.swc_ecma_codegen_base.specs.Lists.{ListChild, by_lines, blank_if, list}
-use Rattle.swc_ecma_codegen_base.specs.Run.{Part}
-use Rattle.swc_ecma_codegen_base.specs.Words.{by_maps, keyword, punct, semi, space, formatting_space, formatting_line, commit_pending_semi, start_of, end_of, last_of, leading_comments, trailing_comments}
+use Rattle.swc_ecma_codegen_tokens.specs.Choices.{loop_ending, optional_parentheses}
+use Rattle.swc_ecma_codegen_tokens.specs.Lists.{ListChild, by_lines, blank_if, list}
+use Rattle.swc_ecma_codegen_tokens.specs.Run.{Part}
+use Rattle.swc_ecma_codegen_tokens.specs.Words.{by_maps, keyword, punct, semi, space, formatting_space, formatting_line, commit_pending_semi, start_of, end_of, last_of, leading_comments, trailing_comments}
 use Rattle.swc_ecma_codegen.specs.declared.nodes.Place.{Place}
 use Rattle.swc_ecma_codegen.specs.declared.nodes.Place.TheVariants.{Plain, Statement}
 use Rattle.swc_ecma_codegen.specs.Answers.{Answers, place_of}

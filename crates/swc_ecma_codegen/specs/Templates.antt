@@ -4,11 +4,11 @@ use Rattle.swc_ecma_codegen_tree.specs.Links.{ExprBox}
 use Rattle.swc_ecma_codegen_tree.specs.declared.exprs.Tpl.{Tpl}
 use Rattle.swc_ecma_codegen_tree.specs.declared.exprs.TplElement.{TplElement}
 use Rattle.swc_ecma_codegen_tree.specs.declared.exprs.TaggedTpl.{TaggedTpl}
-use Rattle.swc_ecma_codegen_ast.specs.TemplatePhrases.{is_counted, part_before}
-use Rattle.swc_ecma_codegen_base.specs.Run.{Part, refuse}
-use Rattle.swc_ecma_codegen_base.specs.Templates.{tpl_element}
-use Rattle.swc_ecma_codegen_base.specs.Words.{start_of, end_of, leading_comments}
-use Rattle.swc_ecma_codegen_base.specs.declared.refusals.Unprintable.TheVariants as unprintable
+use Rattle.swc_ecma_codegen_grammar.specs.TemplatePhrases.{is_counted, part_before}
+use Rattle.swc_ecma_codegen_tokens.specs.Run.{Part, refuse}
+use Rattle.swc_ecma_codegen_tokens.specs.Templates.{tpl_element}
+use Rattle.swc_ecma_codegen_tokens.specs.Words.{start_of, end_of, leading_comments}
+use Rattle.swc_ecma_codegen_tokens.specs.declared.refusals.Unprintable.TheVariants as unprintable
 use Rattle.swc_ecma_codegen.specs.declared.nodes.Place.{Place}
 use Rattle.swc_ecma_codegen.specs.declared.nodes.Place.TheVariants.{Plain, Callee, Tagged}
 use Rattle.swc_ecma_codegen.specs.Lists.{unsupported}

@@ -6,10 +6,10 @@ use Rattle.swc_ecma_codegen_common.specs.Refusals.{reason_of}
 use Rattle.swc_ecma_codegen_util.specs.Defaults.{default_config}
 use Rattle.swc_ecma_codegen_text_writer.specs.Sheet.{Sheet}
 use Rattle.swc_ecma_codegen_text_writer.specs.View.{new_sheet}
-use Rattle.swc_ecma_codegen_ast.specs.SourceLines.{Lines, no_lines}
-use Rattle.swc_ecma_codegen_ast.specs.CommentMaps.{Maps}
-use Rattle.swc_ecma_codegen_ast.specs.Comments.{no_maps}
-use Rattle.swc_ecma_codegen_base.specs.Run.{Part, State, Follows, nothing, printed, start}
+use Rattle.swc_ecma_codegen_grammar.specs.SourceLines.{Lines, no_lines}
+use Rattle.swc_ecma_codegen_grammar.specs.CommentMaps.{Maps}
+use Rattle.swc_ecma_codegen_grammar.specs.Comments.{no_maps}
+use Rattle.swc_ecma_codegen_tokens.specs.Run.{Part, State, Follows, nothing, printed, start}
 
 -- the sheet of a new writer over an empty vector, whose lines end with LF
 abbrev pub blank_sheet : Sheet

@@ -1,8 +1,8 @@
 //! Blocks.
 
 ghost use Rattle.std.specs.Prelude.{◌≡◌, if◌then◌else◌};
-ghost use Rattle.swc_ecma_codegen_ast.specs.FunctionPhrases.{is_some_listed};
-ghost use Rattle.swc_ecma_codegen_base.specs.Lists.{list};
+ghost use Rattle.swc_ecma_codegen_grammar.specs.FunctionPhrases.{is_some_listed};
+ghost use Rattle.swc_ecma_codegen_tokens.specs.Lists.{list};
 ghost use Rattle.swc_ecma_codegen.specs.Standing.{Makes, Stays, standing_of};
 ghost use Rattle.swc_ecma_codegen.specs.Blocks.{block_format, flat_block_format, block_children, block_list, block_lines, block_start, block_stmt};
 
@@ -10,10 +10,10 @@ use crate::commented::wants_lines;
 use crate::emitter::Emitter;
 use crate::nodes::{EmitAt, Held, Place};
 use bitflags::Flags;
-use swc_ecma_codegen_ast::ListFormat;
-use swc_ecma_codegen_ast::comments::Comments;
-use swc_ecma_codegen_ast::mapper::SourceMapper;
 use swc_ecma_codegen_common::Span;
+use swc_ecma_codegen_grammar::ListFormat;
+use swc_ecma_codegen_grammar::comments::Comments;
+use swc_ecma_codegen_grammar::mapper::SourceMapper;
 use swc_ecma_codegen_literals::Punctuator;
 use swc_ecma_codegen_text_writer::WriteJs;
 use swc_ecma_codegen_tree::BlockStmt;
@@ -46,7 +46,7 @@ fn format_by(some: bool) -> ListFormat
 }
 
 /// Whether there is something in a list.
-#[tactic(auto, unfolding(swc_ecma_codegen_ast::specs::FunctionPhrases::is_some_listed))]
+#[tactic(auto, unfolding(swc_ecma_codegen_grammar::specs::FunctionPhrases::is_some_listed))]
 pub(crate) fn is_some_listed<T>(nodes: &[T]) -> bool
     ensures { result ≡ is_some_listed nodes.now }
 {

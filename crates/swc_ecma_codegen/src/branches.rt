@@ -16,7 +16,7 @@ pub(crate) fn is_block<N>(node: &Stmt<N>) -> bool
 }
 
 /// Whether an expression is a sequence that is the value of a field.
-#[tactic(auto, unfolding(crate::specs::AnyExpr::is_wrapped, crate::specs::AnyExpr::is_field_value, swc_ecma_codegen_ast::specs::TreePhrases::is_sequence))]
+#[tactic(auto, unfolding(crate::specs::AnyExpr::is_wrapped, crate::specs::AnyExpr::is_field_value, swc_ecma_codegen_grammar::specs::TreePhrases::is_sequence))]
 pub(crate) fn is_wrapped<N>(node: &Expr<N>, place: Place) -> bool
     ensures { result ≡ is_wrapped node.now place }
 {

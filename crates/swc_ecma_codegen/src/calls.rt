@@ -1,8 +1,8 @@
 //! Arrays, calls and `new`.
 
 ghost use Rattle.std.specs.Prelude.{◌≡◌};
-ghost use Rattle.swc_ecma_codegen_ast.specs.ElementPhrases.{last_is_hole};
-ghost use Rattle.swc_ecma_codegen_base.specs.Choices.{empty_arguments};
+ghost use Rattle.swc_ecma_codegen_grammar.specs.ElementPhrases.{last_is_hole};
+ghost use Rattle.swc_ecma_codegen_tokens.specs.Choices.{empty_arguments};
 ghost use Rattle.swc_ecma_codegen.specs.Standing.{Makes, Stays, standing_of};
 ghost use Rattle.swc_ecma_codegen.specs.Calls.{spread_mark, argument_place, argument_items, array_format, array_elements, array_lit, call_format, new_format, arguments, import_phase, import_callee, super_keyword, callee, call_expr, keeps_arguments, listed_arguments, new_arguments, new_gap, parentheses, new_expr, call_mark, chain_call, is_optional};
 
@@ -10,10 +10,10 @@ use crate::emitter::Emitter;
 use crate::nodes::{Asked, Child, EmitAt, Held, Place};
 use crate::places::expr_or_spread_place;
 use bitflags::Flags;
-use swc_ecma_codegen_ast::ListFormat;
-use swc_ecma_codegen_ast::comments::Comments;
-use swc_ecma_codegen_ast::mapper::SourceMapper;
 use swc_ecma_codegen_common::Span;
+use swc_ecma_codegen_grammar::ListFormat;
+use swc_ecma_codegen_grammar::comments::Comments;
+use swc_ecma_codegen_grammar::mapper::SourceMapper;
 use swc_ecma_codegen_literals::Punctuator;
 use swc_ecma_codegen_text_writer::WriteJs;
 use swc_ecma_codegen_tree::{
@@ -21,7 +21,7 @@ use swc_ecma_codegen_tree::{
 };
 
 /// Whether the last element is a hole, `[a, ,]`.
-#[tactic(auto, unfolding(swc_ecma_codegen_ast::specs::ElementPhrases::last_is_hole))]
+#[tactic(auto, unfolding(swc_ecma_codegen_grammar::specs::ElementPhrases::last_is_hole))]
 pub(crate) fn ends_with_hole<T>(elems: &[Option<T>]) -> bool
     ensures { result ≡ last_is_hole elems.now }
 {

@@ -6,8 +6,8 @@ ghost use Rattle.swc_ecma_codegen.specs.Exprs.{member, member_prop, member_at, o
 
 use crate::emitter::Emitter;
 use crate::nodes::{EmitAt, Held, Place};
-use swc_ecma_codegen_ast::comments::Comments;
-use swc_ecma_codegen_ast::mapper::SourceMapper;
+use swc_ecma_codegen_grammar::comments::Comments;
+use swc_ecma_codegen_grammar::mapper::SourceMapper;
 use swc_ecma_codegen_literals::Punctuator;
 use swc_ecma_codegen_text_writer::WriteJs;
 use swc_ecma_codegen_tree::{

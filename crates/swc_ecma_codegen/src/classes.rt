@@ -2,7 +2,7 @@
 
 ghost use Rattle.std.specs.Prelude.{◌≡◌, codes};
 ghost use Rattle.swc_ecma_codegen.specs.Standing.{Makes, Stays, standing_of};
-ghost use Rattle.swc_ecma_codegen_ast.specs.ClassPhrases.{is_typed_class, is_typed_prop, is_typed_private, is_typed_accessor};
+ghost use Rattle.swc_ecma_codegen_grammar.specs.ClassPhrases.{is_typed_class, is_typed_prop, is_typed_private, is_typed_accessor};
 ghost use Rattle.swc_ecma_codegen.specs.ClassExprs.{class_expr};
 ghost use Rattle.swc_ecma_codegen.specs.Classes.{class_members_format, heritage, member_list, class, class_tail, class_decl, constructor_param, constructor_param_place, constructor_params, constructor_body, constructor_tail, constructor_word, class_constructor, static_word, accessor_word, method_word, method_kind, class_method, private_kind, private_method, prop_value, class_prop, private_decorators, private_prop_tail, private_prop, accessor_key, accessor_decorators, accessor_tail, auto_accessor, static_block, empty_member, class_member};
 
@@ -10,10 +10,10 @@ use crate::blocks::is_some_listed;
 use crate::emitter::Emitter;
 use crate::functions::{comma_list_format, decorators_format};
 use crate::nodes::{Asked, Child, EmitAt, Held, Place};
-use swc_ecma_codegen_ast::ListFormat;
-use swc_ecma_codegen_ast::comments::Comments;
-use swc_ecma_codegen_ast::mapper::SourceMapper;
 use swc_ecma_codegen_common::Span;
+use swc_ecma_codegen_grammar::ListFormat;
+use swc_ecma_codegen_grammar::comments::Comments;
+use swc_ecma_codegen_grammar::mapper::SourceMapper;
 use swc_ecma_codegen_literals::Punctuator;
 use swc_ecma_codegen_text_writer::WriteJs;
 use swc_ecma_codegen_tree::{

@@ -2,11 +2,11 @@
 
 ghost use Rattle.std.specs.Prelude.{◌≡◌, ◌⊎◌, ◌<◌, ◌^◌, true, false, [], IfOk, IfErr, string_bytes};
 ghost use Rattle.swc_ecma_codegen_common.specs.declared.errors.Error.TheVariants.{OutOfMemory};
-ghost use Rattle.swc_ecma_codegen_ast.specs.SourceLines.{no_lines};
-ghost use Rattle.swc_ecma_codegen_base.specs.Run.{printed, start};
-ghost use Rattle.swc_ecma_codegen_ast.specs.Comments.{maps_in, no_maps, AreClosed};
-ghost use Rattle.swc_ecma_codegen_base.specs.Written.{ReadsAs, taken_remarks};
-ghost use Rattle.swc_ecma_codegen_base.specs.Ready.{token_count};
+ghost use Rattle.swc_ecma_codegen_grammar.specs.SourceLines.{no_lines};
+ghost use Rattle.swc_ecma_codegen_tokens.specs.Run.{printed, start};
+ghost use Rattle.swc_ecma_codegen_grammar.specs.Comments.{maps_in, no_maps, AreClosed};
+ghost use Rattle.swc_ecma_codegen_tokens.specs.Written.{ReadsAs, taken_remarks};
+ghost use Rattle.swc_ecma_codegen_tokens.specs.Ready.{token_count};
 ghost use Rattle.swc_ecma_codegen_util.specs.Defaults.{default_config};
 ghost use Rattle.swc_ecma_codegen.specs.Roots.{Root, root_items, root_phrase, is_well_formed_root};
 ghost use Rattle.swc_ecma_codegen.specs.Texts.{blank_sheet, text_of, text_over, GivesCause, IsOfWriter};
@@ -14,9 +14,9 @@ ghost use Rattle.swc_ecma_codegen.specs.Texts.{blank_sheet, text_of, text_over, 
 use crate::emitter::Emitter;
 use crate::node::Node;
 use std::alloc::Global;
-use swc_ecma_codegen_ast::comments::{CommentMaps, Comments};
-use swc_ecma_codegen_ast::mapper::{NoSource, SourceMapper};
 use swc_ecma_codegen_common::Error;
+use swc_ecma_codegen_grammar::comments::{CommentMaps, Comments};
+use swc_ecma_codegen_grammar::mapper::{NoSource, SourceMapper};
 use swc_ecma_codegen_text_writer::{JsWriter, WriteJs};
 use swc_ecma_codegen_util::config::Config;
 
@@ -81,7 +81,7 @@ pub fn to_code_with_comments<N: Node, C: Comments + Drop>(
 }
 
 /// The text of a node without comments, over no source text, as `to_code_default` gives it. swc's `to_code`.
-#[tactic(auto, unfolding(swc_ecma_codegen_ast::specs::Comments::maps_in))]
+#[tactic(auto, unfolding(swc_ecma_codegen_grammar::specs::Comments::maps_in))]
 pub fn to_code<N: Node>(alloc: Global, node: &N) -> std::result::Result<String, Error>
     ensures text { IfOk result (λ text. string_bytes text ≡ text_of (N.part node.now)) }
     // The text of a well-formed tree is UTF-8, and reads as one of the tree's token lists, with no comments.

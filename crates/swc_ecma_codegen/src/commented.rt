@@ -2,14 +2,14 @@
 
 ghost use Rattle.std.specs.Prelude.{◌≡◌, Bool, ◌||◌, [], ◌∷◌, IfSome, IfNone};
 ghost use Rattle.std.specs.Str.{chars};
-ghost use Rattle.swc_ecma_codegen_ast.specs.Chars as characters;
-ghost use Rattle.swc_ecma_codegen_ast.specs.CommentMaps.{Maps};
-ghost use Rattle.swc_ecma_codegen_ast.specs.Comments.{maps_in, remark_of, remarks_of, is_tame, all_tame};
+ghost use Rattle.swc_ecma_codegen_grammar.specs.Chars as characters;
+ghost use Rattle.swc_ecma_codegen_grammar.specs.CommentMaps.{Maps};
+ghost use Rattle.swc_ecma_codegen_grammar.specs.Comments.{maps_in, remark_of, remarks_of, is_tame, all_tame};
 ghost use Rattle.swc_ecma_codegen.specs.Commented.{any_breaks, breaks_at, callee_breaks, chain_breaks, first_breaks, has_comment_after, has_comment_at, has_comment_inside, leftmost_breaks, part_breaks, simple_target_breaks, target_breaks, target_pat_breaks};
 
-use swc_ecma_codegen_ast::characters::is_line_end;
-use swc_ecma_codegen_ast::comments::{Comment, CommentKind, Comments};
 use swc_ecma_codegen_common::{BytePos, Span};
+use swc_ecma_codegen_grammar::characters::is_line_end;
+use swc_ecma_codegen_grammar::comments::{Comment, CommentKind, Comments};
 use swc_ecma_codegen_spans::Spanned;
 use swc_ecma_codegen_tree::{
     AnyNode, AssignTarget, AssignTargetPat, Callee, Expr, ExprBox, ExprPart, MemberExpr,
@@ -36,7 +36,7 @@ fn split_first(text: &str) -> Option<(char, &str)>
 }
 
 /// Whether no line ends in a text.
-#[tactic(auto, unfolding(swc_ecma_codegen_ast::specs::Chars::is_one_line))]
+#[tactic(auto, unfolding(swc_ecma_codegen_grammar::specs::Chars::is_one_line))]
 fn is_one_line(text: &str) -> bool
     ensures { result ≡ characters.is_one_line (chars text.now) }
 {
@@ -51,7 +51,7 @@ fn is_one_line(text: &str) -> bool
 }
 
 /// Whether a comment is a block of one line.
-#[tactic(auto, unfolding(swc_ecma_codegen_ast::specs::Comments::is_tame, swc_ecma_codegen_ast::specs::Comments::remark_by))]
+#[tactic(auto, unfolding(swc_ecma_codegen_grammar::specs::Comments::is_tame, swc_ecma_codegen_grammar::specs::Comments::remark_by))]
 fn is_tame(node: &Comment) -> bool
     ensures { result ≡ is_tame (remark_of node.now) }
 {
@@ -62,7 +62,7 @@ fn is_tame(node: &Comment) -> bool
 }
 
 /// Whether all of them are.
-#[tactic(auto, unfolding(swc_ecma_codegen_ast::specs::Comments::all_tame, swc_ecma_codegen_ast::specs::Comments::remarks_of))]
+#[tactic(auto, unfolding(swc_ecma_codegen_grammar::specs::Comments::all_tame, swc_ecma_codegen_grammar::specs::Comments::remarks_of))]
 fn all_tame(nodes: &[Comment]) -> bool
     ensures { result ≡ all_tame (remarks_of nodes.now) }
 {
@@ -87,7 +87,7 @@ fn breaks_at<C: Comments>(comments: &Option<C>, span: Span) -> bool
 }
 
 /// Whether there is any comment before it.
-#[tactic(auto, unfolding(crate::specs::Commented::has_comment_at, swc_ecma_codegen_ast::specs::Comments::maps_in))]
+#[tactic(auto, unfolding(crate::specs::Commented::has_comment_at, swc_ecma_codegen_grammar::specs::Comments::maps_in))]
 fn has_comment_at<C: Comments>(comments: &Option<C>, span: Span) -> bool
     ensures { result ≡ has_comment_at span (maps_in C.maps comments.now) }
 {
@@ -99,7 +99,7 @@ fn has_comment_at<C: Comments>(comments: &Option<C>, span: Span) -> bool
 
 /// Whether there is any at the last character of a span: before the `}` of a block.
 #[inline(never)]
-#[tactic(auto, unfolding(crate::specs::Commented::has_comment_inside, swc_ecma_codegen_ast::specs::Comments::maps_in))]
+#[tactic(auto, unfolding(crate::specs::Commented::has_comment_inside, swc_ecma_codegen_grammar::specs::Comments::maps_in))]
 fn has_comment_inside<C: Comments>(comments: &Option<C>, span: Span) -> bool
     ensures { result ≡ has_comment_inside span (maps_in C.maps comments.now) }
 {
@@ -125,7 +125,7 @@ pub(crate) fn wants_lines<C: Comments>(comments: &Option<C>, some: bool, span: S
 }
 
 /// Whether there is any comment after the end of a span.
-#[tactic(auto, unfolding(crate::specs::Commented::has_comment_after, swc_ecma_codegen_ast::specs::Comments::maps_in))]
+#[tactic(auto, unfolding(crate::specs::Commented::has_comment_after, swc_ecma_codegen_grammar::specs::Comments::maps_in))]
 pub(crate) fn has_comment_after<C: Comments>(comments: &Option<C>, span: Span) -> bool
     ensures { result ≡ has_comment_after span (maps_in C.maps comments.now) }
 {

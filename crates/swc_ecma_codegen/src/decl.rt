@@ -10,10 +10,10 @@ ghost use Rattle.swc_ecma_codegen.specs.Lists.{unsupported};
 use crate::emitter::Emitter;
 use crate::nodes::{Child, EmitAt, Held, Place};
 use crate::patterns::{PatternKind, kind_of_pat};
-use swc_ecma_codegen_ast::ListFormat;
-use swc_ecma_codegen_ast::comments::Comments;
-use swc_ecma_codegen_ast::mapper::SourceMapper;
 use swc_ecma_codegen_common::Span;
+use swc_ecma_codegen_grammar::ListFormat;
+use swc_ecma_codegen_grammar::comments::Comments;
+use swc_ecma_codegen_grammar::mapper::SourceMapper;
 use swc_ecma_codegen_text_writer::WriteJs;
 use swc_ecma_codegen_tree::{
     ClassDecl, Decl, FnDecl, UsingDecl, VarDecl, VarDeclKind, VarDeclarator,

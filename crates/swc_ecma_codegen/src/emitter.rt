@@ -3,15 +3,15 @@
 ghost use Rattle.std.specs.Prelude.{◌≡◌, ◌≢◌, false, true, IsTrue, is_none, IfErr, OnErr, OnOk, Err, IsOk};
 ghost use Rattle.swc_ecma_codegen_common.specs.Refusals.{in_short, reason_of};
 ghost use Rattle.swc_ecma_codegen_text_writer.specs.Told.{IsFront};
-ghost use Rattle.swc_ecma_codegen_base.specs.Run.{Follows, HasCause, IsUnhindered, maps_after, nothing, printed, makes_text, spoken, steps_in, steps_of, start, taken_in};
+ghost use Rattle.swc_ecma_codegen_tokens.specs.Run.{Follows, HasCause, IsUnhindered, maps_after, nothing, printed, makes_text, spoken, steps_in, steps_of, start, taken_in};
 
 use crate::nodes::{EmitAt, Place};
 use std::alloc::Global;
-use swc_ecma_codegen_ast::comments::Comments;
-use swc_ecma_codegen_ast::mapper::SourceMapper;
-use swc_ecma_codegen_base::LowerEmitter;
 use swc_ecma_codegen_common::{Error, Refusal, Result};
+use swc_ecma_codegen_grammar::comments::Comments;
+use swc_ecma_codegen_grammar::mapper::SourceMapper;
 use swc_ecma_codegen_text_writer::WriteJs;
+use swc_ecma_codegen_tokens::LowerEmitter;
 use swc_ecma_codegen_tree::{Module, ModuleExportName, ModuleItem, Program, Script};
 use swc_ecma_codegen_util::config::Config;
 
@@ -33,7 +33,7 @@ pub struct Emitter<'a, W, S, C> {
 
 impl<'a, W: WriteJs, S: SourceMapper, C: Comments> Emitter<'a, W, S, C> {
     ghost use Rattle.swc_ecma_codegen.specs.View.{state_of};
-    ghost use Rattle.swc_ecma_codegen_ast.specs.Comments.{maps_in, AreClosed, texts_of};
+    ghost use Rattle.swc_ecma_codegen_grammar.specs.Comments.{maps_in, AreClosed, texts_of};
     ghost use Rattle.swc_ecma_codegen.specs.Left.{NoneBeforeItems, NoneBeforeBody};
     ghost use Rattle.swc_ecma_codegen.specs.Standing.{outcome};
     ghost use Rattle.swc_ecma_codegen.specs.Tree.{any_items};
@@ -42,15 +42,15 @@ impl<'a, W: WriteJs, S: SourceMapper, C: Comments> Emitter<'a, W, S, C> {
     ghost use Rattle.swc_ecma_codegen.specs.Programs.{program, script, whole_module};
     ghost use Rattle.swc_ecma_codegen.specs.Roots.{MayBegin, OfModule, OfProgram, OfScript};
     ghost use Rattle.swc_ecma_codegen.specs.declared.nodes.Place.TheVariants.{Plain};
-    ghost use Rattle.swc_ecma_codegen_ast.specs.TreePhrases.{phrase, program_phrase, is_well_formed};
-    ghost use Rattle.swc_ecma_codegen_ast.specs.StmtPhrases.{module_item as item_phrase};
-    ghost use Rattle.swc_ecma_codegen_ast.specs.Phrases.{is_possible, names_in};
+    ghost use Rattle.swc_ecma_codegen_grammar.specs.TreePhrases.{phrase, program_phrase, is_well_formed};
+    ghost use Rattle.swc_ecma_codegen_grammar.specs.StmtPhrases.{module_item as item_phrase};
+    ghost use Rattle.swc_ecma_codegen_grammar.specs.Phrases.{is_possible, names_in};
     ghost use Rattle.swc_ecma_codegen_text_writer.specs.Recorded.{RecordsTruly};
-    ghost use Rattle.swc_ecma_codegen_base.specs.Named.{RecordsNames, PlacesNames};
-    ghost use Rattle.swc_ecma_codegen_base.specs.Ascii.{other_texts, AddsAscii, WantsAscii};
-    ghost use Rattle.swc_ecma_codegen_base.specs.Scripts.{value_strings, AddsSafe};
-    ghost use Rattle.swc_ecma_codegen_base.specs.Written.{IsNew, AddsReading, taken_remarks};
-    ghost use Rattle.swc_ecma_codegen_base.specs.Ready.{IsPlainTree, IsReady};
+    ghost use Rattle.swc_ecma_codegen_tokens.specs.Named.{RecordsNames, PlacesNames};
+    ghost use Rattle.swc_ecma_codegen_tokens.specs.Ascii.{other_texts, AddsAscii, WantsAscii};
+    ghost use Rattle.swc_ecma_codegen_tokens.specs.Scripts.{value_strings, AddsSafe};
+    ghost use Rattle.swc_ecma_codegen_tokens.specs.Written.{IsNew, AddsReading, taken_remarks};
+    ghost use Rattle.swc_ecma_codegen_tokens.specs.Ready.{IsPlainTree, IsReady};
 
     /// An emitter that has written nothing. Takes no memory.
     pub fn new(alloc: Global, cfg: Config, cm: &'a S, comments: Option<C>, wr: W) -> Self
@@ -68,7 +68,7 @@ impl<'a, W: WriteJs, S: SourceMapper, C: Comments> Emitter<'a, W, S, C> {
     }
 
     /// Prints a node, unless a call was refused before.
-    #[tactic(auto, using(swc_ecma_codegen_base::proofs::Emitting::emits_nothing, swc_ecma_codegen_base::proofs::Fronts::follows_failed, swc_ecma_codegen_base::proofs::Fronts::follows_front, swc_ecma_codegen_base::proofs::Fronts::follows_marked, swc_ecma_codegen_base::proofs::Fronts::follows_cause, swc_ecma_codegen_base::proofs::Fronts::follows_succeeds))]
+    #[tactic(auto, using(swc_ecma_codegen_tokens::proofs::Emitting::emits_nothing, swc_ecma_codegen_tokens::proofs::Fronts::follows_failed, swc_ecma_codegen_tokens::proofs::Fronts::follows_front, swc_ecma_codegen_tokens::proofs::Fronts::follows_marked, swc_ecma_codegen_tokens::proofs::Fronts::follows_cause, swc_ecma_codegen_tokens::proofs::Fronts::follows_succeeds))]
     pub(crate) fn emit<T: EmitAt>(&mut self, node: &T) -> Result
         // The steps of the tree are made, and it comes to no node that can't be printed; or it halts.
         ensures items { Follows (T.items node.now Plain nothing) (state_of S.lines C.maps W.sheet self.old) (state_of S.lines C.maps W.sheet self.new) (in_short result) }
@@ -105,7 +105,7 @@ impl<'a, W: WriteJs, S: SourceMapper, C: Comments> Emitter<'a, W, S, C> {
     }
 
     /// Prints a program. swc's `emit_program`.
-    #[tactic(auto, using(crate::proofs::TreeReads::program_reads, crate::proofs::TreeReads::steps_recorded, crate::proofs::TreeReads::steps_taken, crate::proofs::TreeReads::program_told, crate::proofs::ItemsTaken::program_leaves, crate::proofs::TreeReads::program_names, crate::proofs::TreeReads::program_places, crate::proofs::TreeReads::program_ascii, crate::proofs::TreeReads::program_safe, crate::proofs::TreeMade::program_made, swc_ecma_codegen_base::proofs::Made::ready_after, swc_ecma_codegen_base::proofs::Phrased::never_out_of_memory))]
+    #[tactic(auto, using(crate::proofs::TreeReads::program_reads, crate::proofs::TreeReads::steps_recorded, crate::proofs::TreeReads::steps_taken, crate::proofs::TreeReads::program_told, crate::proofs::ItemsTaken::program_leaves, crate::proofs::TreeReads::program_names, crate::proofs::TreeReads::program_places, crate::proofs::TreeReads::program_ascii, crate::proofs::TreeReads::program_safe, crate::proofs::TreeMade::program_made, swc_ecma_codegen_tokens::proofs::Made::ready_after, swc_ecma_codegen_tokens::proofs::Phrased::never_out_of_memory))]
     pub fn emit_program(&mut self, node: &Program) -> Result
         // The steps of the tree are made, and it comes to no node that can't be printed; or it halts.
         ensures items { Follows (program any_answers any_items node.now nothing) (state_of S.lines C.maps W.sheet self.old) (state_of S.lines C.maps W.sheet self.new) (in_short result) }
@@ -152,7 +152,7 @@ impl<'a, W: WriteJs, S: SourceMapper, C: Comments> Emitter<'a, W, S, C> {
 
     /// Prints a module: its hashbang, the text of each item, and then a semicolon that is held back, unless the settings leave
     /// it out. swc's `emit_module`.
-    #[tactic(auto, using(crate::proofs::TreeReads::module_reads, crate::proofs::TreeReads::steps_recorded, crate::proofs::TreeReads::steps_taken, crate::proofs::TreeReads::module_told, crate::proofs::ItemsTaken::module_leaves, crate::proofs::TreeReads::module_names, crate::proofs::TreeReads::module_places, crate::proofs::TreeReads::module_ascii, crate::proofs::TreeReads::module_safe, crate::proofs::TreeMade::module_made, swc_ecma_codegen_base::proofs::Made::ready_after, swc_ecma_codegen_base::proofs::Phrased::never_out_of_memory))]
+    #[tactic(auto, using(crate::proofs::TreeReads::module_reads, crate::proofs::TreeReads::steps_recorded, crate::proofs::TreeReads::steps_taken, crate::proofs::TreeReads::module_told, crate::proofs::ItemsTaken::module_leaves, crate::proofs::TreeReads::module_names, crate::proofs::TreeReads::module_places, crate::proofs::TreeReads::module_ascii, crate::proofs::TreeReads::module_safe, crate::proofs::TreeMade::module_made, swc_ecma_codegen_tokens::proofs::Made::ready_after, swc_ecma_codegen_tokens::proofs::Phrased::never_out_of_memory))]
     pub fn emit_module(&mut self, node: &Module) -> Result
         // The steps of the tree are made, and it comes to no node that can't be printed; or it halts.
         ensures items { Follows (whole_module any_answers any_items node.now nothing) (state_of S.lines C.maps W.sheet self.old) (state_of S.lines C.maps W.sheet self.new) (in_short result) }
@@ -199,7 +199,7 @@ impl<'a, W: WriteJs, S: SourceMapper, C: Comments> Emitter<'a, W, S, C> {
 
     /// Prints a script: its hashbang, the text of each statement, and then a semicolon that is held back, unless the settings
     /// leave it out. swc's `emit_script`.
-    #[tactic(auto, using(crate::proofs::TreeReads::script_reads, crate::proofs::TreeReads::steps_recorded, crate::proofs::TreeReads::steps_taken, crate::proofs::TreeReads::script_told, crate::proofs::TreeReads::script_names, crate::proofs::TreeReads::script_places, crate::proofs::TreeReads::script_ascii, crate::proofs::TreeReads::script_safe, crate::proofs::TreeMade::script_made, swc_ecma_codegen_base::proofs::Made::ready_after, swc_ecma_codegen_base::proofs::Phrased::never_out_of_memory))]
+    #[tactic(auto, using(crate::proofs::TreeReads::script_reads, crate::proofs::TreeReads::steps_recorded, crate::proofs::TreeReads::steps_taken, crate::proofs::TreeReads::script_told, crate::proofs::TreeReads::script_names, crate::proofs::TreeReads::script_places, crate::proofs::TreeReads::script_ascii, crate::proofs::TreeReads::script_safe, crate::proofs::TreeMade::script_made, swc_ecma_codegen_tokens::proofs::Made::ready_after, swc_ecma_codegen_tokens::proofs::Phrased::never_out_of_memory))]
     pub fn emit_script(&mut self, node: &Script) -> Result
         // The steps of the tree are made, and it comes to no node that can't be printed; or it halts.
         ensures items { Follows (script any_answers any_items node.now nothing) (state_of S.lines C.maps W.sheet self.old) (state_of S.lines C.maps W.sheet self.new) (in_short result) }
@@ -243,7 +243,7 @@ impl<'a, W: WriteJs, S: SourceMapper, C: Comments> Emitter<'a, W, S, C> {
     }
 
     /// Prints an item of a module: an import, an export or a statement. swc's `emit_module_item`.
-    #[tactic(auto, using(crate::proofs::TreeReads::item_reads, crate::proofs::TreeReads::steps_recorded, crate::proofs::TreeReads::steps_taken, crate::proofs::TreeReads::item_told, crate::proofs::TreeReads::item_names, crate::proofs::TreeReads::item_places, crate::proofs::TreeReads::item_ascii, crate::proofs::TreeReads::item_safe, crate::proofs::TreeMade::item_made, swc_ecma_codegen_base::proofs::Made::ready_after, swc_ecma_codegen_base::proofs::Phrased::never_out_of_memory))]
+    #[tactic(auto, using(crate::proofs::TreeReads::item_reads, crate::proofs::TreeReads::steps_recorded, crate::proofs::TreeReads::steps_taken, crate::proofs::TreeReads::item_told, crate::proofs::TreeReads::item_names, crate::proofs::TreeReads::item_places, crate::proofs::TreeReads::item_ascii, crate::proofs::TreeReads::item_safe, crate::proofs::TreeMade::item_made, swc_ecma_codegen_tokens::proofs::Made::ready_after, swc_ecma_codegen_tokens::proofs::Phrased::never_out_of_memory))]
     pub fn emit_module_item(&mut self, node: &ModuleItem) -> Result
         // The steps of the tree are made, and it comes to no node that can't be printed; or it halts.
         ensures items { Follows (module_item any_answers any_items node.now nothing) (state_of S.lines C.maps W.sheet self.old) (state_of S.lines C.maps W.sheet self.new) (in_short result) }
@@ -286,7 +286,7 @@ impl<'a, W: WriteJs, S: SourceMapper, C: Comments> Emitter<'a, W, S, C> {
     }
 
     /// Prints the name of what a module imports or exports: a name, or a string. swc's `emit_module_export_name`.
-    #[tactic(auto, using(crate::proofs::TreeReads::steps_recorded, crate::proofs::TreeReads::steps_taken, swc_ecma_codegen_base::proofs::Made::ready_after))]
+    #[tactic(auto, using(crate::proofs::TreeReads::steps_recorded, crate::proofs::TreeReads::steps_taken, swc_ecma_codegen_tokens::proofs::Made::ready_after))]
     pub fn emit_module_export_name(&mut self, node: &ModuleExportName) -> Result
         // Each position that is recorded holds the place that the text had reached, and none is recorded twice.
         ensures recorded { OnOk result (RecordsTruly (W.sheet self.old.wr) (W.sheet self.new.wr)) }

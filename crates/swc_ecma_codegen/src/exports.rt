@@ -9,9 +9,9 @@ use crate::emitter::Emitter;
 use crate::modules::named_format;
 use crate::nodes::{Child, EmitAt, Held, Place};
 use crate::specifiers::{Specifier, has_braced, has_star};
-use swc_ecma_codegen_ast::comments::Comments;
-use swc_ecma_codegen_ast::mapper::SourceMapper;
 use swc_ecma_codegen_common::Span;
+use swc_ecma_codegen_grammar::comments::Comments;
+use swc_ecma_codegen_grammar::mapper::SourceMapper;
 use swc_ecma_codegen_literals::Punctuator;
 use swc_ecma_codegen_text_writer::WriteJs;
 use swc_ecma_codegen_tree::{

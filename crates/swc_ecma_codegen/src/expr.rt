@@ -1,7 +1,7 @@
 //! Expressions.
 
 ghost use Rattle.std.specs.Prelude.{◌≡◌, Some, None, true};
-ghost use Rattle.swc_ecma_codegen_base.specs.Starts.{begins_letter};
+ghost use Rattle.swc_ecma_codegen_tokens.specs.Starts.{begins_letter};
 ghost use Rattle.swc_ecma_codegen.specs.Standing.{Makes, Stays, standing_of};
 ghost use Rattle.swc_ecma_codegen.specs.Exprs.{ident, ident_name, private_name, this, unary_op, unary_gap, unary, update_parts, update, binary_op, before_op, after_op, bin_operator, tight_operator, spaced_operator, word_between, bin_trailing, bin_opened, bin, computed_prop_name, choice, meta_prop_expr, assign, yield_star, yield_arg, yield_argument, yield_argument_in, yield_expr, spread_element, await_expr, seq, paren};
 ghost use Rattle.swc_ecma_codegen.specs.AnyExpr.{expr_parts, is_left_operand, leaves_comments, expr_closed, expr, wrapped, placed_expr};
@@ -18,9 +18,9 @@ use crate::marks::{assign_mark, binary_mark, unary_mark, update_mark};
 use crate::nodes::{Asked, EmitAt, Held, Place};
 use crate::operands::{begins_greater, is_word_op, operand_space, space_after};
 use crate::places::{expr_place, spread_element_place};
-use swc_ecma_codegen_ast::comments::Comments;
-use swc_ecma_codegen_ast::mapper::SourceMapper;
 use swc_ecma_codegen_common::{BinaryOp, Span, UnaryOp};
+use swc_ecma_codegen_grammar::comments::Comments;
+use swc_ecma_codegen_grammar::mapper::SourceMapper;
 use swc_ecma_codegen_literals::Punctuator;
 use swc_ecma_codegen_text_writer::WriteJs;
 use swc_ecma_codegen_tree::{
@@ -598,7 +598,7 @@ impl<W: WriteJs, S: SourceMapper, C: Comments> Emitter<'_, W, S, C> {
     }
 
     /// Writes it in parentheses where a line ends in or after a comment before it.
-    #[tactic(auto, unfolding(crate::specs::Exprs::yield_argument_in, swc_ecma_codegen_base::specs::Choices::optional_parentheses))]
+    #[tactic(auto, unfolding(crate::specs::Exprs::yield_argument_in, swc_ecma_codegen_tokens::specs::Choices::optional_parentheses))]
     fn yield_argument_in<N: Held>(&mut self, delegate: bool, breaks: bool, node: &N)
         ensures items { Makes (yield_argument_in N.answers N.items delegate node.now breaks) (standing_of S.lines C.maps W.sheet self.old) (standing_of S.lines C.maps W.sheet self.new) }
         ensures level { Stays (standing_of S.lines C.maps W.sheet self.old) (standing_of S.lines C.maps W.sheet self.new) }

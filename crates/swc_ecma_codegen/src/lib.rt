@@ -39,10 +39,10 @@ mod tokens;
 pub use crate::code::{to_code, to_code_default, to_code_with_comments};
 pub use crate::emitter::Emitter;
 pub use crate::node::Node;
-pub use swc_ecma_codegen_ast::{Error, Result};
-pub use swc_ecma_codegen_grammar::{
-    is_well_formed, is_well_formed_expr, is_well_formed_item, is_well_formed_stmt,
-};
+pub use swc_ecma_codegen_grammar::{Error, Result};
 pub use swc_ecma_codegen_text_writer as text_writer;
 pub use swc_ecma_codegen_util::config::Config;
 pub use swc_ecma_codegen_util::{config, util};
+pub use swc_ecma_codegen_validate::{
+    is_well_formed, is_well_formed_expr, is_well_formed_item, is_well_formed_stmt,
+};

@@ -2,7 +2,7 @@
 
 ghost use Rattle.std.specs.Prelude.{◌≡◌, true, [], ◌∷◌, map, option_map};
 ghost use Rattle.swc_ecma_codegen.specs.Standing.{Makes, Stays, KeepsSettings, Deepens, Rises, HasLevels, standing_of};
-ghost use Rattle.swc_ecma_codegen_base.specs.Lists.{list_levels, opening, separator, child_comments, trailing_comma, closing, list_end, empty_list, first_child_after, first_child, next_child_after, next_child, list_closing, list_after, list, optional_list};
+ghost use Rattle.swc_ecma_codegen_tokens.specs.Lists.{list_levels, opening, separator, child_comments, trailing_comma, closing, list_end, empty_list, first_child_after, first_child, next_child_after, next_child, list_closing, list_after, list, optional_list};
 ghost use Rattle.swc_ecma_codegen.specs.Lists.{comma, listed, plainly, in_order, child_of, as_asked};
 ghost use Rattle.swc_ecma_codegen.specs.declared.nodes.Place.TheVariants.{Plain};
 ghost use Rattle.swc_ecma_codegen.specs.Exprs.{held};
@@ -11,10 +11,10 @@ use crate::emitter::Emitter;
 use crate::nodes::{Child, EmitAt, Place};
 use crate::refusals::keep;
 use bitflags::Flags;
-use swc_ecma_codegen_ast::ListFormat;
-use swc_ecma_codegen_ast::comments::Comments;
-use swc_ecma_codegen_ast::mapper::SourceMapper;
 use swc_ecma_codegen_common::{DUMMY_SP, Span};
+use swc_ecma_codegen_grammar::ListFormat;
+use swc_ecma_codegen_grammar::comments::Comments;
+use swc_ecma_codegen_grammar::mapper::SourceMapper;
 use swc_ecma_codegen_literals::Punctuator;
 use swc_ecma_codegen_text_writer::WriteJs;
 use swc_ecma_codegen_tree::ExprBox;
@@ -193,7 +193,7 @@ impl<W: WriteJs, S: SourceMapper, C: Comments> Emitter<'_, W, S, C> {
     }
 
     /// Writes the first child, where a line ends before it or doesn't.
-    #[tactic(auto, unfolding(swc_ecma_codegen_base::specs::Lists::first_child_after))]
+    #[tactic(auto, unfolding(swc_ecma_codegen_tokens::specs::Lists::first_child_after))]
     fn first_child_after<T: Child>(&mut self, format: ListFormat, line: bool, child: &T)
         ensures items { Makes (first_child_after format.0 line (child_of T.stands T.items child.now)) (standing_of S.lines C.maps W.sheet self.old) (standing_of S.lines C.maps W.sheet self.new) }
         ensures level { Deepens (list_levels format.0 self.old.cfg) (standing_of S.lines C.maps W.sheet self.old) (standing_of S.lines C.maps W.sheet self.new) }
@@ -221,7 +221,7 @@ impl<W: WriteJs, S: SourceMapper, C: Comments> Emitter<'_, W, S, C> {
     }
 
     /// Writes a child after another, where a line ends between them or doesn't.
-    #[tactic(auto, unfolding(swc_ecma_codegen_base::specs::Lists::next_child_after))]
+    #[tactic(auto, unfolding(swc_ecma_codegen_tokens::specs::Lists::next_child_after))]
     fn next_child_after<T: Child>(&mut self, format: ListFormat, line: bool, child: &T)
         ensures items { Makes (next_child_after format.0 line (child_of T.stands T.items child.now)) (standing_of S.lines C.maps W.sheet self.old) (standing_of S.lines C.maps W.sheet self.new) }
         ensures level { Stays (standing_of S.lines C.maps W.sheet self.old) (standing_of S.lines C.maps W.sheet self.new) }
@@ -250,7 +250,7 @@ impl<W: WriteJs, S: SourceMapper, C: Comments> Emitter<'_, W, S, C> {
     }
 
     /// Writes what stands after the last child.
-    #[tactic(auto, unfolding(swc_ecma_codegen_base::specs::Lists::list_closing))]
+    #[tactic(auto, unfolding(swc_ecma_codegen_tokens::specs::Lists::list_closing))]
     pub(crate) fn list_closing(&mut self, format: ListFormat, parent: Span, last: Span)
         requires { HasLevels (list_levels format.0 self.old.cfg) (standing_of S.lines C.maps W.sheet self.old) }
         ensures items { Makes (list_closing format.0 parent last) (standing_of S.lines C.maps W.sheet self.old) (standing_of S.lines C.maps W.sheet self.new) }
@@ -287,7 +287,7 @@ impl<W: WriteJs, S: SourceMapper, C: Comments> Emitter<'_, W, S, C> {
     }
 
     /// Writes the children after one that stands at `previous`, and what stands after the last.
-    #[tactic(auto, using(crate::proofs::Steps::list_next), unfolding(swc_ecma_codegen_base::specs::Lists::more_children, swc_ecma_codegen_base::specs::Lists::last_place))]
+    #[tactic(auto, using(crate::proofs::Steps::list_next), unfolding(swc_ecma_codegen_tokens::specs::Lists::more_children, swc_ecma_codegen_tokens::specs::Lists::last_place))]
     fn list_after<T: Child>(
         &mut self,
         format: ListFormat,
@@ -307,7 +307,7 @@ impl<W: WriteJs, S: SourceMapper, C: Comments> Emitter<'_, W, S, C> {
     }
 
     /// Writes a list that has a first child.
-    #[tactic(auto, unfolding(swc_ecma_codegen_base::specs::Lists::list))]
+    #[tactic(auto, unfolding(swc_ecma_codegen_tokens::specs::Lists::list))]
     fn some_list<T: Child>(&mut self, format: ListFormat, parent: Span, first: &T, others: &[T])
         ensures items { Makes (list format.0 parent (map (child_of T.stands T.items) (first.now ∷ others.now))) (standing_of S.lines C.maps W.sheet self.old) (standing_of S.lines C.maps W.sheet self.new) }
         ensures level { Stays (standing_of S.lines C.maps W.sheet self.old) (standing_of S.lines C.maps W.sheet self.new) }
@@ -317,7 +317,7 @@ impl<W: WriteJs, S: SourceMapper, C: Comments> Emitter<'_, W, S, C> {
     }
 
     /// Writes a list without children.
-    #[tactic(auto, unfolding(swc_ecma_codegen_base::specs::Lists::list))]
+    #[tactic(auto, unfolding(swc_ecma_codegen_tokens::specs::Lists::list))]
     pub(crate) fn no_list(&mut self, format: ListFormat, parent: Span)
         ensures items { Makes (list format.0 parent []) (standing_of S.lines C.maps W.sheet self.old) (standing_of S.lines C.maps W.sheet self.new) }
         ensures level { Stays (standing_of S.lines C.maps W.sheet self.old) (standing_of S.lines C.maps W.sheet self.new) }
@@ -341,7 +341,7 @@ impl<W: WriteJs, S: SourceMapper, C: Comments> Emitter<'_, W, S, C> {
     }
 
     /// Writes the children of a list that may not be there.
-    #[tactic(auto, unfolding(swc_ecma_codegen_base::specs::Lists::optional_list))]
+    #[tactic(auto, unfolding(swc_ecma_codegen_tokens::specs::Lists::optional_list))]
     pub(crate) fn optional_list<T: Child>(
         &mut self,
         format: ListFormat,

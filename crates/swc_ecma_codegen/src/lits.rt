@@ -5,15 +5,15 @@
 
 ghost use Rattle.std.specs.Prelude.{◌≡◌};
 ghost use Rattle.swc_ecma_codegen.specs.Standing.{Makes, Stays, standing_of};
-ghost use Rattle.swc_ecma_codegen_base.specs.Lits.{str_lit, bool_node, null_lit, number_lit, number_object, big_int_lit, regex_lit, lit};
+ghost use Rattle.swc_ecma_codegen_tokens.specs.Lits.{str_lit, bool_node, null_lit, number_lit, number_object, big_int_lit, regex_lit, lit};
 ghost use Rattle.swc_ecma_codegen.specs.Lits.{lit_at, is_object, is_number_object};
 
 use crate::emitter::Emitter;
 use crate::nodes::{EmitAt, Place};
 use crate::refusals::keep;
-use swc_ecma_codegen_ast::comments::Comments;
-use swc_ecma_codegen_ast::mapper::SourceMapper;
 use swc_ecma_codegen_common::BytePos;
+use swc_ecma_codegen_grammar::comments::Comments;
+use swc_ecma_codegen_grammar::mapper::SourceMapper;
 use swc_ecma_codegen_text_writer::WriteJs;
 use swc_ecma_codegen_tree::{BigInt, Bool, Lit, Null, Number, Regex, Str};
 

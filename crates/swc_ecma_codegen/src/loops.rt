@@ -1,20 +1,20 @@
 //! Loops and `switch`.
 
 ghost use Rattle.std.specs.Prelude.{◌≡◌, true};
-ghost use Rattle.swc_ecma_codegen_ast.specs.Settings.{is_up_to_es5};
+ghost use Rattle.swc_ecma_codegen_grammar.specs.Settings.{is_up_to_es5};
 ghost use Rattle.swc_ecma_codegen_util.specs.Ends.{pat_ends, declarator_ends, declarators_end, head_ends};
-ghost use Rattle.swc_ecma_codegen_base.specs.Choices.{loop_ending};
+ghost use Rattle.swc_ecma_codegen_tokens.specs.Choices.{loop_ending};
 ghost use Rattle.swc_ecma_codegen.specs.Standing.{Makes, Stays, standing_of};
-ghost use Rattle.swc_ecma_codegen_base.specs.Starts.{begins_letter};
+ghost use Rattle.swc_ecma_codegen_tokens.specs.Starts.{begins_letter};
 ghost use Rattle.swc_ecma_codegen.specs.Stmts.{case_body, cases_format, lines_format, case_format, case_test, is_single, case_list, case_children, case_stmts, switch_case, cases, switch_cases, switch_stmt, while_stmt, loop_test, do_while_stmt, var_decl_or_expr, for_init, for_value, for_clause, for_control, for_stmt, for_head, for_right, for_each, for_in_stmt, for_await, for_of_stmt};
 
 use crate::emitter::Emitter;
 use crate::nodes::{Asked, Child, EmitAt, Held, Place};
 use bitflags::Flags;
-use swc_ecma_codegen_ast::ListFormat;
-use swc_ecma_codegen_ast::comments::Comments;
-use swc_ecma_codegen_ast::mapper::SourceMapper;
 use swc_ecma_codegen_common::{EsVersion, Span};
+use swc_ecma_codegen_grammar::ListFormat;
+use swc_ecma_codegen_grammar::comments::Comments;
+use swc_ecma_codegen_grammar::mapper::SourceMapper;
 use swc_ecma_codegen_literals::Punctuator;
 use swc_ecma_codegen_text_writer::WriteJs;
 use swc_ecma_codegen_tree::{
@@ -50,7 +50,7 @@ fn case_format(single: bool) -> ListFormat
 }
 
 /// Whether it is a version before 2015.
-#[tactic(auto, unfolding(swc_ecma_codegen_ast::specs::Settings::is_up_to_es5))]
+#[tactic(auto, unfolding(swc_ecma_codegen_grammar::specs::Settings::is_up_to_es5))]
 fn is_up_to_es5(version: EsVersion) -> bool
     ensures { result ≡ is_up_to_es5 version }
 {

@@ -2,7 +2,7 @@
 
 ghost use Rattle.std.specs.Prelude.{◌≡◌};
 ghost use Rattle.swc_ecma_codegen.specs.Standing.{Makes, Stays, standing_of};
-ghost use Rattle.swc_ecma_codegen_base.specs.Choices.{attributes_word};
+ghost use Rattle.swc_ecma_codegen_tokens.specs.Choices.{attributes_word};
 ghost use Rattle.swc_ecma_codegen.specs.Modules.{named_format, module_export_name, from_word, as_word, star_as, module_decl_by, module_decl, module_item_by, module_item, attributes, source_end};
 ghost use Rattle.swc_ecma_codegen.specs.Lists.{in_order};
 ghost use Rattle.swc_ecma_codegen.specs.Programs.{whole_module};
@@ -10,10 +10,10 @@ ghost use Rattle.swc_ecma_codegen.specs.Programs.{whole_module};
 use crate::emitter::Emitter;
 use crate::nodes::{EmitAt, Held, Place};
 use crate::places::module_item_place;
-use swc_ecma_codegen_ast::ListFormat;
-use swc_ecma_codegen_ast::comments::Comments;
-use swc_ecma_codegen_ast::mapper::SourceMapper;
 use swc_ecma_codegen_common::Span;
+use swc_ecma_codegen_grammar::ListFormat;
+use swc_ecma_codegen_grammar::comments::Comments;
+use swc_ecma_codegen_grammar::mapper::SourceMapper;
 use swc_ecma_codegen_literals::Punctuator;
 use swc_ecma_codegen_spans::Spanned;
 use swc_ecma_codegen_text_writer::WriteJs;

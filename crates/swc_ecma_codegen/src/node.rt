@@ -3,15 +3,15 @@
 ghost use Rattle.std.specs.Prelude.{◌≡◌, ◌≢◌, true, false, IfErr, OnErr, OnOk, Err, IsOk};
 ghost use Rattle.swc_ecma_codegen_common.specs.Refusals.{in_short, reason_of};
 ghost use Rattle.swc_ecma_codegen_text_writer.specs.Told.{IsFront};
-ghost use Rattle.swc_ecma_codegen_base.specs.Run.{Part, Follows, HasCause, IsUnhindered, maps_after, nothing, printed, makes_text, spoken, steps_in, steps_of, taken_in};
-ghost use Rattle.swc_ecma_codegen_ast.specs.Phrases.{names_in};
+ghost use Rattle.swc_ecma_codegen_tokens.specs.Run.{Part, Follows, HasCause, IsUnhindered, maps_after, nothing, printed, makes_text, spoken, steps_in, steps_of, taken_in};
+ghost use Rattle.swc_ecma_codegen_grammar.specs.Phrases.{names_in};
 ghost use Rattle.swc_ecma_codegen_text_writer.specs.Recorded.{RecordsTruly};
-ghost use Rattle.swc_ecma_codegen_base.specs.Named.{RecordsNames, PlacesNames};
-ghost use Rattle.swc_ecma_codegen_base.specs.Ascii.{other_texts, AddsAscii, WantsAscii};
-ghost use Rattle.swc_ecma_codegen_base.specs.Scripts.{value_strings, AddsSafe};
-ghost use Rattle.swc_ecma_codegen_base.specs.Written.{AddsReading, taken_remarks};
-ghost use Rattle.swc_ecma_codegen_ast.specs.Comments.{maps_in, AreClosed, texts_of};
-ghost use Rattle.swc_ecma_codegen_base.specs.Ready.{IsPlainTree, IsReady};
+ghost use Rattle.swc_ecma_codegen_tokens.specs.Named.{RecordsNames, PlacesNames};
+ghost use Rattle.swc_ecma_codegen_tokens.specs.Ascii.{other_texts, AddsAscii, WantsAscii};
+ghost use Rattle.swc_ecma_codegen_tokens.specs.Scripts.{value_strings, AddsSafe};
+ghost use Rattle.swc_ecma_codegen_tokens.specs.Written.{AddsReading, taken_remarks};
+ghost use Rattle.swc_ecma_codegen_grammar.specs.Comments.{maps_in, AreClosed, texts_of};
+ghost use Rattle.swc_ecma_codegen_tokens.specs.Ready.{IsPlainTree, IsReady};
 ghost use Rattle.swc_ecma_codegen.specs.View.{state_of};
 ghost use Rattle.swc_ecma_codegen.specs.Roots.{Root, root_items, root_phrase, is_well_formed_root, MayBegin};
 ghost use Rattle.swc_ecma_codegen.specs.Lists.{if_some_at};
@@ -19,9 +19,9 @@ ghost use Rattle.swc_ecma_codegen.specs.declared.nodes.Place.TheVariants.{Plain}
 
 use crate::emitter::Emitter;
 use crate::nodes::{EmitAt, Place};
-use swc_ecma_codegen_ast::comments::Comments;
-use swc_ecma_codegen_ast::mapper::SourceMapper;
 use swc_ecma_codegen_common::{Error, Result};
+use swc_ecma_codegen_grammar::comments::Comments;
+use swc_ecma_codegen_grammar::mapper::SourceMapper;
 use swc_ecma_codegen_spans::Spanned;
 use swc_ecma_codegen_text_writer::WriteJs;
 use swc_ecma_codegen_tree::Link;
@@ -77,7 +77,7 @@ pub trait Node: Spanned {
 impl<T: EmitAt + Spanned> Node for T {
     ghost part = { λ n. T.items n Plain };
 
-    #[tactic(auto, using(crate::proofs::TreeReads::root_reads, crate::proofs::TreeReads::steps_recorded, crate::proofs::TreeReads::steps_taken, crate::proofs::TreeReads::root_told, crate::proofs::TreeReads::root_names, crate::proofs::TreeReads::root_places, crate::proofs::TreeReads::root_ascii, crate::proofs::TreeReads::root_safe, swc_ecma_codegen_base::proofs::Made::ready_after, swc_ecma_codegen_base::proofs::Phrased::never_out_of_memory))]
+    #[tactic(auto, using(crate::proofs::TreeReads::root_reads, crate::proofs::TreeReads::steps_recorded, crate::proofs::TreeReads::steps_taken, crate::proofs::TreeReads::root_told, crate::proofs::TreeReads::root_names, crate::proofs::TreeReads::root_places, crate::proofs::TreeReads::root_ascii, crate::proofs::TreeReads::root_safe, swc_ecma_codegen_tokens::proofs::Made::ready_after, swc_ecma_codegen_tokens::proofs::Phrased::never_out_of_memory))]
     fn emit_with<W: WriteJs, S: SourceMapper, C: Comments>(
         &self,
         e: &mut Emitter<'_, W, S, C>,

@@ -1,20 +1,20 @@
 //! What a node is to those above it.
 
 ghost use Rattle.std.specs.Prelude.{◌≡◌};
-ghost use Rattle.swc_ecma_codegen_base.specs.Run.{Part};
+ghost use Rattle.swc_ecma_codegen_tokens.specs.Run.{Part};
 ghost use Rattle.swc_ecma_codegen.specs.Standing.{Makes, Stays, standing_of};
 ghost use Rattle.swc_ecma_codegen.specs.declared.nodes.Place.{Place as At};
 ghost use Rattle.swc_ecma_codegen.specs.Answers.{Answers, reply_of};
 ghost use Rattle.swc_ecma_codegen_common.specs.declared.positions.Span.{Span as Stretch};
 ghost use Rattle.swc_ecma_codegen_spans.specs.Spans.{option_span};
-ghost use Rattle.swc_ecma_codegen_ast.specs.Comments.{maps_in};
+ghost use Rattle.swc_ecma_codegen_grammar.specs.Comments.{maps_in};
 
 use crate::emitter::Emitter;
 use crate::operands::OperandKind;
 use crate::patterns::PatternKind;
-use swc_ecma_codegen_ast::comments::Comments;
-use swc_ecma_codegen_ast::mapper::SourceMapper;
 use swc_ecma_codegen_common::{BinaryOp, BytePos, DUMMY_SP, Span};
+use swc_ecma_codegen_grammar::comments::Comments;
+use swc_ecma_codegen_grammar::mapper::SourceMapper;
 use swc_ecma_codegen_text_writer::WriteJs;
 use swc_ecma_codegen_tree::Link;
 

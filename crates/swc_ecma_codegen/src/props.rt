@@ -1,11 +1,11 @@
 //! Objects and their properties.
 
 ghost use Rattle.std.specs.Prelude.{◌≡◌, true};
-ghost use Rattle.swc_ecma_codegen_ast.specs.FunctionPhrases.{is_some_listed};
+ghost use Rattle.swc_ecma_codegen_grammar.specs.FunctionPhrases.{is_some_listed};
 ghost use Rattle.swc_ecma_codegen_spans.specs.Spans.{prop_or_spread_span};
-ghost use Rattle.swc_ecma_codegen_base.specs.Lists.{list};
+ghost use Rattle.swc_ecma_codegen_tokens.specs.Lists.{list};
 ghost use Rattle.swc_ecma_codegen.specs.Standing.{Makes, Stays, standing_of};
-ghost use Rattle.swc_ecma_codegen_base.specs.Starts.{begins_letter};
+ghost use Rattle.swc_ecma_codegen_tokens.specs.Starts.{begins_letter};
 ghost use Rattle.swc_ecma_codegen.specs.Answers.{place_of};
 ghost use Rattle.swc_ecma_codegen.specs.Names.{prop_name};
 ghost use Rattle.swc_ecma_codegen.specs.Props.{key_end, value_start, key_value_prop, assign_prop, accessor, optional_body, getter_prop, setter_prop, method_prop, prop, prop_or_spread, object_format, flat_object_format, object_children, lined_object_list, object_lines, object_list, object_by_maps, object_lit};
@@ -16,10 +16,10 @@ use crate::emitter::Emitter;
 use crate::nodes::{Child, EmitAt, Held, Place};
 use crate::places::{prop_place, spread_element_place};
 use bitflags::Flags;
-use swc_ecma_codegen_ast::ListFormat;
-use swc_ecma_codegen_ast::comments::Comments;
-use swc_ecma_codegen_ast::mapper::SourceMapper;
 use swc_ecma_codegen_common::Span;
+use swc_ecma_codegen_grammar::ListFormat;
+use swc_ecma_codegen_grammar::comments::Comments;
+use swc_ecma_codegen_grammar::mapper::SourceMapper;
 use swc_ecma_codegen_literals::Punctuator;
 use swc_ecma_codegen_spans::Spanned;
 use swc_ecma_codegen_text_writer::WriteJs;

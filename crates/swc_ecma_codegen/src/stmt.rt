@@ -1,14 +1,14 @@
 //! Statements and programs.
 
 ghost use Rattle.std.specs.Prelude.{◌≡◌, true};
-ghost use Rattle.swc_ecma_codegen_base.specs.Lists.{blank_if};
+ghost use Rattle.swc_ecma_codegen_tokens.specs.Lists.{blank_if};
 ghost use Rattle.swc_ecma_codegen_spans.specs.Spans.{stmt_span};
 ghost use Rattle.swc_ecma_codegen.specs.Answers.{place_of};
 ghost use Rattle.swc_ecma_codegen.specs.Branches.{is_block};
 ghost use Rattle.swc_ecma_codegen.specs.Lists.{in_order};
 ghost use Rattle.swc_ecma_codegen.specs.Standing.{Makes, Stays, standing_of};
-ghost use Rattle.swc_ecma_codegen_base.specs.Starts.{begins_letter};
-ghost use Rattle.swc_ecma_codegen_base.specs.Words.{trailing_comments};
+ghost use Rattle.swc_ecma_codegen_tokens.specs.Starts.{begins_letter};
+ghost use Rattle.swc_ecma_codegen_tokens.specs.Words.{trailing_comments};
 ghost use Rattle.swc_ecma_codegen.specs.Stmts.{enclosed, spaced, argument, argument_in, stmt_word, spaced_word, jump, empty_stmt, expr_stmt, debugger_stmt, with_stmt, return_arg, return_stmt, labeled_stmt, break_stmt, continue_stmt, else_branch, if_stmt, catch_param, catch_clause, handler, finalizer, try_stmt, throw_stmt, stmt_parts, stmt_closed, stmt};
 ghost use Rattle.swc_ecma_codegen.specs.Programs.{start_if_empty, program_start, script, program};
 
@@ -16,9 +16,9 @@ use crate::branches::is_block;
 use crate::emitter::Emitter;
 use crate::nodes::{Child, EmitAt, Held, Place};
 use crate::places::stmt_place;
-use swc_ecma_codegen_ast::comments::Comments;
-use swc_ecma_codegen_ast::mapper::SourceMapper;
 use swc_ecma_codegen_common::Span;
+use swc_ecma_codegen_grammar::comments::Comments;
+use swc_ecma_codegen_grammar::mapper::SourceMapper;
 use swc_ecma_codegen_literals::Punctuator;
 use swc_ecma_codegen_text_writer::WriteJs;
 use swc_ecma_codegen_tree::{
@@ -370,7 +370,7 @@ impl<W: WriteJs, S: SourceMapper, C: Comments> Emitter<'_, W, S, C> {
     }
 
     /// Writes such an argument, in parentheses where a line ends in or after a comment before it.
-    #[tactic(auto, unfolding(crate::specs::Stmts::argument_in, swc_ecma_codegen_base::specs::Choices::optional_parentheses))]
+    #[tactic(auto, unfolding(crate::specs::Stmts::argument_in, swc_ecma_codegen_tokens::specs::Choices::optional_parentheses))]
     fn argument_in<N: Held>(&mut self, breaks: bool, node: &N)
         ensures items { Makes (argument_in N.answers N.items node.now breaks) (standing_of S.lines C.maps W.sheet self.old) (standing_of S.lines C.maps W.sheet self.new) }
         ensures level { Stays (standing_of S.lines C.maps W.sheet self.old) (standing_of S.lines C.maps W.sheet self.new) }
@@ -453,7 +453,7 @@ impl<W: WriteJs, S: SourceMapper, C: Comments> Emitter<'_, W, S, C> {
     }
 
     /// Writes a blank where one is wanted, unless the settings are to minify.
-    #[tactic(auto, unfolding(swc_ecma_codegen_base::specs::Lists::blank_if))]
+    #[tactic(auto, unfolding(swc_ecma_codegen_tokens::specs::Lists::blank_if))]
     fn blank_if(&mut self, wanted: bool)
         ensures items { Makes (blank_if wanted) (standing_of S.lines C.maps W.sheet self.old) (standing_of S.lines C.maps W.sheet self.new) }
         ensures level { Stays (standing_of S.lines C.maps W.sheet self.old) (standing_of S.lines C.maps W.sheet self.new) }

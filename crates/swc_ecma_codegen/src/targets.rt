@@ -5,8 +5,8 @@ ghost use Rattle.swc_ecma_codegen.specs.Targets.{simple_assign_target, assign_ta
 
 use crate::emitter::Emitter;
 use crate::nodes::{EmitAt, Held, Place};
-use swc_ecma_codegen_ast::comments::Comments;
-use swc_ecma_codegen_ast::mapper::SourceMapper;
+use swc_ecma_codegen_grammar::comments::Comments;
+use swc_ecma_codegen_grammar::mapper::SourceMapper;
 use swc_ecma_codegen_text_writer::WriteJs;
 use swc_ecma_codegen_tree::{AssignTarget, BindingIdent, SimpleAssignTarget};
 

@@ -1,19 +1,19 @@
 //! Templates.
 
 ghost use Rattle.std.specs.Prelude.{◌≡◌, true};
-ghost use Rattle.swc_ecma_codegen_ast.specs.TemplatePhrases.{is_counted, part_before};
+ghost use Rattle.swc_ecma_codegen_grammar.specs.TemplatePhrases.{is_counted, part_before};
 ghost use Rattle.swc_ecma_codegen.specs.Standing.{Makes, Stays, standing_of};
-ghost use Rattle.swc_ecma_codegen_base.specs.Templates.{tpl_element};
+ghost use Rattle.swc_ecma_codegen_tokens.specs.Templates.{tpl_element};
 ghost use Rattle.swc_ecma_codegen.specs.Templates.{tpl_rest, tpl_parts, bad_shape, tpl, is_tagged, tagged_tpl};
 
 use crate::emitter::Emitter;
 use crate::nodes::{EmitAt, Held, Place};
 use crate::refusals::keep;
-use swc_ecma_codegen_ast::comments::Comments;
-use swc_ecma_codegen_ast::kinds::TemplatePart;
-use swc_ecma_codegen_ast::mapper::SourceMapper;
-use swc_ecma_codegen_base::Unprintable;
+use swc_ecma_codegen_grammar::comments::Comments;
+use swc_ecma_codegen_grammar::kinds::TemplatePart;
+use swc_ecma_codegen_grammar::mapper::SourceMapper;
 use swc_ecma_codegen_text_writer::WriteJs;
+use swc_ecma_codegen_tokens::Unprintable;
 use swc_ecma_codegen_tree::{ExprBox, TaggedTpl, Tpl, TplElement};
 
 /// Whether a template has a tag, by its place.
@@ -27,7 +27,7 @@ fn is_tagged(place: Place) -> bool
 }
 
 /// A part of a template before these: it opens a substitution where there are any.
-#[tactic(auto, unfolding(swc_ecma_codegen_ast::specs::FunctionPhrases::is_some_listed))]
+#[tactic(auto, unfolding(swc_ecma_codegen_grammar::specs::FunctionPhrases::is_some_listed))]
 fn part_before(tagged: bool, quasis: &[TplElement]) -> TemplatePart
     ensures { result ≡ part_before tagged quasis.now }
 {

@@ -2,25 +2,25 @@
 
 ghost use Rattle.std.specs.Prelude.{◌≡◌, ◌<◌, Option, true};
 ghost use Rattle.swc_ecma_codegen_literals.specs.Punctuators.{spelling};
-ghost use Rattle.swc_ecma_codegen_base.specs.Starts.{begins_letter};
-ghost use Rattle.swc_ecma_codegen_base.specs.PrivateNames.{private_name};
+ghost use Rattle.swc_ecma_codegen_tokens.specs.Starts.{begins_letter};
+ghost use Rattle.swc_ecma_codegen_tokens.specs.PrivateNames.{private_name};
 ghost use Rattle.swc_ecma_codegen.specs.Standing.{Makes, Stays, Deepens, Rises, HasLevels, standing_of};
-ghost use Rattle.swc_ecma_codegen_base.specs.Words.{keyword, operator, operator_between, punct_between, word_operator, punct, placed_punct, semi, space, formatting_space, formatting_line, line_end, commit_pending_semi, position, position_before, start_of, end_of, last_of, leading_comments, trailing_comments, comments_before_end, name};
-ghost use Rattle.swc_ecma_codegen_base.specs.Keys.{key};
-ghost use Rattle.swc_ecma_codegen_base.specs.Literals.{hashbang};
-ghost use Rattle.swc_ecma_codegen_base.specs.Lists.{deeper, shallower};
+ghost use Rattle.swc_ecma_codegen_tokens.specs.Words.{keyword, operator, operator_between, punct_between, word_operator, punct, placed_punct, semi, space, formatting_space, formatting_line, line_end, commit_pending_semi, position, position_before, start_of, end_of, last_of, leading_comments, trailing_comments, comments_before_end, name};
+ghost use Rattle.swc_ecma_codegen_tokens.specs.Keys.{key};
+ghost use Rattle.swc_ecma_codegen_tokens.specs.Literals.{hashbang};
+ghost use Rattle.swc_ecma_codegen_tokens.specs.Lists.{deeper, shallower};
 ghost use Rattle.swc_ecma_codegen.specs.Exprs.{blank, space_if, spaced_punct, formatted_operator, opened, comments_before};
 ghost use Rattle.swc_ecma_codegen.specs.Lists.{unsupported};
 ghost use Rattle.swc_ecma_codegen.specs.Programs.{last_semi};
 
 use crate::emitter::Emitter;
 use crate::refusals::keep;
-use swc_ecma_codegen_ast::comments::Comments;
-use swc_ecma_codegen_ast::mapper::SourceMapper;
-use swc_ecma_codegen_base::Unprintable;
 use swc_ecma_codegen_common::{BytePos, Span};
+use swc_ecma_codegen_grammar::comments::Comments;
+use swc_ecma_codegen_grammar::mapper::SourceMapper;
 use swc_ecma_codegen_literals::Punctuator;
 use swc_ecma_codegen_text_writer::WriteJs;
+use swc_ecma_codegen_tokens::Unprintable;
 
 impl<W: WriteJs, S: SourceMapper, C: Comments> Emitter<'_, W, S, C> {
     /// Refuses a node that has no text here, as `Invalid`, or none yet, as what TypeScript adds.

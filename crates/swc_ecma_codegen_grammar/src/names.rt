@@ -1,118 +1,194 @@
-//! Names.
+//! Names and words, as plain programs.
 
-ghost use Rattle.std.specs.Prelude.{◌≡◌, ℕ, List, [], ◌∷◌, false, IfSome, IfNone};
-ghost use Rattle.std.specs.Str.{chars};
-ghost use Rattle.swc_ecma_codegen_ast.specs.Names.{IsSmall};
-ghost use Rattle.swc_ecma_codegen_ast.specs.SpelledNames.{is_well_formed_name};
-ghost use Rattle.swc_ecma_codegen_ast.specs.NamePhrases.{ident, ident_name, binding_ident, private_name};
-ghost use Rattle.swc_ecma_codegen_grammar.specs.NameStates.{goes_on, IsNext};
+ghost use Rattle.std.specs.Prelude.{ℕ, List, ◌≡◌, ◌<◌, ◌≤◌, ◌+◌, ◌*◌, ◌++◌, ◌∷◌, [], ◌&&◌, true, false, IfSome, IfNone, IfOk, is_some};
+ghost use Rattle.swc_ecma_codegen_grammar.specs.Chars as chars;
+ghost use Rattle.swc_ecma_codegen_grammar.specs.Numbers as numbers;
+ghost use Rattle.swc_ecma_codegen_grammar.specs.Names as names;
+ghost use Rattle.swc_ecma_codegen_grammar.specs.NameTurns.{IsNameTurn, LeadsOn};
 
-use crate::forms::WellFormed;
-use crate::texts::split_first;
-use swc_ecma_codegen_ast::names::{NameTurn, Place, turn};
-use swc_ecma_codegen_tree::{BindingIdent, Ident, IdentName, PrivateName};
+use crate::characters::{is_part, is_start};
+use crate::numerals::hex_digit;
+use std::alloc::{AllocError, Global};
 
-/// Where the reading of a name in a tree stands.
+/// Where the reading of a name stands.
 #[derive(Clone, Copy)]
-pub(crate) struct NameState {
-    /// No character came so far.
+pub enum Place {
+    /// Between characters.
+    Between,
+    /// After a backslash.
+    Escaped,
+    /// After `\u`.
+    Unicode,
+    /// After one digit of four, which have this value.
+    One(u32),
+    /// After two.
+    Two(u32),
+    /// After three.
+    Three(u32),
+    /// In `\u{..}`, with or without a digit so far.
+    Braced { some: bool, value: u32 },
+}
+
+/// What one character of a name does.
+#[derive(Clone, Copy)]
+pub enum NameTurn {
+    /// No name goes on like this.
+    Unfit,
+    /// It is no character yet.
+    Goes(Place),
+    /// A character is complete.
+    Gives(char),
+}
+
+#[tactic(auto, unfolding(crate::specs::Names::all_part))]
+pub(crate) fn all_part(text: &[char]) -> bool
+    ensures { result ≡ names.all_part text.now }
+{
+    match text {
+        [] => true,
+        [c, rest @ ..] => is_part(*c) && all_part(rest),
+    }
+}
+
+/// A word of the grammar. ECMA-262, section 12.7.2.
+#[tactic(auto, unfolding(crate::specs::Names::is_word))]
+pub fn is_word(text: &[char]) -> bool
+    ensures { result ≡ names.is_word text.now }
+{
+    match text {
+        [] => false,
+        [c, rest @ ..] => is_start(*c) && all_part(rest),
+    }
+}
+
+#[tactic(auto, unfolding(crate::specs::Names::fits))]
+fn fits(first: bool, c: char) -> bool
+    ensures { result ≡ names.fits first c }
+{
+    if first { is_start(c) } else { is_part(c) }
+}
+
+/// The character of this code, where a name may have it here.
+#[tactic(auto, unfolding(crate::specs::Names::fits_code, crate::specs::Chars::is_scalar))]
+fn fitting(first: bool, code: u32) -> Option<char>
+    ensures some { IfSome result (λ c. (names.fits_code first code ≡ true) × (c ≡ code)) }
+    ensures none { IfNone result (names.fits_code first code ≡ false) }
+{
+    char::from_u32(code).filter(|c| fits(first, *c))
+}
+
+/// What the last character of an escape does.
+#[tactic(auto)]
+fn given(c: Option<char>) -> NameTurn
+    ensures some { IfSome c (λ c. result ≡ NameTurn.Gives c) }
+    ensures none { IfNone c (result ≡ NameTurn.Unfit) }
+{
+    match c {
+        Some(c) => NameTurn::Gives(c),
+        None => NameTurn::Unfit,
+    }
+}
+
+/// What one character does.
+#[tactic(auto, unfolding(crate::specs::NameTurns::IsNameTurn, crate::specs::NameTurns::LeadsOn, crate::specs::Names::name_rest, crate::specs::Names::name_characters, crate::specs::Names::IsSmall))]
+pub fn turn(first: bool, place: Place, c: char) -> NameTurn
+    requires { names.IsSmall place }
+    ensures turn { (rest : List ℕ) → IsNameTurn first place c rest result }
+    ensures small { LeadsOn result }
+{
+    match (place, hex_digit(c)) {
+        (Place::Between, _) if c == '\\' => NameTurn::Goes(Place::Escaped),
+        (Place::Between, _) if fits(first, c) => NameTurn::Gives(c),
+        (Place::Escaped, _) if c == 'u' => NameTurn::Goes(Place::Unicode),
+        (Place::Between | Place::Escaped, _) => NameTurn::Unfit,
+        (Place::Unicode, _) if c == '{' => {
+            let (some, value) = (false, 0);
+            NameTurn::Goes(Place::Braced { some, value })
+        }
+        (Place::Unicode, Some(digit)) => NameTurn::Goes(Place::One(digit)),
+        (Place::One(value), Some(digit)) => NameTurn::Goes(Place::Two(value * 16 + digit)),
+        (Place::Two(value), Some(digit)) => NameTurn::Goes(Place::Three(value * 16 + digit)),
+        (Place::Three(value), Some(digit)) => given(fitting(first, value * 16 + digit)),
+        (Place::Braced { some: _, value }, Some(digit)) => {
+            let (some, value) = (true, value * 16 + digit);
+            if value <= 0x10FFFF {
+                NameTurn::Goes(Place::Braced { some, value })
+            } else {
+                NameTurn::Unfit
+            }
+        }
+        (Place::Braced { some, value }, None) if c == '}' && some => given(fitting(first, value)),
+        (_, None) => NameTurn::Unfit,
+    }
+}
+
+/// Whether the rest of a name is one.
+#[tactic(auto, unfolding(crate::specs::NameTurns::IsNameTurn, crate::specs::NameTurns::LeadsOn, crate::specs::Names::name_rest, crate::specs::Names::IsSmall))]
+fn is_name_rest(first: bool, place: Place, text: &[char]) -> bool
+    requires { names.IsSmall place }
+    ensures { result ≡ names.name_rest first place text.now }
+{
+    let [c, rest @ ..] = text else {
+        return matches!(place, Place::Between) && !first;
+    };
+    match turn(first, place, *c) {
+        NameTurn::Unfit => false,
+        NameTurn::Goes(next) => is_name_rest(first, next, rest),
+        NameTurn::Gives(_) => is_name_rest(false, Place::Between, rest),
+    }
+}
+
+/// A name, with or without escapes. Section 12.7.
+#[tactic(auto, unfolding(crate::specs::Names::is_name, crate::specs::Names::IsSmall))]
+pub fn is_name(text: &[char]) -> bool
+    ensures { result ≡ names.is_name text.now }
+{
+    is_name_rest(true, Place::Between, text)
+}
+
+/// Adds the characters of the rest of a name. `false`: the text isn't one.
+#[tactic(auto, unfolding(crate::specs::NameTurns::IsNameTurn, crate::specs::NameTurns::LeadsOn, crate::specs::Names::name_rest, crate::specs::Names::name_characters, crate::specs::Names::IsSmall))]
+fn push_rest(
+    found: &mut Vec<char>,
     first: bool,
     place: Place,
-    /// A backslash came last.
-    after: bool,
-}
-
-/// After one more character, or `None` where no name goes on like this.
-#[tactic(auto, unfolding(crate::specs::NameStates::goes_on, crate::specs::NameStates::IsNext, swc_ecma_codegen_ast::specs::ValidNames::turned_after, swc_ecma_codegen_ast::specs::NameTurns::IsNameTurn, swc_ecma_codegen_ast::specs::NameTurns::LeadsOn, swc_ecma_codegen_ast::specs::Names::IsSmall))]
-fn next(state: NameState, c: char) -> Option<NameState>
-    requires { IsSmall state.place }
-    ensures some { IfSome result (λ s. IsNext state c s) }
-    ensures none { IfNone result ((rest : List ℕ) → goes_on state (c ∷ rest) ≡ false) }
+    text: &[char],
+) -> Result<bool, AllocError>
+    requires { names.IsSmall place }
+    ensures name { IfOk result (λ is_rest. is_rest ≡ names.name_rest first place text.now) }
+    ensures found { IfOk result (λ is_rest. is_rest ≡ true → found.new.items ≡ found.old.items ++ names.name_characters place text.now) }
 {
-    if state.after && c == '\0' {
-        return Some(NameState {
-            first: state.first,
-            place: state.place,
-            after: false,
-        });
-    }
-    let after = c == '\\';
-    match turn(state.first, state.place, c) {
-        NameTurn::Unfit => None,
-        NameTurn::Goes(place) => Some(NameState {
-            first: state.first,
-            place,
-            after,
-        }),
-        NameTurn::Gives(_) => Some(NameState {
-            first: false,
-            place: Place::Between,
-            after,
-        }),
-    }
-}
-
-/// Whether a name may end here.
-#[tactic(auto, unfolding(crate::specs::NameStates::goes_on, swc_ecma_codegen_ast::specs::ValidNames::turned_after, swc_ecma_codegen_ast::specs::Names::name_rest))]
-fn may_end(state: NameState) -> bool
-    ensures { result ≡ goes_on state [] }
-{
-    matches!(state.place, Place::Between) && !state.first
-}
-
-/// Whether it is a name.
-#[tactic(auto, unfolding(crate::specs::NameStates::goes_on, crate::specs::NameStates::IsNext, swc_ecma_codegen_ast::specs::Names::is_name, swc_ecma_codegen_ast::specs::Names::IsSmall))]
-pub(crate) fn is_name(name: &str) -> bool
-    ensures { result ≡ is_well_formed_name name.now }
-{
-    let mut rest = name;
-    let mut state = NameState {
-        first: true,
-        place: Place::Between,
-        after: false,
+    let [c, rest @ ..] = text else {
+        return Ok(matches!(place, Place::Between) && !first);
     };
-    while let Some((c, more)) = split_first(rest) {
-        match next(state, c) {
-            Some(after) => state = after,
-            None => return false,
+    match turn(first, place, *c) {
+        NameTurn::Unfit => Ok(false),
+        NameTurn::Goes(next) => push_rest(found, first, next, rest),
+        NameTurn::Gives(c) => {
+            found.push(c)?;
+            push_rest(found, false, Place::Between, rest)
         }
-        rest = more;
-    }
-    may_end(state)
-}
-
-impl WellFormed for Ident {
-    ghost phrase = { ident };
-
-    #[tactic(auto, unfolding(swc_ecma_codegen_ast::specs::NamePhrases::ident, swc_ecma_codegen_ast::specs::Phrases::is_possible))]
-    fn is_well_formed(&self) -> bool {
-        is_name(&self.sym)
     }
 }
 
-impl WellFormed for IdentName {
-    ghost phrase = { ident_name };
-
-    #[tactic(auto, unfolding(swc_ecma_codegen_ast::specs::NamePhrases::ident_name, swc_ecma_codegen_ast::specs::Phrases::is_possible))]
-    fn is_well_formed(&self) -> bool {
-        is_name(&self.sym)
-    }
+/// The characters of a name, its escapes decoded. `None`: the text isn't a name. `AllocError`: a growth was refused.
+/// Section 12.7.1.2.
+#[tactic(auto, unfolding(crate::specs::Names::is_name, crate::specs::Names::name_value, crate::specs::Names::IsSmall))]
+pub fn name_value(alloc: Global, text: &[char]) -> Result<Option<Vec<char>>, AllocError>
+    ensures name { IfOk result (λ value. is_some value ≡ names.is_name text.now) }
+    ensures value { IfOk result (λ value. IfSome value (λ characters. characters.items ≡ names.name_value text.now)) }
+{
+    let mut found = Vec::new(alloc);
+    Ok(push_rest(&mut found, true, Place::Between, text)?.then_some(found))
 }
 
-impl<N> WellFormed for BindingIdent<N> {
-    ghost phrase = { binding_ident };
-
-    #[tactic(auto, unfolding(swc_ecma_codegen_ast::specs::NamePhrases::binding_ident, swc_ecma_codegen_ast::specs::Phrases::is_possible))]
-    fn is_well_formed(&self) -> bool {
-        self.type_ann.is_none() && self.id.is_well_formed()
-    }
-}
-
-impl WellFormed for PrivateName {
-    ghost phrase = { private_name };
-
-    #[tactic(auto, unfolding(swc_ecma_codegen_ast::specs::NamePhrases::private_name, swc_ecma_codegen_ast::specs::Phrases::is_possible))]
-    fn is_well_formed(&self) -> bool {
-        is_name(&self.name)
+/// A private name. Section 12.7.
+#[tactic(auto, unfolding(crate::specs::Names::is_private_name))]
+pub fn is_private_name(text: &[char]) -> bool
+    ensures { result ≡ names.is_private_name text.now }
+{
+    match text {
+        [] => false,
+        [c, rest @ ..] => *c == '#' && is_name(rest),
     }
 }

@@ -1,206 +1,204 @@
-//! Which texts are numeric literals. ECMA-262, sections 12.9.3 and B.1.1.
+//! Which texts are numeric literals, as plain programs. ECMA-262, sections 12.9.3 and B.1.1.
 
-ghost use Rattle.std.specs.Prelude.{◌≡◌, true, false};
-ghost use Rattle.std.specs.Str.{chars};
-ghost use Rattle.swc_ecma_codegen_ast.specs.LitPhrases.{is_digit_of};
-ghost use Rattle.swc_ecma_codegen_ast.specs.Numbers as numbers;
+ghost use Rattle.std.specs.Prelude.{◌≡◌, ◌<◌, true, false, IfSome, IfNone};
+ghost use Rattle.std.specs.Char.{digit_value};
+ghost use Rattle.swc_ecma_codegen_grammar.specs.Numbers as numbers;
 
-use crate::big_integers::is_digit_of;
-use crate::texts::{is_empty, split_first};
-use swc_ecma_codegen_ast::characters::is_digit;
-use swc_ecma_codegen_ast::numerals::{is_either, is_octal};
-use swc_ecma_codegen_tree::Radix;
+use crate::characters::is_digit;
 
-/// The digits of an exponent.
-#[tactic(auto, unfolding(swc_ecma_codegen_ast::specs::Numbers::power))]
-fn is_power(first_due: bool, text: &str) -> bool
-    ensures { result ≡ numbers.power first_due (chars text.now) }
+/// An octal digit.
+#[tactic(auto, unfolding(crate::specs::Numbers::is_octal))]
+pub fn is_octal(c: char) -> bool
+    ensures { result ≡ numbers.is_octal c }
 {
-    let mut rest = text;
-    let mut due = first_due;
-    while let Some((c, more)) = split_first(rest) {
-        if is_digit(c) {
-            due = false;
-        } else {
-            if c != '_' || due {
-                return false;
-            }
-            due = true;
-        }
-        rest = more;
-    }
-    !due
+    '0' <= c && c <= '7'
 }
 
-/// What stands after `e`.
-#[tactic(auto, unfolding(swc_ecma_codegen_ast::specs::Numbers::exponent))]
-fn is_exponent(text: &str) -> bool
-    ensures { result ≡ numbers.exponent (chars text.now) }
+/// A hexadecimal digit.
+#[tactic(auto, unfolding(crate::specs::Numbers::is_hex))]
+pub fn is_hex(c: char) -> bool
+    ensures { result ≡ numbers.is_hex c }
 {
-    match split_first(text) {
-        Some((c, rest)) => {
-            if is_either('+', '-', c) {
-                is_power(true, rest)
+    is_digit(c) || ('A' <= c && c <= 'F') || ('a' <= c && c <= 'f')
+}
+
+/// The value of a hexadecimal digit.
+#[tactic(auto, unfolding(crate::specs::Numbers::is_hex, crate::specs::Chars::is_digit))]
+pub fn hex_digit(c: char) -> Option<u32>
+    ensures digit { IfSome result (λ digit. (numbers.is_hex c ≡ true) × (digit ≡ digit_value c) × (digit < 16)) }
+    ensures none { IfNone result (numbers.is_hex c ≡ false) }
+{
+    c.to_digit(16)
+}
+
+/// A binary digit.
+#[tactic(auto, unfolding(crate::specs::Numbers::is_binary))]
+pub fn is_binary(c: char) -> bool
+    ensures { result ≡ numbers.is_binary c }
+{
+    c == '0' || c == '1'
+}
+
+/// One of two characters.
+#[tactic(auto, unfolding(crate::specs::Numbers::is_either))]
+pub fn is_either(a: char, b: char, c: char) -> bool
+    ensures { result ≡ numbers.is_either a b c }
+{
+    c == a || c == b
+}
+
+#[tactic(auto, unfolding(crate::specs::Numbers::power))]
+fn power(due: bool, text: &[char]) -> bool
+    ensures { result ≡ numbers.power due text.now }
+{
+    match text {
+        [] => !due,
+        [c, rest @ ..] if is_digit(*c) => power(false, rest),
+        [c, rest @ ..] => *c == '_' && !due && power(true, rest),
+    }
+}
+
+#[tactic(auto, unfolding(crate::specs::Numbers::exponent))]
+fn exponent(text: &[char]) -> bool
+    ensures { result ≡ numbers.exponent text.now }
+{
+    match text {
+        [] => false,
+        [c, rest @ ..] if is_either('+', '-', *c) => power(true, rest),
+        [c, rest @ ..] => is_digit(*c) && power(false, rest),
+    }
+}
+
+#[tactic(auto, unfolding(crate::specs::Numbers::fraction))]
+fn fraction(joins: bool, due: bool, text: &[char]) -> bool
+    ensures { result ≡ numbers.fraction joins due text.now }
+{
+    match text {
+        [] => !due,
+        [c, rest @ ..] if is_digit(*c) => fraction(true, false, rest),
+        [c, rest @ ..] if is_either('e', 'E', *c) => !due && exponent(rest),
+        [c, rest @ ..] => *c == '_' && joins && fraction(false, true, rest),
+    }
+}
+
+#[tactic(auto, unfolding(crate::specs::Numbers::integer, crate::specs::Texts::is_empty))]
+fn integer(due: bool, text: &[char]) -> bool
+    ensures { result ≡ numbers.integer due text.now }
+{
+    match text {
+        [] => !due,
+        [c, rest @ ..] if is_digit(*c) => integer(false, rest),
+        [c, rest @ ..] if *c == '_' => !due && integer(true, rest),
+        [c, rest @ ..] if *c == '.' => !due && fraction(false, false, rest),
+        [c, rest @ ..] if is_either('e', 'E', *c) => !due && exponent(rest),
+        [c, rest @ ..] => *c == 'n' && !due && rest.is_empty(),
+    }
+}
+
+#[tactic(auto, unfolding(crate::specs::Numbers::radix, crate::specs::Texts::is_empty))]
+fn hex_digits(due: bool, text: &[char]) -> bool
+    ensures { result ≡ numbers.radix numbers.is_hex due text.now }
+{
+    match text {
+        [] => !due,
+        [c, rest @ ..] if is_hex(*c) => hex_digits(false, rest),
+        [c, rest @ ..] if *c == '_' => !due && hex_digits(true, rest),
+        [c, rest @ ..] => *c == 'n' && !due && rest.is_empty(),
+    }
+}
+
+#[tactic(auto, unfolding(crate::specs::Numbers::radix, crate::specs::Texts::is_empty))]
+fn octal_digits(due: bool, text: &[char]) -> bool
+    ensures { result ≡ numbers.radix numbers.is_octal due text.now }
+{
+    match text {
+        [] => !due,
+        [c, rest @ ..] if is_octal(*c) => octal_digits(false, rest),
+        [c, rest @ ..] if *c == '_' => !due && octal_digits(true, rest),
+        [c, rest @ ..] => *c == 'n' && !due && rest.is_empty(),
+    }
+}
+
+#[tactic(auto, unfolding(crate::specs::Numbers::radix, crate::specs::Texts::is_empty))]
+fn binary_digits(due: bool, text: &[char]) -> bool
+    ensures { result ≡ numbers.radix numbers.is_binary due text.now }
+{
+    match text {
+        [] => !due,
+        [c, rest @ ..] if is_binary(*c) => binary_digits(false, rest),
+        [c, rest @ ..] if *c == '_' => !due && binary_digits(true, rest),
+        [c, rest @ ..] => *c == 'n' && !due && rest.is_empty(),
+    }
+}
+
+#[tactic(auto, unfolding(crate::specs::Numbers::legacy))]
+fn legacy(octal: bool, text: &[char]) -> bool
+    ensures { result ≡ numbers.legacy octal text.now }
+{
+    match text {
+        [] => true,
+        [c, rest @ ..] if is_digit(*c) => legacy(octal && is_octal(*c), rest),
+        [c, rest @ ..] if *c == '.' => !octal && fraction(false, false, rest),
+        [c, rest @ ..] => is_either('e', 'E', *c) && !octal && exponent(rest),
+    }
+}
+
+#[tactic(auto, unfolding(crate::specs::Numbers::after_zero, crate::specs::Texts::is_empty))]
+fn after_zero(text: &[char]) -> bool
+    ensures { result ≡ numbers.after_zero text.now }
+{
+    match text {
+        [] => true,
+        [c, rest @ ..] if is_digit(*c) => legacy(is_octal(*c), rest),
+        [c, rest @ ..] if *c == '.' => fraction(false, false, rest),
+        [c, rest @ ..] if is_either('e', 'E', *c) => exponent(rest),
+        [c, rest @ ..] if is_either('x', 'X', *c) => hex_digits(true, rest),
+        [c, rest @ ..] if is_either('o', 'O', *c) => octal_digits(true, rest),
+        [c, rest @ ..] if is_either('b', 'B', *c) => binary_digits(true, rest),
+        [c, rest @ ..] => *c == 'n' && rest.is_empty(),
+    }
+}
+
+#[tactic(auto, unfolding(crate::specs::Numbers::is_numeric))]
+fn is_numeric(text: &[char]) -> bool
+    ensures { result ≡ numbers.is_numeric text.now }
+{
+    match text {
+        [] => false,
+        [c, rest @ ..] if *c == '0' => after_zero(rest),
+        [c, rest @ ..] if is_digit(*c) => integer(false, rest),
+        [c, rest @ ..] => *c == '.' && fraction(false, true, rest),
+    }
+}
+
+#[tactic(auto, unfolding(crate::specs::Numbers::has_suffix))]
+fn has_suffix(text: &[char]) -> bool
+    ensures { result ≡ numbers.has_suffix text.now }
+{
+    match text {
+        [] => false,
+        [c, rest @ ..] => {
+            if rest.is_empty() {
+                *c == 'n'
             } else {
-                is_digit(c) && is_power(false, rest)
-            }
-        }
-        None => false,
-    }
-}
-
-/// What stands after the dot.
-#[tactic(auto, unfolding(swc_ecma_codegen_ast::specs::Numbers::fraction))]
-fn is_fraction(first_due: bool, text: &str) -> bool
-    ensures { result ≡ numbers.fraction false first_due (chars text.now) }
-{
-    let mut rest = text;
-    let mut joins = false;
-    let mut due = first_due;
-    while let Some((c, more)) = split_first(rest) {
-        if is_digit(c) {
-            joins = true;
-            due = false;
-        } else if is_either('e', 'E', c) {
-            return !due && is_exponent(more);
-        } else {
-            if c != '_' || !joins {
-                return false;
-            }
-            joins = false;
-            due = true;
-        }
-        rest = more;
-    }
-    !due
-}
-
-/// The digits of a decimal integer, and what may come after them.
-#[tactic(auto, unfolding(swc_ecma_codegen_ast::specs::Numbers::integer, swc_ecma_codegen_ast::specs::Texts::is_empty))]
-fn is_integer(text: &str) -> bool
-    ensures { result ≡ numbers.integer false (chars text.now) }
-{
-    let mut rest = text;
-    let mut due = false;
-    while let Some((c, more)) = split_first(rest) {
-        if is_digit(c) {
-            due = false;
-        } else if c == '_' {
-            if due {
-                return false;
-            }
-            due = true;
-        } else if c == '.' {
-            return !due && is_fraction(false, more);
-        } else if is_either('e', 'E', c) {
-            return !due && is_exponent(more);
-        } else {
-            return c == 'n' && !due && is_empty(more);
-        }
-        rest = more;
-    }
-    !due
-}
-
-/// The digits after `0x`, `0o` or `0b`.
-#[tactic(auto, unfolding(swc_ecma_codegen_ast::specs::Numbers::radix, swc_ecma_codegen_ast::specs::Texts::is_empty))]
-fn is_in_radix(radix: Radix, text: &str) -> bool
-    ensures { result ≡ numbers.radix (is_digit_of radix) true (chars text.now) }
-{
-    let mut rest = text;
-    let mut due = true;
-    while let Some((c, more)) = split_first(rest) {
-        if is_digit_of(radix, c) {
-            due = false;
-        } else if c == '_' {
-            if due {
-                return false;
-            }
-            due = true;
-        } else {
-            return c == 'n' && !due && is_empty(more);
-        }
-        rest = more;
-    }
-    !due
-}
-
-/// The digits after a leading zero.
-#[tactic(auto, unfolding(swc_ecma_codegen_ast::specs::Numbers::legacy))]
-fn is_legacy(first_octal: bool, text: &str) -> bool
-    ensures { result ≡ numbers.legacy first_octal (chars text.now) }
-{
-    let mut rest = text;
-    let mut octal = first_octal;
-    while let Some((c, more)) = split_first(rest) {
-        if is_digit(c) {
-            octal = octal && is_octal(c);
-        } else if c == '.' {
-            return !octal && is_fraction(false, more);
-        } else {
-            return is_either('e', 'E', c) && !octal && is_exponent(more);
-        }
-        rest = more;
-    }
-    true
-}
-
-/// What may stand after a leading zero.
-#[tactic(auto, unfolding(swc_ecma_codegen_ast::specs::Numbers::after_zero, swc_ecma_codegen_ast::specs::Texts::is_empty, swc_ecma_codegen_ast::specs::LitPhrases::is_digit_of))]
-fn is_after_zero(text: &str) -> bool
-    ensures { result ≡ numbers.after_zero (chars text.now) }
-{
-    let Some((c, rest)) = split_first(text) else {
-        return true;
-    };
-    match c {
-        _ if is_digit(c) => is_legacy(is_octal(c), rest),
-        '.' => is_fraction(false, rest),
-        _ if is_either('e', 'E', c) => is_exponent(rest),
-        _ if is_either('x', 'X', c) => is_in_radix(Radix::Hex, rest),
-        _ if is_either('o', 'O', c) => is_in_radix(Radix::Octal, rest),
-        _ if is_either('b', 'B', c) => is_in_radix(Radix::Binary, rest),
-        _ => c == 'n' && is_empty(rest),
-    }
-}
-
-/// A numeric literal.
-#[tactic(auto, unfolding(swc_ecma_codegen_ast::specs::Numbers::is_numeric))]
-fn is_numeric(text: &str) -> bool
-    ensures { result ≡ numbers.is_numeric (chars text.now) }
-{
-    match split_first(text) {
-        None => false,
-        Some((c, rest)) => {
-            if c == '0' {
-                is_after_zero(rest)
-            } else if is_digit(c) {
-                is_integer(rest)
-            } else {
-                c == '.' && is_fraction(true, rest)
+                has_suffix(rest)
             }
         }
     }
-}
-
-/// Whether a text ends with `n`.
-#[tactic(auto, using(crate::proofs::LastSuffix::suffix_last), unfolding(crate::specs::Suffixes::ends_with_n))]
-fn has_suffix(text: &str) -> bool
-    ensures { result ≡ numbers.has_suffix (chars text.now) }
-{
-    let mut rest = text;
-    let mut last = false;
-    while let Some((c, more)) = split_first(rest) {
-        last = c == 'n';
-        rest = more;
-    }
-    last
 }
 
 /// A numeric literal without suffix.
-#[tactic(auto, unfolding(swc_ecma_codegen_ast::specs::Numbers::is_number))]
-pub(crate) fn is_number(text: &str) -> bool
-    ensures { result ≡ numbers.is_number (chars text.now) }
+#[tactic(auto, unfolding(crate::specs::Numbers::is_number))]
+pub fn is_number(text: &[char]) -> bool
+    ensures { result ≡ numbers.is_number text.now }
 {
     is_numeric(text) && !has_suffix(text)
+}
+
+/// A numeric literal with the suffix `n`.
+#[tactic(auto, unfolding(crate::specs::Numbers::is_big_integer))]
+pub fn is_big_integer(text: &[char]) -> bool
+    ensures { result ≡ numbers.is_big_integer text.now }
+{
+    is_numeric(text) && has_suffix(text)
 }

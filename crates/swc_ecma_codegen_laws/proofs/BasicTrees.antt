@@ -36,9 +36,9 @@ use Rattle.swc_ecma_codegen_tree.specs.declared.programs.Script.{Script}
 use Rattle.swc_ecma_codegen_tree.specs.declared.programs.Program.TheVariants as program_variants
 use Rattle.swc_ecma_codegen_spans.specs.Spans.{expr_span, stmt_span}
 use Rattle.swc_ecma_codegen_util.specs.Starts as starts
-use Rattle.swc_ecma_codegen_base.specs.Run.{Env, Part, at_maps}
-use Rattle.swc_ecma_codegen_base.specs.Words.{keyword, operator, word_operator, punct, formatting_line, commit_pending_semi, trailing_comments}
-use Rattle.swc_ecma_codegen_base.proofs.Printed.{writes_commit, writes_formatting_line, writes_formatting_space, writes_leading, writes_position, writes_position_before, writes_trailing}
+use Rattle.swc_ecma_codegen_tokens.specs.Run.{Env, Part, at_maps}
+use Rattle.swc_ecma_codegen_tokens.specs.Words.{keyword, operator, word_operator, punct, formatting_line, commit_pending_semi, trailing_comments}
+use Rattle.swc_ecma_codegen_tokens.proofs.Printed.{writes_commit, writes_formatting_line, writes_formatting_space, writes_leading, writes_position, writes_position_before, writes_trailing}
 use Rattle.swc_ecma_codegen.specs.declared.nodes.Place.{Place}
 use Rattle.swc_ecma_codegen.specs.declared.nodes.Place.TheVariants.{Plain, LeftOperand}
 use Rattle.swc_ecma_codegen.specs.Answers.{Answers, any_answers, place_of}

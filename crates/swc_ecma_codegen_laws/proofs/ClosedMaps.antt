@@ -1,9 +1,9 @@
 -- Maps of comments that can be read back.
 use Rattle.std.proofs.Common.{◌≡◌, ◌∙◌, refl, ap, ℕ, Bool, true, false, cond, ◌&&◌, List, [], ◌∷◌, ◌++◌, ◌==◌, Option, Some, None, inl, inr}
 use Rattle.std.proofs.lemmas.Bool.{cases_Bool}
-use Rattle.swc_ecma_codegen_ast.specs.declared.comments.Comment.{Comment}
-use Rattle.swc_ecma_codegen_ast.specs.CommentMaps.{Maps, listed, with, with_leading, with_trailing}
-use Rattle.swc_ecma_codegen_ast.specs.Comments.{AreClosed, all_closed, is_closed, remark_of, remarks_of}
+use Rattle.swc_ecma_codegen_grammar.specs.declared.comments.Comment.{Comment}
+use Rattle.swc_ecma_codegen_grammar.specs.CommentMaps.{Maps, listed, with, with_leading, with_trailing}
+use Rattle.swc_ecma_codegen_grammar.specs.Comments.{AreClosed, all_closed, is_closed, remark_of, remarks_of}
 
 -- those of a list, as what they read as
 abbrev are_closed : List Comment → Bool

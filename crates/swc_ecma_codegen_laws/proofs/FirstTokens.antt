@@ -49,30 +49,30 @@ use Rattle.swc_ecma_codegen_tree.specs.declared.decls.VarDeclKind.{VarDeclKind}
 use Rattle.swc_ecma_codegen_tree.specs.declared.decls.VarDeclKind.TheVariants.{Var, Let, Const}
 use Rattle.swc_ecma_codegen_tree.specs.declared.stmts.Stmt.{Stmt}
 use Rattle.swc_ecma_codegen_tree.specs.declared.stmts.Stmt.TheVariants as stmts
-use Rattle.swc_ecma_codegen_ast.specs.Tokens.{Token}
-use Rattle.swc_ecma_codegen_ast.specs.Tokens as tokens
+use Rattle.swc_ecma_codegen_grammar.specs.Tokens.{Token}
+use Rattle.swc_ecma_codegen_grammar.specs.Tokens as tokens
 use Rattle.swc_ecma_codegen_common.specs.declared.positions.BytePos.{BytePos}
-use Rattle.swc_ecma_codegen_ast.specs.Phrases.{Phrase, Never, Nothing, One, NameOf, KeyOf, PrivateOf, Then, OptionalParentheses, Generates, ◌>◌, mark, open_parenthesis}
-use Rattle.swc_ecma_codegen_ast.specs.Phrases as phrases
-use Rattle.swc_ecma_codegen_ast.specs.Settings.{Settings}
-use Rattle.swc_ecma_codegen_ast.specs.declared.roles.Role.{Role}
-use Rattle.swc_ecma_codegen_ast.specs.declared.roles.Role.TheVariants.{Expression, Statement, MemberExpression, ChainMember, AssignmentTarget, Pattern, PlainParameter, PropertyName, ObjectLiteral, Function, FunctionHead, MethodHead, Block, Declaration, VariableDeclaration, Callee as IsCallee, ChainCall, Template, TaggedTemplate, ClassHead, ClassTail, Member, MethodDecorators, MethodTail, AccessorTail, FieldValue, ModuleDeclaration, ExportedHead, ExportedTail}
-use Rattle.swc_ecma_codegen_ast.specs.NamePhrases as names
-use Rattle.swc_ecma_codegen_ast.specs.ExprPhrases as lists
-use Rattle.swc_ecma_codegen_ast.specs.LitPhrases as lit_lists
-use Rattle.swc_ecma_codegen_ast.specs.AssignPhrases as target_lists
-use Rattle.swc_ecma_codegen_ast.specs.CallPhrases as call_lists
-use Rattle.swc_ecma_codegen_ast.specs.PartPhrases as part_lists
-use Rattle.swc_ecma_codegen_ast.specs.DeclPhrases as decl_lists
-use Rattle.swc_ecma_codegen_ast.specs.FunctionPhrases as function_lists
-use Rattle.swc_ecma_codegen_ast.specs.PatPhrases as pat_lists
-use Rattle.swc_ecma_codegen_ast.specs.KeyPhrases as key_lists
-use Rattle.swc_ecma_codegen_ast.specs.PropPhrases as prop_lists
-use Rattle.swc_ecma_codegen_ast.specs.ClassPhrases as class_lists
-use Rattle.swc_ecma_codegen_ast.specs.TemplatePhrases as template_lists
-use Rattle.swc_ecma_codegen_ast.specs.StmtPhrases as stmt_lists
-use Rattle.swc_ecma_codegen_ast.specs.TreePhrases.{node_phrase, phrase, expr_phrase}
-use Rattle.swc_ecma_codegen_ast.proofs.TreeLaws.{phrase_of}
+use Rattle.swc_ecma_codegen_grammar.specs.Phrases.{Phrase, Never, Nothing, One, NameOf, KeyOf, PrivateOf, Then, OptionalParentheses, Generates, ◌>◌, mark, open_parenthesis}
+use Rattle.swc_ecma_codegen_grammar.specs.Phrases as phrases
+use Rattle.swc_ecma_codegen_grammar.specs.Settings.{Settings}
+use Rattle.swc_ecma_codegen_grammar.specs.declared.roles.Role.{Role}
+use Rattle.swc_ecma_codegen_grammar.specs.declared.roles.Role.TheVariants.{Expression, Statement, MemberExpression, ChainMember, AssignmentTarget, Pattern, PlainParameter, PropertyName, ObjectLiteral, Function, FunctionHead, MethodHead, Block, Declaration, VariableDeclaration, Callee as IsCallee, ChainCall, Template, TaggedTemplate, ClassHead, ClassTail, Member, MethodDecorators, MethodTail, AccessorTail, FieldValue, ModuleDeclaration, ExportedHead, ExportedTail}
+use Rattle.swc_ecma_codegen_grammar.specs.NamePhrases as names
+use Rattle.swc_ecma_codegen_grammar.specs.ExprPhrases as lists
+use Rattle.swc_ecma_codegen_grammar.specs.LitPhrases as lit_lists
+use Rattle.swc_ecma_codegen_grammar.specs.AssignPhrases as target_lists
+use Rattle.swc_ecma_codegen_grammar.specs.CallPhrases as call_lists
+use Rattle.swc_ecma_codegen_grammar.specs.PartPhrases as part_lists
+use Rattle.swc_ecma_codegen_grammar.specs.DeclPhrases as decl_lists
+use Rattle.swc_ecma_codegen_grammar.specs.FunctionPhrases as function_lists
+use Rattle.swc_ecma_codegen_grammar.specs.PatPhrases as pat_lists
+use Rattle.swc_ecma_codegen_grammar.specs.KeyPhrases as key_lists
+use Rattle.swc_ecma_codegen_grammar.specs.PropPhrases as prop_lists
+use Rattle.swc_ecma_codegen_grammar.specs.ClassPhrases as class_lists
+use Rattle.swc_ecma_codegen_grammar.specs.TemplatePhrases as template_lists
+use Rattle.swc_ecma_codegen_grammar.specs.StmtPhrases as stmt_lists
+use Rattle.swc_ecma_codegen_grammar.specs.TreePhrases.{node_phrase, phrase, expr_phrase}
+use Rattle.swc_ecma_codegen_grammar.proofs.TreeLaws.{phrase_of}
 use Rattle.swc_ecma_codegen_util.specs.Starts.{is_word_op, lit_starts, update_starts, first_starts, only_starts, arrow_starts, chain_starts, expr_starts, prop_name_starts, pat_starts, stmt_part_starts, simple_target_starts, target_starts, expr_part_starts, stmt_starts, node_starts, any_starts, callee_starts}
 use Rattle.swc_ecma_codegen_util.proofs.Begins.{starts_of}
 use Rattle.swc_ecma_codegen_laws.specs.FirstTokens.{joins_a_word}

@@ -7,16 +7,16 @@ use Rattle.swc_ecma_codegen_tree.specs.declared.exprs.MemberExpr.{MemberExpr}
 use Rattle.swc_ecma_codegen_tree.specs.declared.parts.ExprPart.{ExprPart}
 use Rattle.swc_ecma_codegen_tree.specs.declared.parts.ExprPart.TheVariants as expr_parts
 use Rattle.swc_ecma_codegen_tree.specs.declared.pats.AssignTarget.{AssignTarget}
-use Rattle.swc_ecma_codegen_ast.specs.ExprPhrases.{member_expr}
-use Rattle.swc_ecma_codegen_ast.specs.AssignPhrases as target_lists
-use Rattle.swc_ecma_codegen_ast.specs.PartPhrases as part_lists
-use Rattle.swc_ecma_codegen_ast.specs.Phrases.{Phrase}
-use Rattle.swc_ecma_codegen_ast.specs.TreePhrases.{node_phrase, phrase}
-use Rattle.swc_ecma_codegen_ast.specs.declared.roles.Role.TheVariants.{MemberExpression, AssignmentTarget}
-use Rattle.swc_ecma_codegen_ast.proofs.TreeLaws.{phrase_member_expr, phrase_expr_part}
+use Rattle.swc_ecma_codegen_grammar.specs.ExprPhrases.{member_expr}
+use Rattle.swc_ecma_codegen_grammar.specs.AssignPhrases as target_lists
+use Rattle.swc_ecma_codegen_grammar.specs.PartPhrases as part_lists
+use Rattle.swc_ecma_codegen_grammar.specs.Phrases.{Phrase}
+use Rattle.swc_ecma_codegen_grammar.specs.TreePhrases.{node_phrase, phrase}
+use Rattle.swc_ecma_codegen_grammar.specs.declared.roles.Role.TheVariants.{MemberExpression, AssignmentTarget}
+use Rattle.swc_ecma_codegen_grammar.proofs.TreeLaws.{phrase_member_expr, phrase_expr_part}
 use Rattle.swc_ecma_codegen_util.specs.declared.config.Config.{Config}
-use Rattle.swc_ecma_codegen_base.specs.Run.{Env, Part, State, Follows, nothing}
-use Rattle.swc_ecma_codegen_base.specs.Written.{AddsText, taken_remarks}
+use Rattle.swc_ecma_codegen_tokens.specs.Run.{Env, Part, State, Follows, nothing}
+use Rattle.swc_ecma_codegen_tokens.specs.Written.{AddsText, taken_remarks}
 use Rattle.swc_ecma_codegen.specs.declared.nodes.Place.{Place}
 use Rattle.swc_ecma_codegen.specs.declared.nodes.Place.TheVariants.{Plain}
 use Rattle.swc_ecma_codegen.specs.Exprs.{member, member_at}

@@ -4,23 +4,23 @@ use Rattle.std.proofs.lemmas.Bool.{cases_Bool, false_from_ne_true, or_from, true
 use Rattle.std.specs.Str.{chars}
 use Rattle.swc_ecma_codegen_common.specs.declared.positions.Span.{Span}
 use Rattle.swc_ecma_codegen_spans.specs.Spans.{dummy_span}
-use Rattle.swc_ecma_codegen_ast.specs.declared.kinds.Kind.TheVariants.{Word, Name, Punctuator, Ending}
-use Rattle.swc_ecma_codegen_ast.specs.CommentMaps.{Maps}
-use Rattle.swc_ecma_codegen_ast.specs.Tokens as lexical
-use Rattle.swc_ecma_codegen_ast.specs.ValidNames.{turned}
+use Rattle.swc_ecma_codegen_grammar.specs.declared.kinds.Kind.TheVariants.{Word, Name, Punctuator, Ending}
+use Rattle.swc_ecma_codegen_grammar.specs.CommentMaps.{Maps}
+use Rattle.swc_ecma_codegen_grammar.specs.Tokens as lexical
+use Rattle.swc_ecma_codegen_grammar.specs.ValidNames.{turned}
 use Rattle.swc_ecma_codegen_text_writer.specs.Sheet.{Semi, Keyword, Operator, Symbol, Punct}
 use Rattle.swc_ecma_codegen_literals.specs.AsciiNames.{is_ascii_text, is_out_of_target}
-use Rattle.swc_ecma_codegen_base.specs.Run.{Env, Plan, Part, State, Step, Guard, Token, Remake, done, at_maps, maps_after, step, steps_of, steps_in, nothing, unprintable_in, makes_text, has_backslash, IsUnhindered}
-use Rattle.swc_ecma_codegen_base.specs.Targets.{wants_escapes, in_ascii, is_out_name}
-use Rattle.swc_ecma_codegen_base.specs.Words.{keyword, operator, word_operator, punct, semi, symbol, spelled_symbol, valid_symbol, name_text, question, name}
-use Rattle.swc_ecma_codegen_base.specs.Ready.{IsReady}
-use Rattle.swc_ecma_codegen_base.specs.Written.{Spot}
-use Rattle.swc_ecma_codegen_base.proofs.Levels.{levels, rise, levels_append, stays_within}
-use Rattle.swc_ecma_codegen_base.proofs.Shapes.{Shape}
-use Rattle.swc_ecma_codegen_base.proofs.Spelled.{spelled_same}
-use Rattle.swc_ecma_codegen_base.proofs.PartSteps.{steps_of_chain}
+use Rattle.swc_ecma_codegen_tokens.specs.Run.{Env, Plan, Part, State, Step, Guard, Token, Remake, done, at_maps, maps_after, step, steps_of, steps_in, nothing, unprintable_in, makes_text, has_backslash, IsUnhindered}
+use Rattle.swc_ecma_codegen_tokens.specs.Targets.{wants_escapes, in_ascii, is_out_name}
+use Rattle.swc_ecma_codegen_tokens.specs.Words.{keyword, operator, word_operator, punct, semi, symbol, spelled_symbol, valid_symbol, name_text, question, name}
+use Rattle.swc_ecma_codegen_tokens.specs.Ready.{IsReady}
+use Rattle.swc_ecma_codegen_tokens.specs.Written.{Spot}
+use Rattle.swc_ecma_codegen_tokens.proofs.Levels.{levels, rise, levels_append, stays_within}
+use Rattle.swc_ecma_codegen_tokens.proofs.Shapes.{Shape}
+use Rattle.swc_ecma_codegen_tokens.proofs.Spelled.{spelled_same}
+use Rattle.swc_ecma_codegen_tokens.proofs.PartSteps.{steps_of_chain}
 use Rattle.swc_ecma_codegen_laws.specs.Basic.{TakesNoMemory}
-use Rattle.swc_ecma_codegen_base.proofs.Printed.{chain, chain_append, env_after, maps_append, remakes_append, MakesWithinOn, writes_position, writes_commit, writes_leading}
+use Rattle.swc_ecma_codegen_tokens.proofs.Printed.{chain, chain_append, env_after, maps_append, remakes_append, MakesWithinOn, writes_position, writes_commit, writes_leading}
 
 -- A part is these steps, whatever comes after it; no text of theirs is made anew, and none of them makes the indentation deeper.
 pub record QuietFrom (env : Env) (part : Part) : Type 0 where

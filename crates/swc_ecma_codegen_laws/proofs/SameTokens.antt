@@ -1,22 +1,22 @@
 -- Two emissions of one tree under the same settings.
 use Rattle.std.proofs.Common.{◌≡◌, ℕ, Bool, true, false, not, refl, sym, ap, ◌∙◌, subst, List, [], ◌∷◌, ◌++◌, Ok}
 use Rattle.std.proofs.lemmas.Bool.{not-false}
-use Rattle.swc_ecma_codegen_ast.specs.Layouts.{AreAlike, Alongside, leaves_open}
-use Rattle.swc_ecma_codegen_ast.specs.Phrases.{Phrase, Nothing, One, ◌>◌, Generates}
-use Rattle.swc_ecma_codegen_ast.specs.Settings.{Settings}
-use Rattle.swc_ecma_codegen_ast.specs.Comments.{AreClosed}
-use Rattle.swc_ecma_codegen_ast.specs.Tokens.{Token}
-use Rattle.swc_ecma_codegen_ast.specs.Trivia.{Remark}
-use Rattle.swc_ecma_codegen_ast.proofs.LayoutLaws.{alongside, one_list}
+use Rattle.swc_ecma_codegen_grammar.specs.Layouts.{AreAlike, Alongside, leaves_open}
+use Rattle.swc_ecma_codegen_grammar.specs.Phrases.{Phrase, Nothing, One, ◌>◌, Generates}
+use Rattle.swc_ecma_codegen_grammar.specs.Settings.{Settings}
+use Rattle.swc_ecma_codegen_grammar.specs.Comments.{AreClosed}
+use Rattle.swc_ecma_codegen_grammar.specs.Tokens.{Token}
+use Rattle.swc_ecma_codegen_grammar.specs.Trivia.{Remark}
+use Rattle.swc_ecma_codegen_grammar.proofs.LayoutLaws.{alongside, one_list}
 use Rattle.swc_ecma_codegen_util.specs.declared.config.Config.{Config}
-use Rattle.swc_ecma_codegen_base.specs.Run.{State, Step, Follows, nothing, run, steps_of}
-use Rattle.swc_ecma_codegen_base.specs.Settings.{settings_of}
-use Rattle.swc_ecma_codegen_base.specs.Written.{ReadsAs, AddsReading, AddsText, taken_remarks}
+use Rattle.swc_ecma_codegen_tokens.specs.Run.{State, Step, Follows, nothing, run, steps_of}
+use Rattle.swc_ecma_codegen_tokens.specs.Settings.{settings_of}
+use Rattle.swc_ecma_codegen_tokens.specs.Written.{ReadsAs, AddsReading, AddsText, taken_remarks}
 use Rattle.swc_ecma_codegen.specs.Roots.{Root, root_items, root_phrase, is_well_formed_root, MayBegin}
-use Rattle.swc_ecma_codegen_base.specs.Targets.{is_out}
-use Rattle.swc_ecma_codegen_base.proofs.Printed.{remarks_by}
-use Rattle.swc_ecma_codegen_base.proofs.Phrased.{laid_reads, made_not_out, new_at_rest, taken_closed}
-use Rattle.swc_ecma_codegen_base.proofs.PartSteps.{steps_of_chain}
+use Rattle.swc_ecma_codegen_tokens.specs.Targets.{is_out}
+use Rattle.swc_ecma_codegen_tokens.proofs.Printed.{remarks_by}
+use Rattle.swc_ecma_codegen_tokens.proofs.Phrased.{laid_reads, made_not_out, new_at_rest, taken_closed}
+use Rattle.swc_ecma_codegen_tokens.proofs.PartSteps.{steps_of_chain}
 use Rattle.swc_ecma_codegen.specs.Roots.{root_hashbang}
 use Rattle.swc_ecma_codegen.proofs.TreeReads.{root_prints, root_reads}
 use Rattle.swc_ecma_codegen_laws.specs.SameTokens.{AddTokensAlike, AddOneList}

@@ -1,7 +1,7 @@
 -- Tokens by the character that they begin with.
 use Rattle.std.specs.Prelude.{Bool, true, false}
-use Rattle.swc_ecma_codegen_ast.specs.declared.kinds.Kind.{Kind}
-use Rattle.swc_ecma_codegen_ast.specs.declared.kinds.Kind.TheVariants.{Word, Name, Number, BigInt}
+use Rattle.swc_ecma_codegen_grammar.specs.declared.kinds.Kind.{Kind}
+use Rattle.swc_ecma_codegen_grammar.specs.declared.kinds.Kind.TheVariants.{Word, Name, Number, BigInt}
 
 -- words, names and numbers begin with a character that a name may hold, and so may become one with a word before them
 unfoldable pub joins_a_word : Kind → Bool

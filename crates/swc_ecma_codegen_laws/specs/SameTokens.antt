@@ -1,10 +1,10 @@
 -- What two emissions of one tree write.
 use Rattle.std.specs.Prelude.{◌≡◌, List}
-use Rattle.swc_ecma_codegen_ast.specs.Layouts.{Alongside}
-use Rattle.swc_ecma_codegen_ast.specs.Phrases.{Phrase}
-use Rattle.swc_ecma_codegen_ast.specs.Trivia.{Remark}
-use Rattle.swc_ecma_codegen_base.specs.Settings.{settings_of}
-use Rattle.swc_ecma_codegen_base.specs.Written.{AddsReading}
+use Rattle.swc_ecma_codegen_grammar.specs.Layouts.{Alongside}
+use Rattle.swc_ecma_codegen_grammar.specs.Phrases.{Phrase}
+use Rattle.swc_ecma_codegen_grammar.specs.Trivia.{Remark}
+use Rattle.swc_ecma_codegen_tokens.specs.Settings.{settings_of}
+use Rattle.swc_ecma_codegen_tokens.specs.Written.{AddsReading}
 use Rattle.swc_ecma_codegen_text_writer.specs.Sheet.{Sheet}
 use Rattle.swc_ecma_codegen_util.specs.declared.config.Config.{Config}
 

@@ -14,27 +14,27 @@ ghost use Rattle.swc_ecma_codegen_tree.specs.declared.links.AnyNode.{AnyNode};
 ghost use Rattle.swc_ecma_codegen_tree.specs.declared.lits.Str.{Str};
 ghost use Rattle.swc_ecma_codegen_tree.specs.declared.modules.ImportDecl.{ImportDecl};
 ghost use Rattle.swc_ecma_codegen_util.specs.declared.config.Config.{Config};
-ghost use Rattle.swc_ecma_codegen_ast.specs.Tokens.{Token};
-ghost use Rattle.swc_ecma_codegen_ast.specs.Phrases.{Phrase, Generates};
-ghost use Rattle.swc_ecma_codegen_ast.specs.Settings.{Settings};
-ghost use Rattle.swc_ecma_codegen_ast.specs.Layouts.{AreAlike, Alongside, AreSameBut, IsWritten, leaves_open};
-ghost use Rattle.swc_ecma_codegen_ast.specs.TemplatePhrases.{is_counted};
-ghost use Rattle.swc_ecma_codegen_ast.specs.TreePhrases.{expr_phrase};
+ghost use Rattle.swc_ecma_codegen_grammar.specs.Tokens.{Token};
+ghost use Rattle.swc_ecma_codegen_grammar.specs.Phrases.{Phrase, Generates};
+ghost use Rattle.swc_ecma_codegen_grammar.specs.Settings.{Settings};
+ghost use Rattle.swc_ecma_codegen_grammar.specs.Layouts.{AreAlike, Alongside, AreSameBut, IsWritten, leaves_open};
+ghost use Rattle.swc_ecma_codegen_grammar.specs.TemplatePhrases.{is_counted};
+ghost use Rattle.swc_ecma_codegen_grammar.specs.TreePhrases.{expr_phrase};
 ghost use Rattle.swc_ecma_codegen_text_writer.specs.Sheet.{HoldsNone};
 ghost use Rattle.swc_ecma_codegen_text_writer.specs.View.{new_sheet};
-ghost use Rattle.swc_ecma_codegen_base.specs.declared.refusals.Unprintable.TheVariants.{BadShape, NameOutOfTarget};
-ghost use Rattle.swc_ecma_codegen_ast.specs.SourceLines.{Lines};
-ghost use Rattle.swc_ecma_codegen_ast.specs.CommentMaps.{Maps, with_leading, with_trailing};
-ghost use Rattle.swc_ecma_codegen_ast.specs.Comments.{is_closed, remark_of, AreClosed};
-ghost use Rattle.swc_ecma_codegen_ast.specs.declared.comments.Comment.{Comment};
-ghost use Rattle.swc_ecma_codegen_base.specs.Run.{Env, Follows, Plan, State, nothing, refused, makes_text, spoken, start, steps_in, steps_of, unprintable_in};
-ghost use Rattle.swc_ecma_codegen_base.specs.Lits.{prints_raw, string_at, value_text};
-ghost use Rattle.swc_ecma_codegen_base.specs.Scripts.{value_strings};
-ghost use Rattle.swc_ecma_codegen_base.specs.Targets.{is_out};
-ghost use Rattle.swc_ecma_codegen_ast.specs.Trivia.{Remark};
-ghost use Rattle.swc_ecma_codegen_base.specs.Settings.{settings_of};
-ghost use Rattle.swc_ecma_codegen_base.specs.Written.{IsLineEnd, IsNew, ReadsAs, all_indent, taken_remarks};
-ghost use Rattle.swc_ecma_codegen_base.specs.Ready.{IsReady};
+ghost use Rattle.swc_ecma_codegen_tokens.specs.declared.refusals.Unprintable.TheVariants.{BadShape, NameOutOfTarget};
+ghost use Rattle.swc_ecma_codegen_grammar.specs.SourceLines.{Lines};
+ghost use Rattle.swc_ecma_codegen_grammar.specs.CommentMaps.{Maps, with_leading, with_trailing};
+ghost use Rattle.swc_ecma_codegen_grammar.specs.Comments.{is_closed, remark_of, AreClosed};
+ghost use Rattle.swc_ecma_codegen_grammar.specs.declared.comments.Comment.{Comment};
+ghost use Rattle.swc_ecma_codegen_tokens.specs.Run.{Env, Follows, Plan, State, nothing, refused, makes_text, spoken, start, steps_in, steps_of, unprintable_in};
+ghost use Rattle.swc_ecma_codegen_tokens.specs.Lits.{prints_raw, string_at, value_text};
+ghost use Rattle.swc_ecma_codegen_tokens.specs.Scripts.{value_strings};
+ghost use Rattle.swc_ecma_codegen_tokens.specs.Targets.{is_out};
+ghost use Rattle.swc_ecma_codegen_grammar.specs.Trivia.{Remark};
+ghost use Rattle.swc_ecma_codegen_tokens.specs.Settings.{settings_of};
+ghost use Rattle.swc_ecma_codegen_tokens.specs.Written.{IsLineEnd, IsNew, ReadsAs, all_indent, taken_remarks};
+ghost use Rattle.swc_ecma_codegen_tokens.specs.Ready.{IsReady};
 ghost use Rattle.swc_ecma_codegen_util.specs.Starts.{expr_starts, any_starts};
 ghost use Rattle.swc_ecma_codegen.specs.declared.nodes.Place.TheVariants.{Plain};
 ghost use Rattle.swc_ecma_codegen.specs.Answers.{any_answers};
@@ -43,8 +43,8 @@ ghost use Rattle.swc_ecma_codegen.specs.Modules.{is_crowded, import_decl};
 ghost use Rattle.swc_ecma_codegen.specs.Stmts.{stmt as stmt_items};
 ghost use Rattle.swc_ecma_codegen.specs.Templates.{tpl};
 ghost use Rattle.swc_ecma_codegen.specs.Tree.{any_items};
-ghost use Rattle.swc_ecma_codegen_base.specs.Escapes.{may_make_text};
-ghost use Rattle.swc_ecma_codegen_base.specs.Ascii.{other_texts, may_keep_other, WantsAscii};
+ghost use Rattle.swc_ecma_codegen_tokens.specs.Escapes.{may_make_text};
+ghost use Rattle.swc_ecma_codegen_tokens.specs.Ascii.{other_texts, may_keep_other, WantsAscii};
 ghost use Rattle.swc_ecma_codegen.specs.Roots.{Root, OfExpr, OfStmt, root_items, root_phrase, root_hashbang, is_well_formed_root, MayBegin};
 ghost use Rattle.swc_ecma_codegen_laws.specs.FirstTokens.{joins_a_word};
 ghost use Rattle.swc_ecma_codegen_laws.specs.SameTokens.{AddTokensAlike, AddOneList};
@@ -57,7 +57,7 @@ pub use crate::links::{
     emitted_box_reads, emitted_link_reads, emitted_option_reads, emitted_ref_reads,
     links_write_members, links_write_targets, links_write_their_roots,
 };
-pub use swc_ecma_codegen_ast::reading_laws::{
+pub use swc_ecma_codegen_grammar::reading_laws::{
     one_reading, reduced_tokens_read, spaced_tokens_read,
 };
 use swc_ecma_codegen_tree::Expr;
@@ -122,7 +122,7 @@ pub fn plain_trees_keep_no_other_text()
 
 /// A string literal is printed by its value exactly where its raw isn't printed: it is one of the strings that the clause
 /// `inline` of `emit_with` speaks of.
-#[tactic(auto, using(swc_ecma_codegen_base::proofs::StringPrints::value_strings_told))]
+#[tactic(auto, using(swc_ecma_codegen_tokens::proofs::StringPrints::value_strings_told))]
 pub fn strings_by_value_are_told()
     ensures { (env : Env) (in_lit : Bool) (n : Str) → value_strings (steps_of (string_at in_lit n nothing env)) ≡ (if prints_raw env.config n then [] else value_text env.config (string_bytes n.value) ∷ []) }
 {}

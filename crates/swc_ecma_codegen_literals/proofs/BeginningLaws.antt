@@ -4,14 +4,14 @@ use Rattle.std.specs.List.{list_any}
 use Rattle.std.specs.Str.{IsAscii, chars}
 use Rattle.std.proofs.lemmas.Bool.{and_parts, cases_Bool, cond-false, eqb-true, false≢true, not-true, or_left, or_right}
 use Rattle.swc_ecma_codegen_common.specs.declared.versions.EsVersion.{EsVersion}
-use Rattle.swc_ecma_codegen_ast.specs.Chars.{begins_digit, is_digit, is_quote, is_start}
-use Rattle.swc_ecma_codegen_ast.specs.Names.{fits, is_name, name_rest}
-use Rattle.swc_ecma_codegen_ast.specs.Numbers.{is_big_integer, is_number, is_numeric}
-use Rattle.swc_ecma_codegen_ast.specs.Strings.{is_string}
-use Rattle.swc_ecma_codegen_ast.specs.Texts.{begins}
-use Rattle.swc_ecma_codegen_ast.specs.declared.names.Place.TheVariants.{Between, Escaped}
-use Rattle.swc_ecma_codegen_ast.proofs.NumberShapes.{big_numeric, number_head, number_numeric, some_number}
-use Rattle.swc_ecma_codegen_ast.proofs.StringShapes.{some_string, string_head}
+use Rattle.swc_ecma_codegen_grammar.specs.Chars.{begins_digit, is_digit, is_quote, is_start}
+use Rattle.swc_ecma_codegen_grammar.specs.Names.{fits, is_name, name_rest}
+use Rattle.swc_ecma_codegen_grammar.specs.Numbers.{is_big_integer, is_number, is_numeric}
+use Rattle.swc_ecma_codegen_grammar.specs.Strings.{is_string}
+use Rattle.swc_ecma_codegen_grammar.specs.Texts.{begins}
+use Rattle.swc_ecma_codegen_grammar.specs.declared.names.Place.TheVariants.{Between, Escaped}
+use Rattle.swc_ecma_codegen_grammar.proofs.NumberShapes.{big_numeric, number_head, number_numeric, some_number}
+use Rattle.swc_ecma_codegen_grammar.proofs.StringShapes.{some_string, string_head}
 use Rattle.swc_ecma_codegen_literals.specs.AsciiNames.{ascii_name, is_ascii_text, is_plain, is_quoted_key, lower_unit_escape, name_escape, name_escapes, wants_quotes}
 use Rattle.swc_ecma_codegen_literals.specs.Beginnings.{begins_name, begins_numeric, begins_quoted}
 use Rattle.swc_ecma_codegen_literals.specs.StringTexts.{braced_escape, code_escape, hex_escape, pair_escape, unit_escape, up_to_es5}

@@ -8,11 +8,11 @@ use Rattle.std.proofs.lemmas.Str.{IsAscii-append, IsUtf8-string_bytes, chars-IsA
 use Rattle.swc_ecma_codegen_tree.specs.declared.lits.BigInt.{BigInt}
 use Rattle.swc_ecma_codegen_tree.specs.declared.lits.Radix.{Radix}
 use Rattle.swc_ecma_codegen_tree.specs.declared.lits.Radix.TheVariants.{Binary, Octal, Decimal as Ten, Hex}
-use Rattle.swc_ecma_codegen_ast.specs.Chars.{begins_digit, is_digit}
-use Rattle.swc_ecma_codegen_ast.specs.Texts.{is_empty}
-use Rattle.swc_ecma_codegen_ast.specs.Numbers.{after_zero, big_digits, digits_in, has_suffix, integer, is_big_integer, is_binary, is_either, is_hex, is_numeric, is_octal, radix, radix_of}
-use Rattle.swc_ecma_codegen_ast.proofs.Conditions.{else_so, then_so}
-use Rattle.swc_ecma_codegen_ast.specs.LitPhrases.{are_digits, has_no_leading_zero, is_digit_of, radix_number}
+use Rattle.swc_ecma_codegen_grammar.specs.Chars.{begins_digit, is_digit}
+use Rattle.swc_ecma_codegen_grammar.specs.Texts.{is_empty}
+use Rattle.swc_ecma_codegen_grammar.specs.Numbers.{after_zero, big_digits, digits_in, has_suffix, integer, is_big_integer, is_binary, is_either, is_hex, is_numeric, is_octal, radix, radix_of}
+use Rattle.swc_ecma_codegen_grammar.proofs.Conditions.{else_so, then_so}
+use Rattle.swc_ecma_codegen_grammar.specs.LitPhrases.{are_digits, has_no_leading_zero, is_digit_of, radix_number}
 use Rattle.swc_ecma_codegen_literals.specs.BigIntegers.{IsBigInteger, IsSignedInteger, big_part, big_text, radix_prefix}
 use Rattle.swc_ecma_codegen_literals.specs.NumberTexts.{sign_text}
 use Rattle.swc_ecma_codegen_literals.specs.Separators.{without_underscores}

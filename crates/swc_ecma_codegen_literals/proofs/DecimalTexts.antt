@@ -8,11 +8,11 @@ use Rattle.std.specs.Str.Parse.{digits_value, AllDigits, ParsesUnsigned}
 use Rattle.std.specs.Option.{option_map}
 use Rattle.std.proofs.lemmas.Bool.{and_from, and_parts, not_from_false, cases_Bool, ltb-true, ltb-false, lt-ltb, le-ltb, leb-true, lt-leb, cond-false, cases_lt, false≢true}
 use Rattle.std.proofs.lemmas.Str.{IsAscii-append}
-use Rattle.swc_ecma_codegen_ast.specs.Chars.{is_digit}
-use Rattle.swc_ecma_codegen_ast.specs.Numbers.{is_number, is_numeric, has_suffix}
+use Rattle.swc_ecma_codegen_grammar.specs.Chars.{is_digit}
+use Rattle.swc_ecma_codegen_grammar.specs.Numbers.{is_number, is_numeric, has_suffix}
 use Rattle.swc_ecma_codegen_common.specs.declared.decimals.Decimal.{Decimal}
 use Rattle.swc_ecma_codegen_common.specs.DecimalParts.{is_decimal}
-use Rattle.swc_ecma_codegen_ast.specs.DecimalValues.{size_value, decimal_digits}
+use Rattle.swc_ecma_codegen_grammar.specs.DecimalValues.{size_value, decimal_digits}
 use Rattle.swc_ecma_codegen_literals.specs.NumberTexts.{plain_size, whole_size, shorter_size, minified_size, sign_text, plain_text, minified_text, SpellsDecimal}
 use Rattle.swc_ecma_codegen_literals.proofs.NumberLiterals.{Spells, fine_suffix, fine_ascii, digits_fine, digits_append, decimal_all, decimal_some, plain_spells, minified_spells}
 use Rattle.swc_ecma_codegen_literals.proofs.Numerals.{zeros_are_digits, zeros_value, value_append}

@@ -7,9 +7,9 @@ use Rattle.std.proofs.lemmas.Bool.{cases_lt, lt-ltb, le-ltb, and_from, ltb-true,
 use Rattle.std.proofs.lemmas.List.Folds.{list_all-append}
 use Rattle.std.proofs.lemmas.Fmt.{digits_is_IsNumeral}
 use Rattle.swc_ecma_codegen_common.specs.declared.versions.EsVersion.{EsVersion}
-use Rattle.swc_ecma_codegen_ast.specs.Numbers.{is_hex}
-use Rattle.swc_ecma_codegen_ast.specs.Chars.{begins_digit, is_digit}
-use Rattle.swc_ecma_codegen_ast.specs.CodeUnits.{escape_length}
+use Rattle.swc_ecma_codegen_grammar.specs.Numbers.{is_hex}
+use Rattle.swc_ecma_codegen_grammar.specs.Chars.{begins_digit, is_digit}
+use Rattle.swc_ecma_codegen_grammar.specs.CodeUnits.{escape_length}
 use Rattle.swc_ecma_codegen_literals.specs.StringTexts.{up_to_es5, below_es5, escape_text, null_escape, backslash_escape, code_escape, hex_escape, unit_escape, pair_escape, braced_escape}
 use Rattle.swc_ecma_codegen_literals.proofs.Numerals.{hex_from_value}
 use Rattle.swc_ecma_codegen_literals.proofs.Fronts.{hex_ascii}

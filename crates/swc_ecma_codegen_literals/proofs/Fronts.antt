@@ -6,9 +6,9 @@ use Rattle.std.proofs.lemmas.List.{nil_from_length}
 use Rattle.std.proofs.lemmas.Bool.{cases_lt, false_from_ne_true, and_parts, leb-true, eqb-true, or_cases, and_right}
 use Rattle.std.proofs.lemmas.Str.{char_from_byte, encode_ascii, chars_from_encodes, len_utf8_bounds, length-encode}
 use lib.Utf8.{encodes}
-use Rattle.swc_ecma_codegen_ast.specs.Chars.{is_digit, begins_digit}
-use Rattle.swc_ecma_codegen_ast.specs.Numbers.{is_hex, is_either}
-use Rattle.swc_ecma_codegen_ast.specs.CodeUnits.{begins_like, is_high_digit, short_escape, long_escape, escape_length}
+use Rattle.swc_ecma_codegen_grammar.specs.Chars.{is_digit, begins_digit}
+use Rattle.swc_ecma_codegen_grammar.specs.Numbers.{is_hex, is_either}
+use Rattle.swc_ecma_codegen_grammar.specs.CodeUnits.{begins_like, is_high_digit, short_escape, long_escape, escape_length}
 
 -- tests that ASCII characters alone pass
 abbrev AllAscii : List (ℕ → Bool) → Type 0

@@ -5,8 +5,8 @@ use Rattle.std.proofs.lemmas.Str.{IsCharBoundary-after_ascii}
 use Rattle.std.proofs.lemmas.List.{take_all, drop_all}
 use Rattle.std.proofs.Math.Seq.{take-suc, drop-cons}
 use Rattle.std.proofs.lemmas.Bool.{cases_Bool, and_parts, ne_eqb, eqb-true}
-use Rattle.swc_ecma_codegen_ast.specs.Numbers.{is_either}
-use Rattle.swc_ecma_codegen_ast.specs.CodeUnits.{begins_like}
+use Rattle.swc_ecma_codegen_grammar.specs.Numbers.{is_either}
+use Rattle.swc_ecma_codegen_grammar.specs.CodeUnits.{begins_like}
 use Rattle.swc_ecma_codegen_literals.specs.InlineScripts.{is_tag_end, comment_start, script_end, ends_apart, opens_apart, closes_apart, dashes_after, inline_text, mark_text, or_stands, marked}
 use Rattle.swc_ecma_codegen_literals.proofs.Fronts.{too_short}
 use Rattle.swc_ecma_codegen_literals.proofs.EscapeTexts.{chosen}

@@ -10,13 +10,13 @@ use Rattle.std.proofs.lemmas.List.Folds.{list_all-append}
 use Rattle.std.proofs.lemmas.Fmt.{digits_is_IsNumeral}
 use lib.Utf8.{scalars, encodes}
 use Rattle.swc_ecma_codegen_common.specs.declared.versions.EsVersion.{EsVersion}
-use Rattle.swc_ecma_codegen_ast.specs.Chars.{begins_digit, is_digit}
-use Rattle.swc_ecma_codegen_ast.specs.Strings.{is_string}
-use Rattle.swc_ecma_codegen_ast.specs.Numbers.{is_hex}
-use Rattle.swc_ecma_codegen_ast.proofs.StrictStrings.{valued_is_string}
-use Rattle.swc_ecma_codegen_ast.specs.CodeUnits.{begins_like, escape_length, short_escape, long_escape, four_digits, units}
-use Rattle.swc_ecma_codegen_ast.specs.declared.units.Place.TheVariants.{Between}
-use Rattle.swc_ecma_codegen_ast.specs.StringValues.{string_value}
+use Rattle.swc_ecma_codegen_grammar.specs.Chars.{begins_digit, is_digit}
+use Rattle.swc_ecma_codegen_grammar.specs.Strings.{is_string}
+use Rattle.swc_ecma_codegen_grammar.specs.Numbers.{is_hex}
+use Rattle.swc_ecma_codegen_grammar.proofs.StrictStrings.{valued_is_string}
+use Rattle.swc_ecma_codegen_grammar.specs.CodeUnits.{begins_like, escape_length, short_escape, long_escape, four_digits, units}
+use Rattle.swc_ecma_codegen_grammar.specs.declared.units.Place.TheVariants.{Between}
+use Rattle.swc_ecma_codegen_grammar.specs.StringValues.{string_value}
 use Rattle.swc_ecma_codegen_literals.specs.StringTexts.{up_to_es5, below_es5, stands, escape_text, null_escape, backslash_escape, code_escape, hex_escape, unit_escape, pair_escape, braced_escape, spelled, spelled_all, quote_of, quoted_text}
 use Rattle.swc_ecma_codegen_literals.specs.InlineScripts.{inline_text, marked, IsInlineSafe}
 use Rattle.swc_ecma_codegen_literals.proofs.EscapeTexts.{chosen, glyph_hex}

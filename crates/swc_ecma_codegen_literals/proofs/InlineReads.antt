@@ -2,13 +2,13 @@
 use Rattle.std.proofs.Common.{◌≡◌, ℕ, zero, suc, ◌+◌, ◌*◌, ◌<◌, ◌≤◌, Bool, true, false, not, ◌&&◌, ◌||◌, ◌==◌, List, [], ◌∷◌, nat_le, refl, sym, ap, ◌∙◌, arith, inl, inr, if◌then◌else◌, Option, None}
 use Rattle.std.specs.Char.{digit_value}
 use Rattle.std.proofs.lemmas.Bool.{cases_Bool, and_parts, or_from, or_parts, eqb-true, ne_eqb, not-true, false≢true}
-use Rattle.swc_ecma_codegen_ast.specs.Chars.{is_digit, begins_digit}
-use Rattle.swc_ecma_codegen_ast.specs.Numbers.{is_hex, is_octal, is_either}
-use Rattle.swc_ecma_codegen_ast.specs.Texts.{is_empty}
-use Rattle.swc_ecma_codegen_ast.specs.CodeUnits.{utf16, begins_like}
-use Rattle.swc_ecma_codegen_ast.specs.declared.units.Place.{Place}
-use Rattle.swc_ecma_codegen_ast.specs.declared.units.Place.TheVariants.{Between, Escaped, Due, Unicode, Braced, Octal, Continued}
-use Rattle.swc_ecma_codegen_ast.specs.StringValues.{before, single_escape, string_rest}
+use Rattle.swc_ecma_codegen_grammar.specs.Chars.{is_digit, begins_digit}
+use Rattle.swc_ecma_codegen_grammar.specs.Numbers.{is_hex, is_octal, is_either}
+use Rattle.swc_ecma_codegen_grammar.specs.Texts.{is_empty}
+use Rattle.swc_ecma_codegen_grammar.specs.CodeUnits.{utf16, begins_like}
+use Rattle.swc_ecma_codegen_grammar.specs.declared.units.Place.{Place}
+use Rattle.swc_ecma_codegen_grammar.specs.declared.units.Place.TheVariants.{Between, Escaped, Due, Unicode, Braced, Octal, Continued}
+use Rattle.swc_ecma_codegen_grammar.specs.StringValues.{before, single_escape, string_rest}
 use Rattle.swc_ecma_codegen_literals.specs.InlineScripts.{is_tag_end, script_end, dashes_after, mark_text, marked}
 use Rattle.swc_ecma_codegen_literals.proofs.StringReads.{IsQuote, Read, escapes, hex_not}
 use Rattle.swc_ecma_codegen_literals.proofs.InlineMarks.{Mark, Stands, Opens, Ends, Closes, view, marked_nil, marked_as}

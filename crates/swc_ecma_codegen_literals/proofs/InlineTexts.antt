@@ -5,8 +5,8 @@ use Rattle.std.specs.List.{list_all}
 use Rattle.std.proofs.lemmas.Bool.{cases_lt, cases_Bool, and_from, and_parts, or_from, eqb-true, ne_eqb, le-leb, leb-true, lt-ltb, false≢true, false_from_ne_true}
 use Rattle.std.proofs.lemmas.Str.{encodes-append, encodes-IsAscii, encode_ascii, chars-encodes, length-encode, len_utf8_bounds, inside_one}
 use lib.Utf8.{encodes, scalars, scalar, low_scalar}
-use Rattle.swc_ecma_codegen_ast.specs.Numbers.{is_either}
-use Rattle.swc_ecma_codegen_ast.specs.CodeUnits.{begins_like}
+use Rattle.swc_ecma_codegen_grammar.specs.Numbers.{is_either}
+use Rattle.swc_ecma_codegen_grammar.specs.CodeUnits.{begins_like}
 use Rattle.swc_ecma_codegen_literals.specs.InlineScripts.{is_tag_end, comment_start, script_end, comment_end, dashes_after, mark_text, marked, holds, IsInlineSafe}
 use Rattle.swc_ecma_codegen_literals.proofs.EscapeTexts.{is_ascii_char}
 use Rattle.swc_ecma_codegen_literals.proofs.SpelledTexts.{ascii_from_all}

@@ -1,10 +1,10 @@
 -- A dot belongs to a decimal integer, and to no other number.
 use Rattle.std.proofs.Common.{◌≡◌, ℕ, Bool, true, false, not, cond, List, [], ◌∷◌, ◌++◌, ◌&&◌, ◌==◌, nat_lt, nat_le, refl, sym, ◌∙◌, ap, arith, inl, inr}
 use Rattle.std.proofs.lemmas.Bool.{and_parts, and_from, cases_Bool, eqb-true, leb-true, lt-ltb}
-use Rattle.swc_ecma_codegen_ast.specs.Chars.{is_digit}
-use Rattle.swc_ecma_codegen_ast.specs.Texts.{is_empty}
-use Rattle.swc_ecma_codegen_ast.specs.Numbers as numbers
-use Rattle.swc_ecma_codegen_ast.specs.Numbers.{is_octal, is_hex, is_binary, is_either, power, exponent, fraction, integer, radix, legacy, is_numeric, takes_dot}
+use Rattle.swc_ecma_codegen_grammar.specs.Chars.{is_digit}
+use Rattle.swc_ecma_codegen_grammar.specs.Texts.{is_empty}
+use Rattle.swc_ecma_codegen_grammar.specs.Numbers as numbers
+use Rattle.swc_ecma_codegen_grammar.specs.Numbers.{is_octal, is_hex, is_binary, is_either, power, exponent, fraction, integer, radix, legacy, is_numeric, takes_dot}
 use Rattle.swc_ecma_codegen_literals.specs.AsciiNames.{is_ascii_text}
 use Rattle.swc_ecma_codegen_literals.specs.Integers.{digits, decimal, after_zero, is_integer}
 

@@ -4,15 +4,15 @@ use Rattle.std.proofs.lemmas.Bool.{and_from, and_parts, cases_Bool, false_from_n
 use Rattle.std.specs.Char.{digit_value}
 use Rattle.std.specs.List.{list_all}
 use lib.Utf8.{scalar, scalar_cases, scalars}
-use Rattle.swc_ecma_codegen_ast.specs.Chars.{is_digit, is_scalar}
-use Rattle.swc_ecma_codegen_ast.specs.Names as names
-use Rattle.swc_ecma_codegen_ast.specs.Names.{all_part, fits, fits_code, is_name, is_word, name_value}
-use Rattle.swc_ecma_codegen_ast.specs.Numbers.{is_hex}
-use Rattle.swc_ecma_codegen_ast.specs.StringValues.{before}
-use Rattle.swc_ecma_codegen_ast.specs.declared.names.Place.{Place}
-use Rattle.swc_ecma_codegen_ast.specs.declared.names.Place.TheVariants.{Between, Braced, Escaped, One, Three, Two, Unicode}
-use Rattle.swc_ecma_codegen_ast.specs.declared.units.Place as strings
-use Rattle.swc_ecma_codegen_ast.specs.declared.units.Place.TheVariants as units
+use Rattle.swc_ecma_codegen_grammar.specs.Chars.{is_digit, is_scalar}
+use Rattle.swc_ecma_codegen_grammar.specs.Names as names
+use Rattle.swc_ecma_codegen_grammar.specs.Names.{all_part, fits, fits_code, is_name, is_word, name_value}
+use Rattle.swc_ecma_codegen_grammar.specs.Numbers.{is_hex}
+use Rattle.swc_ecma_codegen_grammar.specs.StringValues.{before}
+use Rattle.swc_ecma_codegen_grammar.specs.declared.names.Place.{Place}
+use Rattle.swc_ecma_codegen_grammar.specs.declared.names.Place.TheVariants.{Between, Braced, Escaped, One, Three, Two, Unicode}
+use Rattle.swc_ecma_codegen_grammar.specs.declared.units.Place as strings
+use Rattle.swc_ecma_codegen_grammar.specs.declared.units.Place.TheVariants as units
 use Rattle.swc_ecma_codegen_literals.proofs.NameDecoder.{name_characters, name_rest}
 use Rattle.swc_ecma_codegen_literals.proofs.StringReads.{hex_not}
 

@@ -5,14 +5,14 @@ use Rattle.std.specs.List.{list_all}
 use Rattle.std.proofs.lemmas.Bool.{cases_lt, cases_Bool, lt-ltb, le-ltb, and_from, and_parts, or_from, not-true, not_from_false, ne_eqb, eqb-true, false≢true}
 use lib.Utf8.{scalars, scalar}
 use Rattle.swc_ecma_codegen_common.specs.declared.versions.EsVersion.{EsVersion}
-use Rattle.swc_ecma_codegen_ast.specs.Chars.{is_digit, is_letter, is_part, is_start, is_quote}
-use Rattle.swc_ecma_codegen_ast.specs.Names.{all_part, is_word}
-use Rattle.swc_ecma_codegen_ast.specs.Numbers.{is_hex, is_either}
-use Rattle.swc_ecma_codegen_ast.specs.Texts.{is_empty}
-use Rattle.swc_ecma_codegen_ast.specs.CodeUnits.{utf16, all_utf16}
-use Rattle.swc_ecma_codegen_ast.specs.declared.units.Place.{Place}
-use Rattle.swc_ecma_codegen_ast.specs.declared.units.Place.TheVariants.{Between, Escaped, Due, Unicode, Braced, Octal, Continued}
-use Rattle.swc_ecma_codegen_ast.specs.StringValues.{before, string_rest, string_value}
+use Rattle.swc_ecma_codegen_grammar.specs.Chars.{is_digit, is_letter, is_part, is_start, is_quote}
+use Rattle.swc_ecma_codegen_grammar.specs.Names.{all_part, is_word}
+use Rattle.swc_ecma_codegen_grammar.specs.Numbers.{is_hex, is_either}
+use Rattle.swc_ecma_codegen_grammar.specs.Texts.{is_empty}
+use Rattle.swc_ecma_codegen_grammar.specs.CodeUnits.{utf16, all_utf16}
+use Rattle.swc_ecma_codegen_grammar.specs.declared.units.Place.{Place}
+use Rattle.swc_ecma_codegen_grammar.specs.declared.units.Place.TheVariants.{Between, Escaped, Due, Unicode, Braced, Octal, Continued}
+use Rattle.swc_ecma_codegen_grammar.specs.StringValues.{before, string_rest, string_value}
 use Rattle.swc_ecma_codegen_literals.specs.StringTexts.{code_escape}
 use Rattle.swc_ecma_codegen_literals.proofs.NameDecoder.{name_rest, name_characters}
 use Rattle.swc_ecma_codegen_literals.specs.AsciiNames.{lower_unit_escape, name_escape, name_escapes}

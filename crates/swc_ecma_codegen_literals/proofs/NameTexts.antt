@@ -8,12 +8,12 @@ use Rattle.std.proofs.lemmas.List.Folds.{list_all-append}
 use Rattle.std.proofs.lemmas.Str.{chars-IsAscii, encodes-IsAscii, encodes-chars, scalars-chars}
 use lib.Utf8.{low_scalar, scalar, scalars}
 use Rattle.swc_ecma_codegen_common.specs.declared.versions.EsVersion.{EsVersion}
-use Rattle.swc_ecma_codegen_ast.specs.Names.{is_name, name_value}
-use Rattle.swc_ecma_codegen_ast.specs.Strings.{is_string}
-use Rattle.swc_ecma_codegen_ast.specs.CodeUnits.{all_utf16}
+use Rattle.swc_ecma_codegen_grammar.specs.Names.{is_name, name_value}
+use Rattle.swc_ecma_codegen_grammar.specs.Strings.{is_string}
+use Rattle.swc_ecma_codegen_grammar.specs.CodeUnits.{all_utf16}
 use Rattle.swc_ecma_codegen_literals.specs.StringTexts.{up_to_es5}
-use Rattle.swc_ecma_codegen_ast.specs.declared.units.Place.TheVariants.{Between}
-use Rattle.swc_ecma_codegen_ast.specs.StringValues.{string_value}
+use Rattle.swc_ecma_codegen_grammar.specs.declared.units.Place.TheVariants.{Between}
+use Rattle.swc_ecma_codegen_grammar.specs.StringValues.{string_value}
 use Rattle.swc_ecma_codegen_literals.proofs.NameBridge.{named_word, same_name, same_value}
 use Rattle.swc_ecma_codegen_literals.proofs.NameDecoder.{name_characters}
 use Rattle.swc_ecma_codegen_literals.specs.AsciiNames.{lower_unit_escape, name_escape, name_escapes, wants_quotes, is_ascii_text, is_quoted_key, is_out_of_target, ascii_name}
@@ -22,7 +22,7 @@ use Rattle.swc_ecma_codegen_literals.proofs.Fronts.{hex_ascii}
 use Rattle.swc_ecma_codegen_literals.proofs.SpelledTexts.{ascii_from_all, scalar_bound}
 use Rattle.swc_ecma_codegen_literals.proofs.NameReads.{fits, named}
 use Rattle.swc_ecma_codegen_literals.proofs.NameStrings.{key_value}
-use Rattle.swc_ecma_codegen_ast.proofs.StrictStrings.{valued_is_string}
+use Rattle.swc_ecma_codegen_grammar.proofs.StrictStrings.{valued_is_string}
 
 -- an ASCII text, by its bytes and by its characters
 all_from : (t : List ℕ) → IsAscii t → is_ascii_text t ≡ true

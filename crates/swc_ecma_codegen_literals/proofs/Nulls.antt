@@ -6,7 +6,7 @@ use Rattle.std.proofs.lemmas.List.{length-take-le}
 use Rattle.std.proofs.lemmas.Str.{IsCharBoundary-after_ascii}
 use Rattle.std.specs.Str.{IsUtf8, IsCharBoundary}
 use Rattle.memchr.specs.Find.{OccursAt, Nowhere, NoneBefore}
-use Rattle.swc_ecma_codegen_ast.specs.ValidNames.{turned_after, turned}
+use Rattle.swc_ecma_codegen_grammar.specs.ValidNames.{turned_after, turned}
 use Rattle.swc_ecma_codegen_literals.specs.ValidNames.{has_byte}
 
 -- a search for a byte

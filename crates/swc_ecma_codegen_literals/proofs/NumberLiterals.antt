@@ -12,11 +12,11 @@ use Rattle.std.proofs.Math.Nat.{mul-one, zero-mul, zero-add, add-zero}
 use Rattle.std.proofs.lemmas.Bool.{and_parts, and_from, leb-true, lt-ltb, ltb-true, or_cases, ne_eqb, false≢true, eqb-true, not_from_false, not-true, cases_Bool, ltb-false}
 use Rattle.std.proofs.lemmas.List.{length-replicate, length-drop, take-append-drop}
 use Rattle.std.proofs.lemmas.List.Folds.{list_all-append}
-use Rattle.swc_ecma_codegen_ast.specs.Chars.{is_digit}
-use Rattle.swc_ecma_codegen_ast.specs.Numbers.{is_hex, is_either, is_octal, integer, fraction, exponent, after_zero, is_numeric, has_suffix}
+use Rattle.swc_ecma_codegen_grammar.specs.Chars.{is_digit}
+use Rattle.swc_ecma_codegen_grammar.specs.Numbers.{is_hex, is_either, is_octal, integer, fraction, exponent, after_zero, is_numeric, has_suffix}
 use Rattle.swc_ecma_codegen_common.specs.DecimalParts.{is_significand, is_decimal}
-use Rattle.swc_ecma_codegen_ast.specs.NumberValues.{MathValue, times_ten, over_ten, SameValue, digits_after, exponent_value, fraction_value, decimal_value, all_octal, zero_value, numeric_value}
-use Rattle.swc_ecma_codegen_ast.specs.DecimalValues.{size_value}
+use Rattle.swc_ecma_codegen_grammar.specs.NumberValues.{MathValue, times_ten, over_ten, SameValue, digits_after, exponent_value, fraction_value, decimal_value, all_octal, zero_value, numeric_value}
+use Rattle.swc_ecma_codegen_grammar.specs.DecimalValues.{size_value}
 use Rattle.swc_ecma_codegen_literals.specs.NumberTexts.{with_point, plain_size, short_whole, short_fraction, short_size, whole_size, hexadecimal_size, shorter_size, minified_size}
 use Rattle.swc_ecma_codegen_literals.proofs.Numerals.{integer_run, fraction_start, power_start, exponent_run, radix_start, decimal_value_run, fraction_value_run, digits_after_run, value_append, zeros_are_digits, zeros_value, digits_hex, decimal_writes, hex_writes}
 

@@ -4,10 +4,10 @@ use Rattle.std.specs.Str.{chars}
 use Rattle.std.proofs.lemmas.Bool.{and_from, not_from_false}
 use Rattle.std.proofs.lemmas.Str.{IsAscii-append, chars-IsAscii}
 use Rattle.swc_ecma_codegen_common.specs.declared.decimals.Decimal.{Decimal}
-use Rattle.swc_ecma_codegen_ast.specs.Numbers.{has_suffix, is_number, is_numeric}
-use Rattle.swc_ecma_codegen_ast.specs.NumberValues.{exact_value, numeric_value}
-use Rattle.swc_ecma_codegen_ast.proofs.NumberForms.{same_form}
-use Rattle.swc_ecma_codegen_ast.specs.DecimalValues.{decimal_digits, size_value, exact_size}
+use Rattle.swc_ecma_codegen_grammar.specs.Numbers.{has_suffix, is_number, is_numeric}
+use Rattle.swc_ecma_codegen_grammar.specs.NumberValues.{exact_value, numeric_value}
+use Rattle.swc_ecma_codegen_grammar.proofs.NumberForms.{same_form}
+use Rattle.swc_ecma_codegen_grammar.specs.DecimalValues.{decimal_digits, size_value, exact_size}
 use Rattle.swc_ecma_codegen_literals.specs.NumberTexts.{IsSignedSize, IsSizeOf, minified_part, minified_text, plain_part, plain_text, sign_text}
 use Rattle.swc_ecma_codegen_literals.proofs.BeginningLaws.{numeric_begins, numeric_unsigned}
 use Rattle.swc_ecma_codegen_literals.proofs.DecimalTexts.{sign_ascii}

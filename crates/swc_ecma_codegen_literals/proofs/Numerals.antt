@@ -8,9 +8,9 @@ use Rattle.std.proofs.Math.Nat.{pow-succ', mul_assoc, add-zero, mul-one}
 use Rattle.std.proofs.lemmas.Bool.{and_parts, and_from, le-leb, leb-true, cases_lt, lt-ltb, le-ltb, or_left, or_right, ne_eqb}
 use Rattle.std.proofs.lemmas.Str.Parse.{digit_from_value}
 use Rattle.std.proofs.lemmas.Fmt.{decimal_is_IsNumeral, digits_is_IsNumeral}
-use Rattle.swc_ecma_codegen_ast.specs.Chars.{is_digit}
-use Rattle.swc_ecma_codegen_ast.specs.Numbers.{is_hex, is_either, integer, fraction, power, exponent, radix}
-use Rattle.swc_ecma_codegen_ast.specs.NumberValues.{digits_after, fraction_value, decimal_value}
+use Rattle.swc_ecma_codegen_grammar.specs.Chars.{is_digit}
+use Rattle.swc_ecma_codegen_grammar.specs.Numbers.{is_hex, is_either, integer, fraction, power, exponent, radix}
+use Rattle.swc_ecma_codegen_grammar.specs.NumberValues.{digits_after, fraction_value, decimal_value}
 
 -- a run of digits goes on: an integer
 pub integer_run : (ds rest : List ℕ) → list_all is_digit ds ≡ true → integer false (ds ++ rest) ≡ integer false rest

@@ -7,13 +7,13 @@ use Rattle.std.proofs.lemmas.Str.{chars-encodes, encodes-IsAscii}
 use Rattle.std.proofs.lemmas.List.Folds.{list_all-append}
 use lib.Utf8.{scalars, scalar, encodes, low_scalar}
 use Rattle.swc_ecma_codegen_common.specs.declared.versions.EsVersion.{EsVersion}
-use Rattle.swc_ecma_codegen_ast.specs.Chars.{is_quote}
-use Rattle.swc_ecma_codegen_ast.specs.Strings.{is_string}
-use Rattle.swc_ecma_codegen_ast.proofs.StrictStrings.{valued_is_string}
-use Rattle.swc_ecma_codegen_ast.specs.Texts.{is_empty}
-use Rattle.swc_ecma_codegen_ast.specs.CodeUnits.{utf16, escape_length, escape_unit, units_after, units}
-use Rattle.swc_ecma_codegen_ast.specs.declared.units.Place.TheVariants.{Between}
-use Rattle.swc_ecma_codegen_ast.specs.StringValues.{before, string_rest, string_value}
+use Rattle.swc_ecma_codegen_grammar.specs.Chars.{is_quote}
+use Rattle.swc_ecma_codegen_grammar.specs.Strings.{is_string}
+use Rattle.swc_ecma_codegen_grammar.proofs.StrictStrings.{valued_is_string}
+use Rattle.swc_ecma_codegen_grammar.specs.Texts.{is_empty}
+use Rattle.swc_ecma_codegen_grammar.specs.CodeUnits.{utf16, escape_length, escape_unit, units_after, units}
+use Rattle.swc_ecma_codegen_grammar.specs.declared.units.Place.TheVariants.{Between}
+use Rattle.swc_ecma_codegen_grammar.specs.StringValues.{before, string_rest, string_value}
 use Rattle.swc_ecma_codegen_literals.specs.StringTexts.{stands, escape_text, backslash_escape, spelled, spelled_all, quote_of, quoted_text}
 use Rattle.swc_ecma_codegen_literals.proofs.EscapeTexts.{chosen, is_ascii_char, escape_text_ascii}
 use Rattle.swc_ecma_codegen_literals.proofs.SpelledTexts.{scalar_bound, ascii_from_all}

@@ -1,11 +1,11 @@
 -- A number without `_` is a number.
 use Rattle.std.proofs.Common.{Bool, List, [], ap, cond, false, inl, inr, not, refl, sym, true, ℕ, ◌&&◌, ◌==◌, ◌∙◌, ◌∷◌, ◌≡◌, ◌⊎◌}
 use Rattle.std.proofs.lemmas.Bool.{and_from, and_parts, false≢true, ne_eqb}
-use Rattle.swc_ecma_codegen_ast.specs.Chars.{is_digit}
-use Rattle.swc_ecma_codegen_ast.specs.Texts.{is_empty}
-use Rattle.swc_ecma_codegen_ast.specs.Numbers.{after_zero, exponent, fraction, integer, is_binary, is_either, is_hex, is_numeric, is_octal, legacy, power, radix}
+use Rattle.swc_ecma_codegen_grammar.specs.Chars.{is_digit}
+use Rattle.swc_ecma_codegen_grammar.specs.Texts.{is_empty}
+use Rattle.swc_ecma_codegen_grammar.specs.Numbers.{after_zero, exponent, fraction, integer, is_binary, is_either, is_hex, is_numeric, is_octal, legacy, power, radix}
 use Rattle.swc_ecma_codegen_literals.specs.Separators.{without_underscores}
-use Rattle.swc_ecma_codegen_ast.proofs.Conditions.{else_so, then_so}
+use Rattle.swc_ecma_codegen_grammar.proofs.Conditions.{else_so, then_so}
 
 -- ---- a text by its first character
 

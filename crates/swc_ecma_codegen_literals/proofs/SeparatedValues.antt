@@ -2,10 +2,10 @@
 use Rattle.std.proofs.Common.{Bool, List, [], ap, cond, false, inl, inr, not, refl, subst, sym, true, ℕ, ◌*◌, ◌+◌, ◌&&◌, ◌==◌, ◌||◌, ◌∙◌, ◌∷◌, ◌≡◌, if◌then◌else◌, drop}
 use Rattle.std.proofs.lemmas.Bool.{and_from, and_parts, cases_Bool, cond-false, cond-true, eqb-true, false≢true, ne_eqb, or_cases, or_from, or_left, or_right}
 use Rattle.std.specs.Char.{digit_value}
-use Rattle.swc_ecma_codegen_ast.specs.Chars.{is_digit}
-use Rattle.swc_ecma_codegen_ast.specs.Texts.{is_empty}
-use Rattle.swc_ecma_codegen_ast.specs.Numbers.{after_zero, big_digits, digits_in, exponent, fraction, has_suffix, integer, is_big_integer, is_binary, is_either, is_hex, is_number, is_numeric, is_octal, legacy, power, radix, radix_of}
-use Rattle.swc_ecma_codegen_ast.specs.NumberValues.{MathValue, all_octal, decimal_value, digits_after, exponent_value, fraction_value, numeric_value, over_ten, times_ten, zero_value}
+use Rattle.swc_ecma_codegen_grammar.specs.Chars.{is_digit}
+use Rattle.swc_ecma_codegen_grammar.specs.Texts.{is_empty}
+use Rattle.swc_ecma_codegen_grammar.specs.Numbers.{after_zero, big_digits, digits_in, exponent, fraction, has_suffix, integer, is_big_integer, is_binary, is_either, is_hex, is_number, is_numeric, is_octal, legacy, power, radix, radix_of}
+use Rattle.swc_ecma_codegen_grammar.specs.NumberValues.{MathValue, all_octal, decimal_value, digits_after, exponent_value, fraction_value, numeric_value, over_ten, times_ten, zero_value}
 use Rattle.swc_ecma_codegen_literals.specs.Separators.{without_underscores}
 use Rattle.swc_ecma_codegen_literals.proofs.SeparatedNumbers.{digit_stays, dropped, either_stays, ends_in_underscore, if_cases, kept, numeric_end, numeric_without, one_stays}
 

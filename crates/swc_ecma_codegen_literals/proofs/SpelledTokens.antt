@@ -3,13 +3,13 @@ use Rattle.std.proofs.Common.{List, Some, ap, false, ℕ, ◌∙◌, ◌≡◌}
 use Rattle.std.specs.Str.{chars}
 use Rattle.swc_ecma_codegen_common.specs.declared.decimals.Decimal.{Decimal}
 use Rattle.swc_ecma_codegen_tree.specs.declared.lits.Radix.{Radix}
-use Rattle.swc_ecma_codegen_ast.specs.declared.kinds.Kind.TheVariants.{BigInt, Number}
-use Rattle.swc_ecma_codegen_ast.specs.NumberValues.{exact_value}
-use Rattle.swc_ecma_codegen_ast.specs.StringValues.{string_value}
-use Rattle.swc_ecma_codegen_ast.specs.Tokens.{Digits, Exactly, Spells, Units, Value, has_shape, value_of}
-use Rattle.swc_ecma_codegen_ast.specs.LitPhrases.{big_int_token, number_token, string_token}
+use Rattle.swc_ecma_codegen_grammar.specs.declared.kinds.Kind.TheVariants.{BigInt, Number}
+use Rattle.swc_ecma_codegen_grammar.specs.NumberValues.{exact_value}
+use Rattle.swc_ecma_codegen_grammar.specs.StringValues.{string_value}
+use Rattle.swc_ecma_codegen_grammar.specs.Tokens.{Digits, Exactly, Spells, Units, Value, has_shape, value_of}
+use Rattle.swc_ecma_codegen_grammar.specs.LitPhrases.{big_int_token, number_token, string_token}
 use Rattle.swc_ecma_codegen_literals.specs.BigIntegers.{IsBigInteger}
-use Rattle.swc_ecma_codegen_ast.specs.DecimalValues.{exact_size}
+use Rattle.swc_ecma_codegen_grammar.specs.DecimalValues.{exact_size}
 use Rattle.swc_ecma_codegen_literals.specs.NumberTexts.{IsSizeOf}
 use Rattle.swc_ecma_codegen_literals.specs.Separators.{without_underscores}
 use Rattle.swc_ecma_codegen_literals.proofs.SeparatedTexts.{worth_as_much}

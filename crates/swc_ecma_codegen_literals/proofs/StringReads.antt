@@ -6,12 +6,12 @@ use Rattle.std.specs.Str.Parse.{digits_value, digits_value_after, AllDigits, IsN
 use Rattle.std.proofs.lemmas.Fmt.{digits_is_IsNumeral}
 use Rattle.std.proofs.lemmas.Bool.{cases_lt, lt-ltb, le-ltb, le-leb, or_right, ne_eqb, eqb-true, false≢true, cond-true, cond-false}
 use Rattle.swc_ecma_codegen_common.specs.declared.versions.EsVersion.{EsVersion}
-use Rattle.swc_ecma_codegen_ast.specs.Chars.{is_digit, begins_digit}
-use Rattle.swc_ecma_codegen_ast.specs.Numbers.{is_hex, is_octal, is_either}
-use Rattle.swc_ecma_codegen_ast.specs.CodeUnits.{utf16, escape_length}
-use Rattle.swc_ecma_codegen_ast.specs.declared.units.Place.{Place}
-use Rattle.swc_ecma_codegen_ast.specs.declared.units.Place.TheVariants.{Between, Escaped, Due, Unicode, Braced}
-use Rattle.swc_ecma_codegen_ast.specs.StringValues.{before, single_escape, string_rest}
+use Rattle.swc_ecma_codegen_grammar.specs.Chars.{is_digit, begins_digit}
+use Rattle.swc_ecma_codegen_grammar.specs.Numbers.{is_hex, is_octal, is_either}
+use Rattle.swc_ecma_codegen_grammar.specs.CodeUnits.{utf16, escape_length}
+use Rattle.swc_ecma_codegen_grammar.specs.declared.units.Place.{Place}
+use Rattle.swc_ecma_codegen_grammar.specs.declared.units.Place.TheVariants.{Between, Escaped, Due, Unicode, Braced}
+use Rattle.swc_ecma_codegen_grammar.specs.StringValues.{before, single_escape, string_rest}
 use Rattle.swc_ecma_codegen_literals.specs.StringTexts.{up_to_es5, below_es5, escape_text, null_escape, backslash_escape, code_escape, hex_escape, unit_escape, pair_escape, braced_escape}
 use Rattle.swc_ecma_codegen_literals.proofs.Numerals.{hex_from_value}
 use Rattle.swc_ecma_codegen_literals.proofs.EscapeTexts.{glyph_hex, chosen}

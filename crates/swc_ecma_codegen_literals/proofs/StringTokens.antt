@@ -1,8 +1,8 @@
 -- A string literal without octal escapes is a string token, and means the same.
 use Rattle.std.proofs.Common.{List, Some, false, true, ℕ, ◌≡◌}
-use Rattle.swc_ecma_codegen_ast.specs.Strings.{is_string}
-use Rattle.swc_ecma_codegen_ast.specs.StringValues.{string_value}
-use Rattle.swc_ecma_codegen_ast.proofs.StrictStrings.{strict_means_the_same, valued_is_string}
+use Rattle.swc_ecma_codegen_grammar.specs.Strings.{is_string}
+use Rattle.swc_ecma_codegen_grammar.specs.StringValues.{string_value}
+use Rattle.swc_ecma_codegen_grammar.proofs.StrictStrings.{strict_means_the_same, valued_is_string}
 
 pub strict_is_string : (text units : List ℕ) → string_value false text ≡ Some units → is_string text ≡ true
 strict_is_string text units h = valued_is_string text units h

@@ -6,11 +6,11 @@ use Rattle.std.specs.Str.Parse.{digits_value}
 use Rattle.std.proofs.lemmas.Bool.{cases_lt, cases_Bool, lt-ltb, le-leb, leb-true, and_from, and_parts, or_cases, or_parts, or_from, ne_eqb, eqb-true, not-true, not_from_false, false≢true, false_from_ne_true}
 use lib.Utf8.{scalars, scalar}
 use Rattle.swc_ecma_codegen_common.specs.declared.versions.EsVersion.{EsVersion}
-use Rattle.swc_ecma_codegen_ast.specs.Chars.{is_digit, begins_digit}
-use Rattle.swc_ecma_codegen_ast.specs.Numbers.{is_hex, is_either}
-use Rattle.swc_ecma_codegen_ast.specs.CodeUnits.{utf16, begins_like, is_high_digit, short_escape, long_escape, escape_length, escape_unit, units_after}
-use Rattle.swc_ecma_codegen_ast.specs.declared.units.Place.TheVariants.{Between, Due, Unicode, Braced}
-use Rattle.swc_ecma_codegen_ast.specs.StringValues.{before, string_rest}
+use Rattle.swc_ecma_codegen_grammar.specs.Chars.{is_digit, begins_digit}
+use Rattle.swc_ecma_codegen_grammar.specs.Numbers.{is_hex, is_either}
+use Rattle.swc_ecma_codegen_grammar.specs.CodeUnits.{utf16, begins_like, is_high_digit, short_escape, long_escape, escape_length, escape_unit, units_after}
+use Rattle.swc_ecma_codegen_grammar.specs.declared.units.Place.TheVariants.{Between, Due, Unicode, Braced}
+use Rattle.swc_ecma_codegen_grammar.specs.StringValues.{before, string_rest}
 use Rattle.swc_ecma_codegen_literals.specs.StringTexts.{up_to_es5, below_es5, stands, escape_text, null_escape, backslash_escape, code_escape, hex_escape, unit_escape, pair_escape, braced_escape, spelled, spelled_all}
 use Rattle.swc_ecma_codegen_literals.proofs.EscapeTexts.{chosen}
 use Rattle.swc_ecma_codegen_literals.proofs.SpelledTexts.{spelled_run}

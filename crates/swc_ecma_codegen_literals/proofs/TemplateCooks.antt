@@ -3,15 +3,15 @@ use Rattle.std.proofs.Common.{◌≡◌, ℕ, zero, suc, ◌+◌, ◌*◌, ◌<�
 use Rattle.std.specs.Char.{digit_value}
 use Rattle.std.proofs.lemmas.Bool.{cases_Bool, and_parts, ne_eqb, eq-eqb, eqb-true, false≢true}
 use lib.Utf8.{scalars}
-use Rattle.swc_ecma_codegen_ast.specs.Chars.{is_digit, begins_digit}
-use Rattle.swc_ecma_codegen_ast.specs.Numbers.{is_hex}
-use Rattle.swc_ecma_codegen_ast.specs.Texts.{begins}
-use Rattle.swc_ecma_codegen_ast.specs.CodeUnits.{utf16}
+use Rattle.swc_ecma_codegen_grammar.specs.Chars.{is_digit, begins_digit}
+use Rattle.swc_ecma_codegen_grammar.specs.Numbers.{is_hex}
+use Rattle.swc_ecma_codegen_grammar.specs.Texts.{begins}
+use Rattle.swc_ecma_codegen_grammar.specs.CodeUnits.{utf16}
 use Rattle.swc_ecma_codegen_literals.specs.StringTexts.{is_unseen, hex_escape, unit_escape, braced_escape}
-use Rattle.swc_ecma_codegen_ast.specs.declared.units.Place.{Place}
-use Rattle.swc_ecma_codegen_ast.specs.declared.units.Place.TheVariants.{Between, Escaped, Due, Unicode, Braced, Octal, Continued}
-use Rattle.swc_ecma_codegen_ast.specs.StringValues.{before, single_escape}
-use Rattle.swc_ecma_codegen_ast.specs.TemplateValues.{cooked_rest, cooked_value}
+use Rattle.swc_ecma_codegen_grammar.specs.declared.units.Place.{Place}
+use Rattle.swc_ecma_codegen_grammar.specs.declared.units.Place.TheVariants.{Between, Escaped, Due, Unicode, Braced, Octal, Continued}
+use Rattle.swc_ecma_codegen_grammar.specs.StringValues.{before, single_escape}
+use Rattle.swc_ecma_codegen_grammar.specs.TemplateValues.{cooked_rest, cooked_value}
 use Rattle.swc_ecma_codegen_literals.specs.declared.templates.Piece.{Piece}
 use Rattle.swc_ecma_codegen_literals.specs.declared.templates.Piece.TheVariants.{Bare, Kept, Hex, Gone}
 use Rattle.swc_ecma_codegen_literals.specs.TemplateTexts.{first_piece, piece_more, pieces_after, pieces, bare_text, piece_text, dollar_after, spelled_pieces, template_text}

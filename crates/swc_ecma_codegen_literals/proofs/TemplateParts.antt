@@ -4,16 +4,16 @@ use Rattle.std.specs.Char.{digit_value}
 use Rattle.std.proofs.Math.Seq.{take-append_seam}
 use Rattle.std.proofs.lemmas.List.{length-append}
 use Rattle.std.proofs.lemmas.Bool.{cases_Bool, or_right, and_parts, and_from, ne_eqb, eqb-true, false≢true}
-use Rattle.swc_ecma_codegen_ast.specs.Chars.{is_digit, begins_digit}
-use Rattle.swc_ecma_codegen_ast.specs.Numbers.{is_hex}
-use Rattle.swc_ecma_codegen_ast.specs.declared.kinds.TemplatePart.{TemplatePart}
-use Rattle.swc_ecma_codegen_ast.specs.Templates.{ends_template, before_end, part_end, goes_on_as, is_template, is_template_rest, IsInsidePart}
-use Rattle.swc_ecma_codegen_ast.specs.Texts.{begins, is_empty, is_same}
-use Rattle.swc_ecma_codegen_ast.specs.CodeUnits.{utf16}
-use Rattle.swc_ecma_codegen_ast.specs.declared.units.Place.{Place}
-use Rattle.swc_ecma_codegen_ast.specs.declared.units.Place.TheVariants.{Between, Escaped, Due, Unicode, Braced, Octal, Continued}
-use Rattle.swc_ecma_codegen_ast.specs.StringValues.{before, single_escape}
-use Rattle.swc_ecma_codegen_ast.specs.TemplateValues.{cooked_rest, cooked_value}
+use Rattle.swc_ecma_codegen_grammar.specs.Chars.{is_digit, begins_digit}
+use Rattle.swc_ecma_codegen_grammar.specs.Numbers.{is_hex}
+use Rattle.swc_ecma_codegen_grammar.specs.declared.kinds.TemplatePart.{TemplatePart}
+use Rattle.swc_ecma_codegen_grammar.specs.Templates.{ends_template, before_end, part_end, goes_on_as, is_template, is_template_rest, IsInsidePart}
+use Rattle.swc_ecma_codegen_grammar.specs.Texts.{begins, is_empty, is_same}
+use Rattle.swc_ecma_codegen_grammar.specs.CodeUnits.{utf16}
+use Rattle.swc_ecma_codegen_grammar.specs.declared.units.Place.{Place}
+use Rattle.swc_ecma_codegen_grammar.specs.declared.units.Place.TheVariants.{Between, Escaped, Due, Unicode, Braced, Octal, Continued}
+use Rattle.swc_ecma_codegen_grammar.specs.StringValues.{before, single_escape}
+use Rattle.swc_ecma_codegen_grammar.specs.TemplateValues.{cooked_rest, cooked_value}
 use Rattle.swc_ecma_codegen_literals.proofs.TemplateReads.{has, rest_has, when, unless}
 use Rattle.swc_ecma_codegen_literals.proofs.TemplateCooks.{Inside, is_inner, inner_char}
 

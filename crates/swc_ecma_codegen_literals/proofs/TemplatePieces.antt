@@ -7,8 +7,8 @@ use Rattle.std.proofs.lemmas.Bool.{cases_lt, lt-ltb, le-ltb, ltb-false, leb-true
 use Rattle.std.proofs.lemmas.Str.{encodes-append, encodes-chars, chars-append, encodes-IsAscii, len_utf8_bounds, length-encode}
 use Rattle.std.proofs.lemmas.List.{nil_from_length}
 use lib.Utf8.{encodes}
-use Rattle.swc_ecma_codegen_ast.specs.Chars.{is_digit, begins_digit}
-use Rattle.swc_ecma_codegen_ast.specs.Numbers.{is_hex}
+use Rattle.swc_ecma_codegen_grammar.specs.Chars.{is_digit, begins_digit}
+use Rattle.swc_ecma_codegen_grammar.specs.Numbers.{is_hex}
 use Rattle.swc_ecma_codegen_literals.specs.StringTexts.{is_unseen, hex_escape, unit_escape, braced_escape}
 use Rattle.swc_ecma_codegen_literals.specs.declared.templates.Piece.{Piece}
 use Rattle.swc_ecma_codegen_literals.specs.declared.templates.Piece.TheVariants.{Bare, Kept, Hex, Gone}

@@ -5,14 +5,14 @@ use Rattle.std.specs.Fmt.{digit_glyph, digits}
 use Rattle.std.specs.Str.Parse.{digits_value, digits_value_after, AllDigits, IsNumeral}
 use Rattle.std.proofs.lemmas.Fmt.{digits_is_IsNumeral}
 use Rattle.std.proofs.lemmas.Bool.{cases_Bool, lt-ltb, le-leb, ltb-true, and_from, and_parts, or_cases, or_parts, or_right, ne_eqb, eqb-true, false≢true}
-use Rattle.swc_ecma_codegen_ast.specs.Chars.{is_digit, begins_digit}
-use Rattle.swc_ecma_codegen_ast.specs.Numbers.{is_hex}
-use Rattle.swc_ecma_codegen_ast.specs.Texts.{begins}
-use Rattle.swc_ecma_codegen_ast.specs.CodeUnits.{utf16}
+use Rattle.swc_ecma_codegen_grammar.specs.Chars.{is_digit, begins_digit}
+use Rattle.swc_ecma_codegen_grammar.specs.Numbers.{is_hex}
+use Rattle.swc_ecma_codegen_grammar.specs.Texts.{begins}
+use Rattle.swc_ecma_codegen_grammar.specs.CodeUnits.{utf16}
 use Rattle.swc_ecma_codegen_literals.specs.StringTexts.{is_unseen, hex_escape, unit_escape, braced_escape}
-use Rattle.swc_ecma_codegen_ast.specs.declared.units.Place.TheVariants.{Between, Escaped, Due, Unicode, Braced}
-use Rattle.swc_ecma_codegen_ast.specs.StringValues.{before, single_escape}
-use Rattle.swc_ecma_codegen_ast.specs.TemplateValues.{cooked_rest}
+use Rattle.swc_ecma_codegen_grammar.specs.declared.units.Place.TheVariants.{Between, Escaped, Due, Unicode, Braced}
+use Rattle.swc_ecma_codegen_grammar.specs.StringValues.{before, single_escape}
+use Rattle.swc_ecma_codegen_grammar.specs.TemplateValues.{cooked_rest}
 use Rattle.swc_ecma_codegen_literals.specs.declared.templates.Piece.{Piece}
 use Rattle.swc_ecma_codegen_literals.specs.declared.templates.Piece.TheVariants.{Bare, Kept, Hex, Gone}
 use Rattle.swc_ecma_codegen_literals.specs.TemplateTexts.{stays_hex, hex_more, hex_value_piece, hex_digits_piece, hex_piece, is_kept, escape_piece, escape_more, first_piece, piece_more, bare_text}

@@ -1,6 +1,6 @@
 -- How the spellings of names, strings and numbers begin.
 use Rattle.std.specs.Prelude.{ℕ, Bool, false, List, [], ◌∷◌, ◌&&◌, ◌||◌, ◌==◌}
-use Rattle.swc_ecma_codegen_ast.specs.Chars.{begins_digit, is_digit, is_quote, is_start}
+use Rattle.swc_ecma_codegen_grammar.specs.Chars.{begins_digit, is_digit, is_quote, is_start}
 
 -- with a quote: `"a"`
 unfoldable pub begins_quoted : List ℕ → Bool

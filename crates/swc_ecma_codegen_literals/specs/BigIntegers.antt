@@ -5,9 +5,9 @@ use Rattle.std.specs.String.{string_bytes}
 use Rattle.swc_ecma_codegen_tree.specs.declared.lits.BigInt.{BigInt}
 use Rattle.swc_ecma_codegen_tree.specs.declared.lits.Radix.{Radix}
 use Rattle.swc_ecma_codegen_tree.specs.declared.lits.Radix.TheVariants.{Binary, Octal, Decimal as Ten, Hex}
-use Rattle.swc_ecma_codegen_ast.specs.Chars.{begins_digit}
-use Rattle.swc_ecma_codegen_ast.specs.LitPhrases.{radix_number}
-use Rattle.swc_ecma_codegen_ast.specs.Numbers.{is_big_integer, radix_of, big_digits}
+use Rattle.swc_ecma_codegen_grammar.specs.Chars.{begins_digit}
+use Rattle.swc_ecma_codegen_grammar.specs.LitPhrases.{radix_number}
+use Rattle.swc_ecma_codegen_grammar.specs.Numbers.{is_big_integer, radix_of, big_digits}
 use Rattle.swc_ecma_codegen_literals.specs.NumberTexts.{sign_text}
 use Rattle.swc_ecma_codegen_literals.specs.Separators.{without_underscores}
 

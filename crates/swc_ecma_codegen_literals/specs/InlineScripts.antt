@@ -1,8 +1,8 @@
 -- Strings inside a script of an HTML page: what would end the script, or open or close a comment in it, is spelled apart.
 -- HTML, sections 4.12.1.3 and 13.2.5.15 to 13.2.5.31.
 use Rattle.std.specs.Prelude.{◌≡◌, ℕ, suc, Bool, false, List, [], ◌∷◌, ◌++◌, ◌&&◌, ◌||◌, ◌==◌, nat_le, if◌then◌else◌, codes, Option, Some, None}
-use Rattle.swc_ecma_codegen_ast.specs.Numbers.{is_either}
-use Rattle.swc_ecma_codegen_ast.specs.CodeUnits.{begins_like}
+use Rattle.swc_ecma_codegen_grammar.specs.Numbers.{is_either}
+use Rattle.swc_ecma_codegen_grammar.specs.CodeUnits.{begins_like}
 
 -- one of `>`, blank, tab, LF, FF, CR: the name of a tag ends here
 unfoldable pub is_tag_end : ℕ → Bool

@@ -1,7 +1,7 @@
 -- Decimal integers: a dot after one would belong to it. ECMA-262, sections 12.9.3 and B.1.1.
 use Rattle.std.specs.Prelude.{ℕ, Bool, true, false, not, List, [], ◌∷◌, ◌&&◌, ◌==◌, if◌then◌else◌}
-use Rattle.swc_ecma_codegen_ast.specs.Chars.{is_digit}
-use Rattle.swc_ecma_codegen_ast.specs.Numbers.{is_octal}
+use Rattle.swc_ecma_codegen_grammar.specs.Chars.{is_digit}
+use Rattle.swc_ecma_codegen_grammar.specs.Numbers.{is_octal}
 
 -- digits, with single underscores between: `due` says that a digit must come
 unfoldable pub digits : Bool → List ℕ → Bool

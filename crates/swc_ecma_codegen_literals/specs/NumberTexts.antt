@@ -6,11 +6,11 @@ use Rattle.std.specs.String.{string_bytes}
 use Rattle.std.specs.declared.string.String.{String}
 use Rattle.std.specs.Str.{IsAscii, chars}
 use Rattle.std.specs.Str.Parse.{digits_value}
-use Rattle.swc_ecma_codegen_ast.specs.DecimalValues.{decimal_digits, exact_size, size_value}
-use Rattle.swc_ecma_codegen_ast.specs.Numbers.{is_number}
-use Rattle.swc_ecma_codegen_ast.specs.NumberValues.{SameValue, exact_value, numeric_value}
+use Rattle.swc_ecma_codegen_grammar.specs.DecimalValues.{decimal_digits, exact_size, size_value}
+use Rattle.swc_ecma_codegen_grammar.specs.Numbers.{is_number}
+use Rattle.swc_ecma_codegen_grammar.specs.NumberValues.{SameValue, exact_value, numeric_value}
 use Rattle.swc_ecma_codegen_common.specs.declared.decimals.Decimal.{Decimal}
-use Rattle.swc_ecma_codegen_ast.specs.Texts.{begins}
+use Rattle.swc_ecma_codegen_grammar.specs.Texts.{begins}
 use Rattle.swc_ecma_codegen_literals.specs.Beginnings.{begins_numeric}
 
 -- `12` with the point before its last n digits: `1.2` for 1, `0.12` for 2, `0.0012` for 4

@@ -1,7 +1,7 @@
 -- Numbers without the `_` between their digits. ECMA-262, section 12.9.3, "NumericLiteralSeparator".
 use Rattle.std.specs.Prelude.{◌≡◌, ◌==◌, ℕ, true, not, List, filter}
-use Rattle.swc_ecma_codegen_ast.specs.Numbers.{is_number, is_big_integer, radix_of, big_digits}
-use Rattle.swc_ecma_codegen_ast.specs.NumberValues.{numeric_value}
+use Rattle.swc_ecma_codegen_grammar.specs.Numbers.{is_number, is_big_integer, radix_of, big_digits}
+use Rattle.swc_ecma_codegen_grammar.specs.NumberValues.{numeric_value}
 
 -- `1000` of `1_000`
 abbrev pub without_underscores : List ℕ → List ℕ

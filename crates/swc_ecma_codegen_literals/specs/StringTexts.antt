@@ -3,8 +3,8 @@ use Rattle.std.specs.Prelude.{ℕ, ◌+◌, ◌-◌, ◌/◌, ◌%◌, Bool, tru
 use Rattle.std.specs.Fmt.{digit_glyph, digits}
 use Rattle.swc_ecma_codegen_common.specs.declared.versions.EsVersion.{EsVersion}
 use Rattle.swc_ecma_codegen_common.specs.declared.versions.EsVersion.TheVariants.{Es3, Es5}
-use Rattle.swc_ecma_codegen_ast.specs.Chars.{begins_digit}
-use Rattle.swc_ecma_codegen_ast.specs.CodeUnits.{escape_length}
+use Rattle.swc_ecma_codegen_grammar.specs.Chars.{begins_digit}
+use Rattle.swc_ecma_codegen_grammar.specs.CodeUnits.{escape_length}
 
 -- a version before 2015
 unfoldable pub up_to_es5 : EsVersion → Bool

@@ -2,9 +2,9 @@
 use Rattle.std.specs.Prelude.{ℕ, zero, suc, ◌+◌, ◌*◌, Bool, false, not, List, [], ◌∷◌, ◌++◌, ◌&&◌, ◌||◌, ◌==◌, nat_lt, nat_le, if◌then◌else◌, codes}
 use Rattle.std.specs.Char.{digit_value}
 use Rattle.std.specs.Str.{chars, encode_utf8_all}
-use Rattle.swc_ecma_codegen_ast.specs.Chars.{begins_digit}
-use Rattle.swc_ecma_codegen_ast.specs.Numbers.{is_hex}
-use Rattle.swc_ecma_codegen_ast.specs.Texts.{begins}
+use Rattle.swc_ecma_codegen_grammar.specs.Chars.{begins_digit}
+use Rattle.swc_ecma_codegen_grammar.specs.Numbers.{is_hex}
+use Rattle.swc_ecma_codegen_grammar.specs.Texts.{begins}
 use Rattle.swc_ecma_codegen_literals.specs.StringTexts.{is_unseen, hex_escape, unit_escape, braced_escape}
 use Rattle.swc_ecma_codegen_literals.specs.declared.templates.Piece.{Piece}
 use Rattle.swc_ecma_codegen_literals.specs.declared.templates.Piece.TheVariants.{Bare, Kept, Hex, Gone}

@@ -9,8 +9,8 @@ ghost use Rattle.swc_ecma_codegen_literals.specs.BigIntegers.{big_text, radix_pr
 use crate::numbers::sign_of;
 use crate::separators::without_separators;
 use std::alloc::Global;
-use swc_ecma_codegen_ast::{BigInt, Radix};
 use swc_ecma_codegen_common::Error;
+use swc_ecma_codegen_grammar::{BigInt, Radix};
 
 /// A big integer up to its `n`: its sign, the prefix of its radix and its digits without `_`, `-0xff` of -255 in
 /// hexadecimal digits. `Error::OutOfMemory` where there is no room for the text.

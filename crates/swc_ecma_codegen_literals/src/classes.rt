@@ -2,7 +2,7 @@
 
 ghost use Rattle.std.specs.Prelude.{◌≡◌, if◌then◌else◌};
 ghost use Rattle.std.specs.Str.{chars};
-ghost use Rattle.swc_ecma_codegen_ast.specs.Numbers.{is_octal, takes_dot};
+ghost use Rattle.swc_ecma_codegen_grammar.specs.Numbers.{is_octal, takes_dot};
 ghost use Rattle.swc_ecma_codegen_literals.specs.Integers.{after_zero, decimal, digits, is_integer};
 
 use crate::punctuators::Punctuator;
@@ -36,7 +36,7 @@ pub fn number_class(spelling: &str) -> TokenClass
     }
 }
 
-#[tactic(auto, unfolding(crate::specs::Integers::is_integer, swc_ecma_codegen_ast::specs::Chars::is_digit))]
+#[tactic(auto, unfolding(crate::specs::Integers::is_integer, swc_ecma_codegen_grammar::specs::Chars::is_digit))]
 fn is_integer(text: &[u8]) -> bool
     ensures { result ≡ is_integer text.now }
 {
@@ -47,7 +47,7 @@ fn is_integer(text: &[u8]) -> bool
     }
 }
 
-#[tactic(auto, unfolding(crate::specs::Integers::digits, swc_ecma_codegen_ast::specs::Chars::is_digit))]
+#[tactic(auto, unfolding(crate::specs::Integers::digits, swc_ecma_codegen_grammar::specs::Chars::is_digit))]
 fn digits(due: bool, text: &[u8]) -> bool
     ensures { result ≡ digits due text.now }
 {
@@ -58,7 +58,7 @@ fn digits(due: bool, text: &[u8]) -> bool
     }
 }
 
-#[tactic(auto, unfolding(crate::specs::Integers::after_zero, swc_ecma_codegen_ast::specs::Chars::is_digit))]
+#[tactic(auto, unfolding(crate::specs::Integers::after_zero, swc_ecma_codegen_grammar::specs::Chars::is_digit))]
 fn after_zero(text: &[u8]) -> bool
     ensures { result ≡ after_zero text.now }
 {
@@ -68,7 +68,7 @@ fn after_zero(text: &[u8]) -> bool
     }
 }
 
-#[tactic(auto, unfolding(crate::specs::Integers::decimal, swc_ecma_codegen_ast::specs::Chars::is_digit))]
+#[tactic(auto, unfolding(crate::specs::Integers::decimal, swc_ecma_codegen_grammar::specs::Chars::is_digit))]
 fn decimal(octal: bool, text: &[u8]) -> bool
     ensures { result ≡ decimal octal text.now }
 {
@@ -78,7 +78,7 @@ fn decimal(octal: bool, text: &[u8]) -> bool
     }
 }
 
-#[tactic(auto, unfolding(swc_ecma_codegen_ast::specs::Numbers::is_octal))]
+#[tactic(auto, unfolding(swc_ecma_codegen_grammar::specs::Numbers::is_octal))]
 fn is_octal(c: u8) -> bool
     ensures { result ≡ is_octal c }
 {

@@ -4,9 +4,9 @@ ghost use Rattle.std.specs.Prelude.{◌≡◌, ◌++◌, ◌<◌, ◌&&◌, true
 ghost use Rattle.std.specs.Fmt.{digit_glyph};
 ghost use Rattle.std.specs.Str.{chars};
 ghost use Rattle.std.specs.String.{string_bytes};
-ghost use Rattle.swc_ecma_codegen_ast.specs.Chars.{begins_digit};
-ghost use Rattle.swc_ecma_codegen_ast.specs.Numbers.{is_hex, is_either};
-ghost use Rattle.swc_ecma_codegen_ast.specs.CodeUnits.{escape_length, is_high_digit, begins_like, short_escape, long_escape};
+ghost use Rattle.swc_ecma_codegen_grammar.specs.Chars.{begins_digit};
+ghost use Rattle.swc_ecma_codegen_grammar.specs.Numbers.{is_hex, is_either};
+ghost use Rattle.swc_ecma_codegen_grammar.specs.CodeUnits.{escape_length, is_high_digit, begins_like, short_escape, long_escape};
 ghost use Rattle.swc_ecma_codegen_literals.specs.StringTexts.{up_to_es5, below_es5, stands, is_unseen, escape_text, null_escape, backslash_escape, code_escape, hex_escape, unit_escape, braced_escape};
 
 use std::alloc::AllocError;
@@ -108,7 +108,7 @@ fn push_backslash(literal: &mut String, rest: &str) -> Result<(), AllocError>
     }
 }
 
-#[tactic(auto, unfolding(swc_ecma_codegen_ast::specs::Chars::is_digit))]
+#[tactic(auto, unfolding(swc_ecma_codegen_grammar::specs::Chars::is_digit))]
 fn begins_digit(text: &str) -> bool
     ensures { result ≡ begins_digit (chars text.now) }
 {
@@ -148,21 +148,21 @@ fn is_surrogate(first: u8, second: u8, third: u8, fourth: u8) -> bool
     is_letter_d(first) && is_high_digit(second) && is_hex(third) && is_hex(fourth)
 }
 
-#[tactic(auto, unfolding(swc_ecma_codegen_ast::specs::Numbers::is_either))]
+#[tactic(auto, unfolding(swc_ecma_codegen_grammar::specs::Numbers::is_either))]
 fn is_letter_d(c: u8) -> bool
     ensures { result ≡ is_either 68 100 c }
 {
     c == b'D' || c == b'd'
 }
 
-#[tactic(auto, unfolding(swc_ecma_codegen_ast::specs::CodeUnits::is_high_digit))]
+#[tactic(auto, unfolding(swc_ecma_codegen_grammar::specs::CodeUnits::is_high_digit))]
 fn is_high_digit(c: u8) -> bool
     ensures { result ≡ is_high_digit c }
 {
     is_hex(c) && c >= b'8'
 }
 
-#[tactic(auto, unfolding(swc_ecma_codegen_ast::specs::Numbers::is_hex, swc_ecma_codegen_ast::specs::Chars::is_digit))]
+#[tactic(auto, unfolding(swc_ecma_codegen_grammar::specs::Numbers::is_hex, swc_ecma_codegen_grammar::specs::Chars::is_digit))]
 fn is_hex(c: u8) -> bool
     ensures { result ≡ is_hex c }
 {

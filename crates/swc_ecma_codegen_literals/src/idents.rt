@@ -5,10 +5,10 @@ ghost use Rattle.std.specs.List.{list_all, list_any};
 ghost use Rattle.std.specs.Str.{chars, IsAscii, IsUtf8};
 ghost use Rattle.std.specs.String.{string_bytes};
 ghost use Rattle.swc_ecma_codegen_common.specs.declared.errors.Error.TheVariants.{OutOfMemory, NameOutOfTarget};
-ghost use Rattle.swc_ecma_codegen_ast.specs.Names.{is_name, name_value};
-ghost use Rattle.swc_ecma_codegen_ast.specs.Strings.{is_string};
-ghost use Rattle.swc_ecma_codegen_ast.specs.CodeUnits.{all_utf16};
-ghost use Rattle.swc_ecma_codegen_ast.specs.StringValues.{string_value};
+ghost use Rattle.swc_ecma_codegen_grammar.specs.Names.{is_name, name_value};
+ghost use Rattle.swc_ecma_codegen_grammar.specs.Strings.{is_string};
+ghost use Rattle.swc_ecma_codegen_grammar.specs.CodeUnits.{all_utf16};
+ghost use Rattle.swc_ecma_codegen_grammar.specs.StringValues.{string_value};
 ghost use Rattle.swc_ecma_codegen_literals.specs.AsciiNames.{is_plain, lower_unit_escape, name_escape, name_escapes, wants_quotes, is_quoted_key, is_out_of_target, ascii_name};
 
 use crate::escapes::{is_up_to_es5, lower_digit, push_code};

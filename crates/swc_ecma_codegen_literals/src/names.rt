@@ -4,7 +4,7 @@ ghost use Rattle.std.specs.Prelude.{◌≡◌, false, IfOk, IfErr, IsOkAnd};
 ghost use Rattle.std.specs.Cow.{cow_str_bytes};
 ghost use Rattle.std.specs.String.{string_bytes};
 ghost use Rattle.swc_ecma_codegen_common.specs.declared.errors.Error.TheVariants.{OutOfMemory};
-ghost use Rattle.swc_ecma_codegen_ast.specs.ValidNames.{turned};
+ghost use Rattle.swc_ecma_codegen_grammar.specs.ValidNames.{turned};
 ghost use Rattle.swc_ecma_codegen_literals.specs.ValidNames.{has_byte, IsLent};
 
 use memchr::memmem;

@@ -4,7 +4,7 @@ ghost use Rattle.std.specs.Prelude.{◌≡◌, ◌++◌, replicate, IfOk, IfErr,
 ghost use Rattle.std.specs.String.{string_bytes};
 ghost use Rattle.std.specs.Str.{IsAscii};
 ghost use Rattle.swc_ecma_codegen_common.specs.declared.errors.Error.TheVariants.{OutOfMemory};
-ghost use Rattle.swc_ecma_codegen_ast.specs.DecimalValues.{decimal_digits};
+ghost use Rattle.swc_ecma_codegen_grammar.specs.DecimalValues.{decimal_digits};
 ghost use Rattle.swc_ecma_codegen_literals.specs.NumberTexts.{plain_text, minified_text, plain_size, with_point, short_size, short_fraction, hexadecimal_size, whole_size, shorter_size, sign_text, option_text, SpellsDecimal};
 
 use std::alloc::{AllocError, Global};

@@ -5,11 +5,11 @@ ghost use Rattle.std.specs.Str.{encode_utf8_all};
 ghost use Rattle.std.specs.Str.{chars, IsAscii};
 ghost use Rattle.std.specs.String.{string_bytes};
 ghost use Rattle.swc_ecma_codegen_common.specs.declared.errors.Error.TheVariants.{OutOfMemory};
-ghost use Rattle.swc_ecma_codegen_ast.specs.Numbers.{is_either};
-ghost use Rattle.swc_ecma_codegen_ast.specs.Strings.{is_string};
-ghost use Rattle.swc_ecma_codegen_ast.specs.CodeUnits.{units, begins_like};
+ghost use Rattle.swc_ecma_codegen_grammar.specs.Numbers.{is_either};
+ghost use Rattle.swc_ecma_codegen_grammar.specs.Strings.{is_string};
+ghost use Rattle.swc_ecma_codegen_grammar.specs.CodeUnits.{units, begins_like};
 ghost use Rattle.swc_ecma_codegen_literals.specs.StringTexts.{quoted_text};
-ghost use Rattle.swc_ecma_codegen_ast.specs.StringValues.{string_value};
+ghost use Rattle.swc_ecma_codegen_grammar.specs.StringValues.{string_value};
 ghost use Rattle.swc_ecma_codegen_literals.specs.InlineScripts.{is_tag_end, comment_start, script_end, dashes_after, inline_text, mark_text, marked, IsInlineSafe};
 
 use crate::strings::quoted_utf16;
@@ -121,7 +121,7 @@ fn ends_script(text: &[u8]) -> bool
 }
 
 // A letter in either case.
-#[tactic(auto, unfolding(swc_ecma_codegen_ast::specs::Numbers::is_either))]
+#[tactic(auto, unfolding(swc_ecma_codegen_grammar::specs::Numbers::is_either))]
 fn is_letter(c: u8, lower: u8) -> bool
     requires { 97 ≤ lower }
     ensures { result ≡ is_either lower (lower - 32) c }

@@ -6,9 +6,9 @@ ghost use Rattle.std.specs.Str.{encode_utf8_all};
 ghost use Rattle.std.specs.Str.{chars, IsUtf8, IsAscii};
 ghost use Rattle.std.specs.String.{string_bytes};
 ghost use Rattle.swc_ecma_codegen_common.specs.declared.errors.Error.TheVariants.{OutOfMemory};
-ghost use Rattle.swc_ecma_codegen_ast.specs.Strings.{is_string};
-ghost use Rattle.swc_ecma_codegen_ast.specs.CodeUnits.{units};
-ghost use Rattle.swc_ecma_codegen_ast.specs.StringValues.{string_value};
+ghost use Rattle.swc_ecma_codegen_grammar.specs.Strings.{is_string};
+ghost use Rattle.swc_ecma_codegen_grammar.specs.CodeUnits.{units};
+ghost use Rattle.swc_ecma_codegen_grammar.specs.StringValues.{string_value};
 ghost use Rattle.swc_ecma_codegen_literals.specs.StringTexts.{stands, is_plain_ascii, spelled_all, first_escape, quote_of, quoted_text};
 
 use crate::escapes::{Style, push_escape, stands};

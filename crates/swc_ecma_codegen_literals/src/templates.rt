@@ -7,11 +7,11 @@ ghost use Rattle.std.specs.Str.{encode_utf8_all};
 ghost use Rattle.std.specs.Str.{chars, IsUtf8, IsAscii};
 ghost use Rattle.std.specs.String.{string_bytes};
 ghost use Rattle.swc_ecma_codegen_common.specs.declared.errors.Error.TheVariants.{OutOfMemory};
-ghost use Rattle.swc_ecma_codegen_ast.specs.Chars.{begins_digit};
-ghost use Rattle.swc_ecma_codegen_ast.specs.Numbers.{is_hex};
-ghost use Rattle.swc_ecma_codegen_ast.specs.Texts.{begins};
-ghost use Rattle.swc_ecma_codegen_ast.specs.TemplateValues.{cooked_value};
-ghost use Rattle.swc_ecma_codegen_ast.specs.Templates.{IsInsidePart};
+ghost use Rattle.swc_ecma_codegen_grammar.specs.Chars.{begins_digit};
+ghost use Rattle.swc_ecma_codegen_grammar.specs.Numbers.{is_hex};
+ghost use Rattle.swc_ecma_codegen_grammar.specs.Texts.{begins};
+ghost use Rattle.swc_ecma_codegen_grammar.specs.TemplateValues.{cooked_value};
+ghost use Rattle.swc_ecma_codegen_grammar.specs.Templates.{IsInsidePart};
 ghost use Rattle.swc_ecma_codegen_literals.specs.TemplateTexts.{stands_bare, pieces, pieces_after, escape_piece, escape_more, is_kept, hex_piece, hex_more, hex_digits_piece, hex_value_piece, bare_text, piece_text, dollar_after, spelled_pieces, spelled_bytes, template_text};
 
 use crate::escapes::{is_unseen, push_braced_escape, push_hex_escape, push_unit_escape};
@@ -131,7 +131,7 @@ fn split_char(text: &str) -> Option<(char, &str)>
     Some((c, chars.as_str()))
 }
 
-#[tactic(auto, unfolding(swc_ecma_codegen_ast::specs::Texts::begins))]
+#[tactic(auto, unfolding(swc_ecma_codegen_grammar::specs::Texts::begins))]
 fn begins_with(text: &str, c: char) -> bool
     ensures { result ≡ begins (c ∷ []) (chars text.now) }
 {
@@ -182,7 +182,7 @@ fn split_escape(raw: &str) -> (Piece, &str)
 }
 
 // What follows a LF that a text begins with, or else the text.
-#[tactic(auto, unfolding(crate::specs::TemplateTexts::pieces_after, swc_ecma_codegen_ast::specs::Texts::begins))]
+#[tactic(auto, unfolding(crate::specs::TemplateTexts::pieces_after, swc_ecma_codegen_grammar::specs::Texts::begins))]
 fn skip_line_feed(raw: &str) -> &str
     ensures rest { pieces (chars result.now) ≡ pieces_after (if begins (10 ∷ []) (chars raw.now) then 1 else 0) (chars raw.now) }
     ensures text { IsUtf8 result.now }

@@ -1,9 +1,9 @@
 //! What an empty map of comments and no source answer.
 
 use std::alloc::AllocError;
-use swc_ecma_codegen_ast::comments::{CommentMaps, Comments};
-use swc_ecma_codegen_ast::mapper::{NoSource, SourceMapper};
 use swc_ecma_codegen_common::{BytePos, DUMMY_SP};
+use swc_ecma_codegen_grammar::comments::{CommentMaps, Comments};
+use swc_ecma_codegen_grammar::mapper::{NoSource, SourceMapper};
 
 fn is_empty<C: Comments>(comments: &mut C) -> bool {
     let pos = BytePos(1);

@@ -1,15 +1,15 @@
-//! Each caller of `swc_ecma_codegen_uses` once.
+//! Each caller of `swc_ecma_codegen_examples` once.
 
 use crate::trees::MEMBER;
 use std::alloc::Global;
 use std::test::Fail;
 use swc_ecma_codegen::Node;
 use swc_ecma_codegen_common::Error;
-use swc_ecma_codegen_json::{ReadError, Tree, program_from_slice};
-use swc_ecma_codegen_uses::{
+use swc_ecma_codegen_examples::{
     NoText, append_checked, checked_text, minified, minified_json, negation_text, print_into,
     print_with_positions,
 };
+use swc_ecma_codegen_json::{ReadError, Tree, program_from_slice};
 
 /// Whether a node is `a.b;` by the callers that take any node.
 fn is_printed<P: Node>(alloc: Global, node: &P) -> Result<bool, Error> {

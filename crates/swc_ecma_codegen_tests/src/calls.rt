@@ -13,12 +13,12 @@ use swc_ecma_codegen::operands::{Operand, OperandKind, SpaceBefore};
 use swc_ecma_codegen::util::{EndsWithAlphaNum, StartsWithAlphaNum};
 use swc_ecma_codegen::{Node, to_code};
 use swc_ecma_codegen_common::{BinaryOp, DUMMY_SP, Error, UpdateOp};
-use swc_ecma_codegen_grammar::WellFormed;
 use swc_ecma_codegen_spans::{SpanEnds, Spanned};
 use swc_ecma_codegen_tree::{
     EmptyStmt, Expr, ExprBox, ExprStmt, Ident, IdentName, MemberExpr, MemberExprBox, MemberProp,
     Program, Stmt, StmtBox,
 };
+use swc_ecma_codegen_validate::WellFormed;
 
 /// Whether a node has this text by `to_code`.
 fn prints<N: Node>(alloc: Global, node: &N, text: &str) -> bool {

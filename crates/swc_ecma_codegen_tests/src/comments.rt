@@ -5,10 +5,10 @@ use crate::trees::{NAME, Tree};
 use std::alloc::{AllocError, Global};
 use std::test::Fail;
 use swc_ecma_codegen::{Node, to_code_default, to_code_with_comments};
-use swc_ecma_codegen_ast::comments::{Comment, CommentKind, CommentMaps, Comments};
-use swc_ecma_codegen_ast::mapper::NoSource;
 use swc_ecma_codegen_common::{BytePos, DUMMY_SP, Error};
-use swc_ecma_codegen_uses::print_with_comments;
+use swc_ecma_codegen_examples::print_with_comments;
+use swc_ecma_codegen_grammar::comments::{Comment, CommentKind, CommentMaps, Comments};
+use swc_ecma_codegen_grammar::mapper::NoSource;
 
 /// A comment of this text.
 fn comment(alloc: Global, kind: CommentKind, text: &str) -> Result<Comment, AllocError> {

@@ -3,9 +3,9 @@
 use crate::pipes::Page;
 use std::alloc::Global;
 use swc_ecma_codegen::{Config, Emitter, Node};
-use swc_ecma_codegen_ast::comments::CommentMaps;
-use swc_ecma_codegen_ast::mapper::NoSource;
 use swc_ecma_codegen_common::{Error, Result as Answer};
+use swc_ecma_codegen_grammar::comments::CommentMaps;
+use swc_ecma_codegen_grammar::mapper::NoSource;
 use swc_ecma_codegen_text_writer::JsWriter;
 use swc_ecma_codegen_tree::Ident;
 

@@ -7,9 +7,9 @@ use crate::trees::{LITERALS, Tree, page_of};
 use std::alloc::Global;
 use std::test::Fail;
 use swc_ecma_codegen::{Config, Emitter, Node};
-use swc_ecma_codegen_ast::comments::CommentMaps;
-use swc_ecma_codegen_ast::mapper::NoSource;
 use swc_ecma_codegen_common::{Error, EsVersion};
+use swc_ecma_codegen_grammar::comments::CommentMaps;
+use swc_ecma_codegen_grammar::mapper::NoSource;
 use swc_ecma_codegen_text_writer::{JsWriter, omit_trailing_semi};
 
 /// What is written of a tree whose semicolons are held back.

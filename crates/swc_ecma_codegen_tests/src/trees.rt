@@ -9,11 +9,10 @@ use swc_ecma_codegen::{
     Config, Emitter, Node, is_well_formed, is_well_formed_expr, is_well_formed_item,
     is_well_formed_stmt,
 };
-use swc_ecma_codegen_ast::comments::{CommentMaps, Comments};
-use swc_ecma_codegen_ast::mapper::{NoSource, SourceMapper};
-use swc_ecma_codegen_ast::reading_laws;
 use swc_ecma_codegen_common::{DUMMY_SP, Error, EsVersion, Result as Answer};
-use swc_ecma_codegen_grammar::Fits;
+use swc_ecma_codegen_grammar::comments::{CommentMaps, Comments};
+use swc_ecma_codegen_grammar::mapper::{NoSource, SourceMapper};
+use swc_ecma_codegen_grammar::reading_laws;
 use swc_ecma_codegen_json::{ReadError, Tree as ReadTree, program_from_slice};
 use swc_ecma_codegen_laws::{
     added_comments_can_be_read_back, bad_shapes_are_refused_first, basic_nodes_take_no_memory,
@@ -31,6 +30,7 @@ use swc_ecma_codegen_tree::{
     AnyNode, EmptyStmt, ExportSpecifier, Expr, ExprStmt, Holds, MemberExpr, MemberExprBox, Module,
     ModuleDecl, ModuleExportName, ModuleItem, Program, Script, Stmt, StmtBox, StmtPart,
 };
+use swc_ecma_codegen_validate::Fits;
 
 /// `a`
 pub(crate) const NAME: &str =

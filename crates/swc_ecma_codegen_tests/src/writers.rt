@@ -8,9 +8,9 @@ use crate::pipes::{Fault, Page};
 use std::alloc::{AllocError, Global};
 use std::io::ErrorKind;
 use std::test::Fail;
-use swc_ecma_codegen_base::laws::{gaps_leave_the_tokens, nothing_so_far, so_far_reads};
 use swc_ecma_codegen_common::{BytePos, DUMMY_SP, Error, Refusal, Result as Answer};
 use swc_ecma_codegen_text_writer::{JsWriter, WriteJs, omit_trailing_semi};
+use swc_ecma_codegen_tokens::laws::{gaps_leave_the_tokens, nothing_so_far, so_far_reads};
 
 /// Two levels of indentation more, and one less.
 #[tactic(auto, unfolding(swc_ecma_codegen_text_writer::specs::Sheet::Writes, swc_ecma_codegen_text_writer::specs::Sheet::effect))]

@@ -4,11 +4,11 @@ use Rattle.swc_ecma_codegen_common.specs.declared.errors.Error.{Error}
 use Rattle.swc_ecma_codegen_common.specs.declared.errors.Refusal.{Refusal}
 use Rattle.swc_ecma_codegen_common.specs.declared.errors.Refusal.TheVariants as refusals
 use Rattle.swc_ecma_codegen_common.specs.Refusals.{reason_of}
-use Rattle.swc_ecma_codegen_ast.specs.Comments.{no_maps}
-use Rattle.swc_ecma_codegen_ast.specs.SourceLines.{no_lines}
+use Rattle.swc_ecma_codegen_grammar.specs.Comments.{no_maps}
+use Rattle.swc_ecma_codegen_grammar.specs.SourceLines.{no_lines}
 use Rattle.swc_ecma_codegen_json.specs.declared.errors.ReadError.{ReadError}
 use Rattle.swc_ecma_codegen_json.specs.declared.errors.ReadError.TheVariants as unread
-use Rattle.swc_ecma_codegen_base.specs.Run.{Part, State, Follows, nothing, start}
+use Rattle.swc_ecma_codegen_tokens.specs.Run.{Part, State, Follows, nothing, start}
 use Rattle.swc_ecma_codegen_tool.specs.declared.faults.Fault.{Fault}
 use Rattle.swc_ecma_codegen_tool.specs.declared.faults.Fault.TheVariants.{Usage, CannotRead, BadTree, NotWellFormed, Writer, Memory, UnsupportedNode, BadShape, NameOutOfTarget, PositionTooLarge, Failed}
 use Rattle.swc_ecma_codegen_tool.specs.declared.words.Options.{Options}

@@ -6,10 +6,10 @@ use Rattle.swc_ecma_codegen_tree.specs.declared.links.AnyNode.{AnyNode}
 use Rattle.swc_ecma_codegen_tree.specs.declared.programs.Program.{Program}
 use Rattle.swc_ecma_codegen_text_writer.specs.Sheet.{Sheet, HoldsNone}
 use Rattle.swc_ecma_codegen_text_writer.specs.View.{keeping}
-use Rattle.swc_ecma_codegen_ast.specs.Comments.{no_maps}
-use Rattle.swc_ecma_codegen_ast.specs.SourceLines.{no_lines}
-use Rattle.swc_ecma_codegen_ast.specs.TreePhrases.{is_well_formed}
-use Rattle.swc_ecma_codegen_base.specs.Run.{Part, printed, start}
+use Rattle.swc_ecma_codegen_grammar.specs.Comments.{no_maps}
+use Rattle.swc_ecma_codegen_grammar.specs.SourceLines.{no_lines}
+use Rattle.swc_ecma_codegen_grammar.specs.TreePhrases.{is_well_formed}
+use Rattle.swc_ecma_codegen_tokens.specs.Run.{Part, printed, start}
 use Rattle.swc_ecma_codegen.specs.Answers.{any_answers}
 use Rattle.swc_ecma_codegen.specs.Programs.{program}
 use Rattle.swc_ecma_codegen.specs.Texts.{blank_sheet}

@@ -4,7 +4,7 @@
 ghost use Rattle.std.specs.Prelude.{◌≡◌, ◌≢◌, ◌⊎◌, ◌≤◌, ◌||◌, false, true, [], length, take, Err, OnOk, OnErr, IfOk};
 ghost use Rattle.std.specs.Io.KnownBytes.{Appends};
 ghost use Rattle.std.specs.IoError.{error_kind};
-ghost use Rattle.swc_ecma_codegen_ast.specs.TreePhrases.{is_well_formed};
+ghost use Rattle.swc_ecma_codegen_grammar.specs.TreePhrases.{is_well_formed};
 ghost use Rattle.swc_ecma_codegen_tool.specs.Faults.{line_of};
 ghost use Rattle.swc_ecma_codegen_tool.specs.Prints.{AddsText, AddsFront, AddsFrontOfText};
 ghost use Rattle.swc_ecma_codegen_tool.specs.Words.{are_options, options_of};

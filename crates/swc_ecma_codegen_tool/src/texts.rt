@@ -2,9 +2,9 @@
 
 ghost use Rattle.std.specs.Prelude.{◌≡◌, ◌≢◌, [], Err, IfErr, IfOk, OnOk};
 ghost use Rattle.swc_ecma_codegen_text_writer.specs.View.{sheet_of};
-ghost use Rattle.swc_ecma_codegen_ast.specs.Comments.{no_maps};
-ghost use Rattle.swc_ecma_codegen_ast.specs.SourceLines.{no_lines};
-ghost use Rattle.swc_ecma_codegen_base.specs.Run.{State, printed, start};
+ghost use Rattle.swc_ecma_codegen_grammar.specs.Comments.{no_maps};
+ghost use Rattle.swc_ecma_codegen_grammar.specs.SourceLines.{no_lines};
+ghost use Rattle.swc_ecma_codegen_tokens.specs.Run.{State, printed, start};
 ghost use Rattle.swc_ecma_codegen.specs.Texts.{blank_sheet};
 ghost use Rattle.swc_ecma_codegen.specs.View.{state_of};
 ghost use Rattle.swc_ecma_codegen_tool.specs.Faults.{EndsWithFault, GivesFault};
@@ -67,7 +67,7 @@ fn new_writer<'a>(
 }
 
 /// Prints a tree without comments to a writer, whose faults are want of memory, and gives the writer back.
-#[tactic(auto, unfolding(swc_ecma_codegen_ast::specs::Comments::maps_in))]
+#[tactic(auto, unfolding(swc_ecma_codegen_grammar::specs::Comments::maps_in))]
 fn printed_on<P: Node, W: WriteJs + Drop>(
     alloc: Global,
     config: Config,

@@ -1,4 +1,4 @@
-use Rattle.swc_ecma_codegen_ast.proofs.LayoutLaws.{alongside, written_alongside, written_alike}
+use Rattle.swc_ecma_codegen_grammar.proofs.LayoutLaws.{alongside, written_alongside, written_alike}
 use Rattle.swc_ecma_codegen_laws.proofs.layouts_keep_the_tokens.Goals as goal
 
 pub returns-clause-lists : goal.returns-clause-lists

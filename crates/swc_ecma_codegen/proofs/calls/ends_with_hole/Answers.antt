@@ -1,5 +1,5 @@
 use Rattle.std.proofs.Common.{◌≡◌, ◌∙◌, ℕ, suc, ◌-◌, ◌≤◌, Bool, true, false, not, refl, sym, is_some, List, [], ◌∷◌, length, get_or, Option, Some, None, is_none, ap, arith}
-use Rattle.swc_ecma_codegen_ast.specs.ElementPhrases.{last_is_hole}
+use Rattle.swc_ecma_codegen_grammar.specs.ElementPhrases.{last_is_hole}
 use Rattle.swc_ecma_codegen.proofs.calls.ends_with_hole.Goals as goal
 
 -- the last of a list is a hole

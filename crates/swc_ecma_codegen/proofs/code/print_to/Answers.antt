@@ -1,6 +1,6 @@
 use Rattle.std.proofs.Common.{ap, ◌∙◌}
-use Rattle.swc_ecma_codegen_ast.specs.Comments.{maps_in}
-use Rattle.swc_ecma_codegen_base.specs.Run.{State, Follows, printed, start}
+use Rattle.swc_ecma_codegen_grammar.specs.Comments.{maps_in}
+use Rattle.swc_ecma_codegen_tokens.specs.Run.{State, Follows, printed, start}
 use Rattle.swc_ecma_codegen.proofs.code.print_to.Goals as goal
 
 pub returns : goal.returns

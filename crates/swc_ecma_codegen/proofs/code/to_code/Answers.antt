@@ -1,8 +1,8 @@
 use Rattle.std.proofs.Common.{[], false, sym, subst}
 use Rattle.std.proofs.lemmas.Result.{IfOk-weaker}
-use Rattle.swc_ecma_codegen_ast.specs.Comments.{maps_in}
+use Rattle.swc_ecma_codegen_grammar.specs.Comments.{maps_in}
 use Rattle.swc_ecma_codegen_util.specs.Defaults.{default_config}
-use Rattle.swc_ecma_codegen_base.specs.Written.{ReadsAs}
+use Rattle.swc_ecma_codegen_tokens.specs.Written.{ReadsAs}
 use Rattle.swc_ecma_codegen.specs.Roots.{root_phrase}
 use Rattle.swc_ecma_codegen.proofs.TreeMade.{code_reads}
 use Rattle.swc_ecma_codegen.proofs.code.to_code.Goals as goal

@@ -5,11 +5,11 @@ use Rattle.swc_ecma_codegen_util.specs.Defaults.{default_config}
 use Rattle.swc_ecma_codegen_text_writer.specs.Told.{told}
 use Rattle.swc_ecma_codegen_text_writer.specs.Sheet.{Sheet}
 use Rattle.swc_ecma_codegen_text_writer.specs.View.{sheet_of, new_sheet}
-use Rattle.swc_ecma_codegen_ast.specs.Comments.{maps_in}
-use Rattle.swc_ecma_codegen_base.specs.Run.{steps_of, steps_in, printed, start}
-use Rattle.swc_ecma_codegen_base.proofs.Fronts.{run_whole}
+use Rattle.swc_ecma_codegen_grammar.specs.Comments.{maps_in}
+use Rattle.swc_ecma_codegen_tokens.specs.Run.{steps_of, steps_in, printed, start}
+use Rattle.swc_ecma_codegen_tokens.proofs.Fronts.{run_whole}
 use Rattle.swc_ecma_codegen.specs.Texts.{blank_sheet, GivesCause, IsOfWriter}
-use Rattle.swc_ecma_codegen_base.specs.Written.{ReadsAs, taken_remarks}
+use Rattle.swc_ecma_codegen_tokens.specs.Written.{ReadsAs, taken_remarks}
 use Rattle.swc_ecma_codegen.specs.Roots.{root_phrase}
 use Rattle.swc_ecma_codegen.proofs.TreeMade.{code_reads_over, code_cause}
 use Rattle.swc_ecma_codegen.proofs.code.to_code_default.Goals as goal

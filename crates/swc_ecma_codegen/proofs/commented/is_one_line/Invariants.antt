@@ -2,7 +2,7 @@ use Rattle.std.proofs.Common.{◌≡◌, length}
 use denote.Text.{Utf8}
 use denote.Shadow.{shadow}
 use Rattle.std.specs.Str.{chars}
-use Rattle.swc_ecma_codegen_ast.specs.Chars.{is_one_line}
+use Rattle.swc_ecma_codegen_grammar.specs.Chars.{is_one_line}
 use Rattle.swc_ecma_codegen.proofs.commented.is_one_line.Given as goal
 
 abbrev pub invariant-loop-c : goal.invariant-loop-c

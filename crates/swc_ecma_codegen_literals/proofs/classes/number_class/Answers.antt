@@ -1,7 +1,7 @@
 use Rattle.std.proofs.Common.{◌≡◌, Bool, true, false, cond, List, ℕ, sym, ap, ◌∙◌}
 use Rattle.std.specs.Str.{chars}
 use Rattle.std.proofs.lemmas.Bool.{false_from_ne_true, true≢false}
-use Rattle.swc_ecma_codegen_ast.specs.Numbers.{takes_dot}
+use Rattle.swc_ecma_codegen_grammar.specs.Numbers.{takes_dot}
 use Rattle.swc_ecma_codegen_literals.specs.declared.classes.TokenClass.TheVariants.{Integer, Word}
 use Rattle.swc_ecma_codegen_literals.specs.Integers.{is_integer}
 use Rattle.swc_ecma_codegen_literals.proofs.NameTexts.{ascii_chars, not_ascii_chars}

@@ -1,6 +1,6 @@
 use Rattle.std.proofs.Common.{◌≡◌, ◌<◌, sym, ◌∙◌, ap, not, length, arith, true, false, refl}
 use Rattle.std.proofs.lemmas.Bool.{eqb-true, eqb-false}
-use Rattle.swc_ecma_codegen_ast.specs.Chars.{is_digit}
+use Rattle.swc_ecma_codegen_grammar.specs.Chars.{is_digit}
 use Rattle.swc_ecma_codegen_literals.proofs.Fronts.{digit_place, no_digit}
 use Rattle.swc_ecma_codegen_literals.proofs.escapes.begins_digit.Goals as goal
 

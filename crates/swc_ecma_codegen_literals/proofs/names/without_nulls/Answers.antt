@@ -1,6 +1,6 @@
 use Rattle.std.proofs.Common.{◌≡◌, ◌+◌, ◌++◌, sym, ◌∙◌, ap, take, drop, ◌-◌, arith}
 use Rattle.std.specs.String.{string_bytes}
-use Rattle.swc_ecma_codegen_ast.specs.ValidNames.{turned}
+use Rattle.swc_ecma_codegen_grammar.specs.ValidNames.{turned}
 use Rattle.swc_ecma_codegen_literals.proofs.Nulls.{searched_none, searched_at, searched_cut, turned_step}
 use Rattle.swc_ecma_codegen_literals.proofs.names.without_nulls.Goals as goal
 

@@ -2,7 +2,7 @@ use Rattle.std.proofs.Common.{◌≡◌, ◌++◌, length}
 use denote.Text.{Utf8}
 use denote.Shadow.{shadow}
 use Rattle.std.specs.String.{string_bytes}
-use Rattle.swc_ecma_codegen_ast.specs.ValidNames.{turned}
+use Rattle.swc_ecma_codegen_grammar.specs.ValidNames.{turned}
 use Rattle.swc_ecma_codegen_literals.proofs.names.without_nulls.Given as goal
 
 abbrev pub invariant-loop-at : goal.invariant-loop-at

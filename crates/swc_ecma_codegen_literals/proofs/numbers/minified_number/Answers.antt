@@ -2,7 +2,7 @@ use Rattle.std.proofs.Common.{◌≡◌, sym, subst, true, List, ℕ, ◌∙◌,
 use Rattle.std.specs.Str.{IsAscii}
 use Rattle.std.specs.String.{string_bytes}
 use Rattle.swc_ecma_codegen_common.specs.DecimalParts.{is_decimal}
-use Rattle.swc_ecma_codegen_ast.specs.DecimalValues.{decimal_digits}
+use Rattle.swc_ecma_codegen_grammar.specs.DecimalValues.{decimal_digits}
 use Rattle.swc_ecma_codegen_literals.specs.NumberTexts.{plain_size, shorter_size, hexadecimal_size, minified_size, sign_text, plain_text, minified_text, SpellsDecimal}
 use Rattle.swc_ecma_codegen_literals.proofs.DecimalTexts.{minified_text_spells, minified_text_ascii, shorter_signed}
 use Rattle.swc_ecma_codegen_literals.proofs.numbers.minified_number.Goals as goal

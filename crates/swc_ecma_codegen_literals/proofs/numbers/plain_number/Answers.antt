@@ -1,7 +1,7 @@
 use Rattle.std.proofs.Common.{◌≡◌, sym, subst, true, List, ℕ, ◌∙◌, ap, ◌++◌}
 use Rattle.std.specs.Str.{IsAscii}
 use Rattle.swc_ecma_codegen_common.specs.DecimalParts.{is_decimal}
-use Rattle.swc_ecma_codegen_ast.specs.DecimalValues.{decimal_digits}
+use Rattle.swc_ecma_codegen_grammar.specs.DecimalValues.{decimal_digits}
 use Rattle.swc_ecma_codegen_literals.specs.NumberTexts.{plain_size, plain_text, SpellsDecimal}
 use Rattle.swc_ecma_codegen_literals.proofs.DecimalTexts.{plain_text_spells, plain_text_ascii}
 use Rattle.swc_ecma_codegen_literals.proofs.numbers.plain_number.Goals as goal

@@ -1,7 +1,7 @@
 use Rattle.std.proofs.Common.{◌≡◌, sym, subst, true, List, ℕ}
 use Rattle.std.specs.Str.{IsAscii}
 use Rattle.swc_ecma_codegen_common.specs.DecimalParts.{is_decimal}
-use Rattle.swc_ecma_codegen_ast.specs.DecimalValues.{decimal_digits}
+use Rattle.swc_ecma_codegen_grammar.specs.DecimalValues.{decimal_digits}
 use Rattle.swc_ecma_codegen_literals.proofs.DecimalTexts.{decimal_ascii}
 use Rattle.swc_ecma_codegen_literals.proofs.numbers.push_plain.Goals as goal
 

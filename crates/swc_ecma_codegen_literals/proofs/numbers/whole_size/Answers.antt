@@ -1,7 +1,7 @@
 use Rattle.std.proofs.Common.{◌≡◌, sym, true, List, ℕ, ◌∙◌, ap, ◌++◌, int_le, pos, rules, Some, None, nat_le, ◌^◌}
 use Rattle.std.proofs.lemmas.Bool.{le-leb, lt-leb, cond-true, cond-false}
 use Rattle.swc_ecma_codegen_common.specs.DecimalParts.{is_decimal}
-use Rattle.swc_ecma_codegen_ast.specs.DecimalValues.{decimal_digits}
+use Rattle.swc_ecma_codegen_grammar.specs.DecimalValues.{decimal_digits}
 use Rattle.swc_ecma_codegen_literals.specs.NumberTexts.{plain_size, whole_size}
 use Rattle.swc_ecma_codegen_literals.proofs.DecimalTexts.{parsed_whole, small}
 use Rattle.swc_ecma_codegen_literals.proofs.numbers.whole_size.Goals as goal

@@ -3,7 +3,7 @@ use Rattle.std.proofs.lemmas.Str.{scalars-chars}
 use Rattle.std.specs.Str.{chars, encode_utf8_all}
 use Rattle.std.specs.String.{string_bytes}
 use Rattle.swc_ecma_codegen_literals.specs.TemplateTexts.{template_text}
-use Rattle.swc_ecma_codegen_ast.specs.TemplateValues.{cooked_value}
+use Rattle.swc_ecma_codegen_grammar.specs.TemplateValues.{cooked_value}
 use Rattle.swc_ecma_codegen_literals.proofs.TemplateChars.{text_chars, text_ascii}
 use Rattle.swc_ecma_codegen_literals.proofs.TemplateCooks.{text_value}
 use Rattle.swc_ecma_codegen_literals.proofs.TemplateParts.{value_inside}

@@ -1,6 +1,6 @@
 use Rattle.std.proofs.Common.{sym, ◌∙◌, ap, ◌∷◌, List, ℕ}
 use Rattle.std.specs.Str.{chars}
-use Rattle.swc_ecma_codegen_ast.specs.Chars.{is_digit, begins_digit}
+use Rattle.swc_ecma_codegen_grammar.specs.Chars.{is_digit, begins_digit}
 use Rattle.swc_ecma_codegen_literals.specs.declared.templates.Piece.{Piece}
 use Rattle.swc_ecma_codegen_literals.specs.TemplateTexts.{pieces, spelled_pieces}
 use Rattle.swc_ecma_codegen_literals.proofs.TemplatePieces.{digit_turn, digit_bare, digit_gone, digit_none, digit_other}

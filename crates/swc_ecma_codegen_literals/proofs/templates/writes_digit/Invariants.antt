@@ -2,7 +2,7 @@ use Rattle.std.proofs.Common.{◌≡◌, length, Bool}
 use denote.Text.{Utf8}
 use denote.Shadow.{shadow}
 use Rattle.std.specs.Str.{chars}
-use Rattle.swc_ecma_codegen_ast.specs.Chars.{begins_digit}
+use Rattle.swc_ecma_codegen_grammar.specs.Chars.{begins_digit}
 use Rattle.swc_ecma_codegen_literals.specs.TemplateTexts.{pieces, spelled_pieces}
 use Rattle.swc_ecma_codegen_literals.proofs.templates.writes_digit.Given as goal
 

@@ -1,5 +1,5 @@
 use Rattle.std.proofs.Common.{ap}
-use Rattle.swc_ecma_codegen_base.specs.Run.{State, Follows}
+use Rattle.swc_ecma_codegen_tokens.specs.Run.{State, Follows}
 use Rattle.swc_ecma_codegen_tool.proofs.texts.print_by.Goals as goal
 
 -- the steps that were made are those of the tree

@@ -1,6 +1,6 @@
 use Rattle.std.proofs.Common.{ap, ◌∙◌}
-use Rattle.swc_ecma_codegen_ast.specs.Comments.{maps_in}
-use Rattle.swc_ecma_codegen_base.specs.Run.{State, printed}
+use Rattle.swc_ecma_codegen_grammar.specs.Comments.{maps_in}
+use Rattle.swc_ecma_codegen_tokens.specs.Run.{State, printed}
 use Rattle.swc_ecma_codegen_tool.proofs.texts.printed_on.Goals as goal
 
 -- what is printed goes from the state of a new emitter without comments

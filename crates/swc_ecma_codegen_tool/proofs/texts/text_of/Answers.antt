@@ -5,9 +5,9 @@ use Rattle.swc_ecma_codegen_text_writer.specs.Told.{told}
 use Rattle.swc_ecma_codegen_text_writer.specs.Sheet.{Sheet, HoldsNone, holds_semicolons}
 use Rattle.swc_ecma_codegen_text_writer.specs.Held.{with_held}
 use Rattle.swc_ecma_codegen_text_writer.specs.View.{sheet_of}
-use Rattle.swc_ecma_codegen_ast.specs.Comments.{no_maps}
-use Rattle.swc_ecma_codegen_ast.specs.SourceLines.{no_lines}
-use Rattle.swc_ecma_codegen_base.specs.Run.{Part, State, printed, start}
+use Rattle.swc_ecma_codegen_grammar.specs.Comments.{no_maps}
+use Rattle.swc_ecma_codegen_grammar.specs.SourceLines.{no_lines}
+use Rattle.swc_ecma_codegen_tokens.specs.Run.{Part, State, printed, start}
 use Rattle.swc_ecma_codegen.specs.Texts.{blank_sheet}
 use Rattle.swc_ecma_codegen_tool.specs.Faults.{EndsWithFault, GivesFault}
 use Rattle.swc_ecma_codegen_tool.specs.declared.faults.Fault.{Fault}

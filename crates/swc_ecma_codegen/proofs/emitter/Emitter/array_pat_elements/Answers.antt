@@ -1,9 +1,9 @@
 use Rattle.std.proofs.Common.{◌≡◌, ℕ, List, Option, map, ap, ◌∙◌, subst}
 use Rattle.swc_ecma_codegen_tree.specs.Links.{PatBox}
 use Rattle.swc_ecma_codegen_spans.specs.Spans.{option_span}
-use Rattle.swc_ecma_codegen_ast.specs.ElementPhrases.{last_is_hole}
+use Rattle.swc_ecma_codegen_grammar.specs.ElementPhrases.{last_is_hole}
 use Rattle.swc_ecma_codegen.specs.Standing.{Standing, Makes, standing_of}
-use Rattle.swc_ecma_codegen_base.specs.Lists.{list}
+use Rattle.swc_ecma_codegen_tokens.specs.Lists.{list}
 use Rattle.swc_ecma_codegen.specs.Lists.{child_of, if_some_at}
 use Rattle.swc_ecma_codegen.specs.Pats.{array_pat_format, pat_place, pat_items}
 use Rattle.swc_ecma_codegen.proofs.emitter.Emitter.array_pat_elements.Goals as goal

@@ -1,6 +1,6 @@
 use Rattle.std.proofs.Common.{◌≡◌, Bool, ◌||◌, ap, ◌∙◌}
-use Rattle.swc_ecma_codegen_ast.specs.FunctionPhrases.{is_some_listed}
-use Rattle.swc_ecma_codegen_ast.specs.Comments.{maps_in}
+use Rattle.swc_ecma_codegen_grammar.specs.FunctionPhrases.{is_some_listed}
+use Rattle.swc_ecma_codegen_grammar.specs.Comments.{maps_in}
 use Rattle.swc_ecma_codegen.specs.Commented.{has_comment_inside}
 use Rattle.swc_ecma_codegen.specs.Standing.{Standing, standing_of}
 use Rattle.swc_ecma_codegen.specs.Blocks.{block_children}

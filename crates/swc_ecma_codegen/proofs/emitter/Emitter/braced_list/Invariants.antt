@@ -1,7 +1,7 @@
 use Rattle.std.proofs.Common.{drop, map}
 use Rattle.std.specs.List.{filter}
 use Rattle.swc_ecma_codegen.specs.Standing.{Continues, Stays, standing_of}
-use Rattle.swc_ecma_codegen_base.specs.Lists.{list}
+use Rattle.swc_ecma_codegen_tokens.specs.Lists.{list}
 use Rattle.swc_ecma_codegen.specs.Lists.{child_of, braced_rest}
 use Rattle.swc_ecma_codegen.proofs.emitter.Emitter.braced_list.Given as goal
 

@@ -1,7 +1,7 @@
 use Rattle.std.proofs.Common.{◌≡◌, ℕ, List, map, subst}
 use Rattle.swc_ecma_codegen_tree.specs.declared.stmts.SwitchCase.{SwitchCase}
 use Rattle.swc_ecma_codegen.specs.Standing.{Standing, Makes, standing_of}
-use Rattle.swc_ecma_codegen_base.specs.Lists.{list}
+use Rattle.swc_ecma_codegen_tokens.specs.Lists.{list}
 use Rattle.swc_ecma_codegen.specs.Lists.{child_of}
 use Rattle.swc_ecma_codegen.specs.Stmts.{cases_format, case_place, switch_case}
 use Rattle.swc_ecma_codegen.proofs.emitter.Emitter.cases.Goals as goal

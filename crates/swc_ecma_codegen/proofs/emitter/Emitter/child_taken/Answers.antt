@@ -1,7 +1,7 @@
 use Rattle.std.proofs.Common.{rules, subst}
 use Rattle.swc_ecma_codegen_common.specs.declared.positions.Span.{Span}
-use Rattle.swc_ecma_codegen_ast.specs.Comments.{maps_in}
-use Rattle.swc_ecma_codegen_base.specs.Lists as lists
+use Rattle.swc_ecma_codegen_grammar.specs.Comments.{maps_in}
+use Rattle.swc_ecma_codegen_tokens.specs.Lists as lists
 use Rattle.swc_ecma_codegen.specs.Standing.{Makes, standing_of}
 use Rattle.swc_ecma_codegen.proofs.Standings.{takes_made, unrefused}
 use Rattle.swc_ecma_codegen.proofs.emitter.Emitter.child_taken.Goals as goal

@@ -1,8 +1,8 @@
 use Rattle.std.proofs.Common.{Bool, subst, rules}
-use Rattle.swc_ecma_codegen_ast.specs.ListFormats.{closing_line}
+use Rattle.swc_ecma_codegen_grammar.specs.ListFormats.{closing_line}
 use Rattle.swc_ecma_codegen.specs.Standing.{Makes, standing_of}
-use Rattle.swc_ecma_codegen_base.specs.Lists as lists
-use Rattle.swc_ecma_codegen_ast.specs.Comments.{maps_in}
+use Rattle.swc_ecma_codegen_tokens.specs.Lists as lists
+use Rattle.swc_ecma_codegen_grammar.specs.Comments.{maps_in}
 use Rattle.swc_ecma_codegen.proofs.Standings.{asked, makes_here, unrefused}
 use Rattle.swc_ecma_codegen.proofs.emitter.Emitter.closing.Goals as goal
 

@@ -1,4 +1,4 @@
-use Rattle.swc_ecma_codegen_base.specs.Run.{State}
+use Rattle.swc_ecma_codegen_tokens.specs.Run.{State}
 use Rattle.swc_ecma_codegen.specs.View.{state_of}
 use Rattle.swc_ecma_codegen.proofs.TreeReads.{module_reads, module_told, steps_taken, module_safe, module_places}
 use Rattle.swc_ecma_codegen.proofs.ItemsTaken.{module_leaves}

@@ -1,4 +1,4 @@
-use Rattle.swc_ecma_codegen_base.specs.Run.{State}
+use Rattle.swc_ecma_codegen_tokens.specs.Run.{State}
 use Rattle.swc_ecma_codegen.specs.View.{state_of}
 use Rattle.swc_ecma_codegen.proofs.TreeReads.{steps_taken}
 use Rattle.swc_ecma_codegen.proofs.emitter.Emitter.emit_module_export_name.Goals as goal

@@ -1,4 +1,4 @@
-use Rattle.swc_ecma_codegen_base.specs.Run.{State}
+use Rattle.swc_ecma_codegen_tokens.specs.Run.{State}
 use Rattle.swc_ecma_codegen.specs.View.{state_of}
 use Rattle.swc_ecma_codegen.proofs.TreeReads.{item_reads, item_told, steps_taken, item_safe, item_places}
 use Rattle.swc_ecma_codegen.proofs.emitter.Emitter.emit_module_item.Goals as goal

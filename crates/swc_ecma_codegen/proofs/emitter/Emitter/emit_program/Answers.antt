@@ -1,4 +1,4 @@
-use Rattle.swc_ecma_codegen_base.specs.Run.{State}
+use Rattle.swc_ecma_codegen_tokens.specs.Run.{State}
 use Rattle.swc_ecma_codegen.specs.View.{state_of}
 use Rattle.swc_ecma_codegen.proofs.TreeReads.{program_reads, program_told, steps_taken, program_safe, program_places}
 use Rattle.swc_ecma_codegen.proofs.ItemsTaken.{program_leaves}

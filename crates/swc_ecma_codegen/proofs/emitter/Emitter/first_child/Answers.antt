@@ -1,7 +1,7 @@
 use Rattle.std.proofs.Common.{Bool, subst, sym, ◌∙◌}
-use Rattle.swc_ecma_codegen_ast.specs.ListFormats.{leading_line}
+use Rattle.swc_ecma_codegen_grammar.specs.ListFormats.{leading_line}
 use Rattle.swc_ecma_codegen.specs.Standing.{Makes, standing_of}
-use Rattle.swc_ecma_codegen_base.specs.Lists as lists
+use Rattle.swc_ecma_codegen_tokens.specs.Lists as lists
 use Rattle.swc_ecma_codegen.proofs.ListPlaces.{leads_asked}
 use Rattle.swc_ecma_codegen.proofs.Standings.{asked, same_settings}
 use Rattle.swc_ecma_codegen.specs.Lists.{child_of}

@@ -1,4 +1,4 @@
-use Rattle.swc_ecma_codegen_ast.specs.Comments.{maps_in}
+use Rattle.swc_ecma_codegen_grammar.specs.Comments.{maps_in}
 use Rattle.std.proofs.Common.{rules}
 use Rattle.swc_ecma_codegen.proofs.Standings.{makes_here, unrefused}
 use Rattle.swc_ecma_codegen.proofs.emitter.Emitter.formatting_space.Goals as goal

@@ -1,9 +1,9 @@
 use Rattle.std.proofs.Common.{◌≡◌, ℕ, false, map, refl, sym, subst}
 use Rattle.std.specs.List.{filter}
 use Rattle.swc_ecma_codegen_spans.specs.Spans.{import_specifier_span}
-use Rattle.swc_ecma_codegen_ast.specs.ListFormats.{indented}
+use Rattle.swc_ecma_codegen_grammar.specs.ListFormats.{indented}
 use Rattle.swc_ecma_codegen.specs.Standing.{Standing, Makes, standing_of}
-use Rattle.swc_ecma_codegen_base.specs.Lists.{list}
+use Rattle.swc_ecma_codegen_tokens.specs.Lists.{list}
 use Rattle.swc_ecma_codegen.specs.Lists.{child_of}
 use Rattle.swc_ecma_codegen.specs.Modules.{named_format, import_specifier, is_named}
 use Rattle.swc_ecma_codegen.proofs.emitter.Emitter.import_list.Goals as goal

@@ -1,7 +1,7 @@
 use Rattle.std.proofs.Common.{◌≤◌, ◌<◌, ◌+◌, ◌∙◌, length, drop, map, ap, sym, subst, rules}
-use Rattle.swc_ecma_codegen_base.specs.Run.{Plan}
+use Rattle.swc_ecma_codegen_tokens.specs.Run.{Plan}
 use Rattle.swc_ecma_codegen.specs.Standing.{Standing, Leads, standing_of}
-use Rattle.swc_ecma_codegen_base.specs.Lists.{next_child, list_after}
+use Rattle.swc_ecma_codegen_tokens.specs.Lists.{next_child, list_after}
 use Rattle.swc_ecma_codegen.specs.Lists.{child_of}
 use Rattle.swc_ecma_codegen.proofs.ListPlaces.{after_asked}
 use Rattle.swc_ecma_codegen.proofs.Steps.{list_next, list_ended}

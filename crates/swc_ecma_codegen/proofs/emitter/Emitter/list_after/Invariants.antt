@@ -1,6 +1,6 @@
 use Rattle.std.proofs.Common.{drop, map}
 use Rattle.swc_ecma_codegen.specs.Standing.{Continues, Stays, KeepsSettings, standing_of}
-use Rattle.swc_ecma_codegen_base.specs.Lists.{list_after}
+use Rattle.swc_ecma_codegen_tokens.specs.Lists.{list_after}
 use Rattle.swc_ecma_codegen.specs.Lists.{child_of}
 use Rattle.swc_ecma_codegen.proofs.emitter.Emitter.list_after.Given as goal
 

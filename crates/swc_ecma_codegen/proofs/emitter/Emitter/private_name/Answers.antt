@@ -1,5 +1,5 @@
 use Rattle.std.proofs.Common.{rules}
-use Rattle.swc_ecma_codegen_ast.specs.Comments.{maps_in}
+use Rattle.swc_ecma_codegen_grammar.specs.Comments.{maps_in}
 use Rattle.swc_ecma_codegen.proofs.Standings.{takes_made, unrefused}
 use Rattle.swc_ecma_codegen.proofs.emitter.Emitter.private_name.Goals as goal
 

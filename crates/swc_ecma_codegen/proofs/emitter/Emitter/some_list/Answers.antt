@@ -1,6 +1,6 @@
 use Rattle.std.proofs.Common.{map, subst}
-use Rattle.swc_ecma_codegen_base.specs.Run.{Plan}
-use Rattle.swc_ecma_codegen_base.specs.Lists as lists
+use Rattle.swc_ecma_codegen_tokens.specs.Run.{Plan}
+use Rattle.swc_ecma_codegen_tokens.specs.Lists as lists
 use Rattle.swc_ecma_codegen.specs.Standing.{Standing, Leads, standing_of}
 use Rattle.swc_ecma_codegen.specs.Lists.{child_of}
 use Rattle.swc_ecma_codegen.proofs.ListPlaces.{after_asked}

@@ -1,4 +1,4 @@
-use Rattle.swc_ecma_codegen_base.specs.Run.{State}
+use Rattle.swc_ecma_codegen_tokens.specs.Run.{State}
 use Rattle.swc_ecma_codegen.specs.View.{state_of}
 use Rattle.swc_ecma_codegen.proofs.TreeReads.{root_reads, root_told, steps_taken, root_names, root_places, root_ascii, root_safe}
 use Rattle.swc_ecma_codegen.proofs.TreeMade.{root_made}

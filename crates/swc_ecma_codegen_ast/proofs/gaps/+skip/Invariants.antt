@@ -1,5 +1,0 @@
-use Rattle.std.proofs.Common.{length}
-use Rattle.swc_ecma_codegen_ast.proofs.gaps.+skip.Given as goal
-
-abbrev pub decreases-skip : goal.decreases-skip
-decreases-skip l = length l.text.now

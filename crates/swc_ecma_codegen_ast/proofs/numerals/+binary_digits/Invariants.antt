@@ -1,5 +1,0 @@
-use Rattle.std.proofs.Common.{length}
-use Rattle.swc_ecma_codegen_ast.proofs.numerals.+binary_digits.Given as goal
-
-abbrev pub decreases-binary_digits : goal.decreases-binary_digits
-decreases-binary_digits l = length l.text.now

@@ -1,5 +1,0 @@
-use Rattle.std.proofs.Common.{length}
-use Rattle.swc_ecma_codegen_ast.proofs.numerals.+has_suffix.Given as goal
-
-abbrev pub decreases-has_suffix : goal.decreases-has_suffix
-decreases-has_suffix l = length l.text.now

@@ -1,5 +1,0 @@
-use Rattle.std.proofs.Common.{length}
-use Rattle.swc_ecma_codegen_ast.proofs.numerals.+legacy.Given as goal
-
-abbrev pub decreases-legacy : goal.decreases-legacy
-decreases-legacy l = length l.text.now

@@ -1,5 +1,0 @@
-use Rattle.std.proofs.lemmas.Iterator.{items_from_collect, YieldsList-from_chars}
-use Rattle.swc_ecma_codegen_ast.proofs.reader.characters.Goals as goal
-
-pub returns : goal.returns
-returns c = items_from_collect c.collect.result c.collect.ensures.ran (YieldsList-from_chars c.args.text.now c.utf8.text c.chars.ensures.rest)

@@ -1,5 +1,0 @@
-use Rattle.std.proofs.Common.{length}
-use Rattle.swc_ecma_codegen_ast.proofs.shapes.+begins.Given as goal
-
-abbrev pub decreases-begins : goal.decreases-begins
-decreases-begins l = length l.text.now

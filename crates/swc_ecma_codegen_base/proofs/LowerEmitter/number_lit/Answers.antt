@@ -1,9 +1,0 @@
-use Rattle.swc_ecma_codegen_ast.specs.Comments.{maps_in}
-use Rattle.swc_ecma_codegen_ast.specs.LitPhrases as phrases
-use Rattle.swc_ecma_codegen_base.specs.Lits.{number_lit}
-use Rattle.swc_ecma_codegen_base.proofs.NumberPrints.{prints_number}
-use Rattle.swc_ecma_codegen_base.proofs.TokensSoFar.{adds_taking, number_jointless}
-use Rattle.swc_ecma_codegen_base.proofs.LowerEmitter.number_lit.Goals as goal
-
-pub returns-clause-reads : goal.returns-clause-reads
-returns-clause-reads g c = adds_taking (phrases.number c.args.n.now) (number_lit c.args.n.now) (maps_in g.C.Comments.maps c.args.comments.now) (maps_in g.C.Comments.maps c.number_at.new.comments) _ _ c.number_at.result (prints_number _ c.args.n.now) (number_jointless c.args.n.now) c.number_at.ensures.items

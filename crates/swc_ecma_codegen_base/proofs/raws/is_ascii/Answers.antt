@@ -1,5 +1,0 @@
-use Rattle.swc_ecma_codegen_base.proofs.RawTexts.{ascii_is}
-use Rattle.swc_ecma_codegen_base.proofs.raws.is_ascii.Goals as goal
-
-pub returns : goal.returns
-returns c = ascii_is _ c.args.text.now c.is_ascii.ensures.cases

@@ -1,6 +1,0 @@
-use Rattle.std.proofs.Common.{◌≡◌, drop}
-use Rattle.swc_ecma_codegen_grammar.specs.Possible.{all_possible}
-use Rattle.swc_ecma_codegen_grammar.proofs.forms.all_well_formed.Given as goal
-
-abbrev pub invariant-loop-node : goal.invariant-loop-node
-invariant-loop-node g l = all_possible g.T.WellFormed.phrase l.nodes ≡ all_possible g.T.WellFormed.phrase (drop l.node-index l.nodes)

@@ -1,0 +1,14 @@
+use Rattle.swc_ecma_codegen_grammar.proofs.LayoutLaws.{alongside, written_alongside, written_alike, one_list}
+use Rattle.swc_ecma_codegen_grammar.proofs.reading_laws.layouts_keep_the_tokens.Goals as goal
+
+pub returns-clause-lists : goal.returns-clause-lists
+returns-clause-lists c = alongside
+
+pub returns-clause-reduced : goal.returns-clause-reduced
+returns-clause-reduced c = written_alongside
+
+pub returns-clause-written : goal.returns-clause-written
+returns-clause-written c = written_alike
+
+pub returns-clause-one : goal.returns-clause-one
+returns-clause-one c = one_list

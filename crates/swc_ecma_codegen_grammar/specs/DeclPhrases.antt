@@ -1,0 +1,58 @@
+-- Declarations: one production a node. `f` says what is read of what a link holds, in its role. What TypeScript adds, `declare` and
+-- `!` after a name, isn't printed yet.
+use Rattle.std.specs.Prelude.{Bool, true, false, if◌then◌else◌, map, codes}
+use Rattle.swc_ecma_codegen_tree.specs.Links.{VarDeclBox}
+use Rattle.swc_ecma_codegen_tree.specs.declared.decls.Decl.{Decl}
+use Rattle.swc_ecma_codegen_tree.specs.declared.decls.Decl.TheVariants as decls
+use Rattle.swc_ecma_codegen_tree.specs.declared.decls.FnDecl.{FnDecl}
+use Rattle.swc_ecma_codegen_tree.specs.declared.decls.UsingDecl.{UsingDecl}
+use Rattle.swc_ecma_codegen_tree.specs.declared.decls.VarDecl.{VarDecl}
+use Rattle.swc_ecma_codegen_tree.specs.declared.decls.VarDeclKind.{VarDeclKind}
+use Rattle.swc_ecma_codegen_tree.specs.declared.decls.VarDeclKind.TheVariants.{Var, Let, Const}
+use Rattle.swc_ecma_codegen_tree.specs.declared.decls.VarDeclarator.{VarDeclarator}
+use Rattle.swc_ecma_codegen_grammar.specs.Phrases.{Phrase, Never, ◌>◌, word, same_line, ending, some_listed}
+use Rattle.swc_ecma_codegen_grammar.specs.NamePhrases.{ident}
+use Rattle.swc_ecma_codegen_grammar.specs.PatPhrases.{pat, initializer}
+use Rattle.swc_ecma_codegen_grammar.specs.ClassPhrases.{class_decl}
+use Rattle.swc_ecma_codegen_grammar.specs.FunctionPhrases.{function_at}
+use Rattle.swc_ecma_codegen_grammar.specs.declared.roles.Role.{Role}
+use Rattle.swc_ecma_codegen_grammar.specs.declared.roles.Role.TheVariants.{FunctionHead, VariableDeclaration}
+
+-- a declaration of variables that a link holds
+abbrev pub var_decl_at : {X : Type 0} → (X → Role → Phrase) → VarDeclBox X → Phrase
+var_decl_at f n = f n.node.value VariableDeclaration
+
+-- ECMA-262, section 15.2: `function f(a) { b; }`
+unfoldable pub fn_decl : {X : Type 0} → (X → Role → Phrase) → FnDecl X → Phrase
+fn_decl f n = if n.declare then Never else (f n.function.node.value FunctionHead > ident n.ident > function_at f n.function)
+
+-- section 14.3: `a`, `a = b`
+unfoldable pub var_declarator : {X : Type 0} → (X → Role → Phrase) → VarDeclarator X → Phrase
+var_declarator f n = if n.definite then Never else (pat f n.name > initializer f n.init)
+
+unfoldable pub var_kind : VarDeclKind → Phrase
+var_kind Var = word (codes "var")
+var_kind Let = word (codes "let")
+var_kind Const = word (codes "const")
+
+-- `let a = b, c`: of one declarator at least
+unfoldable pub var_decl : {X : Type 0} → (X → Role → Phrase) → VarDecl X → Phrase
+var_decl f n = if n.declare then Never else (var_kind n.kind > some_listed (codes ",") (map (var_declarator f) n.decls.items))
+
+-- behind `await`, where it is so, with no line end between
+unfoldable pub after_await : Bool → Phrase → Phrase
+after_await true phrase = word (codes "await") > same_line > phrase
+after_await false phrase = phrase
+
+-- A proposal: `await using a = b, c = d`, of one declarator at least. No line ends right after `using`, which would be a name then.
+unfoldable pub using_decl : {X : Type 0} → (X → Role → Phrase) → UsingDecl X → Phrase
+using_decl f n = after_await n.is_await (word (codes "using") > same_line > some_listed (codes ",") (map (var_declarator f) n.decls.items))
+
+-- one of variables ends with a semicolon here, and has none in the head of a `for`
+unfoldable pub decl : {X : Type 0} → (X → Role → Phrase) → Decl X → Phrase
+decl f (decls.Class n) = class_decl f n
+decl f (decls.Fn n) = fn_decl f n
+decl f (decls.Var n) = var_decl f n > ending
+decl f (decls.Using n) = using_decl f n > ending
+-- what isn't printed yet
+decl f n = Never

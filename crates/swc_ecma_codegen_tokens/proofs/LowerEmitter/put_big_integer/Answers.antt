@@ -1,0 +1,15 @@
+use Rattle.std.proofs.Common.{refl}
+use Rattle.swc_ecma_codegen_grammar.specs.declared.kinds.Kind.TheVariants.{BigInt}
+use Rattle.swc_ecma_codegen_grammar.specs.GapRules.{last_after}
+use Rattle.swc_ecma_codegen_text_writer.specs.Sheet.{StrLit}
+use Rattle.swc_ecma_codegen_tokens.specs.Run.{after_token, text_of, spelling}
+use Rattle.swc_ecma_codegen_tokens.proofs.Calls.{called, level, is_level}
+use Rattle.swc_ecma_codegen_tokens.proofs.LowerEmitter.put_big_integer.Goals as goal
+
+pub returns-clause-items : goal.returns-clause-items
+unfolding after_token last_after text_of spelling
+returns-clause-items g c = called BigInt (StrLit c.args.span c.args.text.now) _ c.args.self.now c.settle.new.self _ _ _ _ _ c.requires c.write_str_lit-answer.ensures c.settle.ensures.ok c.settle.ensures.err c.settle.ensures.same c.number_end-last.ensures
+
+pub returns-clause-level : goal.returns-clause-level
+unfolding is_level
+returns-clause-level g c = level _ _ _ _ _ c.write_str_lit-answer.ensures c.settle.ensures.same refl

@@ -1,0 +1,17 @@
+use Rattle.std.proofs.Common.{refl}
+use Rattle.swc_ecma_codegen_text_writer.specs.Sheet.{Shallower}
+use Rattle.swc_ecma_codegen_tokens.specs.Run.{after_plain}
+use Rattle.swc_ecma_codegen_tokens.specs.Lists.{shallower}
+use Rattle.swc_ecma_codegen_tokens.proofs.Calls.{called_kept, shallower_level}
+use Rattle.swc_ecma_codegen_tokens.proofs.Emitting.{does_failed}
+use Rattle.swc_ecma_codegen_tokens.proofs.LowerEmitter.shallower.Goals as goal
+
+pub returns-then-self-clause-items : goal.returns-then-self-clause-items
+returns-then-self-clause-items g c = λ lines maps rest. does_failed _ _ c.if-self.true lines maps
+
+pub returns-clause-items : goal.returns-clause-items
+unfolding after_plain shallower
+returns-clause-items g c = called_kept Shallower _ c.args.self.now c.keep.new.self _ _ _ _ c.if-self.false c.decrease_indent-answer.ensures c.keep.ensures.token c.keep.ensures.ok c.keep.ensures.err c.keep.ensures.same refl
+
+pub returns-clause-level : goal.returns-clause-level
+returns-clause-level g c = shallower_level _ _ _ _ c.requires c.decrease_indent-answer.ensures c.keep.ensures.same

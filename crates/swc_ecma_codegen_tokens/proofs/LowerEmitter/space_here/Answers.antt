@@ -1,0 +1,19 @@
+use Rattle.std.proofs.Common.{refl}
+use Rattle.swc_ecma_codegen_text_writer.specs.Sheet.{Space}
+use Rattle.swc_ecma_codegen_tokens.specs.Last.{last_at}
+use Rattle.swc_ecma_codegen_tokens.specs.Run.{after_plain}
+use Rattle.swc_ecma_codegen_tokens.specs.Words.{space}
+use Rattle.swc_ecma_codegen_tokens.proofs.Calls.{called_plain, level, is_level, noted_ok, noted_err}
+use Rattle.swc_ecma_codegen_tokens.proofs.Emitting.{does_failed}
+use Rattle.swc_ecma_codegen_tokens.proofs.LowerEmitter.space_here.Goals as goal
+
+pub returns-then-self-clause-items : goal.returns-then-self-clause-items
+returns-then-self-clause-items g c = λ lines maps rest. does_failed _ _ c.if-self.true lines maps
+
+pub returns-clause-items : goal.returns-clause-items
+unfolding last_at after_plain space
+returns-clause-items g c = called_plain (Space) _ c.args.self.now c.settle_noted.new.self _ _ _ _ _ c.if-self.false c.write_space-answer.ensures (noted_ok _ c.settle_noted.new.self c.note-before.new.self c.args.self.now _ c.note-before.ensures.token c.note-before.ensures.failed c.settle_noted.ensures.ok) (noted_err _ c.settle_noted.new.self c.args.self.now _ c.note-before.ensures.before c.settle_noted.ensures.err) c.settle_noted.ensures.same refl
+
+pub returns-clause-level : goal.returns-clause-level
+unfolding is_level
+returns-clause-level g c = level _ _ _ _ _ c.write_space-answer.ensures c.settle_noted.ensures.same refl

@@ -1,0 +1,263 @@
+//! Comments that are taken out of the maps and written.
+
+ghost use Rattle.std.specs.Prelude.{◌≡◌, OnOk, codes, string_bytes, option_map};
+ghost use Rattle.swc_ecma_codegen_grammar.specs.declared.comments.CommentKind.TheVariants.{Line as OfLine, Block as OfBlock};
+ghost use Rattle.swc_ecma_codegen_text_writer.specs.Sheet.{Comment as Piece};
+ghost use Rattle.swc_ecma_codegen_grammar.specs.CommentMaps.{listed};
+ghost use Rattle.swc_ecma_codegen_grammar.specs.Comments.{maps_in};
+ghost use Rattle.swc_ecma_codegen_tokens.specs.Run.{Does, DoesTaking, step, Guard, Plain, CommentText};
+ghost use Rattle.swc_ecma_codegen_tokens.specs.Words.{comment_blank, before_closing, comment_by, comment, comments, leading_comments, trailing_comments, comments_before_end};
+ghost use Rattle.swc_ecma_codegen_tokens.specs.View.{state_of};
+
+use crate::LowerEmitter;
+use crate::last::Last;
+use crate::starts::StartClass;
+use swc_ecma_codegen_common::{Answer, BytePos, Refusal};
+use swc_ecma_codegen_grammar::comments::{Comment, CommentKind, Comments};
+use swc_ecma_codegen_literals::Punctuator;
+use swc_ecma_codegen_text_writer::WriteJs;
+use swc_ecma_codegen_util::config::Config;
+
+impl LowerEmitter {
+    /// The call of a piece of a comment: what opens or closes it, or the blank before it.
+    #[inline(never)]
+    fn comment_piece<W: WriteJs>(&mut self, cfg: &Config, wr: &mut W, text: &str) -> Answer
+        ensures items { Does (step (Plain (Piece text.now))) (state_of cfg.now (W.sheet wr.old) self.old) (state_of cfg.now (W.sheet wr.new) self.new) result }
+        ensures level { OnOk result ((W.sheet wr.new).indentation ≡ (W.sheet wr.old).indentation) }
+    {
+        let _ = cfg;
+        if self.failed {
+            return Err(Refusal::Failed);
+        }
+        let before = self.note(Last::Apart);
+        let answer = wr.write_comment(text);
+        self.settle_noted(answer, before)
+    }
+
+    /// The call of the text of a comment.
+    #[inline(never)]
+    fn comment_text<W: WriteJs>(&mut self, cfg: &Config, wr: &mut W, text: &str) -> Answer
+        ensures items { Does (step (CommentText text.now)) (state_of cfg.now (W.sheet wr.old) self.old) (state_of cfg.now (W.sheet wr.new) self.new) result }
+        ensures level { OnOk result ((W.sheet wr.new).indentation ≡ (W.sheet wr.old).indentation) }
+    {
+        let _ = cfg;
+        if self.failed {
+            return Err(Refusal::Failed);
+        }
+        let before = self.note(Last::Apart);
+        let answer = wr.write_comment(text);
+        self.settle_noted(answer, before)
+    }
+
+    /// The blank that is due before a comment up to the end of its line.
+    #[tactic(auto, using(crate::proofs::CommentStarts::line_start))]
+    fn guard_line_comment<W: WriteJs>(&mut self, cfg: &Config, wr: &mut W) -> Answer
+        ensures items { Does (step (Guard (codes "//"))) (state_of cfg.now (W.sheet wr.old) self.old) (state_of cfg.now (W.sheet wr.new) self.new) result }
+        ensures level { OnOk result ((W.sheet wr.new).indentation ≡ (W.sheet wr.old).indentation) }
+    {
+        self.guard(cfg, wr, "//", StartClass::of_mark(Punctuator::Slash))
+    }
+
+    /// The blank that is due before a comment in a line.
+    #[tactic(auto, using(crate::proofs::CommentStarts::block_start))]
+    fn guard_block_comment<W: WriteJs>(&mut self, cfg: &Config, wr: &mut W) -> Answer
+        ensures items { Does (step (Guard (codes "/*"))) (state_of cfg.now (W.sheet wr.old) self.old) (state_of cfg.now (W.sheet wr.new) self.new) result }
+        ensures level { OnOk result ((W.sheet wr.new).indentation ≡ (W.sheet wr.old).indentation) }
+    {
+        self.guard(cfg, wr, "/*", StartClass::of_mark(Punctuator::Slash))
+    }
+
+    /// The position before what closes a comment, where there is room for one.
+    #[tactic(auto, unfolding(crate::specs::Words::before_closing))]
+    fn before_closing<W: WriteJs>(&mut self, cfg: &Config, wr: &mut W, pos: BytePos) -> Answer
+        ensures items { Does (before_closing pos) (state_of cfg.now (W.sheet wr.old) self.old) (state_of cfg.now (W.sheet wr.new) self.new) result }
+        ensures level { OnOk result ((W.sheet wr.new).indentation ≡ (W.sheet wr.old).indentation) }
+    {
+        if 2 < pos.0 {
+            return self.record(cfg, wr, BytePos(pos.0 - 2));
+        }
+        Ok(())
+    }
+
+    /// `// a`, and the end of its line.
+    #[tactic(auto, unfolding(crate::specs::Words::comment_by))]
+    fn line_comment<W: WriteJs>(&mut self, cfg: &Config, wr: &mut W, node: &Comment) -> Answer
+        ensures items { Does (comment_by OfLine node.now.span (string_bytes node.now.text)) (state_of cfg.now (W.sheet wr.old) self.old) (state_of cfg.now (W.sheet wr.new) self.new) result }
+        ensures level { OnOk result ((W.sheet wr.new).indentation ≡ (W.sheet wr.old).indentation) }
+    {
+        self.position(cfg, wr, node.span.lo)?;
+        self.guard_line_comment(cfg, wr)?;
+        self.comment_piece(cfg, wr, "//")?;
+        self.comment_text(cfg, wr, &node.text)?;
+        self.position(cfg, wr, node.span.hi)?;
+        self.line(cfg, wr)
+    }
+
+    /// `/* a */`, and a blank unless the settings are to minify.
+    #[tactic(auto, unfolding(crate::specs::Words::comment_by))]
+    fn block_comment<W: WriteJs>(&mut self, cfg: &Config, wr: &mut W, node: &Comment) -> Answer
+        ensures items { Does (comment_by OfBlock node.now.span (string_bytes node.now.text)) (state_of cfg.now (W.sheet wr.old) self.old) (state_of cfg.now (W.sheet wr.new) self.new) result }
+        ensures level { OnOk result ((W.sheet wr.new).indentation ≡ (W.sheet wr.old).indentation) }
+    {
+        self.position(cfg, wr, node.span.lo)?;
+        self.guard_block_comment(cfg, wr)?;
+        self.comment_piece(cfg, wr, "/*")?;
+        self.comment_text(cfg, wr, &node.text)?;
+        self.before_closing(cfg, wr, node.span.hi)?;
+        self.comment_piece(cfg, wr, "*/")?;
+        self.formatting_space(cfg, wr)
+    }
+
+    /// The blank before a comment, unless the settings are to minify.
+    #[tactic(auto, using(crate::proofs::CommentSteps::no_blank, crate::proofs::CommentSteps::skipped_blank, crate::proofs::CommentSteps::blank_written))]
+    fn comment_blank<W: WriteJs>(&mut self, cfg: &Config, wr: &mut W, wanted: bool) -> Answer
+        ensures items { Does (comment_blank wanted) (state_of cfg.now (W.sheet wr.old) self.old) (state_of cfg.now (W.sheet wr.new) self.new) result }
+        ensures level { OnOk result ((W.sheet wr.new).indentation ≡ (W.sheet wr.old).indentation) }
+    {
+        if !wanted {
+            return Ok(());
+        }
+        if cfg.minify {
+            return Ok(());
+        }
+        self.comment_piece(cfg, wr, " ")
+    }
+
+    /// A comment.
+    #[tactic(auto, unfolding(crate::specs::Words::comment))]
+    fn comment<W: WriteJs>(
+        &mut self,
+        cfg: &Config,
+        wr: &mut W,
+        node: &Comment,
+        prefix_space: bool,
+    ) -> Answer
+        ensures items { Does (comment prefix_space node.now) (state_of cfg.now (W.sheet wr.old) self.old) (state_of cfg.now (W.sheet wr.new) self.new) result }
+        ensures level { OnOk result ((W.sheet wr.new).indentation ≡ (W.sheet wr.old).indentation) }
+    {
+        self.comment_blank(cfg, wr, prefix_space)?;
+        match node.kind {
+            CommentKind::Line => self.line_comment(cfg, wr, node),
+            CommentKind::Block => self.block_comment(cfg, wr, node),
+        }
+    }
+
+    /// Comments, one after another.
+    fn comments<W: WriteJs>(
+        &mut self,
+        cfg: &Config,
+        wr: &mut W,
+        nodes: &[Comment],
+        prefix_space: bool,
+    ) -> Answer
+        ensures items { Does (comments prefix_space nodes.now) (state_of cfg.now (W.sheet wr.old) self.old) (state_of cfg.now (W.sheet wr.new) self.new) result }
+        ensures level { OnOk result ((W.sheet wr.new).indentation ≡ (W.sheet wr.old).indentation) }
+    {
+        for node in nodes {
+            match self.comment(cfg, wr, node, prefix_space) {
+                Ok(()) => {}
+                Err(refusal) => return Err(refusal),
+            }
+        }
+        Ok(())
+    }
+
+    /// Takes the comments before a position out of the maps, and writes them. Where there are none, that takes no call.
+    #[inline(always)]
+    #[tactic(auto, using(crate::proofs::NoComments::leading_unasked))]
+    pub fn leading_comments<W: WriteJs, C: Comments>(
+        &mut self,
+        cfg: &Config,
+        comments: &mut Option<C>,
+        wr: &mut W,
+        pos: BytePos,
+    ) -> Answer
+        ensures items { DoesTaking (leading_comments pos) (maps_in C.maps comments.old) (maps_in C.maps comments.new) (state_of cfg.now (W.sheet wr.old) self.old) (state_of cfg.now (W.sheet wr.new) self.new) result }
+        ensures level { OnOk result ((W.sheet wr.new).indentation ≡ (W.sheet wr.old).indentation) }
+    {
+        if comments.is_none() {
+            return Ok(());
+        }
+        self.leading_taken(cfg, comments, wr, pos)
+    }
+
+    /// The same where there are some.
+    #[inline(never)]
+    fn leading_taken<W: WriteJs, C: Comments>(
+        &mut self,
+        cfg: &Config,
+        comments: &mut Option<C>,
+        wr: &mut W,
+        pos: BytePos,
+    ) -> Answer
+        ensures items { DoesTaking (leading_comments pos) (maps_in C.maps comments.old) (maps_in C.maps comments.new) (state_of cfg.now (W.sheet wr.old) self.old) (state_of cfg.now (W.sheet wr.new) self.new) result }
+        ensures level { OnOk result ((W.sheet wr.new).indentation ≡ (W.sheet wr.old).indentation) }
+    {
+        if self.failed {
+            return Err(Refusal::Failed);
+        }
+        if pos.0 == 0 {
+            return Ok(());
+        }
+        match comments {
+            None => Ok(()),
+            Some(all) => match all.take_leading(pos) {
+                None => Ok(()),
+                Some(list) => self.comments(cfg, wr, &list, false),
+            },
+        }
+    }
+
+    /// The same before the last character of what ends at a position: those before `}`.
+    pub fn comments_before_end<W: WriteJs, C: Comments>(
+        &mut self,
+        cfg: &Config,
+        comments: &mut Option<C>,
+        wr: &mut W,
+        pos: BytePos,
+    ) -> Answer
+        ensures items { DoesTaking (comments_before_end pos) (maps_in C.maps comments.old) (maps_in C.maps comments.new) (state_of cfg.now (W.sheet wr.old) self.old) (state_of cfg.now (W.sheet wr.new) self.new) result }
+        ensures level { OnOk result ((W.sheet wr.new).indentation ≡ (W.sheet wr.old).indentation) }
+    {
+        if self.failed {
+            return Err(Refusal::Failed);
+        }
+        if pos.0 == 0 {
+            return Ok(());
+        }
+        match comments {
+            None => Ok(()),
+            Some(all) => match all.take_leading(BytePos(pos.0 - 1)) {
+                None => Ok(()),
+                Some(list) => self.comments(cfg, wr, &list, false),
+            },
+        }
+    }
+
+    /// Takes the comments after a position out of the maps, and writes them.
+    pub fn trailing_comments<W: WriteJs, C: Comments>(
+        &mut self,
+        cfg: &Config,
+        comments: &mut Option<C>,
+        wr: &mut W,
+        pos: BytePos,
+        prefix_space: bool,
+    ) -> Answer
+        ensures items { DoesTaking (trailing_comments prefix_space pos) (maps_in C.maps comments.old) (maps_in C.maps comments.new) (state_of cfg.now (W.sheet wr.old) self.old) (state_of cfg.now (W.sheet wr.new) self.new) result }
+        ensures level { OnOk result ((W.sheet wr.new).indentation ≡ (W.sheet wr.old).indentation) }
+    {
+        if self.failed {
+            return Err(Refusal::Failed);
+        }
+        if pos.0 == 0 {
+            return Ok(());
+        }
+        match comments {
+            None => Ok(()),
+            Some(all) => match all.take_trailing(pos) {
+                None => Ok(()),
+                Some(list) => self.comments(cfg, wr, &list, prefix_space),
+            },
+        }
+    }
+}

@@ -1,0 +1,87 @@
+//! The lower emitter: it writes tokens, and what stands between them, and never calls a node's function.
+#![tactic(auto)]
+
+ghost use Rattle.std.specs.Prelude.{◌≡◌, ◌<◌, false};
+ghost use Rattle.swc_ecma_codegen_common.specs.Refusals.{reason_of};
+ghost use Rattle.swc_ecma_codegen_tokens.specs.Classes.{row_of};
+ghost use Rattle.swc_ecma_codegen_tokens.specs.Last.{class_of};
+
+mod comments;
+mod guard;
+mod keys;
+mod last;
+pub mod laws;
+mod list_commas;
+mod lists;
+mod literals;
+mod lits;
+mod names;
+mod numbers;
+mod private_names;
+mod raws;
+mod refusals;
+mod starts;
+mod tags;
+mod templates;
+mod tokens;
+
+pub use crate::guard::blank_due;
+use crate::guard::row;
+pub use crate::last::Last;
+pub use crate::refusals::Unprintable;
+pub use crate::starts::StartClass;
+use std::alloc::Global;
+use std::io;
+use std::snapshot::Snapshot;
+use swc_ecma_codegen_common::{Error, Refusal};
+use swc_ecma_codegen_literals::TokenClass;
+
+/// What an emission keeps from one call to the next: the allocator, the class of the last token with its row in the table of
+/// blanks, which the next token asks for, whether a call was refused, and the error that the writer gave. Proofs see the last
+/// token itself. Once a call was refused no class is asked for, and it may be that of the token that wasn't written.
+#[derive(Drop)]
+pub struct LowerEmitter {
+    alloc: Global,
+    last: TokenClass,
+    row: usize,
+    token: Snapshot<Last>,
+    failed: bool,
+    fault: Option<io::Error>,
+    ghost class: { failed ≡ false → class_of token.value ≡ last },
+    ghost of_class: { row ≡ row_of last },
+    ghost below: { row < 63 },
+}
+
+impl LowerEmitter {
+    /// One that has written nothing.
+    #[tactic(auto, unfolding(crate::specs::Last::class_of))]
+    pub fn new(alloc: Global) -> LowerEmitter
+        ensures token { result.token.value ≡ Last.Start }
+        ensures failed { result.failed ≡ false }
+    {
+        LowerEmitter {
+            alloc,
+            last: TokenClass::Rest,
+            row: row(TokenClass::Rest),
+            token: Snapshot::of(&Last::Start),
+            failed: false,
+            fault: None,
+        }
+    }
+
+    /// Whether a call was refused.
+    pub fn is_failed(&self) -> bool
+        ensures { result ≡ self.now.failed }
+    {
+        self.failed
+    }
+
+    /// The error of a refusal, with the one that the writer gave.
+    pub fn error(&mut self, refusal: Refusal) -> Error
+        ensures reason { reason_of result ≡ refusal }
+        ensures token { self.new.token.value ≡ self.old.token.value }
+        ensures failed { self.new.failed ≡ self.old.failed }
+    {
+        refusal.with_fault(self.fault.take())
+    }
+}

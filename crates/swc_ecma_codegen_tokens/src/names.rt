@@ -1,0 +1,246 @@
+//! Names.
+
+ghost use Rattle.std.specs.Prelude.{◌≡◌, ℕ, OnOk, List, ◌++◌, false, true};
+ghost use Rattle.std.specs.Str.{chars};
+ghost use Rattle.swc_ecma_codegen_tokens.specs.Starts.{start_class};
+ghost use Rattle.swc_ecma_codegen_grammar.specs.Comments.{maps_in, AreClosed};
+ghost use Rattle.swc_ecma_codegen_grammar.specs.SourceLines.{no_lines};
+ghost use Rattle.swc_ecma_codegen_tokens.specs.Run.{DoesTaking, Does};
+ghost use Rattle.swc_ecma_codegen_tokens.specs.Targets.{wants_escapes};
+ghost use Rattle.swc_ecma_codegen_tokens.specs.Words.{name, name_text, symbol, spelled_symbol, valid_symbol, question};
+ghost use Rattle.swc_ecma_codegen_grammar.specs.Tokens.{Token};
+ghost use Rattle.swc_ecma_codegen_grammar.specs.Trivia.{Remark};
+ghost use Rattle.swc_ecma_codegen_grammar.specs.SpelledNames.{is_well_formed_name};
+ghost use Rattle.swc_ecma_codegen_tokens.specs.Written.{ReadsSoFar, name_tokens, taken_remarks};
+ghost use Rattle.swc_ecma_codegen_tokens.specs.View.{state_of, env_of};
+
+use crate::LowerEmitter;
+use crate::guard::blank_due_after;
+use crate::raws::is_ascii;
+use crate::starts::StartClass;
+use swc_ecma_codegen_common::{Answer, Refusal, Span};
+use swc_ecma_codegen_grammar::comments::Comments;
+use swc_ecma_codegen_literals::{Punctuator, ascii_only_ident, holds_backslash, valid_name};
+use swc_ecma_codegen_text_writer::WriteJs;
+use swc_ecma_codegen_util::config::Config;
+
+/// Whether a text of a name is made anew in ASCII.
+#[tactic(auto, unfolding(crate::specs::Targets::wants_escapes))]
+pub(crate) fn wants_escapes(cfg: &Config, text: &str) -> bool
+    ensures { result ≡ wants_escapes cfg.now text.now }
+{
+    cfg.ascii_only && !is_ascii(text)
+}
+
+impl LowerEmitter {
+    /// Writes a name by a text, and records its position. Mostly no blank is due before it.
+    #[inline(always)]
+    pub(crate) fn symbol<W: WriteJs>(
+        &mut self,
+        cfg: &Config,
+        wr: &mut W,
+        span: Span,
+        text: &str,
+    ) -> Answer
+        ensures items { Does (symbol span text.now) (state_of cfg.now (W.sheet wr.old) self.old) (state_of cfg.now (W.sheet wr.new) self.new) result }
+        ensures level { OnOk result ((W.sheet wr.new).indentation ≡ (W.sheet wr.old).indentation) }
+    {
+        let next = StartClass::of_text(text);
+        if self.failed || blank_due_after(self.row, next) {
+            return self.symbol_apart(cfg, wr, span, text, next);
+        }
+        self.symbol_here(cfg, wr, span, text, next)
+    }
+
+    /// The same of a text that begins so, in a function of its own: a name before which nothing is due takes fewer registers.
+    #[inline(never)]
+    fn symbol_apart<W: WriteJs>(
+        &mut self,
+        cfg: &Config,
+        wr: &mut W,
+        span: Span,
+        text: &str,
+        next: StartClass,
+    ) -> Answer
+        requires { start_class (chars text.now) ≡ next }
+        ensures items { Does (symbol span text.now) (state_of cfg.now (W.sheet wr.old) self.old) (state_of cfg.now (W.sheet wr.new) self.new) result }
+        ensures level { OnOk result ((W.sheet wr.new).indentation ≡ (W.sheet wr.old).indentation) }
+    {
+        self.symbol_here(cfg, wr, span, text, next)
+    }
+
+    /// The same, where it is called.
+    #[inline(always)]
+    #[tactic(auto, unfolding(crate::specs::Words::symbol))]
+    fn symbol_here<W: WriteJs>(
+        &mut self,
+        cfg: &Config,
+        wr: &mut W,
+        span: Span,
+        text: &str,
+        next: StartClass,
+    ) -> Answer
+        requires { start_class (chars text.now) ≡ next }
+        ensures items { Does (symbol span text.now) (state_of cfg.now (W.sheet wr.old) self.old) (state_of cfg.now (W.sheet wr.new) self.new) result }
+        ensures level { OnOk result ((W.sheet wr.new).indentation ≡ (W.sheet wr.old).indentation) }
+    {
+        self.guard(cfg, wr, text, next)?;
+        self.position(cfg, wr, span.lo)?;
+        self.put_symbol(cfg, wr, text)?;
+        Ok(())
+    }
+
+    /// Writes a name by a text that isn't ASCII, in ASCII.
+    #[inline(never)]
+    fn ascii_symbol<W: WriteJs>(
+        &mut self,
+        cfg: &Config,
+        wr: &mut W,
+        span: Span,
+        text: &str,
+    ) -> Answer
+        requires { wants_escapes cfg.now text.now ≡ true }
+        ensures items { Does (spelled_symbol span text.now) (state_of cfg.now (W.sheet wr.old) self.old) (state_of cfg.now (W.sheet wr.new) self.new) result }
+        ensures level { OnOk result ((W.sheet wr.new).indentation ≡ (W.sheet wr.old).indentation) }
+    {
+        if self.failed {
+            return Err(Refusal::Failed);
+        }
+        match ascii_only_ident(self.alloc, text, false, cfg.target) {
+            Ok(name) => self.symbol(cfg, wr, span, &name),
+            Err(error) => {
+                self.failed = true;
+                Err(error.refusal())
+            }
+        }
+    }
+
+    /// Writes a name by a text, which is escaped where the settings ask for ASCII.
+    #[inline(always)]
+    fn spelled_symbol<W: WriteJs>(
+        &mut self,
+        cfg: &Config,
+        wr: &mut W,
+        span: Span,
+        text: &str,
+    ) -> Answer
+        ensures items { Does (spelled_symbol span text.now) (state_of cfg.now (W.sheet wr.old) self.old) (state_of cfg.now (W.sheet wr.new) self.new) result }
+        ensures level { OnOk result ((W.sheet wr.new).indentation ≡ (W.sheet wr.old).indentation) }
+    {
+        if wants_escapes(cfg, text) {
+            return self.ascii_symbol(cfg, wr, span, text);
+        }
+        self.symbol(cfg, wr, span, text)
+    }
+
+    /// Writes a name in which U+0000 after a backslash is left out.
+    #[inline(always)]
+    #[tactic(auto, unfolding(crate::specs::Words::valid_symbol))]
+    fn valid_symbol<W: WriteJs>(
+        &mut self,
+        cfg: &Config,
+        wr: &mut W,
+        span: Span,
+        name: &str,
+    ) -> Answer
+        ensures items { Does (valid_symbol span name.now) (state_of cfg.now (W.sheet wr.old) self.old) (state_of cfg.now (W.sheet wr.new) self.new) result }
+        ensures level { OnOk result ((W.sheet wr.new).indentation ≡ (W.sheet wr.old).indentation) }
+    {
+        if !holds_backslash(name) {
+            return self.spelled_symbol(cfg, wr, span, name);
+        }
+        self.mended_symbol(cfg, wr, span, name)
+    }
+
+    /// The same of a name that may hold a backslash.
+    #[inline(never)]
+    #[tactic(auto, unfolding(crate::specs::Words::valid_symbol))]
+    fn mended_symbol<W: WriteJs>(
+        &mut self,
+        cfg: &Config,
+        wr: &mut W,
+        span: Span,
+        name: &str,
+    ) -> Answer
+        ensures items { Does (valid_symbol span name.now) (state_of cfg.now (W.sheet wr.old) self.old) (state_of cfg.now (W.sheet wr.new) self.new) result }
+        ensures level { OnOk result ((W.sheet wr.new).indentation ≡ (W.sheet wr.old).indentation) }
+    {
+        if self.failed {
+            return Err(Refusal::Failed);
+        }
+        match valid_name(self.alloc, name) {
+            Ok(text) => self.spelled_symbol(cfg, wr, span, &text),
+            Err(error) => {
+                self.failed = true;
+                Err(error.refusal())
+            }
+        }
+    }
+
+    /// Writes the text of a name, as the writer takes names.
+    #[inline(always)]
+    #[tactic(auto, unfolding(crate::specs::Words::name_text))]
+    pub(crate) fn name_text<W: WriteJs>(
+        &mut self,
+        cfg: &Config,
+        wr: &mut W,
+        span: Span,
+        sym: &str,
+    ) -> Answer
+        ensures items { Does (name_text span sym.now) (state_of cfg.now (W.sheet wr.old) self.old) (state_of cfg.now (W.sheet wr.new) self.new) result }
+        ensures level { OnOk result ((W.sheet wr.new).indentation ≡ (W.sheet wr.old).indentation) }
+    {
+        if wr.can_ignore_invalid_unicodes() {
+            return self.spelled_symbol(cfg, wr, span, sym);
+        }
+        self.valid_symbol(cfg, wr, span, sym)
+    }
+
+    /// Writes `?` after an optional name.
+    #[tactic(auto, unfolding(crate::specs::Words::question))]
+    pub(crate) fn question<W: WriteJs>(
+        &mut self,
+        cfg: &Config,
+        wr: &mut W,
+        optional: bool,
+    ) -> Answer
+        ensures items { Does (question optional) (state_of cfg.now (W.sheet wr.old) self.old) (state_of cfg.now (W.sheet wr.new) self.new) result }
+        ensures level { OnOk result ((W.sheet wr.new).indentation ≡ (W.sheet wr.old).indentation) }
+    {
+        if optional {
+            self.punct_apart(cfg, wr, Punctuator::Question)?;
+        }
+        Ok(())
+    }
+
+    /// Writes a name with its comments, and `?` after an optional one. swc's `emit_ident_like`.
+    #[inline(always)]
+    #[tactic(auto, unfolding(crate::specs::Words::name))]
+    pub fn name<W: WriteJs, C: Comments>(
+        &mut self,
+        cfg: &Config,
+        comments: &mut Option<C>,
+        wr: &mut W,
+        span: Span,
+        sym: &str,
+        optional: bool,
+    ) -> Answer
+        ensures items { DoesTaking (name span sym.now optional) (maps_in C.maps comments.old) (maps_in C.maps comments.new) (state_of cfg.now (W.sheet wr.old) self.old) (state_of cfg.now (W.sheet wr.new) self.new) result }
+        // The text reads as the tokens so far and the name, whatever follows that doesn't fuse.
+        ensures reads { (text_before : List ℕ) (tokens : List Token) (remarks : List Remark) →
+            AreClosed (maps_in C.maps comments.old) → is_well_formed_name sym.now ≡ true →
+            (W.sheet wr.old).keeps_invalid ≡ false →
+            ReadsSoFar text_before tokens remarks (state_of cfg.now (W.sheet wr.old) self.old) →
+            OnOk result (ReadsSoFar text_before (tokens ++ name_tokens sym.now optional)
+            (remarks ++ taken_remarks (name span sym.now optional)
+            (env_of no_lines (maps_in C.maps comments.old) cfg.now (W.sheet wr.old)))
+            (state_of cfg.now (W.sheet wr.new) self.new)) }
+        ensures level { OnOk result ((W.sheet wr.new).indentation ≡ (W.sheet wr.old).indentation) }
+    {
+        self.leading_comments(cfg, comments, wr, span.lo)?;
+        self.put_pending_semi(cfg, wr)?;
+        self.name_text(cfg, wr, span, sym)?;
+        self.question(cfg, wr, optional)?;
+        Ok(())
+    }
+}

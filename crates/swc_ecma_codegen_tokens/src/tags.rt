@@ -1,0 +1,153 @@
+//! Tokens of JSX: a name in a tag, the text between tags, what begins a child, and the `>` that closes a tag.
+
+ghost use Rattle.std.specs.Prelude.{◌≡◌, None, OnOk, [], ◌∷◌, codes, true, false};
+ghost use Rattle.std.specs.Str.{chars, is_utf8};
+ghost use Rattle.swc_ecma_codegen_spans.specs.Spans.{dummy_span};
+ghost use Rattle.swc_ecma_codegen_grammar.specs.Jsx.{is_jsx_name, is_jsx_text, is_jsx_open};
+ghost use Rattle.swc_ecma_codegen_grammar.specs.declared.kinds.Kind.TheVariants as kind;
+ghost use Rattle.swc_ecma_codegen_literals.specs.Punctuators.{spelling};
+ghost use Rattle.swc_ecma_codegen_text_writer.specs.Sheet.{StrLit, Symbol, Punct};
+ghost use Rattle.swc_ecma_codegen_tokens.specs.Run.{Does, step, Token};
+ghost use Rattle.swc_ecma_codegen_tokens.specs.Tags.{closing, close, tag_name_token, tag_name, text_token, jsx_text, open_token, child_open};
+ghost use Rattle.swc_ecma_codegen_tokens.specs.Written.{Anything, Between, InText, InName};
+ghost use Rattle.swc_ecma_codegen_tokens.specs.Adds.{Adds, AddsOn};
+ghost use Rattle.swc_ecma_codegen_tokens.specs.View.{state_of};
+
+use crate::LowerEmitter;
+use crate::last::Last;
+use crate::starts::StartClass;
+use swc_ecma_codegen_common::{Answer, DUMMY_SP, Refusal, Span};
+use swc_ecma_codegen_literals::Punctuator;
+use swc_ecma_codegen_text_writer::WriteJs;
+use swc_ecma_codegen_util::config::Config;
+
+impl LowerEmitter {
+    /// The call of a name in a tag.
+    fn put_tag_name<W: WriteJs>(&mut self, cfg: &Config, wr: &mut W, text: &str) -> Answer
+        requires { self.old.failed ≡ false }
+        ensures items { Does (step (Token kind.JsxName (Symbol dummy_span text.now))) (state_of cfg.now (W.sheet wr.old) self.old) (state_of cfg.now (W.sheet wr.new) self.new) result }
+        ensures level { OnOk result ((W.sheet wr.new).indentation ≡ (W.sheet wr.old).indentation) }
+    {
+        let _ = cfg;
+        let answer = wr.write_symbol(DUMMY_SP, text);
+        self.settle(answer, Last::TagNameEnd)
+    }
+
+    /// Writes a name in a tag.
+    #[inline(never)]
+    #[tactic(auto, unfolding(crate::specs::Tags::tag_name))]
+    pub fn tag_name<W: WriteJs>(&mut self, cfg: &Config, wr: &mut W, text: &str) -> Answer
+        ensures items { Does (tag_name text.now) (state_of cfg.now (W.sheet wr.old) self.old) (state_of cfg.now (W.sheet wr.new) self.new) result }
+        // What follows begins with no dash.
+        ensures reads { is_utf8 text.now ≡ true → is_jsx_name (chars text.now) ≡ true →
+            AddsOn Anything InName (tag_name_token text.now ∷ [])
+            cfg.now (W.sheet wr.old) self.old (W.sheet wr.new) self.new result }
+        ensures level { OnOk result ((W.sheet wr.new).indentation ≡ (W.sheet wr.old).indentation) }
+    {
+        self.guard(cfg, wr, text, StartClass::of_text(text))?;
+        self.put_tag_name(cfg, wr, text)?;
+        Ok(())
+    }
+
+    /// The call of what begins a child.
+    fn put_child_open<W: WriteJs>(&mut self, cfg: &Config, wr: &mut W, mark: Punctuator) -> Answer
+        requires { self.old.failed ≡ false }
+        ensures items { Does (step (Token kind.JsxOpen (Punct None (spelling mark)))) (state_of cfg.now (W.sheet wr.old) self.old) (state_of cfg.now (W.sheet wr.new) self.new) result }
+        ensures level { OnOk result ((W.sheet wr.new).indentation ≡ (W.sheet wr.old).indentation) }
+    {
+        let _ = cfg;
+        let last = Last::after(self.last, mark);
+        let before = self.note(last);
+        let answer = wr.write_punct(None, mark.as_str());
+        self.settle_noted(answer, before)
+    }
+
+    /// Writes the `<` or `{` that begins a child, or a closing tag.
+    #[inline(never)]
+    #[tactic(auto, unfolding(crate::specs::Tags::child_open), using(crate::proofs::Emitting::does_failed))]
+    pub fn child_open<W: WriteJs>(&mut self, cfg: &Config, wr: &mut W, mark: Punctuator) -> Answer
+        ensures items { Does (child_open (spelling mark)) (state_of cfg.now (W.sheet wr.old) self.old) (state_of cfg.now (W.sheet wr.new) self.new) result }
+        // Right behind the end of a tag or of a container, or behind text.
+        ensures reads { is_jsx_open (spelling mark) ≡ true → AddsOn InText Anything (open_token (spelling mark) ∷ [])
+            cfg.now (W.sheet wr.old) self.old (W.sheet wr.new) self.new result }
+        ensures level { OnOk result ((W.sheet wr.new).indentation ≡ (W.sheet wr.old).indentation) }
+    {
+        if self.failed {
+            return Err(Refusal::Failed);
+        }
+        self.put_child_open(cfg, wr, mark)?;
+        Ok(())
+    }
+
+    /// The call of the text between tags.
+    fn put_jsx_text<W: WriteJs>(
+        &mut self,
+        cfg: &Config,
+        wr: &mut W,
+        span: Span,
+        text: &str,
+    ) -> Answer
+        requires { self.old.failed ≡ false }
+        ensures items { Does (step (Token kind.JsxText (StrLit span text.now))) (state_of cfg.now (W.sheet wr.old) self.old) (state_of cfg.now (W.sheet wr.new) self.new) result }
+        ensures level { OnOk result ((W.sheet wr.new).indentation ≡ (W.sheet wr.old).indentation) }
+    {
+        let _ = cfg;
+        let answer = wr.write_str_lit(span, text);
+        self.settle(answer, Last::TextEnd)
+    }
+
+    /// Writes the text between tags.
+    #[inline(never)]
+    #[tactic(auto, unfolding(crate::specs::Tags::jsx_text), using(crate::proofs::Emitting::does_failed))]
+    pub fn jsx_text<W: WriteJs>(
+        &mut self,
+        cfg: &Config,
+        wr: &mut W,
+        span: Span,
+        text: &str,
+    ) -> Answer
+        ensures items { Does (jsx_text span text.now) (state_of cfg.now (W.sheet wr.old) self.old) (state_of cfg.now (W.sheet wr.new) self.new) result }
+        // Right behind the end of a tag or of a container; what begins a child follows, or a closing tag.
+        ensures reads { is_utf8 text.now ≡ true → is_jsx_text (chars text.now) ≡ true →
+            AddsOn Between InText (text_token text.now ∷ [])
+            cfg.now (W.sheet wr.old) self.old (W.sheet wr.new) self.new result }
+        ensures level { OnOk result ((W.sheet wr.new).indentation ≡ (W.sheet wr.old).indentation) }
+    {
+        if self.failed {
+            return Err(Refusal::Failed);
+        }
+        self.put_jsx_text(cfg, wr, span, text)?;
+        Ok(())
+    }
+
+    /// The call of the `>` that closes a tag, a list of types or a type assertion.
+    #[inline(always)]
+    fn put_close<W: WriteJs>(&mut self, cfg: &Config, wr: &mut W) -> Answer
+        requires { self.old.failed ≡ false }
+        ensures items { Does (step (Token kind.Close (Punct None (codes ">")))) (state_of cfg.now (W.sheet wr.old) self.old) (state_of cfg.now (W.sheet wr.new) self.new) result }
+        ensures level { OnOk result ((W.sheet wr.new).indentation ≡ (W.sheet wr.old).indentation) }
+    {
+        let _ = cfg;
+        let before = self.note(Last::Closing);
+        let answer = wr.write_punct(None, ">");
+        self.settle_noted(answer, before)
+    }
+
+    /// Writes the `>` that closes a tag, a list of types or a type assertion.
+    #[inline(always)]
+    #[tactic(auto, unfolding(crate::specs::Tags::close))]
+    pub fn close<W: WriteJs>(&mut self, cfg: &Config, wr: &mut W) -> Answer
+        ensures items { Does close (state_of cfg.now (W.sheet wr.old) self.old) (state_of cfg.now (W.sheet wr.new) self.new) result }
+        // The text reads as the tokens so far and this one, whatever follows that doesn't fuse.
+        ensures reads { Adds (closing ∷ [])
+            cfg.now (W.sheet wr.old) self.old (W.sheet wr.new) self.new result }
+        // Behind a name in a tag too; a child may follow.
+        ensures in_tag { AddsOn InName Between (closing ∷ [])
+            cfg.now (W.sheet wr.old) self.old (W.sheet wr.new) self.new result }
+        ensures level { OnOk result ((W.sheet wr.new).indentation ≡ (W.sheet wr.old).indentation) }
+    {
+        self.guard_mark(cfg, wr, Punctuator::Greater)?;
+        self.put_close(cfg, wr)?;
+        Ok(())
+    }
+}

@@ -1,0 +1,693 @@
+//! One call of the writer, and the blank that is due before it.
+//!
+//! What writes a token is inlined into the emitter's function of that name, which is not: the room for the error of a writer would be
+//! part of the frames of nodes, which are there once for each level of a tree. So a token takes one call or two. What else calls the
+//! writer is never inlined.
+
+ghost use Rattle.std.specs.Prelude.{◌≡◌, None, OnOk, OnErr, Option, [], ◌∷◌, codes, true, false};
+ghost use Rattle.std.specs.Str.{chars};
+ghost use Rattle.swc_ecma_codegen_common.specs.Refusals.{in_short, reason_of};
+ghost use Rattle.swc_ecma_codegen_literals.specs.Punctuators.{spelling};
+ghost use Rattle.swc_ecma_codegen_tokens.specs.Starts.{begins_letter, start_class};
+ghost use Rattle.swc_ecma_codegen_spans.specs.Spans.{dummy_span};
+ghost use Rattle.swc_ecma_codegen_text_writer.specs.Sheet.{Semi, Keyword, Operator, Symbol, Punct, Position};
+ghost use Rattle.swc_ecma_codegen_grammar.specs.GapRules.{fuses};
+ghost use Rattle.swc_ecma_codegen_grammar.specs.declared.kinds.Kind.TheVariants as kind;
+ghost use Rattle.swc_ecma_codegen_grammar.specs.Tokens as lexical;
+ghost use Rattle.swc_ecma_codegen_tokens.specs.Last.{last_at};
+ghost use Rattle.swc_ecma_codegen_tokens.specs.Run.{Does, step, Guard, Token, Plain};
+ghost use Rattle.swc_ecma_codegen_tokens.specs.Words.{keyword, operator, operator_between, punct_between, word_operator, punct, placed_punct, semi, space, formatting_space, formatting_line, line_end, commit_pending_semi, position, position_before};
+ghost use Rattle.swc_ecma_codegen_tokens.specs.Written.{IsWord};
+ghost use Rattle.swc_ecma_codegen_tokens.specs.Adds.{Adds};
+ghost use Rattle.swc_ecma_codegen_tokens.specs.View.{state_of};
+
+use crate::LowerEmitter;
+use crate::guard::{blank_due_after, row};
+use crate::last::Last;
+use crate::starts::StartClass;
+use std::mem::replace;
+use std::snapshot::Snapshot;
+use swc_ecma_codegen_common::{Answer, BytePos, DUMMY_SP, Error, Refusal, Result, Span};
+use swc_ecma_codegen_literals::Punctuator;
+use swc_ecma_codegen_text_writer::WriteJs;
+use swc_ecma_codegen_util::config::Config;
+
+impl LowerEmitter {
+    /// What a call of the writer that leaves the last token answered is passed on in short.
+    pub(crate) fn keep(&mut self, answer: Result) -> Answer
+        ensures same { result ≡ in_short answer }
+        ensures token { self.new.token.value ≡ self.old.token.value }
+        ensures ok { OnOk result (self.new.failed ≡ self.old.failed) }
+        ensures err { OnErr result (self.new.failed ≡ true) }
+    {
+        match answer {
+            Ok(()) => Ok(()),
+            Err(error) => Err(self.give_up(error)),
+        }
+    }
+
+    /// Notes the error that a call of the writer was refused with, and says it in short.
+    #[cold]
+    #[inline(never)]
+    fn give_up(&mut self, error: Error) -> Refusal
+        ensures same { result ≡ reason_of error }
+        ensures token { self.new.token.value ≡ self.old.token.value }
+        ensures failed { self.new.failed ≡ true }
+    {
+        let refusal = error.refusal();
+        self.failed = true;
+        self.fault = error.into_fault();
+        refusal
+    }
+
+    /// What a call of the writer answered is noted, with the last token, and passed on in short.
+    pub(crate) fn settle(&mut self, answer: Result, last: Last) -> Answer
+        ensures same { result ≡ in_short answer }
+        ensures ok { OnOk result ((self.new.token.value ≡ last) × (self.new.failed ≡ self.old.failed)) }
+        ensures err { OnErr result ((self.new.token.value ≡ self.old.token.value) × (self.new.failed ≡ true)) }
+    {
+        self.keep(answer)?;
+        self.last = last.class();
+        self.row = row(self.last);
+        self.token = Snapshot::of(&last);
+        Ok(())
+    }
+
+    /// Notes the last token ahead of the call that writes it, so that nothing of it is kept over that call, and answers which one
+    /// it was before.
+    pub(crate) fn note(&mut self, last: Last) -> Snapshot<Last>
+        ensures before { result.value ≡ self.old.token.value }
+        ensures token { self.new.token.value ≡ last }
+        ensures failed { self.new.failed ≡ self.old.failed }
+    {
+        self.last = last.class();
+        self.row = row(self.last);
+        replace(&mut self.token, Snapshot::of(&last))
+    }
+
+    /// What a call of the writer answered whose token was noted ahead is passed on in short: a refused one wrote no token.
+    pub(crate) fn settle_noted(&mut self, answer: Result, before: Snapshot<Last>) -> Answer
+        ensures same { result ≡ in_short answer }
+        ensures ok { OnOk result ((self.new.token.value ≡ self.old.token.value) × (self.new.failed ≡ self.old.failed)) }
+        ensures err { OnErr result ((self.new.token.value ≡ before.value) × (self.new.failed ≡ true)) }
+    {
+        match answer {
+            Ok(()) => Ok(()),
+            Err(error) => Err(self.give_up_noted(error, before)),
+        }
+    }
+
+    /// Notes the error that a call of the writer was refused with, whose token was noted ahead, and says it in short.
+    #[cold]
+    #[inline(never)]
+    fn give_up_noted(&mut self, error: Error, before: Snapshot<Last>) -> Refusal
+        ensures same { result ≡ reason_of error }
+        ensures token { self.new.token.value ≡ before.value }
+        ensures failed { self.new.failed ≡ true }
+    {
+        let refusal = self.give_up(error);
+        self.token = before;
+        refusal
+    }
+
+    /// Whether a punctuator doesn't go the shortest way: it is `!`, or a blank is due before it, as before the second `-` of `a - -b`, or
+    /// an earlier call was refused.
+    #[inline(always)]
+    fn is_apart(&self, mark: Punctuator) -> bool {
+        if self.failed {
+            return true;
+        }
+        match mark {
+            Punctuator::Bang => true,
+            _ => blank_due_after(self.row, StartClass::of_mark(mark)),
+        }
+    }
+
+    /// Writes a blank where the last token and `text`, which begins so, would fuse.
+    #[inline(always)]
+    #[tactic(auto, using(crate::proofs::Emitting::does_failed))]
+    pub(crate) fn guard<W: WriteJs>(
+        &mut self,
+        cfg: &Config,
+        wr: &mut W,
+        text: &str,
+        next: StartClass,
+    ) -> Answer
+        requires { start_class (chars text.now) ≡ next }
+        ensures items { Does (step (Guard text.now)) (state_of cfg.now (W.sheet wr.old) self.old) (state_of cfg.now (W.sheet wr.new) self.new) result }
+        ensures level { OnOk result ((W.sheet wr.new).indentation ≡ (W.sheet wr.old).indentation) }
+        ensures fresh { OnOk result (self.new.failed ≡ false) }
+    {
+        if self.failed {
+            return Err(Refusal::Failed);
+        }
+        if !blank_due_after(self.row, next) {
+            return Ok(());
+        }
+        self.put_blank(cfg, wr, text)
+    }
+
+    /// The call of the blank between the last token and `text`, which would fuse.
+    #[inline(never)]
+    fn put_blank<W: WriteJs>(&mut self, cfg: &Config, wr: &mut W, text: &str) -> Answer
+        requires unfailed { self.old.failed ≡ false }
+        requires due { fuses (last_at self.old.token.value) (chars text.now) ≡ true }
+        ensures items { Does (step (Guard text.now)) (state_of cfg.now (W.sheet wr.old) self.old) (state_of cfg.now (W.sheet wr.new) self.new) result }
+        ensures level { OnOk result ((W.sheet wr.new).indentation ≡ (W.sheet wr.old).indentation) }
+        ensures fresh { OnOk result (self.new.failed ≡ false) }
+    {
+        let _ = cfg;
+        let _ = text;
+        let answer = wr.write_space();
+        self.settle(answer, Last::Apart)
+    }
+
+    /// The same before a punctuator.
+    pub(crate) fn guard_mark<W: WriteJs>(
+        &mut self,
+        cfg: &Config,
+        wr: &mut W,
+        mark: Punctuator,
+    ) -> Answer
+        ensures items { Does (step (Guard (spelling mark))) (state_of cfg.now (W.sheet wr.old) self.old) (state_of cfg.now (W.sheet wr.new) self.new) result }
+        ensures level { OnOk result ((W.sheet wr.new).indentation ≡ (W.sheet wr.old).indentation) }
+        ensures fresh { OnOk result (self.new.failed ≡ false) }
+    {
+        self.guard(cfg, wr, mark.as_str(), StartClass::of_mark(mark))
+    }
+
+    /// The same before a word of the grammar.
+    #[tactic(auto, using(crate::proofs::Starting::letter_start))]
+    fn guard_word<W: WriteJs>(&mut self, cfg: &Config, wr: &mut W, word: &'static str) -> Answer
+        requires { begins_letter word.now ≡ true }
+        ensures items { Does (step (Guard word.now)) (state_of cfg.now (W.sheet wr.old) self.old) (state_of cfg.now (W.sheet wr.new) self.new) result }
+        ensures level { OnOk result ((W.sheet wr.new).indentation ≡ (W.sheet wr.old).indentation) }
+        ensures fresh { OnOk result (self.new.failed ≡ false) }
+    {
+        self.guard(cfg, wr, word, StartClass::NameCharacter)
+    }
+
+    /// The call of a keyword.
+    #[inline(always)]
+    fn put_keyword<W: WriteJs>(
+        &mut self,
+        cfg: &Config,
+        wr: &mut W,
+        span: Option<Span>,
+        text: &'static str,
+    ) -> Answer
+        requires { self.old.failed ≡ false }
+        ensures items { Does (step (Token kind.Word (Keyword span text.now))) (state_of cfg.now (W.sheet wr.old) self.old) (state_of cfg.now (W.sheet wr.new) self.new) result }
+        ensures level { OnOk result ((W.sheet wr.new).indentation ≡ (W.sheet wr.old).indentation) }
+    {
+        let _ = cfg;
+        let before = self.note(Last::WordEnd);
+        let answer = wr.write_keyword(span, text);
+        self.settle_noted(answer, before)
+    }
+
+    /// The call of an operator that is a punctuator.
+    #[inline(always)]
+    fn put_operator<W: WriteJs>(&mut self, cfg: &Config, wr: &mut W, mark: Punctuator) -> Answer
+        requires { self.old.failed ≡ false }
+        ensures items { Does (step (Token kind.Punctuator (Operator None (spelling mark)))) (state_of cfg.now (W.sheet wr.old) self.old) (state_of cfg.now (W.sheet wr.new) self.new) result }
+        ensures level { OnOk result ((W.sheet wr.new).indentation ≡ (W.sheet wr.old).indentation) }
+    {
+        let _ = cfg;
+        let last = Last::after(self.last, mark);
+        let before = self.note(last);
+        let answer = wr.write_operator(None, mark.as_str());
+        self.settle_noted(answer, before)
+    }
+
+    /// The call of an operator that is a word.
+    #[inline(always)]
+    fn put_word_operator<W: WriteJs>(
+        &mut self,
+        cfg: &Config,
+        wr: &mut W,
+        text: &'static str,
+    ) -> Answer
+        requires { self.old.failed ≡ false }
+        ensures items { Does (step (Token kind.Word (Operator None text.now))) (state_of cfg.now (W.sheet wr.old) self.old) (state_of cfg.now (W.sheet wr.new) self.new) result }
+        ensures level { OnOk result ((W.sheet wr.new).indentation ≡ (W.sheet wr.old).indentation) }
+    {
+        let _ = cfg;
+        let before = self.note(Last::WordEnd);
+        let answer = wr.write_operator(None, text);
+        self.settle_noted(answer, before)
+    }
+
+    /// The call of a punctuator.
+    #[inline(always)]
+    fn put_punct<W: WriteJs>(
+        &mut self,
+        cfg: &Config,
+        wr: &mut W,
+        span: Option<Span>,
+        mark: Punctuator,
+    ) -> Answer
+        requires { self.old.failed ≡ false }
+        ensures items { Does (step (Token kind.Punctuator (Punct span (spelling mark)))) (state_of cfg.now (W.sheet wr.old) self.old) (state_of cfg.now (W.sheet wr.new) self.new) result }
+        ensures level { OnOk result ((W.sheet wr.new).indentation ≡ (W.sheet wr.old).indentation) }
+    {
+        let _ = cfg;
+        let last = Last::after(self.last, mark);
+        let before = self.note(last);
+        let answer = wr.write_punct(span, mark.as_str());
+        self.settle_noted(answer, before)
+    }
+
+    /// The call of a semicolon.
+    #[inline(always)]
+    fn put_semi<W: WriteJs>(&mut self, cfg: &Config, wr: &mut W) -> Answer
+        requires { self.old.failed ≡ false }
+        ensures items { Does (step (Token kind.Ending (Semi None))) (state_of cfg.now (W.sheet wr.old) self.old) (state_of cfg.now (W.sheet wr.new) self.new) result }
+        ensures level { OnOk result ((W.sheet wr.new).indentation ≡ (W.sheet wr.old).indentation) }
+    {
+        let _ = cfg;
+        let last = Last::after(self.last, Punctuator::Semicolon);
+        let before = self.note(last);
+        let answer = wr.write_semi(None);
+        self.settle_noted(answer, before)
+    }
+
+    /// The call of a name.
+    #[inline(always)]
+    pub(crate) fn put_symbol<W: WriteJs>(&mut self, cfg: &Config, wr: &mut W, text: &str) -> Answer
+        requires { self.old.failed ≡ false }
+        ensures items { Does (step (Token kind.Name (Symbol dummy_span text.now))) (state_of cfg.now (W.sheet wr.old) self.old) (state_of cfg.now (W.sheet wr.new) self.new) result }
+        ensures level { OnOk result ((W.sheet wr.new).indentation ≡ (W.sheet wr.old).indentation) }
+    {
+        let _ = cfg;
+        let before = self.note(Last::WordEnd);
+        let answer = wr.write_symbol(DUMMY_SP, text);
+        self.settle_noted(answer, before)
+    }
+
+    /// Writes a keyword.
+    #[inline(always)]
+    pub fn keyword<W: WriteJs>(
+        &mut self,
+        cfg: &Config,
+        wr: &mut W,
+        span: Option<Span>,
+        word: &'static str,
+    ) -> Answer
+        requires { begins_letter word.now ≡ true }
+        ensures items { Does (keyword span word.now) (state_of cfg.now (W.sheet wr.old) self.old) (state_of cfg.now (W.sheet wr.new) self.new) result }
+        // The text reads as the tokens so far and this one, whatever follows that doesn't fuse.
+        ensures reads { IsWord word.now → Adds (lexical.word word.now ∷ [])
+            cfg.now (W.sheet wr.old) self.old (W.sheet wr.new) self.new result }
+        ensures level { OnOk result ((W.sheet wr.new).indentation ≡ (W.sheet wr.old).indentation) }
+    {
+        if self.failed || blank_due_after(self.row, StartClass::NameCharacter) {
+            return self.keyword_apart(cfg, wr, span, word);
+        }
+        self.keyword_here(cfg, wr, span, word)
+    }
+
+    /// The same in a function of its own: a token that goes the shortest way takes fewer registers.
+    #[inline(never)]
+    fn keyword_apart<W: WriteJs>(
+        &mut self,
+        cfg: &Config,
+        wr: &mut W,
+        span: Option<Span>,
+        word: &'static str,
+    ) -> Answer
+        requires { begins_letter word.now ≡ true }
+        ensures items { Does (keyword span word.now) (state_of cfg.now (W.sheet wr.old) self.old) (state_of cfg.now (W.sheet wr.new) self.new) result }
+        ensures reads { IsWord word.now → Adds (lexical.word word.now ∷ [])
+            cfg.now (W.sheet wr.old) self.old (W.sheet wr.new) self.new result }
+        ensures level { OnOk result ((W.sheet wr.new).indentation ≡ (W.sheet wr.old).indentation) }
+    {
+        self.keyword_here(cfg, wr, span, word)
+    }
+
+    /// The same, where it is called.
+    #[inline(always)]
+    #[tactic(auto, unfolding(crate::specs::Words::keyword))]
+    fn keyword_here<W: WriteJs>(
+        &mut self,
+        cfg: &Config,
+        wr: &mut W,
+        span: Option<Span>,
+        word: &'static str,
+    ) -> Answer
+        requires { begins_letter word.now ≡ true }
+        ensures items { Does (keyword span word.now) (state_of cfg.now (W.sheet wr.old) self.old) (state_of cfg.now (W.sheet wr.new) self.new) result }
+        ensures reads { IsWord word.now → Adds (lexical.word word.now ∷ [])
+            cfg.now (W.sheet wr.old) self.old (W.sheet wr.new) self.new result }
+        ensures level { OnOk result ((W.sheet wr.new).indentation ≡ (W.sheet wr.old).indentation) }
+    {
+        self.guard_word(cfg, wr, word)?;
+        self.put_keyword(cfg, wr, span, word)?;
+        Ok(())
+    }
+
+    /// Writes an operator that is a punctuator.
+    #[inline(always)]
+    pub fn operator<W: WriteJs>(&mut self, cfg: &Config, wr: &mut W, mark: Punctuator) -> Answer
+        ensures items { Does (operator (spelling mark)) (state_of cfg.now (W.sheet wr.old) self.old) (state_of cfg.now (W.sheet wr.new) self.new) result }
+        // The text reads as the tokens so far and this one, whatever follows that doesn't fuse.
+        ensures reads { Adds (lexical.punctuator (spelling mark) ∷ [])
+            cfg.now (W.sheet wr.old) self.old (W.sheet wr.new) self.new result }
+        ensures level { OnOk result ((W.sheet wr.new).indentation ≡ (W.sheet wr.old).indentation) }
+    {
+        if self.is_apart(mark) {
+            return self.operator_apart(cfg, wr, mark);
+        }
+        self.operator_here(cfg, wr, mark)
+    }
+
+    /// The same in a function of its own: a token that goes the shortest way takes fewer registers.
+    #[inline(never)]
+    fn operator_apart<W: WriteJs>(&mut self, cfg: &Config, wr: &mut W, mark: Punctuator) -> Answer
+        ensures items { Does (operator (spelling mark)) (state_of cfg.now (W.sheet wr.old) self.old) (state_of cfg.now (W.sheet wr.new) self.new) result }
+        ensures reads { Adds (lexical.punctuator (spelling mark) ∷ [])
+            cfg.now (W.sheet wr.old) self.old (W.sheet wr.new) self.new result }
+        ensures level { OnOk result ((W.sheet wr.new).indentation ≡ (W.sheet wr.old).indentation) }
+    {
+        self.operator_here(cfg, wr, mark)
+    }
+
+    /// The same, where it is called.
+    #[inline(always)]
+    #[tactic(auto, unfolding(crate::specs::Words::operator))]
+    fn operator_here<W: WriteJs>(&mut self, cfg: &Config, wr: &mut W, mark: Punctuator) -> Answer
+        ensures items { Does (operator (spelling mark)) (state_of cfg.now (W.sheet wr.old) self.old) (state_of cfg.now (W.sheet wr.new) self.new) result }
+        ensures reads { Adds (lexical.punctuator (spelling mark) ∷ [])
+            cfg.now (W.sheet wr.old) self.old (W.sheet wr.new) self.new result }
+        ensures level { OnOk result ((W.sheet wr.new).indentation ≡ (W.sheet wr.old).indentation) }
+    {
+        self.guard_mark(cfg, wr, mark)?;
+        self.put_operator(cfg, wr, mark)?;
+        Ok(())
+    }
+
+    /// Writes an operator that is a word, as `in`.
+    #[inline(always)]
+    #[tactic(auto, unfolding(crate::specs::Words::word_operator))]
+    pub fn word_operator<W: WriteJs>(
+        &mut self,
+        cfg: &Config,
+        wr: &mut W,
+        text: &'static str,
+    ) -> Answer
+        requires { begins_letter text.now ≡ true }
+        ensures items { Does (word_operator text.now) (state_of cfg.now (W.sheet wr.old) self.old) (state_of cfg.now (W.sheet wr.new) self.new) result }
+        // The text reads as the tokens so far and this one, whatever follows that doesn't fuse.
+        ensures reads { IsWord text.now → Adds (lexical.word text.now ∷ [])
+            cfg.now (W.sheet wr.old) self.old (W.sheet wr.new) self.new result }
+        ensures level { OnOk result ((W.sheet wr.new).indentation ≡ (W.sheet wr.old).indentation) }
+    {
+        self.guard_word(cfg, wr, text)?;
+        self.put_word_operator(cfg, wr, text)?;
+        Ok(())
+    }
+
+    /// Writes a punctuator.
+    #[inline(always)]
+    pub fn punct<W: WriteJs>(&mut self, cfg: &Config, wr: &mut W, mark: Punctuator) -> Answer
+        ensures items { Does (punct (spelling mark)) (state_of cfg.now (W.sheet wr.old) self.old) (state_of cfg.now (W.sheet wr.new) self.new) result }
+        // The text reads as the tokens so far and this one, whatever follows that doesn't fuse.
+        ensures reads { Adds (lexical.punctuator (spelling mark) ∷ [])
+            cfg.now (W.sheet wr.old) self.old (W.sheet wr.new) self.new result }
+        ensures level { OnOk result ((W.sheet wr.new).indentation ≡ (W.sheet wr.old).indentation) }
+    {
+        if self.is_apart(mark) {
+            return self.punct_apart(cfg, wr, mark);
+        }
+        self.punct_here(cfg, wr, mark)
+    }
+
+    /// The same in a function of its own: a token that goes the shortest way takes fewer registers.
+    #[inline(never)]
+    pub(crate) fn punct_apart<W: WriteJs>(
+        &mut self,
+        cfg: &Config,
+        wr: &mut W,
+        mark: Punctuator,
+    ) -> Answer
+        ensures items { Does (punct (spelling mark)) (state_of cfg.now (W.sheet wr.old) self.old) (state_of cfg.now (W.sheet wr.new) self.new) result }
+        ensures reads { Adds (lexical.punctuator (spelling mark) ∷ [])
+            cfg.now (W.sheet wr.old) self.old (W.sheet wr.new) self.new result }
+        ensures level { OnOk result ((W.sheet wr.new).indentation ≡ (W.sheet wr.old).indentation) }
+    {
+        self.punct_here(cfg, wr, mark)
+    }
+
+    /// The same, where it is called.
+    #[inline(always)]
+    #[tactic(auto, unfolding(crate::specs::Words::punct))]
+    fn punct_here<W: WriteJs>(&mut self, cfg: &Config, wr: &mut W, mark: Punctuator) -> Answer
+        ensures items { Does (punct (spelling mark)) (state_of cfg.now (W.sheet wr.old) self.old) (state_of cfg.now (W.sheet wr.new) self.new) result }
+        ensures reads { Adds (lexical.punctuator (spelling mark) ∷ [])
+            cfg.now (W.sheet wr.old) self.old (W.sheet wr.new) self.new result }
+        ensures level { OnOk result ((W.sheet wr.new).indentation ≡ (W.sheet wr.old).indentation) }
+    {
+        self.guard_mark(cfg, wr, mark)?;
+        self.put_punct(cfg, wr, None, mark)?;
+        Ok(())
+    }
+
+    /// Writes a punctuator, and records where it begins and ends.
+    #[inline(always)]
+    #[tactic(auto, unfolding(crate::specs::Words::placed_punct))]
+    pub fn placed_punct<W: WriteJs>(
+        &mut self,
+        cfg: &Config,
+        wr: &mut W,
+        span: Span,
+        mark: Punctuator,
+    ) -> Answer
+        ensures items { Does (placed_punct span (spelling mark)) (state_of cfg.now (W.sheet wr.old) self.old) (state_of cfg.now (W.sheet wr.new) self.new) result }
+        ensures reads { Adds (lexical.punctuator (spelling mark) ∷ [])
+            cfg.now (W.sheet wr.old) self.old (W.sheet wr.new) self.new result }
+        ensures level { OnOk result ((W.sheet wr.new).indentation ≡ (W.sheet wr.old).indentation) }
+    {
+        self.guard_mark(cfg, wr, mark)?;
+        self.put_punct(cfg, wr, Some(span), mark)?;
+        Ok(())
+    }
+
+    /// Writes a semicolon that may be left out where it isn't needed.
+    #[inline(always)]
+    pub fn semi<W: WriteJs>(&mut self, cfg: &Config, wr: &mut W) -> Answer
+        ensures items { Does (semi) (state_of cfg.now (W.sheet wr.old) self.old) (state_of cfg.now (W.sheet wr.new) self.new) result }
+        // The text reads as the tokens so far and this one, whatever follows that doesn't fuse.
+        ensures reads { Adds (lexical.ending ∷ [])
+            cfg.now (W.sheet wr.old) self.old (W.sheet wr.new) self.new result }
+        ensures level { OnOk result ((W.sheet wr.new).indentation ≡ (W.sheet wr.old).indentation) }
+    {
+        if self.is_apart(Punctuator::Semicolon) {
+            return self.semi_apart(cfg, wr);
+        }
+        self.semi_here(cfg, wr)
+    }
+
+    /// The same in a function of its own: a token that goes the shortest way takes fewer registers.
+    #[inline(never)]
+    fn semi_apart<W: WriteJs>(&mut self, cfg: &Config, wr: &mut W) -> Answer
+        ensures items { Does (semi) (state_of cfg.now (W.sheet wr.old) self.old) (state_of cfg.now (W.sheet wr.new) self.new) result }
+        ensures reads { Adds (lexical.ending ∷ [])
+            cfg.now (W.sheet wr.old) self.old (W.sheet wr.new) self.new result }
+        ensures level { OnOk result ((W.sheet wr.new).indentation ≡ (W.sheet wr.old).indentation) }
+    {
+        self.semi_here(cfg, wr)
+    }
+
+    /// The same, where it is called.
+    #[inline(always)]
+    #[tactic(auto, unfolding(crate::specs::Words::semi))]
+    fn semi_here<W: WriteJs>(&mut self, cfg: &Config, wr: &mut W) -> Answer
+        ensures items { Does (semi) (state_of cfg.now (W.sheet wr.old) self.old) (state_of cfg.now (W.sheet wr.new) self.new) result }
+        ensures reads { Adds (lexical.ending ∷ [])
+            cfg.now (W.sheet wr.old) self.old (W.sheet wr.new) self.new result }
+        ensures level { OnOk result ((W.sheet wr.new).indentation ≡ (W.sheet wr.old).indentation) }
+    {
+        self.guard_mark(cfg, wr, Punctuator::Semicolon)?;
+        self.put_semi(cfg, wr)?;
+        Ok(())
+    }
+
+    /// Writes a blank.
+    #[inline(never)]
+    pub fn space<W: WriteJs>(&mut self, cfg: &Config, wr: &mut W) -> Answer
+        ensures items { Does (space) (state_of cfg.now (W.sheet wr.old) self.old) (state_of cfg.now (W.sheet wr.new) self.new) result }
+        ensures level { OnOk result ((W.sheet wr.new).indentation ≡ (W.sheet wr.old).indentation) }
+    {
+        self.space_here(cfg, wr)
+    }
+
+    /// The same, where it is called.
+    #[inline(always)]
+    fn space_here<W: WriteJs>(&mut self, cfg: &Config, wr: &mut W) -> Answer
+        ensures items { Does (space) (state_of cfg.now (W.sheet wr.old) self.old) (state_of cfg.now (W.sheet wr.new) self.new) result }
+        ensures level { OnOk result ((W.sheet wr.new).indentation ≡ (W.sheet wr.old).indentation) }
+    {
+        let _ = cfg;
+        if self.failed {
+            return Err(Refusal::Failed);
+        }
+        let before = self.note(Last::Apart);
+        let answer = wr.write_space();
+        self.settle_noted(answer, before)
+    }
+
+    /// Writes an operator that is a punctuator, between two blanks: ` + `.
+    #[inline(always)]
+    #[tactic(auto, unfolding(crate::specs::Words::operator_between))]
+    pub fn operator_between<W: WriteJs>(
+        &mut self,
+        cfg: &Config,
+        wr: &mut W,
+        mark: Punctuator,
+    ) -> Answer
+        ensures items { Does (operator_between (spelling mark)) (state_of cfg.now (W.sheet wr.old) self.old) (state_of cfg.now (W.sheet wr.new) self.new) result }
+        ensures reads { Adds (lexical.punctuator (spelling mark) ∷ [])
+            cfg.now (W.sheet wr.old) self.old (W.sheet wr.new) self.new result }
+        ensures level { OnOk result ((W.sheet wr.new).indentation ≡ (W.sheet wr.old).indentation) }
+    {
+        self.space_here(cfg, wr)?;
+        self.operator(cfg, wr, mark)?;
+        self.space_here(cfg, wr)?;
+        Ok(())
+    }
+
+    /// Writes a punctuator between two blanks: ` ? `.
+    #[inline(always)]
+    #[tactic(auto, unfolding(crate::specs::Words::punct_between))]
+    pub fn punct_between<W: WriteJs>(
+        &mut self,
+        cfg: &Config,
+        wr: &mut W,
+        mark: Punctuator,
+    ) -> Answer
+        ensures items { Does (punct_between (spelling mark)) (state_of cfg.now (W.sheet wr.old) self.old) (state_of cfg.now (W.sheet wr.new) self.new) result }
+        ensures reads { Adds (lexical.punctuator (spelling mark) ∷ [])
+            cfg.now (W.sheet wr.old) self.old (W.sheet wr.new) self.new result }
+        ensures level { OnOk result ((W.sheet wr.new).indentation ≡ (W.sheet wr.old).indentation) }
+    {
+        self.space_here(cfg, wr)?;
+        self.punct(cfg, wr, mark)?;
+        self.space_here(cfg, wr)?;
+        Ok(())
+    }
+
+    /// Ends the line, unless at a line's start.
+    #[inline(never)]
+    pub fn line<W: WriteJs>(&mut self, cfg: &Config, wr: &mut W) -> Answer
+        ensures items { Does (line_end) (state_of cfg.now (W.sheet wr.old) self.old) (state_of cfg.now (W.sheet wr.new) self.new) result }
+        ensures level { OnOk result ((W.sheet wr.new).indentation ≡ (W.sheet wr.old).indentation) }
+    {
+        let _ = cfg;
+        if self.failed {
+            return Err(Refusal::Failed);
+        }
+        let before = self.note(Last::Apart);
+        let answer = wr.write_line();
+        self.settle_noted(answer, before)
+    }
+
+    /// Writes a semicolon that is held back.
+    #[inline(never)]
+    pub fn commit_pending_semi<W: WriteJs>(&mut self, cfg: &Config, wr: &mut W) -> Answer
+        ensures items { Does (commit_pending_semi) (state_of cfg.now (W.sheet wr.old) self.old) (state_of cfg.now (W.sheet wr.new) self.new) result }
+        ensures level { OnOk result ((W.sheet wr.new).indentation ≡ (W.sheet wr.old).indentation) }
+    {
+        self.put_pending_semi(cfg, wr)
+    }
+
+    /// The same, where it is called.
+    #[inline(always)]
+    pub(crate) fn put_pending_semi<W: WriteJs>(&mut self, cfg: &Config, wr: &mut W) -> Answer
+        ensures items { Does (commit_pending_semi) (state_of cfg.now (W.sheet wr.old) self.old) (state_of cfg.now (W.sheet wr.new) self.new) result }
+        ensures level { OnOk result ((W.sheet wr.new).indentation ≡ (W.sheet wr.old).indentation) }
+    {
+        let _ = cfg;
+        if self.failed {
+            return Err(Refusal::Failed);
+        }
+        let answer = wr.commit_pending_semi();
+        self.keep(answer)
+    }
+
+    /// Records a position. A writer that keeps none isn't asked to.
+    pub(crate) fn record<W: WriteJs>(&mut self, cfg: &Config, wr: &mut W, pos: BytePos) -> Answer
+        ensures items { Does (step (Plain (Position pos))) (state_of cfg.now (W.sheet wr.old) self.old) (state_of cfg.now (W.sheet wr.new) self.new) result }
+        ensures level { OnOk result ((W.sheet wr.new).indentation ≡ (W.sheet wr.old).indentation) }
+        ensures fresh { OnOk result (self.new.failed ≡ false) }
+    {
+        if self.failed {
+            return Err(Refusal::Failed);
+        }
+        if !wr.care_about_srcmap() {
+            return Ok(());
+        }
+        self.put_position(cfg, wr, pos)
+    }
+
+    /// The call of a position.
+    #[inline(never)]
+    fn put_position<W: WriteJs>(&mut self, cfg: &Config, wr: &mut W, pos: BytePos) -> Answer
+        requires { self.old.failed ≡ false }
+        ensures items { Does (step (Plain (Position pos))) (state_of cfg.now (W.sheet wr.old) self.old) (state_of cfg.now (W.sheet wr.new) self.new) result }
+        ensures level { OnOk result ((W.sheet wr.new).indentation ≡ (W.sheet wr.old).indentation) }
+        ensures fresh { OnOk result (self.new.failed ≡ false) }
+    {
+        let _ = cfg;
+        let answer = wr.add_srcmap(pos);
+        self.keep(answer)
+    }
+
+    /// Writes a blank, unless the settings are to minify.
+    #[tactic(auto, unfolding(crate::specs::Words::formatting_space), using(crate::proofs::Calls::skipped, crate::proofs::Calls::not_skipped))]
+    pub fn formatting_space<W: WriteJs>(&mut self, cfg: &Config, wr: &mut W) -> Answer
+        ensures items { Does formatting_space (state_of cfg.now (W.sheet wr.old) self.old) (state_of cfg.now (W.sheet wr.new) self.new) result }
+        ensures level { OnOk result ((W.sheet wr.new).indentation ≡ (W.sheet wr.old).indentation) }
+    {
+        if cfg.minify {
+            return Ok(());
+        }
+        self.space(cfg, wr)
+    }
+
+    /// Ends the line, unless the settings are to minify.
+    #[tactic(auto, unfolding(crate::specs::Words::formatting_line), using(crate::proofs::Calls::skipped, crate::proofs::Calls::not_skipped))]
+    pub fn formatting_line<W: WriteJs>(&mut self, cfg: &Config, wr: &mut W) -> Answer
+        ensures items { Does formatting_line (state_of cfg.now (W.sheet wr.old) self.old) (state_of cfg.now (W.sheet wr.new) self.new) result }
+        ensures level { OnOk result ((W.sheet wr.new).indentation ≡ (W.sheet wr.old).indentation) }
+    {
+        if cfg.minify {
+            return Ok(());
+        }
+        self.line(cfg, wr)
+    }
+
+    /// Records a position, unless it is none.
+    #[tactic(auto, unfolding(crate::specs::Words::position))]
+    pub fn position<W: WriteJs>(&mut self, cfg: &Config, wr: &mut W, pos: BytePos) -> Answer
+        ensures items { Does (position pos) (state_of cfg.now (W.sheet wr.old) self.old) (state_of cfg.now (W.sheet wr.new) self.new) result }
+        ensures level { OnOk result ((W.sheet wr.new).indentation ≡ (W.sheet wr.old).indentation) }
+        ensures fresh { self.old.failed ≡ false → OnOk result (self.new.failed ≡ false) }
+    {
+        if pos.0 == 0 {
+            return Ok(());
+        }
+        self.record(cfg, wr, pos)
+    }
+
+    /// Records the position before one, unless that one is none.
+    #[tactic(auto, unfolding(crate::specs::Words::position_before))]
+    pub fn position_before<W: WriteJs>(&mut self, cfg: &Config, wr: &mut W, pos: BytePos) -> Answer
+        ensures items { Does (position_before pos) (state_of cfg.now (W.sheet wr.old) self.old) (state_of cfg.now (W.sheet wr.new) self.new) result }
+        ensures level { OnOk result ((W.sheet wr.new).indentation ≡ (W.sheet wr.old).indentation) }
+    {
+        if pos.0 == 0 {
+            return Ok(());
+        }
+        self.record(cfg, wr, BytePos(pos.0 - 1))
+    }
+}

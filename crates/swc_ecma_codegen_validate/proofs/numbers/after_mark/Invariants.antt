@@ -1,0 +1,15 @@
+use Rattle.std.proofs.Common.{◌≡◌, length}
+use denote.Text.{Utf8}
+use denote.Shadow.{shadow}
+use Rattle.std.specs.Str.{chars}
+use Rattle.swc_ecma_codegen_validate.specs.Mantissas.{after_mark}
+use Rattle.swc_ecma_codegen_validate.proofs.numbers.after_mark.Given as goal
+
+abbrev pub invariant-loop-c : goal.invariant-loop-c
+invariant-loop-c l = record {
+  goes : after_mark (chars l.text) ≡ after_mark (chars l.rest);
+  text : shadow (Utf8 l.rest);
+}
+
+abbrev pub decreases-loop-c : goal.decreases-loop-c
+decreases-loop-c l = length (chars l.rest)

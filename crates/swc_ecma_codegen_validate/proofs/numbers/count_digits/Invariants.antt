@@ -1,0 +1,16 @@
+use Rattle.std.proofs.Common.{◌≡◌, length, ◌+◌, ◌≤◌}
+use denote.Text.{Utf8}
+use denote.Shadow.{shadow}
+use Rattle.std.specs.Str.{chars}
+use Rattle.swc_ecma_codegen_validate.specs.Mantissas.{mantissa}
+use Rattle.swc_ecma_codegen_validate.proofs.numbers.count_digits.Given as goal
+
+abbrev pub invariant-loop-c : goal.invariant-loop-c
+invariant-loop-c l = record {
+  goes : length (mantissa (chars l.text)) ≡ l.count + length (mantissa (chars l.rest));
+  few : l.count + length (chars l.rest) ≤ length l.text;
+  text : shadow (Utf8 l.rest);
+}
+
+abbrev pub decreases-loop-c : goal.decreases-loop-c
+decreases-loop-c l = length (chars l.rest)

@@ -1,0 +1,15 @@
+use Rattle.std.proofs.Common.{◌≡◌, length}
+use denote.Text.{Utf8}
+use denote.Shadow.{shadow}
+use Rattle.std.specs.Str.{chars}
+use Rattle.swc_ecma_codegen_grammar.specs.NumberValues.{digits_after}
+use Rattle.swc_ecma_codegen_validate.proofs.numbers.digits_value.Given as goal
+
+abbrev pub invariant-loop-c : goal.invariant-loop-c
+invariant-loop-c l = record {
+  goes : digits_after l.radix 0 (chars l.text) ≡ digits_after l.radix l.value (chars l.rest);
+  text : shadow (Utf8 l.rest);
+}
+
+abbrev pub decreases-loop-c : goal.decreases-loop-c
+decreases-loop-c l = length (chars l.rest)

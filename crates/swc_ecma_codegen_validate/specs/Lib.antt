@@ -1,0 +1,9 @@
+pub mod BigDigits
+pub mod Mantissas
+pub mod ModuleForms
+pub mod NameStates
+pub mod Possible
+pub mod RegexStates
+pub mod TemplateStates
+pub mod Suffixes
+pub mod UnitStates

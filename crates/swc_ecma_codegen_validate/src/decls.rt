@@ -1,0 +1,64 @@
+//! Declarations.
+
+ghost use Rattle.std.specs.Prelude.{◌≡◌};
+ghost use Rattle.swc_ecma_codegen_grammar.specs.DeclPhrases.{fn_decl, var_declarator, var_decl, using_decl, decl};
+
+use crate::forms::{Fits, WellFormed, all_well_formed};
+use crate::pats::is_initializer;
+use swc_ecma_codegen_grammar::roles::Role;
+use swc_ecma_codegen_tree::{Decl, FnDecl, UsingDecl, VarDecl, VarDeclarator};
+
+impl<N: Fits> WellFormed for FnDecl<N> {
+    ghost phrase = { fn_decl N.reads };
+
+    #[tactic(auto, using(crate::proofs::DeclsPossible::fn_decl_possible))]
+    fn is_well_formed(&self) -> bool {
+        !self.declare
+            && self.function.held().fits(Role::FunctionHead)
+            && self.ident.is_well_formed()
+            && self.function.is_well_formed()
+    }
+}
+
+impl<N: Fits> WellFormed for VarDeclarator<N> {
+    ghost phrase = { var_declarator N.reads };
+
+    #[tactic(auto, using(crate::proofs::DeclsPossible::var_declarator_possible))]
+    fn is_well_formed(&self) -> bool {
+        !self.definite && self.name.is_well_formed() && is_initializer(&self.init)
+    }
+}
+
+impl<N: Fits> WellFormed for VarDecl<N> {
+    ghost phrase = { var_decl N.reads };
+
+    #[tactic(auto, using(crate::proofs::DeclsPossible::var_decl_possible))]
+    fn is_well_formed(&self) -> bool {
+        !self.declare && !self.decls.is_empty() && all_well_formed(&self.decls)
+    }
+}
+
+impl<N: Fits> WellFormed for UsingDecl<N> {
+    ghost phrase = { using_decl N.reads };
+
+    #[tactic(auto, using(crate::proofs::DeclsPossible::using_decl_possible))]
+    fn is_well_formed(&self) -> bool {
+        !self.decls.is_empty() && all_well_formed(&self.decls)
+    }
+}
+
+impl<N: Fits> WellFormed for Decl<N> {
+    ghost phrase = { decl N.reads };
+
+    #[tactic(auto, unfolding(swc_ecma_codegen_grammar::specs::DeclPhrases::decl, swc_ecma_codegen_grammar::specs::Phrases::is_possible))]
+    fn is_well_formed(&self) -> bool {
+        match self {
+            Decl::Class(node) => node.is_well_formed(),
+            Decl::Fn(node) => node.is_well_formed(),
+            Decl::Var(node) => node.is_well_formed(),
+            Decl::Using(node) => node.is_well_formed(),
+            Decl::TsInterface(_) | Decl::TsTypeAlias(_) | Decl::TsEnum(_) | Decl::TsModule(_) =>
+                false,
+        }
+    }
+}

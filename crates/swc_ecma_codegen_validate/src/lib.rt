@@ -1,0 +1,31 @@
+//! Which trees are well-formed.
+#![tactic(auto)]
+
+mod big_integers;
+mod calls;
+mod classes;
+mod code_units;
+mod decls;
+pub mod exprs;
+pub mod forms;
+mod functions;
+mod knot;
+mod lits;
+mod modules;
+mod names;
+mod numbers;
+mod numerals;
+mod parts;
+mod pats;
+mod props;
+mod regexes;
+mod stmts;
+mod strings;
+mod targets;
+mod templates;
+mod texts;
+
+pub use crate::forms::{Fits, WellFormed};
+pub use crate::knot::{
+    is_well_formed, is_well_formed_expr, is_well_formed_item, is_well_formed_stmt,
+};
