@@ -1,0 +1,42 @@
+'use strict';
+// Babel's parser, as `apt-get install node-babel7` gives it, or by the path in BABEL_PARSER.
+const { existsSync } = require('fs');
+
+const PATHS = [process.env.BABEL_PARSER, '@babel/parser', '/usr/share/nodejs/@babel/parser', '/usr/lib/nodejs/@babel/parser'];
+
+function parser() {
+  for (const path of PATHS) {
+    if (!path || (path.startsWith('/') && !existsSync(path))) continue;
+    try {
+      return require(path);
+    } catch (error) {
+      // (another may be there)
+    }
+  }
+  throw new Error('no Babel here: apt-get install node-babel7');
+}
+
+// TypeScript's old decorators stand before parameters too.
+function plugins({ typescript, declarations, jsx }) {
+  const all = ['decoratorAutoAccessors', 'explicitResourceManagement', 'importAssertions', 'exportDefaultFrom', 'regexpUnicodeSets', 'importReflection'];
+  if (jsx) all.push('jsx');
+  return typescript
+    ? ['decorators-legacy', ['typescript', { dts: declarations, disallowAmbiguousJSXLike: false }], ...all]
+    : [['decorators', { decoratorsBeforeExport: true }], ...all];
+}
+
+function parsed(text, options) {
+  return parser().parse(text, {
+    sourceType: options.sourceType || 'unambiguous',
+    plugins: plugins(options),
+    createParenthesizedExpressions: true,
+    allowReturnOutsideFunction: true,
+    allowSuperOutsideMethod: true,
+    allowNewTargetOutsideFunction: true,
+    allowUndeclaredExports: true,
+    attachComment: false,
+    tokens: true,
+  });
+}
+
+module.exports = { parsed };
