@@ -8,6 +8,21 @@ def is_span(value):
     return isinstance(value, dict) and set(value) == {"lo", "hi"}
 
 
+def are_same(ours, theirs, is_blank):
+    """Whether two lists of positions are the same, or those of the reference stand before a blank and these behind it.
+
+    A position ends with its column; `is_blank` says whether one stands before a blank. The reference that has the gap guard built in
+    records the name of an attribute before the blank that keeps it apart from another: `<a b c/>`.
+    """
+    if len(ours) != len(theirs):
+        return False
+    for one, other in zip(ours, theirs):
+        is_moved = one[:-1] == other[:-1] and one[-1] == other[-1] + 1 and is_blank(other)
+        if one != other and not is_moved:
+            return False
+    return True
+
+
 class Places:
     """Gives each node of a tree a place, as if its members were its source text from left to right.
 

@@ -11,10 +11,8 @@ TOGETHER = 200  # statements in a script that is made
 NOWHERE = {"lo": 0, "hi": 0}
 A = {"span": NOWHERE, "sym": "a", "optional": False}
 BINDING = {"id": A, "type_ann": None}
-OTHER_EXPRS = {
-    "JSXMember", "JSXNamespacedName", "JSXEmpty", "JSXElement", "JSXFragment", "TsTypeAssertion", "TsConstAssertion", "TsNonNull",
-    "TsAs", "TsInstantiation", "TsSatisfies", "Invalid",
-}  # fmt: skip
+OTHER_EXPRS = {"TsTypeAssertion", "TsConstAssertion", "TsNonNull", "TsAs", "TsInstantiation", "TsSatisfies", "Invalid"}
+JSX = {"JSXMember", "JSXNamespacedName", "JSXEmpty", "JSXElement", "JSXFragment"}
 OTHER_DECLS = {"TsInterface", "TsTypeAlias", "TsEnum", "TsModule"}
 OTHER_MODULE_DECLS = {"TsImportEquals", "TsExportAssignment", "TsNamespaceExport"}
 TYPES = ("type_ann", "type_args", "type_params", "return_type", "super_type_params", "accessibility", "with")
@@ -59,7 +57,7 @@ def restricted(node, under=None, departs=False):
 
     With `departs` the reference is one that prints as this printer does where only its texts differ by intent
     (docs/DIFFERENCES.md): declarations by `using`, decorators of private methods, dots after numbers, calls of `new`, semicolons that
-    are held back.
+    are held back, strings and text of JSX.
     """
     if isinstance(node, list):
         return [restricted(item, under, departs) for item in node]
@@ -67,7 +65,7 @@ def restricted(node, under=None, departs=False):
         return node
     if len(node) == 1:
         ((name, value),) = node.items()
-        if name == "Lit" and "JSXText" in value:
+        if not departs and (name in JSX or (name == "Lit" and "JSXText" in value)):
             return {"Ident": A}
         if name == "Num":
             return {name: number(value)}

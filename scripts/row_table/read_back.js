@@ -1,6 +1,7 @@
 'use strict';
-// Reads lines of JSON, each some texts of one tree, `{"texts":[{"text":"..","tokens":["n:a",..]},..]}`, and answers each with
-// who told the tokens of each text, how many texts Babel parsed, and a fault or null. See scripts/read-back.
+// Reads lines of JSON, each some texts of one tree, `{"texts":[{"text":"..","tokens":["n:a",..]},..],"tree":..}`, and answers each
+// with who told the tokens of each text, how many texts Babel parsed, how many elements and fragments the tree holds, and a fault
+// or null. See scripts/read-back.
 let acorn, babel;
 try {
   acorn = require('acorn');
@@ -12,12 +13,13 @@ try {
 // Inside of a class, so that each of `super`, `#a`, `await`, `yield` and `new.target` has a meaning.
 const OPEN = 'class A extends B { #a; #\u00e9; #\u{1d4ab}; async *a() {';
 const CLOSE = '\n}}';
-const PLUGINS = ['decorators', 'importReflection', ['optionalChainingAssign', { version: '2023-07' }], 'sourcePhaseImports', 'deferredImportEvaluation', 'createImportExpressions'];
+const PLUGINS = ['jsx', 'decorators', 'importReflection', ['optionalChainingAssign', { version: '2023-07' }], 'sourcePhaseImports', 'deferredImportEvaluation', 'createImportExpressions'];
 
 const ESCAPE = /\\u(?:\{([0-9a-fA-F]+)\}|([0-9a-fA-F]{4}))/g;
 const unescaped = (name) => name.replace(ESCAPE, (_, braces, four) => String.fromCodePoint(parseInt(braces || four, 16)));
 const NUMBER = (text) => String(Number(text.replace(/_/g, '').replace(/^0(?=[0-7]+$)/, '0o').replace(/^0+(?=[0-9]+(\.|$))/, '')));
-const VALUES = { n: unescaped, w: unescaped, h: unescaped, 0: NUMBER, b: (text) => String(BigInt(text.replace(/_/g, '').slice(0, -1))), s: (text) => (0, eval)('"";' + text) };
+const unblanked = (text) => text.replace(/␣/g, ' ');
+const VALUES = { x: unblanked, q: unblanked, n: unescaped, w: unescaped, h: unescaped, 0: NUMBER, b: (text) => String(BigInt(text.replace(/_/g, '').slice(0, -1))), s: (text) => (0, eval)('"";' + text) };
 const value = (letter, text) => (VALUES[letter] || ((same) => same))(text);
 
 const PUNCTUATORS = '{ } ( ) [ ] . ... ; , < > <= >= == != === !== + - * % ** ++ -- << >> >>> & | ^ ! ~ && || ?? ? : = += -= *= %= **= <<= >>= >>>= &= |= ^= &&= ||= ??= => / /= ?. @'
@@ -27,6 +29,7 @@ const NAME = `(?:[\\p{ID_Start}$_]|${PART})(?:[\\p{ID_Continue}$\\u200c\\u200d]|
 const SHAPES = {
   n: new RegExp('^' + NAME, 'u'), w: new RegExp('^' + NAME, 'u'), h: new RegExp('^#' + NAME, 'u'),
   0: /^(?:0[xX][0-9a-fA-F_]+|0[bB][01_]+|0[oO][0-7_]+|[0-9][0-9_]*\.?[0-9_]*(?:[eE][+-]?[0-9]+)?|\.[0-9_]+(?:[eE][+-]?[0-9]+)?)/, b: /^0?[0-9xXoObB][0-9a-fA-F_]*n/,
+  j: new RegExp(`^${NAME}(?:-|${NAME}|[\\p{ID_Continue}])*`, 'u'), q: /^(?:"[^"]*"|'[^']*')/, '>': /^>/, '{': /^[{<]/,
   s: /^(?:"(?:[^"\\]|\\[^])*"|'(?:[^'\\]|\\[^])*')/, r: /^\/(?:[^/\\[]|\\.|\[(?:[^\]\\]|\\.)*\])+\/[a-z]*/,
 };
 
@@ -66,7 +69,8 @@ function tokensByBabel(text, file) {
   if (file === null) return null;
   const [open, close] = frame(text), src = open + text + close, found = [];
   for (const token of file.tokens) {
-    if (token.start >= open.length && token.end <= open.length + text.length) {
+    // (comments stand among them)
+    if (token.start >= open.length && token.end <= open.length + text.length && typeof token.type !== 'string') {
       const spelled = src.slice(token.start, token.end);
       // (some versions have `#` for itself)
       if (found.length && found[found.length - 1] === '#') found.push(found.pop() + spelled);
@@ -104,6 +108,68 @@ function bare(node, tagged = false) {
   return made;
 }
 
+// A name in a tag, as it is spelled: of Babel's tree, and of ours.
+function nameOf(node) {
+  if (node.type === 'JSXIdentifier') return node.name;
+  if (node.type === 'JSXMemberExpression') return nameOf(node.object) + '.' + nameOf(node.property);
+  return nameOf(node.namespace) + ':' + nameOf(node.name);
+}
+function ownName(node) {
+  if (node.JSXMemberExpr) return ownName(node.JSXMemberExpr.obj) + '.' + node.JSXMemberExpr.prop.sym;
+  if (node.JSXNamespacedName) return node.JSXNamespacedName.ns.sym + ':' + node.JSXNamespacedName.name.sym;
+  return node.Ident.sym;
+}
+
+// The elements and fragments in Babel's tree, one after the other, each with its parts. Of expressions only those in them stand.
+function elements(node, found = []) {
+  if (Array.isArray(node)) node.forEach((held) => elements(held, found));
+  else if (node !== null && typeof node === 'object') {
+    if (/^JSX(Element|Fragment)$/.test(node.type)) found.push(element(node));
+    else Object.entries(node).filter(([name]) => !['tokens', 'loc', 'extra', 'errors'].includes(name)).forEach(([, held]) => elements(held, found));
+  }
+  return found;
+}
+function element(node) {
+  switch (node.type) {
+    case 'JSXElement': return { tag: nameOf(node.openingElement.name), isClosed: node.openingElement.selfClosing, attributes: node.openingElement.attributes.map(element), children: node.children.map(element), end: node.closingElement && nameOf(node.closingElement.name) };
+    case 'JSXFragment': return { children: node.children.map(element) };
+    case 'JSXText': return { text: node.extra.raw };
+    case 'JSXExpressionContainer': return { held: elements(node.expression), isEmpty: node.expression.type === 'JSXEmptyExpression' };
+    case 'JSXSpreadChild': return { spread: elements(node.expression) };
+    case 'JSXSpreadAttribute': return { spread: elements(node.argument) };
+    case 'JSXAttribute': return { name: nameOf(node.name), value: node.value && element(node.value) };
+    default: return { string: node.extra.raw };
+  }
+}
+
+// The same of our tree, as it is to be printed.
+function ownElements(node, found = []) {
+  if (Array.isArray(node)) node.forEach((held) => ownElements(held, found));
+  else if (node !== null && typeof node === 'object') {
+    if (node.JSXElement || node.JSXFragment) found.push(ownElement(node));
+    else Object.values(node).forEach((held) => ownElements(held, found));
+  }
+  return found;
+}
+function ownElement(part) {
+  const [[kind, node]] = Object.entries(part);
+  switch (kind) {
+    case 'JSXElement': return { tag: ownName(node.opening.name), isClosed: node.opening.self_closing, attributes: node.opening.attrs.map(ownElement), children: node.children.map(ownElement), end: node.closing && ownName(node.closing.name) };
+    case 'JSXFragment': return { children: node.children.map(ownElement) };
+    // (by its value, where that may stand between tags)
+    case 'JSXText': return { text: /^[^{}<>]+$/.test(node.value) ? node.value : node.raw };
+    case 'JSXExprContainer': return { held: ownElements(node.expr), isEmpty: 'JSXEmptyExpr' in node.expr };
+    case 'JSXSpreadChild': return { spread: ownElements(node.expr) };
+    case 'SpreadElement': return { spread: ownElements(node.expr) };
+    case 'JSXAttr': return { name: ownName(node.name), value: node.value && ownElement(node.value) };
+    default: {
+      // (a string by its raw, or else in quotes that it doesn't hold)
+      const quote = node.Str.value.includes('"') ? "'" : '"';
+      return { string: node.Str.raw === null ? quote + node.Str.value + quote : node.Str.raw };
+    }
+  }
+}
+
 const isSame = (one, two) => JSON.stringify(bare(one)) === JSON.stringify(bare(two));
 
 // Literals are spelled otherwise without blanks, and so are parts of templates.
@@ -114,7 +180,7 @@ function core(tokens) {
   return tokens.filter((token, at) => !['(', ')', ';'].includes(token) && !(token === ',' && [']', '}', ')'].includes(tokens[at + 1])));
 }
 
-function look({ texts }) {
+function look({ texts, tree }) {
   const files = texts.map(({ text }) => parsed(text));
   const eyes = [];
   let fault = null;
@@ -133,8 +199,12 @@ function look({ texts }) {
       else if (core(pretty).map(spelled).join(' ') !== core(minified).map(spelled).join(' ')) fault = fault || 'other tokens';
     }
   }
+  if (tree) {
+    const wanted = JSON.stringify(ownElements(tree));
+    if (files.some((file) => file !== null && JSON.stringify(elements(file.program)) !== wanted)) fault = fault || 'other elements';
+  }
   const read = files.filter((file) => file !== null).length;
-  return { eyes, parsed: read, alone: texts.length === 2 && read === 1, fault };
+  return { eyes, parsed: read, alone: texts.length === 2 && read === 1, elements: tree ? ownElements(tree).length : 0, fault };
 }
 
 const lines = require('fs').readFileSync(0, 'utf8').split('\n').filter((line) => line);

@@ -8,11 +8,13 @@ use Rattle.swc_ecma_codegen_grammar.specs.Phrases.{Phrase, ◌>◌, mark}
 use Rattle.swc_ecma_codegen_grammar.specs.ExprPhrases as lists
 use Rattle.swc_ecma_codegen_grammar.specs.TreePhrases.{is_sequence, field_value}
 use Rattle.swc_ecma_codegen_grammar.specs.declared.roles.Role.{Role}
-use Rattle.swc_ecma_codegen_grammar.specs.declared.roles.Role.TheVariants.{Template}
+use Rattle.swc_ecma_codegen_grammar.specs.declared.roles.Role.TheVariants.{Template, Element}
 use Rattle.swc_ecma_codegen_tokens.specs.Run.{Env}
 use Rattle.swc_ecma_codegen_tokens.specs.Words.{trailing_comments}
+use Rattle.swc_ecma_codegen_tokens.specs.Written.{Anything}
 use Rattle.swc_ecma_codegen_tokens.proofs.Printed.{writes_if, writes_nothing, writes_trailing, Fills}
 use Rattle.swc_ecma_codegen_tokens.proofs.Phrased.{Prints, then, before, prints_never, prints_punct}
+use Rattle.swc_ecma_codegen_tokens.proofs.TagPrints.{prints_spots}
 use Rattle.swc_ecma_codegen.specs.declared.nodes.Place.{Place}
 use Rattle.swc_ecma_codegen.specs.declared.nodes.Place.TheVariants.{Plain, FieldValue}
 use Rattle.swc_ecma_codegen.specs.Answers.{place_of}
@@ -59,6 +61,8 @@ parts_print l (exprs.Await n) place = await_prints l n
 parts_print l (exprs.Paren n) place = paren_prints l n
 parts_print l (exprs.PrivateName n) place = private_name_prints l n
 parts_print l (exprs.OptChain n) place = opt_chain_prints l n
+parts_print l (exprs.JSXElement n) place = prints_spots Anything Anything refl refl (l.law n.node.value Plain Element)
+parts_print l (exprs.JSXFragment n) place = prints_spots Anything Anything refl refl (l.law n.node.value Plain Element)
 parts_print l n place = prints_never
 
 -- the comments after it

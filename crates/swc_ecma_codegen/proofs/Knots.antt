@@ -26,11 +26,12 @@ use Rattle.swc_ecma_codegen_tree.specs.declared.parts.ExprPart.{ExprPart}
 use Rattle.swc_ecma_codegen_tree.specs.declared.parts.ExprPart.TheVariants as expr_parts
 use Rattle.swc_ecma_codegen_tree.specs.declared.parts.StmtPart.{StmtPart}
 use Rattle.swc_ecma_codegen_tree.specs.declared.parts.StmtPart.TheVariants as stmt_parts
+use Rattle.swc_ecma_codegen_tree.specs.declared.parts.JSXPart.{JSXPart}
 use Rattle.swc_ecma_codegen_tree.specs.declared.pats.AssignTarget.{AssignTarget}
 use Rattle.swc_ecma_codegen_tree.specs.declared.pats.AssignTarget.TheVariants as targets
 use Rattle.swc_ecma_codegen_tree.specs.declared.pats.SimpleAssignTarget.{SimpleAssignTarget}
 use Rattle.swc_ecma_codegen_tree.specs.declared.pats.SimpleAssignTarget.TheVariants as simple_targets
-use Rattle.swc_ecma_codegen_spans.specs.Spans.{expr_span, fn_expr_span, class_expr_span}
+use Rattle.swc_ecma_codegen_spans.specs.Spans.{expr_span, fn_expr_span, class_expr_span, jsx_member_expr_span}
 use Rattle.swc_ecma_codegen_grammar.specs.TreePhrases.{is_sequence}
 use Rattle.swc_ecma_codegen_tokens.specs.Run.{Plan, Part, refuse}
 use Rattle.swc_ecma_codegen_tokens.specs.Words.{punct, trailing_comments}
@@ -46,6 +47,7 @@ use Rattle.swc_ecma_codegen.specs.Names.{binding_ident}
 use Rattle.swc_ecma_codegen.specs.Targets.{simple_assign_target, assign_target}
 use Rattle.swc_ecma_codegen.specs.Parts.{expr_part, stmt_part}
 use Rattle.swc_ecma_codegen.specs.Stmts.{stmt}
+use Rattle.swc_ecma_codegen.specs.Jsx.{jsx_member_expr, jsx_part}
 use Rattle.swc_ecma_codegen.specs.Tree.{node_items, any_items}
 use Rattle.swc_ecma_codegen.proofs.DeclKnots.{decl_mapped, var_decl_mapped}
 use Rattle.swc_ecma_codegen.proofs.ModuleKnots.{module_decl_mapped}
@@ -55,6 +57,7 @@ use Rattle.swc_ecma_codegen.proofs.FunctionKnots.{function_mapped, block_mapped,
 use Rattle.swc_ecma_codegen.proofs.PatKnots.{prop_name_mapped, pat_mapped, target_pat_mapped}
 use Rattle.swc_ecma_codegen.proofs.PropKnots.{object_lit_mapped}
 use Rattle.swc_ecma_codegen.proofs.TemplateKnots.{tpl_mapped, tagged_tpl_mapped}
+use Rattle.swc_ecma_codegen.proofs.JsxKnots.{jsx_part_mapped}
 use Rattle.swc_ecma_codegen.proofs.CallKnots.{array_lit_mapped, call_mapped, new_mapped, chain_call_mapped}
 
 -- ---- a word sees what links hold through `asks` and `items` alone
@@ -96,7 +99,7 @@ unfolding node_items expr expr_parts expr_closed expr_span leaves_comments place
 seq_mapped {X} g asks items n rest = ap (opened n.span) (listed_mapped {A = ExprBox X} _ (held items) (held (λ x. items (g x))) (λ x. refl) true n.exprs.items (trailing_comments true n.span.hi rest))
 
 expr_mapped : {X Y : Type 0} (g : X → Y) (asks : Y → Answers) (items : Y → Place → Part) (n : Expr X) (place : Place) (rest : Plan) → node_items asks items (map-AnyNode X Y g (nodes.Expr n)) place rest ≡ placed_expr (λ x. asks (g x)) (λ x. items (g x)) n place rest
-unfolding node_items expr expr_parts expr_closed expr_span fn_expr_span class_expr_span leaves_comments placed_expr wrapped is_wrapped is_field_value is_sequence member_at unsupported refuse fn_expr class_expr optional_name this unary update update_parts bin bin_operator bin_trailing assign meta_prop_expr await_expr choice seq paren ident expr_part
+unfolding node_items expr expr_parts expr_closed expr_span fn_expr_span class_expr_span leaves_comments placed_expr wrapped is_wrapped is_field_value is_sequence member_at unsupported refuse fn_expr class_expr optional_name this unary update update_parts bin bin_operator bin_trailing assign meta_prop_expr await_expr choice seq paren ident expr_part jsx_member_expr jsx_member_expr_span
 expr_mapped g asks items (exprs.Seq n) FieldValue rest = ap (punct (codes "(")) (seq_mapped g asks items n (punct (codes ")") rest))
 expr_mapped g asks items (exprs.Seq n) place rest = seq_mapped g asks items n rest
 expr_mapped g asks items (exprs.Array n) place rest = array_lit_mapped g asks items n place rest
@@ -169,6 +172,7 @@ node_mapped g asks items (nodes.Stmt n) place rest = stmt_mapped g asks items n 
 node_mapped g asks items (nodes.MemberExpr n) place rest = member_mapped g asks items n.span n.obj n.prop place rest
 node_mapped g asks items (nodes.ExprPart n) place rest = part_mapped g asks items n place rest
 node_mapped g asks items (nodes.StmtPart n) place rest = stmt_part_mapped g asks items n place rest
+node_mapped g asks items (nodes.JSXPart n) place rest = jsx_part_mapped g asks items n place rest
 node_mapped g asks items n place rest = refl
 
 -- ---- whole nodes
@@ -216,3 +220,7 @@ any_items_expr_part n place = λ i. λ rest. (at_rest (ap any_items (sym (whole.
 pub any_items_stmt_part : (n : StmtPart AnyNode) (place : Place) → any_items (whole.StmtPart n) place ≡ stmt_part any_answers any_items n place
 unfolding node_items
 any_items_stmt_part n place = λ i. λ rest. (at_rest (ap any_items (sym (whole.rolls-StmtPart n))) place rest ∙ items_of_layer (nodes.StmtPart n) place rest) i
+
+pub any_items_jsx_part : (n : JSXPart AnyNode) (place : Place) → any_items (whole.JSXPart n) place ≡ jsx_part any_answers any_items n place
+unfolding node_items
+any_items_jsx_part n place = λ i. λ rest. (at_rest (ap any_items (sym (whole.rolls-JSXPart n))) place rest ∙ items_of_layer (nodes.JSXPart n) place rest) i

@@ -24,6 +24,7 @@ pub mod Impossible
 pub mod FunctionExprParts
 pub mod CallKnots
 pub mod TemplateKnots
+pub mod JsxKnots
 pub mod CallParts
 pub mod TemplateParts
 pub mod ExprParts
@@ -36,6 +37,7 @@ pub mod LoopParts
 pub mod StmtParts
 pub mod BlockParts
 pub mod PropParts
+pub mod JsxParts
 pub mod AnyExprParts
 pub mod TargetParts
 pub mod ModuleParts

@@ -2,10 +2,11 @@
 use Rattle.std.proofs.Common.{◌≡◌, false, cond}
 use Rattle.swc_ecma_codegen_grammar.specs.Phrases.{Phrase, Never}
 use Rattle.swc_ecma_codegen_grammar.specs.declared.roles.Role.{Role}
-use Rattle.swc_ecma_codegen_grammar.specs.declared.roles.Role.TheVariants.{Expression, Statement, Pattern, PlainParameter, PropertyName, Block, VariableDeclaration, MethodHead, ClassHead, MethodDecorators, Member, ExportedHead, ModuleDeclaration}
+use Rattle.swc_ecma_codegen_grammar.specs.declared.roles.Role.TheVariants.{Expression, Statement, Pattern, PlainParameter, PropertyName, Block, VariableDeclaration, MethodHead, ClassHead, MethodDecorators, Member, ExportedHead, ModuleDeclaration, Element, Child, TagObject}
 use Rattle.swc_ecma_codegen_tree.specs.Links.{BlockStmtBox, ExprBox, PatBox, PropNameBox, StmtBox, VarDeclBox}
 use Rattle.swc_ecma_codegen_tokens.specs.Run.{Env, Part}
-use Rattle.swc_ecma_codegen_tokens.proofs.Phrased.{Prints, PrintsAt}
+use Rattle.swc_ecma_codegen_tokens.specs.Written.{Spot, Anything, Between, InText, InName}
+use Rattle.swc_ecma_codegen_tokens.proofs.Phrased.{Prints, PrintsAt, PrintsOn}
 use Rattle.swc_ecma_codegen.specs.declared.nodes.Place.{Place}
 use Rattle.swc_ecma_codegen.specs.declared.nodes.Place.TheVariants.{Plain}
 use Rattle.swc_ecma_codegen.specs.Answers.{Answers}
@@ -27,6 +28,21 @@ role_shape MethodHead = joining_if_any
 role_shape Member = closed
 role_shape role = whole
 
+-- What may come before it, and behind it: a child of an element stands right behind a tag or text, and behind an element another child may;
+-- behind the object of a name in a tag no dash.
+abbrev pub role_before : Role → Spot
+role_before Child = InText
+role_before role = Anything
+
+abbrev pub role_behind : Role → Spot
+role_behind Element = Between
+role_behind Child = Between
+role_behind TagObject = InName
+role_behind role = Anything
+
+abbrev pub PrintsIn : Role → Env → Part → Phrase → Type 0
+PrintsIn role env part phrase = PrintsOn (role_before role) (role_behind role) (role_shape role) env part phrase
+
 -- What it answers, what is written of it, and what it reads as, in each role; that it is said to be a name alone where it may stand
 -- without parentheses; and that what is written is what it reads as.
 pub record Linked (X : Type 0) : Type 0 where
@@ -36,7 +52,7 @@ pub record Linked (X : Type 0) : Type 0 where
   pub items : X → Place → Part
   pub reads : X → Role → Phrase
   pub plain : (x : X) → reads x PlainParameter ≡ cond (is_plain (asks x).pattern) (reads x Pattern) Never
-  pub law : (x : X) (place : Place) (role : Role) → PrintsAt (role_shape role) env (items x (placed role place)) (reads x role)
+  pub law : (x : X) (place : Place) (role : Role) → PrintsIn role env (items x (placed role place)) (reads x role)
 
 pub expr_at : {X : Type 0} (l : Linked X) (n : ExprBox X) (place : Place) → Prints l.env (l.items n.node.value (placed Expression place)) (l.reads n.node.value Expression)
 expr_at l n place = l.law n.node.value place Expression

@@ -7,7 +7,7 @@ use Rattle.swc_ecma_codegen_tree.specs.declared.parts.StmtPart.TheVariants as st
 use Rattle.swc_ecma_codegen_grammar.specs.declared.roles.Role.{Role}
 use Rattle.swc_ecma_codegen_grammar.specs.declared.roles.Role.TheVariants.{AssignmentTarget, Pattern, PlainParameter, PropertyName, ObjectLiteral, Function, FunctionHead, MethodHead, Block, Declaration, VariableDeclaration, ChainCall, Template, TaggedTemplate, ClassHead, ClassTail, Member, MethodDecorators, MethodTail, AccessorTail, ModuleDeclaration, ExportedHead, ExportedTail}
 use Rattle.swc_ecma_codegen_grammar.specs.PartPhrases as lists
-use Rattle.swc_ecma_codegen_tokens.proofs.Phrased.{prints_never, PrintsAt}
+use Rattle.swc_ecma_codegen_tokens.proofs.TagPrints.{prints_never_on}
 use Rattle.swc_ecma_codegen.specs.declared.nodes.Place.{Place}
 use Rattle.swc_ecma_codegen.specs.Parts as words
 use Rattle.swc_ecma_codegen.specs.Places.{placed}
@@ -17,7 +17,7 @@ use Rattle.swc_ecma_codegen.proofs.BlockParts.{block_stmt_prints}
 use Rattle.swc_ecma_codegen.proofs.DeclParts.{decl_prints, exported_head_prints, exported_tail_prints, var_decl_prints}
 use Rattle.swc_ecma_codegen.proofs.ClassParts.{class_head_prints, class_tail_prints, class_member_prints}
 use Rattle.swc_ecma_codegen.proofs.FunctionParts.{fn_trailing_prints, head_prints, before_method_prints, method_decorators_print, method_tail_prints, accessor_tail_prints}
-use Rattle.swc_ecma_codegen.proofs.Linked.{Linked, role_shape}
+use Rattle.swc_ecma_codegen.proofs.Linked.{Linked, PrintsIn}
 use Rattle.swc_ecma_codegen.proofs.ModuleParts.{module_decl_prints}
 use Rattle.swc_ecma_codegen.proofs.PatParts.{pat_prints, plain_prints}
 use Rattle.swc_ecma_codegen.proofs.NameParts.{prop_name_prints}
@@ -26,7 +26,7 @@ use Rattle.swc_ecma_codegen.proofs.CallParts.{chain_call_prints}
 use Rattle.swc_ecma_codegen.proofs.TemplateParts.{tpl_prints}
 use Rattle.swc_ecma_codegen.proofs.TargetParts.{assign_target_prints}
 
-pub part_prints : {X : Type 0} (l : Linked X) (n : ExprPart X) (place : Place) (role : Role) → PrintsAt (role_shape role) l.env (words.expr_part l.asks l.items n (placed role place)) (lists.expr_part l.reads n role)
+pub part_prints : {X : Type 0} (l : Linked X) (n : ExprPart X) (place : Place) (role : Role) → PrintsIn role l.env (words.expr_part l.asks l.items n (placed role place)) (lists.expr_part l.reads n role)
 unfolding words.expr_part lists.expr_part
 part_prints l (expr_parts.Pat n) place Pattern = pat_prints l n
 part_prints l (expr_parts.Pat n) place PlainParameter = plain_prints l n
@@ -36,9 +36,9 @@ part_prints l (expr_parts.OptCall n) place (ChainCall optional) = chain_call_pri
 part_prints l (expr_parts.AssignTarget n) place AssignmentTarget = assign_target_prints l n
 part_prints l (expr_parts.Tpl n) place Template = tpl_prints l false n
 part_prints l (expr_parts.Tpl n) place TaggedTemplate = tpl_prints l true n
-part_prints l n place role = prints_never
+part_prints l n place role = prints_never_on
 
-pub stmt_part_prints : {X : Type 0} (l : Linked X) (n : StmtPart X) (place : Place) (role : Role) → PrintsAt (role_shape role) l.env (words.stmt_part l.asks l.items n (placed role place)) (lists.stmt_part l.reads n role)
+pub stmt_part_prints : {X : Type 0} (l : Linked X) (n : StmtPart X) (place : Place) (role : Role) → PrintsIn role l.env (words.stmt_part l.asks l.items n (placed role place)) (lists.stmt_part l.reads n role)
 unfolding words.stmt_part lists.stmt_part function class
 stmt_part_prints l (stmt_parts.Function n) place Function = fn_trailing_prints l n.value
 stmt_part_prints l (stmt_parts.Function n) place FunctionHead = head_prints l n.value place
@@ -55,4 +55,4 @@ stmt_part_prints l (stmt_parts.Decl n) place ExportedHead = exported_head_prints
 stmt_part_prints l (stmt_parts.Decl n) place ExportedTail = exported_tail_prints l n
 stmt_part_prints l (stmt_parts.ModuleDecl n) place ModuleDeclaration = module_decl_prints l n.value
 stmt_part_prints l (stmt_parts.VarDecl n) place VariableDeclaration = var_decl_prints l n
-stmt_part_prints l n place role = prints_never
+stmt_part_prints l n place role = prints_never_on

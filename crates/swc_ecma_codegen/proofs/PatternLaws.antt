@@ -7,11 +7,14 @@ use Rattle.swc_ecma_codegen_tree.specs.declared.links.AnyNode.TheViews.{out-roll
 use Rattle.swc_ecma_codegen_tree.specs.declared.idents.BindingIdent.{BindingIdent}
 use Rattle.swc_ecma_codegen_tree.specs.declared.parts.ExprPart.{ExprPart}
 use Rattle.swc_ecma_codegen_tree.specs.declared.parts.ExprPart.TheVariants as expr_parts
+use Rattle.swc_ecma_codegen_tree.specs.declared.parts.JSXPart.{JSXPart}
+use Rattle.swc_ecma_codegen_tree.specs.declared.parts.JSXPart.TheVariants as jsx_parts
 use Rattle.swc_ecma_codegen_tree.specs.declared.parts.StmtPart.{StmtPart}
 use Rattle.swc_ecma_codegen_tree.specs.declared.parts.StmtPart.TheVariants as stmt_parts
 use Rattle.swc_ecma_codegen_tree.specs.declared.pats.Pat.{Pat}
 use Rattle.swc_ecma_codegen_tree.specs.declared.pats.Pat.TheVariants as pats
 use Rattle.swc_ecma_codegen_grammar.specs.Phrases.{Phrase, Never}
+use Rattle.swc_ecma_codegen_grammar.specs.JsxPhrases.{jsx_part}
 use Rattle.swc_ecma_codegen_grammar.specs.NamePhrases.{ident, binding_ident}
 use Rattle.swc_ecma_codegen_grammar.specs.PartPhrases.{expr_part, stmt_part}
 use Rattle.swc_ecma_codegen_grammar.specs.PatPhrases.{pat, plain_name, plain_parameter}
@@ -57,10 +60,17 @@ stmt_part_plain f (stmt_parts.Function n) = refl
 stmt_part_plain f (stmt_parts.BlockStmt n) = refl
 stmt_part_plain f n = refl
 
+jsx_part_plain : {X : Type 0} (f : X → Role → Phrase) (n : JSXPart X) → jsx_part f n PlainParameter ≡ Never
+unfolding jsx_part
+jsx_part_plain f (jsx_parts.JSXElement n) = refl
+jsx_part_plain f (jsx_parts.JSXFragment n) = refl
+jsx_part_plain f (jsx_parts.JSXObject n) = refl
+
 node_plain : {X : Type 0} (f : X → Role → Phrase) (n : AnyNode-F X) → node_phrase f n PlainParameter ≡ cond (is_plain (node_pattern n)) (node_phrase f n Pattern) Never
 unfolding node_phrase node_pattern is_plain
 node_plain f (nodes.ExprPart n) = part_plain f n
 node_plain f (nodes.StmtPart n) = stmt_part_plain f n
+node_plain f (nodes.JSXPart n) = jsx_part_plain f n
 node_plain f n = refl
 
 pub plain_reads : (n : AnyNode) → phrase n PlainParameter ≡ cond (is_plain (any_answers n).pattern) (phrase n Pattern) Never

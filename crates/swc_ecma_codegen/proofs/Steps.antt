@@ -15,6 +15,8 @@ use Rattle.swc_ecma_codegen_grammar.specs.TemplatePhrases.{part_before}
 use Rattle.swc_ecma_codegen_tokens.specs.Templates.{tpl_element}
 use Rattle.swc_ecma_codegen.specs.declared.nodes.Place.TheVariants.{Plain}
 use Rattle.swc_ecma_codegen.specs.Lists.{comma, listed, in_order, child_of, braced_child, braced_rest}
+use Rattle.swc_ecma_codegen.specs.Exprs.{blank}
+use Rattle.swc_ecma_codegen.specs.Jsx.{jsx_attributes}
 use Rattle.swc_ecma_codegen.specs.Modules.{is_default, before_brace, before_braces}
 use Rattle.swc_ecma_codegen.specs.Templates.{tpl_rest}
 
@@ -32,6 +34,11 @@ in_order_next each xs i d rest h = ap (λ ys. in_order each ys rest) (drop-cons 
 pub list_next : {A : Type 0} (format : ℕ) (parent previous : Span) (place : A → Span) (items : A → Place → Part) (xs : List A) (i : ℕ) (d : A) (rest : Plan) → i < length xs → list_after format parent previous (map (child_of place items) (drop i xs)) rest ≡ next_child format previous (child_of place items (get_or xs i d)) (list_after format parent (place (get_or xs i d)) (map (child_of place items) (drop (i + 1) xs)) rest)
 unfolding more_children last_place
 list_next format parent previous place items xs i d rest h = ap (λ ys. list_after format parent previous (map (child_of place items) ys) rest) (drop-cons xs i d h) ∙ rw (add-one) refl
+
+-- the next attribute
+pub attributes_next : {A : Type 0} (each : A → Part) (first : Bool) (xs : List A) (i : ℕ) (d : A) (rest : Plan) → i < length xs → jsx_attributes each first (drop i xs) rest ≡ blank first (each (get_or xs i d) (jsx_attributes each false (drop (i + 1) xs) rest))
+unfolding jsx_attributes
+attributes_next each first xs i d rest h = ap (λ ys. jsx_attributes each first ys rest) (drop-cons xs i d h) ∙ rw (add-one) refl
 
 -- and none is left
 pub list_ended : {A : Type 0} (format : ℕ) (parent previous : Span) (place : A → Span) (items : A → Place → Part) (xs : List A) (i : ℕ) (rest : Plan) → length xs ≤ i → list_after format parent previous (map (child_of place items) (drop i xs)) rest ≡ list_closing format parent previous rest

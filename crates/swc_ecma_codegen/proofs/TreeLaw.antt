@@ -11,7 +11,7 @@ use Rattle.swc_ecma_codegen_grammar.specs.declared.roles.Role.TheVariants.{Expre
 use Rattle.swc_ecma_codegen_grammar.specs.TreePhrases.{node_phrase, phrase}
 use Rattle.swc_ecma_codegen_grammar.proofs.TreeLaws.{phrase_of}
 use Rattle.swc_ecma_codegen_tokens.specs.Run.{Env, Part}
-use Rattle.swc_ecma_codegen_tokens.proofs.Phrased.{prints_never, PrintsAt}
+use Rattle.swc_ecma_codegen_tokens.proofs.TagPrints.{prints_never_on}
 use Rattle.swc_ecma_codegen.specs.declared.nodes.Place.{Place}
 use Rattle.swc_ecma_codegen.specs.declared.nodes.Place.TheVariants.{Object, DottedObject, Callee, FieldValue}
 use Rattle.swc_ecma_codegen.specs.Answers.{any_answers}
@@ -21,9 +21,10 @@ use Rattle.swc_ecma_codegen.specs.Calls.{keeps_arguments}
 use Rattle.swc_ecma_codegen.specs.Places.{placed, outside, inside}
 use Rattle.swc_ecma_codegen.specs.Tree.{node_items, any_items}
 use Rattle.swc_ecma_codegen.proofs.Knots.{items_of}
-use Rattle.swc_ecma_codegen.proofs.Linked.{Linked, role_shape}
+use Rattle.swc_ecma_codegen.proofs.Linked.{Linked, PrintsIn}
 use Rattle.swc_ecma_codegen.proofs.ExprParts.{member_prints, chain_member_prints}
 use Rattle.swc_ecma_codegen.proofs.AnyExprParts.{plain_expr_prints, callee_expr_prints, unwrapped_prints, field_value_prints}
+use Rattle.swc_ecma_codegen.proofs.JsxParts.{jsx_part_prints}
 use Rattle.swc_ecma_codegen.proofs.PartLaws.{part_prints, stmt_part_prints}
 use Rattle.swc_ecma_codegen.proofs.PatternLaws.{plain_reads}
 use Rattle.swc_ecma_codegen.proofs.StmtParts.{stmt_prints}
@@ -57,7 +58,7 @@ inside_elsewhere (DottedObject prop) = refl
 inside_elsewhere place = refl
 
 -- one node, in its role: in any other it is Never
-node_prints : {X : Type 0} (l : Linked X) (n : AnyNode-F X) (place : Place) (role : Role) → PrintsAt (role_shape role) l.env (node_items l.asks l.items n (placed role place)) (node_phrase l.reads n role)
+node_prints : {X : Type 0} (l : Linked X) (n : AnyNode-F X) (place : Place) (role : Role) → PrintsIn role l.env (node_items l.asks l.items n (placed role place)) (node_phrase l.reads n role)
 unfolding node_items node_phrase member_at
 node_prints l (nodes.Expr n) place Expression = unwrapped_prints l n (outside place) (outside_elsewhere place) (plain_expr_prints l n (outside place) (outside_leaves place))
 node_prints l (nodes.Expr n) place IsCallee = unwrapped_prints l n (inside place) (inside_elsewhere place) (callee_expr_prints l n (inside place) (inside_keeps place))
@@ -67,10 +68,11 @@ node_prints l (nodes.MemberExpr n) place MemberExpression = member_prints l n
 node_prints l (nodes.MemberExpr n) place (ChainMember optional) = chain_member_prints l optional n
 node_prints l (nodes.ExprPart n) place role = part_prints l n place role
 node_prints l (nodes.StmtPart n) place role = stmt_part_prints l n place role
-node_prints l n place role = prints_never
+node_prints l (nodes.JSXPart n) place role = jsx_part_prints l n place role
+node_prints l n place role = prints_never_on
 
 abbrev Law : Env → AnyNode → Type 0
-Law env n = (place : Place) (role : Role) → PrintsAt (role_shape role) env (any_items n (placed role place)) (phrase n role)
+Law env n = (place : Place) (role : Role) → PrintsIn role env (any_items n (placed role place)) (phrase n role)
 
 -- nodes that a link of the tree holds, with the law of each
 abbrev children : (env : Env) → env.keeps_invalid ≡ false → Linked (Such the_family (claims (Law env)) member-AnyNode)
@@ -79,8 +81,8 @@ children env e = record { env = env; leaves_out = e; asks = λ y. any_answers y.
 pub prints : (env : Env) → env.keeps_invalid ≡ false → (n : AnyNode) → Law env n
 prints env e = ind-AnyNode (Law env) (λ x y q. subst (λ z. Law env (roll-AnyNode z)) q (λ place role.
     let here = node_prints (children env e) y place role in
-    let P : Phrase → Type 0 = λ f. PrintsAt (role_shape role) env (node_items (λ z. any_answers z.0) (λ z. any_items z.0) y (placed role place)) f in
-    let Q : Part → Type 0 = λ p. PrintsAt (role_shape role) env p (phrase (roll-AnyNode (map-AnyNode _ _ (λ z. z.0) y)) role) in
+    let P : Phrase → Type 0 = λ f. PrintsIn role env (node_items (λ z. any_answers z.0) (λ z. any_items z.0) y (placed role place)) f in
+    let Q : Part → Type 0 = λ p. PrintsIn role env p (phrase (roll-AnyNode (map-AnyNode _ _ (λ z. z.0) y)) role) in
     subst Q (sym (items_of (λ z. z.0) y (placed role place))) (subst P (sym (phrase_of (λ z. z.0) y role)) here)))
 
 -- the nodes of a whole tree

@@ -34,18 +34,20 @@ use Rattle.swc_ecma_codegen_tokens.proofs.ScriptTexts.{printed_safe}
 use Rattle.swc_ecma_codegen_text_writer.specs.Recorded.{RecordsTruly}
 use Rattle.swc_ecma_codegen_grammar.specs.Phrases.{Phrase, is_possible, names_in}
 use Rattle.swc_ecma_codegen_text_writer.specs.Sheet.{HoldsNone}
-use Rattle.swc_ecma_codegen_tokens.specs.Written.{IsLineEnd, IsNew, AddsReading, taken_remarks, all_indent, is_indent, holds_one}
+use Rattle.swc_ecma_codegen_tokens.specs.Written.{Anything, IsLineEnd, IsNew, AddsReading, taken_remarks, all_indent, is_indent, holds_one}
 use Rattle.swc_ecma_codegen_tokens.proofs.Short.{on_ok_in_short}
-use Rattle.swc_ecma_codegen_tokens.proofs.Phrased.{printed_reads, printed_tells, printed_remakes, printed_names, printed_places, follows_records, PrintsAt, prints_wider}
+use Rattle.swc_ecma_codegen_tokens.proofs.Phrased.{printed_reads, printed_tells, printed_remakes, printed_names, printed_places, follows_records, PrintsAt, prints_never, prints_wider}
+use Rattle.swc_ecma_codegen_tokens.proofs.TagPrints.{prints_spots}
 use Rattle.swc_ecma_codegen_tokens.proofs.Made.{run_env, ends_where_out, follows_in_target, follows_out_of_target, follows_shaped, follows_supported}
 use Rattle.swc_ecma_codegen.specs.declared.nodes.Place.TheVariants.{Plain}
 use Rattle.swc_ecma_codegen.specs.Answers.{any_answers}
 use Rattle.swc_ecma_codegen.specs.Lists.{unsupported}
 use Rattle.swc_ecma_codegen.specs.Modules.{is_crowded, import_parts, import_decl, module_item}
+use Rattle.swc_ecma_codegen.specs.Places.{placed}
 use Rattle.swc_ecma_codegen.specs.Programs as programs
 use Rattle.swc_ecma_codegen.specs.Templates.{tpl_placed, bad_shape, tpl}
 use Rattle.swc_ecma_codegen.specs.Tree.{any_items}
-use Rattle.swc_ecma_codegen.specs.Roots.{Root, OfExpr, OfStmt, OfItem, OfModule, OfScript, OfProgram, OfLink, root_items, root_phrase, is_well_formed_root, root_hashbang, MayBegin}
+use Rattle.swc_ecma_codegen.specs.Roots.{Root, OfExpr, OfStmt, OfItem, OfModule, OfScript, OfProgram, OfLink, root_items, read_alone, root_phrase, is_well_formed_root, root_hashbang, MayBegin}
 use Rattle.swc_ecma_codegen.proofs.AnyExprParts.{plain_expr_prints}
 use Rattle.swc_ecma_codegen.proofs.ModuleParts.{module_item_prints}
 use Rattle.swc_ecma_codegen.proofs.ProgramParts.{module_prints, script_prints, program_prints}
@@ -54,7 +56,7 @@ use Rattle.swc_ecma_codegen.proofs.TreeLaw.{prints, known}
 use Rattle.swc_ecma_codegen_tokens.proofs.Shapes.{Shape, unbroken, unbroken_at, loose_at, is_within}
 use Rattle.swc_ecma_codegen.proofs.Linked.{role_shape}
 use Rattle.swc_ecma_codegen_grammar.specs.declared.roles.Role.{Role}
-use Rattle.swc_ecma_codegen_grammar.specs.declared.roles.Role.TheVariants.{Statement, VariableDeclaration, MethodHead, MethodDecorators, ClassHead, ExportedHead, Member, ModuleDeclaration}
+use Rattle.swc_ecma_codegen_grammar.specs.declared.roles.Role.TheVariants.{Statement, VariableDeclaration, MethodHead, MethodDecorators, ClassHead, ExportedHead, Member, ModuleDeclaration, Element, Child, TagObject}
 
 role_within : (role : Role) → is_within (role_shape role) unbroken ≡ true
 role_within Statement = refl
@@ -78,6 +80,13 @@ program_unbroken anywhere h = prints_wider (unbroken_at anywhere) (loose_within 
 abbrev pub root_shape : Root → Shape
 root_shape n = unbroken_at (not (root_hashbang n))
 
+-- a child alone, or the object of a name, is read as nothing
+link_prints : (env : Env) → env.keeps_invalid ≡ false → (n : AnyNode) (role : Role) → PrintsAt unbroken env (any_items n (placed role Plain)) (read_alone role (phrase n role))
+link_prints env e n Child = prints_never
+link_prints env e n TagObject = prints_never
+link_prints env e n Element = prints_wider unbroken refl (prints_spots Anything Anything refl refl (prints env e n Plain Element))
+link_prints env e n role = prints_wider unbroken (role_within role) (prints env e n Plain role)
+
 pub root_prints : (env : Env) → env.keeps_invalid ≡ false → (n : Root) → PrintsAt (root_shape n) env (root_items n) (root_phrase n)
 unfolding stmt_lists.program
 root_prints env e (OfExpr n) = prints_wider unbroken refl (plain_expr_prints (known env e) n Plain refl)
@@ -86,7 +95,7 @@ root_prints env e (OfItem n) = prints_wider unbroken refl (module_item_prints (k
 root_prints env e (OfModule n) = program_unbroken _ (module_prints (known env e) n)
 root_prints env e (OfScript n) = program_unbroken _ (script_prints (known env e) n)
 root_prints env e (OfProgram n) = program_unbroken _ (program_prints (known env e) n)
-root_prints env e (OfLink n role) = prints_wider unbroken (role_within role) (prints env e n Plain role)
+root_prints env e (OfLink n role) = link_prints env e n role
 
 -- whatever the root is, and whatever refers to it
 pub root_reads : (n : Root) (p : Part) (a b : State) (r : Result (Unit {0}) Error) → p ≡ root_items n → is_well_formed_root n ≡ true → MayBegin n a → AreClosed a.env.maps → Follows (p nothing) a b (in_short r) → OnOk r (AddsReading a.env.config (root_phrase n) (taken_remarks p a.env) a.sheet b.sheet)

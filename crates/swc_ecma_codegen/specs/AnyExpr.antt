@@ -16,6 +16,7 @@ use Rattle.swc_ecma_codegen.specs.Templates.{tagged_tpl}
 use Rattle.swc_ecma_codegen.specs.Calls.{array_lit, call_expr, keeps_arguments, new_expr}
 use Rattle.swc_ecma_codegen.specs.Props.{object_lit}
 use Rattle.swc_ecma_codegen.specs.Exprs.{this, unary, update, bin, assign, member, super_prop_expr, choice, seq, ident, yield_expr, meta_prop_expr, await_expr, paren, private_name, opt_chain}
+use Rattle.swc_ecma_codegen.specs.Jsx.{jsx_member_expr, jsx_namespaced_name}
 use Rattle.swc_ecma_codegen.specs.Lists.{unsupported}
 use Rattle.swc_ecma_codegen.specs.Lits.{lit_at, is_number_object}
 
@@ -46,6 +47,11 @@ expr_parts asks items (exprs.Await n) place rest = await_expr items n rest
 expr_parts asks items (exprs.Paren n) place rest = paren items n rest
 expr_parts asks items (exprs.PrivateName n) place rest = private_name n rest
 expr_parts asks items (exprs.OptChain n) place rest = opt_chain items n rest
+expr_parts asks items (exprs.JSXMember n) place rest = jsx_member_expr items n rest
+expr_parts asks items (exprs.JSXNamespacedName n) place rest = jsx_namespaced_name n rest
+expr_parts asks items (exprs.JSXEmpty n) place rest = rest
+expr_parts asks items (exprs.JSXElement n) place rest = items n.node.value Plain rest
+expr_parts asks items (exprs.JSXFragment n) place rest = items n.node.value Plain rest
 expr_parts asks items n place rest = unsupported rest
 
 unfoldable pub is_left_operand : Place → Bool

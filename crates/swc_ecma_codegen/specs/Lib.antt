@@ -19,6 +19,7 @@ pub mod Pats
 pub mod Functions
 pub mod Classes
 pub mod Props
+pub mod Jsx
 pub mod AnyExpr
 pub mod Targets
 pub mod Decls

@@ -3,16 +3,16 @@ use Rattle.std.specs.Prelude.{Bool, true, false}
 use Rattle.swc_ecma_codegen_tree.specs.declared.lits.Lit.{Lit}
 use Rattle.swc_ecma_codegen_tree.specs.declared.lits.Lit.TheVariants as lits
 use Rattle.swc_ecma_codegen_tokens.specs.Run.{Part}
+use Rattle.swc_ecma_codegen_tokens.specs.Attributes.{jsx_text_lit}
 use Rattle.swc_ecma_codegen_tokens.specs.Lits.{number_lit, number_object, lit}
 use Rattle.swc_ecma_codegen.specs.declared.nodes.Place.{Place}
 use Rattle.swc_ecma_codegen.specs.declared.nodes.Place.TheVariants.{Object, DottedObject}
-use Rattle.swc_ecma_codegen.specs.Lists.{unsupported}
 
 -- `10` of `10..x` has a dot of its own, `10` of `10[x]` has none
 unfoldable pub lit_at : Lit → Place → Part
 lit_at (lits.Num n) Object rest = number_lit n.value rest
 lit_at (lits.Num n) (DottedObject prop) rest = number_object n.value prop rest
-lit_at (lits.JSXText n) place rest = unsupported rest
+lit_at (lits.JSXText n) place rest = jsx_text_lit n rest
 lit_at n place rest = lit n rest
 
 -- the object of a member

@@ -9,8 +9,9 @@ use Rattle.swc_ecma_codegen_tree.specs.declared.programs.Program.{Program}
 use Rattle.swc_ecma_codegen_tree.specs.declared.programs.Program.TheVariants as programs
 use Rattle.swc_ecma_codegen_tree.specs.declared.programs.Script.{Script}
 use Rattle.swc_ecma_codegen_grammar.specs.StmtPhrases as lists
-use Rattle.swc_ecma_codegen_grammar.specs.Phrases.{Phrase, is_possible}
+use Rattle.swc_ecma_codegen_grammar.specs.Phrases.{Phrase, Never, is_possible}
 use Rattle.swc_ecma_codegen_grammar.specs.declared.roles.Role.{Role}
+use Rattle.swc_ecma_codegen_grammar.specs.declared.roles.Role.TheVariants.{Child, TagObject}
 use Rattle.swc_ecma_codegen_grammar.specs.TreePhrases.{phrase, expr_phrase, stmt_phrase, program_phrase}
 use Rattle.swc_ecma_codegen_tokens.specs.Run.{Part, State}
 use Rattle.swc_ecma_codegen_tokens.specs.Written.{IsNew, IsAtMargin}
@@ -43,6 +44,12 @@ root_items (OfScript n) = script any_answers any_items n
 root_items (OfProgram n) = program any_answers any_items n
 root_items (OfLink n role) = any_items n (placed role Plain)
 
+-- A child of an element stands right behind a tag or text, and the object of a name in a tag behind `<`: neither is read by itself.
+abbrev pub read_alone : Role → Phrase → Phrase
+read_alone Child f = Never
+read_alone TagObject f = Never
+read_alone role f = f
+
 -- what it is read as
 abbrev pub root_phrase : Root → Phrase
 root_phrase (OfExpr n) = expr_phrase n
@@ -51,7 +58,7 @@ root_phrase (OfItem n) = lists.module_item phrase n
 root_phrase (OfModule n) = program_phrase (programs.Module n)
 root_phrase (OfScript n) = program_phrase (programs.Script n)
 root_phrase (OfProgram n) = program_phrase n
-root_phrase (OfLink n role) = phrase n role
+root_phrase (OfLink n role) = read_alone role (phrase n role)
 
 -- it is well-formed
 abbrev pub is_well_formed_root : Root → Bool

@@ -7,6 +7,7 @@ use Rattle.swc_ecma_codegen.specs.declared.nodes.Place.{Place}
 use Rattle.swc_ecma_codegen.specs.Answers.{Answers, any_answers}
 use Rattle.swc_ecma_codegen.specs.AnyExpr.{placed_expr}
 use Rattle.swc_ecma_codegen.specs.Exprs.{member_at}
+use Rattle.swc_ecma_codegen.specs.Jsx.{jsx_part}
 use Rattle.swc_ecma_codegen.specs.Parts.{expr_part, stmt_part}
 use Rattle.swc_ecma_codegen.specs.Stmts.{stmt}
 use Rattle.swc_ecma_codegen.specs.Lists.{unsupported}
@@ -18,6 +19,7 @@ node_items asks items (nodes.Stmt n) place = stmt asks items n
 node_items asks items (nodes.MemberExpr n) place = member_at items n place
 node_items asks items (nodes.ExprPart n) place = expr_part asks items n place
 node_items asks items (nodes.StmtPart n) place = stmt_part asks items n place
+node_items asks items (nodes.JSXPart n) place = jsx_part asks items n place
 node_items asks items n place = unsupported
 
 -- a whole node

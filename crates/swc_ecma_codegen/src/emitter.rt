@@ -125,7 +125,8 @@ impl<'a, W: WriteJs, S: SourceMapper, C: Comments> Emitter<'a, W, S, C> {
         // Where positions are kept, each of these names stands as its own token behind those before it: what is before it reads as them.
         ensures places { is_well_formed node.now ≡ true → MayBegin (OfProgram node.now) (state_of S.lines C.maps W.sheet self.old) → AreClosed (maps_in C.maps self.old.comments) → (W.sheet self.old.wr).keeps_positions ≡ true → OnOk result (PlacesNames self.old.cfg (program_phrase node.now) (taken_remarks (program any_answers any_items node.now) (state_of S.lines C.maps W.sheet self.old).env) (W.sheet self.old.wr) (W.sheet self.new.wr)) }
         // Where the settings ask for ASCII, what is added is, but for the texts that stand as they are in the tree and aren't (a
-        // regular expression, a template with a tag, a hashbang, a directive with a backslash), and those of comments.
+        // regular expression, a template with a tag, a hashbang, a directive with a backslash, names, strings and text of JSX), and those of
+        // comments.
         ensures ascii { is_well_formed node.now ≡ true → WantsAscii (state_of S.lines C.maps W.sheet self.old) → OnOk result (AddsAscii (other_texts (steps_of (steps_in (program any_answers any_items node.now) (state_of S.lines C.maps W.sheet self.old)))) (W.sheet self.old.wr).text (W.sheet self.new.wr).text) }
         // Under `inline_script` no string of a well-formed tree that is printed by its value ends a script of an HTML page, or
         // opens or closes a comment there: it holds no `<!--`, no `-->`, and no `</script` before `>` or ASCII whitespace.
@@ -172,7 +173,8 @@ impl<'a, W: WriteJs, S: SourceMapper, C: Comments> Emitter<'a, W, S, C> {
         // Where positions are kept, each of these names stands as its own token behind those before it: what is before it reads as them.
         ensures places { is_well_formed (Program.Module node.now) ≡ true → MayBegin (OfModule node.now) (state_of S.lines C.maps W.sheet self.old) → AreClosed (maps_in C.maps self.old.comments) → (W.sheet self.old.wr).keeps_positions ≡ true → OnOk result (PlacesNames self.old.cfg (program_phrase (Program.Module node.now)) (taken_remarks (whole_module any_answers any_items node.now) (state_of S.lines C.maps W.sheet self.old).env) (W.sheet self.old.wr) (W.sheet self.new.wr)) }
         // Where the settings ask for ASCII, what is added is, but for the texts that stand as they are in the tree and aren't (a
-        // regular expression, a template with a tag, a hashbang, a directive with a backslash), and those of comments.
+        // regular expression, a template with a tag, a hashbang, a directive with a backslash, names, strings and text of JSX), and those of
+        // comments.
         ensures ascii { is_well_formed (Program.Module node.now) ≡ true → WantsAscii (state_of S.lines C.maps W.sheet self.old) → OnOk result (AddsAscii (other_texts (steps_of (steps_in (whole_module any_answers any_items node.now) (state_of S.lines C.maps W.sheet self.old)))) (W.sheet self.old.wr).text (W.sheet self.new.wr).text) }
         // Under `inline_script` no string of a well-formed tree that is printed by its value ends a script of an HTML page, or
         // opens or closes a comment there: it holds no `<!--`, no `-->`, and no `</script` before `>` or ASCII whitespace.
@@ -217,7 +219,8 @@ impl<'a, W: WriteJs, S: SourceMapper, C: Comments> Emitter<'a, W, S, C> {
         // Where positions are kept, each of these names stands as its own token behind those before it: what is before it reads as them.
         ensures places { is_well_formed (Program.Script node.now) ≡ true → MayBegin (OfScript node.now) (state_of S.lines C.maps W.sheet self.old) → AreClosed (maps_in C.maps self.old.comments) → (W.sheet self.old.wr).keeps_positions ≡ true → OnOk result (PlacesNames self.old.cfg (program_phrase (Program.Script node.now)) (taken_remarks (script any_answers any_items node.now) (state_of S.lines C.maps W.sheet self.old).env) (W.sheet self.old.wr) (W.sheet self.new.wr)) }
         // Where the settings ask for ASCII, what is added is, but for the texts that stand as they are in the tree and aren't (a
-        // regular expression, a template with a tag, a hashbang, a directive with a backslash), and those of comments.
+        // regular expression, a template with a tag, a hashbang, a directive with a backslash, names, strings and text of JSX), and those of
+        // comments.
         ensures ascii { is_well_formed (Program.Script node.now) ≡ true → WantsAscii (state_of S.lines C.maps W.sheet self.old) → OnOk result (AddsAscii (other_texts (steps_of (steps_in (script any_answers any_items node.now) (state_of S.lines C.maps W.sheet self.old)))) (W.sheet self.old.wr).text (W.sheet self.new.wr).text) }
         // Under `inline_script` no string of a well-formed tree that is printed by its value ends a script of an HTML page, or
         // opens or closes a comment there: it holds no `<!--`, no `-->`, and no `</script` before `>` or ASCII whitespace.
@@ -260,7 +263,8 @@ impl<'a, W: WriteJs, S: SourceMapper, C: Comments> Emitter<'a, W, S, C> {
         // Where positions are kept, each of these names stands as its own token behind those before it: what is before it reads as them.
         ensures places { is_possible (item_phrase phrase node.now) ≡ true → IsNew (state_of S.lines C.maps W.sheet self.old) → AreClosed (maps_in C.maps self.old.comments) → (W.sheet self.old.wr).keeps_positions ≡ true → OnOk result (PlacesNames self.old.cfg (item_phrase phrase node.now) (taken_remarks (module_item any_answers any_items node.now) (state_of S.lines C.maps W.sheet self.old).env) (W.sheet self.old.wr) (W.sheet self.new.wr)) }
         // Where the settings ask for ASCII, what is added is, but for the texts that stand as they are in the tree and aren't (a
-        // regular expression, a template with a tag, a hashbang, a directive with a backslash), and those of comments.
+        // regular expression, a template with a tag, a hashbang, a directive with a backslash, names, strings and text of JSX), and those of
+        // comments.
         ensures ascii { is_possible (item_phrase phrase node.now) ≡ true → WantsAscii (state_of S.lines C.maps W.sheet self.old) → OnOk result (AddsAscii (other_texts (steps_of (steps_in (module_item any_answers any_items node.now) (state_of S.lines C.maps W.sheet self.old)))) (W.sheet self.old.wr).text (W.sheet self.new.wr).text) }
         // Under `inline_script` no string of a well-formed tree that is printed by its value ends a script of an HTML page, or
         // opens or closes a comment there: it holds no `<!--`, no `-->`, and no `</script` before `>` or ASCII whitespace.

@@ -50,7 +50,7 @@ fn leaves_comments<N>(node: &Expr<N>, place: Place) -> bool
     }
 }
 
-/// Writes a template. The place that it is told would be part of the frame that is there at each level of a tree.
+/// Writes a template, an element or a fragment. The place that it is told would be part of the frame that is there at each level of a tree.
 #[inline(never)]
 fn plainly<N: Held, W: WriteJs, S: SourceMapper, C: Comments>(
     node: &N,
@@ -100,12 +100,12 @@ fn expr_parts<N: Held, W: WriteJs, S: SourceMapper, C: Comments>(
         Expr::Paren(node) => node.emit_at(e, place),
         Expr::PrivateName(node) => node.emit_at(e, place),
         Expr::OptChain(node) => node.emit_at(e, place),
-        Expr::JSXMember(_)
-        | Expr::JSXNamespacedName(_)
-        | Expr::JSXEmpty(_)
-        | Expr::JSXElement(_)
-        | Expr::JSXFragment(_)
-        | Expr::TsTypeAssertion(_)
+        Expr::JSXMember(node) => node.emit_at(e, place),
+        Expr::JSXNamespacedName(node) => node.emit_at(e, place),
+        Expr::JSXEmpty(node) => node.emit_at(e, place),
+        Expr::JSXElement(node) => plainly(node.held(), e),
+        Expr::JSXFragment(node) => plainly(node.held(), e),
+        Expr::TsTypeAssertion(_)
         | Expr::TsConstAssertion(_)
         | Expr::TsNonNull(_)
         | Expr::TsAs(_)

@@ -15,6 +15,7 @@ mod exports;
 mod expr;
 mod functions;
 mod imports;
+mod jsx;
 mod knot;
 mod lists;
 mod lits;

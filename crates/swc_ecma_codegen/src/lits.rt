@@ -51,7 +51,7 @@ impl EmitAt for Lit {
         match (self, place) {
             (Lit::Num(node), Place::Object) => e.number_lit(node),
             (Lit::Num(node), Place::DottedObject(prop)) => e.number_object(node, prop),
-            (Lit::JSXText(_), _) => e.unsupported(),
+            (Lit::JSXText(node), _) => e.jsx_text_lit(node),
             _ => e.lit(self),
         }
     }

@@ -51,7 +51,8 @@ pub trait Node: Spanned {
         // Where positions are kept, each of these names stands as its own token behind those before it: what is before it reads as them.
         ensures places { (root : Root) → part self.now ≡ root_items root → is_well_formed_root root ≡ true → MayBegin root (state_of S.lines C.maps W.sheet e.old) → AreClosed (maps_in C.maps e.old.comments) → (W.sheet e.old.wr).keeps_positions ≡ true → OnOk result (PlacesNames e.old.cfg (root_phrase root) (taken_remarks (part self.now) (state_of S.lines C.maps W.sheet e.old).env) (W.sheet e.old.wr) (W.sheet e.new.wr)) }
         // Where the settings ask for ASCII, what is added is, but for the texts that stand as they are in the tree and aren't (a
-        // regular expression, a template with a tag, a hashbang, a directive with a backslash), and those of comments.
+        // regular expression, a template with a tag, a hashbang, a directive with a backslash, names, strings and text of JSX), and those of
+        // comments.
         ensures ascii { (root : Root) → part self.now ≡ root_items root → is_well_formed_root root ≡ true → WantsAscii (state_of S.lines C.maps W.sheet e.old) → OnOk result (AddsAscii (other_texts (steps_of (steps_in (part self.now) (state_of S.lines C.maps W.sheet e.old)))) (W.sheet e.old.wr).text (W.sheet e.new.wr).text) }
         // Under `inline_script` no string of a well-formed tree that is printed by its value ends a script of an HTML page, or
         // opens or closes a comment there: it holds no `<!--`, no `-->`, and no `</script` before `>` or ASCII whitespace.

@@ -59,6 +59,8 @@ pub enum Place {
     ExportedHead,
     /// And what stands after it: `class B {}`
     ExportedTail,
+    /// Between two tags: `<b/>` and `{c}` of `<a><b/>{c}</a>`
+    Child,
 }
 
 /// What a node tells those above it.

@@ -10,16 +10,19 @@
 //! `expression` or `step` says what one is: its JSON and its tokens, with `•` for each operand. A token has a letter for its
 //! kind before it, as `reading` lists them (`n:a`), or one that says when it stands: `P` for a punctuator that stands only
 //! with blanks, `e` for a semicolon that ends a statement, `c` for a comma that stands where the source text of its list
-//! ends with one, `C` for one that then stands only with blanks.
+//! ends with one, `C` for one that then stands only with blanks, `a` for parentheses that a comment may put around an argument, `A`
+//! for such that stand with blanks in any case.
 //! A step may be given the places of its first spans: `a~3-4 (•)~2-5`. A row `commented` has comments, before positions or after,
 //! with `¦` between: `before 3 /* b */¦after 5~8-12 // c`, of which the second stands from 8 to 12 in its source text. They are in
 //! the order in which they are taken; those that aren't are given again.
+//! A row `sweep` says of a tree how many texts read back with comments at each place of it, each node having a place of its own.
 //! A row `literal` says of one, in JSON, which tokens it is, and its texts with the words of each column of `literals`.
 #![tactic(auto)]
 
 mod between;
 mod commented;
 mod depths;
+mod everywhere;
 mod fields;
 mod formats;
 mod gaps;

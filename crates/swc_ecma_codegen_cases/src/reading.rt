@@ -19,6 +19,8 @@ pub struct Manner {
     pub omits_last: bool,
     /// With a comma at the end of each list whose source text may have one.
     pub comma: bool,
+    /// With the parentheses that a comment may put around an argument, and around the parameter of `(x)=>x`.
+    pub argued: bool,
 }
 
 /// With blanks.
@@ -27,6 +29,7 @@ pub const PRETTY: Manner = Manner {
     holds: false,
     omits_last: false,
     comma: false,
+    argued: false,
 };
 
 /// Without blanks, and with every semicolon.
@@ -35,6 +38,7 @@ pub const MINIFIED: Manner = Manner {
     holds: false,
     omits_last: false,
     comma: false,
+    argued: false,
 };
 
 /// Without blanks, and without semicolons that aren't needed.
@@ -43,6 +47,7 @@ pub const SHORT: Manner = Manner {
     holds: true,
     omits_last: true,
     comma: false,
+    argued: false,
 };
 
 /// Of a template without a tag, to its end.
@@ -128,6 +133,8 @@ fn tokens_of<'a>(
             "P" => !manner.minified,
             "c" => manner.comma,
             "C" => manner.comma && !manner.minified,
+            "a" => manner.argued,
+            "A" => manner.argued || !manner.minified,
             "e" => match all.get(at.saturating_add(1)) {
                 Some(next) => !manner.holds || !matches!(*next, "p:}" | "p:;" | "e:;"),
                 None => !manner.omits_last,
@@ -202,8 +209,8 @@ fn without_mark(text: &[char]) -> &[char] {
     }
 }
 
-/// Whether a text is this hashbang, whose blanks are written as `␣` there, since tokens stand with blanks between.
-fn is_hashbang_of(found: &[char], token: &[char]) -> bool {
+/// Whether a text is this hashbang, or this text of JSX: its blanks are written as `␣` there, since tokens stand with blanks between.
+fn is_with_blanks(found: &[char], token: &[char]) -> bool {
     for (c, wanted) in found.iter().zip(token) {
         if *c != (if *wanted == '␣' { ' ' } else { *wanted }) {
             return false;
@@ -238,7 +245,7 @@ fn is_token(
             (Some(a), Some(b)) => Ok(a.as_slice() == b.as_slice()),
             _ => Ok(false),
         },
-        "!" => Ok(is_hashbang_of(found, token)),
+        "!" | "x" | "q" => Ok(is_with_blanks(found, token)),
         _ => Ok(found == token),
     }
 }

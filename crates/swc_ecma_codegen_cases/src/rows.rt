@@ -6,11 +6,11 @@ use crate::fields::{EXPRESSION, LITERAL, PROGRAM, bytes, fields, is_yes, json};
 use crate::looks::look;
 use crate::nestings::are_printed;
 use crate::over::{has_commas, has_texts_over};
-use crate::runs::{answers, prints};
+use crate::runs::{answers, answers_each, prints};
 use crate::sources::source_of;
 use crate::steps::{Made, Step, Tree, tree_of};
 use crate::trees::{has_texts, is_formed, is_printed_with, prints_expr};
-use crate::{commented, lexical, literals};
+use crate::{commented, everywhere, lexical, literals};
 use std::alloc::{AllocError, Global};
 use swc_ecma_codegen_common::Error;
 use swc_ecma_codegen_json::ReadError;
@@ -37,8 +37,10 @@ pub fn holds(alloc: Global, steps: &[Step], line: &str) -> Result<bool, Error> {
         ("commented" | "commented_node" | "commented_places", [words, comments, rest @ ..]) => Ok(
             of_comments(alloc, steps, word, words, comments, rest)?,
         ),
-        ("tree" | "script" | "malformed" | "well_formed" | "node" | "commas", [words, rest @ ..]) =>
-            Ok(of_steps(alloc, steps, word, words, "", rest)?),
+        (
+            "tree" | "script" | "malformed" | "well_formed" | "node" | "commas" | "sweep",
+            [words, rest @ ..],
+        ) => Ok(of_steps(alloc, steps, word, words, "", rest)?),
         (_, [short, rest @ ..]) if word.ends_with("program") || word.ends_with("expr") => {
             Ok(of_json(alloc, word, short, rest)?)
         }
@@ -69,12 +71,13 @@ fn of_steps(
     rest: &[String],
 ) -> Result<bool, AllocError> {
     let (made, word) = made_by(word);
-    let in_places = word == "over" || word == "commas";
+    let in_places = matches!(word, "over" | "commas" | "sweep");
     let Some(tree) = tree_of(alloc, steps, words, made, in_places)? else {
         return Ok(false);
     };
     match (word, rest) {
         ("well_formed", [answer]) => is_formed(alloc, &tree.json, is_yes(answer)),
+        ("sweep", [texts]) => everywhere::are_printed(alloc, &tree, texts),
         ("node", [text]) => prints_expr(alloc, &tree.json, text),
         ("prints", [text]) => is_printed_with(alloc, given, &tree, text),
         (word, [pretty, minified, more @ ..]) => {
@@ -170,6 +173,10 @@ fn of_more(alloc: Global, word: &str, rest: &[String]) -> Result<bool, Error> {
         ("cuts", [short]) => {
             let json = json(alloc, PROGRAM, short, false)?;
             Ok(are_no_trees(alloc, json.as_bytes())?)
+        }
+        ("replaced", [short, other, letters]) => {
+            let json = json(alloc, PROGRAM, short, false)?;
+            Ok(answers_each(alloc, &json, other, letters)?)
         }
         ("no_text", [words]) => match bytes(alloc, words)? {
             Some(bytes) => {

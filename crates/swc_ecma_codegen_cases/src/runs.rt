@@ -37,3 +37,39 @@ pub fn prints(
             && answers(alloc, &any, json, (0, text, ""))?,
     )
 }
+
+/// What a run without words makes of this input, as a letter: `b` where it is no tree, `n` where that isn't well-formed, and `p`
+/// where it is printed; a blank where it answers otherwise.
+fn letter_of(alloc: Global, mut input: &[u8]) -> char {
+    let mut out = Vec::new(alloc);
+    let mut err = Vec::new(alloc);
+    let status = run(alloc, &[], &mut input, &mut out, &mut err);
+    let lines = std::str::from_utf8(&err).unwrap_or(" ");
+    match (status, out.is_empty(), lines) {
+        (1, true, "bad tree\n") => 'b',
+        (1, true, "not well-formed\n") => 'n',
+        (0, false, "") => 'p',
+        _ => ' ',
+    }
+}
+
+/// Whether JSON has these letters, one for each of its bytes with another byte in its place.
+pub fn answers_each(
+    alloc: Global,
+    json: &str,
+    other: &str,
+    letters: &str,
+) -> Result<bool, AllocError> {
+    let Some(other) = other.as_bytes().first() else {
+        return Ok(false);
+    };
+    let mut letters = letters.chars();
+    for at in 0..json.len() {
+        let mut changed = json.as_bytes().to_vec(alloc)?;
+        changed[at] = *other;
+        if letters.next() != Some(letter_of(alloc, &changed)) {
+            return Ok(false);
+        }
+    }
+    Ok(letters.next().is_none())
+}

@@ -37,6 +37,7 @@ pub fn texts_read(
             holds: false,
             omits_last: false,
             comma,
+            argued: false,
         };
         let reads = match std::str::from_utf8(text) {
             Ok(text) => reads_as(alloc, text, &tree.tokens, manner)?,
@@ -130,6 +131,7 @@ pub fn is_printed_with(
         holds: minified,
         omits_last: minified && words.contains("--omit-last-semi"),
         comma: false,
+        argued: false,
     };
     Ok(
         answers(alloc, words, tree.json.as_bytes(), (0, text, ""))?

@@ -3,6 +3,7 @@ use Rattle.std.proofs.Common.{◌≡◌, ◌⊎◌, Bool, true, false, ◌&&◌,
 use Rattle.std.proofs.lemmas.Bool.{or_parts, true≢false}
 use Rattle.std.specs.List.{list_all, list_any}
 use Rattle.std.specs.Prelude.{ℕ, not, nat_lt, Some, codes}
+use Rattle.std.specs.Str.{chars}
 use Rattle.swc_ecma_codegen_common.specs.declared.versions.EsVersion.{EsVersion}
 use Rattle.swc_ecma_codegen_grammar.specs.declared.kinds.Kind.TheVariants.{Str, Punctuator, Ending}
 use Rattle.swc_ecma_codegen_grammar.specs.CodeUnits.{all_utf16}
@@ -10,7 +11,7 @@ use Rattle.swc_ecma_codegen_grammar.specs.Endings.{IsReduced}
 use Rattle.swc_ecma_codegen_grammar.specs.Keys.{wants_quotes, is_quoted, key_token}
 use Rattle.swc_ecma_codegen_grammar.specs.Layouts.{AreAlike, Alongside, leaves_open, PutsIn, no_more, token, with_semicolon, with_comma, with_parentheses, AreSameBut, IsWritten}
 use Rattle.swc_ecma_codegen_grammar.specs.Names.{name_value}
-use Rattle.swc_ecma_codegen_grammar.specs.Phrases.{Phrase, Never, Nothing, One, NameOf, KeyOf, PrivateOf, Then, CommaBefore, OptionalParentheses, Chosen, EmptyArguments, LoopEnding, AttributesWord, Generates, chosen, closing_mark, closing_token, comma, open_parenthesis, close_parenthesis, in_parentheses}
+use Rattle.swc_ecma_codegen_grammar.specs.Phrases.{Phrase, Never, Nothing, One, NameOf, KeyOf, PrivateOf, TagNameOf, Then, CommaBefore, OptionalParentheses, Chosen, EmptyArguments, LoopEnding, AttributesWord, Generates, chosen, closing_mark, closing_token, comma, open_parenthesis, close_parenthesis, in_parentheses}
 use Rattle.swc_ecma_codegen_grammar.specs.Settings.{Settings, is_up_to_es5}
 use Rattle.swc_ecma_codegen_grammar.specs.SpelledNames.{spelled_name}
 use Rattle.swc_ecma_codegen_grammar.specs.Tokens.{Token, Units, ending}
@@ -134,6 +135,7 @@ core s (One x) = x ∷ []
 core s (NameOf at bytes) = tokens.name (name_value (spelled_name bytes)) ∷ []
 core s (KeyOf at bytes) = key_token s bytes ∷ []
 core s (PrivateOf bytes) = tokens.private_name (name_value (spelled_name bytes)) ∷ []
+core s (TagNameOf at bytes) = tokens.tag_name (chars bytes) ∷ []
 core s (Then a b) = core s a ++ core s b
 core s (CommaBefore close) = closing_token close ∷ []
 core s (OptionalParentheses a) = core s a
@@ -175,6 +177,7 @@ listed s (One x) ts g = one_token x ts g
 listed s (NameOf at bytes) ts g = one_token _ ts g
 listed s (KeyOf at bytes) ts g = one_token _ ts g
 listed s (PrivateOf bytes) ts g = one_token _ ts g
+listed s (TagNameOf at bytes) ts g = one_token _ ts g
 listed s (Then a b) ts g = subst (λ z. PutsIn (core s a ++ core s b) z) (sym g.4) (puts_both (core s a) (core s b) g.0 g.1 (listed s a g.0 g.2) (listed s b g.1 g.3))
 listed s (CommaBefore close) ts (inl g) = one_token _ ts g
 listed s (CommaBefore close) ts (inr g) = subst (λ z. PutsIn (closing_token close ∷ []) z) (sym g) (with_comma close [] [] no_more)
@@ -209,6 +212,7 @@ core_same s t (One x) a = refl
 core_same s t (NameOf at bytes) a = refl
 core_same s t (KeyOf at bytes) a = ap (λ x. x ∷ []) (same_key s t bytes a)
 core_same s t (PrivateOf bytes) a = refl
+core_same s t (TagNameOf at bytes) a = refl
 core_same s t (Then f g) a = ap (λ z. z ++ core s g) (core_same s t f a) ∙ ap (λ z. core t f ++ z) (core_same s t g a)
 core_same s t (CommaBefore close) a = refl
 core_same s t (OptionalParentheses f) a = core_same s t f a
@@ -235,6 +239,7 @@ alongside s t (One x) xs ys a g h = (g, h)
 alongside s t (NameOf at bytes) xs ys a g h = (g, h)
 alongside s t (KeyOf at bytes) xs ys a g h = (g, h ∙ ap (λ x. x ∷ []) (sym (same_key s t bytes a)))
 alongside s t (PrivateOf bytes) xs ys a g h = (g, h)
+alongside s t (TagNameOf at bytes) xs ys a g h = (g, h)
 alongside s t (Then e f) xs ys a g h = (g.0, g.1, h.0, h.1, alongside s t e g.0 h.0 a g.2 h.2, alongside s t f g.1 h.1 a g.3 h.3, g.4, h.4)
 alongside s t (CommaBefore close) xs ys a g h = (g, h)
 alongside s t (OptionalParentheses f) xs ys a (inl g) (inl h) = (xs, ys, alongside s t f xs ys a g h, inl refl, inl refl)
@@ -258,6 +263,7 @@ one_list s (One x) xs ys e g h = g ∙ sym h
 one_list s (NameOf at bytes) xs ys e g h = g ∙ sym h
 one_list s (KeyOf at bytes) xs ys e g h = g ∙ sym h
 one_list s (PrivateOf bytes) xs ys e g h = g ∙ sym h
+one_list s (TagNameOf at bytes) xs ys e g h = g ∙ sym h
 one_list s (Then a b) xs ys e g h =
     let p = or_parts (leaves_open a) (leaves_open b) e in
     g.4 ∙ ap (λ z. z ++ g.1) (one_list s a g.0 h.0 p.0 g.2 h.2) ∙ ap (λ z. h.0 ++ z) (one_list s b g.1 h.1 p.1 g.3 h.3) ∙ sym h.4

@@ -9,6 +9,7 @@ pub mod Lists
 pub mod Longest
 pub mod Mapped
 pub mod MappedFunctions
+pub mod MappedJsx
 pub mod MappedKeys
 pub mod MappedPats
 pub mod MappedProps
@@ -23,6 +24,7 @@ pub mod NameShapes
 pub mod NumberForms
 pub mod NumberGrowth
 pub mod NumberShapes
+pub mod Quotes
 pub mod ReadAll
 pub mod ReadOne
 pub mod Reading

@@ -26,6 +26,7 @@ use Rattle.swc_ecma_codegen_tree.specs.declared.pats.AssignTarget.TheVariants as
 use Rattle.swc_ecma_codegen_tree.specs.declared.pats.SimpleAssignTarget.{SimpleAssignTarget}
 use Rattle.swc_ecma_codegen_tree.specs.declared.pats.SimpleAssignTarget.TheVariants as simple_targets
 use Rattle.swc_ecma_codegen_tree.specs.declared.idents.Ident.{Ident}
+use Rattle.swc_ecma_codegen_tree.specs.declared.parts.JSXPart.{JSXPart}
 use Rattle.swc_ecma_codegen_tree.specs.declared.parts.StmtPart.{StmtPart}
 use Rattle.swc_ecma_codegen_tree.specs.declared.parts.StmtPart.TheVariants as stmt_parts
 use Rattle.swc_ecma_codegen_tree.specs.declared.stmts.Stmt.{Stmt}
@@ -44,6 +45,7 @@ use Rattle.swc_ecma_codegen_grammar.proofs.Mapped.{list_mapped}
 use Rattle.swc_ecma_codegen_grammar.proofs.MappedFunctions.{function_part_mapped, block_mapped, arrow_expr_mapped}
 use Rattle.swc_ecma_codegen_grammar.proofs.MappedStmts.{stmt_mapped, decl_mapped, var_decl_mapped}
 use Rattle.swc_ecma_codegen_grammar.proofs.MappedPats.{pat_mapped, plain_mapped, target_pat_mapped}
+use Rattle.swc_ecma_codegen_grammar.proofs.MappedJsx.{jsx_part_mapped}
 use Rattle.swc_ecma_codegen_grammar.proofs.MappedKeys.{prop_name_mapped}
 use Rattle.swc_ecma_codegen_grammar.proofs.MappedProps.{object_lit_mapped}
 use Rattle.swc_ecma_codegen_grammar.proofs.MappedClasses.{method_decorators_mapped, method_tail_mapped, accessor_tail_mapped, class_head_mapped, class_tail_mapped, class_member_mapped}
@@ -183,6 +185,7 @@ node_mapped g f (nodes.MemberExpr n) MemberExpression = member_mapped g f n.span
 node_mapped g f (nodes.MemberExpr n) (ChainMember optional) = chain_member_mapped g f n.span n.obj n.prop optional
 node_mapped g f (nodes.ExprPart n) role = part_mapped g f n role
 node_mapped g f (nodes.StmtPart n) role = stmt_part_mapped g f n role
+node_mapped g f (nodes.JSXPart n) role = jsx_part_mapped g f n role
 node_mapped g f n role = refl
 
 -- ---- whole nodes
@@ -213,3 +216,6 @@ phrase_expr_part n role = ap (λ x. phrase x role) (sym (whole.rolls-ExprPart n)
 
 pub phrase_stmt_part : (n : StmtPart AnyNode) (role : Role) → phrase (whole.StmtPart n) role ≡ node_phrase phrase (nodes.StmtPart n) role
 phrase_stmt_part n role = ap (λ x. phrase x role) (sym (whole.rolls-StmtPart n)) ∙ phrase_of_layer (nodes.StmtPart n) role
+
+pub phrase_jsx_part : (n : JSXPart AnyNode) (role : Role) → phrase (whole.JSXPart n) role ≡ node_phrase phrase (nodes.JSXPart n) role
+phrase_jsx_part n role = ap (λ x. phrase x role) (sym (whole.rolls-JSXPart n)) ∙ phrase_of_layer (nodes.JSXPart n) role

@@ -36,7 +36,7 @@ use Rattle.swc_ecma_codegen_grammar.specs.Phrases.{Phrase, Never, Nothing, One, 
 use Rattle.swc_ecma_codegen_grammar.specs.Tokens.{Token}
 use Rattle.swc_ecma_codegen_grammar.specs.Tokens as tokens
 use Rattle.swc_ecma_codegen_grammar.specs.declared.roles.Role.{Role}
-use Rattle.swc_ecma_codegen_grammar.specs.declared.roles.Role.TheVariants.{Expression, ChainMember, AssignmentTarget, ChainCall, Template}
+use Rattle.swc_ecma_codegen_grammar.specs.declared.roles.Role.TheVariants.{Expression, ChainMember, AssignmentTarget, ChainCall, Template, Element}
 use Rattle.swc_ecma_codegen_grammar.specs.FunctionPhrases.{fn_expr, arrow_expr}
 use Rattle.swc_ecma_codegen_grammar.specs.PropPhrases.{object_lit}
 use Rattle.swc_ecma_codegen_grammar.specs.TemplatePhrases.{tagged_tpl}
@@ -191,7 +191,9 @@ expr f (exprs.Await n) = await_expr f n
 expr f (exprs.Paren n) = paren_expr f n
 expr f (exprs.PrivateName n) = private_name n
 expr f (exprs.OptChain n) = opt_chain_expr f n
--- what isn't printed yet
+expr f (exprs.JSXElement n) = f n.node.value Element
+expr f (exprs.JSXFragment n) = f n.node.value Element
+-- what isn't printed yet; and a name and a part of JSX are no expressions
 expr f n = Never
 
 -- the same where `new A()` keeps its parentheses, as it does as a callee, or doesn't

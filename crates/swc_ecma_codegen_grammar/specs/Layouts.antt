@@ -1,9 +1,10 @@
 -- Lists of tokens that differ in what a layout may leave out.
 use Rattle.std.specs.Prelude.{◌≡◌, ◌⊎◌, ◌||◌, Bool, true, false, List, [], ◌∷◌, ◌++◌}
+use Rattle.std.specs.Str.{chars}
 use Rattle.swc_ecma_codegen_grammar.specs.Endings.{IsReduced}
 use Rattle.swc_ecma_codegen_grammar.specs.Keys.{key_token}
 use Rattle.swc_ecma_codegen_grammar.specs.Names.{name_value}
-use Rattle.swc_ecma_codegen_grammar.specs.Phrases.{Phrase, Never, Nothing, One, NameOf, KeyOf, PrivateOf, Then, CommaBefore, OptionalParentheses, Chosen, Closing, EmptyArguments, Generates, chosen, closing_token, comma, open_parenthesis, close_parenthesis, in_parentheses}
+use Rattle.swc_ecma_codegen_grammar.specs.Phrases.{Phrase, Never, Nothing, One, NameOf, KeyOf, PrivateOf, TagNameOf, Then, CommaBefore, OptionalParentheses, Chosen, Closing, EmptyArguments, Generates, chosen, closing_token, comma, open_parenthesis, close_parenthesis, in_parentheses}
 use Rattle.swc_ecma_codegen_grammar.specs.Settings.{Settings}
 use Rattle.swc_ecma_codegen_grammar.specs.SpelledNames.{spelled_name}
 use Rattle.swc_ecma_codegen_grammar.specs.Tokens.{Token, ending}
@@ -40,6 +41,7 @@ Alongside s t (One x) xs ys = AreBoth (x ∷ []) xs ys
 Alongside s t (NameOf at bytes) xs ys = AreBoth (tokens.name (name_value (spelled_name bytes)) ∷ []) xs ys
 Alongside s t (KeyOf at bytes) xs ys = AreBoth (key_token s bytes ∷ []) xs ys
 Alongside s t (PrivateOf bytes) xs ys = AreBoth (tokens.private_name (name_value (spelled_name bytes)) ∷ []) xs ys
+Alongside s t (TagNameOf at bytes) xs ys = AreBoth (tokens.tag_name (chars bytes) ∷ []) xs ys
 Alongside s t (Then a b) xs ys =
     (us vs ks ns : List Token) × Alongside s t a us ks × Alongside s t b vs ns × (xs ≡ us ++ vs) × (ys ≡ ks ++ ns)
 Alongside s t (CommaBefore close) xs ys = IsClosing close xs × IsClosing close ys
@@ -55,6 +57,7 @@ leaves_open (One x) = false
 leaves_open (NameOf at bytes) = false
 leaves_open (KeyOf at bytes) = false
 leaves_open (PrivateOf bytes) = false
+leaves_open (TagNameOf at bytes) = false
 leaves_open (Then a b) = leaves_open a || leaves_open b
 leaves_open (CommaBefore close) = true
 leaves_open (OptionalParentheses a) = true

@@ -17,6 +17,7 @@ pub mod GapRules
 pub mod Hashbangs
 pub mod HeldNumbers
 pub mod Jsx
+pub mod JsxPhrases
 pub mod Keys
 pub mod Layouts
 pub mod ListFormats

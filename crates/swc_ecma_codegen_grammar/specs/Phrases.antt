@@ -1,10 +1,11 @@
 -- Sets of token lists, as plain data: what a tree reads as, and on what condition.
 use Rattle.std.specs.Prelude.{◌≡◌, ◌⊎◌, ℕ, Bool, true, false, ◌&&◌, List, [], ◌∷◌, ◌++◌, Option, Some, None, codes, if◌then◌else◌}
+use Rattle.std.specs.Str.{chars}
 use Rattle.swc_ecma_codegen_common.specs.declared.positions.BytePos.{BytePos}
 use Rattle.swc_ecma_codegen_grammar.specs.Keys.{key_token}
 use Rattle.swc_ecma_codegen_grammar.specs.Names.{name_value}
 use Rattle.swc_ecma_codegen_grammar.specs.Settings.{Settings, is_up_to_es5}
-use Rattle.swc_ecma_codegen_grammar.specs.SpelledNames.{spelled_name, is_well_formed_name}
+use Rattle.swc_ecma_codegen_grammar.specs.SpelledNames.{spelled_name, is_well_formed_name, is_well_formed_tag_name}
 use Rattle.swc_ecma_codegen_grammar.specs.Tokens.{Token}
 use Rattle.swc_ecma_codegen_grammar.specs.Tokens as tokens
 
@@ -25,7 +26,7 @@ closing_mark RightBracket = codes "]"
 closing_mark RightBrace = codes "}"
 
 -- No list at all, no token, one token, a name by its bytes in the tree and where it stands in its source, the same of a key of
--- a property, a private name by its bytes in the tree, without `#`, or one list and then another. What syntax leaves open: a closing mark, with a comma before
+-- a property, a private name by its bytes in the tree, without `#`, a name in a tag, or one list and then another. What syntax leaves open: a closing mark, with a comma before
 -- it or without, `[a,] = b` or `[a] = b`; a list, bare or in parentheses, `a => b` or `(a) => b`; what is chosen by the settings.
 pub data Phrase : Type 0 where
   Never : Phrase
@@ -34,6 +35,7 @@ pub data Phrase : Type 0 where
   NameOf : (at : BytePos) → (bytes : List ℕ) → Phrase
   KeyOf : (at : BytePos) → (bytes : List ℕ) → Phrase
   PrivateOf : (bytes : List ℕ) → Phrase
+  TagNameOf : (at : BytePos) → (bytes : List ℕ) → Phrase
   Then : (first second : Phrase) → Phrase
   CommaBefore : (close : Closing) → Phrase
   OptionalParentheses : (inside : Phrase) → Phrase
@@ -73,6 +75,7 @@ Generates s (One x) ts = ts ≡ x ∷ []
 Generates s (NameOf at bytes) ts = ts ≡ tokens.name (name_value (spelled_name bytes)) ∷ []
 Generates s (KeyOf at bytes) ts = ts ≡ key_token s bytes ∷ []
 Generates s (PrivateOf bytes) ts = ts ≡ tokens.private_name (name_value (spelled_name bytes)) ∷ []
+Generates s (TagNameOf at bytes) ts = ts ≡ tokens.tag_name (chars bytes) ∷ []
 Generates s (Then a b) ts = (us vs : List Token) × Generates s a us × Generates s b vs × (ts ≡ us ++ vs)
 Generates s (CommaBefore close) ts = (ts ≡ closing_token close ∷ []) ⊎ (ts ≡ comma ∷ closing_token close ∷ [])
 Generates s (OptionalParentheses a) ts = Generates s a ts ⊎ ((us : List Token) × Generates s a us × (ts ≡ in_parentheses us))
@@ -86,25 +89,33 @@ is_possible (One x) = true
 is_possible (NameOf at bytes) = is_well_formed_name bytes
 is_possible (KeyOf at bytes) = is_well_formed_name bytes
 is_possible (PrivateOf bytes) = is_well_formed_name bytes
+is_possible (TagNameOf at bytes) = is_well_formed_tag_name bytes
 is_possible (Then a b) = is_possible a && is_possible b
 is_possible (CommaBefore close) = true
 is_possible (OptionalParentheses a) = is_possible a
 is_possible (Chosen choice) = true
 
--- a name that is printed: where it stands in its source, its bytes, and whether it is a key, which may be put in quotes
+-- how a name is printed: as the settings ask; so too as a key, which may be put in quotes; in a tag as it is
+pub data NameSort : Type 0 where
+  Plain : NameSort
+  Key : NameSort
+  Tag : NameSort
+
+-- a name that is printed: where it stands in its source, its bytes, and its sort
 pub record PlacedName : Type 0 where
   pub at : BytePos
   pub bytes : List ℕ
-  pub is_key : Bool
+  pub sort : NameSort
 
 -- the names in order, save private ones
 unfoldable pub names_in : Phrase → List PlacedName
 names_in Never = []
 names_in Nothing = []
 names_in (One x) = []
-names_in (NameOf at bytes) = record { at = at; bytes = bytes; is_key = false } ∷ []
-names_in (KeyOf at bytes) = record { at = at; bytes = bytes; is_key = true } ∷ []
+names_in (NameOf at bytes) = record { at = at; bytes = bytes; sort = Plain } ∷ []
+names_in (KeyOf at bytes) = record { at = at; bytes = bytes; sort = Key } ∷ []
 names_in (PrivateOf bytes) = []
+names_in (TagNameOf at bytes) = record { at = at; bytes = bytes; sort = Tag } ∷ []
 names_in (Then a b) = names_in a ++ names_in b
 names_in (CommaBefore close) = []
 names_in (OptionalParentheses a) = names_in a

@@ -129,6 +129,24 @@ private_name characters = record { kind = PrivateName; value = Characters charac
 unfoldable pub punctuator : List ℕ → Token
 punctuator spelling = record { kind = Punctuator; value = Characters spelling }
 
+-- a name in a tag, the string of an attribute and the text between tags, each by its spelling
+unfoldable pub tag_name : List ℕ → Token
+tag_name spelling = record { kind = JsxName; value = Characters spelling }
+
+unfoldable pub jsx_string : List ℕ → Token
+jsx_string spelling = record { kind = JsxString; value = Characters spelling }
+
+unfoldable pub jsx_text : List ℕ → Token
+jsx_text spelling = record { kind = JsxText; value = Characters spelling }
+
+-- the `<` or `{` that begins a child, and the `<` of a closing tag
+unfoldable pub child_open : List ℕ → Token
+child_open spelling = record { kind = JsxOpen; value = Characters spelling }
+
+-- the `>` that closes a tag
+unfoldable pub tag_close : Token
+tag_close = record { kind = Close; value = Characters (codes ">") }
+
 -- the semicolon that ends a statement
 unfoldable pub ending : Token
 ending = record { kind = Ending; value = Characters (codes ";") }

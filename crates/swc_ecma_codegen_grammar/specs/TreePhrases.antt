@@ -12,6 +12,7 @@ use Rattle.swc_ecma_codegen_grammar.specs.Phrases.{Phrase, Never, ◌>◌, mark,
 use Rattle.swc_ecma_codegen_grammar.specs.declared.roles.Role.{Role}
 use Rattle.swc_ecma_codegen_grammar.specs.declared.roles.Role.TheVariants.{Expression, Statement, MemberExpression, ChainMember, Callee, FieldValue}
 use Rattle.swc_ecma_codegen_grammar.specs.ExprPhrases.{expr, member_expr, chain_member, expr_in}
+use Rattle.swc_ecma_codegen_grammar.specs.JsxPhrases.{jsx_part}
 use Rattle.swc_ecma_codegen_grammar.specs.PartPhrases.{expr_part, stmt_part}
 use Rattle.swc_ecma_codegen_grammar.specs.StmtPhrases.{stmt, program}
 
@@ -34,6 +35,7 @@ node_phrase f (nodes.MemberExpr n) MemberExpression = member_expr f n
 node_phrase f (nodes.MemberExpr n) (ChainMember optional) = chain_member f optional n
 node_phrase f (nodes.ExprPart n) role = expr_part f n role
 node_phrase f (nodes.StmtPart n) role = stmt_part f n role
+node_phrase f (nodes.JSXPart n) role = jsx_part f n role
 node_phrase f n role = Never
 
 -- a whole node

@@ -59,4 +59,10 @@ pub enum Role {
     ExportedHead,
     /// `class B {}` of `@a export class B {}`, `let a;` of `export let a;`.
     ExportedTail,
+    /// `<a />` or `<></>`: an expression, or the value of an attribute.
+    Element,
+    /// `<b />` of `<a><b /></a>`: the same as a child, right behind what is before it.
+    Child,
+    /// `a.b` of `<a.b.c />`.
+    TagObject,
 }

@@ -29,6 +29,7 @@ mod modules;
 mod objects;
 mod pats;
 mod programs;
+mod props;
 mod reading;
 mod shared;
 mod source;
@@ -41,6 +42,7 @@ mod ts_exprs;
 mod ts_members;
 mod ts_nodes;
 mod ts_type;
+mod ts_type_parts;
 mod ts_types;
 mod values;
 

@@ -29,6 +29,9 @@ use Rattle.swc_ecma_codegen_tree.specs.declared.parts.ExprPart.{ExprPart}
 use Rattle.swc_ecma_codegen_tree.specs.declared.parts.ExprPart.TheVariants as expr_parts
 use Rattle.swc_ecma_codegen_tree.specs.declared.parts.StmtPart.{StmtPart}
 use Rattle.swc_ecma_codegen_tree.specs.declared.parts.StmtPart.TheVariants as stmt_parts
+use Rattle.swc_ecma_codegen_tree.specs.declared.jsx.JSXOpeningElement.{JSXOpeningElement}
+use Rattle.swc_ecma_codegen_tree.specs.declared.parts.JSXPart.{JSXPart}
+use Rattle.swc_ecma_codegen_tree.specs.declared.parts.JSXPart.TheVariants as jsx_parts
 use Rattle.swc_ecma_codegen_tree.specs.declared.pats.Pat.{Pat}
 use Rattle.swc_ecma_codegen_tree.specs.declared.pats.Pat.TheVariants as pats
 use Rattle.swc_ecma_codegen_tree.specs.declared.pats.AssignTargetPat.{AssignTargetPat}
@@ -56,7 +59,7 @@ use Rattle.swc_ecma_codegen_grammar.specs.Phrases.{Phrase, Never, Nothing, One, 
 use Rattle.swc_ecma_codegen_grammar.specs.Phrases as phrases
 use Rattle.swc_ecma_codegen_grammar.specs.Settings.{Settings}
 use Rattle.swc_ecma_codegen_grammar.specs.declared.roles.Role.{Role}
-use Rattle.swc_ecma_codegen_grammar.specs.declared.roles.Role.TheVariants.{Expression, Statement, MemberExpression, ChainMember, AssignmentTarget, Pattern, PlainParameter, PropertyName, ObjectLiteral, Function, FunctionHead, MethodHead, Block, Declaration, VariableDeclaration, Callee as IsCallee, ChainCall, Template, TaggedTemplate, ClassHead, ClassTail, Member, MethodDecorators, MethodTail, AccessorTail, FieldValue, ModuleDeclaration, ExportedHead, ExportedTail}
+use Rattle.swc_ecma_codegen_grammar.specs.declared.roles.Role.TheVariants.{Expression, Statement, MemberExpression, ChainMember, AssignmentTarget, Pattern, PlainParameter, PropertyName, ObjectLiteral, Function, FunctionHead, MethodHead, Block, Declaration, VariableDeclaration, Callee as IsCallee, ChainCall, Template, TaggedTemplate, ClassHead, ClassTail, Member, MethodDecorators, MethodTail, AccessorTail, FieldValue, ModuleDeclaration, ExportedHead, ExportedTail, Element, Child, TagObject}
 use Rattle.swc_ecma_codegen_grammar.specs.NamePhrases as names
 use Rattle.swc_ecma_codegen_grammar.specs.ExprPhrases as lists
 use Rattle.swc_ecma_codegen_grammar.specs.LitPhrases as lit_lists
@@ -70,6 +73,7 @@ use Rattle.swc_ecma_codegen_grammar.specs.KeyPhrases as key_lists
 use Rattle.swc_ecma_codegen_grammar.specs.PropPhrases as prop_lists
 use Rattle.swc_ecma_codegen_grammar.specs.ClassPhrases as class_lists
 use Rattle.swc_ecma_codegen_grammar.specs.TemplatePhrases as template_lists
+use Rattle.swc_ecma_codegen_grammar.specs.JsxPhrases as jsx_lists
 use Rattle.swc_ecma_codegen_grammar.specs.StmtPhrases as stmt_lists
 use Rattle.swc_ecma_codegen_grammar.specs.TreePhrases.{node_phrase, phrase, expr_phrase}
 use Rattle.swc_ecma_codegen_grammar.proofs.TreeLaws.{phrase_of}
@@ -201,8 +205,8 @@ begins_update : (prefix : Bool) (op : List ℕ) (f : Phrase) (b : Bool) → Begi
 begins_update true op f b h = begins_then (mark op) f false (begins_mark op false)
 begins_update false op f b h = begins_then f (phrases.same_line > mark op) b h
 
--- In these roles something begins that is asked how it begins. A property, the value of one and a member are never asked, and what stands before the
--- name of a method or before a class may be nothing.
+-- In these roles something begins that is asked how it begins. A property, the value of one and a member are never asked, nor is a part of a tag's name,
+-- and what stands before the name of a method or before a class may be nothing.
 leads : Role → Bool
 leads MethodHead = false
 leads ClassHead = false
@@ -215,9 +219,11 @@ leads FieldValue = false
 leads ModuleDeclaration = false
 leads ExportedHead = false
 leads ExportedTail = false
+leads TagObject = false
 leads role = true
 
--- `function` is a word, and so is `let`; a block and an object begin with a brace, and a template with a back quote
+-- `function` is a word, and so is `let`; a block and an object begin with a brace, a template with a back quote, and an
+-- element with `<`
 begins_as : Role → Bool → Bool
 begins_as FunctionHead b = true
 begins_as VariableDeclaration b = true
@@ -225,6 +231,8 @@ begins_as Block b = false
 begins_as ObjectLiteral b = false
 begins_as Template b = false
 begins_as TaggedTemplate b = false
+begins_as Element b = false
+begins_as Child b = false
 begins_as role b = b
 
 -- what a node begins with, where what its links hold begins as f says
@@ -359,6 +367,8 @@ expr_begins reads starts law (exprs.Await n) = begins_then _ _ _ (begins_true _)
 expr_begins reads starts law (exprs.Paren n) = begins_then _ _ _ (begins_mark _ false)
 expr_begins reads starts law (exprs.PrivateName n) = begins_private _ _
 expr_begins reads starts law (exprs.OptChain n) = chain_begins reads starts law n.optional n.base
+expr_begins reads starts law (exprs.JSXElement n) = law n.node.value Element refl
+expr_begins reads starts law (exprs.JSXFragment n) = law n.node.value Element refl
 expr_begins reads starts law n = begins_never _
 
 callee_expr_begins : {X : Type 0} (reads : X → Role → Phrase) (starts : X → Bool) → Begin reads starts → (n : Expr X) → Begins (lists.expr_in reads true n) (expr_starts starts n)
@@ -485,6 +495,25 @@ stmt_part_begins reads starts law (stmt_parts.Decl n) Declaration h = decl_begin
 stmt_part_begins reads starts law (stmt_parts.VarDecl n) VariableDeclaration h = var_decl_begins reads n
 stmt_part_begins reads starts law n role h = begins_never _
 
+-- `<` of a tag is no word
+open_begins : (is_child : Bool) → Begins (jsx_lists.open_mark is_child (codes "<")) false
+unfolding jsx_lists.open_mark tokens.child_open joins_a_word
+open_begins true = begins_other _ false refl
+open_begins false = begins_mark _ false
+
+opening_begins : {X : Type 0} (reads : X → Role → Phrase) (is_child : Bool) (n : JSXOpeningElement X) → Begins (jsx_lists.jsx_opening_element reads is_child n) false
+unfolding jsx_lists.jsx_opening_element
+opening_begins reads is_child n = unless_begins (is_some n.type_args) _ false (begins_then _ _ _ (open_begins is_child))
+
+jsx_begins : {X : Type 0} (reads : X → Role → Phrase) (n : JSXPart X) (role : Role) → leads role ≡ true → Begins (jsx_lists.jsx_part reads n role) (begins_as role false)
+unfolding leads begins_as jsx_lists.jsx_part jsx_lists.jsx_element jsx_lists.jsx_fragment jsx_lists.jsx_opening_fragment
+jsx_begins reads (jsx_parts.JSXElement n) Element h = begins_then _ _ _ (opening_begins reads false n.value.opening)
+jsx_begins reads (jsx_parts.JSXElement n) Child h = begins_then _ _ _ (opening_begins reads true n.value.opening)
+jsx_begins reads (jsx_parts.JSXFragment n) Element h = begins_then _ _ _ (begins_then _ _ _ (open_begins false))
+jsx_begins reads (jsx_parts.JSXFragment n) Child h = begins_then _ _ _ (begins_then _ _ _ (open_begins true))
+jsx_begins reads (jsx_parts.JSXObject n) TagObject h = absurd (true≢false (sym h))
+jsx_begins reads n role h = begins_never _
+
 node_begins : {X : Type 0} (reads : X → Role → Phrase) (starts : X → Bool) → Begin reads starts → (n : AnyNode-F X) (role : Role) → leads role ≡ true → Begins (node_phrase reads n role) (begins_as role (node_starts starts n))
 unfolding begins_as node_phrase node_starts lists.member_expr lists.chain_member leads
 node_begins reads starts law (nodes.Expr n) Expression h = expr_begins reads starts law n
@@ -495,6 +524,7 @@ node_begins reads starts law (nodes.MemberExpr n) (ChainMember optional) h = beg
 node_begins reads starts law (nodes.Expr n) FieldValue h = absurd (true≢false (sym h))
 node_begins reads starts law (nodes.ExprPart n) role h = part_begins reads starts law n role h
 node_begins reads starts law (nodes.StmtPart n) role h = stmt_part_begins reads starts law n role h
+node_begins reads starts law (nodes.JSXPart n) role h = jsx_begins reads n role h
 node_begins reads starts law n role h = begins_never _
 
 -- ---- whole nodes
@@ -505,13 +535,13 @@ both f g b c e d h = subst (λ z. Begins z b) (sym e) (subst (λ z. Begins g z) 
 abbrev Law : AnyNode → Type 0
 Law n = (role : Role) → leads role ≡ true → Begins (phrase n role) (begins_as role (any_starts n))
 
-abbrev Child : Type 0
-Child = Such the_family (claims Law) member-AnyNode
+abbrev Lawful : Type 0
+Lawful = Such the_family (claims Law) member-AnyNode
 
 begins : Begin phrase any_starts
 begins = ind-AnyNode Law (λ x y q. subst (λ z. Law (roll-AnyNode z)) q (λ role h.
-    both _ _ _ _ (phrase_of {X = Child} (λ z. z.0) y role) (ap (begins_as role) (starts_of {X = Child} (λ z. z.0) y))
-    (node_begins {X = Child} (λ z. phrase z.0) (λ z. any_starts z.0) (λ z. z.1) y role h)))
+    both _ _ _ _ (phrase_of {X = Lawful} (λ z. z.0) y role) (ap (begins_as role) (starts_of {X = Lawful} (λ z. z.0) y))
+    (node_begins {X = Lawful} (λ z. phrase z.0) (λ z. any_starts z.0) (λ z. z.1) y role h)))
 
 -- Where an expression begins with a word, a name or a number, it is said to begin with a character of a name.
 pub first_told : (n : Expr AnyNode) (s : Settings) (x : Token) (xs : List Token) → Generates s (expr_phrase n) (x ∷ xs) → joins_a_word x.kind ≡ true → expr_starts any_starts n ≡ true

@@ -1,3 +1,4 @@
+pub mod BadShapes
 pub mod BasicTrees
 pub mod ClosedMaps
 pub mod FirstTokens

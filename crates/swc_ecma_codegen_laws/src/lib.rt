@@ -28,6 +28,7 @@ ghost use Rattle.swc_ecma_codegen_grammar.specs.CommentMaps.{Maps, with_leading,
 ghost use Rattle.swc_ecma_codegen_grammar.specs.Comments.{is_closed, remark_of, AreClosed};
 ghost use Rattle.swc_ecma_codegen_grammar.specs.declared.comments.Comment.{Comment};
 ghost use Rattle.swc_ecma_codegen_tokens.specs.Run.{Env, Follows, Plan, State, nothing, refused, makes_text, spoken, start, steps_in, steps_of, unprintable_in};
+ghost use Rattle.swc_ecma_codegen_tokens.specs.Attributes.{attribute_string, has_no_text};
 ghost use Rattle.swc_ecma_codegen_tokens.specs.Lits.{prints_raw, string_at, value_text};
 ghost use Rattle.swc_ecma_codegen_tokens.specs.Scripts.{value_strings};
 ghost use Rattle.swc_ecma_codegen_tokens.specs.Targets.{is_out};
@@ -113,7 +114,7 @@ pub fn plain_trees_take_no_memory()
 {}
 
 /// Only texts of comments aren't ASCII among the steps of an emission of a well-formed tree whose names can all be written,
-/// where each regular expression, template with a tag and hashbang of the tree is ASCII and no string of it reads `use strict`: of
+/// where each regular expression, template with a tag and hashbang of the tree is ASCII, and all of its JSX, and no string of it reads `use strict`: of
 /// these texts the clause `ascii` of `emit_with` speaks. Such a string is another only where it has a backslash and isn't ASCII.
 #[tactic(auto, using(swc_ecma_codegen::proofs::TreeReads::root_keeps))]
 pub fn plain_trees_keep_no_other_text()
@@ -146,11 +147,13 @@ pub fn well_formed_trees_are_supported()
 {}
 
 /// The shapes of which no text is written, and no step is made before the refusal: an import of a namespace among more than
-/// two specifiers, and a template without one part more than expressions. A plan comes to `BadShape` in no other words.
-#[tactic(auto, using(swc_ecma_codegen::proofs::TreeReads::crowded_refused, swc_ecma_codegen::proofs::TreeReads::uncounted_refused))]
+/// two specifiers, a template without one part more than expressions, and a string of an attribute of JSX without a raw whose
+/// value holds both quotes. A plan comes to `BadShape` in no other words.
+#[tactic(auto, using(swc_ecma_codegen::proofs::TreeReads::crowded_refused, swc_ecma_codegen::proofs::TreeReads::uncounted_refused, crate::proofs::BadShapes::textless_refused))]
 pub fn bad_shapes_are_refused_first()
     ensures import_ { (n : ImportDecl AnyNode) (rest : Plan) (env : Env) → is_crowded n.specifiers.items ≡ true → import_decl any_items n rest env ≡ refused BadShape }
     ensures template { (n : Tpl AnyNode) (tagged : Bool) (rest : Plan) (env : Env) → is_counted n.exprs.items n.quasis.items ≡ false → tpl any_items tagged n rest env ≡ refused BadShape }
+    ensures attribute { (n : Str) (rest : Plan) (env : Env) → has_no_text n ≡ true → attribute_string n rest env ≡ refused BadShape }
 {}
 
 /// Under settings that differ in whether they minify the lists of a tree are the same part for part, but for what syntax leaves

@@ -11,7 +11,7 @@ use swc_ecma_codegen_grammar::comments::{Comment, CommentKind, CommentMaps, Comm
 use swc_ecma_codegen_grammar::mapper::NoSource;
 
 /// A comment of this text.
-fn comment(alloc: Global, kind: CommentKind, text: &str) -> Result<Comment, AllocError> {
+pub(crate) fn comment(alloc: Global, kind: CommentKind, text: &str) -> Result<Comment, AllocError> {
     let span = DUMMY_SP;
     let text = String::from_str(alloc, text)?;
     Ok(Comment { kind, span, text })

@@ -43,6 +43,10 @@ pub(crate) const DIFFERENCE: &str =
 /// The text of that script.
 pub(crate) const DIFFERENCE_TEXT: &str = "a - -b * c;\n";
 
+/// `foobar();`
+pub(crate) const CALL: &str =
+    r#"{"Script":{"span":{"lo":1,"hi":10},"body":[{"Expr":{"span":{"lo":1,"hi":10},"expr":{"Call":{"span":{"lo":1,"hi":9},"callee":{"Expr":{"Ident":{"span":{"lo":1,"hi":7},"sym":"foobar","optional":false}}},"args":[],"type_args":null}}}}],"shebang":null}}"#;
+
 /// `a.b`
 pub(crate) const MEMBER: &str =
     r#"{"Script":{"span":{"lo":1,"hi":4},"body":[{"Expr":{"span":{"lo":1,"hi":4},"expr":{"Member":{"span":{"lo":1,"hi":4},"obj":{"Ident":{"span":{"lo":1,"hi":2},"sym":"a","optional":false}},"prop":{"Ident":{"span":{"lo":3,"hi":4},"sym":"b"}}}}}}],"shebang":null}}"#;
@@ -70,6 +74,10 @@ pub(crate) const CROWDED: &str =
 /// A template of one part and one expression, `a`
 pub(crate) const UNCOUNTED: &str =
     r#"{"Script":{"span":{"lo":0,"hi":0},"body":[{"Expr":{"span":{"lo":0,"hi":0},"expr":{"Tpl":{"span":{"lo":0,"hi":0},"exprs":[{"Ident":{"span":{"lo":0,"hi":0},"sym":"a","optional":false}}],"quasis":[{"span":{"lo":0,"hi":0},"raw":"b"}]}}}}],"shebang":null}}"#;
+
+/// `<a b=../>`, whose string has no raw and holds both quotes
+pub(crate) const QUOTED: &str =
+    r#"{"Script":{"span":{"lo":0,"hi":0},"body":[{"Expr":{"span":{"lo":0,"hi":0},"expr":{"JSXElement":{"span":{"lo":0,"hi":0},"opening":{"span":{"lo":0,"hi":0},"name":{"Ident":{"span":{"lo":0,"hi":0},"sym":"a","optional":false}},"attrs":[{"JSXAttr":{"span":{"lo":0,"hi":0},"name":{"Ident":{"span":{"lo":0,"hi":0},"sym":"b"}},"value":{"Lit":{"Str":{"span":{"lo":0,"hi":0},"value":"x\"y'z","raw":null}}}}}],"self_closing":true,"type_args":null},"children":[],"closing":null}}}}],"shebang":null}}"#;
 
 /// `a`, and then an expression that can't be printed, at no place
 pub(crate) const INVALID: &str =

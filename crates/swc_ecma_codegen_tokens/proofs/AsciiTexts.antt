@@ -8,7 +8,7 @@ use Rattle.swc_ecma_codegen_common.specs.declared.errors.Refusal.{Refusal}
 use Rattle.swc_ecma_codegen_common.specs.declared.positions.Span.{Span}
 use Rattle.swc_ecma_codegen_grammar.specs.GapRules.{fuses, Apart}
 use Rattle.swc_ecma_codegen_grammar.specs.Settings.{Settings, is_up_to_es5}
-use Rattle.swc_ecma_codegen_grammar.specs.Phrases.{Phrase, Never, Nothing, One, NameOf, KeyOf, PrivateOf, Then, CommaBefore, OptionalParentheses, Chosen, EmptyArguments, LoopEnding, AttributesWord, in_parentheses, close_parenthesis, Generates, chosen, is_possible}
+use Rattle.swc_ecma_codegen_grammar.specs.Phrases.{Phrase, Never, Nothing, One, NameOf, KeyOf, PrivateOf, TagNameOf, Then, CommaBefore, OptionalParentheses, Chosen, EmptyArguments, LoopEnding, AttributesWord, in_parentheses, close_parenthesis, Generates, chosen, is_possible}
 use Rattle.swc_ecma_codegen_grammar.specs.Tokens as lexical
 use Rattle.swc_ecma_codegen_text_writer.specs.Sheet.{Item, Semi, Space, Keyword, Operator, Param, Property, Line, Lit, Comment, StrLit, Str, Symbol, Punct, Position, Commit, Deeper, Shallower, Sheet, Semicolons, AtOnce, HoldsNone, HoldsOne, appended, written, literal_written, ended, settled, settled_by, semicolon_by, before_punct, is_ending, dropped, effect}
 use Rattle.swc_ecma_codegen_text_writer.proofs.Sheets.{effect_indent_text, effect_line_end, settled_same}
@@ -17,11 +17,12 @@ use Rattle.swc_ecma_codegen_tokens.specs.Ascii.{is_other_value, is_other, is_oth
 use Rattle.swc_ecma_codegen_tokens.specs.Run.{Env, Part, State, Step, Guard, Token, Plain, Ends, Remake, Take, CommentText, spoken, put, run, steps_of, nothing, text_of, Follows}
 use Rattle.swc_ecma_codegen_tokens.specs.Settings.{settings_of}
 use Rattle.swc_ecma_codegen_tokens.specs.Targets.{is_out}
+use Rattle.swc_ecma_codegen_tokens.specs.Written.{Spot}
 use Rattle.swc_ecma_codegen_tokens.proofs.Hands.{tokens_keep}
 use Rattle.swc_ecma_codegen_tokens.proofs.KeyTexts.{key_kept}
 use Rattle.swc_ecma_codegen_tokens.proofs.Held.{front, front_of, written_text, pointed_keeps}
 use Rattle.swc_ecma_codegen_tokens.proofs.PartSteps.{steps_of_chain}
-use Rattle.swc_ecma_codegen_tokens.proofs.Phrased.{made_not_out, PrintsAt}
+use Rattle.swc_ecma_codegen_tokens.proofs.Phrased.{made_not_out, PrintsOn}
 use Rattle.swc_ecma_codegen_tokens.proofs.Texts.{adds_literal}
 use Rattle.swc_ecma_codegen_tokens.proofs.Shapes.{Shape}
 
@@ -211,9 +212,9 @@ unfolding run put are_ascii_or_kept other_texts is_other is_other_piece is_other
 run_goes {ts} old [] a h g = subst (λ z. Goes z old a.sheet) (sym (append-nil ts)) g
 run_goes old (Guard t ∷ xs) a h g = run_goes old xs (put (Guard t) a) h (guard_goes old t a g)
 run_goes {ts} old (Token kind x ∷ xs) a h g =
-    let p = and_parts (is_ascii_text (text_of x) || is_kept x) (are_ascii_or_kept xs) h in
-    goes_on ts old (is_other x) (text_of x) (other_texts xs) (run xs (put (Token kind x) a)).sheet
-    (run_goes {ts = ts ++ text_if (is_other x) (text_of x)} old xs (put (Token kind x) a) p.1 (other_if old (is_ascii_text (text_of x)) (is_kept x) x a.sheet refl p.0 g))
+    let p = and_parts (is_ascii_text (text_of x) || is_kept kind x) (are_ascii_or_kept xs) h in
+    goes_on ts old (is_other kind x) (text_of x) (other_texts xs) (run xs (put (Token kind x) a)).sheet
+    (run_goes {ts = ts ++ text_if (is_other kind x) (text_of x)} old xs (put (Token kind x) a) p.1 (other_if old (is_ascii_text (text_of x)) (is_kept kind x) x a.sheet refl p.0 g))
 run_goes {ts} old (Plain x ∷ xs) a h g =
     let p = and_parts (is_ascii_text (text_of x) || is_kept_piece x) (are_ascii_or_kept xs) h in
     goes_on ts old (is_other_piece x) (text_of x) (other_texts xs) (run xs (put (Plain x) a)).sheet
@@ -230,7 +231,7 @@ run_goes {ts} old (CommentText t ∷ xs) a h g =
 
 -- ---- what an emission adds
 
-part_steps : {i : Shape} {p : Part} {f : Phrase} {env : Env} → PrintsAt i env p f → is_possible f ≡ true → is_out env.config f ≡ false → env.config.ascii_only ≡ true → are_ascii_or_kept (steps_of (p nothing env)) ≡ true
+part_steps : {v w : Spot} {i : Shape} {p : Part} {f : Phrase} {env : Env} → PrintsOn v w i env p f → is_possible f ≡ true → is_out env.config f ≡ false → env.config.ascii_only ≡ true → are_ascii_or_kept (steps_of (p nothing env)) ≡ true
 unfolding nothing
 part_steps {p = p} {f = f} {env = env} prints w o e =
     let h = (prints.where_possible w o env.maps).writes in
@@ -238,7 +239,7 @@ part_steps {p = p} {f = f} {env = env} prints w o e =
     ap are_ascii_or_kept same ∙ h.hands.ascii e
 
 -- under ASCII only what is added is ASCII, save what stands as it is, and the texts of comments
-pub printed_ascii : {i : Shape} (p : Part) (f : Phrase) (a b : State) (r : Result (Unit {0}) Refusal) → PrintsAt i a.env p f → is_possible f ≡ true → WantsAscii a → Follows (p nothing) a b r → OnOk r (AddsAscii (other_texts (steps_of (p nothing a.env))) a.sheet.text b.sheet.text)
+pub printed_ascii : {v w : Spot} {i : Shape} (p : Part) (f : Phrase) (a b : State) (r : Result (Unit {0}) Refusal) → PrintsOn v w i a.env p f → is_possible f ≡ true → WantsAscii a → Follows (p nothing) a b r → OnOk r (AddsAscii (other_texts (steps_of (p nothing a.env))) a.sheet.text b.sheet.text)
 unfolding Follows
 printed_ascii p f a b (Ok u) prints w s k =
     let begin : Goes [] a.sheet.text a.sheet = record { lines = record { indent_text = s.indent_text; line_end = s.line_end }; adds = adds_none a.sheet.text } in
@@ -252,7 +253,7 @@ pub none_other : (xs : List Step) → keeps_other xs ≡ false → other_texts x
 unfolding keeps_other other_texts spoken
 none_other [] h = refl
 none_other (Guard t ∷ xs) h = none_other xs h
-none_other (Token kind x ∷ xs) h = let p = or_parts (is_other x) (keeps_other xs) h in ap (λ z. text_if z (text_of x) ++ other_texts xs) p.0 ∙ none_other xs p.1
+none_other (Token kind x ∷ xs) h = let p = or_parts (is_other kind x) (keeps_other xs) h in ap (λ z. text_if z (text_of x) ++ other_texts xs) p.0 ∙ none_other xs p.1
 none_other (Plain x ∷ xs) h = let p = or_parts (is_other_piece x) (keeps_other xs) h in ap (λ z. text_if z (text_of x) ++ other_texts xs) p.0 ∙ none_other xs p.1
 none_other (Ends tokens x ∷ xs) h = let p = or_parts (is_other_end tokens x) (keeps_other xs) h in ap (λ z. text_if z (text_of x) ++ other_texts xs) p.0 ∙ none_other xs p.1
 none_other (Remake due ∷ xs) h = none_other xs h
@@ -278,13 +279,14 @@ unfolding keeps_tokens chosen is_other_value lexical.word
 word_kept s = refl
 
 kept_listed : (s : Settings) (f : Phrase) (ts : List lexical.Token) → is_possible f ≡ true → Generates s f ts → keeps_tokens ts ≡ may_keep_other f
-unfolding Generates is_possible keeps_tokens may_keep_other is_other_value lexical.name lexical.private_name lexical.punctuator
+unfolding Generates is_possible keeps_tokens may_keep_other is_other_value lexical.name lexical.private_name lexical.tag_name lexical.punctuator
 kept_listed s Never ts w g = absurd g
 kept_listed s Nothing ts w g = ap keeps_tokens g
 kept_listed s (One x) ts w g = ap keeps_tokens g ∙ kept_alone (is_other_value x.kind x.value)
 kept_listed s (NameOf at bytes) ts w g = ap keeps_tokens g
 kept_listed s (KeyOf at bytes) ts w g = ap keeps_tokens g ∙ key_kept s bytes w
 kept_listed s (PrivateOf bytes) ts w g = ap keeps_tokens g
+kept_listed s (TagNameOf at bytes) ts w g = ap keeps_tokens g ∙ kept_alone (not (is_ascii_text (chars bytes)))
 kept_listed s (Then a b) ts w g =
     let p = and_parts (is_possible a) (is_possible b) w in
     ap keeps_tokens g.4 ∙ tokens_keep g.0 g.1 ∙ ap (λ z. z || keeps_tokens g.1) (kept_listed s a g.0 p.0 g.2) ∙ ap (λ z. may_keep_other a || z) (kept_listed s b g.1 p.1 g.3)
@@ -297,7 +299,7 @@ kept_listed s (Chosen LoopEnding) ts w g = ap keeps_tokens g ∙ ending_kept s
 kept_listed s (Chosen AttributesWord) ts w g = ap keeps_tokens g ∙ word_kept s
 
 -- where no such token is in the tree, no such text is among the steps
-pub printed_keeps : {i : Shape} (p : Part) (f : Phrase) (env : Env) → PrintsAt i env p f → is_possible f ≡ true → is_out env.config f ≡ false → may_keep_other f ≡ false → keeps_other (steps_of (p nothing env)) ≡ false
+pub printed_keeps : {v w : Spot} {i : Shape} (p : Part) (f : Phrase) (env : Env) → PrintsOn v w i env p f → is_possible f ≡ true → is_out env.config f ≡ false → may_keep_other f ≡ false → keeps_other (steps_of (p nothing env)) ≡ false
 unfolding nothing
 printed_keeps p f env prints w o none =
     let h = prints.where_possible w o env.maps in

@@ -16,12 +16,14 @@ use Rattle.swc_ecma_codegen_text_writer.specs.Sheet.{Sheet, Comment, Line, Posit
 use Rattle.swc_ecma_codegen_text_writer.proofs.Sheets.{written_same, pointed_alike, alike_same}
 use Rattle.swc_ecma_codegen_grammar.specs.Comments.{all_tame, is_tame}
 use Rattle.swc_ecma_codegen_tokens.specs.Run.{State, Guard, Plain, CommentText, put, after_plain}
-use Rattle.swc_ecma_codegen_tokens.specs.Written.{IsLineEnd, all_indent, is_indent, is_free, holds_one, AtRest}
+use Rattle.swc_ecma_codegen_tokens.specs.Written.{IsLineEnd, all_indent, is_indent, is_free, holds_one, AtRest, RestsAt, Spot, InName}
 use Rattle.swc_ecma_codegen_tokens.proofs.Held.{front_of, front, written_text, in_line, written_semicolons, pointed_keeps, settled_none, unheld_settled}
 use Rattle.swc_ecma_codegen_tokens.proofs.Shapes.{open_, fits_blank}
 use Rattle.swc_ecma_codegen_tokens.proofs.Indented.{indent_utf8, indent_chars, indent_blank, indent_one_line, blanks, blanks_text, blanks_pieces}
 use Rattle.swc_ecma_codegen_tokens.proofs.Laid.{LaysWith, lays_then, laid_out}
-use Rattle.swc_ecma_codegen_tokens.proofs.Written.{lays_settled, lays_blank, lays_guard, after_guard, front_indent, settle, settle_rest, apart_open}
+use Rattle.swc_ecma_codegen_tokens.proofs.Written.{lays_settled, lays_blank, after_guard, front_indent, settle, settle_named, apart_open}
+use Rattle.swc_ecma_codegen_tokens.proofs.Spots.{dashless}
+use Rattle.swc_ecma_codegen_tokens.proofs.TagLays.{named_guard}
 
 -- ---- pieces one after the other
 
@@ -74,6 +76,16 @@ behind_fuses : (k : Last) (u m n : List ℕ) (ps : List Piece) → all_indent u 
 unfolding blanks pieces_text piece_text all_indent
 behind_fuses k [] m n ps h e f = ap (fuses k) e ∙ slash_fuses k n m ∙ f
 behind_fuses k (c ∷ cs) m n ps h e f = blank_fuses k c (pieces_text (blanks cs ++ ps)) (indent_blank c (and_parts (is_indent c) (all_indent cs) h).0)
+
+-- it begins with no dash
+slash_dashless : (n : List ℕ) → begins (codes "-") (47 ∷ n) ≡ false
+unfolding begins
+slash_dashless n = refl
+
+behind_dashless : (u n : List ℕ) (ps : List Piece) → all_indent u ≡ true → pieces_text ps ≡ 47 ∷ n → begins (codes "-") (pieces_text (blanks u ++ ps)) ≡ false
+unfolding blanks pieces_text piece_text all_indent
+behind_dashless [] n ps h e = ap (begins (codes "-")) e ∙ slash_dashless n
+behind_dashless (c ∷ cs) n ps h e = dashless c (pieces_text (blanks cs ++ ps)) (and_parts (is_indent c) (all_indent cs) h).0
 
 -- ---- calls within a line
 
@@ -155,7 +167,7 @@ adds_position pos s e o l =
 
 -- ---- a comment is one gap
 
-comment_gap : (ps : List Piece) (bytes : List ℕ) (rs : List Remark) (s b : State) → b.sheet.text ≡ s.sheet.text ++ bytes → IsUtf8 bytes → chars bytes ≡ pieces_text ps → all_pieces ps ≡ true → remarks_of ps ≡ rs → fuses s.last (pieces_text ps) ≡ false → last_after_gap s.last ps ≡ Apart → b.last ≡ Apart → holds_one s.sheet.semicolons ≡ false → holds_one b.sheet.semicolons ≡ false → holds_semicolons b.sheet.semicolons ≡ holds_semicolons s.sheet.semicolons → ((t : List ℕ) → allows s.last t ≡ true) → AtRest b → (all_tame rs ≡ true → is_one_line (pieces_text ps) ≡ true) → LaysWith open_ [] rs s b
+comment_gap : (ps : List Piece) (bytes : List ℕ) (rs : List Remark) (s b : State) → b.sheet.text ≡ s.sheet.text ++ bytes → IsUtf8 bytes → chars bytes ≡ pieces_text ps → all_pieces ps ≡ true → remarks_of ps ≡ rs → fuses s.last (pieces_text ps) ≡ false → last_after_gap s.last ps ≡ Apart → b.last ≡ Apart → holds_one s.sheet.semicolons ≡ false → holds_one b.sheet.semicolons ≡ false → holds_semicolons b.sheet.semicolons ≡ holds_semicolons s.sheet.semicolons → allows s.last (pieces_text ps) ≡ true → AtRest b → (all_tame rs ≡ true → is_one_line (pieces_text ps) ≡ true) → LaysWith open_ [] rs s b
 unfolding parts.text_of tokens_of remarks_in NoneFuse walk
 comment_gap ps bytes rs s b t u c g m f k l o q h a r w = record {
   out = Gap ps ∷ [];
@@ -166,7 +178,7 @@ comment_gap ps bytes rs s b t u c g m f k l o q h a r w = record {
   spells = c ∙ sym (append-nil (pieces_text ps));
   tokens = refl;
   remarks = append-nil (remarks_of ps) ∙ m;
-  apart = λ e more n. (g, f, a (pieces_text ps), subst (λ z. NoneFuse z more) (l ∙ sym k) n);
+  apart = λ e more n. (g, f, a, subst (λ z. NoneFuse z more) (l ∙ sym k) n);
   reduces = λ more ys d. laid_out s b (Gap ps ∷ []) more ys o q d;
   holds = h;
   whole = λ e. refl;
@@ -174,7 +186,7 @@ comment_gap ps bytes rs s b t u c g m f k l o q h a r w = record {
   fits = λ e. fits_blank (pieces_text ps) (w e) (λ v. refl);
 }
 
-apart_after : (s b : State) (t : List ℕ) → AtRest s → Adds t s b → AtRest b
+apart_after : {v : Spot} (s b : State) (t : List ℕ) → RestsAt v s → Adds t s b → AtRest b
 unfolding allows
 apart_after s b t r h = record {
   indent_text = ap all_indent h.indent_text ∙ r.indent_text;
@@ -238,14 +250,14 @@ block_tame u t h k =
     ap is_one_line (pieces_append (blanks u) (BlockOf (chars t) ∷ []))
     ∙ one_line_append (pieces_text (blanks u)) ((codes "/*" ++ (chars t ++ codes "*/")) ++ []) (indent_one_line u h) (ap is_one_line (append-nil (codes "/*" ++ (chars t ++ codes "*/"))) ∙ block_line (chars t) k)
 
-pub block_lays : (t : List ℕ) (s b : State) → IsUtf8 t → is_open (chars t) ≡ true → fuses s.last (codes "/*") ≡ false → holds_one s.sheet.semicolons ≡ false → AtRest s → Adds (front s.sheet ++ block_text t) s b → LaysWith open_ [] (trivia.Block (chars t) ∷ []) s b
+pub block_lays : (t : List ℕ) (s b : State) → IsUtf8 t → is_open (chars t) ≡ true → fuses s.last (codes "/*") ≡ false → holds_one s.sheet.semicolons ≡ false → RestsAt InName s → Adds (front s.sheet ++ block_text t) s b → LaysWith open_ [] (trivia.Block (chars t) ∷ []) s b
 unfolding block_pieces all_pieces is_piece remarks_of all_tame is_tame pieces_text piece_text block_text
 block_lays t s b k i f o r h =
     let u : List ℕ = front s.sheet in
     let q = front_indent s.sheet r.indent_text in
     comment_gap (block_pieces u t) (u ++ block_text t) (trivia.Block (chars t) ∷ []) s b h.text (IsUtf8-append u (block_text t) (indent_utf8 u q) (three_utf8 (codes "/*") t (codes "*/") slash_utf8 k star_utf8)) (block_spelled u t q k)
     (all_append (blanks u) (BlockOf (chars t) ∷ []) (blanks_pieces u q) (and_from (is_open (chars t)) true i refl)) (behind_remarks u (BlockOf (chars t) ∷ []))
-    (behind_fuses s.last u (42 ∷ []) _ (BlockOf (chars t) ∷ []) q refl f) (behind_last s.last u (BlockOf (chars t)) []) h.last o h.none_held h.holds r.allowed (apart_after s b _ r h)
+    (behind_fuses s.last u (42 ∷ []) _ (BlockOf (chars t) ∷ []) q refl f) (behind_last s.last u (BlockOf (chars t)) []) h.last o h.none_held h.holds (r.allowed _ (behind_dashless u _ (BlockOf (chars t) ∷ []) q refl)) (apart_after s b _ r h)
     (λ e. block_tame u t q (and_parts (is_one_line (chars t)) true e).0)
 
 -- ---- a comment up to the end of its line
@@ -307,7 +319,7 @@ line_spelled u t e h k l =
     ∙ ap (λ z. pieces_text (blanks u) ++ z) (three_chars (codes "//") t e slashes_utf8 k ∙ ap (λ z. z ++ (chars t ++ chars e)) slashes_chars ∙ ap (λ z. codes "//" ++ (chars t ++ z)) (end_chars e l) ∙ sym (end_well (chars t) e l).text)
     ∙ sym (pieces_append (blanks u) (end_piece (chars t) e))
 
-line_rest : (s b : State) (t : List ℕ) → AtRest s → Adds t s b → AtRest (record b { sheet = record (appended b.sheet.line_end b.sheet) { at_line_start = true }; last = Apart })
+line_rest : {v : Spot} (s b : State) (t : List ℕ) → RestsAt v s → Adds t s b → AtRest (record b { sheet = record (appended b.sheet.line_end b.sheet) { at_line_start = true }; last = Apart })
 unfolding appended is_free
 line_rest s b t r h = record {
   indent_text = ap all_indent h.indent_text ∙ r.indent_text;
@@ -316,7 +328,7 @@ line_rest s b t r h = record {
   allowed = apart_open;
 }
 
-line_closed : (t : List ℕ) (s m : State) → IsUtf8 t → is_one_line (chars t) ≡ true → fuses s.last (codes "//") ≡ false → holds_one s.sheet.semicolons ≡ false → AtRest s → Adds (front s.sheet ++ (codes "//" ++ t)) s m → LaysWith open_ [] (trivia.Line (chars t) ∷ []) s (record m { sheet = record (appended m.sheet.line_end m.sheet) { at_line_start = true }; last = Apart })
+line_closed : (t : List ℕ) (s m : State) → IsUtf8 t → is_one_line (chars t) ≡ true → fuses s.last (codes "//") ≡ false → holds_one s.sheet.semicolons ≡ false → RestsAt InName s → Adds (front s.sheet ++ (codes "//" ++ t)) s m → LaysWith open_ [] (trivia.Line (chars t) ∷ []) s (record m { sheet = record (appended m.sheet.line_end m.sheet) { at_line_start = true }; last = Apart })
 unfolding appended line_text line_pieces all_tame is_tame
 line_closed t s m k i f o r h =
     let u : List ℕ = front s.sheet in
@@ -327,10 +339,10 @@ line_closed t s m k i f o r h =
     (ap (λ z. m.sheet.text ++ z) h.line_end ∙ ap (λ z. z ++ e) h.text ∙ append_assoc s.sheet.text (u ++ (codes "//" ++ t)) e ∙ ap (λ z. s.sheet.text ++ z) (append_assoc u (codes "//" ++ t) e ∙ ap (λ z. u ++ z) (append_assoc (codes "//") t e)))
     (IsUtf8-append u (line_text t e) (indent_utf8 u q) (three_utf8 (codes "//") t e slashes_utf8 k (end_utf8 e r.line_end))) (line_spelled u t e q k r.line_end)
     (all_append (blanks u) (end_piece (chars t) e) (blanks_pieces u q) (w.each i)) (behind_remarks u (end_piece (chars t) e) ∙ w.remarks)
-    (behind_fuses s.last u (47 ∷ []) _ (end_piece (chars t) e) q w.text f) (w.last s.last u) refl o h.none_held h.holds r.allowed (line_rest s m _ r h)
+    (behind_fuses s.last u (47 ∷ []) _ (end_piece (chars t) e) q w.text f) (w.last s.last u) refl o h.none_held h.holds (r.allowed _ (behind_dashless u _ (end_piece (chars t) e) q w.text)) (line_rest s m _ r h)
     (λ z. absurd (true≢false (sym z)))
 
-pub line_lays : (t : List ℕ) (s m : State) → IsUtf8 t → is_one_line (chars t) ≡ true → fuses s.last (codes "//") ≡ false → holds_one s.sheet.semicolons ≡ false → AtRest s → Adds (front s.sheet ++ (codes "//" ++ t)) s m → LaysWith open_ [] (trivia.Line (chars t) ∷ []) s (put (Plain Line) m)
+pub line_lays : (t : List ℕ) (s m : State) → IsUtf8 t → is_one_line (chars t) ≡ true → fuses s.last (codes "//") ≡ false → holds_one s.sheet.semicolons ≡ false → RestsAt InName s → Adds (front s.sheet ++ (codes "//" ++ t)) s m → LaysWith open_ [] (trivia.Line (chars t) ∷ []) s (put (Plain Line) m)
 line_lays t s m k i f o r h = subst (λ (z : State). LaysWith open_ [] (trivia.Line (chars t) ∷ []) s z) (sym (ended_line m h.in_line h.none_held)) (line_closed t s m k i f o r h)
 
 -- ---- the calls of a comment, one after the other
@@ -360,48 +372,48 @@ unfolding put effect after_plain
 opens_settled t s = ap (λ (z : Sheet). record s { sheet = written None t z; last = Apart }) (unheld_settled (settled s.sheet) (settled_none s.sheet))
 
 -- behind the blank that is due, where nothing is held back
-guarded : {rs : List Remark} (g : List ℕ) (s b : State) → chars g ≡ g → AtRest s → ((m : State) → m ≡ settle (put (Guard g) s) → AtRest m → holds_one m.sheet.semicolons ≡ false → fuses m.last g ≡ false → LaysWith open_ [] rs m b) → LaysWith open_ [] rs s b
+guarded : {rs : List Remark} (g : List ℕ) (s b : State) → chars g ≡ g → RestsAt InName s → ((m : State) → m ≡ settle (put (Guard g) s) → RestsAt InName m → holds_one m.sheet.semicolons ≡ false → fuses m.last g ≡ false → LaysWith open_ [] rs m b) → LaysWith open_ [] rs s b
 guarded g s b e r f =
     let there : State = put (Guard g) s in
-    let l = lays_guard g s r in
-    lays_then [] [] s there b l (lays_settled there b [] l.rest (f (settle there) refl (settle_rest there l.rest) (settled_none there.sheet) (ap (fuses there.last) (sym e) ∙ after_guard g s)))
+    let l = named_guard g s r in
+    lays_then [] [] s there b l (lays_settled there b [] l.rest (f (settle there) refl (settle_named there l.rest) (settled_none there.sheet) (ap (fuses there.last) (sym e) ∙ after_guard g s)))
 
 slashes : List ℕ
 slashes = codes "//"
 
 -- `// a`
-line_from : (t : List ℕ) (m : State) → IsUtf8 t → is_one_line (chars t) ≡ true → AtRest m → holds_one m.sheet.semicolons ≡ false → fuses m.last (codes "//") ≡ false → LaysWith open_ [] (trivia.Line (chars t) ∷ []) m (put (Plain Line) (put (CommentText t) (put (Plain (Comment (codes "//"))) m)))
+line_from : (t : List ℕ) (m : State) → IsUtf8 t → is_one_line (chars t) ≡ true → RestsAt InName m → holds_one m.sheet.semicolons ≡ false → fuses m.last (codes "//") ≡ false → LaysWith open_ [] (trivia.Line (chars t) ∷ []) m (put (Plain Line) (put (CommentText t) (put (Plain (Comment (codes "//"))) m)))
 line_from t m k i r o f = line_lays t m _ k i f o r (adds_opened 47 47 t m o)
 
-line_noted : (pos : BytePos) (t : List ℕ) (m : State) → IsUtf8 t → is_one_line (chars t) ≡ true → AtRest m → holds_one m.sheet.semicolons ≡ false → fuses m.last (codes "//") ≡ false → LaysWith open_ [] (trivia.Line (chars t) ∷ []) m (put (Plain Line) (put (Plain (Position pos)) (put (CommentText t) (put (Plain (Comment (codes "//"))) m))))
+line_noted : (pos : BytePos) (t : List ℕ) (m : State) → IsUtf8 t → is_one_line (chars t) ≡ true → RestsAt InName m → holds_one m.sheet.semicolons ≡ false → fuses m.last (codes "//") ≡ false → LaysWith open_ [] (trivia.Line (chars t) ∷ []) m (put (Plain Line) (put (Plain (Position pos)) (put (CommentText t) (put (Plain (Comment (codes "//"))) m))))
 line_noted pos t m k i r o f = line_lays t m _ k i f o r (adds_noted pos _ m _ (adds_opened 47 47 t m o))
 
-pub lays_line_comment : (t : List ℕ) (s : State) → IsUtf8 t → is_one_line (chars t) ≡ true → AtRest s → LaysWith open_ [] (trivia.Line (chars t) ∷ []) s (put (Plain Line) (put (CommentText t) (put (Plain (Comment (codes "//"))) (put (Guard (codes "//")) s))))
+pub lays_line_comment : (t : List ℕ) (s : State) → IsUtf8 t → is_one_line (chars t) ≡ true → RestsAt InName s → LaysWith open_ [] (trivia.Line (chars t) ∷ []) s (put (Plain Line) (put (CommentText t) (put (Plain (Comment (codes "//"))) (put (Guard (codes "//")) s))))
 lays_line_comment t s k i r = guarded (codes "//") s _ slashes_chars r (λ m e q o f.
     let there : State = put (Guard (codes "//")) s in
     let P : State → Type 0 = λ z. LaysWith open_ [] (trivia.Line (chars t) ∷ []) m (put (Plain Line) (put (CommentText t) z)) in
     subst P (ap (put (Plain (Comment (codes "//")))) e ∙ opens_settled (codes "//") there) (line_from t m k i q o f))
 
-pub lays_line_noted : (pos : BytePos) (t : List ℕ) (s : State) → IsUtf8 t → is_one_line (chars t) ≡ true → AtRest s → LaysWith open_ [] (trivia.Line (chars t) ∷ []) s (put (Plain Line) (put (Plain (Position pos)) (put (CommentText t) (put (Plain (Comment (codes "//"))) (put (Guard (codes "//")) s)))))
+pub lays_line_noted : (pos : BytePos) (t : List ℕ) (s : State) → IsUtf8 t → is_one_line (chars t) ≡ true → RestsAt InName s → LaysWith open_ [] (trivia.Line (chars t) ∷ []) s (put (Plain Line) (put (Plain (Position pos)) (put (CommentText t) (put (Plain (Comment (codes "//"))) (put (Guard (codes "//")) s)))))
 lays_line_noted pos t s k i r = guarded (codes "//") s _ slashes_chars r (λ m e q o f.
     let there : State = put (Guard (codes "//")) s in
     let P : State → Type 0 = λ z. LaysWith open_ [] (trivia.Line (chars t) ∷ []) m (put (Plain Line) (put (Plain (Position pos)) (put (CommentText t) z))) in
     subst P (ap (put (Plain (Comment (codes "//")))) e ∙ opens_settled (codes "//") there) (line_noted pos t m k i q o f))
 
 -- `/* a */`
-block_from : (t : List ℕ) (m : State) → IsUtf8 t → is_open (chars t) ≡ true → AtRest m → holds_one m.sheet.semicolons ≡ false → fuses m.last (codes "/*") ≡ false → LaysWith open_ [] (trivia.Block (chars t) ∷ []) m (put (Plain (Comment (codes "*/"))) (put (CommentText t) (put (Plain (Comment (codes "/*"))) m)))
+block_from : (t : List ℕ) (m : State) → IsUtf8 t → is_open (chars t) ≡ true → RestsAt InName m → holds_one m.sheet.semicolons ≡ false → fuses m.last (codes "/*") ≡ false → LaysWith open_ [] (trivia.Block (chars t) ∷ []) m (put (Plain (Comment (codes "*/"))) (put (CommentText t) (put (Plain (Comment (codes "/*"))) m)))
 block_from t m k i r o f = block_lays t m _ k i f o r (adds_closed (front m.sheet) t m _ (adds_opened 47 42 t m o))
 
-block_noted : (pos : BytePos) (t : List ℕ) (m : State) → IsUtf8 t → is_open (chars t) ≡ true → AtRest m → holds_one m.sheet.semicolons ≡ false → fuses m.last (codes "/*") ≡ false → LaysWith open_ [] (trivia.Block (chars t) ∷ []) m (put (Plain (Comment (codes "*/"))) (put (Plain (Position pos)) (put (CommentText t) (put (Plain (Comment (codes "/*"))) m))))
+block_noted : (pos : BytePos) (t : List ℕ) (m : State) → IsUtf8 t → is_open (chars t) ≡ true → RestsAt InName m → holds_one m.sheet.semicolons ≡ false → fuses m.last (codes "/*") ≡ false → LaysWith open_ [] (trivia.Block (chars t) ∷ []) m (put (Plain (Comment (codes "*/"))) (put (Plain (Position pos)) (put (CommentText t) (put (Plain (Comment (codes "/*"))) m))))
 block_noted pos t m k i r o f = block_lays t m _ k i f o r (adds_closed (front m.sheet) t m _ (adds_noted pos _ m _ (adds_opened 47 42 t m o)))
 
-pub lays_block_comment : (t : List ℕ) (s : State) → IsUtf8 t → is_open (chars t) ≡ true → AtRest s → LaysWith open_ [] (trivia.Block (chars t) ∷ []) s (put (Plain (Comment (codes "*/"))) (put (CommentText t) (put (Plain (Comment (codes "/*"))) (put (Guard (codes "/*")) s))))
+pub lays_block_comment : (t : List ℕ) (s : State) → IsUtf8 t → is_open (chars t) ≡ true → RestsAt InName s → LaysWith open_ [] (trivia.Block (chars t) ∷ []) s (put (Plain (Comment (codes "*/"))) (put (CommentText t) (put (Plain (Comment (codes "/*"))) (put (Guard (codes "/*")) s))))
 lays_block_comment t s k i r = guarded (codes "/*") s _ open_chars r (λ m e q o f.
     let there : State = put (Guard (codes "/*")) s in
     let P : State → Type 0 = λ z. LaysWith open_ [] (trivia.Block (chars t) ∷ []) m (put (Plain (Comment (codes "*/"))) (put (CommentText t) z)) in
     subst P (ap (put (Plain (Comment (codes "/*")))) e ∙ opens_settled (codes "/*") there) (block_from t m k i q o f))
 
-pub lays_block_noted : (pos : BytePos) (t : List ℕ) (s : State) → IsUtf8 t → is_open (chars t) ≡ true → AtRest s → LaysWith open_ [] (trivia.Block (chars t) ∷ []) s (put (Plain (Comment (codes "*/"))) (put (Plain (Position pos)) (put (CommentText t) (put (Plain (Comment (codes "/*"))) (put (Guard (codes "/*")) s)))))
+pub lays_block_noted : (pos : BytePos) (t : List ℕ) (s : State) → IsUtf8 t → is_open (chars t) ≡ true → RestsAt InName s → LaysWith open_ [] (trivia.Block (chars t) ∷ []) s (put (Plain (Comment (codes "*/"))) (put (Plain (Position pos)) (put (CommentText t) (put (Plain (Comment (codes "/*"))) (put (Guard (codes "/*")) s)))))
 lays_block_noted pos t s k i r = guarded (codes "/*") s _ open_chars r (λ m e q o f.
     let there : State = put (Guard (codes "/*")) s in
     let P : State → Type 0 = λ z. LaysWith open_ [] (trivia.Block (chars t) ∷ []) m (put (Plain (Comment (codes "*/"))) (put (Plain (Position pos)) (put (CommentText t) z))) in

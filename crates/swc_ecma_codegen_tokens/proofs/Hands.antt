@@ -53,7 +53,7 @@ pub keeps_append : (xs ys : List Step) → keeps_other (xs ++ ys) ≡ (keeps_oth
 unfolding keeps_other
 keeps_append [] ys = refl
 keeps_append (Guard t ∷ xs) ys = keeps_append xs ys
-keeps_append (Token kind x ∷ xs) ys = ap (λ z. is_other x || z) (keeps_append xs ys) ∙ or_assoc (is_other x) (keeps_other xs) (keeps_other ys)
+keeps_append (Token kind x ∷ xs) ys = ap (λ z. is_other kind x || z) (keeps_append xs ys) ∙ or_assoc (is_other kind x) (keeps_other xs) (keeps_other ys)
 keeps_append (Plain x ∷ xs) ys = ap (λ z. is_other_piece x || z) (keeps_append xs ys) ∙ or_assoc (is_other_piece x) (keeps_other xs) (keeps_other ys)
 keeps_append (Ends tokens x ∷ xs) ys = ap (λ z. is_other_end tokens x || z) (keeps_append xs ys) ∙ or_assoc (is_other_end tokens x) (keeps_other xs) (keeps_other ys)
 keeps_append (Remake due ∷ xs) ys = keeps_append xs ys
@@ -75,7 +75,7 @@ pub or_kept_append : (xs ys : List Step) → are_ascii_or_kept (xs ++ ys) ≡ (a
 unfolding are_ascii_or_kept
 or_kept_append [] ys = refl
 or_kept_append (Guard t ∷ xs) ys = or_kept_append xs ys
-or_kept_append (Token kind x ∷ xs) ys = ap (λ z. (is_ascii_text (text_of x) || is_kept x) && z) (or_kept_append xs ys) ∙ and_assoc (is_ascii_text (text_of x) || is_kept x) (are_ascii_or_kept xs) (are_ascii_or_kept ys)
+or_kept_append (Token kind x ∷ xs) ys = ap (λ z. (is_ascii_text (text_of x) || is_kept kind x) && z) (or_kept_append xs ys) ∙ and_assoc (is_ascii_text (text_of x) || is_kept kind x) (are_ascii_or_kept xs) (are_ascii_or_kept ys)
 or_kept_append (Plain x ∷ xs) ys = ap (λ z. (is_ascii_text (text_of x) || is_kept_piece x) && z) (or_kept_append xs ys) ∙ and_assoc (is_ascii_text (text_of x) || is_kept_piece x) (are_ascii_or_kept xs) (are_ascii_or_kept ys)
 or_kept_append (Ends tokens x ∷ xs) ys = ap (λ z. (is_ascii_text (text_of x) || is_kept_end tokens x) && z) (or_kept_append xs ys) ∙ and_assoc (is_ascii_text (text_of x) || is_kept_end tokens x) (are_ascii_or_kept xs) (are_ascii_or_kept ys)
 or_kept_append (Remake due ∷ xs) ys = or_kept_append xs ys
@@ -92,7 +92,7 @@ pub kept_of_ascii : (xs : List Step) → are_ascii xs ≡ true → are_ascii_or_
 unfolding are_ascii are_ascii_or_kept
 kept_of_ascii [] h = refl
 kept_of_ascii (Guard t ∷ xs) h = kept_of_ascii xs h
-kept_of_ascii (Token kind x ∷ xs) h = call_or_kept (is_kept x) x (are_ascii xs) (are_ascii_or_kept xs) h (kept_of_ascii xs)
+kept_of_ascii (Token kind x ∷ xs) h = call_or_kept (is_kept kind x) x (are_ascii xs) (are_ascii_or_kept xs) h (kept_of_ascii xs)
 kept_of_ascii (Plain x ∷ xs) h = call_or_kept (is_kept_piece x) x (are_ascii xs) (are_ascii_or_kept xs) h (kept_of_ascii xs)
 kept_of_ascii (Ends tokens x ∷ xs) h = call_or_kept (is_kept_end tokens x) x (are_ascii xs) (are_ascii_or_kept xs) h (kept_of_ascii xs)
 kept_of_ascii (Remake due ∷ xs) h = kept_of_ascii xs h

@@ -9,7 +9,7 @@ use Rattle.swc_ecma_codegen_spans.specs.Spans.{dummy_span}
 use Rattle.swc_ecma_codegen_grammar.specs.declared.kinds.Kind.{Kind}
 use Rattle.swc_ecma_codegen_grammar.specs.declared.kinds.Kind.TheVariants.{Name, Str}
 use Rattle.swc_ecma_codegen_grammar.specs.Keys.{key_token}
-use Rattle.swc_ecma_codegen_grammar.specs.Phrases.{KeyOf, PlacedName, Generates, is_possible, names_in}
+use Rattle.swc_ecma_codegen_grammar.specs.Phrases.{KeyOf, Key, PlacedName, Generates, is_possible, names_in}
 use Rattle.swc_ecma_codegen_grammar.specs.SpelledNames.{is_well_formed_name}
 use Rattle.swc_ecma_codegen_grammar.specs.Tokens.{token_of}
 use Rattle.swc_ecma_codegen_grammar.specs.ValidNames.{turned}
@@ -22,7 +22,7 @@ use Rattle.swc_ecma_codegen_grammar.specs.CommentMaps.{Maps}
 use Rattle.swc_ecma_codegen_tokens.specs.Run.{at_maps, maps_after, after_step, Env, Plan, Part, State, Step, next, Guard, Token, Plain, Remake, step, steps_of, nothing, put, run, spelling, has_backslash}
 use Rattle.swc_ecma_codegen_tokens.specs.Scripts.{is_string_call, string_by_value, strings_after, AreSafe}
 use Rattle.swc_ecma_codegen_tokens.specs.Settings.{settings_of}
-use Rattle.swc_ecma_codegen_tokens.specs.Targets.{wants_escapes, written_key, written_as, is_out}
+use Rattle.swc_ecma_codegen_tokens.specs.Targets.{wants_escapes, written_key, written_as, written_by, is_out}
 use Rattle.swc_ecma_codegen_tokens.specs.Words.{commit_pending_semi, leading_comments, position, symbol}
 use Rattle.swc_ecma_codegen_tokens.proofs.Hands.{holds_string}
 use Rattle.swc_ecma_codegen_tokens.proofs.KeySteps.{escaped_same, plain_same, symbol_same, bare_same, valid_same}
@@ -96,14 +96,14 @@ bare_part_same env span bytes rest e k a =
 -- ---- the position of a key
 
 abbrev key_at : BytePos → List ℕ → PlacedName
-key_at at bytes = record { at = at; bytes = bytes; is_key = true }
+key_at at bytes = record { at = at; bytes = bytes; sort = Key }
 
 written_made : (config : Config) (at : BytePos) (bytes : List ℕ) → wants_escapes config (turned bytes) ≡ true → written_as config (key_at at bytes) ≡ ascii_name true config.target (chars (turned bytes))
-unfolding written_as written_key
+unfolding written_as written_by written_key
 written_made config at bytes w = ap (λ b. cond b (ascii_name true config.target (chars (turned bytes))) (turned bytes)) w
 
 written_kept : (config : Config) (at : BytePos) (bytes : List ℕ) → wants_escapes config (turned bytes) ≡ false → written_as config (key_at at bytes) ≡ turned bytes
-unfolding written_as written_key
+unfolding written_as written_by written_key
 written_kept config at bytes k = ap (λ b. cond b (ascii_name true config.target (chars (turned bytes))) (turned bytes)) k
 
 call_steps : (env : Env) (kind : Kind) (pos : BytePos) (b : Bool) (t : List ℕ) → steps_of ((cond b (step (Token kind (Symbol dummy_span t)) nothing) (step (Plain (Position pos)) (step (Token kind (Symbol dummy_span t)) nothing))) env) ≡ name_call kind b pos t
@@ -181,7 +181,7 @@ token_same : {env : Env} {p : Part} {kind : Kind} {bytes t : List ℕ} {made : B
 token_same {env} {p} {made = made} h m = subst (λ x. Makes env p (x ∷ []) made) h.token m
 
 writes_key : (env : Env) (kind : Kind) (span : Span) (bytes t : List ℕ) → SpellsKey env.config kind bytes t → Writes env (placed kind span t) (key_token (settings_of env.config) bytes ∷ [])
-writes_key env kind span bytes t h = token_same h (writes_placed env kind span t h.spelled h.ascii)
+writes_key env kind span bytes t h = token_same h (writes_placed env kind span t h.own h.spelled h.ascii)
 
 makes_made : (env : Env) (first second : Bool) (kind : Kind) (span : Span) (bytes t : List ℕ) → SpellsKey env.config kind bytes t → Makes env (made_part first second kind span t) (key_token (settings_of env.config) bytes ∷ []) (first || second)
 unfolding made_part

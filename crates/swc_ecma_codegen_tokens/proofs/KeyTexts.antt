@@ -29,7 +29,7 @@ use Rattle.swc_ecma_codegen_literals.specs.StringTexts.{up_to_es5}
 use Rattle.swc_ecma_codegen_literals.proofs.NameBridge.{named_word}
 use Rattle.swc_ecma_codegen_literals.proofs.NameTexts.{Answer, ascii_chars, not_ascii_chars, quoted_text, escaped_text, quoted_answer, escaped_answer}
 use Rattle.swc_ecma_codegen_literals.proofs.SpelledTexts.{ascii_from_all}
-use Rattle.swc_ecma_codegen_tokens.specs.Ascii.{is_strict, is_other_value, keeps_tokens}
+use Rattle.swc_ecma_codegen_tokens.specs.Ascii.{is_strict, is_tag_kind, is_other_value, keeps_tokens}
 use Rattle.swc_ecma_codegen_tokens.specs.Run.{spelling}
 use Rattle.swc_ecma_codegen_tokens.specs.Settings.{settings_of}
 use Rattle.swc_ecma_codegen_tokens.specs.Targets.{wants_escapes}
@@ -142,6 +142,7 @@ pub record SpellsKey (config : Config) (kind : Kind) (bytes u : List ℕ) : Type
   pub spelled : Spelled kind u
   pub token : token_of kind (spelling kind u) ≡ key_token (settings_of config) bytes
   pub ascii : config.ascii_only ≡ true → is_ascii_text u ≡ true
+  pub own : is_tag_kind kind ≡ false
 
 key_token_quoted : (s : Settings) (bytes : List ℕ) → is_quoted s (chars (turned bytes)) ≡ true → key_token s bytes ≡ record { kind = Str; value = Units (Some (all_utf16 (name_value (chars (turned bytes))))) }
 unfolding key_token names.spelled_name
@@ -164,7 +165,7 @@ unfolding value_of
 quoted_value u us h = ap Units (strict_means_the_same (chars u) us h)
 
 in_quotes : (config : Config) (bytes : List ℕ) → is_utf8 (turned bytes) ≡ true → is_name (chars (turned bytes)) ≡ true → wants_escapes config (turned bytes) ≡ true → asks config (turned bytes) ≡ true → SpellsKey config Str bytes (ascii_name true config.target (chars (turned bytes)))
-unfolding wants_escapes
+unfolding is_tag_kind wants_escapes
 in_quotes config bytes u n e q =
     let t : List ℕ = turned bytes in
     let utf8 = IsUtf8-from_is_utf8 t u in
@@ -179,6 +180,7 @@ in_quotes config bytes u n e q =
       spelled = spelled_string text (IsUtf8-from_ascii text h.ascii) (h.token told n);
       token = string_token text us (quoted_value text us (h.key_value told n)) ∙ sym (key_token_quoted (settings_of config) bytes (quoted_by config t utf8 e ∙ q));
       ascii = λ _. sym (ascii_is true text h.ascii);
+      own = refl;
     })
 
 name_token : (u t : List ℕ) → name_value (chars u) ≡ name_value (chars t) → token_of Name (spelling Name u) ≡ lexical.name (name_value (chars t))
@@ -186,7 +188,7 @@ unfolding token_of value_of spelling lexical.name
 name_token u t h = ap lexical.name h
 
 escaped_key : (config : Config) (bytes : List ℕ) → is_utf8 (turned bytes) ≡ true → is_name (chars (turned bytes)) ≡ true → wants_escapes config (turned bytes) ≡ true → asks config (turned bytes) ≡ false → SpellsKey config Name bytes (ascii_name true config.target (chars (turned bytes)))
-unfolding wants_escapes is_out_of_target
+unfolding is_tag_kind wants_escapes is_out_of_target
 escaped_key config bytes u n e q =
     let t : List ℕ = turned bytes in
     let utf8 = IsUtf8-from_is_utf8 t u in
@@ -200,6 +202,7 @@ escaped_key config bytes u n e q =
       spelled = spelled_name text (is_utf8-from_IsUtf8 text (IsUtf8-from_ascii text h.ascii)) (h.name told ∙ n);
       token = name_token text t (h.value told n) ∙ sym (key_token_bare (settings_of config) bytes (quoted_by config t utf8 e ∙ q));
       ascii = λ _. sym (ascii_is true text h.ascii);
+      own = refl;
     })
 
 -- in ASCII
@@ -215,7 +218,7 @@ made_key config bytes w e =
 
 -- as it is
 pub kept_key : (config : Config) (bytes : List ℕ) → is_well_formed_name bytes ≡ true → wants_escapes config (turned bytes) ≡ false → SpellsKey config Name bytes (turned bytes)
-unfolding is_well_formed_name names.spelled_name
+unfolding is_tag_kind is_well_formed_name names.spelled_name
 kept_key config bytes w k =
     let t : List ℕ = turned bytes in
     let p = and_parts (is_utf8 t) (is_name (chars t)) w in
@@ -223,4 +226,5 @@ kept_key config bytes w k =
       spelled = spelled_name t p.0 p.1;
       token = name_token t t refl ∙ sym (key_token_bare (settings_of config) bytes (unquoted config t k));
       ascii = λ e. kept_ascii config t k e;
+      own = refl;
     }

@@ -15,7 +15,7 @@ use Rattle.swc_ecma_codegen_grammar.proofs.Dropped.{reduced_after}
 use Rattle.swc_ecma_codegen_text_writer.specs.Sheet.{Sheet, holds_semicolons}
 use Rattle.swc_ecma_codegen_tokens.specs.Run.{State, Take, put}
 use Rattle.swc_ecma_codegen_grammar.specs.Comments.{Side}
-use Rattle.swc_ecma_codegen_tokens.specs.Written.{holds_one, AtRest, RestsAt, Spot, Anything}
+use Rattle.swc_ecma_codegen_tokens.specs.Written.{holds_one, AtRest, RestsAt, Spot, Anything, InName}
 use Rattle.swc_ecma_codegen_tokens.proofs.Held.{front}
 use Rattle.swc_ecma_codegen_tokens.proofs.Appended.{text_append, tokens_append, remarks_append}
 use Rattle.swc_ecma_codegen_tokens.proofs.Shapes.{Shape, whole, open_, joining, join, is_within, within_stands, Fits, fits_then, fits_wider, fits_nothing, fits_joint}
@@ -156,9 +156,14 @@ unfolding put
 enters_taken i side at s (inl e) = inl e
 enters_taken i side at s (inr k) = inr (k.0, record { nothing_written = k.1.nothing_written; nothing_held = k.1.nothing_held; at_margin = k.1.at_margin })
 
-pub lays_taken : {i : Shape} {rs : List Remark} {ts : List lexical.Token} (side : Side) (at : ℕ) (s b : State) → LaysWith i ts rs (put (Take side at) s) b → LaysWith i ts rs s b
+pub lays_taken : {w : Spot} {i : Shape} {rs : List Remark} {ts : List lexical.Token} (side : Side) (at : ℕ) (s b : State) → LaysTo w i ts rs (put (Take side at) s) b → LaysTo w i ts rs s b
 unfolding put
 lays_taken {i} side at s b h = record { out = h.out; laid = h.laid; bytes = h.bytes; text = h.text; utf8 = h.utf8; spells = h.spells; tokens = h.tokens; remarks = h.remarks; apart = λ e. h.apart (enters_taken i side at s e); reduces = h.reduces; holds = h.holds; whole = h.whole; rest = h.rest; fits = h.fits }
+
+-- behind a name in a tag too
+pub named_taken : (side : Side) (at : ℕ) (s : State) → RestsAt InName s → RestsAt InName (put (Take side at) s)
+unfolding put
+named_taken side at s r = record { indent_text = r.indent_text; line_end = r.line_end; free = r.free; allowed = r.allowed }
 
 -- `[no LineTerminator here]`, where no semicolon is held back
 pub lays_joint : (s : State) → holds_one s.sheet.semicolons ≡ false → AtRest s → LaysAt joining (lexical.same_line ∷ []) s s

@@ -64,4 +64,7 @@ pub mod EachLit
 pub mod TokensSoFar
 pub mod ListLaws
 pub mod TagLays
+pub mod TagStanding
 pub mod TagPrints
+pub mod TagStrings
+pub mod NodesSoFar

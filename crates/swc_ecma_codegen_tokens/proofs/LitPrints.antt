@@ -1,5 +1,5 @@
 -- What is written of `true`, `null` and a regular expression is what it reads as.
-use Rattle.std.proofs.Common.{◌≡◌, ℕ, Bool, true, false, List, [], ◌∷◌, ◌++◌, codes, None, refl, sym, ap, ◌∙◌, subst, arith, string_bytes}
+use Rattle.std.proofs.Common.{◌≡◌, ℕ, Bool, true, false, List, [], ◌∷◌, ◌++◌, codes, Some, None, refl, sym, ap, ◌∙◌, subst, arith, string_bytes}
 use Rattle.std.specs.Str.{chars, is_utf8, IsUtf8}
 use Rattle.std.proofs.lemmas.Bool.{and_parts}
 use Rattle.std.proofs.lemmas.Str.{chars-append, IsUtf8-append, IsUtf8-from_is_utf8, IsUtf8-string_bytes}
@@ -13,7 +13,7 @@ use Rattle.swc_ecma_codegen_grammar.specs.LitPhrases.{is_regex_of, characters}
 use Rattle.swc_ecma_codegen_grammar.specs.Names.{is_word, all_part}
 use Rattle.swc_ecma_codegen_grammar.specs.RegularExpressions.{is_regex}
 use Rattle.swc_ecma_codegen_grammar.specs.Tokens.{token_of}
-use Rattle.swc_ecma_codegen_tokens.specs.Lits.{bool_text, bool_lit, null_lit, regex_lit}
+use Rattle.swc_ecma_codegen_tokens.specs.Lits.{bool_text, bool_lit, bool_node, null_lit, regex_lit}
 use Rattle.swc_ecma_codegen_tokens.specs.Literals as words
 use Rattle.swc_ecma_codegen_tokens.specs.Run.{Env, spelling}
 use Rattle.swc_ecma_codegen_tokens.specs.Scripts.{is_str}
@@ -21,8 +21,8 @@ use Rattle.swc_ecma_codegen_tokens.specs.Starts.{start_class}
 use Rattle.swc_ecma_codegen_tokens.specs.Written.{IsWord}
 use Rattle.swc_ecma_codegen_tokens.proofs.LitTexts.{spelled_regex}
 use Rattle.swc_ecma_codegen_tokens.proofs.LiteralParts.{writes_regex}
-use Rattle.swc_ecma_codegen_tokens.proofs.Phrased.{Prints, prints_keyword, prints_one, prints_where}
-use Rattle.swc_ecma_codegen_tokens.proofs.Printed.{Writes}
+use Rattle.swc_ecma_codegen_tokens.proofs.Phrased.{Prints, after, prints_keyword, prints_one, prints_where}
+use Rattle.swc_ecma_codegen_tokens.proofs.Printed.{Writes, writes_leading}
 use Rattle.swc_ecma_codegen_tokens.proofs.Starting.{plain_class}
 
 -- ---- `true`, `false` and `null`
@@ -47,6 +47,11 @@ bool_is_word false = false_is_word
 pub prints_bool : (env : Env) (n : tree_bool.Bool) → Prints env (bool_lit n) (phrases.bool_lit n)
 unfolding bool_lit bool_text phrases.bool_lit
 prints_bool env n = prints_keyword env None (bool_text n.value) (bool_is_word n.value)
+
+-- with the comments before it
+pub prints_bool_node : (env : Env) (n : tree_bool.Bool) → Prints env (bool_node n) (phrases.bool_lit n)
+unfolding bool_node bool_text phrases.bool_lit
+prints_bool_node env n = after (writes_leading env n.span.lo) (prints_keyword env (Some n.span) (bool_text n.value) (bool_is_word n.value))
 
 pub prints_null : (env : Env) (n : Null) → Prints env (null_lit n) (phrases.null_lit n)
 unfolding null_lit phrases.null_lit

@@ -17,7 +17,7 @@ use Rattle.swc_ecma_codegen_text_writer.specs.Sheet as calls
 use Rattle.swc_ecma_codegen_text_writer.specs.Sheet.{Sheet, Lit, StrLit, Punct, effect, written, literal_written, settled, before_punct, is_ending}
 use Rattle.swc_ecma_codegen_literals.specs.AsciiNames.{is_ascii_text}
 use Rattle.swc_ecma_codegen_literals.specs.ValidNames.{has_byte}
-use Rattle.swc_ecma_codegen_tokens.specs.Ascii.{is_strict, is_kept_directive, is_kept, is_other, is_kept_piece, is_other_piece, is_kept_end, is_other_end, is_other_value, keeps_other, are_ascii, are_ascii_or_kept, keeps_tokens}
+use Rattle.swc_ecma_codegen_tokens.specs.Ascii.{is_strict, is_kept_directive, is_tag_kind, is_kept_call, is_kept, is_other, is_kept_piece, is_other_piece, is_kept_end, is_other_end, is_other_value, keeps_other, are_ascii, are_ascii_or_kept, keeps_tokens}
 use Rattle.swc_ecma_codegen_tokens.specs.Run.{maps_after, after_step, Env, State, Step, Guard, Token, Plain, Ends, put, run, step, spelling, text_of, after_tokens, after_plain, makes_text}
 use Rattle.swc_ecma_codegen_tokens.specs.Scripts.{is_string_call}
 use Rattle.swc_ecma_codegen_tokens.specs.Starts.{start_class}
@@ -75,7 +75,7 @@ pub literal_lays : (kind : Kind) (span : Span) (t : List ℕ) (s : State) → Sp
 unfolding put effect text_of owns tokens_of after_tokens
 literal_lays kind span t s p r = lays_guarded ((kind, t) ∷ []) t t s _ (spelled_one kind t p) refl r (literal_adds span t (settled (put (Guard t) s).sheet) p.some) refl
 
-literal_handed : (env : Env) (kind : Kind) (span : Span) (t : List ℕ) → Spelled kind t → Hands env (Guard t ∷ Token kind (StrLit span t) ∷ []) (token_of kind (spelling kind t) ∷ []) → Writes env (λ rest. step (Guard t) (step (Token kind (StrLit span t)) rest)) (token_of kind (spelling kind t) ∷ [])
+pub literal_handed : (env : Env) (kind : Kind) (span : Span) (t : List ℕ) → Spelled kind t → Hands env (Guard t ∷ Token kind (StrLit span t) ∷ []) (token_of kind (spelling kind t) ∷ []) → Writes env (λ rest. step (Guard t) (step (Token kind (StrLit span t)) rest)) (token_of kind (spelling kind t) ∷ [])
 unfolding makes_text levels rise takes_none
 literal_handed env kind span t p a = writes_two env (Guard t) (Token kind (StrLit span t)) _ refl (λ s r. literal_lays kind span t s p r) (omega arith) a
 
@@ -86,7 +86,7 @@ literal_token env kind span t p a = literal_handed env kind span t p (hands_asci
 
 -- a string, which is in ASCII where the settings ask for that, save a directive that stands as it is
 string_handed : (env : Env) (t : List ℕ) → (env.config.ascii_only ≡ true → (is_ascii_text t || is_kept_directive t) ≡ true) → Hands env (Guard t ∷ Token Str (StrLit dummy_span t) ∷ []) (token_of Str (spelling Str t) ∷ [])
-unfolding are_ascii_or_kept has_string is_string_call holds_string keeps_other is_other is_kept is_kept_directive text_of keeps_tokens is_other_value token_of value_of spelling
+unfolding are_ascii_or_kept has_string is_string_call holds_string keeps_other is_other is_kept is_tag_kind is_kept_call is_kept_directive text_of keeps_tokens is_other_value token_of value_of spelling
 string_handed env t k = record {
   ascii = λ e. and_from (is_ascii_text t || is_kept_directive t) true (k e) refl;
   keeps = λ n.

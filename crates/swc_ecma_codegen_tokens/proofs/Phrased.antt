@@ -43,7 +43,7 @@ use Rattle.swc_ecma_codegen_tokens.specs.declared.refusals.Unprintable.TheVarian
 use Rattle.swc_ecma_codegen_tokens.specs.Run.{Env, Plan, Part, State, Step, Guard, Token, Plain, Remake, Ends, Take, CommentText, at_maps, after_step, maps_after, taken_by, taken_in, spoken, Steps, step, steps_of, unprintable_in, refuse, run, nothing, spelling, Follows, HasCause, has_backslash, makes_text}
 use Rattle.swc_ecma_codegen_tokens.specs.Settings.{settings_of}
 use Rattle.swc_ecma_codegen_tokens.specs.Tags.{closing, close}
-use Rattle.swc_ecma_codegen_tokens.specs.Targets.{written_as, wants_escapes, is_out_name, written_name, is_out}
+use Rattle.swc_ecma_codegen_tokens.specs.Targets.{written_as, written_by, wants_escapes, is_out_name, written_name, is_out}
 use Rattle.swc_ecma_codegen_tokens.specs.Words.{keyword, operator, word_operator, punct, placed_punct, semi, commit_pending_semi, position, by_maps, symbol, valid_symbol, name_text, question, name}
 use Rattle.swc_ecma_codegen_tokens.specs.Written.{AtRest, Spot, Anything, is_free, holds_one, IsNew, IsAtMargin, ReadsAs, AddsText, AddsReading, taken_remarks, without_joints, IsWord, IsMark}
 use Rattle.swc_ecma_codegen_tokens.specs.Escapes.{may_make_text}
@@ -293,7 +293,7 @@ unfolding token_of value_of spelling lexical.ending is_str
 prints_semi env = prints_one env semi _ (writes_semi env) refl
 
 pub prints_close : (env : Env) → Prints env close (One closing)
-unfolding token_of value_of spelling closing is_str chars lib.Utf8.encode
+unfolding token_of value_of spelling lexical.tag_close is_str chars lib.Utf8.encode
 prints_close env = prints_one env close _ (writes_close env) refl
 
 -- ---- tokens behind `[no LineTerminator here]`, and before it
@@ -374,17 +374,17 @@ symbol_steps env span bytes e o =
     (elim (span.lo.0 == 0) as (λ b. steps_of ((cond b (step x nothing) (step (Plain (Position span.lo)) (step x nothing))) env) ≡ name_call Name b span.lo t) [ true ↦ refl | false ↦ refl ])
 
 abbrev pub named_at : BytePos → List ℕ → PlacedName
-named_at at bytes = record { at = at; bytes = bytes; is_key = false }
+named_at at bytes = record { at = at; bytes = bytes; sort = phrases.Plain }
 
 names_here : (env : Env) (span : Span) (bytes : List ℕ) → env.keeps_invalid ≡ false → is_out_name env.config (turned bytes) ≡ false → (written_name env.config bytes ≡ [] → ⊥) → NamedBy env (settled_name span bytes) (named_at span.lo bytes ∷ [])
-unfolding NamedBy written_as
+unfolding NamedBy written_as written_by
 names_here env span bytes e o some s k =
     let P : List Step → Type 0 = λ z. Named env.config (named_at span.lo bytes ∷ []) s.sheet (run z s).sheet in
     subst P (sym (symbol_steps env span bytes e o)) (name_named env.config (has_backslash bytes) (wants_escapes env.config (turned bytes)) Name (span.lo.0 == 0) (named_at span.lo bytes) s refl some k)
 
 -- and stands there as its own token
 name_here : {i : Shape} (env : Env) (span : Span) (bytes : List ℕ) → env.keeps_invalid ≡ false → is_out_name env.config (turned bytes) ≡ false → Spelled Name (written_name env.config bytes) → token_of Name (spelling Name (written_name env.config bytes)) ≡ lexical.name (name_value (names.spelled_name bytes)) → PlacedBy i env (settled_name span bytes) (NameOf span.lo bytes) (token_of Name (spelling Name (written_name env.config bytes)) ∷ [])
-unfolding EachName written_as
+unfolding EachName written_as written_by
 name_here env span bytes e o spelled token = record {
   stands = λ a s us r k c.
       let x : PlacedName = named_at span.lo bytes in
@@ -560,7 +560,7 @@ steps_read anywhere p f a n m closed prints w o =
     subst P (sym same) (laid_reads anywhere a.env.config f h.tokens a (run h.writes.steps a) h.generated n m (h.writes.lays a (new_at_rest a n) (taken_closed h.writes.steps a.env.maps closed)))
 
 -- steps that come to their end come to no name that can't be written
-pub made_not_out : {i : Shape} (p : Part) (f : Phrase) (env : Env) → PrintsAt i env p f → is_possible f ≡ true → unprintable_in (p nothing env) ≡ None → is_out env.config f ≡ false
+pub made_not_out : {v w : Spot} {i : Shape} (p : Part) (f : Phrase) (env : Env) → PrintsOn v w i env p f → is_possible f ≡ true → unprintable_in (p nothing env) ≡ None → is_out env.config f ≡ false
 made_not_out p f env prints w end = false_from_ne_true (is_out env.config f) (λ o. let z = sym end ∙ prints.where_out w o env.maps nothing in absurd (cc))
 
 -- of an empty text the whole reads
@@ -573,7 +573,7 @@ printed_reads anywhere p f a b (Ok u) n m c prints w k = let P : State → Type 
 printed_reads anywhere p f a b (Err e) n m c prints w k = tt
 
 -- no text is made anew where nothing of the phrase may be
-pub printed_remakes : {i : Shape} (p : Part) (f : Phrase) (env : Env) → PrintsAt i env p f → is_possible f ≡ true → may_make_text env.config f ≡ false → makes_text (steps_of (p nothing env)) ≡ false
+pub printed_remakes : {v w : Spot} {i : Shape} (p : Part) (f : Phrase) (env : Env) → PrintsOn v w i env p f → is_possible f ≡ true → may_make_text env.config f ≡ false → makes_text (steps_of (p nothing env)) ≡ false
 unfolding nothing
 printed_remakes p f env prints w none =
     let h = prints.where_possible w (plain_not_out env.config f none) env.maps in
@@ -581,7 +581,7 @@ printed_remakes p f env prints w none =
     ∙ false_from_ne_true (makes_text h.writes.steps) (λ e. true≢false (sym (h.writes.remakes e) ∙ none))
 
 -- the comments that are taken are written, each once and in order of taking
-pub printed_tells : {i : Shape} (p : Part) (f : Phrase) (env : Env) → PrintsAt i env p f → is_possible f ≡ true → is_out env.config f ≡ false → spoken (steps_of (p nothing env)) ≡ texts_of (taken_in (steps_of (p nothing env)) env.maps)
+pub printed_tells : {v w : Spot} {i : Shape} (p : Part) (f : Phrase) (env : Env) → PrintsOn v w i env p f → is_possible f ≡ true → is_out env.config f ≡ false → spoken (steps_of (p nothing env)) ≡ texts_of (taken_in (steps_of (p nothing env)) env.maps)
 unfolding nothing
 printed_tells p f env prints w none =
     let h = prints.where_possible w none env.maps in
@@ -598,7 +598,7 @@ never_out_of_memory p a b r plain t h e =
 -- ---- what an emission records
 
 -- where positions are kept, each name has its own where it begins
-pub printed_names : {i : Shape} (p : Part) (f : Phrase) (a b : State) (r : Result (Unit {0}) Refusal) → PrintsAt i a.env p f → is_possible f ≡ true → a.sheet.keeps_positions ≡ true → Follows (p nothing) a b r → OnOk r (RecordsNames a.env.config (names_in f) a.sheet b.sheet)
+pub printed_names : {v w : Spot} {i : Shape} (p : Part) (f : Phrase) (a b : State) (r : Result (Unit {0}) Refusal) → PrintsOn v w i a.env p f → is_possible f ≡ true → a.sheet.keeps_positions ≡ true → Follows (p nothing) a b r → OnOk r (RecordsNames a.env.config (names_in f) a.sheet b.sheet)
 unfolding Follows NamedBy
 printed_names p f a b (Ok u) prints w k h =
     let P : State → Type 0 = λ z. RecordsNames a.env.config (names_in f) a.sheet z.sheet in

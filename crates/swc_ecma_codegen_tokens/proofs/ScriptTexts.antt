@@ -11,9 +11,10 @@ use Rattle.swc_ecma_codegen_text_writer.proofs.Pairs.{effect_records}
 use Rattle.swc_ecma_codegen_tokens.specs.Run.{Part, State, Step, Guard, Token, Plain, Ends, Remake, Take, CommentText, put, run, steps_of, nothing, text_of, Follows}
 use Rattle.swc_ecma_codegen_tokens.specs.Scripts.{is_string_call, string_by_value, strings_after, value_strings, AreSafe, StandIn, AddsSafe}
 use Rattle.swc_ecma_codegen_tokens.specs.Targets.{is_out}
+use Rattle.swc_ecma_codegen_tokens.specs.Written.{Spot}
 use Rattle.swc_ecma_codegen_tokens.proofs.Held.{front}
 use Rattle.swc_ecma_codegen_tokens.proofs.PartSteps.{IsSafe}
-use Rattle.swc_ecma_codegen_tokens.proofs.Phrased.{made_not_out, PrintsAt}
+use Rattle.swc_ecma_codegen_tokens.proofs.Phrased.{made_not_out, PrintsOn}
 use Rattle.swc_ecma_codegen_tokens.proofs.Positions.{put_records}
 use Rattle.swc_ecma_codegen_tokens.proofs.Texts.{adds_literal}
 use Rattle.swc_ecma_codegen_tokens.proofs.Shapes.{Shape}
@@ -112,12 +113,12 @@ run_holds anew (CommentText t ∷ xs) a = holds_then [] _ _ _ _ (holds_none _ _ 
 
 -- ---- what an emission adds
 
-part_safe : {i : Shape} {p : Part} {f : Phrase} (a : State) → PrintsAt i a.env p f → is_possible f ≡ true → is_out a.env.config f ≡ false → a.env.config.inline_script ≡ true → AreSafe (value_strings (steps_of (p nothing a.env)))
+part_safe : {v w : Spot} {i : Shape} {p : Part} {f : Phrase} (a : State) → PrintsOn v w i a.env p f → is_possible f ≡ true → is_out a.env.config f ≡ false → a.env.config.inline_script ≡ true → AreSafe (value_strings (steps_of (p nothing a.env)))
 unfolding IsSafe
 part_safe a prints w o e = (prints.where_possible w o a.env.maps).safe e false
 
 -- under `inline_script` each string that is printed by its value is safe
-pub printed_safe : {i : Shape} (p : Part) (f : Phrase) (a b : State) (r : Result (Unit {0}) Refusal) → PrintsAt i a.env p f → is_possible f ≡ true → a.env.config.inline_script ≡ true → Follows (p nothing) a b r → OnOk r (AddsSafe (value_strings (steps_of (p nothing a.env))) a.sheet.text b.sheet.text)
+pub printed_safe : {v w : Spot} {i : Shape} (p : Part) (f : Phrase) (a b : State) (r : Result (Unit {0}) Refusal) → PrintsOn v w i a.env p f → is_possible f ≡ true → a.env.config.inline_script ≡ true → Follows (p nothing) a b r → OnOk r (AddsSafe (value_strings (steps_of (p nothing a.env))) a.sheet.text b.sheet.text)
 unfolding Follows
 printed_safe p f a b (Ok u) prints w e k =
     let xs : List Step = steps_of (p nothing a.env) in

@@ -18,8 +18,8 @@ use Rattle.swc_ecma_codegen_grammar.proofs.Dropped.{keeps_reduced, none_fuse_red
 use Rattle.swc_ecma_codegen_grammar.specs.Settings.{Settings}
 use Rattle.swc_ecma_codegen_util.specs.declared.config.Config.{Config}
 use Rattle.swc_ecma_codegen_tokens.specs.Settings.{settings_of}
-use Rattle.swc_ecma_codegen_grammar.specs.Phrases.{Phrase, Nothing, One, NameOf, Generates, is_possible, ◌>◌, mark}
-use Rattle.swc_ecma_codegen_grammar.specs.SpelledNames.{is_well_formed_name}
+use Rattle.swc_ecma_codegen_grammar.specs.Phrases.{Phrase, Nothing, One, NameOf, TagNameOf, Generates, is_possible, ◌>◌, mark}
+use Rattle.swc_ecma_codegen_grammar.specs.SpelledNames.{is_well_formed_name, is_well_formed_tag_name}
 use Rattle.swc_ecma_codegen_grammar.proofs.Reading.{reads}
 use Rattle.swc_ecma_codegen_grammar.specs.CommentMaps.{Maps}
 use Rattle.swc_ecma_codegen_grammar.specs.SourceLines.{Lines}
@@ -27,12 +27,11 @@ use Rattle.swc_ecma_codegen_tokens.specs.Run.{Env, Part, State, at_source, Step,
 use Rattle.swc_ecma_codegen_tokens.specs.Targets.{is_out}
 use Rattle.swc_ecma_codegen_tokens.specs.Words.{keyword, operator, word_operator, punct, placed_punct, semi, name, space, formatting_space, line_end, formatting_line, commit_pending_semi, position, position_before, leading_comments, trailing_comments}
 use Rattle.swc_ecma_codegen_tokens.specs.Tags.{closing, close, tag_name_token, tag_name, text_token, jsx_text, open_token, child_open}
-use Rattle.swc_ecma_codegen_grammar.specs.Jsx.{is_jsx_name, is_jsx_text, is_jsx_open}
-use Rattle.swc_ecma_codegen_tokens.proofs.TagLays.{lays_tag_name, lays_jsx_text}
-use Rattle.swc_ecma_codegen_tokens.proofs.Written.{own_put}
-use Rattle.swc_ecma_codegen_tokens.proofs.TagPrints.{prints_tag_end, is_tag_name, is_text_token, prints_opens}
-use Rattle.swc_ecma_codegen_tokens.specs.Written.{IsNew, IsWord, IsMark, ReadsSoFar, ReadsSoFarAt, GoesOn, IsLeft, pending, indentation_due, blanks, holds_one, Spot, RestsAt, Anything, Between, InText, InName, AddsText, taken_remarks, name_tokens}
+use Rattle.swc_ecma_codegen_grammar.specs.Jsx.{is_jsx_text, is_jsx_open}
+use Rattle.swc_ecma_codegen_tokens.proofs.TagPrints.{prints_tag_end, is_text_token, prints_jsx_text, prints_opens}
+use Rattle.swc_ecma_codegen_tokens.specs.Written.{IsNew, IsWord, IsMark, ReadsSoFar, ReadsSoFarAt, GoesOn, IsLeft, pending, indentation_due, blanks, holds_one, Spot, RestsAt, Takes, Anything, Between, InText, InName, AddsText, taken_remarks, name_tokens}
 use Rattle.swc_ecma_codegen_tokens.proofs.Emitting.{emits_nothing}
+use Rattle.swc_ecma_codegen_tokens.proofs.Spots.{rests_narrower}
 use Rattle.swc_ecma_codegen_tokens.proofs.Appended.{text_append, tokens_append, remarks_append}
 use Rattle.swc_ecma_codegen_tokens.proofs.Laid.{LaysTo, Enters}
 use Rattle.swc_ecma_codegen_tokens.proofs.Jointless.{holds_joint, walks_past, drops_joints}
@@ -140,7 +139,7 @@ unfolding Follows
 emitted_ends part a b e = (e nothing b (Ok tt) (emits_nothing b)).0
 
 -- a part that writes one of the token lists of a phrase
-pub phrase_so_far : (part : Part) (f : Phrase) (old : List ℕ) (tokens : List lexical.Token) (rs : List Remark) (a b : State) → Prints a.env part f → is_possible f ≡ true → ((ts : List lexical.Token) → Generates (settings_of a.env.config) f ts → holds_joint ts ≡ false) → AreClosed a.env.maps → Emits part a b (Ok tt) → ReadsSoFar old tokens rs a → (ts : List lexical.Token) × Generates (settings_of a.env.config) f ts × ReadsSoFar old (tokens ++ ts) (rs ++ taken_remarks part a.env) b
+pub phrase_so_far : {v w : Spot} (part : Part) (f : Phrase) (old : List ℕ) (tokens : List lexical.Token) (rs : List Remark) (a b : State) → PrintsOn v w whole a.env part f → is_possible f ≡ true → ((ts : List lexical.Token) → Generates (settings_of a.env.config) f ts → holds_joint ts ≡ false) → AreClosed a.env.maps → Emits part a b (Ok tt) → ReadsSoFarAt v old tokens rs a → (ts : List lexical.Token) × Generates (settings_of a.env.config) f ts × ReadsSoFarAt w old (tokens ++ ts) (rs ++ taken_remarks part a.env) b
 phrase_so_far part f old tokens rs a b prints w none c e h =
     let p = prints.where_possible w (made_not_out part f a.env prints w (emitted_ends part a b e)) a.env.maps in
     (p.tokens, p.generated, from_so_far part old tokens p.tokens rs a b (from_wider loose refl p.writes) (none p.tokens p.generated) (taken_closed (steps_of (part nothing a.env)) a.env.maps c) e h)
@@ -170,24 +169,32 @@ unfolding semi step steps_of nothing after_step taken_in taken_by remarks_of lex
 semi_so_far old tokens rs a b e h = one_so_far semi lexical.ending old tokens rs a b (prints_semi a.env) refl refl e h
 
 pub close_so_far : (old : List ℕ) (tokens : List lexical.Token) (rs : List Remark) (a b : State) → Emits close a b (Ok tt) → ReadsSoFar old tokens rs a → ReadsSoFar old (tokens ++ closing ∷ []) rs b
-unfolding close step steps_of nothing after_step taken_in taken_by remarks_of closing is_same_line
+unfolding close step steps_of nothing after_step taken_in taken_by remarks_of lexical.tag_close is_same_line
 close_so_far old tokens rs a b e h = one_so_far close closing old tokens rs a b (prints_close a.env) refl refl e h
 
 -- behind a name in a tag: a child may come next
 pub tag_end_so_far : (old : List ℕ) (tokens : List lexical.Token) (rs : List Remark) (a b : State) → Emits close a b (Ok tt) → ReadsSoFarAt InName old tokens rs a → ReadsSoFarAt Between old (tokens ++ closing ∷ []) rs b
-unfolding close step steps_of nothing after_step taken_in taken_by remarks_of closing is_same_line
+unfolding close step steps_of nothing after_step taken_in taken_by remarks_of lexical.tag_close is_same_line
 tag_end_so_far old tokens rs a b e h = one_so_far close closing old tokens rs a b (prints_tag_end a.env) refl refl e h
 
-pub tag_name_so_far : (t old : List ℕ) (tokens : List lexical.Token) (rs : List Remark) (a b : State) → is_utf8 t ≡ true → is_jsx_name (chars t) ≡ true → Emits (tag_name t) a b (Ok tt) → ReadsSoFar old tokens rs a → ReadsSoFarAt InName old (tokens ++ tag_name_token t ∷ []) rs b
-unfolding tag_name step steps_of nothing after_step run put effect text_of after_token own_put tag_name_token token_of value_of spelling holds_joint is_same_line
-tag_name_so_far t old tokens rs a b u n e h = laid_so_far (tag_name t) old tokens (tag_name_token t ∷ []) rs a b refl (inl refl) (λ r. lays_tag_name (Some dummy_span) t a (is_tag_name t u n) r) e h
+pub named_so_far : (old : List ℕ) (tokens : List lexical.Token) (rs : List Remark) (s : State) → ReadsSoFar old tokens rs s → ReadsSoFarAt InName old tokens rs s
+named_so_far old tokens rs s h = record {
+  added = h.added;
+  is_added = h.is_added;
+  utf8 = h.utf8;
+  written = h.written;
+  whole = h.whole;
+  reduced = h.reduced;
+  reads = h.reads;
+  rest = rests_narrower Anything InName s refl h.rest;
+}
 
 pub text_so_far : (span : Span) (t old : List ℕ) (tokens : List lexical.Token) (rs : List Remark) (a b : State) → is_utf8 t ≡ true → is_jsx_text (chars t) ≡ true → Emits (jsx_text span t) a b (Ok tt) → ReadsSoFarAt Between old tokens rs a → ReadsSoFarAt InText old (tokens ++ text_token t ∷ []) rs b
-unfolding jsx_text step steps_of nothing after_step run text_token token_of value_of spelling holds_joint is_same_line
-text_so_far span t old tokens rs a b u n e h = laid_so_far (jsx_text span t) old tokens (text_token t ∷ []) rs a b refl (inl refl) (λ r. lays_jsx_text span t a (is_text_token t u n) r) e h
+unfolding jsx_text step steps_of nothing after_step taken_in taken_by remarks_of lexical.jsx_text is_same_line
+text_so_far span t old tokens rs a b u n e h = one_so_far (jsx_text span t) (text_token t) old tokens rs a b (prints_jsx_text a.env span t (is_text_token t u n)) refl refl e h
 
 pub open_so_far : (t old : List ℕ) (tokens : List lexical.Token) (rs : List Remark) (a b : State) → is_jsx_open t ≡ true → Emits (child_open t) a b (Ok tt) → ReadsSoFarAt InText old tokens rs a → ReadsSoFar old (tokens ++ open_token t ∷ []) rs b
-unfolding child_open step steps_of nothing after_step taken_in taken_by remarks_of open_token is_same_line
+unfolding child_open step steps_of nothing after_step taken_in taken_by remarks_of lexical.child_open is_same_line
 open_so_far t old tokens rs a b o e h = one_so_far (child_open t) (open_token t) old tokens rs a b (prints_opens a.env t o) refl refl e h
 
 -- a name, and `?` after an optional one
@@ -342,8 +349,20 @@ pub trailing_so_far : (prefix : Bool) (pos : BytePos) (old : List ℕ) (tokens :
 trailing_so_far prefix pos old tokens rs a b c e h = taking_so_far (trailing_comments prefix pos) old tokens rs a b (makes_wider loose refl (writes_trailing a.env prefix pos)) c e h
 
 -- it doesn't hang on the lines and the comments
-pub so_far_at : (lines : Lines) (maps : Maps) (old : List ℕ) (tokens : List lexical.Token) (rs : List Remark) (s : State) → ReadsSoFar old tokens rs s → ReadsSoFar old tokens rs (at_source lines maps s)
-so_far_at lines maps old tokens rs s h = record {
+takes_at : (v : Spot) (lines : Lines) (maps : Maps) (s : State) → Takes v s → Takes v (at_source lines maps s)
+takes_at Anything lines maps s k = k
+takes_at Between lines maps s k = (record { child = k.0.child; nothing_held = k.0.nothing_held; in_line = k.0.in_line }, k.1)
+takes_at InText lines maps s k = (record { child = k.0.child; nothing_held = k.0.nothing_held; in_line = k.0.in_line }, k.1)
+takes_at InName lines maps s k = k
+
+takes_from : (v : Spot) (lines : Lines) (maps : Maps) (s : State) → Takes v (at_source lines maps s) → Takes v s
+takes_from Anything lines maps s k = k
+takes_from Between lines maps s k = (record { child = k.0.child; nothing_held = k.0.nothing_held; in_line = k.0.in_line }, k.1)
+takes_from InText lines maps s k = (record { child = k.0.child; nothing_held = k.0.nothing_held; in_line = k.0.in_line }, k.1)
+takes_from InName lines maps s k = k
+
+pub so_far_at : {v : Spot} (lines : Lines) (maps : Maps) (old : List ℕ) (tokens : List lexical.Token) (rs : List Remark) (s : State) → ReadsSoFarAt v old tokens rs s → ReadsSoFarAt v old tokens rs (at_source lines maps s)
+so_far_at {v} lines maps old tokens rs s h = record {
   added = h.added;
   is_added = h.is_added;
   utf8 = h.utf8;
@@ -351,11 +370,11 @@ so_far_at lines maps old tokens rs s h = record {
   whole = h.whole;
   reduced = h.reduced;
   reads = h.reads;
-  rest = record { indent_text = h.rest.indent_text; line_end = h.rest.line_end; free = h.rest.free; allowed = h.rest.allowed };
+  rest = record { indent_text = h.rest.indent_text; line_end = h.rest.line_end; free = h.rest.free; allowed = takes_at v lines maps s h.rest.allowed };
 }
 
-pub so_far_from : (lines : Lines) (maps : Maps) (old : List ℕ) (tokens : List lexical.Token) (rs : List Remark) (s : State) → ReadsSoFar old tokens rs (at_source lines maps s) → ReadsSoFar old tokens rs s
-so_far_from lines maps old tokens rs s h = record {
+pub so_far_from : {v : Spot} (lines : Lines) (maps : Maps) (old : List ℕ) (tokens : List lexical.Token) (rs : List Remark) (s : State) → ReadsSoFarAt v old tokens rs (at_source lines maps s) → ReadsSoFarAt v old tokens rs s
+so_far_from {v} lines maps old tokens rs s h = record {
   added = h.added;
   is_added = h.is_added;
   utf8 = h.utf8;
@@ -363,5 +382,5 @@ so_far_from lines maps old tokens rs s h = record {
   whole = h.whole;
   reduced = h.reduced;
   reads = h.reads;
-  rest = record { indent_text = h.rest.indent_text; line_end = h.rest.line_end; free = h.rest.free; allowed = h.rest.allowed };
+  rest = record { indent_text = h.rest.indent_text; line_end = h.rest.line_end; free = h.rest.free; allowed = takes_from v lines maps s h.rest.allowed };
 }

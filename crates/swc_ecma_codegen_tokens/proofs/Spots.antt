@@ -1,10 +1,11 @@
 -- What may come next: which spot is as good as another.
-use Rattle.std.proofs.Common.{◌≡◌, Bool, true, false, List, refl, sym}
-use Rattle.std.proofs.lemmas.Bool.{true≢false}
+use Rattle.std.proofs.Common.{◌≡◌, ℕ, Bool, true, false, ◌==◌, List, [], ◌∷◌, codes, refl, sym, subst, inl, inr}
+use Rattle.std.proofs.lemmas.Bool.{eqb-true, or_cases, true≢false}
 use Rattle.swc_ecma_codegen_grammar.specs.Tokens as lexical
 use Rattle.swc_ecma_codegen_grammar.specs.Trivia.{Remark}
+use Rattle.swc_ecma_codegen_grammar.specs.Texts.{begins}
 use Rattle.swc_ecma_codegen_tokens.specs.Run.{State}
-use Rattle.swc_ecma_codegen_tokens.specs.Written.{Spot, Anything, Between, InText, InName, Takes, RestsAt}
+use Rattle.swc_ecma_codegen_tokens.specs.Written.{is_indent, Spot, Anything, Between, InText, InName, Takes, RestsAt}
 use Rattle.swc_ecma_codegen_tokens.proofs.Laid.{LaysTo}
 use Rattle.swc_ecma_codegen_tokens.proofs.Shapes.{Shape}
 
@@ -36,3 +37,11 @@ lays_ends w a b f h = record { out = h.out; laid = h.laid; bytes = h.bytes; text
 
 pub lays_narrower : {i : Shape} {ts : List lexical.Token} {rs : List Remark} (v w : Spot) (a b : State) → is_narrower v w ≡ true → LaysTo v i ts rs a b → LaysTo w i ts rs a b
 lays_narrower v w a b e h = lays_ends w a b (rests_narrower v w b e) h
+
+-- a line's indentation begins with no dash
+pub dashless : (c : ℕ) (n : List ℕ) → is_indent c ≡ true → begins (codes "-") (c ∷ n) ≡ false
+unfolding is_indent begins
+dashless c n h = elim (or_cases (c == 32) (c == 9) h) [
+  | inl x ↦ subst (λ z. begins (codes "-") (z ∷ n) ≡ false) (sym (eqb-true c 32 x)) refl
+  | inr x ↦ subst (λ z. begins (codes "-") (z ∷ n) ≡ false) (sym (eqb-true c 9 x)) refl
+]

@@ -8,7 +8,7 @@ use Rattle.swc_ecma_codegen_grammar.specs.Endings.{IsReduced}
 use Rattle.swc_ecma_codegen_grammar.specs.GapRules.{Last, Start, fuses, allows, last_after_gap, last_after}
 use Rattle.swc_ecma_codegen_grammar.specs.Parts as parts
 use Rattle.swc_ecma_codegen_grammar.specs.Parts.{Gap, Own, NoneFuse, Reduced, tokens_of, remarks_in}
-use Rattle.swc_ecma_codegen_grammar.specs.Phrases.{Phrase, PlacedName, Never, Nothing, One, NameOf, KeyOf, PrivateOf, Then, CommaBefore, OptionalParentheses, Chosen, Generates, names_in}
+use Rattle.swc_ecma_codegen_grammar.specs.Phrases.{Phrase, PlacedName, Never, Nothing, One, NameOf, KeyOf, PrivateOf, TagNameOf, Then, CommaBefore, OptionalParentheses, Chosen, Generates, names_in}
 use Rattle.swc_ecma_codegen_grammar.specs.Reads.{Reads}
 use Rattle.swc_ecma_codegen_grammar.specs.Tokens.{Token, token_of}
 use Rattle.swc_ecma_codegen_grammar.specs.Trivia.{Remark, Piece}
@@ -33,7 +33,8 @@ use Rattle.swc_ecma_codegen_tokens.proofs.Positions.{recorded_more, noted_has, i
 use Rattle.swc_ecma_codegen_tokens.proofs.Shapes.{Shape, open_, join}
 use Rattle.swc_ecma_codegen_tokens.proofs.Spots.{is_narrower, rests_narrower}
 use Rattle.swc_ecma_codegen_tokens.proofs.Laid.{LaysTo, Enters, held, held_of, enters_first, enters_second, lays_then}
-use Rattle.swc_ecma_codegen_tokens.proofs.Written.{Spelled, front_indent, own_apart, laid_text, apart_open, settle, lays_commit, lays_guard, after_guard}
+use Rattle.swc_ecma_codegen_tokens.proofs.TagLays.{laid_chars}
+use Rattle.swc_ecma_codegen_tokens.proofs.Written.{Spelled, front_indent, own_apart, apart_open, settle, lays_commit, lays_guard, after_guard}
 
 -- ---- what stands there stays
 
@@ -61,6 +62,7 @@ all_more config a b c us (One x) ts r h = h
 all_more config a b c us (NameOf at bytes) ts r h = (h.0, stands_more config a b c us _ _ r h.1)
 all_more config a b c us (KeyOf at bytes) ts r h = (h.0, stands_more config a b c us _ _ r h.1)
 all_more config a b c us (PrivateOf bytes) ts r h = h
+all_more config a b c us (TagNameOf at bytes) ts r h = (h.0, stands_more config a b c us _ _ r h.1)
 all_more config a b c us (Then f g) ts r h = (h.0, h.1, all_more config a b c us f h.0 r h.2, all_more config a b c (us ++ h.0) g h.1 r h.3, h.4)
 all_more config a b c us (CommaBefore close) ts r h = h
 all_more config a b c us (OptionalParentheses f) ts r (inl h) = inl (all_more config a b c us f ts r h)
@@ -85,6 +87,7 @@ nameless config a b us (One x) ts e h = h
 nameless config a b us (NameOf at bytes) ts e h = absurd (cc)
 nameless config a b us (KeyOf at bytes) ts e h = absurd (cc)
 nameless config a b us (PrivateOf bytes) ts e h = h
+nameless config a b us (TagNameOf at bytes) ts e h = absurd (cc)
 nameless config a b us (Then f g) ts e h = (h.0, h.1, nameless config a b us f h.0 (none_left (names_in f) (names_in g) e) h.2, nameless config a b (us ++ h.0) g h.1 (none_right (names_in f) (names_in g) e) h.3, h.4)
 nameless config a b us (CommaBefore close) ts e h = h
 nameless config a b us (OptionalParentheses f) ts e (inl h) = inl (nameless config a b us f ts e h)
@@ -142,8 +145,8 @@ reached_as i e r = record { is_new = r.is_new; out = r.out; laid = r.laid; bytes
 pub reached_narrower : (v w : Spot) {i : Shape} {us : List Token} {a s : State} → is_narrower v w ≡ true → ReachedAt v i us a s → ReachedAt w i us a s
 reached_narrower v w {s = s} e r = record { is_new = r.is_new; out = r.out; laid = r.laid; bytes = r.bytes; text = r.text; utf8 = r.utf8; spells = r.spells; tokens = r.tokens; apart = r.apart; reduces = r.reduces; holds = r.holds; whole = r.whole; place = r.place; rest = rests_narrower v w s e r.rest; enters = r.enters }
 
-pub reached_same : {i : Shape} {us vs : List Token} {a s : State} → us ≡ vs → Reached i us a s → Reached i vs a s
-reached_same {i} {a = a} {s = s} e r = subst (λ z. Reached i z a s) e r
+pub reached_same : {v : Spot} {i : Shape} {us vs : List Token} {a s : State} → us ≡ vs → ReachedAt v i us a s → ReachedAt v i vs a s
+reached_same {v} {i} {a = a} {s = s} e r = subst (λ z. ReachedAt v i z a s) e r
 
 -- and further
 pub reached_then : {v w : Spot} (i j : Shape) {rs : List Remark} (us ts : List Token) (a s b : State) → ReachedAt v (join i j) us a s → LaysTo w i ts rs s b → RecordsTruly s.sheet b.sheet → ReachedAt w j (us ++ ts) a b
@@ -172,16 +175,16 @@ reached_then i j us ts a s b r h t =
 -- ---- what is before a name reads, and with the name
 
 -- where no semicolon is held back, what is out and further parts
-front_reduced : {i : Shape} (us : List Token) (a s : State) (r : Reached i us a s) → holds_one s.sheet.semicolons ≡ false → (more : List parts.Part) → Reduced (r.out ++ more) (r.laid ++ more)
+front_reduced : {v : Spot} {i : Shape} (us : List Token) (a s : State) (r : ReachedAt v i us a s) → holds_one s.sheet.semicolons ≡ false → (more : List parts.Part) → Reduced (r.out ++ more) (r.laid ++ more)
 front_reduced us a s r o more =
     let none : held a.sheet ≡ [] = ap (λ z. held_of z a.sheet) r.is_new.nothing_held in
     let here : held s.sheet ≡ [] = ap (λ z. held_of z s.sheet) o in
     subst (λ z. Reduced (z ++ (r.out ++ more)) (r.laid ++ more)) none (r.reduces more more (subst (λ z. Reduced (z ++ more) more) (sym here) (reduced_same more)))
 
-front_apart : {i : Shape} (us : List Token) (a s : State) (r : Reached i us a s) (more : List parts.Part) → NoneFuse s.last more → NoneFuse Start (r.out ++ more)
+front_apart : {v : Spot} {i : Shape} (us : List Token) (a s : State) (r : ReachedAt v i us a s) (more : List parts.Part) → NoneFuse s.last more → NoneFuse Start (r.out ++ more)
 front_apart us a s r more n = subst (λ z. NoneFuse z (r.out ++ more)) r.is_new.nothing_written (r.apart more n)
 
-front_reads : {i : Shape} (us : List Token) (a s : State) (r : Reached i us a s) → holds_one s.sheet.semicolons ≡ false → (u : List ℕ) (more : List parts.Part) → chars u ≡ parts.text_of more → NoneFuse s.last more → Reads (chars (r.bytes ++ u)) (without_joints (tokens_of r.laid ++ tokens_of more)) (remarks_in r.laid ++ remarks_in more)
+front_reads : {v : Spot} {i : Shape} (us : List Token) (a s : State) (r : ReachedAt v i us a s) → holds_one s.sheet.semicolons ≡ false → (u : List ℕ) (more : List parts.Part) → chars u ≡ parts.text_of more → NoneFuse s.last more → Reads (chars (r.bytes ++ u)) (without_joints (tokens_of r.laid ++ tokens_of more)) (remarks_in r.laid ++ remarks_in more)
 front_reads us a s r o u more e n =
     let laid : NoneFuse Start (r.laid ++ more) = none_fuse_reduced (r.out ++ more) (r.laid ++ more) (front_apart us a s r more n) (front_reduced us a s r o more) in
     let spells : chars (r.bytes ++ u) ≡ parts.text_of (r.laid ++ more) = chars-append r.bytes u r.utf8 ∙ ap (λ z. z ++ chars u) r.spells ∙ ap (λ z. parts.text_of r.laid ++ z) e ∙ sym (text_append r.laid more) in
@@ -189,19 +192,19 @@ front_reads us a s r o u more e n =
     (subst (λ z. Reads (parts.text_of (r.laid ++ more)) (without_joints z) (remarks_in r.laid ++ remarks_in more)) (tokens_append r.laid more)
     (subst (λ z. Reads (parts.text_of (r.laid ++ more)) (without_joints (tokens_of (r.laid ++ more))) z) (remarks_append r.laid more) (reads_without (r.laid ++ more) laid)))
 
-front_tokens : {i : Shape} (us : List Token) (a s : State) (r : Reached i us a s) → holds_one s.sheet.semicolons ≡ false → (more : List parts.Part) → NoneFuse s.last more → IsReduced (us ++ tokens_of more) (tokens_of r.laid ++ tokens_of more)
+front_tokens : {v : Spot} {i : Shape} (us : List Token) (a s : State) (r : ReachedAt v i us a s) → holds_one s.sheet.semicolons ≡ false → (more : List parts.Part) → NoneFuse s.last more → IsReduced (us ++ tokens_of more) (tokens_of r.laid ++ tokens_of more)
 front_tokens us a s r o more n =
     let all : IsReduced (tokens_of (r.out ++ more)) (tokens_of (r.laid ++ more)) = tokens_reduced (r.out ++ more) (r.laid ++ more) (front_apart us a s r more n) (front_reduced us a s r o more) in
     subst (λ z. IsReduced z (tokens_of r.laid ++ tokens_of more)) (tokens_append r.out more ∙ ap (λ z. z ++ tokens_of more) r.tokens)
     (subst (λ z. IsReduced (tokens_of (r.out ++ more)) z) (tokens_append r.laid more) all)
 
 -- blanks alone, before a token
-gap_open : (k : Last) (ps : List Piece) → ((t : List ℕ) → allows k t ≡ true) → allows (last_after_gap k ps) [] ≡ true
+gap_open : (k : Last) (ps : List Piece) → allows k [] ≡ true → allows (last_after_gap k ps) [] ≡ true
 unfolding last_after_gap
-gap_open k [] a = a []
+gap_open k [] a = a
 gap_open k (p ∷ ps) a = apart_open []
 
-gap_alone : (k : Last) (ps : List Piece) (xs : List parts.Part) → ((t : List ℕ) → allows k t ≡ true) → NoneFuse k (Gap ps ∷ xs) → NoneFuse k (Gap ps ∷ [])
+pub gap_alone : (k : Last) (ps : List Piece) (xs : List parts.Part) → allows k [] ≡ true → NoneFuse k (Gap ps ∷ xs) → NoneFuse k (Gap ps ∷ [])
 unfolding NoneFuse
 gap_alone k ps xs a h = (h.0, h.1, h.2, gap_open k ps a)
 
@@ -214,15 +217,13 @@ unfolding parts.text_of
 gap_text u h = indent_chars u h ∙ sym (blanks_text u) ∙ sym (append-nil _)
 
 -- a name that is written behind the indentation, if any, of its line
-name_behind : {i : Shape} (config : Config) (kind : Kind) (x : PlacedName) (us : List Token) (a s : State) (w : Sheet) → Reached i us a s → holds_one s.sheet.semicolons ≡ false → fuses s.last (chars (written_as config x)) ≡ false → Spelled kind (written_as config x) → w.text ≡ s.sheet.text → front w ≡ front s.sheet → w.place ≡ s.sheet.place → IsRecorded x.at (started w).place (started w).pairs → StandsAfter config a.sheet (appended (written_as config x) (started w)) us (token_of kind (spelling kind (written_as config x))) x
+pub stands_behind : {v : Spot} {i : Shape} (config : Config) (kind : Kind) (x : PlacedName) (us : List Token) (a s : State) (w : Sheet) → ReachedAt v i us a s → holds_one s.sheet.semicolons ≡ false → chars (written_as config x) ≡ spelling kind (written_as config x) → NoneFuse s.last (Gap (blanks (front s.sheet)) ∷ Own kind (spelling kind (written_as config x)) ∷ []) → NoneFuse s.last (Gap (blanks (front s.sheet)) ∷ []) → w.text ≡ s.sheet.text → front w ≡ front s.sheet → w.place ≡ s.sheet.place → IsRecorded x.at (started w).place (started w).pairs → StandsAfter config a.sheet (appended (written_as config x) (started w)) us (token_of kind (spelling kind (written_as config x))) x
 unfolding appended tokens_of remarks_in
-name_behind config kind x us a s w r o f p text same place recorded =
+stands_behind config kind x us a s w r o spelled n m text same place recorded =
     let t : List ℕ = written_as config x in
     let u : List ℕ = front s.sheet in
     let ps : List Piece = blanks u in
     let h : all_indent u ≡ true = front_indent s.sheet r.rest.indent_text in
-    let n : NoneFuse s.last (Gap ps ∷ Own kind (spelling kind t) ∷ []) = own_apart s.sheet.at_line_start kind t s [] refl o p f r.rest (none_after s.last kind t p) in
-    let m : NoneFuse s.last (Gap ps ∷ []) = gap_alone s.last ps (Own kind (spelling kind t) ∷ []) r.rest.allowed n in
     let z : (started w).text ≡ s.sheet.text ++ u = started_text w ∙ ap (λ v. v ++ front w) text ∙ ap (λ v. s.sheet.text ++ v) same in
     let d = started_records w in
     let du : d.text ≡ u = append_cancel_left w.text d.text u (sym d.is_text ∙ started_text w ∙ ap (λ v. w.text ++ v) same) in
@@ -240,9 +241,16 @@ name_behind config kind x us a s w r o f p text same place recorded =
       reads_before = subst (λ v. Reads (chars (r.bytes ++ u)) (without_joints v) (remarks_in r.laid ++ remarks_in (Gap ps ∷ []))) (append-nil (tokens_of r.laid)) (front_reads us a s r o u (Gap ps ∷ []) (gap_text u h) m);
       reads =
           subst (λ v. Reads (chars v) (without_joints (tokens_of r.laid ++ (token_of kind (spelling kind t) ∷ []))) (remarks_in r.laid ++ remarks_in (Gap ps ∷ []))) (sym (append_assoc r.bytes u t))
-          (front_reads us a s r o (u ++ t) (Gap ps ∷ Own kind (spelling kind t) ∷ []) (laid_text u t kind h p) n);
+          (front_reads us a s r o (u ++ t) (Gap ps ∷ Own kind (spelling kind t) ∷ []) (laid_chars u t kind h spelled) n);
       recorded = subst (λ (v : Place). IsRecorded x.at v (started w).pairs) q recorded;
     }
+
+name_behind : {i : Shape} (config : Config) (kind : Kind) (x : PlacedName) (us : List Token) (a s : State) (w : Sheet) → Reached i us a s → holds_one s.sheet.semicolons ≡ false → fuses s.last (chars (written_as config x)) ≡ false → Spelled kind (written_as config x) → w.text ≡ s.sheet.text → front w ≡ front s.sheet → w.place ≡ s.sheet.place → IsRecorded x.at (started w).place (started w).pairs → StandsAfter config a.sheet (appended (written_as config x) (started w)) us (token_of kind (spelling kind (written_as config x))) x
+name_behind config kind x us a s w r o f p text same place recorded =
+    let t : List ℕ = written_as config x in
+    let ps : List Piece = blanks (front s.sheet) in
+    let n : NoneFuse s.last (Gap ps ∷ Own kind (spelling kind t) ∷ []) = own_apart s.sheet.at_line_start kind t s [] refl o p f r.rest (none_after s.last kind t p) in
+    stands_behind config kind x us a s w r o p.same n (gap_alone s.last ps (Own kind (spelling kind t) ∷ []) (r.rest.allowed []) n) text same place recorded
 
 -- ---- the steps of a name
 

@@ -2,11 +2,14 @@
 use Rattle.std.proofs.Common.{◌≡◌, ℕ, Bool, true, false, not, cond, ◌&&◌, ◌==◌, List, [], ◌∷◌, ◌++◌, Option, Some, None, codes, refl, sym, ap, ◌∙◌, subst, append-nil, inl, inr}
 use Rattle.std.specs.List.{repeat}
 use Rattle.std.specs.Str.{chars, IsUtf8}
-use Rattle.std.proofs.lemmas.Bool.{and_parts, eqb-true, or_cases, true≢false}
+use Rattle.std.proofs.lemmas.Bool.{and_parts, cases_Bool, eqb-true, true≢false}
 use Rattle.std.proofs.lemmas.Str.{chars-append, IsUtf8-append}
+use Rattle.swc_ecma_codegen_common.specs.declared.positions.BytePos.{BytePos}
 use Rattle.swc_ecma_codegen_common.specs.declared.positions.Span.{Span}
 use Rattle.swc_ecma_codegen_grammar.specs.declared.kinds.Kind.{Kind}
 use Rattle.swc_ecma_codegen_grammar.specs.declared.kinds.Kind.TheVariants.{Punctuator, Close, JsxName, JsxText, JsxOpen}
+use Rattle.swc_ecma_codegen_grammar.specs.Chars.{is_start, is_letter}
+use Rattle.swc_ecma_codegen_grammar.specs.Jsx.{is_jsx_name, all_tag}
 use Rattle.swc_ecma_codegen_grammar.specs.Tokens as lexical
 use Rattle.swc_ecma_codegen_grammar.specs.Tokens.{has_shape, token_of}
 use Rattle.swc_ecma_codegen_grammar.specs.Texts.{begins, is_same, some_begins}
@@ -19,7 +22,7 @@ use Rattle.swc_ecma_codegen_grammar.specs.Parts.{Gap, Own, tokens_of, remarks_in
 use Rattle.swc_ecma_codegen_grammar.proofs.Tables.{eq_of_same}
 use Rattle.swc_ecma_codegen_grammar.proofs.Reading.{blank_fuses}
 use Rattle.swc_ecma_codegen_spans.specs.Spans.{dummy_span}
-use Rattle.swc_ecma_codegen_text_writer.specs.Sheet.{Sheet, Space, StrLit, Punct, holds_semicolons, written, literal_written, settled, dropped, before_punct, is_ending, effect}
+use Rattle.swc_ecma_codegen_text_writer.specs.Sheet.{Sheet, Space, StrLit, Punct, holds_semicolons, written, literal_written, pointed, settled, dropped, before_punct, is_ending, effect}
 use Rattle.swc_ecma_codegen_tokens.specs.Run.{State, Guard, Token, put, spelling, text_of, after_token}
 use Rattle.swc_ecma_codegen_tokens.specs.Written.{IsLineEnd, is_indent, all_indent, is_free, holds_one, AtRest, RestsAt, Takes, TakesChild, Spot, Anything, Between, InText, InName}
 use Rattle.swc_ecma_codegen_tokens.proofs.Held.{front, front_of, written_semicolons, in_line, settled_none, unheld_settled, dropped_none}
@@ -27,9 +30,9 @@ use Rattle.swc_ecma_codegen_tokens.proofs.Behind.{apart_alone, after_indent, not
 use Rattle.swc_ecma_codegen_tokens.proofs.Indented.{indent_append, indent_repeat, indent_blank, indent_utf8, indent_chars, blanks, blanks_text, blanks_pieces, blanks_remarks}
 use Rattle.swc_ecma_codegen_tokens.proofs.Shapes.{Shape, whole, open_, fits_own, fits_indent, fits_text}
 use Rattle.swc_ecma_codegen_tokens.proofs.Texts.{Adds, adds_written, adds_literal}
-use Rattle.swc_ecma_codegen_tokens.proofs.Spots.{taking, lays_ends, lays_narrower}
+use Rattle.swc_ecma_codegen_tokens.proofs.Spots.{dashless, taking, lays_ends, lays_narrower}
 use Rattle.swc_ecma_codegen_tokens.proofs.Laid.{LaysTo, lays_then, lays_nothing, laid_out}
-use Rattle.swc_ecma_codegen_tokens.proofs.Written.{Spelled, spelled_close, mark_allows, lays_settled, lays_guard, lays_punct, after_guard, settle, settle_rest, settle_named, front_indent, still_none, still_holds, at_text, free_last, own_none, own_put, punct_put}
+use Rattle.swc_ecma_codegen_tokens.proofs.Written.{Spelled, spelled_close, mark_allows, lays_settled, lays_punct, after_guard, settle, settle_named, lays_named_position, front_indent, still_none, still_holds, at_text, free_last, own_none, own_put, punct_put}
 
 -- a text is a token of a kind, whatever may come next
 pub record IsToken (kind : Kind) (t : List ℕ) : Type 0 where
@@ -62,7 +65,7 @@ behind_nothing : (k : Last) (xs : List parts.Part) → allows k [] ≡ true → 
 unfolding NoneFuse blanks last_after_gap pieces_text all_pieces
 behind_nothing k xs a n = (refl, nothing_fuses k, a, n)
 
-token_apart : (b : Bool) (kind : Kind) (t : List ℕ) (s : State) (more : List parts.Part) → (b ≡ true → is_free s.last ≡ true) → all_indent s.sheet.indent_text ≡ true → IsToken kind t → (is_child kind ≡ true → ⊥) → fuses s.last (chars t) ≡ false → allows s.last [] ≡ true → allows s.last (spelling kind t) ≡ true → NoneFuse (last_after s.last kind (spelling kind t)) more → NoneFuse s.last (Gap (blanks (front_of b s.sheet)) ∷ Own kind (spelling kind t) ∷ more)
+pub token_apart : (b : Bool) (kind : Kind) (t : List ℕ) (s : State) (more : List parts.Part) → (b ≡ true → is_free s.last ≡ true) → all_indent s.sheet.indent_text ≡ true → IsToken kind t → (is_child kind ≡ true → ⊥) → fuses s.last (chars t) ≡ false → allows s.last [] ≡ true → allows s.last (spelling kind t) ≡ true → NoneFuse (last_after s.last kind (spelling kind t)) more → NoneFuse s.last (Gap (blanks (front_of b s.sheet)) ∷ Own kind (spelling kind t) ∷ more)
 token_apart true kind t s more free i p c f e a n =
     after_indent s.last (repeat s.sheet.indentation s.sheet.indent_text) (Own kind (spelling kind t) ∷ more) (indent_repeat s.sheet.indentation s.sheet.indent_text i) (free refl) (free_allows s.last (free refl))
     (token_fits kind t Apart more p c (apart_alone (chars t)) (apart_allows (spelling kind t)) (subst (λ k. NoneFuse k more) (free_last s.last kind (spelling kind t) (free refl)) n))
@@ -76,7 +79,7 @@ rest_added t s b i l h k = record {
   allowed = k;
 }
 
-laid_chars : (u t : List ℕ) (kind : Kind) → all_indent u ≡ true → chars t ≡ spelling kind t → chars (u ++ t) ≡ parts.text_of (Gap (blanks u) ∷ Own kind (spelling kind t) ∷ [])
+pub laid_chars : (u t : List ℕ) (kind : Kind) → all_indent u ≡ true → chars t ≡ spelling kind t → chars (u ++ t) ≡ parts.text_of (Gap (blanks u) ∷ Own kind (spelling kind t) ∷ [])
 unfolding parts.text_of
 laid_chars u t kind h same =
     chars-append u t (indent_utf8 u h)
@@ -123,24 +126,7 @@ mark_adds t s e some = subst (λ z. Adds t (settled s) (written None t (cond z (
 
 -- ---- a name in a tag, and what stands behind it
 
--- the name, with the blank that is due
-pub lays_tag_name : (span : Option Span) (t : List ℕ) (s : State) → IsToken JsxName t → AtRest s → LaysTo InName whole (token_of JsxName (spelling JsxName t) ∷ []) [] s (own_put JsxName span t (put (Guard t) s))
-unfolding own_put last_after allows is_child
-lays_tag_name span t s p r =
-    let there : State = put (Guard t) s in
-    let g = lays_guard t s r in
-    let q = settle_rest there g.rest in
-    lays_then [] (token_of JsxName (spelling JsxName t) ∷ []) s there (own_put JsxName span t there) g
-    (token_settled InName JsxName t there (own_put JsxName span t there) p (λ e. true≢false (sym e)) (after_guard t s) g.rest q (q.allowed []) (q.allowed (spelling JsxName t)) (written_adds span t (settled there.sheet) p.some) refl (λ u e. ap not e))
-
-dashless : (c : ℕ) (n : List ℕ) → is_indent c ≡ true → begins (codes "-") (c ∷ n) ≡ false
-unfolding is_indent begins
-dashless c n h = elim (or_cases (c == 32) (c == 9) h) [
-  | inl x ↦ subst (λ z. begins (codes "-") (z ∷ n) ≡ false) (sym (eqb-true c 32 x)) refl
-  | inr x ↦ subst (λ z. begins (codes "-") (z ∷ n) ≡ false) (sym (eqb-true c 9 x)) refl
-]
-
-nothing_dashless : begins (codes "-") [] ≡ false
+pub nothing_dashless : begins (codes "-") [] ≡ false
 unfolding begins
 nothing_dashless = refl
 
@@ -189,9 +175,50 @@ unfolding blank_put
 named_guard_case true s r = lays_narrower Anything InName s _ refl (lays_named_blank s r)
 named_guard_case false s r = lays_nothing s r
 
-named_guard : (t : List ℕ) (s : State) → RestsAt InName s → LaysTo InName open_ [] [] s (put (Guard t) s)
+pub named_guard : (t : List ℕ) (s : State) → RestsAt InName s → LaysTo InName open_ [] [] s (put (Guard t) s)
 unfolding put blank_put
 named_guard t s r = named_guard_case (fuses s.last (chars t)) s r
+
+-- a name in a tag begins with no dash
+start_dashless : (c : ℕ) (n : List ℕ) → is_start c ≡ true → begins (codes "-") (c ∷ n) ≡ false
+unfolding begins
+start_dashless c n h = elim (cases_Bool (45 == c)) [
+  | inl e ↦ absurd (true≢false (sym (subst (λ z. is_start z ≡ true) (sym (eqb-true 45 c e)) h) ∙ (unfold is_start is_letter in refl)))
+  | inr e ↦ ap (λ b. b && true) e
+]
+
+jsx_dashless : (t : List ℕ) → is_jsx_name t ≡ true → begins (codes "-") t ≡ false
+unfolding is_jsx_name
+jsx_dashless [] h = absurd (true≢false (sym h))
+jsx_dashless (c ∷ cs) h = start_dashless c cs (and_parts (is_start c) (all_tag cs) h).0
+
+pub name_dashless : (t : List ℕ) → IsToken JsxName t → begins (codes "-") (spelling JsxName t) ≡ false
+unfolding has_shape
+name_dashless t p = jsx_dashless (spelling JsxName t) p.shape
+
+-- the call of a name, at which nothing fuses
+tag_call : (span : Option Span) (t : List ℕ) (s : State) → IsToken JsxName t → fuses s.last (chars t) ≡ false → RestsAt InName s → LaysTo InName whole (token_of JsxName (spelling JsxName t) ∷ []) [] s (own_put JsxName span t s)
+unfolding own_put last_after allows is_child
+tag_call span t s p f r =
+    let q = settle_named s r in
+    token_settled InName JsxName t s (own_put JsxName span t s) p (λ e. true≢false (sym e)) f r q (q.allowed [] nothing_dashless) (q.allowed (spelling JsxName t) (name_dashless t p)) (written_adds span t (settled s.sheet) p.some) refl (λ u e. ap not e)
+
+-- a name, with the blank that is due
+pub lays_tag_name : (span : Option Span) (t : List ℕ) (s : State) → IsToken JsxName t → RestsAt InName s → LaysTo InName whole (token_of JsxName (spelling JsxName t) ∷ []) [] s (own_put JsxName span t (put (Guard t) s))
+lays_tag_name span t s p r =
+    let there : State = put (Guard t) s in
+    let g = named_guard t s r in
+    lays_then [] (token_of JsxName (spelling JsxName t) ∷ []) s there (own_put JsxName span t there) g (tag_call span t there p (after_guard t s) g.rest)
+
+-- and with its position, which is recorded behind the blank
+pub lays_tag_placed : (pos : BytePos) (span : Option Span) (t : List ℕ) (s : State) → IsToken JsxName t → RestsAt InName s → LaysTo InName whole (token_of JsxName (spelling JsxName t) ∷ []) [] s (own_put JsxName span t (record (put (Guard t) s) { sheet = pointed pos (put (Guard t) s).sheet }))
+lays_tag_placed pos span t s p r =
+    let there : State = put (Guard t) s in
+    let noted : State = record there { sheet = pointed pos there.sheet } in
+    let g = named_guard t s r in
+    let n = lays_named_position pos there g.rest in
+    lays_then [] (token_of JsxName (spelling JsxName t) ∷ []) s there (own_put JsxName span t noted) g
+    (lays_then [] (token_of JsxName (spelling JsxName t) ∷ []) there noted (own_put JsxName span t noted) n (tag_call span t noted p (after_guard t s) n.rest))
 
 -- a punctuator behind a name, which begins with no dash
 pub lays_named_mark : (t : List ℕ) (s : State) → is_ending t ≡ false → begins (codes "-") t ≡ false → Spelled Punctuator t → RestsAt InName s → LaysTo Anything whole (token_of Punctuator (spelling Punctuator t) ∷ []) [] s (punct_put None t (put (Guard t) s))

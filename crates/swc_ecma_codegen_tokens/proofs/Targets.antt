@@ -4,7 +4,7 @@ use Rattle.std.specs.Str.{IsNotAscii, chars, is_utf8}
 use Rattle.std.proofs.lemmas.Bool.{cases_lt, cases_Bool, lt-ltb, and_from, and_parts, or_from, or_parts, not-true, false≢true, false_from_ne_true}
 use Rattle.std.proofs.lemmas.Str.{IsUtf8-from_is_utf8, is_utf8-from_IsUtf8, IsUtf8-from_ascii}
 use Rattle.swc_ecma_codegen_grammar.specs.Names.{is_name, name_value}
-use Rattle.swc_ecma_codegen_grammar.specs.Phrases.{Phrase, Never, Nothing, One, NameOf, KeyOf, PrivateOf, Then, CommaBefore, OptionalParentheses, Chosen}
+use Rattle.swc_ecma_codegen_grammar.specs.Phrases.{Phrase, Never, Nothing, One, NameOf, KeyOf, PrivateOf, TagNameOf, Then, CommaBefore, OptionalParentheses, Chosen}
 use Rattle.swc_ecma_codegen_grammar.specs.ValidNames.{turned}
 use Rattle.swc_ecma_codegen_util.specs.declared.config.Config.{Config}
 use Rattle.swc_ecma_codegen_literals.specs.AsciiNames.{is_ascii_text, is_quoted_key, is_out_of_target, name_escapes, ascii_name}
@@ -44,6 +44,7 @@ plain_not_out config (One x) h = refl
 plain_not_out config (NameOf at bytes) h = kept_is_in config (turned bytes) (or_parts (has_backslash bytes) (wants_escapes config (turned bytes)) h).1
 plain_not_out config (KeyOf at bytes) h = refl
 plain_not_out config (PrivateOf bytes) h = kept_is_in config (turned bytes) (or_parts (has_backslash bytes) (wants_escapes config (turned bytes)) h).1
+plain_not_out config (TagNameOf at bytes) h = refl
 plain_not_out config (CommaBefore close) h = refl
 plain_not_out config (OptionalParentheses a) h = plain_not_out config a h
 plain_not_out config (Chosen choice) h = refl
@@ -60,6 +61,7 @@ bare_not_out config (One x) h = refl
 bare_not_out config (NameOf at bytes) h = ap (λ b. b && is_out_of_target false config.target (chars (turned bytes))) h
 bare_not_out config (KeyOf at bytes) h = refl
 bare_not_out config (PrivateOf bytes) h = ap (λ b. b && is_out_of_target false config.target (chars (turned bytes))) h
+bare_not_out config (TagNameOf at bytes) h = refl
 bare_not_out config (CommaBefore close) h = refl
 bare_not_out config (OptionalParentheses a) h = bare_not_out config a h
 bare_not_out config (Chosen choice) h = refl

@@ -8,8 +8,10 @@ use Rattle.swc_ecma_codegen_common.specs.declared.errors.Refusal.{Refusal}
 use Rattle.swc_ecma_codegen_common.specs.declared.positions.Span.{Span}
 use Rattle.swc_ecma_codegen_tree.specs.declared.exprs.TplElement.{TplElement}
 use Rattle.swc_ecma_codegen_tree.specs.declared.lits.BigInt.{BigInt}
+use Rattle.swc_ecma_codegen_tree.specs.declared.lits.Bool as tree_bool
 use Rattle.swc_ecma_codegen_tree.specs.declared.lits.Lit.{Lit}
 use Rattle.swc_ecma_codegen_tree.specs.declared.lits.Lit.TheVariants as lits
+use Rattle.swc_ecma_codegen_tree.specs.declared.lits.Null.{Null}
 use Rattle.swc_ecma_codegen_tree.specs.declared.lits.Number.{Number as NumberLit}
 use Rattle.swc_ecma_codegen_tree.specs.declared.lits.NumberValue.{NumberValue}
 use Rattle.swc_ecma_codegen_tree.specs.declared.lits.NumberValue.TheVariants.{Finite, Infinity, NegInfinity, NaN}
@@ -22,11 +24,12 @@ use Rattle.swc_ecma_codegen_grammar.specs.declared.kinds.TemplatePart.{TemplateP
 use Rattle.swc_ecma_codegen_grammar.specs.CommentMaps.{Maps}
 use Rattle.swc_ecma_codegen_grammar.specs.Comments.{AreClosed, no_maps, all_closed, remarks_of}
 use Rattle.swc_ecma_codegen_grammar.specs.Keys.{key_token, is_quoted}
+use Rattle.swc_ecma_codegen_grammar.specs.JsxPhrases.{jsx_string}
 use Rattle.swc_ecma_codegen_grammar.specs.LitPhrases as phrases
 use Rattle.swc_ecma_codegen_grammar.specs.CodeUnits.{all_utf16}
 use Rattle.swc_ecma_codegen_grammar.specs.Names.{is_name, name_value}
 use Rattle.swc_ecma_codegen_grammar.specs.Numbers.{is_big_integer, is_number}
-use Rattle.swc_ecma_codegen_grammar.specs.Phrases.{Phrase, Never, Nothing, One, NameOf, KeyOf, PrivateOf, Then, Generates, is_possible, where_}
+use Rattle.swc_ecma_codegen_grammar.specs.Phrases.{Phrase, Never, Nothing, One, NameOf, KeyOf, PrivateOf, TagNameOf, Then, Generates, is_possible, where_}
 use Rattle.swc_ecma_codegen_grammar.specs.Reads.{is_same_line}
 use Rattle.swc_ecma_codegen_grammar.specs.Settings.{Settings}
 use Rattle.swc_ecma_codegen_grammar.specs.SourceLines.{no_lines}
@@ -47,7 +50,7 @@ use Rattle.swc_ecma_codegen_tokens.specs.Literals.{string, number, number_name, 
 use Rattle.swc_ecma_codegen_tokens.specs.Run.{Part, State, Step, Guard, Token, step, after_step, taken_in, taken_by, steps_of, run, nothing, spelling, at_source, with_source, Emits, Does, DoesTaking}
 use Rattle.swc_ecma_codegen_tokens.specs.Settings.{settings_of}
 use Rattle.swc_ecma_codegen_tokens.specs.Words.{line_end}
-use Rattle.swc_ecma_codegen_tokens.specs.Written.{IsNew, IsAtMargin, ReadsSoFar, taken_remarks}
+use Rattle.swc_ecma_codegen_tokens.specs.Written.{IsNew, IsAtMargin, Spot, ReadsSoFar, ReadsSoFarAt, taken_remarks}
 use Rattle.swc_ecma_codegen_tokens.proofs.HashbangPrints.{hashbang_steps, calls_lay}
 use Rattle.swc_ecma_codegen_tokens.proofs.Jointless.{holds_joint}
 use Rattle.swc_ecma_codegen_tokens.proofs.LiteralParts.{literal_lays}
@@ -55,7 +58,8 @@ use Rattle.swc_ecma_codegen_tokens.proofs.LitPrints.{writes_regex_text}
 use Rattle.swc_ecma_codegen_tokens.proofs.LitTexts.{SignedToken, signed_tokens, spelled_string, spelled_number, spelled_big_integer}
 use Rattle.swc_ecma_codegen_tokens.proofs.NumberPrints.{writes_number_text}
 use Rattle.swc_ecma_codegen_tokens.proofs.NoneTaken.{no_maps_bare, no_maps_closed, same_remarks}
-use Rattle.swc_ecma_codegen_tokens.proofs.Phrased.{Prints, enters_new}
+use Rattle.swc_ecma_codegen_tokens.proofs.Phrased.{Prints, PrintsOn, enters_new}
+use Rattle.swc_ecma_codegen_tokens.proofs.Shapes.{whole}
 use Rattle.swc_ecma_codegen_tokens.proofs.SoFar.{laid_so_far, made_so_far, new_so_far, phrase_so_far, so_far_at, so_far_from}
 use Rattle.swc_ecma_codegen_tokens.proofs.Written.{Spelled, spelled_name as name_spelled}
 
@@ -69,6 +73,7 @@ is_jointless (One x) = not (is_same_line x.kind)
 is_jointless (NameOf at bytes) = true
 is_jointless (KeyOf at bytes) = true
 is_jointless (PrivateOf bytes) = true
+is_jointless (TagNameOf at bytes) = true
 is_jointless (Then a b) = is_jointless a && is_jointless b
 is_jointless f = false
 
@@ -97,6 +102,7 @@ joint_free s (One x) ts n g = ap holds_joint g ∙ one_free x n
 joint_free s (NameOf at bytes) ts n g = ap holds_joint g ∙ one_free _ (unfold lexical.name is_same_line in refl)
 joint_free s (KeyOf at bytes) ts n g = ap holds_joint g ∙ key_free s bytes
 joint_free s (PrivateOf bytes) ts n g = ap holds_joint g ∙ one_free _ (unfold lexical.private_name is_same_line in refl)
+joint_free s (TagNameOf at bytes) ts n g = ap holds_joint g ∙ one_free _ (unfold lexical.tag_name is_same_line in refl)
 joint_free s (Then a b) ts n g = let p = and_parts (is_jointless a) (is_jointless b) n in ap holds_joint g.4 ∙ joint_append g.0 g.1 (joint_free s a g.0 p.0 g.2) (joint_free s b g.1 p.1 g.3)
 joint_free s f ts n g = absurd (true≢false (sym n))
 
@@ -115,6 +121,10 @@ sign_jointless false f h = h
 pub str_jointless : (n : strs.Str) → is_jointless (phrases.str_lit n) ≡ true
 unfolding phrases.str_lit phrases.string_token is_jointless is_same_line
 str_jointless n = where_jointless _ _ refl
+
+pub jsx_string_jointless : (n : strs.Str) → is_jointless (jsx_string n) ≡ true
+unfolding jsx_string lexical.jsx_string is_jointless is_same_line token_of
+jsx_string_jointless n = where_jointless _ _ refl
 
 raw_jointless : {Z : Type 0} (raw : Option (String Z)) (f : Phrase) → is_jointless f ≡ true → is_jointless (phrases.without_raw raw f) ≡ true
 unfolding phrases.without_raw is_jointless
@@ -141,6 +151,14 @@ big_int_jointless n = where_jointless _ _ (sign_jointless n.negative _ refl)
 pub regex_jointless : (n : RegexLit) → is_jointless (phrases.regex n) ≡ true
 unfolding phrases.regex is_jointless is_same_line token_of
 regex_jointless n = where_jointless _ _ refl
+
+pub bool_jointless : (n : tree_bool.Bool) → is_jointless (phrases.bool_lit n) ≡ true
+unfolding phrases.bool_lit is_jointless is_same_line lexical.word
+bool_jointless n = refl
+
+pub null_jointless : (n : Null) → is_jointless (phrases.null_lit n) ≡ true
+unfolding phrases.null_lit is_jointless is_same_line lexical.word
+null_jointless n = refl
 
 pub lit_jointless : (n : Lit) → is_jointless (phrases.lit n) ≡ true
 unfolding phrases.lit phrases.bool_lit phrases.null_lit is_jointless is_same_line lexical.word
@@ -179,12 +197,12 @@ adds_one x part a b (Ok u) p n d old tokens rs h = let y = adds_list (One x) par
 adds_one x part a b (Err e) p n d old tokens rs h = tt
 
 -- with the comments that are taken
-pub adds_taking : (phrase : Phrase) (part : Part) (before left : Maps) (a b : State) (r : Result (Unit {0}) Refusal) → Prints (at_source no_lines before a).env part phrase → is_jointless phrase ≡ true → DoesTaking part before left a b r → (old : List ℕ) (tokens : List lexical.Token) (rs : List Remark) → AreClosed before → is_possible phrase ≡ true → ReadsSoFar old tokens rs a → OnOk r ((ts : List lexical.Token) × Generates (settings_of a.env.config) phrase ts × ReadsSoFar old (tokens ++ ts) (rs ++ taken_remarks part (at_source no_lines before a).env) b)
+pub adds_taking : {v w : Spot} (phrase : Phrase) (part : Part) (before left : Maps) (a b : State) (r : Result (Unit {0}) Refusal) → PrintsOn v w whole (at_source no_lines before a).env part phrase → is_jointless phrase ≡ true → DoesTaking part before left a b r → (old : List ℕ) (tokens : List lexical.Token) (rs : List Remark) → AreClosed before → is_possible phrase ≡ true → ReadsSoFarAt v old tokens rs a → OnOk r ((ts : List lexical.Token) × Generates (settings_of a.env.config) phrase ts × ReadsSoFarAt w old (tokens ++ ts) (rs ++ taken_remarks part (at_source no_lines before a).env) b)
 unfolding with_source
-adds_taking phrase part before left a b (Ok u) p n d old tokens rs c w h =
-    let x = phrase_so_far part phrase old tokens rs (at_source no_lines before a) (at_source no_lines left b) p w (λ ts g. joint_free (settings_of a.env.config) phrase ts n g) c (d no_lines) (so_far_at no_lines before old tokens rs a h) in
+adds_taking phrase part before left a b (Ok u) p n d old tokens rs c possible h =
+    let x = phrase_so_far part phrase old tokens rs (at_source no_lines before a) (at_source no_lines left b) p possible (λ ts g. joint_free (settings_of a.env.config) phrase ts n g) c (d no_lines) (so_far_at no_lines before old tokens rs a h) in
     (x.0, x.1, so_far_from no_lines left old (tokens ++ x.0) _ b x.2)
-adds_taking phrase part before left a b (Err e) p n d old tokens rs c w h = tt
+adds_taking phrase part before left a b (Err e) p n d old tokens rs c possible h = tt
 
 -- ---- a token by one call of a literal, as it is spelled
 

@@ -25,7 +25,7 @@ use Rattle.swc_ecma_codegen_grammar.proofs.Dropped.{reduced_after}
 use Rattle.swc_ecma_codegen_text_writer.specs.Sheet.{Sheet, Semicolons, AtOnce, HoldsNone, HoldsOne, holds_semicolons, Space, Line, appended, written, ended, pointed, settled, settled_by, semicolon_by, dropped, before_punct, is_ending, effect}
 use Rattle.swc_ecma_codegen_text_writer.proofs.Sheets.{written_same, pointed_alike, alike_same}
 use Rattle.swc_ecma_codegen_tokens.specs.Run.{State, Guard, put, spelling}
-use Rattle.swc_ecma_codegen_tokens.specs.Written.{IsLineEnd, is_indent, all_indent, is_free, holds_one, AtRest, RestsAt, Spot, InName}
+use Rattle.swc_ecma_codegen_tokens.specs.Written.{IsLineEnd, is_indent, all_indent, is_free, holds_one, AtRest, RestsAt, Takes, Spot, InName}
 use Rattle.swc_ecma_codegen_tokens.proofs.Held.{front_of, front, written_text, in_line, written_semicolons, pointed_keeps, settled_none}
 use Rattle.swc_ecma_codegen_tokens.proofs.Behind.{apart_alone, same_after, free_apart, after_indent, in_a_line, blank_apart}
 use Rattle.swc_ecma_codegen_tokens.proofs.Shapes.{Shape, whole, open_, loose, joining, joined, join, fits_wider, fits_nothing, fits_own, fits_indent, fits_text, fits_end}
@@ -174,8 +174,8 @@ lays_level n s r =
     lays_settled s after [] r (lays_same there after refl refl same refl (record { indent_text = q.indent_text; line_end = q.line_end; free = q.free; allowed = q.allowed }))
 
 -- a position that is noted
-pub lays_position : (pos : BytePos) (s : State) → AtRest s → LaysAt open_ [] s (record s { sheet = pointed pos s.sheet })
-lays_position pos s r =
+position_lays : {v : Spot} (pos : BytePos) (s : State) → Takes v (record s { sheet = pointed pos s.sheet }) → RestsAt v s → LaysTo v open_ [] [] s (record s { sheet = pointed pos s.sheet })
+position_lays pos s k r =
     let p = alike_same s.sheet (pointed pos s.sheet) (pointed_alike pos s.sheet) in
     lays_same s (record s { sheet = pointed pos s.sheet }) (pointed_keeps (λ z. z.text) (λ z x. refl) (λ z x. refl) pos s.sheet) refl
     (pointed_keeps (λ z. held z) (λ z x. refl) (λ z x. refl) pos s.sheet) p.holds
@@ -183,8 +183,18 @@ lays_position pos s r =
       indent_text = subst (λ z. all_indent z ≡ true) (sym p.indent_text) r.indent_text;
       line_end = subst (λ z. IsLineEnd z) (sym p.line_end) r.line_end;
       free = λ o e. r.free (sym (pointed_keeps (λ z. holds_one z.semicolons) (λ z x. refl) (λ z x. refl) pos s.sheet) ∙ o) (sym (pointed_keeps (λ z. z.at_line_start) (λ z x. refl) (λ z x. refl) pos s.sheet) ∙ e);
-      allowed = r.allowed;
+      allowed = k;
     })
+
+pub lays_position : (pos : BytePos) (s : State) → AtRest s → LaysAt open_ [] s (record s { sheet = pointed pos s.sheet })
+lays_position pos s r = position_lays pos s r.allowed r
+
+-- the same behind a name in a tag; and a semicolon that is held back
+pub lays_named_position : (pos : BytePos) (s : State) → RestsAt InName s → LaysTo InName open_ [] [] s (record s { sheet = pointed pos s.sheet })
+lays_named_position pos s r = position_lays pos s r.allowed r
+
+pub lays_named_commit : (s : State) → RestsAt InName s → LaysTo InName open_ [] [] s (settle s)
+lays_named_commit s r = lays_settled s (settle s) [] r (lays_nothing (settle s) (settle_named s r))
 
 -- ---- blanks and line ends, where nothing is held back
 

@@ -35,10 +35,13 @@ AddsList phrase config a e b f result =
     → OnOk result ((ts : List Token) × Generates (settings_of config) phrase ts × ReadsSoFar old (tokens ++ ts) remarks (state_of config b f))
 
 -- The same by a part that takes comments out of these maps, which stand behind those so far.
+abbrev pub AddsTakingOn : Spot → Spot → Phrase → Part → Maps → Config → Sheet → LowerEmitter → Sheet → LowerEmitter → Result (Unit {0}) Refusal → Type 0
+AddsTakingOn before behind phrase part maps config a e b f result =
+    (old : List ℕ) (tokens : List Token) (remarks : List Remark) → AreClosed maps → is_possible phrase ≡ true → ReadsSoFarAt before old tokens remarks (state_of config a e)
+    → OnOk result ((ts : List Token) × Generates (settings_of config) phrase ts × ReadsSoFarAt behind old (tokens ++ ts) (remarks ++ taken_remarks part (env_of no_lines maps config a)) (state_of config b f))
+
 abbrev pub AddsTaking : Phrase → Part → Maps → Config → Sheet → LowerEmitter → Sheet → LowerEmitter → Result (Unit {0}) Refusal → Type 0
-AddsTaking phrase part maps config a e b f result =
-    (old : List ℕ) (tokens : List Token) (remarks : List Remark) → AreClosed maps → is_possible phrase ≡ true → ReadsSoFar old tokens remarks (state_of config a e)
-    → OnOk result ((ts : List Token) × Generates (settings_of config) phrase ts × ReadsSoFar old (tokens ++ ts) (remarks ++ taken_remarks part (env_of no_lines maps config a)) (state_of config b f))
+AddsTaking phrase part maps config a e b f result = AddsTakingOn Anything Anything phrase part maps config a e b f result
 
 -- the tokens of a number that may have a sign: `-5` is two
 unfoldable pub tokens_of_number : List ℕ → List Token

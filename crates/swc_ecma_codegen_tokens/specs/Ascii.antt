@@ -3,7 +3,7 @@ use Rattle.std.specs.Prelude.{◌≡◌, ℕ, Bool, true, false, not, ◌&&◌, 
 use Rattle.std.specs.Str.{chars}
 use Rattle.swc_ecma_codegen_grammar.specs.declared.kinds.Kind.{Kind}
 use Rattle.swc_ecma_codegen_grammar.specs.declared.kinds.Kind.TheVariants as kinds
-use Rattle.swc_ecma_codegen_grammar.specs.Phrases.{Phrase, Never, Nothing, One, NameOf, KeyOf, PrivateOf, Then, CommaBefore, OptionalParentheses, Chosen}
+use Rattle.swc_ecma_codegen_grammar.specs.Phrases.{Phrase, Never, Nothing, One, NameOf, KeyOf, PrivateOf, TagNameOf, Then, CommaBefore, OptionalParentheses, Chosen}
 use Rattle.swc_ecma_codegen_grammar.specs.Reads.{is_hashbang_kind}
 use Rattle.swc_ecma_codegen_grammar.specs.StringValues.{string_value}
 use Rattle.swc_ecma_codegen_grammar.specs.Texts.{is_same}
@@ -25,14 +25,25 @@ is_kept_directive t = has_byte 92 t && is_strict (string_value true (chars t))
 
 -- The text of a call stands as it is in the tree, whatever the settings: what stands between the slashes of a regular
 -- expression, its flags, the text of a template with a tag, and such a directive.
-unfoldable pub is_kept : Item → Bool
-is_kept (Str t) = true
-is_kept (StrLit span t) = is_kept_directive t
-is_kept x = false
+unfoldable pub is_kept_call : Item → Bool
+is_kept_call (Str t) = true
+is_kept_call (StrLit span t) = is_kept_directive t
+is_kept_call x = false
+
+-- what stands in a tag or between tags
+unfoldable pub is_tag_kind : Kind → Bool
+is_tag_kind kinds.JsxName = true
+is_tag_kind kinds.JsxString = true
+is_tag_kind kinds.JsxText = true
+is_tag_kind kind = false
+
+-- And so does what stands in a tag or between tags.
+unfoldable pub is_kept : Kind → Item → Bool
+is_kept kind x = is_tag_kind kind || is_kept_call x
 
 -- such a text, which isn't ASCII
-unfoldable pub is_other : Item → Bool
-is_other x = is_kept x && not (is_ascii_text (text_of x))
+unfoldable pub is_other : Kind → Item → Bool
+is_other kind x = is_kept kind x && not (is_ascii_text (text_of x))
 
 -- the same of a call that writes a piece of a token: what stands between the slashes
 unfoldable pub is_kept_piece : Item → Bool
@@ -55,7 +66,7 @@ is_other_end ts x = is_kept_end ts x && not (is_ascii_text (text_of x))
 unfoldable pub keeps_other : List Step → Bool
 keeps_other [] = false
 keeps_other (Guard t ∷ xs) = keeps_other xs
-keeps_other (Token kind x ∷ xs) = is_other x || keeps_other xs
+keeps_other (Token kind x ∷ xs) = is_other kind x || keeps_other xs
 keeps_other (Plain x ∷ xs) = is_other_piece x || keeps_other xs
 keeps_other (Ends tokens x ∷ xs) = is_other_end tokens x || keeps_other xs
 keeps_other (Remake due ∷ xs) = keeps_other xs
@@ -77,7 +88,7 @@ are_ascii (CommentText t ∷ xs) = are_ascii xs
 unfoldable pub are_ascii_or_kept : List Step → Bool
 are_ascii_or_kept [] = true
 are_ascii_or_kept (Guard t ∷ xs) = are_ascii_or_kept xs
-are_ascii_or_kept (Token kind x ∷ xs) = (is_ascii_text (text_of x) || is_kept x) && are_ascii_or_kept xs
+are_ascii_or_kept (Token kind x ∷ xs) = (is_ascii_text (text_of x) || is_kept kind x) && are_ascii_or_kept xs
 are_ascii_or_kept (Plain x ∷ xs) = (is_ascii_text (text_of x) || is_kept_piece x) && are_ascii_or_kept xs
 are_ascii_or_kept (Ends tokens x ∷ xs) = (is_ascii_text (text_of x) || is_kept_end tokens x) && are_ascii_or_kept xs
 are_ascii_or_kept (Remake due ∷ xs) = are_ascii_or_kept xs
@@ -92,21 +103,24 @@ text_if b t = if b then t ∷ [] else []
 unfoldable pub other_texts : List Step → List (List ℕ)
 other_texts [] = []
 other_texts (Guard t ∷ xs) = other_texts xs
-other_texts (Token kind x ∷ xs) = text_if (is_other x) (text_of x) ++ other_texts xs
+other_texts (Token kind x ∷ xs) = text_if (is_other kind x) (text_of x) ++ other_texts xs
 other_texts (Plain x ∷ xs) = text_if (is_other_piece x) (text_of x) ++ other_texts xs
 other_texts (Ends tokens x ∷ xs) = text_if (is_other_end tokens x) (text_of x) ++ other_texts xs
 other_texts (Remake due ∷ xs) = other_texts xs
 other_texts (Take side at ∷ xs) = other_texts xs
 other_texts (CommentText t ∷ xs) = t ∷ other_texts xs
 
--- a token that may stand as it is in the tree, and not in ASCII: a regular expression, a part of a template with a tag, a hashbang, or a
--- string that may be a directive
+-- a token that may stand as it is in the tree, and not in ASCII: a regular expression, a part of a template with a tag, a hashbang, a name in a
+-- tag, a string of an attribute, text between tags, or a string that may be a directive
 unfoldable pub is_other_value : Kind → Value → Bool
 is_other_value kinds.Regex (Characters t) = not (is_ascii_text t)
 is_other_value kinds.Str (Units us) = is_strict us
 is_other_value (kinds.Template part) (Characters t) = not (is_ascii_text t)
 is_other_value (kinds.TemplateRest part) (Characters t) = not (is_ascii_text t)
 is_other_value kinds.Hashbang (Characters t) = not (is_ascii_text t)
+is_other_value kinds.JsxName (Characters t) = not (is_ascii_text t)
+is_other_value kinds.JsxString (Characters t) = not (is_ascii_text t)
+is_other_value kinds.JsxText (Characters t) = not (is_ascii_text t)
 is_other_value kind value = false
 
 unfoldable pub keeps_tokens : List lexical.Token → Bool
@@ -121,6 +135,7 @@ may_keep_other (One x) = is_other_value x.kind x.value
 may_keep_other (NameOf at bytes) = false
 may_keep_other (KeyOf at bytes) = false
 may_keep_other (PrivateOf bytes) = false
+may_keep_other (TagNameOf at bytes) = not (is_ascii_text (chars bytes))
 may_keep_other (Then a b) = may_keep_other a || may_keep_other b
 may_keep_other (CommaBefore close) = false
 may_keep_other (OptionalParentheses a) = may_keep_other a

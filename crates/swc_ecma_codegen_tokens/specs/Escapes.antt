@@ -1,8 +1,8 @@
 -- What of a tree may take memory.
 use Rattle.std.specs.Prelude.{Bool, true, false, not, ◌||◌}
-use Rattle.swc_ecma_codegen_grammar.specs.Phrases.{Phrase, Never, Nothing, One, NameOf, KeyOf, PrivateOf, Then, CommaBefore, OptionalParentheses, Chosen}
+use Rattle.swc_ecma_codegen_grammar.specs.Phrases.{Phrase, Never, Nothing, One, NameOf, KeyOf, PrivateOf, TagNameOf, Then, CommaBefore, OptionalParentheses, Chosen}
 use Rattle.swc_ecma_codegen_grammar.specs.declared.kinds.Kind.{Kind}
-use Rattle.swc_ecma_codegen_grammar.specs.declared.kinds.Kind.TheVariants.{Number, BigInt, Str, Template, TemplateRest}
+use Rattle.swc_ecma_codegen_grammar.specs.declared.kinds.Kind.TheVariants.{Number, BigInt, Str, JsxString, Template, TemplateRest}
 use Rattle.swc_ecma_codegen_grammar.specs.ValidNames.{turned}
 use Rattle.swc_ecma_codegen_util.specs.declared.config.Config.{Config}
 use Rattle.swc_ecma_codegen_tokens.specs.Run.{has_backslash}
@@ -13,6 +13,7 @@ unfoldable pub is_spelled_anew : Kind → Bool
 is_spelled_anew Number = true
 is_spelled_anew BigInt = true
 is_spelled_anew Str = true
+is_spelled_anew JsxString = true
 is_spelled_anew (Template part) = not part.tagged
 is_spelled_anew (TemplateRest part) = not part.tagged
 is_spelled_anew kind = false
@@ -27,6 +28,7 @@ may_make_text config (One x) = is_spelled_anew x.kind
 may_make_text config (NameOf at bytes) = has_backslash bytes || wants_escapes config (turned bytes)
 may_make_text config (KeyOf at bytes) = has_backslash bytes || wants_escapes config (turned bytes)
 may_make_text config (PrivateOf bytes) = has_backslash bytes || wants_escapes config (turned bytes)
+may_make_text config (TagNameOf at bytes) = false
 may_make_text config (Then a b) = may_make_text config a || may_make_text config b
 may_make_text config (CommaBefore close) = true
 may_make_text config (OptionalParentheses a) = may_make_text config a

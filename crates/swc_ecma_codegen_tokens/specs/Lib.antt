@@ -8,6 +8,7 @@ pub mod Choices
 pub mod Keys
 pub mod Literals
 pub mod Lits
+pub mod Attributes
 pub mod Templates
 pub mod PrivateNames
 pub mod Lists

@@ -5,7 +5,7 @@ use Rattle.std.specs.Str.{chars}
 use Rattle.swc_ecma_codegen_grammar.specs.Endings.{IsReduced}
 use Rattle.swc_ecma_codegen_grammar.specs.Keys.{key_token}
 use Rattle.swc_ecma_codegen_grammar.specs.Names.{name_value}
-use Rattle.swc_ecma_codegen_grammar.specs.Phrases.{PlacedName, Phrase, Never, Nothing, One, NameOf, KeyOf, PrivateOf, Then, CommaBefore, OptionalParentheses, Chosen, chosen, closing_token, comma, open_parenthesis, in_parentheses}
+use Rattle.swc_ecma_codegen_grammar.specs.Phrases.{PlacedName, Plain, Key, Tag, Phrase, Never, Nothing, One, NameOf, KeyOf, PrivateOf, TagNameOf, Then, CommaBefore, OptionalParentheses, Chosen, chosen, closing_token, comma, open_parenthesis, in_parentheses}
 use Rattle.swc_ecma_codegen_grammar.specs.Reads.{Reads}
 use Rattle.swc_ecma_codegen_grammar.specs.Settings.{Settings}
 use Rattle.swc_ecma_codegen_grammar.specs.SpelledNames.{spelled_name}
@@ -60,9 +60,10 @@ EachName holds s behind Nothing ts = ts ≡ []
 EachName holds s behind (One x) ts = ts ≡ x ∷ []
 EachName holds s behind (NameOf at bytes) ts =
     let token : Token = tokens.name (name_value (spelled_name bytes)) in
-    (ts ≡ token ∷ []) × holds behind token (record { at = at; bytes = bytes; is_key = false })
-EachName holds s behind (KeyOf at bytes) ts = (ts ≡ key_token s bytes ∷ []) × holds behind (key_token s bytes) (record { at = at; bytes = bytes; is_key = true })
+    (ts ≡ token ∷ []) × holds behind token (record { at = at; bytes = bytes; sort = Plain })
+EachName holds s behind (KeyOf at bytes) ts = (ts ≡ key_token s bytes ∷ []) × holds behind (key_token s bytes) (record { at = at; bytes = bytes; sort = Key })
 EachName holds s behind (PrivateOf bytes) ts = ts ≡ tokens.private_name (name_value (spelled_name bytes)) ∷ []
+EachName holds s behind (TagNameOf at bytes) ts = (ts ≡ tokens.tag_name (chars bytes) ∷ []) × holds behind (tokens.tag_name (chars bytes)) (record { at = at; bytes = bytes; sort = Tag })
 EachName holds s behind (Then a b) ts = (us vs : List Token) × EachName holds s behind a us × EachName holds s (behind ++ us) b vs × (ts ≡ us ++ vs)
 EachName holds s behind (CommaBefore close) ts = (ts ≡ closing_token close ∷ []) ⊎ (ts ≡ comma ∷ closing_token close ∷ [])
 EachName holds s behind (OptionalParentheses a) ts = EachName holds s behind a ts ⊎ ((us : List Token) × EachName holds s (behind ++ (open_parenthesis ∷ [])) a us × (ts ≡ in_parentheses us))

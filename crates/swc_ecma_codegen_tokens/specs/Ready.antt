@@ -1,6 +1,6 @@
 -- When the emission of a tree comes to its end, in what a caller sees: the tree, and the sheet before and after.
 use Rattle.std.specs.Prelude.{◌≡◌, ℕ, ◌+◌, ◌-◌, ◌^◌, ◌<◌, true, false}
-use Rattle.swc_ecma_codegen_grammar.specs.Phrases.{Phrase, Never, Nothing, One, NameOf, KeyOf, PrivateOf, Then, CommaBefore, OptionalParentheses, Chosen, EmptyArguments, LoopEnding, AttributesWord, is_possible}
+use Rattle.swc_ecma_codegen_grammar.specs.Phrases.{Phrase, Never, Nothing, One, NameOf, KeyOf, PrivateOf, TagNameOf, Then, CommaBefore, OptionalParentheses, Chosen, EmptyArguments, LoopEnding, AttributesWord, is_possible}
 use Rattle.swc_ecma_codegen_util.specs.declared.config.Config.{Config}
 use Rattle.swc_ecma_codegen_tokens.specs.Escapes.{may_make_text}
 use Rattle.swc_ecma_codegen_tokens.specs.Run.{State}
@@ -13,6 +13,7 @@ token_count (One x) = 1
 token_count (NameOf at bytes) = 1
 token_count (KeyOf at bytes) = 1
 token_count (PrivateOf bytes) = 1
+token_count (TagNameOf at bytes) = 1
 token_count (Then a b) = token_count a + token_count b
 token_count (CommaBefore close) = 2
 token_count (OptionalParentheses a) = token_count a + 2

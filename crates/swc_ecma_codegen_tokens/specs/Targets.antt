@@ -1,7 +1,7 @@
 -- How names are spelled in ASCII, and which can't be so spelled for a target.
 use Rattle.std.specs.Prelude.{ℕ, Bool, true, false, not, ◌&&◌, ◌||◌, if◌then◌else◌, List}
 use Rattle.std.specs.Str.{chars}
-use Rattle.swc_ecma_codegen_grammar.specs.Phrases.{Phrase, Never, Nothing, One, NameOf, KeyOf, PrivateOf, Then, CommaBefore, OptionalParentheses, Chosen, PlacedName}
+use Rattle.swc_ecma_codegen_grammar.specs.Phrases.{Phrase, Never, Nothing, One, NameOf, KeyOf, PrivateOf, TagNameOf, Then, CommaBefore, OptionalParentheses, Chosen, NameSort, Plain, Key, Tag, PlacedName}
 use Rattle.swc_ecma_codegen_grammar.specs.ValidNames.{turned}
 use Rattle.swc_ecma_codegen_util.specs.declared.config.Config.{Config}
 use Rattle.swc_ecma_codegen_literals.specs.AsciiNames.{is_ascii_text, is_out_of_target, ascii_name}
@@ -26,9 +26,15 @@ written_name config bytes = in_ascii config (turned bytes)
 unfoldable pub written_key : Config → List ℕ → List ℕ
 written_key config bytes = if wants_escapes config (turned bytes) then ascii_name true config.target (chars (turned bytes)) else turned bytes
 
--- what is written of a name, or of a key
+-- by the sort of a name: one in a tag is written as it is
+unfoldable pub written_by : Config → NameSort → List ℕ → List ℕ
+written_by config Plain bytes = written_name config bytes
+written_by config Key bytes = written_key config bytes
+written_by config Tag bytes = bytes
+
+-- what is written of a name
 unfoldable pub written_as : Config → PlacedName → List ℕ
-written_as config x = if x.is_key then written_key config x.bytes else written_name config x.bytes
+written_as config x = written_by config x.sort x.bytes
 
 -- Some name of the tree can't be written under these settings.
 unfoldable pub is_out : Config → Phrase → Bool
@@ -38,6 +44,7 @@ is_out config (One x) = false
 is_out config (NameOf at bytes) = is_out_name config (turned bytes)
 is_out config (KeyOf at bytes) = false
 is_out config (PrivateOf bytes) = is_out_name config (turned bytes)
+is_out config (TagNameOf at bytes) = false
 is_out config (Then a b) = is_out config a || is_out config b
 is_out config (CommaBefore close) = false
 is_out config (OptionalParentheses a) = is_out config a

@@ -6,6 +6,7 @@ ghost use Rattle.swc_ecma_codegen_common.specs.Refusals.{reason_of};
 ghost use Rattle.swc_ecma_codegen_tokens.specs.Classes.{row_of};
 ghost use Rattle.swc_ecma_codegen_tokens.specs.Last.{class_of};
 
+mod attributes;
 mod comments;
 mod guard;
 mod keys;

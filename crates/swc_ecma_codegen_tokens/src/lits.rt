@@ -9,7 +9,7 @@ ghost use Rattle.swc_ecma_codegen_tokens.specs.Starts.{begins_letter};
 ghost use Rattle.swc_ecma_codegen_tokens.specs.Literals.{begun, settled_begun};
 ghost use Rattle.swc_ecma_codegen_tokens.specs.Lits.{begun_in, is_directive, takes_raw, prints_raw, value_text, string_text, directive_end, string_by, string_at, str_lit, bool_node, bool_text, bool_lit, null_lit, regex_lit, lit};
 ghost use Rattle.swc_ecma_codegen_grammar.specs.LitPhrases as phrases;
-ghost use Rattle.swc_ecma_codegen_tokens.specs.Adds.{AddsTaking};
+ghost use Rattle.swc_ecma_codegen_tokens.specs.Adds.{AddsList, AddsTaking};
 ghost use Rattle.swc_ecma_codegen_tokens.specs.View.{state_of};
 
 use crate::LowerEmitter;
@@ -224,6 +224,8 @@ impl LowerEmitter {
     #[tactic(auto, unfolding(crate::specs::Lits::bool_lit))]
     pub fn bool_lit<W: WriteJs>(&mut self, cfg: &Config, wr: &mut W, n: &Bool) -> Answer
         ensures items { Does (bool_lit n.now) (state_of cfg.now (W.sheet wr.old) self.old) (state_of cfg.now (W.sheet wr.new) self.new) result }
+        ensures reads { AddsList (phrases.bool_lit n.now)
+            cfg.now (W.sheet wr.old) self.old (W.sheet wr.new) self.new result }
         ensures level { OnOk result ((W.sheet wr.new).indentation ≡ (W.sheet wr.old).indentation) }
     {
         self.keyword(cfg, wr, None, bool_text(n.value))?;
@@ -240,6 +242,8 @@ impl LowerEmitter {
         n: &Bool,
     ) -> Answer
         ensures items { DoesTaking (bool_node n.now) (maps_in C.maps comments.old) (maps_in C.maps comments.new) (state_of cfg.now (W.sheet wr.old) self.old) (state_of cfg.now (W.sheet wr.new) self.new) result }
+        ensures reads { AddsTaking (phrases.bool_lit n.now) (bool_node n.now) (maps_in C.maps comments.old)
+            cfg.now (W.sheet wr.old) self.old (W.sheet wr.new) self.new result }
         ensures level { OnOk result ((W.sheet wr.new).indentation ≡ (W.sheet wr.old).indentation) }
     {
         self.leading_comments(cfg, comments, wr, n.span.lo)?;
@@ -251,6 +255,8 @@ impl LowerEmitter {
     #[tactic(auto, unfolding(crate::specs::Lits::null_lit))]
     pub fn null_lit<W: WriteJs>(&mut self, cfg: &Config, wr: &mut W, n: &Null) -> Answer
         ensures items { Does (null_lit n.now) (state_of cfg.now (W.sheet wr.old) self.old) (state_of cfg.now (W.sheet wr.new) self.new) result }
+        ensures reads { AddsList (phrases.null_lit n.now)
+            cfg.now (W.sheet wr.old) self.old (W.sheet wr.new) self.new result }
         ensures level { OnOk result ((W.sheet wr.new).indentation ≡ (W.sheet wr.old).indentation) }
     {
         let _ = n;
@@ -262,15 +268,17 @@ impl LowerEmitter {
     #[tactic(auto, unfolding(crate::specs::Lits::regex_lit))]
     pub fn regex_lit<W: WriteJs>(&mut self, cfg: &Config, wr: &mut W, n: &Regex) -> Answer
         ensures items { Does (regex_lit n.now) (state_of cfg.now (W.sheet wr.old) self.old) (state_of cfg.now (W.sheet wr.new) self.new) result }
+        ensures reads { AddsList (phrases.regex n.now)
+            cfg.now (W.sheet wr.old) self.old (W.sheet wr.new) self.new result }
         ensures level { OnOk result ((W.sheet wr.new).indentation ≡ (W.sheet wr.old).indentation) }
     {
         self.regex(cfg, wr, n.exp.as_str(), n.flags.as_str())?;
         Ok(())
     }
 
-    /// Writes a literal. swc's `emit_lit`.
+    /// Writes a literal, by its sort.
     #[tactic(auto, unfolding(crate::specs::Lits::lit))]
-    pub fn lit<W: WriteJs, C: Comments>(
+    fn lit_at<W: WriteJs, C: Comments>(
         &mut self,
         cfg: &Config,
         comments: &mut Option<C>,
@@ -299,5 +307,21 @@ impl LowerEmitter {
             // JSX text is no expression.
             Lit::JSXText(_) => Ok(()),
         }
+    }
+
+    /// Writes a literal. swc's `emit_lit`.
+    pub fn lit<W: WriteJs, C: Comments>(
+        &mut self,
+        cfg: &Config,
+        comments: &mut Option<C>,
+        wr: &mut W,
+        n: &Lit,
+    ) -> Answer
+        ensures items { DoesTaking (lit n.now) (maps_in C.maps comments.old) (maps_in C.maps comments.new) (state_of cfg.now (W.sheet wr.old) self.old) (state_of cfg.now (W.sheet wr.new) self.new) result }
+        ensures reads { AddsTaking (phrases.lit n.now) (lit n.now) (maps_in C.maps comments.old)
+            cfg.now (W.sheet wr.old) self.old (W.sheet wr.new) self.new result }
+        ensures level { OnOk result ((W.sheet wr.new).indentation ≡ (W.sheet wr.old).indentation) }
+    {
+        self.lit_at(cfg, comments, wr, n)
     }
 }

@@ -387,6 +387,8 @@ impl LowerEmitter {
         pos: BytePos,
     ) -> Answer
         ensures items { DoesTaking (number_object n.now pos) (maps_in C.maps comments.old) (maps_in C.maps comments.new) (state_of cfg.now (W.sheet wr.old) self.old) (state_of cfg.now (W.sheet wr.new) self.new) result }
+        ensures reads { AddsTaking (phrases.number n.now) (number_object n.now pos) (maps_in C.maps comments.old)
+            cfg.now (W.sheet wr.old) self.old (W.sheet wr.new) self.new result }
         ensures level { OnOk result ((W.sheet wr.new).indentation ≡ (W.sheet wr.old).indentation) }
     {
         if is_named(n) {

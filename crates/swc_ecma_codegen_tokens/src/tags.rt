@@ -3,20 +3,23 @@
 ghost use Rattle.std.specs.Prelude.{◌≡◌, None, OnOk, [], ◌∷◌, codes, true, false};
 ghost use Rattle.std.specs.Str.{chars, is_utf8};
 ghost use Rattle.swc_ecma_codegen_spans.specs.Spans.{dummy_span};
-ghost use Rattle.swc_ecma_codegen_grammar.specs.Jsx.{is_jsx_name, is_jsx_text, is_jsx_open};
+ghost use Rattle.swc_ecma_codegen_grammar.specs.Comments.{maps_in};
+ghost use Rattle.swc_ecma_codegen_grammar.specs.Jsx.{is_jsx_text, is_jsx_open};
+ghost use Rattle.swc_ecma_codegen_grammar.specs.Phrases.{TagNameOf};
 ghost use Rattle.swc_ecma_codegen_grammar.specs.declared.kinds.Kind.TheVariants as kind;
 ghost use Rattle.swc_ecma_codegen_literals.specs.Punctuators.{spelling};
 ghost use Rattle.swc_ecma_codegen_text_writer.specs.Sheet.{StrLit, Symbol, Punct};
-ghost use Rattle.swc_ecma_codegen_tokens.specs.Run.{Does, step, Token};
-ghost use Rattle.swc_ecma_codegen_tokens.specs.Tags.{closing, close, tag_name_token, tag_name, text_token, jsx_text, open_token, child_open};
+ghost use Rattle.swc_ecma_codegen_tokens.specs.Run.{Does, DoesTaking, step, Token};
+ghost use Rattle.swc_ecma_codegen_tokens.specs.Tags.{closing, close, tag_symbol, tag_name, text_token, jsx_text, open_token, child_open};
 ghost use Rattle.swc_ecma_codegen_tokens.specs.Written.{Anything, Between, InText, InName};
-ghost use Rattle.swc_ecma_codegen_tokens.specs.Adds.{Adds, AddsOn};
+ghost use Rattle.swc_ecma_codegen_tokens.specs.Adds.{Adds, AddsOn, AddsTakingOn};
 ghost use Rattle.swc_ecma_codegen_tokens.specs.View.{state_of};
 
 use crate::LowerEmitter;
 use crate::last::Last;
 use crate::starts::StartClass;
 use swc_ecma_codegen_common::{Answer, DUMMY_SP, Refusal, Span};
+use swc_ecma_codegen_grammar::comments::Comments;
 use swc_ecma_codegen_literals::Punctuator;
 use swc_ecma_codegen_text_writer::WriteJs;
 use swc_ecma_codegen_util::config::Config;
@@ -33,19 +36,43 @@ impl LowerEmitter {
         self.settle(answer, Last::TagNameEnd)
     }
 
-    /// Writes a name in a tag.
-    #[inline(never)]
-    #[tactic(auto, unfolding(crate::specs::Tags::tag_name))]
-    pub fn tag_name<W: WriteJs>(&mut self, cfg: &Config, wr: &mut W, text: &str) -> Answer
-        ensures items { Does (tag_name text.now) (state_of cfg.now (W.sheet wr.old) self.old) (state_of cfg.now (W.sheet wr.new) self.new) result }
-        // What follows begins with no dash.
-        ensures reads { is_utf8 text.now ≡ true → is_jsx_name (chars text.now) ≡ true →
-            AddsOn Anything InName (tag_name_token text.now ∷ [])
-            cfg.now (W.sheet wr.old) self.old (W.sheet wr.new) self.new result }
+    /// Writes a name in a tag, and records its position.
+    #[tactic(auto, unfolding(crate::specs::Tags::tag_symbol))]
+    fn tag_symbol<W: WriteJs>(&mut self, cfg: &Config, wr: &mut W, span: Span, text: &str) -> Answer
+        ensures items { Does (tag_symbol span text.now) (state_of cfg.now (W.sheet wr.old) self.old) (state_of cfg.now (W.sheet wr.new) self.new) result }
         ensures level { OnOk result ((W.sheet wr.new).indentation ≡ (W.sheet wr.old).indentation) }
     {
         self.guard(cfg, wr, text, StartClass::of_text(text))?;
+        self.position(cfg, wr, span.lo)?;
         self.put_tag_name(cfg, wr, text)?;
+        Ok(())
+    }
+
+    /// Writes a name in a tag with its comments: as it is in the tree, whatever the settings.
+    #[inline(never)]
+    #[tactic(auto, unfolding(crate::specs::Tags::tag_name))]
+    pub fn tag_name<W: WriteJs, C: Comments>(
+        &mut self,
+        cfg: &Config,
+        comments: &mut Option<C>,
+        wr: &mut W,
+        span: Span,
+        text: &str,
+    ) -> Answer
+        ensures items { DoesTaking (tag_name span text.now) (maps_in C.maps comments.old) (maps_in C.maps comments.new) (state_of cfg.now (W.sheet wr.old) self.old) (state_of cfg.now (W.sheet wr.new) self.new) result }
+        // What follows begins with no dash.
+        ensures reads { AddsTakingOn Anything InName
+            (TagNameOf span.lo text.now) (tag_name span text.now) (maps_in C.maps comments.old)
+            cfg.now (W.sheet wr.old) self.old (W.sheet wr.new) self.new result }
+        // Behind another name in a tag too.
+        ensures in_tag { AddsTakingOn InName InName
+            (TagNameOf span.lo text.now) (tag_name span text.now) (maps_in C.maps comments.old)
+            cfg.now (W.sheet wr.old) self.old (W.sheet wr.new) self.new result }
+        ensures level { OnOk result ((W.sheet wr.new).indentation ≡ (W.sheet wr.old).indentation) }
+    {
+        self.leading_comments(cfg, comments, wr, span.lo)?;
+        self.put_pending_semi(cfg, wr)?;
+        self.tag_symbol(cfg, wr, span, text)?;
         Ok(())
     }
 

@@ -6,10 +6,12 @@ ghost use Rattle.std.specs.Str.{chars, encode_utf8_all};
 ghost use Rattle.swc_ecma_codegen_common.specs.declared.errors.Error.TheVariants.{OutOfMemory};
 ghost use Rattle.swc_ecma_codegen_spans.specs.Spans.{dummy_span};
 ghost use Rattle.swc_ecma_codegen_grammar.specs.Templates.{part_end as end_of_part};
+ghost use Rattle.swc_ecma_codegen_grammar.specs.TemplatePhrases as phrases;
 ghost use Rattle.swc_ecma_codegen_grammar.specs.TemplatePhrases.{part_begin as begin_of_part};
 ghost use Rattle.swc_ecma_codegen_grammar.specs.Texts.{begins};
 ghost use Rattle.swc_ecma_codegen_text_writer.specs.Sheet.{StrLit, Punct};
 ghost use Rattle.swc_ecma_codegen_literals.specs.ValidNames.{has_byte};
+ghost use Rattle.swc_ecma_codegen_tokens.specs.Adds.{AddsList};
 ghost use Rattle.swc_ecma_codegen_tokens.specs.Run.{Does, step, Guard, Plain, Ends};
 ghost use Rattle.swc_ecma_codegen_tokens.specs.Starts.{start_class};
 ghost use Rattle.swc_ecma_codegen_tokens.specs.Templates.{with_line_feeds, is_respelled, cooked_text, makes_cooked, inside, placed_inside, closed, part_by, cooked_part, tpl_element};
@@ -269,6 +271,9 @@ impl LowerEmitter {
         n: &TplElement,
     ) -> Answer
         ensures items { Does (tpl_element first part n.now) (state_of cfg.now (W.sheet wr.old) self.old) (state_of cfg.now (W.sheet wr.new) self.new) result }
+        // The whole part reads as one token: `a${` of `` `a${b}` ``, whatever stands inside.
+        ensures reads { AddsList (phrases.tpl_element first part n.now)
+            cfg.now (W.sheet wr.old) self.old (W.sheet wr.new) self.new result }
         ensures level { OnOk result ((W.sheet wr.new).indentation ≡ (W.sheet wr.old).indentation) }
     {
         if part.tagged {

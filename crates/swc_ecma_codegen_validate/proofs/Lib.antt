@@ -4,6 +4,7 @@ pub mod DigitCounts
 pub mod DigitForms
 pub mod FunctionsPossible
 pub mod Insides
+pub mod JsxPossible
 pub mod TemplatesPossible
 pub mod ClassesPossible
 pub mod DeclsPossible

@@ -1,5 +1,5 @@
 -- When modules, imports and exports are well-formed.
-use Rattle.std.proofs.Common.{◌≡◌, Bool, true, false, not, ◌&&◌, is_none, List, [], ◌∷◌, map, codes, Option, Some, None, refl, ap, ◌∙◌}
+use Rattle.std.proofs.Common.{◌≡◌, Bool, true, not, ◌&&◌, is_none, List, [], ◌∷◌, map, codes, Option, Some, None, refl, ap, ◌∙◌}
 use Rattle.swc_ecma_codegen_tree.specs.Links.{ObjectLitBox}
 use Rattle.swc_ecma_codegen_tree.specs.declared.decls.ClassDecl.{ClassDecl}
 use Rattle.swc_ecma_codegen_tree.specs.declared.decls.Decl.TheVariants as decls

@@ -1,4 +1,5 @@
 pub mod BigDigits
+pub mod JsxForms
 pub mod Mantissas
 pub mod ModuleForms
 pub mod NameStates

@@ -220,11 +220,11 @@ impl<N: Fits> WellFormed for Expr<N> {
             Expr::Paren(node) => node.is_well_formed(),
             Expr::PrivateName(node) => node.is_well_formed(),
             Expr::OptChain(node) => node.is_well_formed(),
+            Expr::JSXElement(node) => node.is_well_formed(),
+            Expr::JSXFragment(node) => node.is_well_formed(),
             Expr::JSXMember(_)
             | Expr::JSXNamespacedName(_)
             | Expr::JSXEmpty(_)
-            | Expr::JSXElement(_)
-            | Expr::JSXFragment(_)
             | Expr::TsTypeAssertion(_)
             | Expr::TsConstAssertion(_)
             | Expr::TsNonNull(_)

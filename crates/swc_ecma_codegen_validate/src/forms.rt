@@ -2,15 +2,16 @@
 
 ghost use Rattle.std.specs.Prelude.{◌≡◌, Bool, List, true};
 ghost use Rattle.swc_ecma_codegen_grammar.specs.declared.roles.Role.{Role as InRole};
-ghost use Rattle.swc_ecma_codegen_grammar.specs.declared.roles.Role.TheVariants.{Expression, Statement, MemberExpression, AssignmentTarget, Pattern, PropertyName, ObjectLiteral, Function, Block, Declaration, VariableDeclaration, Member, Template, ModuleDeclaration};
+ghost use Rattle.swc_ecma_codegen_grammar.specs.declared.roles.Role.TheVariants.{Expression, Statement, MemberExpression, AssignmentTarget, Pattern, PropertyName, ObjectLiteral, Function, Block, Declaration, VariableDeclaration, Member, Template, ModuleDeclaration, Element, TagObject};
 ghost use Rattle.swc_ecma_codegen_grammar.specs.ElementPhrases.{element};
 ghost use Rattle.swc_ecma_codegen_grammar.specs.Phrases.{Phrase, is_possible};
 ghost use Rattle.swc_ecma_codegen_validate.specs.Possible.{all_possible};
 
 use swc_ecma_codegen_grammar::roles::Role;
 use swc_ecma_codegen_tree::{
-    Link, ToAssignTarget, ToBlockStmt, ToClassMember, ToDecl, ToExpr, ToFunction, ToMemberExpr,
-    ToModuleDecl, ToObjectLit, ToPat, ToPropName, ToStmt, ToTpl, ToVarDecl,
+    Link, ToAssignTarget, ToBlockStmt, ToClassMember, ToDecl, ToExpr, ToFunction, ToJSXElement,
+    ToJSXFragment, ToJSXObject, ToMemberExpr, ToModuleDecl, ToObjectLit, ToPat, ToPropName, ToStmt,
+    ToTpl, ToVarDecl,
 };
 
 /// A node, or a link to one.
@@ -128,6 +129,24 @@ impl LinkRole for ToModuleDecl {
     const ROLE: Role = Role::ModuleDeclaration;
 
     ghost ROLE = { ModuleDeclaration };
+}
+
+impl LinkRole for ToJSXElement {
+    const ROLE: Role = Role::Element;
+
+    ghost ROLE = { Element };
+}
+
+impl LinkRole for ToJSXFragment {
+    const ROLE: Role = Role::Element;
+
+    ghost ROLE = { Element };
+}
+
+impl LinkRole for ToJSXObject {
+    const ROLE: Role = Role::TagObject;
+
+    ghost ROLE = { TagObject };
 }
 
 /// A hole among elements is nothing.

@@ -9,6 +9,8 @@ mod decls;
 pub mod exprs;
 pub mod forms;
 mod functions;
+mod jsx;
+mod jsx_texts;
 mod knot;
 mod lits;
 mod modules;
